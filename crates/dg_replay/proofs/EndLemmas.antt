@@ -33,7 +33,7 @@ use Rattle.dg_replay.specs.Replaying.{ToldBefore, StopEnds, Reached, HasFew, Sto
 use Rattle.dg_replay.specs.declared.player.Player.{Player}
 use Rattle.dg_script.specs.declared.line.Line.{Line}
 use Rattle.dg_replay.specs.declared.stop.Stop.{Stop}
-use Rattle.dg_replay.specs.Stages.{span, bytes_taken}
+use Rattle.dg_replay.specs.Stages.{span, bytes_taken, failures}
 use Rattle.dg_replay.specs.declared.stop.Stop.TheVariants.{Memory, BadInput, WriteFault, FlashFault, TooMany, NoBoard, NoImage, NotAVolume}
 use Rattle.dg_replay.proofs.NearLemmas.{near_later}
 use Rattle.dg_replay.proofs.EndingLemmas.{ended, below_is_false, over_is, few_events, few_ending, fault_ending, board_ending, many_ending}
@@ -62,11 +62,11 @@ stop_ending NotAVolume over script W number initial now before after failed f = 
 -- boards end the replay, and the last line was not all written
 cut_at_end : {table : List Row} (result : Status) (script : Script) (over : Bool) (input : List ℕ) (at_end : Type 0) (number : ℕ) (initial now : List Device) (before mid after : Option (List ℕ)) (later reads worse : Type 0) → (later → worse) → FewBytesBehind number input
     → (c : Progress table script) (line : List ℕ) → BoardsEndIt c line → Puts before mid (played_text c.played) → InBounds (length initial) c.done (map item_played c.played) → (UsesBoards c.done → StandFor (motes_in c.done) c.ground.stores initial) → BoardsLeft status.WriteFault c initial now
-    → ((more : List ℕ) → ToldBefore number c (played_text c.played ++ more)) → at_end ⊎ NextIsWhole input c.done c.rest → result ≡ status.WriteFault → PutsFront mid after line → later → ScriptReplayed table result script (ending_from (length initial) over script) input at_end initial now before after reads worse
+    → ((more : List ℕ) → ToldBefore number c (played_text c.played ++ more)) → at_end ⊎ NextIsWhole input c.done c.rest → result ≡ status.WriteFault → PutsFront mid after line → later → ScriptReplayed table result script (ending_from (length initial) over script) (bytes_taken input at_end) (span initial now before after) (failures reads worse)
 cut_at_end {table} result script over input at_end number initial now before mid after later reads worse widen near c line ends told limits stood boards tells whole same cut rose =
     let k = cut.0 in
     let front = tells (take k line) in
-    let made : ScriptReplayed table status.WriteFault script (ending_from (length initial) over script) input at_end initial now before after reads worse = record {
+    let made : ScriptReplayed table status.WriteFault script (ending_from (length initial) over script) (bytes_taken input at_end) (span initial now before after) (failures reads worse) = record {
       came = c;
       text = played_text c.played ++ take k line;
       written = Puts-join before mid after _ _ told cut.2;
@@ -81,7 +81,7 @@ cut_at_end {table} result script over input at_end number initial now before mid
       boards = boards;
       caused = widen rose;
     } in
-    subst (λ (s : Status). ScriptReplayed table s script (ending_from (length initial) over script) input at_end initial now before after reads worse) (sym same) made
+    subst (λ (s : Status). ScriptReplayed table s script (ending_from (length initial) over script) (bytes_taken input at_end) (span initial now before after) (failures reads worse)) (sym same) made
 
 lacks_next : (v : Option World) (left : List Item) (old new : List Device) → InSome v (λ u. LacksImage u left old new) → EventNext left
 lacks_next None left old new lacks = absurd lacks
@@ -90,9 +90,9 @@ lacks_next (Some u) left old new lacks = lacks.next
 -- the end of a replay that stopped
 pub stopped_ends : {table : List Row} (stop : Stop) (result : Status) (script : Script) (over : Bool) (input : List ℕ) (at_end : Type 0) (number : ℕ) (initial now : List Device) (before mid after : Option (List ℕ)) (failed later reads worse : Type 0)
     → (failed → worse) → (later → worse) → FewBytesBehind number input → ByRules stop (at_end ⊎ IsSettled (length initial) input)
-    → StopsInTaken table stop script (bytes_taken input at_end) number (span initial now before mid) failed → StopEnds stop result mid after later → ScriptReplayed table result script (ending_from (length initial) over script) input at_end initial now before after reads worse
+    → StopsInTaken table stop script (bytes_taken input at_end) number (span initial now before mid) failed → StopEnds stop result mid after later → ScriptReplayed table result script (ending_from (length initial) over script) (bytes_taken input at_end) (span initial now before after) (failures reads worse)
 stopped_ends {table} Memory result script over input at_end number initial now before mid after failed later reads worse spread widen near settled f (same, told) =
-    let made : ScriptReplayed table status.Memory script (ending_from (length initial) over script) input at_end initial now before after reads worse = record {
+    let made : ScriptReplayed table status.Memory script (ending_from (length initial) over script) (bytes_taken input at_end) (span initial now before after) (failures reads worse) = record {
       came = f.came;
       text = f.text;
       written = subst (λ (o : Option (List ℕ)). Puts before o f.text) (sym told) f.told;
@@ -104,16 +104,16 @@ stopped_ends {table} Memory result script over input at_end number initial now b
       boards = f.there.0;
       caused = tt;
     } in
-    subst (λ (s : Status). ScriptReplayed table s script (ending_from (length initial) over script) input at_end initial now before after reads worse) (sym same) made
+    subst (λ (s : Status). ScriptReplayed table s script (ending_from (length initial) over script) (bytes_taken input at_end) (span initial now before after) (failures reads worse)) (sym same) made
 stopped_ends {table} (BadInput line fault) result script over input at_end number initial now before mid after failed later reads worse spread widen near settled (numbered, f) done =
     let e = fault_ending over script initial line fault f.there.3 f.there.1 in
-    let ready : ReadyToEnd table script (FaultAt line fault) (ending_line (FaultAt line fault)) initial now before mid = record { came = f.came; told = f.told; boards = f.there.2; all = f.there.0; line = refl; limits = f.limits; stood = f.stood } in
+    let ready : ReadyToEnd table script (FaultAt line fault) (ending_line (FaultAt line fault)) (span initial now before mid) = record { came = f.came; told = f.told; boards = f.there.2; all = f.there.0; line = refl; limits = f.limits; stood = f.stood } in
     let there : FewBytesBehind line input = subst (λ (n : ℕ). FewBytesBehind n input) (sym numbered) near in
-    subst (λ (x : Ending). ScriptReplayed table result script x input at_end initial now before after reads worse) (sym e)
+    subst (λ (x : Ending). ScriptReplayed table result script x (bytes_taken input at_end) (span initial now before after) (failures reads worse)) (sym e)
     (ended result script (FaultAt line fault) _ input at_end initial now before mid after later reads worse widen ready settled f.there.4 (λ text. there) done)
 stopped_ends {table} WriteFault result script over input at_end number initial now before mid after failed later reads worse spread widen near settled (rose, f) (same, told) =
     let before_it = f.there.1 in
-    let made : ScriptReplayed table status.WriteFault script (ending_from (length initial) over script) input at_end initial now before after reads worse = record {
+    let made : ScriptReplayed table status.WriteFault script (ending_from (length initial) over script) (bytes_taken input at_end) (span initial now before after) (failures reads worse) = record {
       came = f.came;
       text = f.text;
       written = subst (λ (o : Option (List ℕ)). Puts before o f.text) (sym told) f.told;
@@ -125,9 +125,9 @@ stopped_ends {table} WriteFault result script over input at_end number initial n
       boards = f.there.0;
       caused = spread rose;
     } in
-    subst (λ (s : Status). ScriptReplayed table s script (ending_from (length initial) over script) input at_end initial now before after reads worse) (sym same) made
+    subst (λ (s : Status). ScriptReplayed table s script (ending_from (length initial) over script) (bytes_taken input at_end) (span initial now before after) (failures reads worse)) (sym same) made
 stopped_ends {table} FlashFault result script over input at_end number initial now before mid after failed later reads worse spread widen near settled f (same, told) =
-    let made : ScriptReplayed table status.FlashFault script (ending_from (length initial) over script) input at_end initial now before after reads worse = record {
+    let made : ScriptReplayed table status.FlashFault script (ending_from (length initial) over script) (bytes_taken input at_end) (span initial now before after) (failures reads worse) = record {
       came = f.came;
       text = played_text f.came.played;
       written = subst (λ (o : Option (List ℕ)). Puts before o (played_text f.came.played)) (sym told) f.told;
@@ -139,19 +139,19 @@ stopped_ends {table} FlashFault result script over input at_end number initial n
       boards = f.there.1;
       caused = f.there.1.stopped;
     } in
-    subst (λ (s : Status). ScriptReplayed table s script (ending_from (length initial) over script) input at_end initial now before after reads worse) (sym same) made
+    subst (λ (s : Status). ScriptReplayed table s script (ending_from (length initial) over script) (bytes_taken input at_end) (span initial now before after) (failures reads worse)) (sym same) made
 stopped_ends {table} TooMany result script over input at_end number initial now before mid after failed later reads worse spread widen near settled f done =
     let e = many_ending over script initial f.came f.there.2 f.there.0 in
-    let ready : ReadyToEnd table script TooManyEvents (ending_line TooManyEvents) initial now before mid = record { came = f.came; told = f.told; boards = f.there.1; all = f.there.0; line = refl; limits = f.limits; stood = f.stood } in
-    subst (λ (x : Ending). ScriptReplayed table result script x input at_end initial now before after reads worse) (sym e)
+    let ready : ReadyToEnd table script TooManyEvents (ending_line TooManyEvents) (span initial now before mid) = record { came = f.came; told = f.told; boards = f.there.1; all = f.there.0; line = refl; limits = f.limits; stood = f.stood } in
+    subst (λ (x : Ending). ScriptReplayed table result script x (bytes_taken input at_end) (span initial now before after) (failures reads worse)) (sym e)
     (ended result script TooManyEvents _ input at_end initial now before mid after later reads worse widen ready settled f.there.3 (λ text. tt) done)
 stopped_ends {table} (NoBoard motes boards) result script over input at_end number initial now before mid after failed later reads worse spread widen near settled f done =
     let e = stop_ending (NoBoard motes boards) over script (λ c. at_end ⊎ DoneIsWhole input c.done c.rest c.begun) number initial now before mid failed f in
-    let ready : ReadyToEnd table script (NoBoards motes boards) (ending_line (NoBoards motes boards)) initial now before mid = record { came = f.came; told = f.told; boards = f.there.2; all = f.there.1; line = refl; limits = f.limits; stood = f.stood } in
-    subst (λ (x : Ending). ScriptReplayed table result script x input at_end initial now before after reads worse) (sym e)
+    let ready : ReadyToEnd table script (NoBoards motes boards) (ending_line (NoBoards motes boards)) (span initial now before mid) = record { came = f.came; told = f.told; boards = f.there.2; all = f.there.1; line = refl; limits = f.limits; stood = f.stood } in
+    subst (λ (x : Ending). ScriptReplayed table result script x (bytes_taken input at_end) (span initial now before after) (failures reads worse)) (sym e)
     (ended result script (NoBoards motes boards) _ input at_end initial now before mid after later reads worse widen ready settled f.there.4 (λ text. tt) done)
 stopped_ends {table} NoImage result script over input at_end number initial now before mid after failed later reads worse spread widen near settled f (inl (same, put)) =
-    let made : ScriptReplayed table status.NoImage script (ending_from (length initial) over script) input at_end initial now before after reads worse = record {
+    let made : ScriptReplayed table status.NoImage script (ending_from (length initial) over script) (bytes_taken input at_end) (span initial now before after) (failures reads worse) = record {
       came = f.came;
       text = played_text f.came.played ++ no_image_line;
       written = Puts-join before mid after _ _ f.told put;
@@ -163,11 +163,11 @@ stopped_ends {table} NoImage result script over input at_end number initial now 
       boards = f.there.2;
       caused = (f.there.1, f.there.2);
     } in
-    subst (λ (s : Status). ScriptReplayed table s script (ending_from (length initial) over script) input at_end initial now before after reads worse) (sym same) made
+    subst (λ (s : Status). ScriptReplayed table s script (ending_from (length initial) over script) (bytes_taken input at_end) (span initial now before after) (failures reads worse)) (sym same) made
 stopped_ends {table} NoImage result script over input at_end number initial now before mid after failed later reads worse spread widen near settled f (inr (same, cut, rose)) =
     cut_at_end result script over input at_end number initial now before mid after later reads worse widen near f.came no_image_line (inr (f.there.1, lacks_next f.came.last f.came.left initial now f.there.2, refl)) f.told f.limits f.stood (inr (inr (inr (f.there.1, f.there.2)))) f.there.3 f.there.4 same cut rose
 stopped_ends {table} NotAVolume result script over input at_end number initial now before mid after failed later reads worse spread widen near settled f (inl (same, put)) =
-    let made : ScriptReplayed table status.NotAVolume script (ending_from (length initial) over script) input at_end initial now before after reads worse = record {
+    let made : ScriptReplayed table status.NotAVolume script (ending_from (length initial) over script) (bytes_taken input at_end) (span initial now before after) (failures reads worse) = record {
       came = f.came;
       text = played_text f.came.played ++ no_volume_line;
       written = Puts-join before mid after _ _ f.told put;
@@ -179,7 +179,7 @@ stopped_ends {table} NotAVolume result script over input at_end number initial n
       boards = f.there.0;
       caused = f.there.0;
     } in
-    subst (λ (s : Status). ScriptReplayed table s script (ending_from (length initial) over script) input at_end initial now before after reads worse) (sym same) made
+    subst (λ (s : Status). ScriptReplayed table s script (ending_from (length initial) over script) (bytes_taken input at_end) (span initial now before after) (failures reads worse)) (sym same) made
 stopped_ends {table} NotAVolume result script over input at_end number initial now before mid after failed later reads worse spread widen near settled f (inr (same, cut, rose)) =
     cut_at_end result script over input at_end number initial now before mid after later reads worse widen near f.came no_volume_line (inl (f.there.0.more, f.there.0.next, refl)) f.told f.limits f.stood (inr (inr (inl f.there.0))) f.there.1 f.there.2 same cut rose
 
@@ -221,7 +221,7 @@ bounds_done ends script n p initial now before mid r = record { boards_enough = 
 
 -- the last line of a report is to be written
 abbrev ready_done : {table : List Row} (ends : Bool) (script : Script) (e : Ending) (n : ℕ) (p : Player) (initial now : List Device) (before mid : Option (List ℕ)) → (r : Reached table ends script [] n p (span initial now before mid)) → ((c : Progress table script) → c.rest ≡ [] → ReachesEnding e c)
-    → ((w : Option World) → closing e w ≡ ending_line e) → ReadyToEnd table script e (ending_line e) initial now before mid
+    → ((w : Option World) → closing e w ≡ ending_line e) → ReadyToEnd table script e (ending_line e) (span initial now before mid)
 ready_done ends script e n p initial now before mid r all closes =
     let came = came_to ends script n p initial now before mid r.last r refl in
     record { came = came; told = r.told; boards = r.stood.boards; all = all came refl; line = closes r.last; limits = bounds_done ends script n p initial now before mid r; stood = λ uses. (r.grounded uses).1 }
@@ -233,34 +233,34 @@ nothing_near n input e = omega (arith, ap length e)
 -- an input that is too long
 pub over_ends : {table : List Row} (result : Status) (script : Script) (input : List ℕ) (at_end : Type 0) (n : ℕ) (p : Player) (initial now : List Device) (before mid after : Option (List ℕ)) (failed reads worse : Type 0) → (failed → worse)
     → IsSettled (length initial) input → ((c : Progress table script) → DoneIsWhole input c.done c.rest c.begun)
-    → Reached table false script [] n p (span initial now before mid) → EndsWith result status.TooLong (ending_line Over) mid after failed → ScriptReplayed table result script (ending_from (length initial) true script) input at_end initial now before after reads worse
+    → Reached table false script [] n p (span initial now before mid) → EndsWith result status.TooLong (ending_line Over) mid after failed → ScriptReplayed table result script (ending_from (length initial) true script) (bytes_taken input at_end) (span initial now before after) (failures reads worse)
 over_ends {table} result script input at_end n p initial now before mid after failed reads worse spread settled whole r done =
     let e : ending_from (length initial) true script ≡ Over =
     few_ending true script initial (few_done false script n p initial now before mid r) ∙ ap (λ (f : Option (ℕ × LineFault)). by_fault true f) (sym (fault_done false script n p initial now before mid r)) in
     let ready = ready_done false script Over n p initial now before mid r (λ c none. none) (λ w. refl) in
-    subst (λ (x : Ending). ScriptReplayed table result script x input at_end initial now before after reads worse) (sym e)
+    subst (λ (x : Ending). ScriptReplayed table result script x (bytes_taken input at_end) (span initial now before after) (failures reads worse)) (sym e)
     (ended result script Over _ input at_end initial now before mid after failed reads worse spread ready (inr settled) (inr (whole ready.came)) (λ text. tt) done)
 
 -- a script that ends before its second line, or behind a cut
 pub short_ends : {table : List Row} (result : Status) (script : Script) (input : List ℕ) (n : ℕ) (fault : LineFault) (p : Player) (initial now : List Device) (before mid after : Option (List ℕ)) (failed reads worse : Type 0) → (failed → worse) → fault_at_end p.place ≡ Some fault → behind_lines n input ≡ []
-    → Reached table true script [] n p (span initial now before mid) → EndsWith result status.BadInput (ending_line (FaultAt n fault)) mid after failed → ScriptReplayed table result script (ending_from (length initial) false script) input ⊤ initial now before after reads worse
+    → Reached table true script [] n p (span initial now before mid) → EndsWith result status.BadInput (ending_line (FaultAt n fault)) mid after failed → ScriptReplayed table result script (ending_from (length initial) false script) (bytes_taken input ⊤) (span initial now before after) (failures reads worse)
 short_ends {table} result script input n fault p initial now before mid after failed reads worse spread early behind r done =
     let is : script.fault ≡ Some (n, fault) = sym (fault_done true script n p initial now before mid r) ∙ ap (λ (o : Option LineFault). numbered n o) early in
     let e = fault_ending false script initial n fault (few_done true script n p initial now before mid r) is in
     let ready = ready_done true script (FaultAt n fault) n p initial now before mid r (λ c none. none) (λ w. refl) in
-    subst (λ (x : Ending). ScriptReplayed table result script x input ⊤ initial now before after reads worse) (sym e)
+    subst (λ (x : Ending). ScriptReplayed table result script x (bytes_taken input ⊤) (span initial now before after) (failures reads worse)) (sym e)
     (ended result script (FaultAt n fault) _ input ⊤ initial now before mid after failed reads worse spread ready (inl tt) (inl tt) (λ text. nothing_near n input behind) done)
 
 -- a player that is behind the second line has a world
 finish_as : {table : List Row} (result : Status) (script : Script) (input : List ℕ) (w : World) (n : ℕ) (p : Player) (initial now new : List Device) (before mid after : Option (List ℕ)) (failed reads worse : Type 0) → (failed → worse)
-    → (r : Reached table true script [] n p (span initial now before mid)) → r.last ≡ Some w → motes_in r.done ≡ length w.sites → FinishesWith result w initial new mid after failed → ScriptReplayed table result script Ends input ⊤ initial new before after reads worse
+    → (r : Reached table true script [] n p (span initial now before mid)) → r.last ≡ Some w → motes_in r.done ≡ length w.sites → FinishesWith result w initial new mid after failed → ScriptReplayed table result script Ends (bytes_taken input ⊤) (span initial new before after) (failures reads worse)
 finish_as result script input w n p initial now new before mid after failed reads worse spread r is count (inl (ends, boards)) =
     let came = came_to true script n p initial now before mid (Some w) r is in
     ended result script Ends (report_text (final_lines w)) input ⊤ initial new before mid after failed reads worse spread
     (record { came = came; told = r.told; boards = boards; all = refl; line = refl; limits = bounds_done true script n p initial now before mid r; stood = λ uses. (r.grounded uses).1 }) (inl tt) (inl tt) (λ text. tt) ends
 finish_as {table} result script input w n p initial now new before mid after failed reads worse spread r is count (inr (same, stopped, kept)) =
     let there : StoppedIn (motes_in r.done) [] [] (Some w) initial new = stopped (motes_in r.done) count in
-    let made : ScriptReplayed table status.FlashFault script Ends input ⊤ initial new before after reads worse = record {
+    let made : ScriptReplayed table status.FlashFault script Ends (bytes_taken input ⊤) (span initial new before after) (failures reads worse) = record {
       came = came_to true script n p initial now before mid (Some w) r is;
       text = played_text r.played;
       written = subst (λ (o : Option (List ℕ)). Puts before o (played_text r.played)) (sym kept) r.told;
@@ -272,7 +272,7 @@ finish_as {table} result script input w n p initial now new before mid after fai
       boards = there;
       caused = there.stopped;
     } in
-    subst (λ (s : Status). ScriptReplayed table s script Ends input ⊤ initial new before after reads worse) (sym same) made
+    subst (λ (s : Status). ScriptReplayed table s script Ends (bytes_taken input ⊤) (span initial new before after) (failures reads worse)) (sym same) made
 
 kept_world : (p : Player) (last : Option World) (initial now : List Device) → p.place.ready ≡ true → InWorld p last now → BoardsStand last initial now → (w : World) × (last ≡ Some w) × IsWorld p.world now w × WorldStands w initial now × (length w.sites ≡ p.place.motes)
 kept_world p None initial now ready kept stands = absurd (let e : true ≡ false = sym ready ∙ kept in cc)
@@ -297,14 +297,14 @@ finishes_in p now none r = from r.world r.kept
 -- a script that ended
 pub script_ends : {table : List Row} (result : Status) (script : Script) (input : List ℕ) (n : ℕ) (p : Player) (initial now new : List Device) (before mid after : Option (List ℕ)) (failed reads worse : Type 0) → (failed → worse) → fault_at_end p.place ≡ None
     → (r : Reached table true script [] n p (span initial now before mid)) → ((w : World) → IsWorld p.world now w → WorldStands w initial now → FinishesWith result w initial new mid after failed)
-    → ScriptReplayed table result script (ending_from (length initial) false script) input ⊤ initial new before after reads worse
+    → ScriptReplayed table result script (ending_from (length initial) false script) (bytes_taken input ⊤) (span initial new before after) (failures reads worse)
 script_ends {table} result script input n p initial now new before mid after failed reads worse spread none r finishes =
     let world = kept_world p r.last initial now (is_ready p.place none) r.stood.world r.stood.boards in
     let w = world.0 in
     let fault : script.fault ≡ None = sym (fault_done true script n p initial now before mid r) ∙ ap (λ (o : Option LineFault). numbered n o) none in
     let e : ending_from (length initial) false script ≡ Ends =
     few_ending false script initial (few_done true script n p initial now before mid r) ∙ ap (λ (f : Option (ℕ × LineFault)). by_fault false f) fault in
-    subst (λ (x : Ending). ScriptReplayed table result script x input ⊤ initial new before after reads worse) (sym e)
+    subst (λ (x : Ending). ScriptReplayed table result script x (bytes_taken input ⊤) (span initial new before after) (failures reads worse)) (sym e)
     (finish_as result script input w n p initial now new before mid after failed reads worse spread r world.1 (sym r.stood.motes ∙ sym world.4) (finishes w world.2 world.3))
 
 -- ---- the bytes that are used

@@ -24,6 +24,7 @@ use Rattle.dg_replay.specs.Replaying.{HasFew, ReadyToEnd, EndsWith, ScriptReplay
 use Rattle.dg_base.specs.declared.events.Step.{Step}
 use Rattle.dg_script.specs.declared.line.Line.{Line}
 use Rattle.dg_script.specs.declared.line.Line.TheVariants.{Nothing, Motes, Golden, Boards as BoardsLine, Link, Narrow, Image, Cut, Happens, Round, Sweeps}
+use Rattle.dg_replay.specs.Stages.{span, bytes_taken, failures}
 use Rattle.dg_replay.proofs.ItemLemmas.{items_split, items_first, events_among-append}
 
 wrote_whole : {table : List Row} {script : Script} (e : Ending) (c : Progress table script) (text : List ℕ) → IsWholeReport e c text → Wrote (status_of e) e c text
@@ -48,7 +49,7 @@ caused_by (FaultAt line f) r w b v i = refl
 caused_by Over r w b v i = refl
 
 -- the bytes that were taken settle the ending
-enough_by : {table : List Row} {script : Script} (e : Ending) (n : ℕ) (input : List ℕ) (at_end : Type 0) (c : Progress table script) (text : List ℕ) → at_end ⊎ IsSettled n input → ReadEnough (status_of e) n input at_end c text
+enough_by : {table : List Row} {script : Script} (e : Ending) (n : ℕ) (input : List ℕ) (at_end : Type 0) (c : Progress table script) (text : List ℕ) → at_end ⊎ IsSettled n input → ReadEnough (status_of e) n (bytes_taken input at_end) c text
 enough_by Ends n input at_end c text settled = settled
 enough_by (NoBoards m b) n input at_end c text settled = settled
 enough_by TooManyEvents n input at_end c text settled = settled
@@ -64,12 +65,12 @@ ends_near Over input c text near = near
 
 -- the end of the report was written, or a front of it, or memory ran out
 pub ended : {table : List Row} (result : Status) (script : Script) (e : Ending) (piece input : List ℕ) (at_end : Type 0) (initial now : List Device) (before mid after : Option (List ℕ)) (failed reads worse : Type 0) → (failed → worse)
-    → (r : ReadyToEnd table script e piece initial now before mid) → at_end ⊎ IsSettled (length initial) input → at_end ⊎ DoneIsWhole input r.came.done r.came.rest r.came.begun → ((text : List ℕ) → ReadsNear (status_of e) e input r.came text)
-    → EndsWith result (status_of e) piece mid after failed → ScriptReplayed table result script e input at_end initial now before after reads worse
+    → (r : ReadyToEnd table script e piece (span initial now before mid)) → at_end ⊎ IsSettled (length initial) input → at_end ⊎ DoneIsWhole input r.came.done r.came.rest r.came.begun → ((text : List ℕ) → ReadsNear (status_of e) e input r.came text)
+    → EndsWith result (status_of e) piece mid after failed → ScriptReplayed table result script e (bytes_taken input at_end) (span initial now before after) (failures reads worse)
 ended {table} result script e piece input at_end initial now before mid after failed reads worse spread r settled whole near (inl done) =
     let text : List ℕ = played_text r.came.played ++ piece in
     let all : IsWholeReport e r.came text = record { all = r.all; told = ap (λ (xs : List ℕ). played_text r.came.played ++ xs) (sym r.line) } in
-    let made : ScriptReplayed table (status_of e) script e input at_end initial now before after reads worse = record {
+    let made : ScriptReplayed table (status_of e) script e (bytes_taken input at_end) (span initial now before after) (failures reads worse) = record {
       came = r.came;
       text = text;
       written = Puts-join before mid after _ _ r.told done.1;
@@ -81,10 +82,10 @@ ended {table} result script e piece input at_end initial now before mid after fa
       boards = boards_of e r.came initial now r.boards;
       caused = caused_by e reads worse (BoardStopped (motes_in r.came.done) initial now) (NoVolumeThere r.came initial now) ((UsesBoards r.came.done) × NoImageThere r.came initial now);
     } in
-    subst (λ (s : Status). ScriptReplayed table s script e input at_end initial now before after reads worse) (sym done.0) made
+    subst (λ (s : Status). ScriptReplayed table s script e (bytes_taken input at_end) (span initial now before after) (failures reads worse)) (sym done.0) made
 ended {table} result script e piece input at_end initial now before mid after failed reads worse spread r settled whole near (inr (inl cut)) =
     let k = cut.1.0 in
-    let made : ScriptReplayed table status.WriteFault script e input at_end initial now before after reads worse = record {
+    let made : ScriptReplayed table status.WriteFault script e (bytes_taken input at_end) (span initial now before after) (failures reads worse) = record {
       came = r.came;
       text = played_text r.came.played ++ take k piece;
       written = Puts-join before mid after _ _ r.told cut.1.2;
@@ -102,9 +103,9 @@ ended {table} result script e piece input at_end initial now before mid after fa
       boards = inl r.boards;
       caused = spread cut.2;
     } in
-    subst (λ (s : Status). ScriptReplayed table s script e input at_end initial now before after reads worse) (sym cut.0) made
+    subst (λ (s : Status). ScriptReplayed table s script e (bytes_taken input at_end) (span initial now before after) (failures reads worse)) (sym cut.0) made
 ended {table} result script e piece input at_end initial now before mid after failed reads worse spread r settled whole near (inr (inr memory)) =
-    let made : ScriptReplayed table status.Memory script e input at_end initial now before after reads worse = record {
+    let made : ScriptReplayed table status.Memory script e (bytes_taken input at_end) (span initial now before after) (failures reads worse) = record {
       came = r.came;
       text = played_text r.came.played;
       written = subst (λ (o : Option (List ℕ)). Puts before o (played_text r.came.played)) (sym memory.1) r.told;
@@ -116,7 +117,7 @@ ended {table} result script e piece input at_end initial now before mid after fa
       boards = r.boards;
       caused = tt;
     } in
-    subst (λ (s : Status). ScriptReplayed table s script e input at_end initial now before after reads worse) (sym memory.0) made
+    subst (λ (s : Status). ScriptReplayed table s script e (bytes_taken input at_end) (span initial now before after) (failures reads worse)) (sym memory.0) made
 
 -- ---- the ending of a script
 

@@ -30,7 +30,7 @@ use Rattle.dg_replay.proofs.EndLemmas.{over_not, is_over-true, over_ends, stoppe
 use Rattle.dg_replay.proofs.TakenLemmas.{over_settled, over_done, none_whole, stopped_of_script, known_in_script}
 
 -- where an input is at its end, the bytes are enough
-at_end_for : {table : List Row} {script : Script} (s : Status) (n : ℕ) (input : List ℕ) (at_end : Type 0) (c : Progress table script) (text : List ℕ) → at_end → ReadEnough s n input ⊤ c text → ReadEnough s n input at_end c text
+at_end_for : {table : List Row} {script : Script} (s : Status) (n : ℕ) (input : List ℕ) (at_end : Type 0) (c : Progress table script) (text : List ℕ) → at_end → ReadEnough s n (bytes_taken input ⊤) c text → ReadEnough s n (bytes_taken input at_end) c text
 at_end_for ReadFault n input at_end c text e enough = enough
 at_end_for Memory n input at_end c text e enough = inl e
 at_end_for WriteFault n input at_end c text e enough = inl e
@@ -55,10 +55,10 @@ caused_too _ e r w b v i h = h
 
 -- a script whose input was read to its end
 pub end_replayed : {table : List Row} (s : Status) (input : List ℕ) (at_end : Type 0) (old new : List Device) (before after : Option (List ℕ)) (reads writes : Type 0) → at_end → length input ≤ most_used_bytes
-    → ScriptReplayed table s (script_of input) (ending_from (length old) false (script_of input)) input ⊤ old new before after ⊥ writes
-    → ScriptReplayed table s (script_of input) (ending_of (length old) input) input at_end old new before after reads writes
+    → ScriptReplayed table s (script_of input) (ending_from (length old) false (script_of input)) (bytes_taken input ⊤) (span old new before after) (failures ⊥ writes)
+    → ScriptReplayed table s (script_of input) (ending_of (length old) input) (bytes_taken input at_end) (span old new before after) (failures reads writes)
 end_replayed {table} s input at_end old new before after reads writes ended few r =
-    let made : ScriptReplayed table s (script_of input) (ending_from (length old) false (script_of input)) input at_end old new before after reads writes = record {
+    let made : ScriptReplayed table s (script_of input) (ending_from (length old) false (script_of input)) (bytes_taken input at_end) (span old new before after) (failures reads writes) = record {
       came = r.came;
       text = r.text;
       written = r.written;
@@ -70,22 +70,22 @@ end_replayed {table} s input at_end old new before after reads writes ended few 
       boards = r.boards;
       caused = caused_too s (ending_from (length old) false (script_of input)) reads writes (BoardStopped (motes_in r.came.done) old new) (NoVolumeThere r.came old new) ((UsesBoards r.came.done) × NoImageThere r.came old new) r.caused;
     } in
-    subst (λ (b : Bool). ScriptReplayed table s (script_of input) (ending_from (length old) b (script_of input)) input at_end old new before after reads writes) (sym (over_not input few)) made
+    subst (λ (b : Bool). ScriptReplayed table s (script_of input) (ending_from (length old) b (script_of input)) (bytes_taken input at_end) (span old new before after) (failures reads writes)) (sym (over_not input few)) made
 
 -- an input that is too long
 pub over_replayed : {table : List Row} (s : Status) (input : List ℕ) (at_end : Type 0) (n : ℕ) (p : Player) (old new : List Device) (before mid after : Option (List ℕ)) (failed reads writes : Type 0) → (failed → writes) → length input ≡ most_used_bytes + 1
     → Reached table false (script_of input) [] n p (span old new before mid) → EndsWith s TooLong (ending_line Over) mid after failed
-    → ScriptReplayed table s (script_of input) (ending_of (length old) input) input at_end old new before after reads writes
+    → ScriptReplayed table s (script_of input) (ending_of (length old) input) (bytes_taken input at_end) (span old new before after) (failures reads writes)
 over_replayed {table} s input at_end n p old new before mid after failed reads writes spread long r done =
     let over : has_unused_bytes input ≡ true = is_over-true input (omega (arith, long)) in
-    subst (λ (b : Bool). ScriptReplayed table s (script_of input) (ending_from (length old) b (script_of input)) input at_end old new before after reads writes) (sym over)
+    subst (λ (b : Bool). ScriptReplayed table s (script_of input) (ending_from (length old) b (script_of input)) (bytes_taken input at_end) (span old new before after) (failures reads writes)) (sym over)
     (over_ends s (script_of input) input at_end n p old new before mid after failed reads writes spread (over_settled (length old) input over)
     (λ c. over_done input c.done c.rest c.begun c.left over c.lines c.parts) r done)
 
 -- a read failed
 pub failed_replayed : {table : List Row} (input : List ℕ) (at_end : Type 0) (ending : Ending) (old new : List Device) (before after : Option (List ℕ)) (reads writes : Type 0) → reads
     → PlayedUpTo table (script_of input) old before after (λ c. (c.begun ≡ []) × BoardsStand c.last old new × AreWhole input c.done × AllWhole input c.done)
-    → ScriptReplayed table ReadFault (script_of input) ending input at_end old new before after reads writes
+    → ScriptReplayed table ReadFault (script_of input) ending (bytes_taken input at_end) (span old new before after) (failures reads writes)
 failed_replayed input at_end ending old new before after reads writes rose f =
     record { came = f.came; text = played_text f.came.played; written = f.told; report = (refl, f.there.0); enough = (f.there.2, f.there.3); near = tt; limits = f.limits; stood = f.stood; boards = f.there.1; caused = rose }
 
@@ -93,14 +93,14 @@ failed_replayed input at_end ending old new before after reads writes rose f =
 
 -- a read failed
 pub halt_failed : {table : List Row} (halt : Halt) (input : List ℕ) (at_end reads : Type 0) (old new : List Device) (before after : Option (List ℕ)) (writes worse : Type 0) → halt ≡ halts.ReadFault → InputAnswer table (Err halt) (bytes_taken input at_end) (span old new before after) (failures reads writes)
-    → (length input ≤ most_used_bytes + 1) × ScriptReplayed table ReadFault (script_of input) (ending_of (length old) input) input at_end old new before after reads worse
+    → (length input ≤ most_used_bytes + 1) × ScriptReplayed table ReadFault (script_of input) (ending_of (length old) input) (bytes_taken input at_end) (span old new before after) (failures reads worse)
 halt_failed {table} halt input at_end reads old new before after writes worse is answer =
     let h : InputAnswer table (Err halts.ReadFault) (bytes_taken input at_end) (span old new before after) (failures reads writes) = subst (λ (x : Halt). InputAnswer table (Err x) (bytes_taken input at_end) (span old new before after) (failures reads writes)) is answer in
     (omega (arith, h.1), failed_replayed input at_end (ending_of (length old) input) old new before after reads worse h.0 h.2)
 
 -- the input is too long
 pub halt_over : {table : List Row} (halt : Halt) (s : Status) (input : List ℕ) (at_end reads : Type 0) (old new : List Device) (before mid after : Option (List ℕ)) (failed later worse : Type 0) → halt ≡ halts.TooLong → (later → worse) → InputAnswer table (Err halt) (bytes_taken input at_end) (span old new before mid) (failures reads failed)
-    → EndsWith s TooLong (ending_line Over) mid after later → (length input ≤ most_used_bytes + 1) × ScriptReplayed table s (script_of input) (ending_of (length old) input) input at_end old new before after reads worse
+    → EndsWith s TooLong (ending_line Over) mid after later → (length input ≤ most_used_bytes + 1) × ScriptReplayed table s (script_of input) (ending_of (length old) input) (bytes_taken input at_end) (span old new before after) (failures reads worse)
 halt_over {table} halt s input at_end reads old new before mid after failed later worse is widen answer done =
     let h : InputAnswer table (Err halts.TooLong) (bytes_taken input at_end) (span old new before mid) (failures reads failed) = subst (λ (x : Halt). InputAnswer table (Err x) (bytes_taken input at_end) (span old new before mid) (failures reads failed)) is answer in
     (omega (arith, h.0), over_replayed s input at_end h.1.0 h.1.1 old new before mid after later reads worse widen h.0 h.1.2 done)
@@ -108,14 +108,14 @@ halt_over {table} halt s input at_end reads old new before mid after failed late
 -- the replay stopped at a line
 pub halt_stopped : {table : List Row} (halt : Halt) (stop : Stop) (s : Status) (input : List ℕ) (at_end reads : Type 0) (old new : List Device) (before mid after : Option (List ℕ)) (failed later worse : Type 0) → halt ≡ halts.Stopped stop → (failed → worse) → (later → worse)
     → InputAnswer table (Err halt) (bytes_taken input at_end) (span old new before mid) (failures reads failed) → StopEnds stop s mid after later
-    → (length input ≤ most_used_bytes + 1) × ScriptReplayed table s (script_of input) (ending_of (length old) input) input at_end old new before after reads worse
+    → (length input ≤ most_used_bytes + 1) × ScriptReplayed table s (script_of input) (ending_of (length old) input) (bytes_taken input at_end) (span old new before after) (failures reads worse)
 halt_stopped {table} halt stop s input at_end reads old new before mid after failed later worse is spread widen answer done =
     let h : InputAnswer table (Err (halts.Stopped stop)) (bytes_taken input at_end) (span old new before mid) (failures reads failed) = subst (λ (x : Halt). InputAnswer table (Err x) (bytes_taken input at_end) (span old new before mid) (failures reads failed)) is answer in
     (omega (arith, h.0), stopped_ends stop s (script_of input) (has_unused_bytes input) input at_end h.2.0 old new before mid after failed later reads worse spread widen h.2.1 h.1 h.2.2 done)
 
 -- what a replay did, where these bytes were taken
 pub replayed_of : {table : List Row} (s : Status) (bytes : List ℕ) (a b : Around) → Takes a.left b.left bytes → length bytes ≤ most_used_bytes + 1
-    → ScriptReplayed table s (script_of bytes) (ending_of (length a.boards) bytes) bytes (AtEnd b.left) a.boards b.boards a.written b.written (Rose a.reads b.reads) (Rose a.writes b.writes)
+    → ScriptReplayed table s (script_of bytes) (ending_of (length a.boards) bytes) (bytes_taken bytes (AtEnd b.left)) (span a.boards b.boards a.written b.written) (failures (Rose a.reads b.reads) (Rose a.writes b.writes))
     → (s ≢ ReadFault → b.reads ≡ a.reads) → (s ≢ WriteFault → b.writes ≡ a.writes) → Replayed table s a b
 replayed_of s bytes a b taken few r reads writes =
     record { input = bytes; taken = taken; few_bytes = few; came = r.came; text = r.text; written = r.written; report = r.report; enough = r.enough; near = r.near; limits = r.limits; stood = r.stood; boards = r.boards; caused = r.caused; read_faults = reads; write_faults = writes }
@@ -157,7 +157,7 @@ memory_unread bytes lb la wb rb ra k old taken few reads =
     record { input = bytes; taken = taken; few_bytes = few; came = none_played (script_of bytes); text = []; written = Puts-nil wb; report = record { more = []; front = refl }; enough = inr (none_whole bytes); near = tt; limits = none_bound (length old); stood = λ uses. absurd (cc); boards = refl; caused = tt; read_faults = λ other. reads; write_faults = λ other. refl }
 
 -- the status of an ending that is the script's
-by_status : {table : List Row} (s : Status) (input : List ℕ) (at_end : Type 0) (c : Progress table (script_of input)) (text : List ℕ) (r w b v i uses : Type 0) (n : ℕ) → ReadEnough s n input at_end c text → IsCaused s (ending_of n input) r w b v i → (r → ⊥) → (w → ⊥)
+by_status : {table : List Row} (s : Status) (input : List ℕ) (at_end : Type 0) (c : Progress table (script_of input)) (text : List ℕ) (r w b v i uses : Type 0) (n : ℕ) → ReadEnough s n (bytes_taken input at_end) c text → IsCaused s (ending_of n input) r w b v i → (r → ⊥) → (w → ⊥)
     → (b → at_end ⊎ NextIsWhole input c.done c.rest → ⊥) → (v → at_end ⊎ NextIsWhole input c.done c.rest → ⊥) → (i → at_end ⊎ NextIsWhole input c.done c.rest → uses) → (at_end ⊎ IsSettled n input → ending_of n input ≡ Ends) → IsComplete uses s
 by_status Memory input at_end c text r w b v i uses n enough caused reads writes stops none lacks ends = inr (inl refl)
 by_status ReadFault input at_end c text r w b v i uses n enough caused reads writes stops none lacks ends = absurd (reads caused)

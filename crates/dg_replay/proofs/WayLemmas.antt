@@ -27,7 +27,7 @@ use Rattle.dg_replay.specs.declared.halt.Halt.{Halt}
 use Rattle.dg_replay.specs.declared.halt.Halt.TheVariants.{Stopped}
 use Rattle.dg_replay.specs.declared.player.Player.{Player}
 use Rattle.dg_replay.specs.declared.stop.Stop.{Stop}
-use Rattle.dg_replay.specs.Stages.{based_on, done_so_far, telling, bytes_taken}
+use Rattle.dg_replay.specs.Stages.{based_on, done_so_far, telling, span, bytes_taken, failures}
 use Rattle.dg_replay.specs.declared.stop.Stop.TheVariants.{Memory, WriteFault}
 use Rattle.dg_replay.proofs.FollowingLemmas.{TextPlays, given_next}
 use Rattle.dg_replay.proofs.RunLemmas.{HeadlineLaw, replay_done, replayed_of}
@@ -94,7 +94,7 @@ given_answer r o n text old new at_end read_failed Took p q was now before after
 
 -- what a replay did whose script was replayed
 pub replay_ended : (s : Status) (a b : Around) → HeadlineLaw → (bytes : List ℕ) → Takes a.left b.left bytes
-    → ((table : List Row) → (length bytes ≤ most_used_bytes + 1) × ScriptReplayed table s (script_of bytes) (ending_of (length a.boards) bytes) bytes (AtEnd b.left) a.boards b.boards a.written b.written (Rose a.reads b.reads) (Rose a.writes b.writes))
+    → ((table : List Row) → (length bytes ≤ most_used_bytes + 1) × ScriptReplayed table s (script_of bytes) (ending_of (length a.boards) bytes) (bytes_taken bytes (AtEnd b.left)) (span a.boards b.boards a.written b.written) (failures (Rose a.reads b.reads) (Rose a.writes b.writes)))
     → (s ≢ status.ReadFault → b.reads ≡ a.reads) → (s ≢ status.WriteFault → b.writes ≡ a.writes) → ReplayDone s a b
 replay_ended s a b law bytes taken came reads writes = replay_done s a b law (λ table. let r = came table in replayed_of s bytes a b taken r.0 r.1 reads writes)
 

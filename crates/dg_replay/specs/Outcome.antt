@@ -29,6 +29,7 @@ use Rattle.dg_world.specs.Mounted.{StandFor}
 use Rattle.dg_replay.specs.Boards.{BoardsStand, BoardStopped, StoppedIn, EventNext, InSome, NoVolumeIn, LacksImage}
 use Rattle.dg_replay.specs.Items.{Ground, UsesBoards, beginning_of, motes_in, next_items, events_among}
 use Rattle.dg_replay.specs.Around.{Around}
+use Rattle.dg_replay.specs.Stages.{BytesTaken, bytes_taken}
 use Rattle.dg_replay.specs.Ending.{Ending, Ends, NoBoards, TooManyEvents, FaultAt, Over, InBounds, whole_lines, ending_of}
 use Rattle.dg_replay.specs.Ending.{ending_line, status_of, script_of}
 
@@ -221,17 +222,17 @@ AllWhole input done = AllRead (lines (whole_lines input)) done
 -- A status of the rules is that of every input that begins with these bytes, or the input is at its end.
 -- A read that failed leaves all whole lines done. Another fault and want of memory leave only whole lines done and begun, or the
 -- input is at its end; the line in which a board stopped is whole too.
-abbrev pub ReadEnough : {table : List Row} {script : Script} → Status → (boards : ℕ) → (input : List ℕ) → (at_end : Type 0)
-    → Progress table script → (text : List ℕ) → Type 0
-ReadEnough Memory boards input at_end c text = at_end ⊎ DoneIsWhole input c.done c.rest c.begun
-ReadEnough ReadFault boards input at_end c text = AreWhole input c.done × AllWhole input c.done
-ReadEnough WriteFault boards input at_end c text = at_end
-    ⊎ (IsSettled boards input ⊎ ((DoneIsWhole input c.done c.rest c.begun × IsFrontOfLines c.played text)
-    ⊎ ((line : List ℕ) × BoardsEndIt c line × NextIsWhole input c.done c.rest)))
-ReadEnough FlashFault boards input at_end c text = at_end ⊎ NextIsWhole input c.done c.rest
-ReadEnough NotAVolume boards input at_end c text = at_end ⊎ NextIsWhole input c.done c.rest
-ReadEnough NoImage boards input at_end c text = at_end ⊎ NextIsWhole input c.done c.rest
-ReadEnough status boards input at_end c text = at_end ⊎ IsSettled boards input
+abbrev pub ReadEnough : {table : List Row} {script : Script} → Status → (boards : ℕ) → BytesTaken → Progress table script
+    → (text : List ℕ) → Type 0
+ReadEnough Memory boards taken c text = taken.at_end ⊎ DoneIsWhole taken.bytes c.done c.rest c.begun
+ReadEnough ReadFault boards taken c text = AreWhole taken.bytes c.done × AllWhole taken.bytes c.done
+ReadEnough WriteFault boards taken c text = taken.at_end ⊎ (IsSettled boards taken.bytes
+    ⊎ ((DoneIsWhole taken.bytes c.done c.rest c.begun × IsFrontOfLines c.played text)
+    ⊎ ((line : List ℕ) × BoardsEndIt c line × NextIsWhole taken.bytes c.done c.rest)))
+ReadEnough FlashFault boards taken c text = taken.at_end ⊎ NextIsWhole taken.bytes c.done c.rest
+ReadEnough NotAVolume boards taken c text = taken.at_end ⊎ NextIsWhole taken.bytes c.done c.rest
+ReadEnough NoImage boards taken c text = taken.at_end ⊎ NextIsWhole taken.bytes c.done c.rest
+ReadEnough status boards taken c text = taken.at_end ⊎ IsSettled boards taken.bytes
 
 -- what is told of so many lines, the first of those that were done
 abbrev pub told_of : {table : List Row} {script : Script} → ℕ → Progress table script → List ℕ
@@ -280,7 +281,7 @@ pub record Replayed (table : List Row) (status : Status) (a b : Around) : Type 0
   pub text : List ℕ
   pub written : Puts a.written b.written text
   pub report : Wrote status (ending_of (length a.boards) input) came text
-  pub enough : ReadEnough status (length a.boards) input (AtEnd b.left) came text
+  pub enough : ReadEnough status (length a.boards) (bytes_taken input (AtEnd b.left)) came text
   pub near : ReadsNear status (ending_of (length a.boards) input) input came text
   -- nothing behind the ending was done
   pub limits : InBounds (length a.boards) came.done (map item_played came.played)

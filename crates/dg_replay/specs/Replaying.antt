@@ -273,15 +273,14 @@ InputAnswer table (Err (Stopped stop)) taken s failed =
     × StopsInTaken table stop (script_of taken.bytes) taken number s failed.write)
 
 -- A script came to its ending, and the end of its report, which is this piece, is not written yet.
-pub record ReadyToEnd (table : List Row) (script : Script) (ending : Ending) (piece : List ℕ) (initial now : List Device)
-    (before after : Option (List ℕ)) : Type 0 where
+pub record ReadyToEnd (table : List Row) (script : Script) (ending : Ending) (piece : List ℕ) (s : Span) : Type 0 where
   pub came : Progress table script
-  pub told : Puts before after (played_text came.played)
-  pub boards : BoardsStand came.last initial now
+  pub told : Puts s.before s.after (played_text came.played)
+  pub boards : BoardsStand came.last s.initial s.now
   pub all : ReachesEnding ending came
   pub line : closing ending came.last ≡ piece
-  pub limits : InBounds (length initial) came.done (map item_played came.played)
-  pub stood : UsesBoards came.done → StandFor (motes_in came.done) came.ground.stores initial
+  pub limits : InBounds (length s.initial) came.done (map item_played came.played)
+  pub stood : UsesBoards came.done → StandFor (motes_in came.done) came.ground.stores s.initial
 
 -- how writing the end of a report ends
 abbrev pub EndsWith : Status → Status → List ℕ → (before after : Option (List ℕ)) → (write_failed : Type 0) → Type 0
@@ -317,17 +316,16 @@ FinishesWith result w initial now before after failed =
     × (after ≡ before))
 
 -- A script was replayed, as its ending and the status say, and these bytes were taken for it.
-pub record ScriptReplayed (table : List Row) (status : Status) (script : Script) (ending : Ending) (input : List ℕ)
-    (at_end : Type 0) (initial now : List Device) (before after : Option (List ℕ)) (read_failed write_failed : Type 0) : Type
-    0 where
+pub record ScriptReplayed (table : List Row) (status : Status) (script : Script) (ending : Ending) (taken : BytesTaken)
+    (s : Span) (failed : Failures) : Type 0 where
   pub came : Progress table script
   pub text : List ℕ
-  pub written : Puts before after text
+  pub written : Puts s.before s.after text
   pub report : Wrote status ending came text
-  pub enough : ReadEnough status (length initial) input at_end came text
-  pub near : ReadsNear status ending input came text
-  pub limits : InBounds (length initial) came.done (map item_played came.played)
-  pub stood : UsesBoards came.done → StandFor (motes_in came.done) came.ground.stores initial
-  pub boards : BoardsLeft status came initial now
-  pub caused : IsCaused status ending read_failed write_failed (BoardStopped (motes_in came.done) initial now)
-      (NoVolumeThere came initial now) ((UsesBoards came.done) × NoImageThere came initial now)
+  pub enough : ReadEnough status (length s.initial) taken came text
+  pub near : ReadsNear status ending taken.bytes came text
+  pub limits : InBounds (length s.initial) came.done (map item_played came.played)
+  pub stood : UsesBoards came.done → StandFor (motes_in came.done) came.ground.stores s.initial
+  pub boards : BoardsLeft status came s.initial s.now
+  pub caused : IsCaused status ending failed.read failed.write (BoardStopped (motes_in came.done) s.initial s.now)
+      (NoVolumeThere came s.initial s.now) ((UsesBoards came.done) × NoImageThere came s.initial s.now)

@@ -8,7 +8,7 @@ ghost use Rattle.dg_replay.specs.Ending.{ending_from};
 ghost use Rattle.dg_replay.specs.Near.{behind_lines};
 ghost use Rattle.dg_replay.specs.Playing.{Ready};
 ghost use Rattle.dg_replay.specs.Replaying.{StopEnds, Reached, ScriptReplayed};
-ghost use Rattle.dg_replay.specs.Stages.{span};
+ghost use Rattle.dg_replay.specs.Stages.{span, bytes_taken, failures};
 
 use crate::finish::{end_at_line, end_with, end_without_boards, finish};
 use crate::player::Player;
@@ -48,8 +48,9 @@ pub fn end_script<K: Sink, N: Nor>(
     ensures ends { (table : List Row) (script : Script) (input : List ℕ) (initial : List Device) (before : Option (List ℕ))
         (faults : ℕ) → faults ≤ K.faults out.old → behind_lines number input ≡ []
         → Reached table true script [] number player.now (span initial (map N.device boards.old.items) before (K.written out.old))
-        → ScriptReplayed table result script (ending_from (length initial) false script) input ⊤ initial
-        (map N.device boards.new.items) before (K.written out.new) ⊥ (Rose faults (K.faults out.new)) }
+        → ScriptReplayed table result script (ending_from (length initial) false script) (bytes_taken input ⊤)
+        (span initial (map N.device boards.new.items) before (K.written out.new))
+        (failures ⊥ (Rose faults (K.faults out.new))) }
     ensures counts { K.faults out.old ≤ K.faults out.new }
     ensures unfailed { result ≢ Status.WriteFault → K.faults out.new ≡ K.faults out.old }
 {
