@@ -3,16 +3,13 @@ use Rattle.std.proofs.Common.{◌≡◌, ⊎_elim, inl, inr, ℕ, ◌+◌, ◌<�
 use Rattle.std.specs.Prelude.{nat_le}
 use Rattle.std.proofs.lemmas.Bool.Decides.{nat_tests}
 use Rattle.dg_nor.specs.Device.{Device}
-use Rattle.dg_rules.specs.World.{World}
 use Rattle.dg_script.specs.Sizes.{most_line}
 use Rattle.dg_script.specs.Lines.{line_of}
 use Rattle.dg_script.specs.LineReading.{Reading, FirstLine, NextAnswer}
 use Rattle.dg_script.specs.declared.fault.LineFault.TheVariants as line_fault
-use Rattle.dg_script.specs.declared.line.Line.{Line}
 use Rattle.dg_script.specs.declared.line_reader.ReadStop.{ReadStop}
 use Rattle.dg_script.specs.declared.line_reader.ReadStop.TheVariants as read_stop
 use Rattle.dg_script.specs.declared.place.Place.{Place}
-use Rattle.dg_object.specs.Object.{Row}
 use Rattle.dg_replay.specs.Following.{GivenPlayed, HaltedAs, NextPlayed}
 use Rattle.dg_replay.specs.Playing.{Stood}
 use Rattle.dg_replay.specs.Replaying.{TextAnswer}
@@ -20,7 +17,7 @@ use Rattle.dg_replay.specs.declared.halt.Halt.{Halt}
 use Rattle.dg_replay.specs.declared.halt.Halt.TheVariants.{ReadFault, TooLong, Stopped}
 use Rattle.dg_replay.specs.declared.player.Player.{Player}
 use Rattle.dg_replay.specs.declared.stop.Stop.{Stop}
-use Rattle.dg_replay.specs.Stages.{based_on, done_so_far, replay_state, line_read, bytes_taken}
+use Rattle.dg_replay.specs.Stages.{Basis, DoneSoFar, replay_state, line_read, bytes_taken}
 use Rattle.dg_replay.specs.declared.stop.Stop.TheVariants.{BadInput}
 
 above : (n m : ℕ) → m < n → nat_le n m ≡ false
@@ -53,7 +50,7 @@ next_halted (read_stop.Long line) halt bytes old new A F N P is h none long =
 
 -- what is played of a text, from a player that stands behind lines
 abbrev pub TextPlays : Result (Unit {0}) Stop → (text : List ℕ) → (number : ℕ) → (p q : Player) → (old now : List Device) → (mid after : Option (List ℕ)) → (failed : Type 0) → Type 0
-TextPlays r text number p q old now mid after failed = (done : List Line) (w : Option World) (initial : List Device) (table : List Row) → Stood p done w initial old → TextAnswer (based_on table initial) r (line_read text number) (done_so_far done w) (replay_state p old mid) (replay_state q now after) failed
+TextPlays r text number p q old now mid after failed = (basis : Basis) (so_far : DoneSoFar) → Stood p so_far.lines so_far.world basis.boards old → TextAnswer basis r (line_read text number) so_far (replay_state p old mid) (replay_state q now after) failed
 
 -- a line that was given was played
 pub given_next : (r : Result Bool Halt) (o : Option ℕ) (n : ℕ) (text bytes : List ℕ) (old new : Reading) (A F N : Type 0) (P : Result (Unit {0}) Stop → List ℕ → ℕ → Type 0) → o ≡ Some n → text ≡ new.text
@@ -66,4 +63,4 @@ given_next r o n text bytes old new A F N P some same h played =
 
 -- nothing is played of a line that is too long
 pub long_plays : (p : Player) (n : ℕ) (old : List Device) (mid : Option (List ℕ)) (failed : Type 0) (text : List ℕ) → most_line < length text → TextPlays (Err (BadInput n line_fault.Long)) text n p p old old mid mid failed
-long_plays p n old mid failed text long = λ done w initial table s. (refl, long_line p.place text long, record { boards = refl; told = refl })
+long_plays p n old mid failed text long = λ basis so_far s. (refl, long_line p.place text long, record { boards = refl; told = refl })

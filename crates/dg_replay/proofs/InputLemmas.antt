@@ -23,7 +23,7 @@ use Rattle.dg_replay.specs.declared.halt.Halt.{Halt}
 use Rattle.dg_replay.specs.declared.halt.Halt.TheVariants.{ReadFault, TooLong, Stopped}
 use Rattle.dg_replay.specs.declared.player.Player.{Player}
 use Rattle.dg_replay.specs.declared.stop.Stop.{Stop}
-use Rattle.dg_replay.specs.Stages.{span, bytes_taken}
+use Rattle.dg_replay.specs.Stages.{based_on, done_so_far, span, bytes_taken}
 use Rattle.dg_replay.specs.declared.stop.Stop.TheVariants.{Memory, BadInput, WriteFault, FlashFault, TooMany, NoBoard, NoImage, NotAVolume}
 use Rattle.dg_replay.proofs.EndLemmas.{script_all, script_over, stop_ending, bounds_done}
 use Rattle.dg_replay.proofs.FollowingLemmas.{TextPlays}
@@ -298,4 +298,4 @@ lines_halted law r halt a b c old new more number p q initial was now before mid
     by_halt : (x : Halt) → NextPlayed (Err x) (bytes_taken (old.ahead ++ more) at_end) old new rose (AllAsBefore p q was now mid after) (λ y t. TextPlays y t (old.number + 1) p q was now mid after failed) → Comes a c (Err x) at_end reads initial now before after writes
     by_halt ReadFault k = lines_failed a b c reads rose writes spread old more number p q initial was now before mid after at_end i taken k
     by_halt TooLong k = lines_over a b c reads writes old more number p q initial was now before mid after at_end i taken k
-    by_halt (Stopped stop) k = lines_stopped law stop a b c reads old more number p q initial was now before mid after at_end failed writes widen i taken k.0 k.1 k.2 (λ done w table s. k.3 done w initial table s)
+    by_halt (Stopped stop) k = lines_stopped law stop a b c reads old more number p q initial was now before mid after at_end failed writes widen i taken k.0 k.1 k.2 (λ done w table s. k.3 (based_on table initial) (done_so_far done w) s)

@@ -27,7 +27,7 @@ use Rattle.dg_replay.specs.declared.halt.Halt.{Halt}
 use Rattle.dg_replay.specs.declared.halt.Halt.TheVariants.{Stopped}
 use Rattle.dg_replay.specs.declared.player.Player.{Player}
 use Rattle.dg_replay.specs.declared.stop.Stop.{Stop}
-use Rattle.dg_replay.specs.Stages.{based_on, done_so_far, telling, span, bytes_taken, failures}
+use Rattle.dg_replay.specs.Stages.{Basis, based_on, DoneSoFar, done_so_far, telling, span, bytes_taken, failures}
 use Rattle.dg_replay.specs.declared.stop.Stop.TheVariants.{Memory, WriteFault}
 use Rattle.dg_replay.proofs.FollowingLemmas.{TextPlays, given_next}
 use Rattle.dg_replay.proofs.RunLemmas.{HeadlineLaw, replay_done, replayed_of}
@@ -51,34 +51,34 @@ passed_played table p place done w line passed told_before told initial now behi
 
 -- what is promised of a line that is played where the player stands
 abbrev pub LinePlays : Result (Unit {0}) Stop → (p q : Player) → Line → (told_before told : List ℕ) → (old now : List Device) → Type 0
-LinePlays r p q line told_before told old now = (done : List Line) (w : Option World) (initial : List Device) (table : List Row) → Stood p done w initial old → PlayedAs (based_on table initial) r q (done_so_far done w) line (telling old told_before) (telling now told)
+LinePlays r p q line told_before told old now = (basis : Basis) (so_far : DoneSoFar) → Stood p so_far.lines so_far.world basis.boards old → PlayedAs basis r q so_far line (telling old told_before) (telling now told)
 
 -- no line was found
 pub text_unread : (stop : Stop) (text : List ℕ) (number : ℕ) (p : Player) (old : List Device) (before : Option (List ℕ)) (failed : Type 0) → NotFound p.place text number stop → TextPlays (Err stop) text number p p old old before before failed
-text_unread stop text number p old before failed missing = λ done w initial table s. not_found_as table stop text number p p done w initial old before failed missing
+text_unread stop text number p old before failed missing = λ basis so_far s. not_found_as basis.table stop text number p p so_far.lines so_far.world basis.boards old before failed missing
 
 -- a line was played, its place went on, and what is told of it was written, or a front of it
 pub text_played : (r : Result (Unit {0}) Stop) (text : List ℕ) (number : ℕ) (p q : Player) (place : Place) (old now : List Device) (line passed : Line) (cleared told shown : List ℕ) (before after : Option (List ℕ)) (failed : Type 0)
     → line_of p.place text ≡ Ok line → cleared ≡ [] → shown ≡ told → LinePlays (Ok tt) p (gone_on q passed) line cleared told old now → place_after q.place passed ≡ place_after p.place line → place ≡ place_after q.place passed
     → OnOk r (Puts before after shown) → OnErr r (PutsFront before after shown × (shown ≢ [])) → OnErr r ((r ≡ Err WriteFault) × failed)
     → TextPlays r text number p (record q { place = place }) old now before after failed
-text_played r text number p q place old now line passed cleared told shown before after failed spelled clear same plays behind at ok cut cause = λ done w initial table s.
-    let there : PlayedLine (based_on table initial) (gone_on q passed) (done_so_far done w) line [] (telling now told) = subst (λ (xs : List ℕ). PlayedLine (based_on table initial) (gone_on q passed) (done_so_far done w) line xs (telling now told)) clear (plays done w initial table s) in
-    let to : PlayedLine (based_on table initial) (gone_on q passed) (done_so_far done w) line [] (telling now shown) = subst (λ (xs : List ℕ). PlayedLine (based_on table initial) (gone_on q passed) (done_so_far done w) line [] (telling now xs)) (sym same) there in
-    told_as table r text number p (record q { place = place }) done w initial old now before after failed line shown spelled (passed_played table q place done w line passed [] shown initial now at to) (at ∙ behind) ok cut cause
+text_played r text number p q place old now line passed cleared told shown before after failed spelled clear same plays behind at ok cut cause = λ basis so_far s.
+    let there : PlayedLine basis (gone_on q passed) so_far line [] (telling now told) = subst (λ (xs : List ℕ). PlayedLine basis (gone_on q passed) so_far line xs (telling now told)) clear (plays basis so_far s) in
+    let to : PlayedLine basis (gone_on q passed) so_far line [] (telling now shown) = subst (λ (xs : List ℕ). PlayedLine basis (gone_on q passed) so_far line [] (telling now xs)) (sym same) there in
+    told_as basis.table r text number p (record q { place = place }) so_far.lines so_far.world basis.boards old now before after failed line shown spelled (passed_played basis.table q place so_far.lines so_far.world line passed [] shown basis.boards now at to) (at ∙ behind) ok cut cause
 
 -- a line was not played, or begun, and what is told of that was written, or a front of it
 pub text_begun : (stop result : Stop) (text : List ℕ) (number : ℕ) (p q gone : Player) (old now : List Device) (line : Line) (cleared told shown : List ℕ) (before after : Option (List ℕ)) (failed : Type 0)
     → line_of p.place text ≡ Ok line → cleared ≡ [] → shown ≡ told → LinePlays (Err stop) p gone line cleared told old now → BegunWritten stop result shown before after failed
     → TextPlays (Err result) text number p q old now before after failed
-text_begun stop result text number p q gone old now line cleared told shown before after failed spelled clear same plays written = λ done w initial table s.
-    let there : PlayedAs (based_on table initial) (Err stop) gone (done_so_far done w) line (telling old []) (telling now told) = subst (λ (xs : List ℕ). PlayedAs (based_on table initial) (Err stop) gone (done_so_far done w) line (telling old xs) (telling now told)) clear (plays done w initial table s) in
-    let to : PlayedAs (based_on table initial) (Err stop) gone (done_so_far done w) line (telling old []) (telling now shown) = subst (λ (xs : List ℕ). PlayedAs (based_on table initial) (Err stop) gone (done_so_far done w) line (telling old []) (telling now xs)) (sym same) there in
-    begun_as table stop result text number p q done w initial old now before after failed line shown spelled (stop_as table stop gone q done w line [] shown initial old now to) written
+text_begun stop result text number p q gone old now line cleared told shown before after failed spelled clear same plays written = λ basis so_far s.
+    let there : PlayedAs basis (Err stop) gone so_far line (telling old []) (telling now told) = subst (λ (xs : List ℕ). PlayedAs basis (Err stop) gone so_far line (telling old xs) (telling now told)) clear (plays basis so_far s) in
+    let to : PlayedAs basis (Err stop) gone so_far line (telling old []) (telling now shown) = subst (λ (xs : List ℕ). PlayedAs basis (Err stop) gone so_far line (telling old []) (telling now xs)) (sym same) there in
+    begun_as basis.table stop result text number p q so_far.lines so_far.world basis.boards old now before after failed line shown spelled (stop_as basis.table stop gone q so_far.lines so_far.world line [] shown basis.boards old now to) written
 
 -- there was no memory for the place behind a line that left the boards as they were
 pub text_forgotten : (text : List ℕ) (number : ℕ) (p q : Player) (old now : List Device) (before : Option (List ℕ)) (failed : Type 0) → now ≡ old → TextPlays (Err Memory) text number p q old now before before failed
-text_forgotten text number p q old now before failed same = λ done w initial table s. inl (record { boards = same; told = refl })
+text_forgotten text number p q old now before failed same = λ basis so_far s. inl (record { boards = same; told = refl })
 
 -- what is answered where the next line was given, and this became of it
 pub given_answer : (r : Result Bool Halt) (o : Option ℕ) (n : ℕ) (text : List ℕ) (old new : Reading) (at_end read_failed : Type 0) (Took : List ℕ → Type 0) (p q : Player) (was now : List Device) (before after : Option (List ℕ)) (failed : Type 0) → o ≡ Some n → text ≡ new.text

@@ -1,15 +1,12 @@
 //! Plays the lines of an input one after another, as they are read.
-ghost use Rattle.std.specs.Prelude.{◌≡◌, ◌≢◌, ◌≤◌, ◌+◌, [], ℕ, List, ◌++◌, Option, map, Err};
+ghost use Rattle.std.specs.Prelude.{◌≡◌, ◌≢◌, ◌≤◌, ◌+◌, [], ℕ, List, ◌++◌, map, Err};
 ghost use Rattle.dg_words.specs.Counts.{Rose};
 ghost use Rattle.dg_base.specs.Outside.{Takes, AtEnd};
-ghost use Rattle.dg_nor.specs.Device.{Device};
-ghost use Rattle.dg_rules.specs.World.{World};
 ghost use Rattle.dg_object.specs.Object.{Row};
-ghost use Rattle.dg_script.specs.declared.line.Line.{Line};
 ghost use Rattle.dg_replay.specs.Following.{HaltedAs, NextPlayed, AllAsBefore};
 ghost use Rattle.dg_replay.specs.Playing.{Stood, Ready};
 ghost use Rattle.dg_replay.specs.Replaying.{TextAnswer, InputAnswer};
-ghost use Rattle.dg_replay.specs.Stages.{based_on, done_so_far, replay_state, line_read, span, bytes_taken, failures};
+ghost use Rattle.dg_replay.specs.Stages.{Basis, DoneSoFar, replay_state, line_read, span, bytes_taken, failures};
 
 use crate::halt::Halt;
 use crate::items::Told;
@@ -52,9 +49,9 @@ fn play_next<S: Source, K: Sink, N: Nor>(
         (Rose (S.faults input.old) (S.faults input.new))
         (AllAsBefore player.old player.new (map N.device boards.old.items) (map N.device boards.new.items)
         (K.written out.old) (K.written out.new))
-        (λ r text. (done : List Line) (w : Option World) (initial : List Device) (table : List Row)
-        → Stood player.old done w initial (map N.device boards.old.items)
-        → TextAnswer (based_on table initial) r (line_read text (reader.old.number + 1)) (done_so_far done w)
+        (λ r text. (basis : Basis) (behind : DoneSoFar)
+        → Stood player.old behind.lines behind.world basis.boards (map N.device boards.old.items)
+        → TextAnswer basis r (line_read text (reader.old.number + 1)) behind
         (replay_state player.old (map N.device boards.old.items) (K.written out.old))
         (replay_state player.new (map N.device boards.new.items) (K.written out.new))
         (Rose (K.faults out.old) (K.faults out.new))) }

@@ -1,14 +1,11 @@
 //! Plays the lines of a script over its world.
-ghost use Rattle.std.specs.Prelude.{◌≡◌, ◌<◌, ◌≤◌, ◌∷◌, [], ℕ, true, false, List, Option, Some, None, Err, map, length, OnOk};
+ghost use Rattle.std.specs.Prelude.{◌≡◌, ◌<◌, ◌≤◌, ◌∷◌, [], ℕ, true, false, List, Some, None, Err, map, length, OnOk};
 ghost use Rattle.std.specs.Prelude.{OnErr, IfOk};
-ghost use Rattle.dg_nor.specs.Device.{Device};
 ghost use Rattle.dg_volume.specs.Store.{fresh};
 ghost use Rattle.dg_script.specs.Fitting.{IsGolden};
 ghost use Rattle.dg_script.specs.Places.{first_place, place_after};
-ghost use Rattle.dg_rules.specs.World.{World as RuleWorld};
-ghost use Rattle.dg_object.specs.Object.{Row};
 ghost use Rattle.dg_replay.specs.Playing.{Stood, MayPlay, gone_on, Counted, PlayedAs, FormattedAs, MountedAs, mount_stop};
-ghost use Rattle.dg_replay.specs.Stages.{based_on, done_so_far, telling};
+ghost use Rattle.dg_replay.specs.Stages.{Basis, DoneSoFar, telling};
 
 use crate::items::{Told, play_event, play_image, play_round, play_sweeps};
 use crate::stop::Stop;
@@ -101,10 +98,10 @@ fn play_golden<N: Nor>(
     requires fits { IsGolden name.now used content.now }
     requires counted { Counted player.old.place.motes (length boards.old.items) }
     requires unready { player.old.place.ready ≡ false }
-    ensures played { (done : List Line) (w : Option RuleWorld) (initial : List Device) (table : List Row) (told : List ℕ)
-        → Stood player.old done w initial (map N.device boards.old.items)
-        → PlayedAs (based_on table initial) result (gone_on player.new (Line.Golden name.now used content.now))
-        (done_so_far done w) (Line.Golden name.now used content.now) (telling (map N.device boards.old.items) told)
+    ensures played { (basis : Basis) (behind : DoneSoFar) (told : List ℕ)
+        → Stood player.old behind.lines behind.world basis.boards (map N.device boards.old.items)
+        → PlayedAs basis result (gone_on player.new (Line.Golden name.now used content.now)) behind
+        (Line.Golden name.now used content.now) (telling (map N.device boards.old.items) told)
         (telling (map N.device boards.new.items) told) }
     ensures place { player.new.place ≡ player.old.place }
 {
@@ -153,9 +150,9 @@ fn mount_stop(stopped: MountStopped) -> Stop
 fn play_boards<N: Nor>(alloc: Global, player: &mut Player, boards: &mut Vec<N>) -> Result<(), Stop>
     requires counted { Counted player.old.place.motes (length boards.old.items) }
     requires unready { player.old.place.ready ≡ false }
-    ensures played { (done : List Line) (w : Option RuleWorld) (initial : List Device) (table : List Row) (told : List ℕ)
-        → Stood player.old done w initial (map N.device boards.old.items)
-        → PlayedAs (based_on table initial) result (gone_on player.new Line.Boards) (done_so_far done w) Line.Boards
+    ensures played { (basis : Basis) (behind : DoneSoFar) (told : List ℕ)
+        → Stood player.old behind.lines behind.world basis.boards (map N.device boards.old.items)
+        → PlayedAs basis result (gone_on player.new Line.Boards) behind Line.Boards
         (telling (map N.device boards.old.items) told) (telling (map N.device boards.new.items) told) }
     ensures place { player.new.place ≡ player.old.place }
 {
@@ -190,9 +187,9 @@ pub fn play_line<N: Nor>(
     told: &mut Told,
 ) -> Result<(), Stop>
     requires may { MayPlay line.old player.old (map N.device boards.old.items) }
-    ensures played { (done : List Line) (w : Option RuleWorld) (initial : List Device) (table : List Row)
-        → Stood player.old done w initial (map N.device boards.old.items)
-        → PlayedAs (based_on table initial) result (gone_on player.new line.new) (done_so_far done w) line.old
+    ensures played { (basis : Basis) (behind : DoneSoFar)
+        → Stood player.old behind.lines behind.world basis.boards (map N.device boards.old.items)
+        → PlayedAs basis result (gone_on player.new line.new) behind line.old
         (telling (map N.device boards.old.items) told.old.text.items)
         (telling (map N.device boards.new.items) told.new.text.items) }
     ensures behind { place_after player.new.place line.new ≡ place_after player.old.place line.old }

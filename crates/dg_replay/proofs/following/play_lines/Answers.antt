@@ -3,6 +3,7 @@ use Rattle.dg_words.specs.Counts.{Rose}
 use Rattle.dg_base.specs.Outside.{AtEnd}
 use Rattle.dg_script.specs.Sizes.{most_used_bytes}
 use Rattle.dg_replay.specs.Following.{AllAsBefore}
+use Rattle.dg_replay.specs.Stages.{based_on, done_so_far}
 use Rattle.dg_replay.proofs.FollowingLemmas.{TextPlays}
 use Rattle.dg_replay.proofs.InputLemmas.{lines_end, lines_halted, lines_ready, less_left, given_of, none_of}
 use Rattle.dg_replay.proofs.LinesReadLemmas.{lines_first, lines_next, lines_last, passes}
@@ -53,7 +54,7 @@ returns-then-is_last-clause-answer g c =
     c.if-branch.true a.2 in
     let last : new.last ≡ true = sym c.is_last.ensures ∙ c.if-is_last.true in
     lines_last (left c.args.input.now) (left c.loop-told.input) (left c.play_next.new.input) (Rose (faults c.args.input.now) (faults c.play_next.new.input)) (Rose (cuts c.args.out.now) (cuts c.play_next.new.out)) old new a.0 c.loop-told.number p q initial was now
-    (put c.args.out.now) mid after at_end failed i.0 a.1 given.0 last (λ done w table s. given.1 done w initial table s)
+    (put c.args.out.now) mid after at_end failed i.0 a.1 given.0 last (λ done w table s. given.1 (based_on table initial) (done_so_far done w) s)
 
 pub loop-told-smaller : goal.loop-told-smaller
 loop-told-smaller g c =
@@ -98,7 +99,7 @@ loop-told-preserved g c =
     let given = given_of c.in_ok-play_next.field-0 (old.ahead ++ a.0) old new at_end (Rose (faults c.loop-told.input) (faults c.play_next.new.input)) (AllAsBefore p q was now mid after) (λ x t. TextPlays x t (old.number + 1) p q was now mid after failed)
     c.if-branch.true a.2 in
     let more_lines : new.last ≡ false = sym c.is_last.ensures ∙ c.if-is_last.false in (
-      lines_next (left c.args.input.now) (left c.loop-told.input) (left c.play_next.new.input) old new a.0 c.loop-told.number p q initial was now (put c.args.out.now) mid after at_end failed i.0 a.1 given.0 more_lines (λ done w table s. given.1 done w initial table s),
+      lines_next (left c.args.input.now) (left c.loop-told.input) (left c.play_next.new.input) old new a.0 c.loop-told.number p q initial was now (put c.args.out.now) mid after at_end failed i.0 a.1 given.0 more_lines (λ done w table s. given.1 (based_on table initial) (done_so_far done w) s),
       c.in_ok-play_next.ensures.unread (λ e. cc) ∙ i.1,
       c.in_ok-play_next.ensures.unfailed (λ e. cc) ∙ i.2,
     )

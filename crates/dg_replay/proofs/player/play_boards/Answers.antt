@@ -4,15 +4,15 @@ use Rattle.dg_replay.proofs.SilentLemmas.{memory_line, boards_played, boards_end
 use Rattle.dg_replay.proofs.player.play_boards.Goals as goal
 
 pub returns-in-Err-clause-played : goal.returns-in-Err-clause-played
-returns-in-Err-clause-played g c = λ done w initial table told stood. memory_line table c.args.player.now c.args.player.now done w _ told told initial _ stood
+returns-in-Err-clause-played g c = λ basis behind told stood. memory_line basis.table c.args.player.now c.args.player.now behind.lines behind.world _ told told basis.boards _ stood
 
 pub returns-in-Err-mount-clause-played : goal.returns-in-Err-mount-clause-played
-returns-in-Err-mount-clause-played g c = λ done w initial table told stood.
-    boards_ended table c.args.player.now _ done w c.args.player.now.place.motes c.in-Err-mount.stopped c.mount_stop.result told initial _ _ c.mount_stop.ensures c.requires.unready refl c.mount.ensures.read
+returns-in-Err-mount-clause-played g c = λ basis behind told stood.
+    boards_ended basis.table c.args.player.now _ behind.lines behind.world c.args.player.now.place.motes c.in-Err-mount.stopped c.mount_stop.result told basis.boards _ _ c.mount_stop.ensures c.requires.unready refl c.mount.ensures.read
     (λ board is. c.mount.ensures.stopped board (c.in-Err-mount.is ∙ ap Err is)) (λ board is. c.mount.ensures.no_volume board (c.in-Err-mount.is ∙ ap Err is)) stood
 
 pub returns-in-Ok-mount-clause-played : goal.returns-in-Ok-mount-clause-played
-returns-in-Ok-mount-clause-played g c = λ done w initial table told stood.
+returns-in-Ok-mount-clause-played g c = λ basis behind told stood.
     let count = length-map c.args.boards.now.items g.N.Nor.device in
-    boards_played table c.args.player.now _ done w c.args.player.now.place.motes told initial _ _ c.requires.unready refl (c.requires.counted.0, c.requires.counted.1, omega (arith, c.requires.counted.2, count)) refl
+    boards_played basis.table c.args.player.now _ behind.lines behind.world c.args.player.now.place.motes told basis.boards _ _ c.requires.unready refl (c.requires.counted.0, c.requires.counted.1, omega (arith, c.requires.counted.2, count)) refl
     c.in-Ok-mount.ensures.stands c.in-Ok-mount.ensures.awake c.in-Ok-mount.ensures.calm c.mount.ensures.read c.mount.ensures.others c.in-Ok.ensures.begins stood

@@ -16,75 +16,75 @@ pub play_boards-requires-clause-unready : goal.play_boards-requires-clause-unrea
 play_boards-requires-clause-unready g c = (boards_at c.args.player.now.place (rw c.in-Boards.is at c.requires.may.stands)).0
 
 pub returns-in-Nothing-clause-played : goal.returns-in-Nothing-clause-played
-returns-in-Nothing-clause-played g c = λ done w initial table stood. waits_played table c.args.player.now done w c.args.line.now _ initial _ c.in-Nothing.is c.requires.may.fits stood
+returns-in-Nothing-clause-played g c = λ basis behind stood. waits_played basis.table c.args.player.now behind.lines behind.world c.args.line.now _ basis.boards _ c.in-Nothing.is c.requires.may.fits stood
 
 pub returns-in-Nothing-2-clause-played : goal.returns-in-Nothing-2-clause-played
-returns-in-Nothing-2-clause-played g c = λ done w initial table stood. waits_played table c.args.player.now done w c.args.line.now _ initial _ c.in-Nothing.is c.requires.may.fits stood
+returns-in-Nothing-2-clause-played g c = λ basis behind stood. waits_played basis.table c.args.player.now behind.lines behind.world c.args.line.now _ basis.boards _ c.in-Nothing.is c.requires.may.fits stood
 
 pub returns-in-Motes-clause-played : goal.returns-in-Motes-clause-played
-returns-in-Motes-clause-played g c = λ done w initial table stood.
+returns-in-Motes-clause-played g c = λ basis behind stood.
     let m = c.requires.may in
     let is = c.in-Motes.is in
-    rw is (motes_as table c.play_motes.result c.args.player.now _ done w c.in-Motes.motes _ _ initial _ (rw is at m.stands) refl (rw is at m.fits)
+    rw is (motes_as basis.table c.play_motes.result c.args.player.now _ behind.lines behind.world c.in-Motes.motes _ _ basis.boards _ (rw is at m.stands) refl (rw is at m.fits)
     (sym (length-map c.args.boards.now.items g.N.Nor.device)) c.play_motes.ensures.enough c.play_motes.ensures.missing stood)
 
 pub returns-in-Golden-clause-played : goal.returns-in-Golden-clause-played
-returns-in-Golden-clause-played g c = λ done w initial table stood.
-    rw c.in-Golden.is (c.play_golden.ensures.played done w initial table _ stood)
+returns-in-Golden-clause-played g c = λ basis behind stood.
+    rw c.in-Golden.is (c.play_golden.ensures.played basis behind _ stood)
 
 pub returns-in-Boards-clause-played : goal.returns-in-Boards-clause-played
-returns-in-Boards-clause-played g c = λ done w initial table stood.
-    rw c.in-Boards.is (c.play_boards.ensures.played done w initial table _ stood)
+returns-in-Boards-clause-played g c = λ basis behind stood.
+    rw c.in-Boards.is (c.play_boards.ensures.played basis behind _ stood)
 
 pub returns-in-Image-clause-played : goal.returns-in-Image-clause-played
-returns-in-Image-clause-played g c = λ done w initial table stood.
+returns-in-Image-clause-played g c = λ basis behind stood.
     let e = c.in-Image in
     let m = c.requires.may in
     let p = c.args.player.now in
-    rw e.is (busy_in table c.play_image.result p _ done w _ _ _ _ initial _ _ (image_has done e.image e.version e.name e.content) (rw e.is at m.stands) (rw e.is at m.fits)
-    (image_at p.place e.image e.version e.name e.content (rw e.is at m.stands)).0 refl stood (λ u is there. rw (c.take_bytes-name.ensures, c.take_bytes-content.ensures) at (c.play_image.ensures _ initial u is there)))
+    rw e.is (busy_in basis.table c.play_image.result p _ behind.lines behind.world _ _ _ _ basis.boards _ _ (image_has behind.lines e.image e.version e.name e.content) (rw e.is at m.stands) (rw e.is at m.fits)
+    (image_at p.place e.image e.version e.name e.content (rw e.is at m.stands)).0 refl stood (λ u is there. rw (c.take_bytes-name.ensures, c.take_bytes-content.ensures) at (c.play_image.ensures _ basis.boards u is there)))
 
 pub returns-in-Link-clause-played : goal.returns-in-Link-clause-played
-returns-in-Link-clause-played g c = λ done w initial table stood.
+returns-in-Link-clause-played g c = λ basis behind stood.
     let e = c.in-Link in
     let m = c.requires.may in
     let p = c.args.player.now in
     let at = link_at p.place e.a e.b (rw e.is at m.stands) in
-    rw e.is (link_played p _ done w e.a e.b _ initial _ (rw e.is at m.stands) (rw e.is at m.fits) at.0.0 at.1 refl c.link.ensures stood)
+    rw e.is (link_played p _ behind.lines behind.world e.a e.b _ basis.boards _ (rw e.is at m.stands) (rw e.is at m.fits) at.0.0 at.1 refl c.link.ensures stood)
 
 pub returns-in-Narrow-clause-played : goal.returns-in-Narrow-clause-played
-returns-in-Narrow-clause-played g c = λ done w initial table stood.
+returns-in-Narrow-clause-played g c = λ basis behind stood.
     let e = c.in-Narrow in
     let m = c.requires.may in
     let p = c.args.player.now in
     let at = narrow_at p.place e.mote (rw e.is at m.stands) in
-    rw e.is (narrow_played p _ done w e.mote _ initial _ (rw e.is at m.stands) (rw e.is at m.fits) at.0.0 at.1 refl c.narrow.ensures stood)
+    rw e.is (narrow_played p _ behind.lines behind.world e.mote _ basis.boards _ (rw e.is at m.stands) (rw e.is at m.fits) at.0.0 at.1 refl c.narrow.ensures stood)
 
 pub returns-in-Happens-clause-played : goal.returns-in-Happens-clause-played
-returns-in-Happens-clause-played g c = λ done w initial table stood.
+returns-in-Happens-clause-played g c = λ basis behind stood.
     let e = c.in-Happens in
     let m = c.requires.may in
     let p = c.args.player.now in
     let cut = c.as_ref-cut in
-    rw e.is (busy_in table c.play_event.result p _ done w _ _ _ _ initial _ _ (event_has done e.event (option_copied cut.result) (cut.ensures.value ∙ ap (λ (x : Place). x.cut) stood.place)) (rw e.is at m.stands) (rw e.is at m.fits)
-    (event_at p.place e.event (rw e.is at m.stands)).0 refl stood (λ u is there. c.play_event.ensures.played u initial is there))
+    rw e.is (busy_in basis.table c.play_event.result p _ behind.lines behind.world _ _ _ _ basis.boards _ _ (event_has behind.lines e.event (option_copied cut.result) (cut.ensures.value ∙ ap (λ (x : Place). x.cut) stood.place)) (rw e.is at m.stands) (rw e.is at m.fits)
+    (event_at p.place e.event (rw e.is at m.stands)).0 refl stood (λ u is there. c.play_event.ensures.played u basis.boards is there))
 
 pub returns-in-Round-clause-played : goal.returns-in-Round-clause-played
-returns-in-Round-clause-played g c = λ done w initial table stood.
+returns-in-Round-clause-played g c = λ basis behind stood.
     let e = c.in-Round in
     let m = c.requires.may in
     let p = c.args.player.now in
-    rw e.is (busy_in table c.play_round.result p _ done w _ _ _ _ initial _ _ (round_has done e.a e.b) (rw e.is at m.stands) (rw e.is at m.fits)
-    (round_at p.place e.a e.b (rw e.is at m.stands)).0 refl stood (λ u is there. c.play_round.ensures.played u initial is there))
+    rw e.is (busy_in basis.table c.play_round.result p _ behind.lines behind.world _ _ _ _ basis.boards _ _ (round_has behind.lines e.a e.b) (rw e.is at m.stands) (rw e.is at m.fits)
+    (round_at p.place e.a e.b (rw e.is at m.stands)).0 refl stood (λ u is there. c.play_round.ensures.played u basis.boards is there))
 
 pub returns-in-Sweeps-clause-played : goal.returns-in-Sweeps-clause-played
-returns-in-Sweeps-clause-played g c = λ done w initial table stood.
+returns-in-Sweeps-clause-played g c = λ basis behind stood.
     let e = c.in-Sweeps in
     let m = c.requires.may in
     let p = c.args.player.now in
     let known = c.as_slice-links.ensures ∙ ap (λ (x : Place). x.links) stood.place in
-    rw e.is (busy_in table c.play_sweeps.result p _ done w _ _ _ _ initial _ _ (sweeps_has done e.count c.as_slice-links.result.now known) (rw e.is at m.stands) (rw e.is at m.fits)
-    (sweeps_at p.place e.count (rw e.is at m.stands)).0 refl stood (λ u is there. c.play_sweeps.ensures u initial is there))
+    rw e.is (busy_in basis.table c.play_sweeps.result p _ behind.lines behind.world _ _ _ _ basis.boards _ _ (sweeps_has behind.lines e.count c.as_slice-links.result.now known) (rw e.is at m.stands) (rw e.is at m.fits)
+    (sweeps_at p.place e.count (rw e.is at m.stands)).0 refl stood (λ u is there. c.play_sweeps.ensures u basis.boards is there))
 
 pub play_event-requires : goal.play_event-requires
 play_event-requires g c =
