@@ -1,5 +1,5 @@
 //! A mote alone over its board: its power comes, it ticks, or a frame comes to it. A service plays its motes so.
-ghost use Rattle.std.specs.Prelude.{◌≡◌, ◌+◌, ◌^◌, ◌<◌, ℕ, true, length};
+ghost use Rattle.std.specs.Prelude.{◌≡◌, ◌+◌, ◌^◌, ◌<◌, true, length};
 ghost use Rattle.dg_rules.specs.World.{World as RuleWorld, site, wide_at};
 ghost use Rattle.dg_rules.specs.Events.{does, mote_of, dt_of};
 ghost use Rattle.dg_world.specs.Alone.{IsAlone, IsReset, PlaysAlone, Powers};

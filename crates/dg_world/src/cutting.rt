@@ -1,6 +1,5 @@
 //! An event at a board whose power may be cut in the middle of it.
-ghost use Rattle.std.specs.Prelude.{◌≡◌, ◌∷◌, false, ◌&&◌, not, ◌+◌, ◌≤◌, ◌<◌, ◌^◌, ℕ, Some, Ok, IsTrue};
-ghost use Rattle.dg_nor.specs.Device.{Device};
+ghost use Rattle.std.specs.Prelude.{◌≡◌, ◌∷◌, false, ◌&&◌, not, ◌≤◌, ◌<◌, ℕ, Some, Ok};
 ghost use Rattle.dg_nor.specs.Fuse.{inner_of, name_of, mask_of, fused_device, before, beneath_of};
 ghost use Rattle.dg_rules.specs.Sizes.{most_motes};
 ghost use Rattle.dg_rules.specs.World.{World as RuleWorld};

@@ -1,5 +1,5 @@
 //! How a world begins, and what is declared in it.
-ghost use Rattle.std.specs.Prelude.{◌≡◌, ◌<◌, ◌≤◌, ◌∷◌, ◌++◌, ℕ, true, false, List, [], length, map, slice_get, slice_index_or};
+ghost use Rattle.std.specs.Prelude.{◌≡◌, ◌<◌, ◌≤◌, ◌∷◌, ◌++◌, ℕ, true, false, List, [], length, slice_get, slice_index_or};
 ghost use Rattle.std.specs.Prelude.{slice_set, replicate, Some, None, Err, IfOk, OnOk, OnErr, IsTrue};
 ghost use Rattle.dg_base.specs.Texts.{spells_name};
 ghost use Rattle.dg_nor.specs.Device.{Device};

@@ -1,12 +1,10 @@
 //! A mote hears a frame.
 ghost use Rattle.std.specs.Prelude.{◌≡◌, ◌^◌, ◌<◌, ℕ, if◌then◌else◌, Option, Some, None, OnOk, OnErr, IsTrue};
-ghost use Rattle.dg_volume.specs.Stands.{Stands};
-ghost use Rattle.dg_mote.specs.Effects.{frame_effect};
-ghost use Rattle.dg_rules.specs.World.{World as RuleWorld, Running, site, store_at, frame_at, linked, last_frame};
-ghost use Rattle.dg_rules.specs.Events.{Refuses, of_effect, hear_by, heard_sent, heard_last, unless_off};
+ghost use Rattle.dg_rules.specs.World.{World as RuleWorld, site, store_at, frame_at, linked, last_frame};
+ghost use Rattle.dg_rules.specs.Events.{Refuses, hear_by, heard_sent, heard_last, unless_off};
 ghost use Rattle.dg_rules.specs.Sizes.{most_motes};
 ghost use Rattle.dg_world.specs.Shareds.{IsShared};
-ghost use Rattle.dg_world.specs.Worlds.{MoteStands, SiteStands, IsTimelyMote, MayRun};
+ghost use Rattle.dg_world.specs.Worlds.{SiteStands, MayRun};
 ghost use Rattle.dg_world.specs.Turns.{IsQuiet, TurnEnds};
 ghost use Rattle.dg_world.specs.Hosts.{host};
 ghost use Rattle.dg_world.specs.Unseen.{RefusesUnseen};

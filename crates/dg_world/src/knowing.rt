@@ -1,11 +1,7 @@
 //! Which boards a world knows: those that may be mounted again by halving.
-ghost use Rattle.std.specs.Prelude.{◌||◌, ◌≡◌, ◌≢◌, ◌↔◌, ◌+◌, ◌<◌, ℕ, Bool, List, Option, Some, None, IsTrue, true, length};
+ghost use Rattle.std.specs.Prelude.{◌||◌, ◌≡◌, ◌≢◌, ◌↔◌, ◌<◌, ℕ, List, Option, Some, None, IsTrue, true, length};
 ghost use Rattle.std.specs.FinSet as set;
 ghost use Rattle.dg_nor.specs.Device.{Device};
-ghost use Rattle.dg_control.specs.Store.{IsOrderlyChip};
-ghost use Rattle.dg_control.specs.Mounted.{IsControlOf};
-ghost use Rattle.dg_volume.specs.Stands.{control_of};
-ghost use Rattle.dg_mote.specs.Motes.{volume_of};
 ghost use Rattle.dg_rules.specs.Sizes.{most_motes};
 ghost use Rattle.dg_rules.specs.World.{World as RuleWorld, wide_at};
 ghost use Rattle.dg_rules.specs.Events.{knows, mote_of};

@@ -1,5 +1,5 @@
 //! Which motes are neighbours.
-ghost use Rattle.std.specs.Prelude.{◌≡◌, ◌<◌, ◌∷◌, ◌++◌, [], ◌==◌, ◌&&◌, ◌||◌, ℕ, List, slice_index_or};
+ghost use Rattle.std.specs.Prelude.{◌≡◌, ◌<◌, ◌∷◌, ◌++◌, [], ◌==◌, ◌&&◌, ◌||◌, ℕ, List};
 ghost use Rattle.std.specs.FinSet as set;
 ghost use Rattle.dg_rules.specs.Sizes.{most_motes};
 ghost use Rattle.dg_script.specs.Places.{is_linked};

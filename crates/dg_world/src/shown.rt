@@ -1,8 +1,8 @@
 //! What is reported of a chip, and the lines of what changed.
-ghost use Rattle.std.specs.Prelude.{◌≡◌, ◌+◌, ◌≤◌, ◌++◌, ℕ, None, slice_index_or, vec_len, option_to_list};
+ghost use Rattle.std.specs.Prelude.{◌≡◌, ◌+◌, ◌≤◌, ◌++◌, None, vec_len, option_to_list};
 ghost use Rattle.std.specs.Vec.{vec_capacity};
 ghost use Rattle.dg_volume.specs.Store.{Store};
-ghost use Rattle.dg_volume.specs.Stands.{Tells, snapshot_of, kept_at};
+ghost use Rattle.dg_volume.specs.Stands.{Tells};
 ghost use Rattle.dg_volume.specs.Sizes.{images};
 ghost use Rattle.dg_rules.specs.Changes.{order_change};
 ghost use Rattle.dg_world.specs.Shown.{Shows, have_shown, haves_shown, changes_shown};
