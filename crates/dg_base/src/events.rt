@@ -138,7 +138,7 @@ pub struct Step {
 
 /// A version of an image.
 #[derive(Clone, Copy, Debug, PartialEq, Eq, PartialOrd, Ord)]
-pub struct Key {
+pub struct ImageVersion {
     pub image: u8,
     pub version: u32,
 }

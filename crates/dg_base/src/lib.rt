@@ -18,7 +18,7 @@ mod texts;
 pub use answers::Status;
 pub use checksum::{checksum_is_a_remainder, crc16, crc16_more};
 pub use clock::{Clock, StepClock, a_step_clock_counts_on};
-pub use events::{Cut, Event, FrameBytes, Key, LONGEST_FRAME, LONGEST_MASK, Pairs, Step};
+pub use events::{Cut, Event, FrameBytes, ImageVersion, LONGEST_FRAME, LONGEST_MASK, Pairs, Step};
 pub use hexadecimal::{HexFault, hex_reads_back, parse_hex, push_hex};
 pub use memory::{MemSink, MemSource};
 pub use numbers::{parse_u32, push_u32, reads_what_is_printed};

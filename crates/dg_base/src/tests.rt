@@ -203,12 +203,12 @@ fn events(rt: HostRuntime) -> Result<(), Fail> {
     pairs.push((0, 1))?;
     pairs.push((3, 2))?;
     assert_eq!(rt; pairs.as_slice(), [(0, 1), (3, 2)].as_slice());
-    let key = Key {
+    let key = ImageVersion {
         image: 1,
         version: 2,
     };
     assert!(rt;
-        key < Key {
+        key < ImageVersion {
             image: 2,
             version: 1
         }

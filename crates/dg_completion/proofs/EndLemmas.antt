@@ -122,7 +122,7 @@ module _ (rows : List Row) where
   item_follows (Declares row) es u x v reports did none free rest =
       let same : declaring rows x ≡ declaring rows u = ap (declaring rows) did.world ∙ declares_nothing rows (row_at u.declared row.image row.version) u row in
       subst (λ y. Follows y es (declaring rows v)) same (rest free)
-  item_follows (Happens step loud) es u x v reports did none free rest = (
+  item_follows (Happens step reported) es u x v reports did none free rest = (
     declaring rows x,
     did.0,
     step_declaring rows u x step.event did.0 free.0 (uncut u x step did.0 none did.1),
@@ -154,7 +154,7 @@ module _ (free : FreeLaw) where
       → Stays w v × AllByRecursion IsFree rest
   item_stays (Declares row) rest w v reports agrees did none all =
       (subst (Stays w) (sym did.world) (declared_stays (row_at w.declared row.image row.version) w row), all)
-  item_stays (Happens x loud) rest w v reports agrees did none all =
+  item_stays (Happens x reported) rest w v reports agrees did none all =
       let grows = free w v x.event did.0 agrees all.0 (uncut w v x did.0 none did.1) in
       (record { table = grows.table; count = grows.count }, all.1)
 

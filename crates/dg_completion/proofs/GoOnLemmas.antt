@@ -24,24 +24,24 @@ plays_join [] ys w u v a b = subst (λ x. Plays x ys v) (sym a) b
 plays_join (x ∷ xs) ys w u v a b = (a.0, a.1, plays_join xs ys x.after u v a.2 b)
 
 -- events that follow one another, as what was played
-record AsPlayed (motes : ℕ) (loud : Bool) (w v : World) (es : List Event) : Type 0 where
+record AsPlayed (motes : ℕ) (reported : Bool) (w v : World) (es : List Event) : Type 0 where
   rest : List Played
-  items : map (λ (p : Played). p.item) rest ≡ map (happening loud) es
+  items : map (λ (p : Played). p.item) rest ≡ map (happening reported) es
   plays : Plays w rest v
   events : events_of rest ≡ es
   ranges : AllByRecursion (PlayedInRange motes) rest
   are_true : AllByRecursion IsTrueThen rest
   uncut : AllByRecursion IsUncut rest
 
-as_played : (motes : ℕ) (loud : Bool) (es : List Event) (w v : World) → Follows w es v → AllByRecursion IsFree es → AllByRecursion (EventInRange motes) es → AsPlayed motes loud w v es
+as_played : (motes : ℕ) (reported : Bool) (es : List Event) (w v : World) → Follows w es v → AllByRecursion IsFree es → AllByRecursion (EventInRange motes) es → AsPlayed motes reported w v es
 unfolding Plays Follows events_of
-as_played motes loud [] w v f free fits = record { rest = []; items = refl; plays = f; events = refl; ranges = tt; are_true = tt; uncut = tt }
-as_played motes loud (e ∷ es) w v f free fits =
-    let more = as_played motes loud es f.0 v f.3 free.1 fits.1 in
-    let p : Played = record { item = happening loud e; before = w; after = f.0; reports = filter (is_told loud) f.1 } in
+as_played motes reported [] w v f free fits = record { rest = []; items = refl; plays = f; events = refl; ranges = tt; are_true = tt; uncut = tt }
+as_played motes reported (e ∷ es) w v f free fits =
+    let more = as_played motes reported es f.0 v f.3 free.1 fits.1 in
+    let p : Played = record { item = happening reported e; before = w; after = f.0; reports = filter (is_told reported) f.1 } in
     record {
       rest = p ∷ more.rest;
-      items = ap (λ (items : List Item). happening loud e ∷ items) more.items;
+      items = ap (λ (items : List Item). happening reported e ∷ items) more.items;
       plays = (refl, (f.1, f.2, refl), more.plays);
       events = ap (λ (events : List Event). e ∷ events) more.events;
       ranges = (record { event = fits.0; cut = tt }, more.ranges);
@@ -55,11 +55,11 @@ module _
     (happen : HappensLaw)
     (spend : SpendLaw) where
   pub goes_on_law : GoesOnLaw
-  goes_on_law u before w n es loud from may =
+  goes_on_law u before w n es reported from may =
       let good = (agrees u w before from).1 in
       let all = rounds_free (times n (rounds_of w.links)) es may.rest in
       let came = comes free happen spend es w good all in
-      let known = as_played (length u.sites) loud es w came.v came.run all may.ranges in
+      let known = as_played (length u.sites) reported es w came.v came.run all may.ranges in
       record {
         rest = known.rest;
         items = known.items;

@@ -26,13 +26,13 @@ use Rattle.dg_rules.specs.Premises.{WorldAgrees, RunsWell, SiteIsWell}
 use Rattle.dg_rules.specs.Steps.{WorldStep, StepDoes, and_sent}
 use Rattle.dg_rounds.specs.Rounds.{paced}
 use Rattle.dg_completion.specs.Completion.{Follows, Grows, FreeLaw}
-use Rattle.dg_base.specs.declared.events.Key.{Key}
+use Rattle.dg_base.specs.declared.events.ImageVersion.{ImageVersion}
 use Rattle.dg_script.specs.declared.report.Report.{Report}
 
 -- the mote with this number is on, over this store
 pub record At (w : World) (m : ℕ) (x : Spot) : Type 0 where
   pub there : m < length w.sites
-  pub key : Key
+  pub key : ImageVersion
   pub site_is : site w m ≡ record { store = x.store; runs = Some (record { key = key; mote = x.mote }) }
 
 -- nothing but mote m changed, and the moment
@@ -105,8 +105,8 @@ made_moment w m dt x None = refl
 made_moment w m dt x (Some s) = refl
 
 -- a mote that did not meet NoImage goes on
-went : (o : Option MoteState) (started : Option Runs) (key : Key) (before : MoteState) (runs : Option Running) → option_map (runs_by started (Some key)) o ≡ Some runs
-    → (k : Key) × (runs ≡ Some (record { key = k; mote = mote_or o before }))
+went : (o : Option MoteState) (started : Option Runs) (key : ImageVersion) (before : MoteState) (runs : Option Running) → option_map (runs_by started (Some key)) o ≡ Some runs
+    → (k : ImageVersion) × (runs ≡ Some (record { key = k; mote = mote_or o before }))
 went None started key before runs e = absurd cc
 went (Some m) None key before runs e = (key, cc)
 went (Some m) (Some r) key before runs e = (key_of r, cc)

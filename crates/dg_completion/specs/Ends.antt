@@ -16,7 +16,7 @@ use Rattle.dg_completion.specs.Completion.{Follows, IsOn, HasRoomAt, newest, pag
 -- the event of an item: a declaration is none
 abbrev pub event_in : Item → List Event
 event_in (Declares row) = []
-event_in (Happens step loud) = step.event ∷ []
+event_in (Happens step reported) = step.event ∷ []
 
 -- the events of what was played, in their order
 unfoldable pub events_of : List Played → List Event
@@ -26,7 +26,7 @@ events_of (p ∷ ps) = event_in p.item ++ events_of ps
 -- no power is to be cut in it
 abbrev pub IsUncutItem : Item → Type 0
 IsUncutItem (Declares row) = Unit {0}
-IsUncutItem (Happens step loud) = step.cut ≡ None
+IsUncutItem (Happens step reported) = step.cut ≡ None
 
 abbrev pub IsUncut : Played → Type 0
 IsUncut p = IsUncutItem p.item

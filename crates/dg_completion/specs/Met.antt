@@ -52,7 +52,7 @@ MetLaw = (w : World) (n : ℕ) (es : List Event) → MayRest w n es → (v : Wor
 
 -- an event that is not to be cut, as an item of a script
 abbrev pub happening : Bool → Event → Item
-happening loud e = Happens (record { event = e; cut = None }) loud
+happening reported e = Happens (record { event = e; cut = None }) reported
 
 -- Every number is in its range, every mote is on, all are of one width, and each has room for whatever these events may commit
 -- there.
@@ -64,14 +64,14 @@ pub record MayGoOn (motes : ℕ) (w : World) (n : ℕ) (es : List Event) : Type 
   pub room : (m : ℕ) → m < length w.sites → spare_room + sum_by (commits_at m) es ≤ (store_at w m).room
 
 -- What was played before goes on with these events, and so ends with a rest of n sweeps that begins in world w.
-pub record GoesOn (u : World) (before : List Played) (w : World) (n : ℕ) (es : List Event) (loud : Bool) : Type 0 where
+pub record GoesOn (u : World) (before : List Played) (w : World) (n : ℕ) (es : List Event) (reported : Bool) : Type 0 where
   pub rest : List Played
-  pub items : map (λ p. p.item) rest ≡ map (happening loud) es
+  pub items : map (λ p. p.item) rest ≡ map (happening reported) es
   pub v : World
   pub plays : PlaysFrom u (before ++ rest) v
   pub ends : EndsInRest (before ++ rest) w n v
 
 -- Whatever was played from a world that agrees with its table, with true events, goes on so.
 abbrev pub GoesOnLaw : Type 0
-GoesOnLaw = (u : World) (before : List Played) (w : World) (n : ℕ) (es : List Event) (loud : Bool) → PlaysFrom u before w
-    → MayGoOn (length u.sites) w n es → GoesOn u before w n es loud
+GoesOnLaw = (u : World) (before : List Played) (w : World) (n : ℕ) (es : List Event) (reported : Bool) → PlaysFrom u before w
+    → MayGoOn (length u.sites) w n es → GoesOn u before w n es reported

@@ -26,20 +26,20 @@ use Rattle.dg_drip_replay.proofs.EventLemmas.{set_told, set_refused, set_stands,
 pub only_last : (f : SetFault) → f ≡ fault.Last
 only_last fault.Last = refl
 
-pub set_ok : (d e : DripNetwork) (w : Network) (loud : Bool) (node key value dt word number : ℕ) → Stands d w → node < length d.nodes.items → key < key_count
+pub set_ok : (d e : DripNetwork) (w : Network) (reported : Bool) (node key value dt word number : ℕ) → Stands d w → node < length d.nodes.items → key < key_count
     → e.moment ≡ d.moment + dt → e.links.items ≡ d.links.items → e.sent.items ≡ d.sent.items → e.nodes.items ≡ set d.nodes.items node (after_set (node_at d.nodes.items node) (d.moment + dt) word key value)
-    → Ok number ≡ set_answer (node_at d.nodes.items node) key → Does e w loud (Set node key value dt word) (Some (Got node key (record { number = number; value = value })))
-set_ok d e w loud node key value dt word number s h l moment links sent nodes answer = record {
+    → Ok number ≡ set_answer (node_at d.nodes.items node) key → Does e w reported (Set node key value dt word) (Some (Got node key (record { number = number; value = value })))
+set_ok d e w reported node key value dt word number s h l moment links sent nodes answer = record {
   after = set_stands d e w node key value dt word s h l moment links sent nodes;
-  told_is = set_told w loud node key value dt word number (ap set_outcome (sym (s.cells node key h l)) ∙ sym answer);
+  told_is = set_told w reported node key value dt word number (ap set_outcome (sym (s.cells node key h l)) ∙ sym answer);
 }
 
-pub set_err : (d e : DripNetwork) (w : Network) (loud : Bool) (node key value dt word : ℕ) → Stands d w → node < length d.nodes.items → key < key_count
+pub set_err : (d e : DripNetwork) (w : Network) (reported : Bool) (node key value dt word : ℕ) → Stands d w → node < length d.nodes.items → key < key_count
     → e.moment ≡ d.moment + dt → e.links.items ≡ d.links.items → e.sent.items ≡ d.sent.items → e.nodes.items ≡ set d.nodes.items node (after_set (node_at d.nodes.items node) (d.moment + dt) word key value)
-    → Err fault.Last ≡ set_answer (node_at d.nodes.items node) key → Does e w loud (Set node key value dt word) (Some (Refused node cause.Last))
-set_err d e w loud node key value dt word s h l moment links sent nodes answer = record {
+    → Err fault.Last ≡ set_answer (node_at d.nodes.items node) key → Does e w reported (Set node key value dt word) (Some (Refused node cause.Last))
+set_err d e w reported node key value dt word s h l moment links sent nodes answer = record {
   after = set_stands d e w node key value dt word s h l moment links sent nodes;
-  told_is = set_refused w loud node key value dt word (ap set_outcome (sym (s.cells node key h l)) ∙ sym answer);
+  told_is = set_refused w reported node key value dt word (ap set_outcome (sym (s.cells node key h l)) ∙ sym answer);
 }
 
 -- ---- ticks
@@ -56,16 +56,16 @@ and_false : (b c : Bool) → c ≡ false → (b && c) ≡ false
 and_false true c e = e
 and_false false c e = refl
 
-pub tick_none : (d e : DripNetwork) (w : Network) (loud : Bool) (node key dt word : ℕ) → Stands d w → node < length d.nodes.items → key < key_count
+pub tick_none : (d e : DripNetwork) (w : Network) (reported : Bool) (node key dt word : ℕ) → Stands d w → node < length d.nodes.items → key < key_count
     → e.moment ≡ d.moment + dt → e.links.items ≡ d.links.items → e.sent.items ≡ d.sent.items → e.nodes.items ≡ set d.nodes.items node (node_after_tick (node_at d.nodes.items node) (d.moment + dt) word key)
-    → None ≡ told_by (node_at d.nodes.items node) (d.moment + dt) key → Does e w loud (Tick node key dt word) None
-tick_none d e w loud node key dt word s h l moment links sent nodes told =
+    → None ≡ told_by (node_at d.nodes.items node) (d.moment + dt) key → Does e w reported (Tick node key dt word) None
+tick_none d e w reported node key dt word s h l moment links sent nodes told =
     let n : Node = node_at d.nodes.items node in
     let silent : tells (cell_of n key) (d.moment + dt) ≡ false = none_by (tells (cell_of n key) (d.moment + dt)) (said_by n key) told in
     record {
       after = tick_stands d e w node key dt word s h l moment links nodes
           (sent ∙ sym (ap (λ (b : Bool). d.sent.items ++ told_if b (said_by n key)) silent ∙ append-nil d.sent.items));
-      told_is = tick_silent w loud node key dt word (and_false loud (tells (w.cells node key) (w.moment + dt)) (tick_tells d w node key dt false s h l silent));
+      told_is = tick_silent w reported node key dt word (and_false reported (tells (w.cells node key) (w.moment + dt)) (tick_tells d w node key dt false s h l silent));
     }
 
 -- the network behind a tick that tells
@@ -78,23 +78,23 @@ tells_stands d e w node key dt word said s h l moment links sent nodes told =
     tick_stands d e w node key dt word s h l moment links nodes
     (sent ∙ sym (ap (λ (b : Bool). d.sent.items ++ told_if b (said_by n key)) parts.0 ∙ ap (λ (x : Said). d.sent.items ++ x ∷ []) parts.1))
 
-pub tick_quiet : (d e : DripNetwork) (w : Network) (loud : Bool) (node key dt word : ℕ) (said : Said) → Stands d w → node < length d.nodes.items → key < key_count
+pub tick_quiet : (d e : DripNetwork) (w : Network) (reported : Bool) (node key dt word : ℕ) (said : Said) → Stands d w → node < length d.nodes.items → key < key_count
     → e.moment ≡ d.moment + dt → e.links.items ≡ d.links.items → e.sent.items ≡ d.sent.items ++ said ∷ [] → e.nodes.items ≡ set d.nodes.items node (node_after_tick (node_at d.nodes.items node) (d.moment + dt) word key)
-    → Some said ≡ told_by (node_at d.nodes.items node) (d.moment + dt) key → loud ≡ false → Does e w loud (Tick node key dt word) None
-tick_quiet d e w loud node key dt word said s h l moment links sent nodes told quiet = record {
+    → Some said ≡ told_by (node_at d.nodes.items node) (d.moment + dt) key → reported ≡ false → Does e w reported (Tick node key dt word) None
+tick_quiet d e w reported node key dt word said s h l moment links sent nodes told quiet = record {
   after = tells_stands d e w node key dt word said s h l moment links sent nodes told;
-  told_is = tick_silent w loud node key dt word (ap (λ (b : Bool). b && tells (w.cells node key) (w.moment + dt)) quiet);
+  told_is = tick_silent w reported node key dt word (ap (λ (b : Bool). b && tells (w.cells node key) (w.moment + dt)) quiet);
 }
 
-pub tick_loud : (d e : DripNetwork) (w : Network) (loud : Bool) (node key dt word : ℕ) (said : Said) → Stands d w → node < length d.nodes.items → key < key_count
+pub tick_reported : (d e : DripNetwork) (w : Network) (reported : Bool) (node key dt word : ℕ) (said : Said) → Stands d w → node < length d.nodes.items → key < key_count
     → e.moment ≡ d.moment + dt → e.links.items ≡ d.links.items → e.sent.items ≡ d.sent.items ++ said ∷ [] → e.nodes.items ≡ set d.nodes.items node (node_after_tick (node_at d.nodes.items node) (d.moment + dt) word key)
-    → Some said ≡ told_by (node_at d.nodes.items node) (d.moment + dt) key → loud ≡ true → Does e w loud (Tick node key dt word) (Some (Sent node key said.entry))
-tick_loud d e w loud node key dt word said s h l moment links sent nodes told is =
+    → Some said ≡ told_by (node_at d.nodes.items node) (d.moment + dt) key → reported ≡ true → Does e w reported (Tick node key dt word) (Some (Sent node key said.entry))
+tick_reported d e w reported node key dt word said s h l moment links sent nodes told is =
     let n : Node = node_at d.nodes.items node in
     let parts = some_by (tells (cell_of n key) (d.moment + dt)) (said_by n key) said told in
     record {
       after = tells_stands d e w node key dt word said s h l moment links sent nodes told;
-      told_is = tick_told w loud node key dt word said.entry is (tick_tells d w node key dt true s h l parts.0)
+      told_is = tick_told w reported node key dt word said.entry is (tick_tells d w node key dt true s h l parts.0)
           (ap (λ (x : Said). x.entry) (sym parts.1) ∙ ap (λ (c : Cell). c.entry) (s.cells node key h l));
     }
 
@@ -127,20 +127,20 @@ take_silent d e w node word s answer t h l moment links sent nodes is other =
 abbrev pub later : Network → ℕ → Network
 later w dt = record w { moment = w.moment + dt }
 
-pub hear_none : (d e : DripNetwork) (w : Network) (loud : Bool) (node dt word frame : ℕ) → Stands d w
+pub hear_none : (d e : DripNetwork) (w : Network) (reported : Bool) (node dt word frame : ℕ) → Stands d w
     → e.moment ≡ d.moment + dt → e.links.items ≡ d.links.items → e.sent.items ≡ d.sent.items → e.nodes.items ≡ d.nodes.items
-    → None ≡ frame_numbered d.sent.items frame → Does e w loud (Hear node dt word frame) (Some (Refused node cause.Frame))
-hear_none d e w loud node dt word frame s moment links sent nodes none =
+    → None ≡ frame_numbered d.sent.items frame → Does e w reported (Hear node dt word frame) (Some (Refused node cause.Frame))
+hear_none d e w reported node dt word frame s moment links sent nodes none =
     let is : None ≡ frame_numbered w.sent frame = none ∙ ap (λ (xs : List Said). frame_numbered xs frame) s.sent in
     record {
       after = subst (λ (r : Option Said). Stands e (heard w node (w.moment + dt) word (from_neighbour w.links node r))) is (later_stands d e w dt s moment links sent nodes);
       told_is = ap (λ (r : Option Said). told_of_frame w (happens w (Hear node dt word frame)) node r) is;
     }
 
-pub hear_link : (d e : DripNetwork) (w : Network) (loud : Bool) (node dt word frame : ℕ) (x : Said) → Stands d w
+pub hear_link : (d e : DripNetwork) (w : Network) (reported : Bool) (node dt word frame : ℕ) (x : Said) → Stands d w
     → e.moment ≡ d.moment + dt → e.links.items ≡ d.links.items → e.sent.items ≡ d.sent.items → e.nodes.items ≡ d.nodes.items
-    → Some x ≡ frame_numbered d.sent.items frame → is_linked d.links.items x.source node ≡ false → Does e w loud (Hear node dt word frame) (Some (Refused node cause.Link))
-hear_link d e w loud node dt word frame x s moment links sent nodes some far =
+    → Some x ≡ frame_numbered d.sent.items frame → is_linked d.links.items x.source node ≡ false → Does e w reported (Hear node dt word frame) (Some (Refused node cause.Link))
+hear_link d e w reported node dt word frame x s moment links sent nodes some far =
     let is : Some x ≡ frame_numbered w.sent frame = some ∙ ap (λ (xs : List Said). frame_numbered xs frame) s.sent in
     let off : is_linked w.links x.source node ≡ false = ap (λ (ls : List (ℕ × ℕ)). is_linked ls x.source node) (sym s.links) ∙ far in
     record {
@@ -150,9 +150,9 @@ hear_link d e w loud node dt word frame x s moment links sent nodes some far =
           ∙ ap (λ (r : Option Said). told_of_frame w (happens w (Hear node dt word frame)) node r) is;
     }
 
-pub hear_takes : (d e : DripNetwork) (w : Network) (loud : Bool) (node dt word frame : ℕ) (x : Said) (told : Option DripReport) → Stands d w
-    → Some x ≡ frame_numbered d.sent.items frame → is_linked d.links.items x.source node ≡ true → Hears e (later w dt) node word x told → Does e w loud (Hear node dt word frame) told
-hear_takes d e w loud node dt word frame x told s some near h =
+pub hear_takes : (d e : DripNetwork) (w : Network) (reported : Bool) (node dt word frame : ℕ) (x : Said) (told : Option DripReport) → Stands d w
+    → Some x ≡ frame_numbered d.sent.items frame → is_linked d.links.items x.source node ≡ true → Hears e (later w dt) node word x told → Does e w reported (Hear node dt word frame) told
+hear_takes d e w reported node dt word frame x told s some near h =
     let is : Some x ≡ frame_numbered w.sent frame = some ∙ ap (λ (xs : List Said). frame_numbered xs frame) s.sent in
     let on : is_linked w.links x.source node ≡ true = ap (λ (ls : List (ℕ × ℕ)). is_linked ls x.source node) (sym s.links) ∙ near in
     let there : heard w node (w.moment + dt) word (Some x) ≡ happens w (Hear node dt word frame) =
@@ -165,17 +165,17 @@ hear_takes d e w loud node dt word frame x told s some near h =
           ∙ ap (λ (r : Option Said). told_of_frame w (happens w (Hear node dt word frame)) node r) is;
     }
 
-pub last_none : (d : DripNetwork) (w : Network) (loud : Bool) (from to key : ℕ) → Stands d w → None ≡ last_said d.sent.items from key → Does d w loud (Last from to key) None
-last_none d w loud from to key s none =
+pub last_none : (d : DripNetwork) (w : Network) (reported : Bool) (from to key : ℕ) → Stands d w → None ≡ last_said d.sent.items from key → Does d w reported (Last from to key) None
+last_none d w reported from to key s none =
     let is : None ≡ last_said w.sent from key = none ∙ ap (λ (xs : List Said). last_said xs from key) s.sent in
     record {
       after = subst (λ (r : Option Said). Stands d (heard w to w.moment 0 r)) is (record { moment = s.moment; links = s.links; sent = s.sent; long = s.long; ids = s.ids; cells = s.cells });
       told_is = ap (λ (r : Option Said). told_of_last w (happens w (Last from to key)) to r) is;
     }
 
-pub last_takes : (d e : DripNetwork) (w : Network) (loud : Bool) (from to key : ℕ) (x : Said) (told : Option DripReport) → Stands d w → Some x ≡ last_said d.sent.items from key
-    → Hears e w to 0 x told → Does e w loud (Last from to key) told
-last_takes d e w loud from to key x told s some h =
+pub last_takes : (d e : DripNetwork) (w : Network) (reported : Bool) (from to key : ℕ) (x : Said) (told : Option DripReport) → Stands d w → Some x ≡ last_said d.sent.items from key
+    → Hears e w to 0 x told → Does e w reported (Last from to key) told
+last_takes d e w reported from to key x told s some h =
     let is : Some x ≡ last_said w.sent from key = some ∙ ap (λ (xs : List Said). last_said xs from key) s.sent in
     let there : heard w to w.moment 0 (Some x) ≡ happens w (Last from to key) = ap (λ (r : Option Said). heard w to w.moment 0 r) is in
     record {

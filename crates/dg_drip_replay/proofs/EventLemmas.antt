@@ -77,9 +77,9 @@ set_entry : (c : Cell) (now word value : ℕ) (b : Bool) → is_last c.entry ≡
 set_entry c now word value true e = ap (λ (b : Bool). (let d : Cell = cond b c (record { entry = next_entry c.entry value; timer = after_other c.timer now word }) in d).entry) e
 set_entry c now word value false e = ap (λ (b : Bool). (let d : Cell = cond b c (record { entry = next_entry c.entry value; timer = after_other c.timer now word }) in d).entry) e
 
-pub set_told : (w : Network) (loud : Bool) (node key value dt word number : ℕ) → set_outcome (w.cells node key) ≡ Ok number
-    → Some (Got node key (record { number = number; value = value })) ≡ told_of w loud (Set node key value dt word)
-set_told w loud node key value dt word number e =
+pub set_told : (w : Network) (reported : Bool) (node key value dt word number : ℕ) → set_outcome (w.cells node key) ≡ Ok number
+    → Some (Got node key (record { number = number; value = value })) ≡ told_of w reported (Set node key value dt word)
+set_told w reported node key value dt word number e =
     let old : Entry = entry_at w node key in
     let parts = last_or_next (is_last old) (old.number + 1) number e in
     let after : entry_at (happens w (Set node key value dt word)) node key ≡ next_entry old value =
@@ -93,9 +93,9 @@ set_told w loud node key value dt word number e =
     ∙ ap (λ (n : ℕ). let r : Option DripReport = Some (Got node key (record { number = n; value = value })) in r) parts.1
     )
 
-pub set_refused : (w : Network) (loud : Bool) (node key value dt word : ℕ) → set_outcome (w.cells node key) ≡ Err fault.Last
-    → Some (Refused node cause.Last) ≡ told_of w loud (Set node key value dt word)
-set_refused w loud node key value dt word e =
+pub set_refused : (w : Network) (reported : Bool) (node key value dt word : ℕ) → set_outcome (w.cells node key) ≡ Err fault.Last
+    → Some (Refused node cause.Last) ≡ told_of w reported (Set node key value dt word)
+set_refused w reported node key value dt word e =
     sym (ap (λ (b : Bool). let r : Option DripReport = cond b (Some (Refused node cause.Last)) (got w (happens w (Set node key value dt word)) node key) in r) (is_last_number (is_last (entry_at w node key)) ((entry_at w node key).number + 1) e))
 
 -- the network behind a set
@@ -139,12 +139,12 @@ pub tick_tells : (d : DripNetwork) (w : Network) (node key dt : ℕ) (b : Bool) 
 tick_tells d w node key dt b s h l e =
     ap (λ (m : ℕ). tells (w.cells node key) (m + dt)) (sym s.moment) ∙ ap (λ (x : Cell). tells x (d.moment + dt)) (sym (s.cells node key h l)) ∙ e
 
-pub tick_silent : (w : Network) (loud : Bool) (node key dt word : ℕ) → (loud && tells (w.cells node key) (w.moment + dt)) ≡ false → None ≡ told_of w loud (Tick node key dt word)
-tick_silent w loud node key dt word e = sym (ap (λ (b : Bool). let r : Option DripReport = cond b (Some (Sent node key (entry_at w node key))) None in r) e)
+pub tick_silent : (w : Network) (reported : Bool) (node key dt word : ℕ) → (reported && tells (w.cells node key) (w.moment + dt)) ≡ false → None ≡ told_of w reported (Tick node key dt word)
+tick_silent w reported node key dt word e = sym (ap (λ (b : Bool). let r : Option DripReport = cond b (Some (Sent node key (entry_at w node key))) None in r) e)
 
-pub tick_told : (w : Network) (loud : Bool) (node key dt word : ℕ) (entry : Entry) → loud ≡ true → tells (w.cells node key) (w.moment + dt) ≡ true → entry ≡ entry_at w node key
-    → Some (Sent node key entry) ≡ told_of w loud (Tick node key dt word)
-tick_told w loud node key dt word entry is tell same =
+pub tick_told : (w : Network) (reported : Bool) (node key dt word : ℕ) (entry : Entry) → reported ≡ true → tells (w.cells node key) (w.moment + dt) ≡ true → entry ≡ entry_at w node key
+    → Some (Sent node key entry) ≡ told_of w reported (Tick node key dt word)
+tick_told w reported node key dt word entry is tell same =
     ap (λ (e : Entry). let r : Option DripReport = Some (Sent node key e) in r) same
     ∙ sym (ap (λ (b : Bool). let r : Option DripReport = cond b (Some (Sent node key (entry_at w node key))) None in r) (ap (λ (b : Bool). b && tells (w.cells node key) (w.moment + dt)) is ∙ tell))
 

@@ -30,12 +30,12 @@ told_of_last old new node None = None
 told_of_last old new node (Some s) = got old new node s.key
 
 -- What is told of an event. In rounds it is not told that a frame was sent.
-abbrev pub told_of : Network → (loud : Bool) → DripEvent → Option DripReport
-told_of w loud (Set node key value dt word) =
+abbrev pub told_of : Network → (reported : Bool) → DripEvent → Option DripReport
+told_of w reported (Set node key value dt word) =
     if is_last (entry_at w node key) then Some (Refused node cause.Last)
     else got w (happens w (Set node key value dt word)) node key
-told_of w loud (Tick node key dt word) =
-    if loud && tells (w.cells node key) (w.moment + dt) then Some (Sent node key (entry_at w node key)) else None
-told_of w loud (Hear node dt word frame) =
+told_of w reported (Tick node key dt word) =
+    if reported && tells (w.cells node key) (w.moment + dt) then Some (Sent node key (entry_at w node key)) else None
+told_of w reported (Hear node dt word frame) =
     told_of_frame w (happens w (Hear node dt word frame)) node (frame_numbered w.sent frame)
-told_of w loud (Last from to key) = told_of_last w (happens w (Last from to key)) to (last_said w.sent from key)
+told_of w reported (Last from to key) = told_of_last w (happens w (Last from to key)) to (last_said w.sent from key)

@@ -36,9 +36,9 @@ abbrev pub AreKeyed : List Said → Type 0
 AreKeyed sent = All (λ s. s.key < key_count) sent
 
 -- an event happened in the network, and this is told of it
-pub record Does (d : DripNetwork) (w : Network) (loud : Bool) (event : DripEvent) (told : Option DripReport) : Type 0 where
+pub record Does (d : DripNetwork) (w : Network) (reported : Bool) (event : DripEvent) (told : Option DripReport) : Type 0 where
   pub after : Stands d (happens w event)
-  pub told_is : told ≡ told_of w loud event
+  pub told_is : told ≡ told_of w reported event
 
 -- The clock went on by dt, and there are as many nodes as before.
 pub record Passes (old new : DripNetwork) (dt : ℕ) : Type 0 where

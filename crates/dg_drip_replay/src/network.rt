@@ -138,8 +138,8 @@ impl DripNetwork {
         requires key { key < key_count }
         requires moment { self.old.moment + dt < 2 ^ 62 }
         requires keyed { AreKeyed self.old.sent.items }
-        ensures does { (w : Network) (loud : Bool) → Stands self.old w
-            → Does self.new w loud (Set node key value dt word) (Some result) }
+        ensures does { (w : Network) (reported : Bool) → Stands self.old w
+            → Does self.new w reported (Set node key value dt word) (Some result) }
         ensures passes { Passes self.old self.new dt }
     {
         self.moment += u64::from(dt);
@@ -163,13 +163,13 @@ impl DripNetwork {
         key: u8,
         dt: u32,
         word: u32,
-        loud: bool,
+        reported: bool,
     ) -> Result<Option<DripReport>, AllocError>
         requires node { node < length self.old.nodes.items }
         requires key { key < key_count }
         requires moment { self.old.moment + dt < 2 ^ 62 }
         requires keyed { AreKeyed self.old.sent.items }
-        ensures does { (w : Network) → Stands self.old w → IfOk result (Does self.new w loud (Tick node key dt word)) }
+        ensures does { (w : Network) → Stands self.old w → IfOk result (Does self.new w reported (Tick node key dt word)) }
         ensures passes { OnOk result (Passes self.old self.new dt) }
     {
         self.moment += u64::from(dt);
@@ -177,7 +177,7 @@ impl DripNetwork {
             return Ok(None);
         };
         self.sent.push(said)?;
-        if !loud {
+        if !reported {
             return Ok(None);
         }
         Ok(Some(DripReport::Sent {
@@ -212,7 +212,8 @@ impl DripNetwork {
         requires node { node < length self.old.nodes.items }
         requires moment { self.old.moment + dt < 2 ^ 62 }
         requires keyed { AreKeyed self.old.sent.items }
-        ensures does { (w : Network) (loud : Bool) → Stands self.old w → Does self.new w loud (Hear node dt word frame) result }
+        ensures does { (w : Network) (reported : Bool) → Stands self.old w
+            → Does self.new w reported (Hear node dt word frame) result }
         ensures passes { Passes self.old self.new dt }
     {
         self.moment += u64::from(dt);
@@ -236,19 +237,23 @@ impl DripNetwork {
         requires node { to < length self.old.nodes.items }
         requires moment { self.old.moment < 2 ^ 62 }
         requires keyed { AreKeyed self.old.sent.items }
-        ensures does { (w : Network) (loud : Bool) → Stands self.old w → Does self.new w loud (Last from to key) result }
+        ensures does { (w : Network) (reported : Bool) → Stands self.old w → Does self.new w reported (Last from to key) result }
         ensures passes { Passes self.old self.new 0 }
     {
         let said = last_of(&self.sent, from, key)?;
         self.take(to, 0, &said)
     }
 
-    /// Applies an event, and answers what is told of it. That a frame was sent is told only where it is `loud`.
-    pub fn apply(&mut self, event: &DripEvent, loud: bool) -> Result<Option<DripReport>, AllocError>
+    /// Applies an event, and answers what is told of it. That a frame was sent is told only where it is `reported`.
+    pub fn apply(
+        &mut self,
+        event: &DripEvent,
+        reported: bool,
+    ) -> Result<Option<DripReport>, AllocError>
         requires fits { FitsEvent (length self.old.nodes.items) event.now }
         requires moment { self.old.moment + time_of event.now < 2 ^ 62 }
         requires keyed { AreKeyed self.old.sent.items }
-        ensures does { (w : Network) → Stands self.old w → IfOk result (Does self.new w loud event.now) }
+        ensures does { (w : Network) → Stands self.old w → IfOk result (Does self.new w reported event.now) }
         ensures passes { OnOk result (Passes self.old self.new (time_of event.now)) }
     {
         match *event {
@@ -264,7 +269,7 @@ impl DripNetwork {
                 key,
                 dt,
                 word,
-            } => self.tick(node, key, dt, word, loud),
+            } => self.tick(node, key, dt, word, reported),
             DripEvent::Hear {
                 node,
                 dt,

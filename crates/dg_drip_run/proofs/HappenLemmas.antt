@@ -29,13 +29,13 @@ one_more is i = length-append is (i ∷ [])
 later : (m dt n : ℕ) → m ≤ n * 2 ^ 32 → dt < 2 ^ 32 → m + dt ≤ (n + 1) * 2 ^ 32
 later m dt n h l = omega (arith, h, l)
 
-pub happened : (p q : Player) (s : DripScript) (before : List ℕ) (e : DripEvent) (loud : Bool) (told : Option DripReport) → Plays p s before
+pub happened : (p q : Player) (s : DripScript) (before : List ℕ) (e : DripEvent) (reported : Bool) (told : Option DripReport) → Plays p s before
     → FitsEvent p.standing.nodes e → time_of e < 2 ^ 32 → p.standing.begun ≡ true → p.events < most_events
-    → Does q.network (network_of s) loud e told → Passes p.network q.network (time_of e)
+    → Does q.network (network_of s) reported e told → Passes p.network q.network (time_of e)
     → q.standing ≡ p.standing → q.events ≡ p.events + 1 → q.text.items ≡ p.text.items ++ told_text told
-    → Plays q (with_items s (record { event = e; loud = loud } ∷ [])) before
-happened p q s before e loud told h fits short on few does passes standing events text =
-    let i : DripItem = record { event = e; loud = loud } in
+    → Plays q (with_items s (record { event = e; reported = reported } ∷ [])) before
+happened p q s before e reported told h fits short on few does passes standing events text =
+    let i : DripItem = record { event = e; reported = reported } in
     let nodes_is : p.standing.nodes ≡ s.nodes = ap (λ t. t.nodes) h.standing in
     let begun_is : s.begun ≡ true = sym (ap (λ t. t.begun) h.standing) ∙ on in
     record {
@@ -71,15 +71,15 @@ pub links_of_player : (p : Player) (s : DripScript) (before : List ℕ) → Play
 links_of_player p s before h = h.stands.links ∙ run_links (start s.links) (events_of s.items)
 
 -- what is told of an event was kept, or memory ran out
-pub happen_ran : (r : Result (Unit {0}) PlayStop) (p q : Player) (e : DripEvent) (loud : Bool) (told : Option DripReport)
+pub happen_ran : (r : Result (Unit {0}) PlayStop) (p q : Player) (e : DripEvent) (reported : Bool) (told : Option DripReport)
     → OnOk r (q.text.items ≡ p.text.items ++ told_text told) → OnErr r (r ≡ Err Memory)
     → FitsEvent p.standing.nodes e → time_of e < 2 ^ 32 → p.standing.begun ≡ true → p.events < most_events
-    → ((w : Network) → Stands p.network w → Does q.network w loud e told) → Passes p.network q.network (time_of e)
-    → q.standing ≡ p.standing → q.events ≡ p.events + 1 → DripItemsPlayed r p q (record { event = e; loud = loud } ∷ [])
-happen_ran (Ok u) p q e loud told text stop fits short on few does passes standing events = λ s before h.
-    happened p q s before e loud told h fits short on few (does (network_of s) h.stands) passes standing events text
-happen_ran (Err TooMany) p q e loud told text stop fits short on few does passes standing events = absurd (let e = stop in cc)
-happen_ran (Err Memory) p q e loud told text stop fits short on few does passes standing events = tt
+    → ((w : Network) → Stands p.network w → Does q.network w reported e told) → Passes p.network q.network (time_of e)
+    → q.standing ≡ p.standing → q.events ≡ p.events + 1 → DripItemsPlayed r p q (record { event = e; reported = reported } ∷ [])
+happen_ran (Ok u) p q e reported told text stop fits short on few does passes standing events = λ s before h.
+    happened p q s before e reported told h fits short on few (does (network_of s) h.stands) passes standing events text
+happen_ran (Err TooMany) p q e reported told text stop fits short on few does passes standing events = absurd (let e = stop in cc)
+happen_ran (Err Memory) p q e reported told text stop fits short on few does passes standing events = tt
 
 -- behind events that were all played a player can play on
 pub goes_on : (r : Result (Unit {0}) PlayStop) (p q : Player) (items : List DripItem) → IsPlaying p → q.standing ≡ p.standing → DripItemsPlayed r p q items → OnOk r (GoesOn p q)

@@ -37,10 +37,10 @@ goes_then p q w h k = record { playing = k.playing; standing = k.standing ∙ h.
 -- ---- a key
 
 abbrev pub tick_item : (a key : ℕ) → DripItem
-tick_item a key = record { event = Tick a key pace 0; loud = false }
+tick_item a key = record { event = Tick a key pace 0; reported = false }
 
 abbrev pub last_item : (a b key : ℕ) → DripItem
-last_item a b key = record { event = Last a b key; loud = false }
+last_item a b key = record { event = Last a b key; reported = false }
 
 pub key_items : (a b key : ℕ) → tick_item a key ∷ tick_item a key ∷ tick_item a key ∷ last_item a b key ∷ [] ≡ quiet (round_of_key a b key)
 unfolding round_of_key
@@ -51,11 +51,11 @@ key_items a b key = refl
 abbrev pub keys_items : (a b k : ℕ) → List DripItem
 keys_items a b k = quiet (flat_map (round_of_key a b) (range_with_len 0 k))
 
-abbrev quietly : DripEvent → DripItem
-quietly e = record { event = e; loud = false }
+abbrev unreported : DripEvent → DripItem
+unreported e = record { event = e; reported = false }
 
 pub round_more : (a b k : ℕ) → keys_items a b k ++ quiet (round_of_key a b k) ≡ keys_items a b (k + 1)
-round_more a b k = sym (map-append (λ (e : DripEvent). quietly e) (flat_map (round_of_key a b) (range_with_len 0 k)) (round_of_key a b k)) ∙ ap quiet (each_more (round_of_key a b) k)
+round_more a b k = sym (map-append (λ (e : DripEvent). unreported e) (flat_map (round_of_key a b) (range_with_len 0 k)) (round_of_key a b k)) ∙ ap quiet (each_more (round_of_key a b) k)
 
 pub round_all : (a b : ℕ) → keys_items a b key_count ≡ quiet (drip_round a b)
 unfolding drip_round
@@ -68,7 +68,7 @@ round_rest a b k below =
     let whole : (k + 1) + (key_count - (k + 1)) ≡ key_count = omega (arith, below) in (
       quiet r.0,
       ap (λ (xs : List DripItem). xs ++ quiet r.0) (round_more a b k)
-          ∙ (sym (map-append (λ (e : DripEvent). quietly e) (flat_map f (range_with_len 0 (k + 1))) r.0) ∙ (ap quiet (r.1 ∙ ap (λ n. flat_map f (range_with_len 0 n)) whole) ∙ round_all a b)),
+          ∙ (sym (map-append (λ (e : DripEvent). unreported e) (flat_map f (range_with_len 0 (k + 1))) r.0) ∙ (ap quiet (r.1 ∙ ap (λ n. flat_map f (range_with_len 0 n)) whole) ∙ round_all a b)),
     )
 
 -- ---- a sweep

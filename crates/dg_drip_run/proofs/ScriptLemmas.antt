@@ -18,11 +18,11 @@ run_more w [] i = refl
 run_more w (j ∷ is) i = run_more (happens w j.event) is i
 
 pub told_more : (w : Network) (is : List DripItem) (i : DripItem)
-    → told_of_run w (is ++ i ∷ []) ≡ told_of_run w is ++ told_text (told_of (run w (events_of is)) i.loud i.event)
-told_more w [] i = append-nil (told_text (told_of w i.loud i.event))
+    → told_of_run w (is ++ i ∷ []) ≡ told_of_run w is ++ told_text (told_of (run w (events_of is)) i.reported i.event)
+told_more w [] i = append-nil (told_text (told_of w i.reported i.event))
 told_more w (j ∷ is) i =
-    ap (λ t. told_text (told_of w j.loud j.event) ++ t) (told_more (happens w j.event) is i)
-    ∙ sym (append_assoc (told_text (told_of w j.loud j.event)) (told_of_run (happens w j.event) is) (told_text (told_of (run (happens w j.event) (events_of is)) i.loud i.event)))
+    ap (λ t. told_text (told_of w j.reported j.event) ++ t) (told_more (happens w j.event) is i)
+    ∙ sym (append_assoc (told_text (told_of w j.reported j.event)) (told_of_run (happens w j.event) is) (told_text (told_of (run (happens w j.event) (events_of is)) i.reported i.event)))
 
 -- ---- links stay
 

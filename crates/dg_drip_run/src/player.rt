@@ -83,18 +83,18 @@ impl Player {
     }
 
     /// An event happens.
-    fn happen(&mut self, event: &DripEvent, loud: bool) -> Result<(), PlayStop>
+    fn happen(&mut self, event: &DripEvent, reported: bool) -> Result<(), PlayStop>
         requires playing { IsPlaying self.old }
         requires begun { self.old.standing.begun ≡ true }
         requires fits { FitsEvent self.old.standing.nodes event.now }
-        ensures ran { DripItemsPlayed result self.old self.new (record { event = event.now; loud = loud } ∷ []) }
+        ensures ran { DripItemsPlayed result self.old self.new (record { event = event.now; reported = reported } ∷ []) }
         ensures on { OnOk result (GoesOn self.old self.new) }
     {
         let _short = dt_of(event);
         if self.events >= MOST_EVENTS {
             return Err(PlayStop::TooMany);
         }
-        let told = match self.network.apply(event, loud) {
+        let told = match self.network.apply(event, reported) {
             Ok(told) => told,
             Err(AllocError) => return Err(PlayStop::Memory),
         };

@@ -15,7 +15,7 @@ use Rattle.dg_drip_script.specs.declared.line.Standing.{Standing}
 -- an event, and whether it is told that it sent a frame: in rounds it is not
 pub record DripItem : Type 0 where
   pub event : DripEvent
-  pub loud : Bool
+  pub reported : Bool
 
 -- how many nodes there are, 0 before that is said, whether the first event, round or sweep came, the links,
 -- and the events in their order
@@ -35,7 +35,7 @@ standing_of s = record { nodes = s.nodes; begun = s.begun }
 -- ---- what lines bring
 
 abbrev pub quiet : List DripEvent → List DripItem
-quiet events = map (λ e. record { event = e; loud = false }) events
+quiet events = map (λ e. record { event = e; reported = false }) events
 
 -- the rounds between these pairs of nodes
 abbrev pub rounds_items : List (ℕ × ℕ) → List DripItem
@@ -55,7 +55,7 @@ abbrev pub with_drip_line : DripScript → DripLine → DripScript
 with_drip_line s Nothing = s
 with_drip_line s (Nodes count) = record s { nodes = count }
 with_drip_line s (Link a b) = script_with_link s a b
-with_drip_line s (Happens event) = with_items (begun_script s) (record { event = event; loud = true } ∷ [])
+with_drip_line s (Happens event) = with_items (begun_script s) (record { event = event; reported = true } ∷ [])
 with_drip_line s (Round a b) = with_items (begun_script s) (quiet (drip_round a b))
 with_drip_line s (Sweeps count) = with_items (begun_script s) (rounds_items (sweeps count s.links))
 
@@ -84,7 +84,7 @@ network_of s = run (start s.links) (events_of s.items)
 -- what is told of events, one after the other
 abbrev pub told_of_run : Network → List DripItem → List ℕ
 told_of_run w [] = []
-told_of_run w (i ∷ items) = told_text (told_of w i.loud i.event) ++ told_of_run (happens w i.event) items
+told_of_run w (i ∷ items) = told_text (told_of w i.reported i.event) ++ told_of_run (happens w i.event) items
 
 abbrev pub report_of : DripScript → List ℕ
 report_of s = told_of_run (start s.links) s.items

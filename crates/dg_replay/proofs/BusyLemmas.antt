@@ -8,7 +8,7 @@ use Rattle.dg_base.specs.declared.events.Event.{Event}
 use Rattle.dg_base.specs.declared.events.Cut.{Cut as CutOfPower}
 use Rattle.dg_rounds.specs.Rounds.{times, round, sweep}
 use Rattle.dg_script.specs.Fitting.{FitsCut, FitsLine, StandsAt, IsPlayed, UsesBoard, declared_row}
-use Rattle.dg_script.specs.Items.{Item, Declares, Happens as Happened, quietly, item_by, place_behind}
+use Rattle.dg_script.specs.Items.{Item, Declares, Happens as Happened, unreported, item_by, place_behind}
 use Rattle.dg_script.specs.Places.{first_place, place_after}
 use Rattle.dg_script.specs.declared.place.Place.{Place}
 use Rattle.dg_script.specs.declared.line.Line.{Line}
@@ -87,7 +87,7 @@ event_has done event cut waits =
       stops = λ left w board image initial now s. s;
     }
 
-pub round_has : (done : List Line) (a b : ℕ) → HasItems done (Round a b) (quietly (round a b))
+pub round_has : (done : List Line) (a b : ℕ) → HasItems done (Round a b) (unreported (round a b))
 round_has done a b =
     record {
       are = refl;
@@ -102,10 +102,10 @@ round_has done a b =
       stops = λ left w board image initial now s. s;
     }
 
-pub sweeps_has : (done : List Line) (n : ℕ) (links : List (ℕ × ℕ)) → links ≡ (place_behind first_place done).links → HasItems done (Sweeps n) (quietly (times n (sweep links)))
+pub sweeps_has : (done : List Line) (n : ℕ) (links : List (ℕ × ℕ)) → links ≡ (place_behind first_place done).links → HasItems done (Sweeps n) (unreported (times n (sweep links)))
 sweeps_has done n links known =
     record {
-      are = ap (λ (ls : List (ℕ × ℕ)). quietly (times n (sweep ls))) (sym known);
+      are = ap (λ (ls : List (ℕ × ℕ)). unreported (times n (sweep ls))) (sym known);
       begins = λ g b. refl;
       plain = refl;
       counts = λ b. refl;

@@ -32,7 +32,7 @@ one_row a b e = ap (λ (rows : List Row). get_or rows 0 a) e
 
 -- before the boards are formatted nothing is played
 nothing_played : (golden : Row) (left : List Item) → StaysConsistent golden [] None left
-nothing_played golden left = record { stores = tt; ends = tt; starts = tt; halves = λ w step loud more is next. absurd (let f : None ≡ Some w = is in cc) }
+nothing_played golden left = record { stores = tt; ends = tt; starts = tt; halves = λ w step reported more is next. absurd (let f : None ≡ Some w = is in cc) }
 
 module _ (laws : ConsistentLaws) where
   golden_consistent : (b : Beginning) (left : List Item) (played : List Played) (v : World) → (g : GoldenRun b left played v) → StaysConsistent (golden_row g.name g.bytes) played (Some v) left
@@ -42,8 +42,8 @@ module _ (laws : ConsistentLaws) where
         stores = kept.0;
         ends = kept.1;
         starts = laws.starts (ran_network g) played v g.plays;
-        halves = λ w step loud more is next.
-            let fits : AllByRecursion (ItemInRange b.motes) (Happens step loud ∷ more) = subst (AllByRecursion (ItemInRange b.motes)) next g.left_fits in
+        halves = λ w step reported more is next.
+            let fits : AllByRecursion (ItemInRange b.motes) (Happens step reported ∷ more) = subst (AllByRecursion (ItemInRange b.motes)) next g.left_fits in
             subst (λ (u : World). StopsConsistent (golden_row g.name g.bytes) u step.event) (some_is v w is) (laws.halves (ran_network g) played v step.event g.plays fits.0.event);
       }
 

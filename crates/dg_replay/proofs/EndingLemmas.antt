@@ -167,26 +167,26 @@ board_ending over script initial motes done more short none lines =
     ap (λ (o : Option ℕ). by_boards o (length initial) (by_events over script)) (ap (lacking (length initial)) (sym lines) ∙ lacking_behind (length initial) motes done more short none)
 
 -- an event behind some others is one more
-one_more : (before : List Item) (step : Step) (loud : Bool) (more : List Item) → events_among before ≡ most_events → most_events < events_among (before ++ Happened step loud ∷ more)
-one_more before step loud more full =
-    let parts : events_among (before ++ Happened step loud ∷ more) ≡ events_among before + events_among (Happened step loud ∷ more) = events_among-append before (Happened step loud ∷ more) in
-    let last : events_among (Happened step loud ∷ more) ≡ 1 + events_among more = sum_by-cons (λ x. cond (is_event x) 1 0) (Happened step loud) more in
+one_more : (before : List Item) (step : Step) (reported : Bool) (more : List Item) → events_among before ≡ most_events → most_events < events_among (before ++ Happened step reported ∷ more)
+one_more before step reported more full =
+    let parts : events_among (before ++ Happened step reported ∷ more) ≡ events_among before + events_among (Happened step reported ∷ more) = events_among-append before (Happened step reported ∷ more) in
+    let last : events_among (Happened step reported ∷ more) ≡ 1 + events_among more = sum_by-cons (λ x. cond (is_event x) 1 0) (Happened step reported) more in
     omega (arith, parts, last, full)
 
 -- the items of a script, where the next of them is an event
-items_come : (done rest : List Line) (begun left : List Item) (next : EventNext left) → next_items done rest ≡ begun ++ left → (more : List Item) × (items_of (done ++ rest) ≡ (items_of done ++ begun) ++ Happened next.step next.loud ∷ more)
+items_come : (done rest : List Line) (begun left : List Item) (next : EventNext left) → next_items done rest ≡ begun ++ left → (more : List Item) × (items_of (done ++ rest) ≡ (items_of done ++ begun) ++ Happened next.step next.reported ∷ more)
 items_come done [] begun left next parts = absurd (no_items begun left next parts)
   where
     no_items : (xs ys : List Item) → EventNext ys → [] ≡ xs ++ ys → ⊥
-    no_items [] ys e none = let f : [] ≡ Happened e.step e.loud ∷ e.more = none ∙ e.is in cc
+    no_items [] ys e none = let f : [] ≡ Happened e.step e.reported ∷ e.more = none ∙ e.is in cc
     no_items (x ∷ xs) ys e none = cc
 items_come done (line ∷ rest) begun left next parts =
     let behind : List Item = items_behind (place_after (place_behind first_place done) line) rest in
     let first : items_behind (place_behind first_place done) (line ∷ rest) ≡ (begun ++ left) ++ behind =
     items_first (place_behind first_place done) line rest ∙ ap (λ (xs : List Item). xs ++ behind) parts in
-    let here : (begun ++ left) ++ behind ≡ begun ++ (Happened next.step next.loud ∷ (next.more ++ behind)) = append_assoc begun left behind ∙ ap (λ (xs : List Item). begun ++ (xs ++ behind)) next.is in (
+    let here : (begun ++ left) ++ behind ≡ begun ++ (Happened next.step next.reported ∷ (next.more ++ behind)) = append_assoc begun left behind ∙ ap (λ (xs : List Item). begun ++ (xs ++ behind)) next.is in (
       next.more ++ behind,
-      items_split done (line ∷ rest) ∙ ap (λ (xs : List Item). items_of done ++ xs) (first ∙ here) ∙ sym (append_assoc (items_of done) begun (Happened next.step next.loud ∷ (next.more ++ behind))),
+      items_split done (line ∷ rest) ∙ ap (λ (xs : List Item). items_of done ++ xs) (first ∙ here) ∙ sym (append_assoc (items_of done) begun (Happened next.step next.reported ∷ (next.more ++ behind))),
     )
 
 -- a million events, and one more behind them
@@ -194,6 +194,6 @@ pub many_ending : {table : List Row} (over : Bool) (script : Script) (initial : 
 many_ending over script initial c enough at =
     let come = items_come c.done c.rest c.begun c.left at.next c.parts in
     let full : events_among (items_of c.done ++ c.begun) ≡ most_events = ap events_among (sym c.items) ∙ at.events in
-    let many : most_events < events_in (c.done ++ c.rest) = subst (λ (xs : List Item). most_events < events_among xs) (sym come.1) (one_more (items_of c.done ++ c.begun) at.next.step at.next.loud come.0 full) in
+    let many : most_events < events_in (c.done ++ c.rest) = subst (λ (xs : List Item). most_events < events_among xs) (sym come.1) (one_more (items_of c.done ++ c.begun) at.next.step at.next.reported come.0 full) in
     let test : nat_lt most_events (events_in script.lines) ≡ true = ap (λ (ls : List Line). nat_lt most_events (events_in ls)) (sym c.lines) ∙ over_is _ _ many in
     ap (λ (o : Option ℕ). by_boards o (length initial) (by_events over script)) enough ∙ ap (λ (b : Bool). if b then TooManyEvents else by_fault over script.fault) test

@@ -132,19 +132,19 @@ pub record HalvesLaws : Type 0 where
   pub boards : (table : List Row) (stores : List Store) (links : List (ℕ × ℕ)) (narrow : List Bool) (played : List Played) (v : World) (e : Event) → PlaysBoards table stores links narrow played v
       → StoresAgree table stores → AllByRecursion (HoldsToThen table) played → EventInRange (length stores) e → HoldsTo table v e → StopsAgree v e
 
-pub halves_agree : {table : List Row} → HalvesLaws → (input : List ℕ) (c : Progress table (script_of input)) (w : World) (step : Step) (loud : Bool) (more : List Item) → FramesAreHonest c → c.last ≡ Some w → c.left ≡ Happened step loud ∷ more
+pub halves_agree : {table : List Row} → HalvesLaws → (input : List ℕ) (c : Progress table (script_of input)) (w : World) (step : Step) (reported : Bool) (more : List Item) → FramesAreHonest c → c.last ≡ Some w → c.left ≡ Happened step reported ∷ more
     → HonestEvent w.table step.event → (UsesBoards c.done → HoldsTo c.ground.table w step.event) → StopsAgree w step.event
-halves_agree laws input c w step loud more honest is next here holds =
+halves_agree laws input c w step reported more honest is next here holds =
     let b = beginning_of c.ground c.done in
     let r = run_at input c w is in
     elim r.opens [
       | inl by ↦
           let run = golden_of c.ground c.done b c.left c.played w r by in
-          let fits : AllByRecursion (ItemInRange b.motes) (Happened step loud ∷ more) = subst (AllByRecursion (ItemInRange b.motes)) next run.left_fits in
+          let fits : AllByRecursion (ItemInRange b.motes) (Happened step reported ∷ more) = subst (AllByRecursion (ItemInRange b.motes)) next run.left_fits in
           laws.golden (ran_network run) c.played w step.event run.plays honest.frames fits.0.event here
       | inr by ↦
           let run = boards_at input c w r by in
-          let fits : AllByRecursion (ItemInRange b.motes) (Happened step loud ∷ more) = subst (AllByRecursion (ItemInRange b.motes)) next run.left_fits in
+          let fits : AllByRecursion (ItemInRange b.motes) (Happened step reported ∷ more) = subst (AllByRecursion (ItemInRange b.motes)) next run.left_fits in
           laws.boards c.ground.table c.ground.stores run.links run.narrow c.played w step.event run.plays (honest.agree by.uses) (honest.hold by.uses)
           (subst (λ (n : ℕ). EventInRange n step.event) (sym (boards_ground input c by.uses).0) fits.0.event) (holds by.uses)
     ]
@@ -230,7 +230,7 @@ ImageIsFound = (g : GoldenNetwork) (played : List Played) (v : World) (e : Event
 
 golden_finds : ImageIsFound → (b : Beginning) (left : List Item) (played : List Played) (u : World) (old new : List Device) → GoldenRun b left played u → LacksImage u left old new → ⊥
 golden_finds law b left played u old new g lacks =
-    let fits : AllByRecursion (ItemInRange b.motes) (Happened lacks.next.step lacks.next.loud ∷ lacks.next.more) = subst (AllByRecursion (ItemInRange b.motes)) lacks.next.is g.left_fits in
+    let fits : AllByRecursion (ItemInRange b.motes) (Happened lacks.next.step lacks.next.reported ∷ lacks.next.more) = subst (AllByRecursion (ItemInRange b.motes)) lacks.next.is g.left_fits in
     let finds : FindsImage (does u lacks.next.step.event) = law (ran_network g) played u lacks.next.step.event g.plays fits.0.event in
     let some : FindsImage (Goes lacks.ends.deed) = subst FindsImage lacks.ends.goes finds in
     some lacks.ends.none

@@ -127,7 +127,7 @@ events_among-append xs ys = sum_by-append (λ x. cond (is_event x) 1 0) xs ys
 
 item_counts : (w v : World) (item : Item) (reports : List Report) → ItemStep w item v reports → Counts w v (events_among (item ∷ []))
 item_counts w v (Declares row) reports step = declared_same w v row reports step
-item_counts w v (Happened x loud) reports step = step_counts w v x step.0 step.1
+item_counts w v (Happened x reported) reports step = step_counts w v x step.0 step.1
 
 pub plays_counts : (w v : World) (ps : List Played) → Plays w ps v → Counts w v (events_among (map item_played ps))
 unfolding Plays

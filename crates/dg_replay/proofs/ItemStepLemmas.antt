@@ -66,8 +66,8 @@ stands_next u z v2 mote initial old new within count kept one calm b =
           one.others m (other_than m mote (length u.sites) within far) ∙ b.others m far;
     }
 
-flash_next : (u : World) (x : Step) (loud : Bool) (more : List Item) (board : ℕ) (initial old new : List Device) → u.events < most_events → mote_of x.event < length u.sites → FlashAt u x board old new → WorldStands u initial old → StopsInItem u (Happened x loud ∷ more) initial new
-flash_next u x loud more board initial old new few within f b =
+flash_next : (u : World) (x : Step) (reported : Bool) (more : List Item) (board : ℕ) (initial old new : List Device) → u.events < most_events → mote_of x.event < length u.sites → FlashAt u x board old new → WorldStands u initial old → StopsInItem u (Happened x reported ∷ more) initial new
+flash_next u x reported more board initial old new few within f b =
     let was : slice_get initial board ≡ Some (get_or initial board f.before) = there old initial board f.before (sym b.all.count) f.was in
     record {
       stopped = record {
@@ -131,33 +131,33 @@ MayStep k old x = (z : World) × IsWorld k old z × StepInRange (length z.sites)
 step_within : (k : KeptWorld) (old : List Device) (w : World) (x : Step) → IsWorld k old w → MayStep k old x → mote_of x.event < length w.sites
 step_within k old w x is (z, at, fits) = subst (λ (n : ℕ). mote_of x.event < n) (sites_same k old z w at is) (event_within (length z.sites) x.event fits.event)
 
-applied_runs : (w : World) (x : Step) (loud : Bool) (v v2 : KeptWorld) (old new : List Device) (before reports : List Report) → before ≡ [] → (a : Applied w x loud (deployed v old before) (deployed v2 new reports)) → ItemsRun w (Happened x loud ∷ []) a.world (report_text reports)
-applied_runs w x loud v v2 old new before reports none a =
-    let told : reports ≡ filter (is_told loud) a.reports = a.told_now ∙ ap (λ (rs : List Report). rs ++ filter (is_told loud) a.reports) none in
-    items_run_one w a.world (Happened x loud) reports (a.reports, a.step, told) a.stood.few_events
+applied_runs : (w : World) (x : Step) (reported : Bool) (v v2 : KeptWorld) (old new : List Device) (before reports : List Report) → before ≡ [] → (a : Applied w x reported (deployed v old before) (deployed v2 new reports)) → ItemsRun w (Happened x reported ∷ []) a.world (report_text reports)
+applied_runs w x reported v v2 old new before reports none a =
+    let told : reports ≡ filter (is_told reported) a.reports = a.told_now ∙ ap (λ (rs : List Report). rs ++ filter (is_told reported) a.reports) none in
+    items_run_one w a.world (Happened x reported) reports (a.reports, a.step, told) a.stood.few_events
 
-applied_stands : (w : World) (x : Step) (loud : Bool) (v v2 : KeptWorld) (initial old new : List Device) (before reports : List Report) → MayStep v old x → IsWorld v old w → WorldStands w initial old → (a : Applied w x loud (deployed v old before) (deployed v2 new reports)) → WorldStands a.world initial new
-applied_stands w x loud v v2 initial old new before reports may is stands a =
+applied_stands : (w : World) (x : Step) (reported : Bool) (v v2 : KeptWorld) (initial old new : List Device) (before reports : List Report) → MayStep v old x → IsWorld v old w → WorldStands w initial old → (a : Applied w x reported (deployed v old before) (deployed v2 new reports)) → WorldStands a.world initial new
+applied_stands w x reported v v2 initial old new before reports may is stands a =
     stands_next w a.world v2 (mote_of x.event) initial old new (step_within v old w x is may) (step_counts w a.world x a.reports a.step).sites a.stood a.boards a.calm stands
 
 -- an event was applied, and told
-applied_played : (w : World) (x : Step) (loud : Bool) (v v2 : KeptWorld) (initial old new : List Device) (before reports : List Report) (told_before told : List ℕ) → before ≡ [] → MayStep v old x → Applied w x loud (deployed v old before) (deployed v2 new reports)
-    → told ≡ told_before ++ report_text reports → IsWorld v old w → WorldStands w initial old → ItemsPlayed w (Happened x loud ∷ []) v2 initial new told_before told
-applied_played w x loud v v2 initial old new before reports told_before told none may a is_told is stands =
+applied_played : (w : World) (x : Step) (reported : Bool) (v v2 : KeptWorld) (initial old new : List Device) (before reports : List Report) (told_before told : List ℕ) → before ≡ [] → MayStep v old x → Applied w x reported (deployed v old before) (deployed v2 new reports)
+    → told ≡ told_before ++ report_text reports → IsWorld v old w → WorldStands w initial old → ItemsPlayed w (Happened x reported ∷ []) v2 initial new told_before told
+applied_played w x reported v v2 initial old new before reports told_before told none may a is_told is stands =
     record {
       world = a.world;
       text = report_text reports;
-      runs = applied_runs w x loud v v2 old new before reports none a;
+      runs = applied_runs w x reported v v2 old new before reports none a;
       kept_now = a.stood;
-      boards = applied_stands w x loud v v2 initial old new before reports may is stands a;
+      boards = applied_stands w x reported v v2 initial old new before reports may is stands a;
       told_now = is_told;
     }
 
 -- it was applied, and there was no memory to tell it
-pub applied_untold : (w : World) (x : Step) (loud : Bool) (v v2 : KeptWorld) (initial old new : List Device) (before reports : List Report) → before ≡ [] → MayStep v old x → Applied w x loud (deployed v old before) (deployed v2 new reports) → IsWorld v old w → WorldStands w initial old
-    → ItemsBegun w (Happened x loud ∷ []) (λ u left text. WorldStands u initial new)
-applied_untold w x loud v v2 initial old new before reports none may a is stands =
-    begun_all w a.world (Happened x loud ∷ []) (report_text reports) (λ u left text. WorldStands u initial new) (applied_runs w x loud v v2 old new before reports none a) (applied_stands w x loud v v2 initial old new before reports may is stands a)
+pub applied_untold : (w : World) (x : Step) (reported : Bool) (v v2 : KeptWorld) (initial old new : List Device) (before reports : List Report) → before ≡ [] → MayStep v old x → Applied w x reported (deployed v old before) (deployed v2 new reports) → IsWorld v old w → WorldStands w initial old
+    → ItemsBegun w (Happened x reported ∷ []) (λ u left text. WorldStands u initial new)
+applied_untold w x reported v v2 initial old new before reports none may a is stands =
+    begun_all w a.world (Happened x reported ∷ []) (report_text reports) (λ u left text. WorldStands u initial new) (applied_runs w x reported v v2 old new before reports none a) (applied_stands w x reported v v2 initial old new before reports may is stands a)
 
 -- there was no memory to apply it
 pub nothing_applied : (w : World) (items : List Item) (v : KeptWorld) (initial old new : List Device) → IsWorld v old w → new ≡ old → WorldStands w initial old → ItemsBegun w items (λ u left text. WorldStands u initial new)
@@ -165,18 +165,18 @@ nothing_applied w items v initial old new is same stands =
     begun_none w items (λ u left text. WorldStands u initial new) is.few_events (subst (λ (ds : List Device). WorldStands w initial ds) (sym same) stands)
 
 -- it was one too many
-pub not_applied : (w : World) (x : Step) (loud : Bool) (v : KeptWorld) (initial old new : List Device) (told_before told : List ℕ) → IsWorld v old w → w.events ≡ most_events → new ≡ old → told ≡ told_before → WorldStands w initial old
-    → ItemsBegun w (Happened x loud ∷ []) (λ u left text. IsOneTooMany u left × WorldStands u initial new × (told ≡ told_before ++ text))
-not_applied w x loud v initial old new told_before told is full same untold stands =
-    begun_none w (Happened x loud ∷ []) (λ u left text. IsOneTooMany u left × WorldStands u initial new × (told ≡ told_before ++ text)) is.few_events
-    (record { full = full; next = record { step = x; loud = loud; more = []; is = refl } }, subst (λ (ds : List Device). WorldStands w initial ds) (sym same) stands, untold ∙ sym (append-nil told_before))
+pub not_applied : (w : World) (x : Step) (reported : Bool) (v : KeptWorld) (initial old new : List Device) (told_before told : List ℕ) → IsWorld v old w → w.events ≡ most_events → new ≡ old → told ≡ told_before → WorldStands w initial old
+    → ItemsBegun w (Happened x reported ∷ []) (λ u left text. IsOneTooMany u left × WorldStands u initial new × (told ≡ told_before ++ text))
+not_applied w x reported v initial old new told_before told is full same untold stands =
+    begun_none w (Happened x reported ∷ []) (λ u left text. IsOneTooMany u left × WorldStands u initial new × (told ≡ told_before ++ text)) is.few_events
+    (record { full = full; next = record { step = x; reported = reported; more = []; is = refl } }, subst (λ (ds : List Device). WorldStands w initial ds) (sym same) stands, untold ∙ sym (append-nil told_before))
 
 -- a board stopped in it
-pub stopped_in : (w : World) (x : Step) (loud : Bool) (v : KeptWorld) (board : ℕ) (initial old new : List Device) (told_before told : List ℕ) → MayStep v old x → IsWorld v old w → w.events < most_events → FlashAt w x board old new → told ≡ told_before → WorldStands w initial old
-    → ItemsBegun w (Happened x loud ∷ []) (λ u left text. StopsInItem u left initial new × (told ≡ told_before ++ text))
-stopped_in w x loud v board initial old new told_before told may is few f untold stands =
-    begun_none w (Happened x loud ∷ []) (λ u left text. StopsInItem u left initial new × (told ≡ told_before ++ text)) is.few_events
-    (flash_next w x loud [] board initial old new few (step_within v old w x is may) f stands, untold ∙ sym (append-nil told_before))
+pub stopped_in : (w : World) (x : Step) (reported : Bool) (v : KeptWorld) (board : ℕ) (initial old new : List Device) (told_before told : List ℕ) → MayStep v old x → IsWorld v old w → w.events < most_events → FlashAt w x board old new → told ≡ told_before → WorldStands w initial old
+    → ItemsBegun w (Happened x reported ∷ []) (λ u left text. StopsInItem u left initial new × (told ≡ told_before ++ text))
+stopped_in w x reported v board initial old new told_before told may is few f untold stands =
+    begun_none w (Happened x reported ∷ []) (λ u left text. StopsInItem u left initial new × (told ≡ told_before ++ text)) is.few_events
+    (flash_next w x reported [] board initial old new few (step_within v old w x is may) f stands, untold ∙ sym (append-nil told_before))
 
 -- it found no image to start
 ended_stands : (w : World) (x : Step) (v : KeptWorld) (initial old new : List Device) → MayStep v old x → IsWorld v old w → (e : RunEnded w x old new) → WorldStands w initial old → WorldStands e.world initial new
@@ -193,27 +193,27 @@ ended_stands w x v initial old new may is e b =
           e.boards.others m (other_than m (mote_of x.event) (length w.sites) within far) ∙ b.others m far;
     }
 
-pub ended_in : (w : World) (x : Step) (loud : Bool) (v : KeptWorld) (initial old new : List Device) (told : List ℕ) → MayStep v old x → IsWorld v old w → RunEnded w x old new → WorldStands w initial old
-    → ItemsBegun w (Happened x loud ∷ []) (λ u left text. LacksImage u left initial new × (told ≡ told ++ text))
-ended_in w x loud v initial old new told may is e stands =
-    begun_none w (Happened x loud ∷ []) (λ u left text. LacksImage u left initial new × (told ≡ told ++ text)) is.few_events
-    (record { next = record { step = x; loud = loud; more = []; is = refl }; after = e.world; ends = e.ends; boards = ended_stands w x v initial old new may is e stands }, sym (append-nil told))
+pub ended_in : (w : World) (x : Step) (reported : Bool) (v : KeptWorld) (initial old new : List Device) (told : List ℕ) → MayStep v old x → IsWorld v old w → RunEnded w x old new → WorldStands w initial old
+    → ItemsBegun w (Happened x reported ∷ []) (λ u left text. LacksImage u left initial new × (told ≡ told ++ text))
+ended_in w x reported v initial old new told may is e stands =
+    begun_none w (Happened x reported ∷ []) (λ u left text. LacksImage u left initial new × (told ≡ told ++ text)) is.few_events
+    (record { next = record { step = x; reported = reported; more = []; is = refl }; after = e.world; ends = e.ends; boards = ended_stands w x v initial old new may is e stands }, sym (append-nil told))
 
 -- it was applied, and this came of telling it
-pub told_as : (r : Result (Unit {0}) Stop) (w : World) (x : Step) (loud : Bool) (v v2 : KeptWorld) (initial old new : List Device) (before reports : List Report) (told_before told : List ℕ) → before ≡ [] → MayStep v old x → Applied w x loud (deployed v old before) (deployed v2 new reports)
-    → OnOk r (told ≡ told_before ++ report_text reports) → OnErr r (r ≡ Err Memory) → IsWorld v old w → WorldStands w initial old → ItemsPlayedAs r w (Happened x loud ∷ []) v2 initial told_before (telling new told)
-told_as (Ok u) w x loud v v2 initial old new before reports told_before told none may a is_told memory is stands = applied_played w x loud v v2 initial old new before reports told_before told none may a is_told is stands
-told_as (Err stop) w x loud v v2 initial old new before reports told_before told none may a is_told memory is stands =
+pub told_as : (r : Result (Unit {0}) Stop) (w : World) (x : Step) (reported : Bool) (v v2 : KeptWorld) (initial old new : List Device) (before reports : List Report) (told_before told : List ℕ) → before ≡ [] → MayStep v old x → Applied w x reported (deployed v old before) (deployed v2 new reports)
+    → OnOk r (told ≡ told_before ++ report_text reports) → OnErr r (r ≡ Err Memory) → IsWorld v old w → WorldStands w initial old → ItemsPlayedAs r w (Happened x reported ∷ []) v2 initial told_before (telling new told)
+told_as (Ok u) w x reported v v2 initial old new before reports told_before told none may a is_told memory is stands = applied_played w x reported v v2 initial old new before reports told_before told none may a is_told is stands
+told_as (Err stop) w x reported v v2 initial old new before reports told_before told none may a is_told memory is stands =
     let same : stop ≡ Memory = err_is stop Memory memory in
-    subst (λ (e : Stop). ItemsPlayedAs (Err e) w (Happened x loud ∷ []) v2 initial told_before (telling new told)) (sym same) (applied_untold w x loud v v2 initial old new before reports none may a is stands)
+    subst (λ (e : Stop). ItemsPlayedAs (Err e) w (Happened x reported ∷ []) v2 initial told_before (telling new told)) (sym same) (applied_untold w x reported v v2 initial old new before reports none may a is stands)
 
 -- the world that is kept goes on behind an event
 pub goes_on : (r : Result (Unit {0}) Stop) (k k2 : KeptWorld) (old new : List Device) → ((w : World) → IsWorld k old w → (u : World) × IsWorld k2 new u × (length u.sites ≡ length w.sites)) → KeepsMotes r k k2 old new
 goes_on (Ok u) k k2 old new goes = goes
 goes_on (Err stop) k k2 old new goes = tt
 
-pub applied_goes : (w : World) (x : Step) (loud : Bool) (v v2 : KeptWorld) (old new : List Device) (before reports : List Report) → Applied w x loud (deployed v old before) (deployed v2 new reports) → (u : World) × IsWorld v2 new u × (length u.sites ≡ length w.sites)
-applied_goes w x loud v v2 old new before reports a = (a.world, a.stood, (step_counts w a.world x a.reports a.step).sites)
+pub applied_goes : (w : World) (x : Step) (reported : Bool) (v v2 : KeptWorld) (old new : List Device) (before reports : List Report) → Applied w x reported (deployed v old before) (deployed v2 new reports) → (u : World) × IsWorld v2 new u × (length u.sites ≡ length w.sites)
+applied_goes w x reported v v2 old new before reports a = (a.world, a.stood, (step_counts w a.world x a.reports a.step).sites)
 
 -- ---- declarations
 
@@ -264,7 +264,7 @@ declared_step o w row e free =
 -- ---- items behind others
 
 next_more : (left more : List Item) → EventNext left → EventNext (left ++ more)
-next_more left more n = record { step = n.step; loud = n.loud; more = n.more ++ more; is = ap (λ (xs : List Item). xs ++ more) n.is }
+next_more left more n = record { step = n.step; reported = n.reported; more = n.more ++ more; is = ap (λ (xs : List Item). xs ++ more) n.is }
 
 lacks_more : (left more : List Item) (w : World) (initial now : List Device) → LacksImage w left initial now → LacksImage w (left ++ more) initial now
 unfolding next_more
@@ -273,7 +273,7 @@ lacks_more left more w initial now h = record { next = next_more left more h.nex
 stops_more : (left more : List Item) (w : World) (board : ℕ) (image : List ℕ) (old new : List Device) → ItemStops left (Some w) board image old new → ItemStops (left ++ more) (Some w) board image old new
 stops_more [] more w board image old new h = absurd h
 stops_more (Declares row ∷ left) more w board image old new h = absurd h
-stops_more (Happened x loud ∷ left) more w board image old new h = h
+stops_more (Happened x reported ∷ left) more w board image old new h = h
 
 begun_later : (w u : World) (xs ys more whole : List Item) (before : List ℕ) (P Q : World → List Item → List ℕ → Type 0) → ItemsRun w xs u before → ItemsBegun u ys P → whole ≡ xs ++ (ys ++ more)
     → ((v : World) (left : List Item) (text : List ℕ) → P v left text → Q v (left ++ more) (before ++ text)) → ItemsBegun w whole Q

@@ -67,7 +67,7 @@ stopped_on done [] more begun left last old new e some s = absurd (some (none_be
 stopped_on done (line ∷ rest) more begun left last old new e some s = record { stopped = s.stopped; there = s.there }
 
 no_items : {A : Type 0} (xs ys : List Item) → EventNext ys → [] ≡ xs ++ ys → A
-no_items [] ys e none = absurd (let f : [] ≡ Happened e.step e.loud ∷ e.more = none ∙ e.is in cc)
+no_items [] ys e none = absurd (let f : [] ≡ Happened e.step e.reported ∷ e.more = none ∙ e.is in cc)
 no_items (x ∷ xs) ys e none = absurd (cc)
 
 lacks_rest : (done rest more : List Line) (begun left : List Item) (w : World) (old new : List Device) → next_items done rest ≡ begun ++ left → LacksImage w left old new → LacksImage w (left_of done rest more left) old new

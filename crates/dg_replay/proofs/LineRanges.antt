@@ -18,7 +18,7 @@ use Rattle.dg_script.specs.declared.line.Line.TheVariants.{Nothing, Motes, Golde
 use Rattle.dg_rules.specs.Ranges.{EventInRange, CutInRange}
 use Rattle.dg_rounds.specs.Rounds.{round, sweep, times, paced, passed}
 use Rattle.dg_rules.specs.Premises.{IsDeclared, ItemInRange, LinkFits}
-use Rattle.dg_script.specs.Items.{Item, Happens as Happened, quietly, item_by, place_behind, items_behind}
+use Rattle.dg_script.specs.Items.{Item, Happens as Happened, unreported, item_by, place_behind, items_behind}
 use Rattle.dg_completion.proofs.GrowLemmas.{all_append, all_replicate, all_times, all_map}
 use Rattle.dg_replay.proofs.PlayLemmas.{false_not, second_at}
 
@@ -130,7 +130,7 @@ sweep_all P [] h = tt
 sweep_all P (l ∷ links) h =
     all_append P (round l.0 l.1) _ (round_all P l h.0) (all_append P (round l.1 l.0) _ (round_all P (l.1, l.0) (turned P l h.0)) (sweep_all P links h.1))
 
-pub quiet_all : (P : Item → Type 0) (events : List Event) → AllByRecursion (λ e. P (Happened (record { event = e; cut = None }) false)) events → AllByRecursion P (quietly events)
+pub quiet_all : (P : Item → Type 0) (events : List Event) → AllByRecursion (λ e. P (Happened (record { event = e; cut = None }) false)) events → AllByRecursion P (unreported events)
 quiet_all P [] h = tt
 quiet_all P (e ∷ events) h = (h.0, quiet_all P events h.1)
 

@@ -264,7 +264,7 @@ item_set f s (Declares row) w v reports is step =
       world = ap f step.world ∙ s.rows (row_at w.declared row.image row.version) w row ∙ ap (λ (o : Option Row). declared_as o (f w) row) (sym same);
       told = step.told ∙ ap (λ (o : Option Row). declared_lines o row) (sym same);
     }
-item_set f s (Happened x loud) w v reports is step = absurd is
+item_set f s (Happened x reported) w v reports is step = absurd is
 
 plays_set : (f : World → World) → Sets f → (w v : World) (ps : List Played) → AllByRecursion IsDeclaration (map item_played ps) → Plays w ps v → Plays (f w) (map (set_in f) ps) (f v)
 unfolding Plays

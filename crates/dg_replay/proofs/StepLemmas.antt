@@ -6,7 +6,7 @@ use Rattle.std.specs.Prelude.{None, Err}
 use Rattle.dg_base.specs.declared.events.Event.{Event}
 use Rattle.dg_rounds.specs.Rounds.{times, round, sweep, paced, passed}
 use Rattle.dg_nor.specs.Device.{Device}
-use Rattle.dg_script.specs.Items.{Item, Happens as Happened, quietly}
+use Rattle.dg_script.specs.Items.{Item, Happens as Happened, unreported}
 use Rattle.dg_rules.specs.Premises.{LinkFits}
 use Rattle.dg_rules.specs.Ranges.{EventInRange}
 use Rattle.dg_rules.specs.World.{World}
@@ -48,12 +48,12 @@ so_far_stops stop xs ys more whole first k k2 old mid now t0 t1 t2 s played is w
 
 -- ---- events of rounds
 
-quietly-append : (xs ys : List Event) → quietly (xs ++ ys) ≡ quietly xs ++ quietly ys
-quietly-append xs ys = map-append (λ (e : Event). Happened (record { event = e; cut = None }) false) xs ys
+unreported-append : (xs ys : List Event) → unreported (xs ++ ys) ≡ unreported xs ++ unreported ys
+unreported-append xs ys = map-append (λ (e : Event). Happened (record { event = e; cut = None }) false) xs ys
 
-quietly_join : (xs ys more all : List Event) → xs ++ (ys ++ more) ≡ all → quietly all ≡ quietly xs ++ (quietly ys ++ quietly more)
-quietly_join xs ys more all e =
-    ap quietly (sym e) ∙ quietly-append xs (ys ++ more) ∙ ap (λ (zs : List Item). quietly xs ++ zs) (quietly-append ys more)
+unreported_join : (xs ys more all : List Event) → xs ++ (ys ++ more) ≡ all → unreported all ≡ unreported xs ++ (unreported ys ++ unreported more)
+unreported_join xs ys more all e =
+    ap unreported (sym e) ∙ unreported-append xs (ys ++ more) ∙ ap (λ (zs : List Item). unreported xs ++ zs) (unreported-append ys more)
 
 -- of the one behind others
 all_at : {A : Type 0} (P : A → Type 0) (xs : List A) (y : A) (ys all : List A) → xs ++ y ∷ ys ≡ all → AllByRecursion P all → P y
@@ -97,7 +97,7 @@ times_one xs = append-nil xs
 
 -- These events were played of all, and the others are left.
 pub record EventsSoFar (all given left : List Event) (first kept : KeptWorld) (old now : List Device) (told_before told : List ℕ) : Type 0 where
-  pub so_far : PlayedSoFar (quietly given) first kept old now told_before told
+  pub so_far : PlayedSoFar (unreported given) first kept old now told_before told
   pub parts : given ++ left ≡ all
 
 pub events_none : (all left : List Event) (first : KeptWorld) (old : List Device) (told : List ℕ) → left ≡ all → EventsSoFar all [] left first first old old told told
@@ -113,25 +113,25 @@ events_may all given left others event first kept old now told_before told s nex
 
 pub events_more : (all given left others : List Event) (event : Event) (first k k2 : KeptWorld) (old mid now : List Device) (t0 t1 t2 : List ℕ) → EventsSoFar all given left first k old mid t0 t1 → left ≡ event ∷ others
     → ((w : World) → IsWorld k mid w → (v : World) × IsWorld k2 now v × (length v.sites ≡ length w.sites))
-    → ((w : World) (initial : List Device) → IsWorld k mid w → WorldStands w initial mid → ItemsPlayed w (quietly (event ∷ [])) k2 initial now t1 t2)
+    → ((w : World) (initial : List Device) → IsWorld k mid w → WorldStands w initial mid → ItemsPlayed w (unreported (event ∷ [])) k2 initial now t1 t2)
     → EventsSoFar all (given ++ event ∷ []) others first k2 old now t0 t2
 events_more all given left others event first k k2 old mid now t0 t1 t2 s next goes played =
     record {
-      so_far = subst (λ (xs : List Item). PlayedSoFar xs first k2 old now t0 t2) (sym (quietly-append given (event ∷ []))) (so_far_more (quietly given) (quietly (event ∷ [])) first k k2 old mid now t0 t1 t2 s.so_far goes played);
+      so_far = subst (λ (xs : List Item). PlayedSoFar xs first k2 old now t0 t2) (sym (unreported-append given (event ∷ []))) (so_far_more (unreported given) (unreported (event ∷ [])) first k k2 old mid now t0 t1 t2 s.so_far goes played);
       parts = append_assoc given (event ∷ []) others ∙ ap (λ (xs : List Event). given ++ xs) (sym next) ∙ s.parts;
     }
 
 pub events_stop : (stop : Stop) (all given left others : List Event) (event : Event) (first k k2 : KeptWorld) (old mid now : List Device) (t0 t1 t2 : List ℕ) → EventsSoFar all given left first k old mid t0 t1 → left ≡ event ∷ others
-    → ((w : World) (initial : List Device) → IsWorld k mid w → WorldStands w initial mid → ItemsPlayedAs (Err stop) w (quietly (event ∷ [])) k2 initial t1 (telling now t2))
-    → (w : World) (initial : List Device) → IsWorld first old w → WorldStands w initial old → ItemsPlayedAs (Err stop) w (quietly all) k2 initial t0 (telling now t2)
+    → ((w : World) (initial : List Device) → IsWorld k mid w → WorldStands w initial mid → ItemsPlayedAs (Err stop) w (unreported (event ∷ [])) k2 initial t1 (telling now t2))
+    → (w : World) (initial : List Device) → IsWorld first old w → WorldStands w initial old → ItemsPlayedAs (Err stop) w (unreported all) k2 initial t0 (telling now t2)
 events_stop stop all given left others event first k k2 old mid now t0 t1 t2 s next played =
-    so_far_stops stop (quietly given) (quietly (event ∷ [])) (quietly others) (quietly all) first k k2 old mid now t0 t1 t2 s.so_far played
-    (quietly_join given (event ∷ []) others all (ap (λ (xs : List Event). given ++ xs) (sym next) ∙ s.parts))
+    so_far_stops stop (unreported given) (unreported (event ∷ [])) (unreported others) (unreported all) first k k2 old mid now t0 t1 t2 s.so_far played
+    (unreported_join given (event ∷ []) others all (ap (λ (xs : List Event). given ++ xs) (sym next) ∙ s.parts))
 
 pub events_all : (all given left : List Event) (first kept : KeptWorld) (old now : List Device) (told_before told : List ℕ) → EventsSoFar all given left first kept old now told_before told → left ≡ []
-    → PlayedSoFar (quietly all) first kept old now told_before told
+    → PlayedSoFar (unreported all) first kept old now told_before told
 events_all all given left first kept old now told_before told s none =
-    subst (λ (xs : List Event). PlayedSoFar (quietly xs) first kept old now told_before told) (sym (append-nil given) ∙ ap (λ (xs : List Event). given ++ xs) (sym none) ∙ s.parts) s.so_far
+    subst (λ (xs : List Event). PlayedSoFar (unreported xs) first kept old now told_before told) (sym (append-nil given) ∙ ap (λ (xs : List Event). given ++ xs) (sym none) ∙ s.parts) s.so_far
 
 -- ---- what a loop over sweeps keeps
 
@@ -143,30 +143,30 @@ times_next k n xs h =
 times_more : (k : ℕ) (xs : List Event) → times (k + 1) xs ≡ times k xs ++ xs
 times_more k xs = times_split k 1 xs ∙ ap (λ (ys : List Event). times k xs ++ ys) (times_one xs)
 
-pub times_so_far : (k : ℕ) (events : List Event) (first k1 k2 : KeptWorld) (old mid now : List Device) (t0 t1 t2 : List ℕ) → PlayedSoFar (quietly (times k events)) first k1 old mid t0 t1
+pub times_so_far : (k : ℕ) (events : List Event) (first k1 k2 : KeptWorld) (old mid now : List Device) (t0 t1 t2 : List ℕ) → PlayedSoFar (unreported (times k events)) first k1 old mid t0 t1
     → ((w : World) → IsWorld k1 mid w → (v : World) × IsWorld k2 now v × (length v.sites ≡ length w.sites))
-    → ((w : World) (initial : List Device) → IsWorld k1 mid w → WorldStands w initial mid → ItemsPlayed w (quietly events) k2 initial now t1 t2)
-    → PlayedSoFar (quietly (times (k + 1) events)) first k2 old now t0 t2
+    → ((w : World) (initial : List Device) → IsWorld k1 mid w → WorldStands w initial mid → ItemsPlayed w (unreported events) k2 initial now t1 t2)
+    → PlayedSoFar (unreported (times (k + 1) events)) first k2 old now t0 t2
 times_so_far k events first k1 k2 old mid now t0 t1 t2 s goes played =
-    let e : quietly (times (k + 1) events) ≡ quietly (times k events) ++ quietly events = ap quietly (times_more k events) ∙ quietly-append (times k events) events in
-    subst (λ (xs : List Item). PlayedSoFar xs first k2 old now t0 t2) (sym e) (so_far_more (quietly (times k events)) (quietly events) first k1 k2 old mid now t0 t1 t2 s goes played)
+    let e : unreported (times (k + 1) events) ≡ unreported (times k events) ++ unreported events = ap unreported (times_more k events) ∙ unreported-append (times k events) events in
+    subst (λ (xs : List Item). PlayedSoFar xs first k2 old now t0 t2) (sym e) (so_far_more (unreported (times k events)) (unreported events) first k1 k2 old mid now t0 t1 t2 s goes played)
 
-pub times_stop : (stop : Stop) (k n : ℕ) (events : List Event) (first k1 k2 : KeptWorld) (old mid now : List Device) (t0 t1 t2 : List ℕ) → PlayedSoFar (quietly (times k events)) first k1 old mid t0 t1 → k < n
-    → ((w : World) (initial : List Device) → IsWorld k1 mid w → WorldStands w initial mid → ItemsPlayedAs (Err stop) w (quietly events) k2 initial t1 (telling now t2))
-    → (w : World) (initial : List Device) → IsWorld first old w → WorldStands w initial old → ItemsPlayedAs (Err stop) w (quietly (times n events)) k2 initial t0 (telling now t2)
+pub times_stop : (stop : Stop) (k n : ℕ) (events : List Event) (first k1 k2 : KeptWorld) (old mid now : List Device) (t0 t1 t2 : List ℕ) → PlayedSoFar (unreported (times k events)) first k1 old mid t0 t1 → k < n
+    → ((w : World) (initial : List Device) → IsWorld k1 mid w → WorldStands w initial mid → ItemsPlayedAs (Err stop) w (unreported events) k2 initial t1 (telling now t2))
+    → (w : World) (initial : List Device) → IsWorld first old w → WorldStands w initial old → ItemsPlayedAs (Err stop) w (unreported (times n events)) k2 initial t0 (telling now t2)
 times_stop stop k n events first k1 k2 old mid now t0 t1 t2 s h played =
-    so_far_stops stop (quietly (times k events)) (quietly events) (quietly (times (n - k - 1) events)) (quietly (times n events)) first k1 k2 old mid now t0 t1 t2 s played
-    (quietly_join (times k events) events (times (n - k - 1) events) (times n events) (times_next k n events h))
+    so_far_stops stop (unreported (times k events)) (unreported events) (unreported (times (n - k - 1) events)) (unreported (times n events)) first k1 k2 old mid now t0 t1 t2 s played
+    (unreported_join (times k events) events (times (n - k - 1) events) (times n events) (times_next k n events h))
 
-pub times_none : (events : List Event) → quietly (times 0 events) ≡ []
+pub times_none : (events : List Event) → unreported (times 0 events) ≡ []
 unfolding times
 times_none events = refl
 
-pub at_end : (k n : ℕ) (events : List Event) (first kept : KeptWorld) (old now : List Device) (told_before told : List ℕ) → n ≤ k → k ≤ n → PlayedSoFar (quietly (times k events)) first kept old now told_before told
-    → (w : World) (initial : List Device) → IsWorld first old w → WorldStands w initial old → ItemsPlayed w (quietly (times n events)) kept initial now told_before told
+pub at_end : (k n : ℕ) (events : List Event) (first kept : KeptWorld) (old now : List Device) (told_before told : List ℕ) → n ≤ k → k ≤ n → PlayedSoFar (unreported (times k events)) first kept old now told_before told
+    → (w : World) (initial : List Device) → IsWorld first old w → WorldStands w initial old → ItemsPlayed w (unreported (times n events)) kept initial now told_before told
 at_end k n events first kept old now told_before told low high s =
     let e : k ≡ n = omega arith in
-    (subst (λ (m : ℕ). PlayedSoFar (quietly (times m events)) first kept old now told_before told) e s).played
+    (subst (λ (m : ℕ). PlayedSoFar (unreported (times m events)) first kept old now told_before told) e s).played
 
 -- ---- the rounds of a sweep
 
@@ -178,19 +178,19 @@ pub so_far_one : (xs : List Item) (first kept : KeptWorld) (old now : List Devic
 so_far_one xs first kept old now told_before told goes played = record { goes = goes; played = played }
 
 -- a call behind others
-pub so_far_then : (xs ys : List Event) (first k k2 : KeptWorld) (old mid now : List Device) (t0 t1 t2 : List ℕ) → PlayedSoFar (quietly xs) first k old mid t0 t1
+pub so_far_then : (xs ys : List Event) (first k k2 : KeptWorld) (old mid now : List Device) (t0 t1 t2 : List ℕ) → PlayedSoFar (unreported xs) first k old mid t0 t1
     → ((w : World) → IsWorld k mid w → (v : World) × IsWorld k2 now v × (length v.sites ≡ length w.sites))
-    → ((w : World) (initial : List Device) → IsWorld k mid w → WorldStands w initial mid → ItemsPlayed w (quietly ys) k2 initial now t1 t2)
-    → PlayedSoFar (quietly (xs ++ ys)) first k2 old now t0 t2
+    → ((w : World) (initial : List Device) → IsWorld k mid w → WorldStands w initial mid → ItemsPlayed w (unreported ys) k2 initial now t1 t2)
+    → PlayedSoFar (unreported (xs ++ ys)) first k2 old now t0 t2
 so_far_then xs ys first k k2 old mid now t0 t1 t2 s goes played =
-    subst (λ (zs : List Item). PlayedSoFar zs first k2 old now t0 t2) (sym (quietly-append xs ys)) (so_far_more (quietly xs) (quietly ys) first k k2 old mid now t0 t1 t2 s goes played)
+    subst (λ (zs : List Item). PlayedSoFar zs first k2 old now t0 t2) (sym (unreported-append xs ys)) (so_far_more (unreported xs) (unreported ys) first k k2 old mid now t0 t1 t2 s goes played)
 
 -- a call behind others at which the replay stops
-pub so_far_stop : (stop : Stop) (xs ys more all : List Event) (first k k2 : KeptWorld) (old mid now : List Device) (t0 t1 t2 : List ℕ) → PlayedSoFar (quietly xs) first k old mid t0 t1
-    → ((w : World) (initial : List Device) → IsWorld k mid w → WorldStands w initial mid → ItemsPlayedAs (Err stop) w (quietly ys) k2 initial t1 (telling now t2)) → xs ++ (ys ++ more) ≡ all
-    → (w : World) (initial : List Device) → IsWorld first old w → WorldStands w initial old → ItemsPlayedAs (Err stop) w (quietly all) k2 initial t0 (telling now t2)
+pub so_far_stop : (stop : Stop) (xs ys more all : List Event) (first k k2 : KeptWorld) (old mid now : List Device) (t0 t1 t2 : List ℕ) → PlayedSoFar (unreported xs) first k old mid t0 t1
+    → ((w : World) (initial : List Device) → IsWorld k mid w → WorldStands w initial mid → ItemsPlayedAs (Err stop) w (unreported ys) k2 initial t1 (telling now t2)) → xs ++ (ys ++ more) ≡ all
+    → (w : World) (initial : List Device) → IsWorld first old w → WorldStands w initial old → ItemsPlayedAs (Err stop) w (unreported all) k2 initial t0 (telling now t2)
 so_far_stop stop xs ys more all first k k2 old mid now t0 t1 t2 s played parts =
-    so_far_stops stop (quietly xs) (quietly ys) (quietly more) (quietly all) first k k2 old mid now t0 t1 t2 s played (quietly_join xs ys more all parts)
+    so_far_stops stop (unreported xs) (unreported ys) (unreported more) (unreported all) first k k2 old mid now t0 t1 t2 s played (unreported_join xs ys more all parts)
 
 -- the rounds over a link, one in each direction
 abbrev pub both : ℕ × ℕ → List Event
@@ -200,8 +200,8 @@ sweep_nil : sweep [] ≡ []
 unfolding sweep
 sweep_nil = refl
 
-pub sweep_none : quietly (sweep []) ≡ []
-sweep_none = ap quietly sweep_nil
+pub sweep_none : unreported (sweep []) ≡ []
+sweep_none = ap unreported sweep_nil
 
 sweep_first : (l : ℕ × ℕ) (links : List (ℕ × ℕ)) → sweep (l ∷ links) ≡ both l ++ sweep links
 unfolding sweep
@@ -230,10 +230,10 @@ sweep_more (l ∷ links) (suc i) d h =
 pub link_at : (n m : ℕ) (links : List (ℕ × ℕ)) (i : ℕ) (d : ℕ × ℕ) → n ≡ m → i < length links → AllByRecursion (LinkFits m) links → LinkFits n (get_or links i d)
 link_at n m links i d e low each = subst (λ (k : ℕ). LinkFits k (get_or links i d)) (sym e) (all_get (LinkFits m) links i d low each)
 
-pub sweep_goes_on : (links : List (ℕ × ℕ)) (i : ℕ) (d : ℕ × ℕ) (first k k2 : KeptWorld) (old mid now : List Device) (t0 t1 t2 : List ℕ) → i < length links → PlayedSoFar (quietly (sweep (take i links))) first k old mid t0 t1
+pub sweep_goes_on : (links : List (ℕ × ℕ)) (i : ℕ) (d : ℕ × ℕ) (first k k2 : KeptWorld) (old mid now : List Device) (t0 t1 t2 : List ℕ) → i < length links → PlayedSoFar (unreported (sweep (take i links))) first k old mid t0 t1
     → ((w : World) → IsWorld k mid w → (v : World) × IsWorld k2 now v × (length v.sites ≡ length w.sites))
-    → ((w : World) (initial : List Device) → IsWorld k mid w → WorldStands w initial mid → ItemsPlayed w (quietly (both (get_or links i d))) k2 initial now t1 t2)
-    → PlayedSoFar (quietly (sweep (take (i + 1) links))) first k2 old now t0 t2
+    → ((w : World) (initial : List Device) → IsWorld k mid w → WorldStands w initial mid → ItemsPlayed w (unreported (both (get_or links i d))) k2 initial now t1 t2)
+    → PlayedSoFar (unreported (sweep (take (i + 1) links))) first k2 old now t0 t2
 sweep_goes_on links i d first k k2 old mid now t0 t1 t2 low s goes played =
-    subst (λ (xs : List Event). PlayedSoFar (quietly xs) first k2 old now t0 t2) (sym (sweep_more links i d low))
+    subst (λ (xs : List Event). PlayedSoFar (unreported xs) first k2 old now t0 t2) (sym (sweep_more links i d low))
     (so_far_then (sweep (take i links)) (both (get_or links i d)) first k k2 old mid now t0 t1 t2 s goes played)

@@ -89,7 +89,7 @@ pub record EventStops (w : World) (step : Step) (board : ℕ) (image : List ℕ)
 
 -- A board stopped in the first of these items, which is an event.
 abbrev pub ItemStops : List Item → Option World → (board : ℕ) → List ℕ → (old new : List Device) → Type 0
-ItemStops (Happens step loud ∷ left) (Some w) board image old new = EventStops w step board image old new
+ItemStops (Happens step reported ∷ left) (Some w) board image old new = EventStops w step board image old new
 ItemStops left last board image old new = ⊥
 
 -- Where a board stopped in a line, of which these items are left: in formatting, in mounting, or in an event.
@@ -125,9 +125,9 @@ pub record NoVolumeIn (motes : ℕ) (old new : List Device) : Type 0 where
 -- the first of these items is an event
 pub record EventNext (items : List Item) : Type 0 where
   pub step : Step
-  pub loud : Bool
+  pub reported : Bool
   pub more : List Item
-  pub is : items ≡ Happens step loud ∷ more
+  pub is : items ≡ Happens step reported ∷ more
 
 -- a world is there, and P holds of it
 abbrev pub InSome : Option World → (World → Type 0) → Type 0

@@ -136,7 +136,7 @@ next_items done (line ∷ rest) = item_by (place_behind first_place done) line
 
 abbrev pub is_event : Item → Bool
 is_event (Declares row) = false
-is_event (Happened step loud) = true
+is_event (Happened step reported) = true
 
 -- how many events there are among items
 abbrev pub events_among : List Item → ℕ

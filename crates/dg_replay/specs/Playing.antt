@@ -123,7 +123,7 @@ Joined place = AllByRecursion (LinkFits place.motes) place.links
 -- an item that declares an image
 abbrev pub IsDeclaration : Item → Type 0
 IsDeclaration (Declares row) = Unit {0}
-IsDeclaration (Happened step loud) = ⊥
+IsDeclaration (Happened step reported) = ⊥
 
 -- The player and the boards, which were `initial` when the replay began, stand for this world, behind these lines.
 pub record Stood (p : Player) (done : List Line) (w : Option World) (initial now : List Device) : Type 0 where

@@ -31,8 +31,9 @@ HonestWithoutFrames c = AllByRecursion IsNoFrame c.done → (UsesBoards c.done �
 -- Where the next event is honest too, each store that the chip may stand for, wherever a stop comes in it,
 -- agrees with the table behind it.
 abbrev pub HalvesAgree : {table : List Row} {script : Script} → Progress table script → Type 0
-HalvesAgree c = (w : World) (step : Step) (loud : Bool) (more : List Item) → c.last ≡ Some w → c.left ≡ Happens step loud ∷ more
-    → HonestEvent w.table step.event → (UsesBoards c.done → HoldsTo c.ground.table w step.event) → StopsAgree w step.event
+HalvesAgree c = (w : World) (step : Step) (reported : Bool) (more : List Item) → c.last ≡ Some w
+    → c.left ≡ Happens step reported ∷ more → HonestEvent w.table step.event
+    → (UsesBoards c.done → HoldsTo c.ground.table w step.event) → StopsAgree w step.event
 
 -- where it ends with a rest, pages came along the links as in a pipeline, by so many sweeps as the rest has
 abbrev pub RestsFillThePipeline : {table : List Row} {script : Script} → Progress table script → Type 0
@@ -73,8 +74,8 @@ pub record StaysConsistent (golden : Row) (played : List Played) (last : Option 
   pub stores : AllByRecursion (LeavesConsistent golden) played
   pub ends : IfSome last (WorldConsistent golden)
   pub starts : AllByRecursion (StartsSound golden) played
-  pub halves : (w : World) (step : Step) (loud : Bool) (more : List Item) → last ≡ Some w → left ≡ Happens step loud ∷ more
-      → StopsConsistent golden w step.event
+  pub halves : (w : World) (step : Step) (reported : Bool) (more : List Item) → last ≡ Some w
+      → left ≡ Happens step reported ∷ more → StopsConsistent golden w step.event
 
 -- Whatever bytes its frames carry: golden is the one row of the table with which the run begins
 abbrev pub StoresStayConsistent : {table : List Row} {script : Script} → Progress table script → Type 0

@@ -5,7 +5,7 @@ ghost use Rattle.dg_nor.specs.Device.{Device};
 ghost use Rattle.dg_object.specs.Object.{row_of};
 ghost use Rattle.dg_rounds.specs.Rounds.{times, round, sweep};
 ghost use Rattle.dg_script.specs.Fitting.{FitsImage};
-ghost use Rattle.dg_script.specs.Items.{Declares, Happens, quietly};
+ghost use Rattle.dg_script.specs.Items.{Declares, Happens, unreported};
 ghost use Rattle.dg_script.specs.Report.{report_text};
 ghost use Rattle.dg_rules.specs.Sizes.{most_events};
 ghost use Rattle.dg_rules.specs.World.{World as RuleWorld};
@@ -18,7 +18,7 @@ ghost use Rattle.dg_replay.specs.Playing.{ItemsPlayedAs, KeepsMotes};
 ghost use Rattle.dg_replay.specs.Stages.{telling};
 
 use crate::stop::Stop;
-use dg_base::{Bytes, Cut, Event, Key};
+use dg_base::{Bytes, Cut, Event, ImageVersion};
 use dg_nor::Nor;
 use dg_rounds::round;
 use dg_script::{Report, write_report};
@@ -62,7 +62,7 @@ fn tell(told: &mut Told) -> Result<(), Stop>
 /// Declares an image.
 pub fn play_image(
     world: &mut World,
-    key: Key,
+    key: ImageVersion,
     name: Bytes,
     content: Bytes,
     told: &mut Told,
@@ -72,7 +72,7 @@ pub fn play_image(
         → ItemsPlayedAs result w (Declares (row_of key.image key.version name content) ∷ []) world.new initial
         told.old.text.items (telling boards told.new.text.items) }
 {
-    let Key { image, version } = key;
+    let ImageVersion { image, version } = key;
     told.reports.clear();
     match world.declare(image, version, name, content) {
         Ok(()) => Ok(()),
@@ -84,12 +84,12 @@ pub fn play_image(
     }
 }
 
-/// Plays an event with the cut that waits for it. Its frame is told where `loud` is true.
+/// Plays an event with the cut that waits for it. Its frame is told where `reported` is true.
 pub fn play_event<N: Nor>(
     world: &mut World,
     event: &Event,
     cut: Option<&Cut>,
-    loud: bool,
+    reported: bool,
     boards: &mut Vec<N>,
     told: &mut Told,
 ) -> Result<(), Stop>
@@ -100,11 +100,11 @@ pub fn play_event<N: Nor>(
         → result ≡ Err Stop.TooMany }
     ensures played { (w : RuleWorld) (initial : List Device) → IsWorld world.old (map N.device boards.old.items) w
         → WorldStands w initial (map N.device boards.old.items)
-        → ItemsPlayedAs result w (Happens (step_of event.now (option_copied cut.entry)) loud ∷ []) world.new initial
+        → ItemsPlayedAs result w (Happens (step_of event.now (option_copied cut.entry)) reported ∷ []) world.new initial
         told.old.text.items (telling (map N.device boards.new.items) told.new.text.items) }
 {
     told.reports.clear();
-    match world.apply(boards, event, cut, loud, &mut told.reports) {
+    match world.apply(boards, event, cut, reported, &mut told.reports) {
         Ok(()) => tell(told),
         Err(WorldFault::Memory) => Err(Stop::Memory),
         Err(WorldFault::Flash { .. }) => Err(Stop::FlashFault),
@@ -126,7 +126,7 @@ pub fn play_round<N: Nor>(
     ensures goes_on { KeepsMotes result world.old world.new (map N.device boards.old.items) (map N.device boards.new.items) }
     ensures played { (w : RuleWorld) (initial : List Device) → IsWorld world.old (map N.device boards.old.items) w
         → WorldStands w initial (map N.device boards.old.items)
-        → ItemsPlayedAs result w (quietly (round a b)) world.new initial told.old.text.items
+        → ItemsPlayedAs result w (unreported (round a b)) world.new initial told.old.text.items
         (telling (map N.device boards.new.items) told.new.text.items) }
 {
     for event in round(a, b) {
@@ -147,7 +147,7 @@ fn play_both<N: Nor>(
     ensures goes_on { KeepsMotes result world.old world.new (map N.device boards.old.items) (map N.device boards.new.items) }
     ensures played { (w : RuleWorld) (initial : List Device) → IsWorld world.old (map N.device boards.old.items) w
         → WorldStands w initial (map N.device boards.old.items)
-        → ItemsPlayedAs result w (quietly (round a b ++ round b a)) world.new initial told.old.text.items
+        → ItemsPlayedAs result w (unreported (round a b ++ round b a)) world.new initial told.old.text.items
         (telling (map N.device boards.new.items) told.new.text.items) }
 {
     play_round(world, a, b, boards, told)?;
@@ -167,7 +167,7 @@ fn play_sweep<N: Nor>(
     ensures goes_on { KeepsMotes result world.old world.new (map N.device boards.old.items) (map N.device boards.new.items) }
     ensures played { (w : RuleWorld) (initial : List Device) → IsWorld world.old (map N.device boards.old.items) w
         → WorldStands w initial (map N.device boards.old.items)
-        → ItemsPlayedAs result w (quietly (sweep links.now)) world.new initial told.old.text.items
+        → ItemsPlayedAs result w (unreported (sweep links.now)) world.new initial told.old.text.items
         (telling (map N.device boards.new.items) told.new.text.items) }
 {
     for link in links {
@@ -188,7 +188,7 @@ pub fn play_sweeps<N: Nor>(
         × AllByRecursion (LinkFits (length w.sites)) links.now }
     ensures { (w : RuleWorld) (initial : List Device) → IsWorld world.old (map N.device boards.old.items) w
         → WorldStands w initial (map N.device boards.old.items)
-        → ItemsPlayedAs result w (quietly (times count (sweep links.now))) world.new initial told.old.text.items
+        → ItemsPlayedAs result w (unreported (times count (sweep links.now))) world.new initial told.old.text.items
         (telling (map N.device boards.new.items) told.new.text.items) }
 {
     for _ in 0..count {

@@ -9,7 +9,7 @@ ghost use Rattle.dg_replay.specs.Stages.{Basis, DoneSoFar, telling};
 
 use crate::items::{Told, play_event, play_image, play_round, play_sweeps};
 use crate::stop::Stop;
-use dg_base::{Bytes, Key};
+use dg_base::{Bytes, ImageVersion};
 use dg_nor::Nor;
 use dg_script::{Line, Place};
 use dg_volume::a_chip_stands_for_a_shaped_store;
@@ -210,7 +210,7 @@ pub fn play_line<N: Nor>(
             name,
             content,
         } => {
-            let key = Key {
+            let key = ImageVersion {
                 image: *image,
                 version: *version,
             };

@@ -19,11 +19,11 @@ use Rattle.dg_volume.specs.Agreement.{KeepsRow, HoldsRow, Agrees}
 use Rattle.dg_volume.specs.Start.{Runs, Boot, behind, counts, count_trail, by_gesture, order_waits, complete_pages, is_whole, is_set_to, blank_by, blank_trail, copy_trail, app_of, kept_runs, order_boot, golden_done, finish_trail, golden_copied, golden_stays, golden_by, golden_boot, kept_by, kept_boot, waived_once, boot_counted, boot, sound}
 use Rattle.dg_volume.specs.declared.volume.StartCause.{StartCause}
 use Rattle.dg_volume.specs.declared.volume.StartCause.TheVariants as kind
-use Rattle.dg_base.specs.declared.events.Key.{Key}
+use Rattle.dg_base.specs.declared.events.ImageVersion.{ImageVersion}
 use Rattle.dg_rules.specs.Small.{app_key}
 use Rattle.dg_rules.specs.Events.{key_of}
 
-abbrev pub golden_key : Key
+abbrev pub golden_key : ImageVersion
 golden_key = record { image = 0; version = golden_version }
 
 -- the order's image, whole
@@ -165,7 +165,7 @@ set_key app image version is =
     let parts = and_parts (app.image == image) (app.version == version) is in
     (eqb-true app.image image parts.0, eqb-true app.version version parts.1)
 
-same_app_key : (app : App) (key : Key) → app.image ≡ key.image → app.version ≡ key.version → app_key app ≡ key
+same_app_key : (app : App) (key : ImageVersion) → app.image ≡ key.image → app.version ≡ key.version → app_key app ≡ key
 same_app_key app key image version i = record { image = image i; version = version i }
 
 golden_stays_start : (s : Store) (app : App) (three : Bool) → s.app ≡ Some app → is_set_to (Some app) 0 golden_version ≡ true → (three ≡ false → IsSettled s) → IsStart s (golden_stays s app three)
@@ -176,7 +176,7 @@ golden_stays_start s app three here is old =
       first = finish_first s r three;
       chosen = λ q e. inl (ap key_of (sym (same_runs r q e)));
       memory = λ q e. subst (InMemory (last (finish_trail s r three)).app) (same_runs r q e)
-          (finish_memory s r three (inl (ap (option_map app_key) here ∙ ap (λ (k : Key). Some k) (same_app_key app golden_key key.0 key.1))));
+          (finish_memory s r three (inl (ap (option_map app_key) here ∙ ap (λ (k : ImageVersion). Some k) (same_app_key app golden_key key.0 key.1))));
       settled = λ q e. finish_settled s r three old;
       found = λ _ e. not_neither r e;
       row = λ table a q e. subst (λ (x : Runs). HoldsRow table (app_of x)) (same_runs r q e)

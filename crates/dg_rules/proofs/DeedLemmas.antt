@@ -24,7 +24,7 @@ use Rattle.dg_mote.specs.Model.{MoteState, begun_mote}
 use Rattle.dg_mote.specs.Ticks.{tick_of}
 use Rattle.dg_mote.specs.Hears.{heard_of}
 use Rattle.dg_mote.specs.Changes.{MayClear, IfReceives}
-use Rattle.dg_base.specs.declared.events.Key.{Key}
+use Rattle.dg_base.specs.declared.events.ImageVersion.{ImageVersion}
 use Rattle.dg_rules.specs.World.{World, Site, Running, Sent, site, store_at, is_wide_mote, wide_at, counted, frame_at, last_frame}
 use Rattle.dg_rules.specs.Small.{Holding, SmallMote, holding, app_key, running_key, small_mote, Small, small, holds, whole}
 use Rattle.dg_rules.specs.Events.{Deed, Does, Refuses, Goes, does, mote_of, dt_of, key_of, reloaded, acts}
@@ -139,7 +139,7 @@ module _ (laws : StepLaws) (past : Past) (w : World) (agrees : WorldAgrees w) (s
   on_key m r n runs on e = ap running_key (sym (same_running (Some (record { key = r.key; mote = n })) runs e)) ∙ sym (ap running_key on)
 
   -- nothing of the small state changes, but that the mote is off
-  stays_cut : (may : Key → Type 0) (x : Site) (s : Store) → mote s None ≡ record (small_mote x) { runs = None } → CutStart may (small_mote x) (mote s None)
+  stays_cut : (may : ImageVersion → Type 0) (x : Site) (s : Store) → mote s None ≡ record (small_mote x) { runs = None } → CutStart may (small_mote x) (mote s None)
   stays_cut may x s same = record { app = (small_mote x).app; how = inl refl; change = same }
 
   -- ---- ticks
@@ -171,7 +171,7 @@ module _ (laws : StepLaws) (past : Past) (w : World) (agrees : WorldAgrees w) (s
       let old = (agrees.sites m here).store.agrees in
       let q = kept_runs s s.order.image s.order.version in
       let n = begun_mote r.mote.id r.mote.wide now word in
-      let May : Key → Type 0 = OrdersWholeRow w.table (small_mote x) in
+      let May : ImageVersion → Type 0 = OrdersWholeRow w.table (small_mote x) in
       let chosen : b.runs ≡ Some q = tick_starts ends w.table x old agrees.table laws.rows waits (settled_here m r on here) in
       let is : (runs : Option Running) → running_by b.runs r.mote.id r.mote.wide now word ≡ Some runs → Some (record { key = key_of q; mote = n }) ≡ runs =
       λ runs e. same_running (Some (record { key = key_of q; mote = n })) runs (ap (λ (o : Option Runs). running_by o r.mote.id r.mote.wide now word) (sym chosen) ∙ e) in

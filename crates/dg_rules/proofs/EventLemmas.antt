@@ -27,7 +27,7 @@ use Rattle.dg_mote.specs.declared.mote.Did.TheVariants as did
 use Rattle.dg_rules.specs.World.{World, Site, Running, Sent, site, store_at, wide_at, with_site, counted, off_site, linked, frame_at, last_by, last_frame}
 use Rattle.dg_rules.specs.Events.{Deed, Does, Refuses, Goes, does, mote_of, dt_of, key_of, of_effect, tick_does, hear_by, heard_sent, heard_last, unless_off, acts, inject_unless, inject_row, order_unless, knows, injects, orders}
 use Rattle.dg_rules.specs.Steps.{Ended, before_cut, and_sent}
-use Rattle.dg_base.specs.declared.events.Key.{Key}
+use Rattle.dg_base.specs.declared.events.ImageVersion.{ImageVersion}
 use Rattle.dg_base.specs.declared.events.Event.{Event}
 use Rattle.dg_base.specs.declared.events.Event.TheVariants.{Tick, Hear, Last, Reset, Inject, Order as OrderEvent, Frame}
 use Rattle.dg_base.specs.declared.events.Step.{Step}
@@ -52,10 +52,10 @@ abbrev pub starts : World → Boot → (id : ℕ) (wide : Bool) (now word : ℕ)
 starts w b id wide now word = Goes (record { trail = b.trail; table = w.table; started = b.runs; sent = None; runs = running_by b.runs id wide now word })
 
 -- the mote that runs under this key goes on
-abbrev pub going_on : World → Trail Store → Option Message → Key → MoteState → Deed
+abbrev pub going_on : World → Trail Store → Option Message → ImageVersion → MoteState → Deed
 going_on w t sent key n = record { trail = t; table = w.table; started = None; sent = sent; runs = Some (Some (record { key = key; mote = n })) }
 
-abbrev pub goes_on : World → Trail Store → Option Message → Key → MoteState → Does
+abbrev pub goes_on : World → Trail Store → Option Message → ImageVersion → MoteState → Does
 goes_on w t sent key n = Goes (going_on w t sent key n)
 
 abbrev pub hearing_of : World → ℕ → (now word : ℕ) → List ℕ → Running → Deed
@@ -70,12 +70,12 @@ pub record RestartLaws : Type 0 where
   pub nothing : (m : MoteState) (s : Store) (now word : ℕ) → (tick_of m s now word).answer ≡ did.Restart
       → tick_of m s now word ≡ record { mote = m; trail = resting s 0; sent = None; answer = did.Restart }
 
-starts_by : (w : World) (o : Option Runs) (t : Trail Store) (id : ℕ) (wide : Bool) (now word : ℕ) (old : Option Key)
+starts_by : (w : World) (o : Option Runs) (t : Trail Store) (id : ℕ) (wide : Bool) (now word : ℕ) (old : Option ImageVersion)
     → of_effect w (boot_by o t id wide now word) old ≡ Goes (record { trail = t; table = w.table; started = o; sent = None; runs = running_by o id wide now word })
 starts_by w None t id wide now word old = refl
 starts_by w (Some r) t id wide now word old = refl
 
-boots_starts : (w : World) (b : Boot) (id : ℕ) (wide : Bool) (now word : ℕ) (old : Option Key) → of_effect w (boot_by b.runs b.trail id wide now word) old ≡ starts w b id wide now word
+boots_starts : (w : World) (b : Boot) (id : ℕ) (wide : Bool) (now word : ℕ) (old : Option ImageVersion) → of_effect w (boot_by b.runs b.trail id wide now word) old ≡ starts w b id wide now word
 boots_starts w b id wide now word old = starts_by w b.runs b.trail id wide now word old
 
 first_joined : (s : Store) (t : Trail Store) → t.first ≡ s → joined (resting s 0) t ≡ t

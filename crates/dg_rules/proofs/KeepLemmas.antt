@@ -222,9 +222,9 @@ at_mote past w declared table blew (Inject m image version dt word) old new afte
 -- ---- every item
 
 module _ (past : Past) (w v : World) (x : Step) where
-  keeps_by : (D : Does) → (IsBlown D x → IsBlown (does w x.event) x) → (loud : Bool) → LegalDoes D past w x v → KeepsItem (Happens x loud) w v
-  keeps_by (Refuses why) blown loud legal m i h had = inl (kept_itself (holds (small_mote_at (small v) m) i) h (ap (λ (s : Small). holds (small_mote_at s m) i) legal ∙ had))
-  keeps_by (Goes d) blown loud legal m i h had =
+  keeps_by : (D : Does) → (IsBlown D x → IsBlown (does w x.event) x) → (reported : Bool) → LegalDoes D past w x v → KeepsItem (Happens x reported) w v
+  keeps_by (Refuses why) blown reported legal m i h had = inl (kept_itself (holds (small_mote_at (small v) m) i) h (ap (λ (s : Small). holds (small_mote_at s m) i) legal ∙ had))
+  keeps_by (Goes d) blown reported legal m i h had =
       let new = holds (small_mote_at (small v) m) i in
       ⊎_elim
       (λ same.
@@ -240,7 +240,7 @@ module _ (past : Past) (w v : World) (x : Step) where
 
 keeps_item : (past : Past) (item : Item) (w v : World) → LegalItem item past w v → KeepsItem item w v
 keeps_item past (Declares row) w v legal = λ m i h had. kept_itself (holds (small_mote_at (small v) m) i) h (ap (λ (s : Small). holds (small_mote_at s m) i) legal ∙ had)
-keeps_item past (Happens x loud) w v legal = keeps_by past w v x (does w x.event) (λ b. b) loud legal
+keeps_item past (Happens x reported) w v legal = keeps_by past w v x (does w x.event) (λ b. b) reported legal
 
 pub keeps_all : (past : List Played) (p : Played) → IsLegal past p → KeepsAll p
 keeps_all past p legal = keeps_item (past_of past) p.item p.before p.after legal
@@ -270,7 +270,7 @@ golden_by past w v x (Goes d) legal m =
 
 golden_item : (past : Past) (item : Item) (w v : World) → LegalItem item past w v → (m : ℕ) → holds (small_mote_at (small v) m) 0 ≡ holds (small_mote_at (small w) m) 0
 golden_item past (Declares row) w v legal m = ap (λ (s : Small). holds (small_mote_at s m) 0) legal
-golden_item past (Happens x loud) w v legal m = golden_by past w v x (does w x.event) legal m
+golden_item past (Happens x reported) w v legal m = golden_by past w v x (does w x.event) legal m
 
 pub golden_stays : (past : List Played) (p : Played) → IsLegal past p → GoldenStays p
 golden_stays past p legal = golden_item (past_of past) p.item p.before p.after legal

@@ -19,7 +19,7 @@ use Rattle.dg_volume.specs.RowLaws.{RowLaws}
 use Rattle.dg_volume.specs.declared.volume.StartCause.{StartCause}
 use Rattle.dg_volume.specs.declared.volume.StartCause.TheVariants as kind
 use Rattle.dg_mote.specs.Model.{MoteState}
-use Rattle.dg_base.specs.declared.events.Key.{Key}
+use Rattle.dg_base.specs.declared.events.ImageVersion.{ImageVersion}
 use Rattle.dg_rules.specs.World.{Site, Running}
 use Rattle.dg_rules.specs.Small.{Holding, SmallMote, holding, app_key, small_mote, holds, whole}
 use Rattle.dg_rules.specs.Events.{key_of}
@@ -69,7 +69,7 @@ waiting_whole table s agrees is = whole_by table s.order.image s.order.version (
 holding_whole : (row : Row) → holding (held_whole row) ≡ whole row
 holding_whole row i = record { version = row.version; pages = length-tabulate (pages_for (length row.bytes)) (page_of_row row) i }
 
-holds_whole : (table : List Row) (x : Site) (key : Key) (o : Option Held) → held x.store key.image ≡ o → Whole table key.image key.version o → HoldsWholeRow table (small_mote x) key
+holds_whole : (table : List Row) (x : Site) (key : ImageVersion) (o : Option Held) → held x.store key.image ≡ o → Whole table key.image key.version o → HoldsWholeRow table (small_mote x) key
 holds_whole table x key o here w = record {
   row = w.row;
   in_table = w.in_table;
@@ -97,7 +97,7 @@ module _ (ends : (k : StartCause) (s : Store) → Boots s (boot k s)) (table : L
   may_start : (r : Runs) → MayRun x.store r → MayStart table (small_mote x) (key_of r)
   may_start r may =
       ⊎_elim
-      (λ golden. inl (ap (λ (k : Key). k.image) golden, ap (λ (k : Key). k.version) golden))
+      (λ golden. inl (ap (λ (k : ImageVersion). k.image) golden, ap (λ (k : ImageVersion). k.version) golden))
       (λ other. ⊎_elim (λ set. inr (inl set)) (λ waits. inr (inr (waits_legal r waits))) other)
       may
 
@@ -114,7 +114,7 @@ module _ (ends : (k : StartCause) (s : Store) → Boots s (boot k s)) (table : L
         memory =
             ⊎_elim
             (λ set. inl set)
-            (λ blank. inr (ap (option_map app_key) blank.0, (ap (λ (q : Key). q.image) blank.1, ap (λ (q : Key). q.version) blank.1)))
+            (λ blank. inr (ap (option_map app_key) blank.0, (ap (λ (q : ImageVersion). q.image) blank.1, ap (λ (q : ImageVersion). q.version) blank.1)))
             (start.memory r runs);
         change = λ i. record { holdings = map (option_map holding) (way.kept i); app = option_map app_key (last b.trail).app; order = way.order i; runs = Some (key_of r) };
       }
@@ -122,8 +122,8 @@ module _ (ends : (k : StartCause) (s : Store) → Boots s (boot k s)) (table : L
   pub chosen_start : (k : StartCause) (r : Runs) → (boot k x.store).runs ≡ Some r → MayStart table (small_mote x) (key_of r)
   chosen_start k r runs = may_start r ((boot_start k x.store).chosen r runs)
 
-  cut_app : (k : StartCause) (may : Key → Type 0) → ((r : Runs) → (boot k x.store).runs ≡ Some r → may (key_of r)) → (new : Option App) → AppOnWay x.store.app (boot k x.store).runs new
-      → (option_map app_key new ≡ (small_mote x).app) ⊎ ((option_map app_key new ≡ None) ⊎ ((key : Key) × (option_map app_key new ≡ Some key) × may key))
+  cut_app : (k : StartCause) (may : ImageVersion → Type 0) → ((r : Runs) → (boot k x.store).runs ≡ Some r → may (key_of r)) → (new : Option App) → AppOnWay x.store.app (boot k x.store).runs new
+      → (option_map app_key new ≡ (small_mote x).app) ⊎ ((option_map app_key new ≡ None) ⊎ ((key : ImageVersion) × (option_map app_key new ≡ Some key) × may key))
   cut_app k may chosen new way =
       ⊎_elim
       (λ same. inl (ap (option_map app_key) same))
@@ -134,7 +134,7 @@ module _ (ends : (k : StartCause) (s : Store) → Boots s (boot k s)) (table : L
       way
 
   -- where a cut blew in it
-  pub cut_start : (k : StartCause) (may : Key → Type 0) → ((r : Runs) → (boot k x.store).runs ≡ Some r → may (key_of r)) → Through (λ s. CutStart may (small_mote x) (mote s None)) (boot k x.store).trail
+  pub cut_start : (k : StartCause) (may : ImageVersion → Type 0) → ((r : Runs) → (boot k x.store).runs ≡ Some r → may (key_of r)) → Through (λ s. CutStart may (small_mote x) (mote s None)) (boot k x.store).trail
   cut_start k may chosen =
       let b = boot k x.store in
       Through-map (OnTheWay x.store b.runs) (λ s. CutStart may (small_mote x) (mote s None))

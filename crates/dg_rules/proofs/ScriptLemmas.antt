@@ -101,7 +101,7 @@ declared_frame motes w v row is may f =
 
 item_frame : RestartLaws → (motes : ℕ) (item : Item) (w v : World) (reports : List Report) → ItemInRange motes item → Frame motes w → ItemStep w item v reports → Frame motes v
 item_frame restarts motes (Declares row) w v reports range f did = declared_frame motes w v row did.world range f
-item_frame restarts motes (Happens x loud) w v reports range f did = step_frame restarts motes w x v did.0 f did.1
+item_frame restarts motes (Happens x reported) w v reports range f did = step_frame restarts motes w x v did.0 f did.1
 
 -- ---- golden is kept in every mote
 
@@ -113,7 +113,7 @@ module _ (restarts : RestartLaws) (stepped : (w v : World) (x : Step) (reports :
   golden_item : (item : Item) (w v : World) (reports : List Report) → WorldKeepsGolden w → length w.sites ≡ motes → ItemInRange motes item → ItemStep w item v reports → WorldKeepsGolden v
   golden_item (Declares row) w v reports golden count range did =
       subst (At (λ m y. SiteKeepsGolden y)) (sym (ap (λ (u : World). u.sites) did.world ∙ declared_sites (row_at w.declared row.image row.version) w row)) golden
-  golden_item (Happens x loud) w v reports golden count range did = stepped w v x did.0 golden (subst (λ (n : ℕ). StepInRange n x) (sym count) range) did.1
+  golden_item (Happens x reported) w v reports golden count range did = stepped w v x did.0 golden (subst (λ (n : ℕ). StepInRange n x) (sym count) range) did.1
 
   keeps_played : (past : List Played) (p : Played) → Keeps motes past p.before → PlayedInRange motes p → ItemStep p.before p.item p.after p.reports → Keeps motes (p ∷ past) p.after × Unit {0}
   keeps_played past p k range did = (
@@ -151,7 +151,7 @@ event_honest w (FrameEvent m dt word bytes) is_true = is_true
 
 item_honest : (item : Item) (w : World) → TrueItem item w → HonestItem item w
 item_honest (Declares row) w is_true = tt
-item_honest (Happens x loud) w is_true = event_honest w x.event is_true
+item_honest (Happens x reported) w is_true = event_honest w x.event is_true
 
 all_honest : (played : List Played) → AllByRecursion IsTrueThen played → AllByRecursion IsHonestThen played
 all_honest [] are_true = tt
@@ -159,7 +159,7 @@ all_honest (p ∷ ps) are_true = (item_honest p.item p.before are_true.0, all_ho
 
 item_true : (motes : ℕ) (item : Item) (w : World) → Frame motes w → HonestItem item w → TrueItem item w
 item_true motes (Declares row) w f honest = tt
-item_true motes (Happens x loud) w f honest = event_true motes w f x.event honest
+item_true motes (Happens x reported) w f honest = event_true motes w f x.event honest
 
 module _ (restarts : RestartLaws) (motes : ℕ) where
   true_played : (past : List Played) (p : Played) → Frame motes p.before → PlayedInRange motes p × IsHonestThen p → ItemStep p.before p.item p.after p.reports → Frame motes p.after × IsTrueThen p

@@ -78,7 +78,7 @@ module _ (laws : RunLaws) where
         ap small did.world ∙ declared_small o w row,
         tt,
       )
-  sound_item past (Happens x loud) w v reports i fits did = (
+  sound_item past (Happens x reported) w v reports i fits did = (
     record {
       agrees = laws.stepped w v x did.0 i.agrees fits.0 fits.1 did.1;
       settled = step_settled laws.steps past w i.agrees i.settled i.came x v did.0 fits.0 fits.1 did.1;

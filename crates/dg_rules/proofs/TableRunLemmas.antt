@@ -72,7 +72,7 @@ module _ (began : List Row) where
 
   item_come : RestartLaws → (item : Item) (w v : World) (reports : List Report) → RowsCome w → ItemStep w item v reports → RowsCome v
   item_come restarts (Declares row) w v reports come did = subst RowsCome (sym did.world) (declared_come (row_at w.declared row.image row.version) w row come)
-  item_come restarts (Happens x loud) w v reports come did = step_come restarts w x v did.0 come did.1
+  item_come restarts (Happens x reported) w v reports come did = step_come restarts w x v did.0 come did.1
 
   -- ---- an injection that brings no other content for these rows brings none for any
 
@@ -88,7 +88,7 @@ module _ (began : List Row) where
 
   item_true : (item : Item) (w : World) → RowsCome w → ItemHoldsTo began item w → TrueItem item w
   item_true (Declares row) w come holds = tt
-  item_true (Happens x loud) w come holds = event_true w come x.event holds
+  item_true (Happens x reported) w come holds = event_true w come x.event holds
 
   true_played : RestartLaws → (past : List Played) (p : Played) → RowsCome p.before → HoldsToThen began p → ItemStep p.before p.item p.after p.reports → RowsCome p.after × IsTrueThen p
   true_played restarts past p come holds did = (item_come restarts p.item p.before p.after p.reports come did, item_true p.item p.before come holds)

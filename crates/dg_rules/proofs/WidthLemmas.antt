@@ -31,7 +31,7 @@ ended_narrow w v x ends = ap (λ (u : World). u.narrow) ends.world
 
 item_narrow : (item : Item) (w v : World) (reports : List Report) → ItemStep w item v reports → v.narrow ≡ w.narrow
 item_narrow (Declares row) w v reports did = declare_narrow w v row reports did
-item_narrow (Happens x loud) w v reports did = step_narrow w x v did.0 did.1
+item_narrow (Happens x reported) w v reports did = step_narrow w x v did.0 did.1
 
 pub played_narrow : (w v : World) (played : List Played) → Plays w played v → v.narrow ≡ w.narrow
 unfolding Plays

@@ -53,7 +53,7 @@ HoldsTo table w (Frame mote dt word bytes) = IsHonest w.table bytes
 
 abbrev pub ItemHoldsTo : List Row → Item → World → Type 0
 ItemHoldsTo table (Declares row) w = Unit {0}
-ItemHoldsTo table (Happens step loud) w = HoldsTo table w step.event
+ItemHoldsTo table (Happens step reported) w = HoldsTo table w step.event
 
 abbrev pub HoldsToThen : List Row → Played → Type 0
 HoldsToThen table p = ItemHoldsTo table p.item p.before

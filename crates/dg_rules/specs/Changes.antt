@@ -51,10 +51,10 @@ sent_line m (Some (Wide source entries order)) = SentAdvert m ∷ []
 
 -- `sent` lines are told where they are wanted
 abbrev pub is_told : Bool → Report → Bool
-is_told loud (SentAdvert mote) = loud
-is_told loud (SentRequest mote to image version page count) = loud
-is_told loud (SentData mote image version page packet) = loud
-is_told loud report = true
+is_told reported (SentAdvert mote) = reported
+is_told reported (SentRequest mote to image version page count) = reported
+is_told reported (SentData mote image version page packet) = reported
+is_told reported report = true
 
 -- ---- declarations
 

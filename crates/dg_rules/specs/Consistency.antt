@@ -36,7 +36,7 @@ StartsSoundDoes golden (Goes d) = IfSome d.started (λ r. IsSoundApp golden (app
 
 abbrev pub StartsSoundItem : Row → Item → World → Type 0
 StartsSoundItem golden (Declares row) w = Unit {0}
-StartsSoundItem golden (Happens step loud) w = StartsSoundDoes golden (does w step.event)
+StartsSoundItem golden (Happens step reported) w = StartsSoundDoes golden (does w step.event)
 
 abbrev pub StartsSound : Row → Played → Type 0
 StartsSound golden p = StartsSoundItem golden p.item p.before

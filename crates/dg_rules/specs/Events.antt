@@ -17,7 +17,7 @@ use Rattle.dg_mote.specs.Model.{MoteState, maintains}
 use Rattle.dg_mote.specs.Effects.{Effect, reset_effect, tick_effect, frame_effect}
 use Rattle.dg_volume.specs.Table.{row_at, with_row}
 use Rattle.dg_rules.specs.World.{World, Running, Sent, site, store_at, wide_at, linked, frame_at, last_frame}
-use Rattle.dg_base.specs.declared.events.Key.{Key}
+use Rattle.dg_base.specs.declared.events.ImageVersion.{ImageVersion}
 use Rattle.dg_base.specs.declared.events.Event.{Event}
 use Rattle.dg_base.specs.declared.events.Event.TheVariants.{Tick, Hear, Last, Reset, Inject, Order as OrderEvent, Frame}
 use Rattle.dg_script.specs.declared.report.Cause.{Cause}
@@ -62,16 +62,16 @@ dt_of (Frame mote dt word bytes) = dt
 
 -- ---- events of the mote itself
 
-abbrev pub key_of : Runs → Key
+abbrev pub key_of : Runs → ImageVersion
 key_of r = record { image = r.image; version = r.version }
 
 -- what runs behind an effect: what was started, or what ran before
-abbrev pub runs_by : Option Runs → Option Key → MoteState → Option Running
+abbrev pub runs_by : Option Runs → Option ImageVersion → MoteState → Option Running
 runs_by (Some r) old m = Some (record { key = key_of r; mote = m })
 runs_by None (Some key) m = Some (record { key = key; mote = m })
 runs_by None None m = None
 
-abbrev pub of_effect : World → Effect → Option Key → Does
+abbrev pub of_effect : World → Effect → Option ImageVersion → Does
 of_effect w e old = Goes (record {
   trail = e.trail;
   table = w.table;

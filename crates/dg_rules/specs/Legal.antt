@@ -14,7 +14,7 @@ use Rattle.dg_mote.specs.Summary.{entry_for}
 use Rattle.dg_volume.specs.Sizes.{golden_version}
 use Rattle.dg_volume.specs.Table.{row_at, with_row}
 use Rattle.dg_rules.specs.Small.{Holding, SmallMote, Small, small_mote_at, holds, whole}
-use Rattle.dg_base.specs.declared.events.Key.{Key}
+use Rattle.dg_base.specs.declared.events.ImageVersion.{ImageVersion}
 use Rattle.dg_base.specs.declared.events.Event.{Event}
 use Rattle.dg_base.specs.declared.events.Event.TheVariants.{Tick, Hear, Last, Reset, Inject, Order as OrderEvent, Frame}
 
@@ -55,7 +55,7 @@ CutHolding old row (Some new) =
     (old ≡ Some new)
     ⊎ ((new.version ≡ row.version) × ((h : Holding) → old ≡ Some h → h.version ≡ row.version → h.pages ≤ new.pages))
 
-pub record LegalInject (declared table after : List Row) (blew : Bool) (key : Key) (old new : SmallMote) : Type 0 where
+pub record LegalInject (declared table after : List Row) (blew : Bool) (key : ImageVersion) (old new : SmallMote) : Type 0 where
   pub known : 1 ≤ key.image
   pub row : Row
   pub is_declared : row_at declared key.image key.version ≡ Some row
@@ -69,39 +69,39 @@ pub record LegalOrder (blew : Bool) (order : Order) (old new : SmallMote) : Type
   pub larger : old.order.number < order.number
   pub change : (new ≡ record old { order = order }) ⊎ ((blew ≡ true) × (new ≡ old))
 
-abbrev pub IsGoldenKey : Key → Type 0
+abbrev pub IsGoldenKey : ImageVersion → Type 0
 IsGoldenKey key = (key.image ≡ 0) × (key.version ≡ golden_version)
 
-pub record HoldsWholeRow (table : List Row) (x : SmallMote) (key : Key) : Type 0 where
+pub record HoldsWholeRow (table : List Row) (x : SmallMote) (key : ImageVersion) : Type 0 where
   pub row : Row
   pub in_table : row_at table key.image key.version ≡ Some row
   pub whole_row : holds x key.image ≡ Some (whole row)
 
-pub record OrdersKey (x : SmallMote) (key : Key) : Type 0 where
+pub record OrdersKey (x : SmallMote) (key : ImageVersion) : Type 0 where
   pub some : x.order.number ≢ 0
   pub image : x.order.image ≡ key.image
   pub version : x.order.version ≡ key.version
 
 -- a row that the mote holds whole and that its order names
-abbrev pub OrdersWholeRow : List Row → SmallMote → Key → Type 0
+abbrev pub OrdersWholeRow : List Row → SmallMote → ImageVersion → Type 0
 OrdersWholeRow table x key = OrdersKey x key × HoldsWholeRow table x key
 
 -- golden, what program memory is Set to, or such a row
-abbrev pub MayStart : List Row → SmallMote → Key → Type 0
+abbrev pub MayStart : List Row → SmallMote → ImageVersion → Type 0
 MayStart table x key = IsGoldenKey key ⊎ ((x.app ≡ Some key) ⊎ OrdersWholeRow table x key)
 
 -- a start that was not stopped
 pub record LegalStart (table : List Row) (old new : SmallMote) : Type 0 where
-  pub key : Key
-  pub app : Option Key
+  pub key : ImageVersion
+  pub app : Option ImageVersion
   pub chosen : MayStart table old key
   pub memory : (app ≡ Some key) ⊎ ((app ≡ None) × IsGoldenKey key)
   pub change : new ≡ record old { app = app; runs = Some key }
 
 -- one whose cut blew: program memory stays, is blank, or is what was chosen
-pub record CutStart (may : Key → Type 0) (old new : SmallMote) : Type 0 where
-  pub app : Option Key
-  pub how : (app ≡ old.app) ⊎ ((app ≡ None) ⊎ ((key : Key) × (app ≡ Some key) × may key))
+pub record CutStart (may : ImageVersion → Type 0) (old new : SmallMote) : Type 0 where
+  pub app : Option ImageVersion
+  pub how : (app ≡ old.app) ⊎ ((app ≡ None) ⊎ ((key : ImageVersion) × (app ≡ Some key) × may key))
   pub change : new ≡ record old { app = app; runs = None }
 
 -- nothing is kept, or an older version
@@ -144,7 +144,7 @@ LegalMessage past blew m wide (Ok (Wide source entries order)) old new = LegalAd
 
 -- A mote that is off changes by Reset, Inject and Order alone.
 abbrev pub SmallIsOn : SmallMote → Type 0
-SmallIsOn x = (key : Key) × (x.runs ≡ Some key)
+SmallIsOn x = (key : ImageVersion) × (x.runs ≡ Some key)
 
 -- A Tick may also change nothing, and it starts the ordered row alone.
 abbrev pub LegalTick : List Row → Bool → SmallMote → SmallMote → Type 0

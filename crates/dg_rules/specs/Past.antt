@@ -45,7 +45,7 @@ past_by (Goes d) w x past =
 
 abbrev pub past_item : Item → World → Past → Past
 past_item (Declares row) w past = past
-past_item (Happens step loud) w past = past_by (does w step.event) w step past
+past_item (Happens step reported) w past = past_by (does w step.event) w step past
 
 -- of what was played, the newest first
 unfoldable pub past_of : List Played → Past

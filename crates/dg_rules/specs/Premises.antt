@@ -94,7 +94,7 @@ TrueEvent w (Frame mote dt word bytes) = IsHonest w.table bytes
 -- what is played is in its ranges, and true
 abbrev pub ItemFits : Item → World → Type 0
 ItemFits (Declares row) w = IsDeclared row
-ItemFits (Happens step loud) w = StepInRange (length w.sites) step × TrueEvent w step.event
+ItemFits (Happens step reported) w = StepInRange (length w.sites) step × TrueEvent w step.event
 
 abbrev pub PlayedFits : Played → Type 0
 PlayedFits p = ItemFits p.item p.before
@@ -102,7 +102,7 @@ PlayedFits p = ItemFits p.item p.before
 -- the same where nothing is said of the world: of a script with so many motes
 abbrev pub ItemInRange : ℕ → Item → Type 0
 ItemInRange motes (Declares row) = IsDeclared row
-ItemInRange motes (Happens step loud) = StepInRange motes step
+ItemInRange motes (Happens step reported) = StepInRange motes step
 
 abbrev pub PlayedInRange : ℕ → Played → Type 0
 PlayedInRange motes p = ItemInRange motes p.item
@@ -110,7 +110,7 @@ PlayedInRange motes p = ItemInRange motes p.item
 -- a frame from outside is honest by the table of that moment
 abbrev pub HonestItem : Item → World → Type 0
 HonestItem (Declares row) w = Unit {0}
-HonestItem (Happens step loud) w = HonestEvent w.table step.event
+HonestItem (Happens step reported) w = HonestEvent w.table step.event
 
 abbrev pub IsHonestThen : Played → Type 0
 IsHonestThen p = HonestItem p.item p.before
@@ -118,7 +118,7 @@ IsHonestThen p = HonestItem p.item p.before
 -- an event is true in the world of that moment
 abbrev pub TrueItem : Item → World → Type 0
 TrueItem (Declares row) w = Unit {0}
-TrueItem (Happens step loud) w = TrueEvent w step.event
+TrueItem (Happens step reported) w = TrueEvent w step.event
 
 abbrev pub IsTrueThen : Played → Type 0
 IsTrueThen p = TrueItem p.item p.before

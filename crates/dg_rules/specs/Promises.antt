@@ -35,7 +35,7 @@ LegalDoes (Goes d) past w x v =
 
 abbrev pub LegalItem : Item → Past → World → World → Type 0
 LegalItem (Declares row) past w v = small v ≡ small w
-LegalItem (Happens step loud) past w v = LegalDoes (does w step.event) past w step v
+LegalItem (Happens step reported) past w v = LegalDoes (does w step.event) past w step v
 
 -- what was played is legal after what was played before it, the newest first
 abbrev pub IsLegal : List Played → Played → Type 0
@@ -84,7 +84,7 @@ pub record IsReplacing (w : World) (x : Step) (m i : ℕ) (h : Holding) (new : O
 abbrev pub KeepsItem : Item → World → World → Type 0
 KeepsItem (Declares row) w v =
     (m i : ℕ) (h : Holding) → holds (small_mote_at (small w) m) i ≡ Some h → IsKeptIn (holds (small_mote_at (small v) m) i) h
-KeepsItem (Happens step loud) w v = (m i : ℕ) (h : Holding) → holds (small_mote_at (small w) m) i ≡ Some h
+KeepsItem (Happens step reported) w v = (m i : ℕ) (h : Holding) → holds (small_mote_at (small w) m) i ≡ Some h
     → IsKeptIn (holds (small_mote_at (small v) m) i) h ⊎ IsReplacing w step m i h (holds (small_mote_at (small v) m) i)
 
 abbrev pub KeepsAll : Played → Type 0
@@ -110,7 +110,7 @@ StartsDoes (Goes d) table = IfSome d.started (RunsRow table)
 
 abbrev pub StartsItem : Item → World → Type 0
 StartsItem (Declares row) w = Unit {0}
-StartsItem (Happens step loud) w = StartsDoes (does w step.event) w.table
+StartsItem (Happens step reported) w = StartsDoes (does w step.event) w.table
 
 abbrev pub StartsRow : Played → Type 0
 StartsRow p = StartsItem p.item p.before

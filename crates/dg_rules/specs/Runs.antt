@@ -16,7 +16,8 @@ pub record Played : Type 0 where
 -- what an item makes of a world, and the lines that are reported of it
 abbrev pub ItemStep : World → Item → World → List Report → Type 0
 ItemStep w (Declares row) v reports = DeclareStep w row v reports
-ItemStep w (Happens step loud) v reports = (all : List Report) × WorldStep w step v all × (reports ≡ filter (is_told loud) all)
+ItemStep w (Happens step reported) v reports =
+    (all : List Report) × WorldStep w step v all × (reports ≡ filter (is_told reported) all)
 
 unfoldable pub Plays : World → List Played → World → Type 0
 Plays w [] v = w ≡ v

@@ -5,7 +5,7 @@ use Rattle.dg_control.specs.declared.snapshot.Order.{Order}
 use Rattle.dg_slot.specs.Kept.{Held}
 use Rattle.dg_volume.specs.Store.{App}
 use Rattle.dg_rules.specs.World.{World, Running, Site, no_site}
-use Rattle.dg_base.specs.declared.events.Key.{Key}
+use Rattle.dg_base.specs.declared.events.ImageVersion.{ImageVersion}
 
 pub record Holding : Type 0 where
   pub version : ℕ
@@ -14,9 +14,9 @@ pub record Holding : Type 0 where
 -- of a mote: what it keeps of each image, what program memory is Set to, the kept order, and what runs
 pub record SmallMote : Type 0 where
   pub holdings : List (Option Holding)
-  pub app : Option Key
+  pub app : Option ImageVersion
   pub order : Order
-  pub runs : Option Key
+  pub runs : Option ImageVersion
 
 pub record Small : Type 0 where
   pub table : List Row
@@ -25,10 +25,10 @@ pub record Small : Type 0 where
 abbrev pub holding : Held → Holding
 holding h = record { version = h.version; pages = length h.complete }
 
-abbrev pub app_key : App → Key
+abbrev pub app_key : App → ImageVersion
 app_key app = record { image = app.image; version = app.version }
 
-abbrev pub running_key : Option Running → Option Key
+abbrev pub running_key : Option Running → Option ImageVersion
 running_key r = option_map (λ (x : Running). x.key) r
 
 abbrev pub small_mote : Site → SmallMote

@@ -5,12 +5,12 @@ use Rattle.std.specs.List.{list_any}
 use Rattle.dg_object.specs.Object.{Row}
 use Rattle.dg_volume.specs.Store.{Store, fresh}
 use Rattle.dg_mote.specs.Model.{MoteState}
-use Rattle.dg_base.specs.declared.events.Key.{Key}
+use Rattle.dg_base.specs.declared.events.ImageVersion.{ImageVersion}
 use Rattle.dg_script.specs.Places.{is_narrow}
 
 -- a mote that is on: what it runs, and its state
 pub record Running : Type 0 where
-  pub key : Key
+  pub key : ImageVersion
   pub mote : MoteState
 
 -- what the chip of a mote stands for, and the mote, None where it is off

@@ -3,7 +3,7 @@
 
 mod laws;
 
-pub use dg_base::{Cut, Event, Key, Step};
+pub use dg_base::{Cut, Event, ImageVersion, Step};
 pub use dg_script::{Cause, Report};
 pub use laws::{
     agreement_is_kept, any_frames_leave_stores_consistent, consistency_is_kept,

@@ -14,11 +14,11 @@ use Rattle.dg_script.specs.declared.place.Place.{Place}
 -- A row is declared, or an event happens. It is quiet where a round or a sweep gave it: then it tells of no frame that it sent.
 pub data Item : Type 0 where
   Declares : (row : Row) → Item
-  Happens : (step : Step) → (loud : Bool) → Item
+  Happens : (step : Step) → (reported : Bool) → Item
 
 -- the items of events that a round or a sweep gives
-abbrev pub quietly : List Event → List Item
-quietly events = map (λ e. Happens (record { event = e; cut = None }) false) events
+abbrev pub unreported : List Event → List Item
+unreported events = map (λ e. Happens (record { event = e; cut = None }) false) events
 
 -- the items of a line at its place, where a cut may wait for its event
 abbrev pub item_by : Place → Line → List Item
@@ -31,8 +31,8 @@ item_by place (Narrow mote) = []
 item_by place (Image image version name content) = Declares (declared_row image version name content) ∷ []
 item_by place (Cut c) = []
 item_by place (HappensLine event) = Happens (record { event = event; cut = place.cut }) true ∷ []
-item_by place (Round a b) = quietly (round a b)
-item_by place (Sweeps n) = quietly (times n (sweep place.links))
+item_by place (Round a b) = unreported (round a b)
+item_by place (Sweeps n) = unreported (times n (sweep place.links))
 
 -- the place behind lines
 unfoldable pub place_behind : Place → List Line → Place

@@ -69,7 +69,7 @@ module _ (table : List Row) (stores : List Store) (links : List (ℕ × ℕ)) wh
 -- the motes are as many behind each item
 item_count : (motes : ℕ) (item : Item) (w v : World) (reports : List Report) → length w.sites ≡ motes → ItemInRange motes item → ItemStep w item v reports → length v.sites ≡ motes
 item_count motes (Declares row) w v reports count range did = ap length (ap (λ (u : World). u.sites) did.world ∙ declared_sites (row_at w.declared row.image row.version) w row) ∙ count
-item_count motes (Happens x loud) w v reports count range did = step_count w x v did.0 (subst (λ (n : ℕ). StepInRange n x) (sym count) range) did.1 ∙ count
+item_count motes (Happens x reported) w v reports count range did = step_count w x v did.0 (subst (λ (n : ℕ). StepInRange n x) (sym count) range) did.1 ∙ count
 
 -- ---- stores stay consistent
 
@@ -91,11 +91,11 @@ record Has (golden : Row) (p : Played) : Type 0 where
 module _ (laws : AnyLaws) (golden : Row) (motes : ℕ) where
   item_consistent : (item : Item) (w v : World) (reports : List Report) → Holds golden motes w → ItemInRange motes item → ItemStep w item v reports → WorldConsistent golden v
   item_consistent (Declares row) w v reports h range did = laws.declared golden w v row reports h.world range did
-  item_consistent (Happens x loud) w v reports h range did = laws.stepped golden w v x did.0 h.world (subst (λ (n : ℕ). StepInRange n x) (sym h.count) range) did.1
+  item_consistent (Happens x reported) w v reports h range did = laws.stepped golden w v x did.0 h.world (subst (λ (n : ℕ). StepInRange n x) (sym h.count) range) did.1
 
   item_starts : (item : Item) (w : World) → Holds golden motes w → ItemInRange motes item → StartsSoundItem golden item w
   item_starts (Declares row) w h range = tt
-  item_starts (Happens x loud) w h range = laws.starts golden w x.event h.world (subst (λ (n : ℕ). StepInRange n x) (sym h.count) range).event
+  item_starts (Happens x reported) w h range = laws.starts golden w x.event h.world (subst (λ (n : ℕ). StepInRange n x) (sym h.count) range).event
 
   played_holds : (past : List Played) (p : Played) → Holds golden motes p.before → PlayedInRange motes p → ItemStep p.before p.item p.after p.reports → Holds golden motes p.after × Has golden p
   played_holds past p h range did =
@@ -129,7 +129,7 @@ module _ (laws : GoldenLaws) (motes : ℕ) where
   item_golden : (item : Item) (w v : World) (reports : List Report) → Keeps motes w → ItemInRange motes item → ItemStep w item v reports → WorldKeepsGolden v
   item_golden (Declares row) w v reports k range did =
       subst (At (λ m y. SiteKeepsGolden y)) (sym (ap (λ (u : World). u.sites) did.world ∙ declared_sites (row_at w.declared row.image row.version) w row)) k.golden
-  item_golden (Happens x loud) w v reports k range did = laws.stepped w v x did.0 k.golden (subst (λ (n : ℕ). StepInRange n x) (sym k.count) range) did.1
+  item_golden (Happens x reported) w v reports k range did = laws.stepped w v x did.0 k.golden (subst (λ (n : ℕ). StepInRange n x) (sym k.count) range) did.1
 
   played_keeps : (past : List Played) (p : Played) → Keeps motes p.before → PlayedInRange motes p → ItemStep p.before p.item p.after p.reports → Keeps motes p.after × LeavesGolden p
   played_keeps past p k range did =

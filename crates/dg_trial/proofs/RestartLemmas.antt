@@ -19,13 +19,13 @@ use Rattle.dg_rules.specs.Steps.{WorldStep, StepDoes, Ended, blows, before_cut}
 use Rattle.dg_rules.proofs.ThroughLemmas.{Through-map, cut_holds}
 use Rattle.dg_rules.proofs.AgreementLemmas.{same_running}
 use Rattle.dg_rules.proofs.EventLemmas.{running_by, starts}
-use Rattle.dg_base.specs.declared.events.Key.{Key}
+use Rattle.dg_base.specs.declared.events.ImageVersion.{ImageVersion}
 use Rattle.dg_trial.proofs.RoomLemmas.{Roomy, boot_rooms, leaves_rooms}
 
 abbrev pub BootLaw : Type 0
 BootLaw = (k : StartCause) (s : Store) → Boots s (boot k s)
 
-starts_by : (w : World) (o : Option Runs) (t : Trail Store) (id : ℕ) (wide : Bool) (now word : ℕ) (old : Option Key)
+starts_by : (w : World) (o : Option Runs) (t : Trail Store) (id : ℕ) (wide : Bool) (now word : ℕ) (old : Option ImageVersion)
     → of_effect w (boot_by o t id wide now word) old ≡ Goes (record { trail = t; table = w.table; started = o; sent = None; runs = running_by o id wide now word })
 starts_by w None t id wide now word old = refl
 starts_by w (Some r) t id wide now word old = refl

@@ -31,8 +31,8 @@ other e f same go = go (let g : e ≡ f = cc in g)
 
 -- What a step that was begun made of a, which is b then: there is room for all that it needs, so that it is not refused for want
 -- of memory, nor for want of events.
-pub record ApplyMade (r : Result (Unit {0}) WorldFault) (x : Step) (loud : Bool) (a b : Deployment) : Type 0 where
-  pub ends : (w : RuleWorld) → IsOf a w → StepInRange (length w.sites) x → ApplyEnds r w x loud a b
+pub record ApplyMade (r : Result (Unit {0}) WorldFault) (x : Step) (reported : Bool) (a b : Deployment) : Type 0 where
+  pub ends : (w : RuleWorld) → IsOf a w → StepInRange (length w.sites) x → ApplyEnds r w x reported a b
   pub known : OnOk r ((w : RuleWorld) → IsOf a w → StepInRange (length w.sites) x → KnowsThen w x.event a.world b.world b.boards)
   pub order_reads : (w : RuleWorld) (m : ℕ) (old new : Device) → IsOf a w → m ≡ mote_of x.event → known_of a.world m ≡ true
       → slice_get a.boards m ≡ Some old → slice_get b.boards m ≡ Some new → OrderTakes x.event old new
@@ -43,8 +43,8 @@ pub record ApplyMade (r : Result (Unit {0}) WorldFault) (x : Step) (loud : Bool)
       → (b.boards ≡ a.boards) × OnErr r ⊥
 
 -- A world that has made all its events makes no more.
-pub full_done : (x : Step) (loud : Bool) (a : Deployment) → most_events ≤ a.world.events → ApplyDone (Err TooMany) x loud a a
-full_done x loud a most =
+pub full_done : (x : Step) (reported : Bool) (a : Deployment) → most_events ≤ a.world.events → ApplyDone (Err TooMany) x reported a a
+full_done x reported a most =
     record {
       applied = tt;
       too_many = λ e w is. omega (arith, most, is.events, is.few_events);
@@ -63,9 +63,9 @@ full_done x loud a most =
     }
 
 -- Where there is no memory, nothing is done.
-pub lacking_done : (x : Step) (loud : Bool) (a b : Deployment) → a.world.events < most_events → b.boards ≡ a.boards → b.told ≡ a.told → ((w : RuleWorld) → IsOf a w → IsOf b w)
-    → ApplyDone (Err Memory) x loud a b
-lacking_done x loud a b few boards told kept =
+pub lacking_done : (x : Step) (reported : Bool) (a b : Deployment) → a.world.events < most_events → b.boards ≡ a.boards → b.told ≡ a.told → ((w : RuleWorld) → IsOf a w → IsOf b w)
+    → ApplyDone (Err Memory) x reported a b
+lacking_done x reported a b few boards told kept =
     record {
       applied = tt;
       too_many = λ e. absurd (other Memory TooMany e (λ f. cc));
@@ -84,7 +84,7 @@ lacking_done x loud a b few boards told kept =
     }
 
 -- One that was begun is done as its events and boards say.
-module _ (x : Step) (loud : Bool) (a b : Deployment) (air : Air) (z : RuleWorld) (is : IsOf a z) (fits : StepInRange (length z.sites) x) (few : a.world.events < most_events)
+module _ (x : Step) (reported : Bool) (a b : Deployment) (air : Air) (z : RuleWorld) (is : IsOf a z) (fits : StepInRange (length z.sites) x) (few : a.world.events < most_events)
     (carries : (sent : List Sent) → Carries a.world.shared.air sent → Carries air sent)
     (stepped : (golden : Row) (y v : RuleWorld) (reports : List Report) → WorldConsistent golden y → StepInRange (length y.sites) x → WorldStep y x v reports → WorldConsistent golden v)
     (stopped : (golden : Row) (y : RuleWorld) → WorldConsistent golden y → EventInRange (length y.sites) x.event → StopsConsistent golden y x.event) where
@@ -101,7 +101,7 @@ module _ (x : Step) (loud : Bool) (a b : Deployment) (air : Air) (z : RuleWorld)
   not_full : (w : RuleWorld) → IsOf a w → w.events ≡ most_events → ⊥
   not_full w at full = omega (arith, few, at.events, full)
 
-  was_applied : ApplyMade (Ok tt) x loud Roomy b → ApplyDone (Ok tt) x loud a b
+  was_applied : ApplyMade (Ok tt) x reported Roomy b → ApplyDone (Ok tt) x reported a b
   was_applied m =
       record {
         applied = λ w at. given w (m.ends w (roomy w at) (fits_in w at));
@@ -117,17 +117,17 @@ module _ (x : Step) (loud : Bool) (a b : Deployment) (air : Air) (z : RuleWorld)
         inject_reads = λ w k old new at. m.inject_reads w k old new (roomy w at);
         unseen = λ w at unseen. ((m.unseen w (roomy w at) (fits_in w at) unseen).0, λ board e. no_fault (Flash board) e);
         consistent = λ golden here.
-            applied_consistent golden a b z x loud is fits here (stepped golden) (given here.world (m.ends here.world (roomy here.world here.stands) (fits_in here.world here.stands)));
+            applied_consistent golden a b z x reported is fits here (stepped golden) (given here.world (m.ends here.world (roomy here.world here.stands) (fits_in here.world here.stands)));
         stops_consistent = λ golden board e. absurd (no_fault (Flash board) e);
       }
     where
       no_fault : (f : WorldFault) → ◌≡◌ {A = Result (Unit {0}) WorldFault} (Ok tt) (Err f) → ⊥
       no_fault f e = cc
 
-      given : (w : RuleWorld) → Applied w x loud Roomy b → Applied w x loud a b
+      given : (w : RuleWorld) → Applied w x reported Roomy b → Applied w x reported a b
       given w y = record { world = y.world; reports = y.reports; step = y.step; stood = y.stood; told_now = y.told_now; boards = y.boards; calm = y.calm; memory = y.memory }
 
-  was_stopped : (n : ℕ) → ApplyMade (Err (Flash n)) x loud Roomy b → ApplyDone (Err (Flash n)) x loud a b
+  was_stopped : (n : ℕ) → ApplyMade (Err (Flash n)) x reported Roomy b → ApplyDone (Err (Flash n)) x reported a b
   was_stopped n m =
       record {
         applied = tt;
@@ -149,7 +149,7 @@ module _ (x : Step) (loud : Bool) (a b : Deployment) (air : Air) (z : RuleWorld)
       flash_at : (board : ℕ) → ◌≡◌ {A = Result (Unit {0}) WorldFault} (Err (Flash n)) (Err (Flash board)) → (w : RuleWorld) → IsOf a w → FlashAt w x board a.boards b.boards
       flash_at board e w at = let same : n ≡ board = cc in subst (λ (k : ℕ). FlashAt w x k a.boards b.boards) same (m.ends w (roomy w at) (fits_in w at)).0
 
-  had_no_image : ApplyMade (Err NoImage) x loud Roomy b → ApplyDone (Err NoImage) x loud a b
+  had_no_image : ApplyMade (Err NoImage) x reported Roomy b → ApplyDone (Err NoImage) x reported a b
   had_no_image m =
       record {
         applied = tt;
@@ -168,7 +168,7 @@ module _ (x : Step) (loud : Bool) (a b : Deployment) (air : Air) (z : RuleWorld)
         stops_consistent = λ golden board e. absurd (other NoImage (Flash board) e (λ f. cc));
       }
 
-  pub made_done : (r : Result (Unit {0}) WorldFault) → ApplyMade r x loud Roomy b → ApplyDone r x loud a b
+  pub made_done : (r : Result (Unit {0}) WorldFault) → ApplyMade r x reported Roomy b → ApplyDone r x reported a b
   made_done (Ok u) m = was_applied m
   made_done (Err (Flash n)) m = was_stopped n m
   made_done (Err NoImage) m = had_no_image m

@@ -94,10 +94,10 @@ none_sent w m (Some frame) e = absurd cc
 
 -- ---- what ended the event
 
-pub refused_done : (w : RuleWorld) (x : Step) (loud : Bool) (v u : Option RunningMote) (frame : Option (List ℕ)) (why : Cause) (a b : Device) (start end : List Report) → mote_of x.event < length w.sites
-    → SiteStands a v (site w (mote_of x.event)) → does w x.event ≡ Refuses why → b.image ≡ a.image → u ≡ v → frame ≡ turn_frame (Refused why) → end ≡ start ++ filter (is_told loud) (turn_lines (mote_of x.event) (Refused why))
-    → StepDone w x loud frame start (station b u end)
-refused_done w x loud v u frame why a b start end known stands is same at none told =
+pub refused_done : (w : RuleWorld) (x : Step) (reported : Bool) (v u : Option RunningMote) (frame : Option (List ℕ)) (why : Cause) (a b : Device) (start end : List Report) → mote_of x.event < length w.sites
+    → SiteStands a v (site w (mote_of x.event)) → does w x.event ≡ Refuses why → b.image ≡ a.image → u ≡ v → frame ≡ turn_frame (Refused why) → end ≡ start ++ filter (is_told reported) (turn_lines (mote_of x.event) (Refused why))
+    → StepDone w x reported frame start (station b u end)
+refused_done w x reported v u frame why a b start end known stands is same at none told =
     let here = site w (mote_of x.event) in
     let P : List ℕ → Option RunningMote → Type 0 = λ c o. MoteStands c o here.store here.runs in
     record {
@@ -118,9 +118,9 @@ refused_done w x loud v u frame why a b start end known stands is same at none t
       memory = λ d r goes whole some. absurd (refuses_goes why d (sym is ∙ goes));
     }
 
-pub whole_done : (w : RuleWorld) (x : Step) (loud : Bool) (u : Option RunningMote) (frame : Option (List ℕ)) (turn : EventTurn) (b : Device) (start end : List Report)
-    → EventIsWhole w (mote_of x.event) (does w x.event) x.cut u b.image turn → frame ≡ turn_frame turn → end ≡ start ++ filter (is_told loud) (turn_lines (mote_of x.event) turn) → StepDone w x loud frame start (station b u end)
-whole_done w x loud u frame turn b start end is sends told =
+pub whole_done : (w : RuleWorld) (x : Step) (reported : Bool) (u : Option RunningMote) (frame : Option (List ℕ)) (turn : EventTurn) (b : Device) (start end : List Report)
+    → EventIsWhole w (mote_of x.event) (does w x.event) x.cut u b.image turn → frame ≡ turn_frame turn → end ≡ start ++ filter (is_told reported) (turn_lines (mote_of x.event) turn) → StepDone w x reported frame start (station b u end)
+whole_done w x reported u frame turn b start end is sends told =
     let m = mote_of x.event in
     let d = is.deed in
     let here : Site = record { store = last d.trail; runs = is.tells.runs } in
@@ -130,7 +130,7 @@ whole_done w x loud u frame turn b start end is sends told =
       world = done_world w m (dt_of x.event) d is.tells.runs;
       reports = done_reports w m d;
       step = world_step w x d false _ _ is.goes is.whole (is.tells.runs, is.tells.runs_then, refl, refl);
-      told_now = told ∙ ap (λ (l : List Report). start ++ filter (is_told loud) l) is.tells.lines;
+      told_now = told ∙ ap (λ (l : List Report). start ++ filter (is_told reported) l) is.tells.lines;
       here = here;
       moment = same.moment;
       events = same.events;
@@ -146,9 +146,9 @@ whole_done w x loud u frame turn b start end is sends told =
           subst P (ap (λ (y : Deed). y.started) (same_deed d e (sym is.goes ∙ goes)) ∙ some) is.tells.memory;
     }
 
-pub cut_done : (w : RuleWorld) (x : Step) (loud : Bool) (before : Option Shown) (b c : Device) (start mid end : List Report) → (is : EventIsCut w (mote_of x.event) (does w x.event) x.cut b.image before)
-    → CutChangesAre (mote_of x.event) before is.leaves.store start mid → end ≡ mid ++ Off (mote_of x.event) ∷ [] → c.image ≡ b.image → StepDone w x loud None start (station c None end)
-cut_done w x loud before b c start mid end is lines off same =
+pub cut_done : (w : RuleWorld) (x : Step) (reported : Bool) (before : Option Shown) (b c : Device) (start mid end : List Report) → (is : EventIsCut w (mote_of x.event) (does w x.event) x.cut b.image before)
+    → CutChangesAre (mote_of x.event) before is.leaves.store start mid → end ≡ mid ++ Off (mote_of x.event) ∷ [] → c.image ≡ b.image → StepDone w x reported None start (station c None end)
+cut_done w x reported before b c start mid end is lines off same =
     let m = mote_of x.event in
     let d = is.deed in
     let s = is.leaves.store in
@@ -157,7 +157,7 @@ cut_done w x loud before b c start mid end is lines off same =
       world = cut_world w m (dt_of x.event) d s;
       reports = changes m (store_at w m) s ++ Off m ∷ [];
       step = world_step w x d true _ _ is.goes is.blown (record { store = s; allowed = is.leaves.allowed; world = refl; report = refl });
-      told_now = off ∙ ap (λ (l : List Report). l ++ Off m ∷ []) lines.told_now ∙ append_assoc start lines.lines (Off m ∷ []) ∙ ap (λ (l : List Report). start ++ (l ++ Off m ∷ [])) told ∙ ap (λ (l : List Report). start ++ l) (sym (cut_told loud m (store_at w m) s));
+      told_now = off ∙ ap (λ (l : List Report). l ++ Off m ∷ []) lines.told_now ∙ append_assoc start lines.lines (Off m ∷ []) ∙ ap (λ (l : List Report). start ++ (l ++ Off m ∷ [])) told ∙ ap (λ (l : List Report). start ++ l) (sym (cut_told reported m (store_at w m) s));
       here = record { store = s; runs = None };
       moment = refl;
       events = refl;
@@ -173,15 +173,15 @@ cut_done w x loud before b c start mid end is lines off same =
 
 -- ---- what the step ends with
 
-pub step_turn : (w : RuleWorld) (x : Step) (loud : Bool) (v u : Option RunningMote) (frame : Option (List ℕ)) (turn : EventTurn) (a b : Device) (start end : List Report) → mote_of x.event < length w.sites → SiteStands a v (site w (mote_of x.event))
-    → EventPlayed (Ok (Whole turn)) w (mote_of x.event) (does w x.event) x.cut (host a v) (host b u) → frame ≡ turn_frame turn → end ≡ start ++ filter (is_told loud) (turn_lines (mote_of x.event) turn)
-    → Stepped (Ok frame) w x loud (station a v start) (station b u end)
-step_turn w x loud v u frame (Refused why) a b start end known stands p sends told =
-    record { ends = refused_done w x loud v u frame why a b start end known stands p.ends.0 p.ends.1 p.ends.2 sends told; endures = p.endures; count = p.count }
-step_turn w x loud v u frame Rests a b start end known stands p sends told = record { ends = whole_done w x loud u frame Rests b start end p.ends sends told; endures = p.endures; count = p.count }
-step_turn w x loud v u frame (Sends f) a b start end known stands p sends told = record { ends = whole_done w x loud u frame (Sends f) b start end p.ends sends told; endures = p.endures; count = p.count }
-step_turn w x loud v u frame (Changes k l) a b start end known stands p sends told = record { ends = whole_done w x loud u frame (Changes k l) b start end p.ends sends told; endures = p.endures; count = p.count }
-step_turn w x loud v u frame (Starts k) a b start end known stands p sends told = record { ends = whole_done w x loud u frame (Starts k) b start end p.ends sends told; endures = p.endures; count = p.count }
+pub step_turn : (w : RuleWorld) (x : Step) (reported : Bool) (v u : Option RunningMote) (frame : Option (List ℕ)) (turn : EventTurn) (a b : Device) (start end : List Report) → mote_of x.event < length w.sites → SiteStands a v (site w (mote_of x.event))
+    → EventPlayed (Ok (Whole turn)) w (mote_of x.event) (does w x.event) x.cut (host a v) (host b u) → frame ≡ turn_frame turn → end ≡ start ++ filter (is_told reported) (turn_lines (mote_of x.event) turn)
+    → Stepped (Ok frame) w x reported (station a v start) (station b u end)
+step_turn w x reported v u frame (Refused why) a b start end known stands p sends told =
+    record { ends = refused_done w x reported v u frame why a b start end known stands p.ends.0 p.ends.1 p.ends.2 sends told; endures = p.endures; count = p.count }
+step_turn w x reported v u frame Rests a b start end known stands p sends told = record { ends = whole_done w x reported u frame Rests b start end p.ends sends told; endures = p.endures; count = p.count }
+step_turn w x reported v u frame (Sends f) a b start end known stands p sends told = record { ends = whole_done w x reported u frame (Sends f) b start end p.ends sends told; endures = p.endures; count = p.count }
+step_turn w x reported v u frame (Changes k l) a b start end known stands p sends told = record { ends = whole_done w x reported u frame (Changes k l) b start end p.ends sends told; endures = p.endures; count = p.count }
+step_turn w x reported v u frame (Starts k) a b start end known stands p sends told = record { ends = whole_done w x reported u frame (Starts k) b start end p.ends sends told; endures = p.endures; count = p.count }
 
 -- the operations before a cut that blows are some of the event's
 blown_within : (cut : Option PowerCut) (t : Trail Store) → blows cut t ≡ true → before_cut cut ≤ operations t
@@ -198,19 +198,19 @@ cut_itself : (cut : Option PowerCut) → IfSome cut (λ c. before_cut cut ≤ c.
 cut_itself None = tt
 cut_itself (Some c) = omega arith
 
-pub step_cut : {T : Type 0} (w : RuleWorld) (x : Step) (loud : Bool) (v u : Option RunningMote) (before : Option Shown) (q : Result T Fault) (y : T) (a b c : Device) (start mid end : List Report) → (p : EventPlayed (Ok (Cut before)) w (mote_of x.event) (does w x.event) x.cut (host a v) (host b u))
-    → q ≡ Ok y → ReadAndTold q (mote_of x.event) before p.ends.leaves.store b c start mid → end ≡ mid ++ Off (mote_of x.event) ∷ [] → Stepped (Ok None) w x loud (station a v start) (station c None end)
-step_cut {T} w x loud v u before q y a b c start mid end p is told off =
+pub step_cut : {T : Type 0} (w : RuleWorld) (x : Step) (reported : Bool) (v u : Option RunningMote) (before : Option Shown) (q : Result T Fault) (y : T) (a b c : Device) (start mid end : List Report) → (p : EventPlayed (Ok (Cut before)) w (mote_of x.event) (does w x.event) x.cut (host a v) (host b u))
+    → q ≡ Ok y → ReadAndTold q (mote_of x.event) before p.ends.leaves.store b c start mid → end ≡ mid ++ Off (mote_of x.event) ∷ [] → Stepped (Ok None) w x reported (station a v start) (station c None end)
+step_cut {T} w x reported v u before q y a b c start mid end p is told off =
     let l : ReadAndTold (Ok y) (mote_of x.event) before p.ends.leaves.store b c start mid = subst (λ (z : Result T Fault). ReadAndTold z (mote_of x.event) before p.ends.leaves.store b c start mid) is told in
     record {
-      ends = cut_done w x loud before b c start mid end p.ends l.0 off l.1.0.same_image;
+      ends = cut_done w x reported before b c start mid end p.ends l.0 off l.1.0.same_image;
       endures = Endures_then (beneath_of a) (beneath_of b) (beneath_of c) p.endures l.1.0.endures;
       count = l.1.1 ∙ p.count;
     }
 
-cut_halts : (T : Type 0) (f : Fault) (w : RuleWorld) (x : Step) (loud : Bool) (v u o : Option RunningMote) (before k : Option Shown) (a b c : Device) (start end : List Report) → (p : EventPlayed (Ok (Cut before)) w (mote_of x.event) (does w x.event) x.cut (host a v) (host b u))
-    → ReadAndTold {T = T} (Err f) (mote_of x.event) before p.ends.leaves.store b c start end → Stepped (Err (halt_of f k)) w x loud (station a v start) (station c o end)
-cut_halts T fault.Stopped w x loud v u o before k a b c start end p lines = record {
+cut_halts : (T : Type 0) (f : Fault) (w : RuleWorld) (x : Step) (reported : Bool) (v u o : Option RunningMote) (before k : Option Shown) (a b c : Device) (start end : List Report) → (p : EventPlayed (Ok (Cut before)) w (mote_of x.event) (does w x.event) x.cut (host a v) (host b u))
+    → ReadAndTold {T = T} (Err f) (mote_of x.event) before p.ends.leaves.store b c start end → Stepped (Err (halt_of f k)) w x reported (station a v start) (station c o end)
+cut_halts T fault.Stopped w x reported v u o before k a b c start end p lines = record {
   ends = (
     record {
       stopped = lines.1.0;
@@ -225,27 +225,27 @@ cut_halts T fault.Stopped w x loud v u o before k a b c start end p lines = reco
   endures = Endures_then (beneath_of a) (beneath_of b) (beneath_of c) p.endures lines.1.1.endures;
   count = tt;
 }
-cut_halts T fault.NotAVolume w x loud v u o before k a b c start end p lines = absurd lines.0
-cut_halts T fault.NoImage w x loud v u o before k a b c start end p lines = absurd lines.0
+cut_halts T fault.NotAVolume w x reported v u o before k a b c start end p lines = absurd lines.0
+cut_halts T fault.NoImage w x reported v u o before k a b c start end p lines = absurd lines.0
 
-pub step_cut_halts : {T : Type 0} (r : Result (Unit {0}) Fault) (q : Result T Fault) (t : Telling) (f : Fault) (w : RuleWorld) (x : Step) (loud : Bool) (v u o : Option RunningMote) (before : Option Shown) (a b c : Device) (start end : List Report) → IsErrAnd r (λ e. e ≡ f) → q ≡ Err f
-    → (p : EventPlayed (Ok (Cut before)) w (mote_of x.event) (does w x.event) x.cut (host a v) (host b u)) → ReadAndTold q (mote_of x.event) before p.ends.leaves.store b c start end → Stepped (stepped r t) w x loud (station a v start) (station c o end)
-step_cut_halts {T} (Ok y) q t f w x loud v u o before a b c start end is e p lines = absurd is
-step_cut_halts {T} (Err y) q t f w x loud v u o before a b c start end is e p lines =
-    let P : Fault → Type 0 = λ z. Stepped (Err (halt_of z t.before)) w x loud (station a v start) (station c o end) in
-    subst P (sym is) (cut_halts T f w x loud v u o before t.before a b c start end p (subst (λ (z : Result T Fault). ReadAndTold z (mote_of x.event) before p.ends.leaves.store b c start end) e lines))
+pub step_cut_halts : {T : Type 0} (r : Result (Unit {0}) Fault) (q : Result T Fault) (t : Telling) (f : Fault) (w : RuleWorld) (x : Step) (reported : Bool) (v u o : Option RunningMote) (before : Option Shown) (a b c : Device) (start end : List Report) → IsErrAnd r (λ e. e ≡ f) → q ≡ Err f
+    → (p : EventPlayed (Ok (Cut before)) w (mote_of x.event) (does w x.event) x.cut (host a v) (host b u)) → ReadAndTold q (mote_of x.event) before p.ends.leaves.store b c start end → Stepped (stepped r t) w x reported (station a v start) (station c o end)
+step_cut_halts {T} (Ok y) q t f w x reported v u o before a b c start end is e p lines = absurd is
+step_cut_halts {T} (Err y) q t f w x reported v u o before a b c start end is e p lines =
+    let P : Fault → Type 0 = λ z. Stepped (Err (halt_of z t.before)) w x reported (station a v start) (station c o end) in
+    subst P (sym is) (cut_halts T f w x reported v u o before t.before a b c start end p (subst (λ (z : Result T Fault). ReadAndTold z (mote_of x.event) before p.ends.leaves.store b c start end) e lines))
 
-pub step_halts : (h : Halt) (w : RuleWorld) (x : Step) (loud : Bool) (v u : Option RunningMote) (a b : Device) (told : List Report) → EventPlayed (Err h) w (mote_of x.event) (does w x.event) x.cut (host a v) (host b u) → Stepped (Err h) w x loud (station a v told) (station b u told)
-step_halts (Stopped k) w x loud v u a b told p = record { ends = (p.ends, refl); endures = p.endures; count = tt }
-step_halts NotAVolume w x loud v u a b told p = absurd p.ends
-step_halts NoImage w x loud v u a b told p = record { ends = (p.ends, refl); endures = p.endures; count = p.count }
+pub step_halts : (h : Halt) (w : RuleWorld) (x : Step) (reported : Bool) (v u : Option RunningMote) (a b : Device) (told : List Report) → EventPlayed (Err h) w (mote_of x.event) (does w x.event) x.cut (host a v) (host b u) → Stepped (Err h) w x reported (station a v told) (station b u told)
+step_halts (Stopped k) w x reported v u a b told p = record { ends = (p.ends, refl); endures = p.endures; count = tt }
+step_halts NotAVolume w x reported v u a b told p = absurd p.ends
+step_halts NoImage w x reported v u a b told p = record { ends = (p.ends, refl); endures = p.endures; count = p.count }
 
-pub step_fails : (r : Result (Unit {0}) Fault) (f : Fault) (t : Telling) (w : RuleWorld) (x : Step) (loud : Bool) (v u : Option RunningMote) (a b : Device) (told : List Report) → IsErrAnd r (λ e. e ≡ f)
-    → EventPlayed (Err (halt_of f t.before)) w (mote_of x.event) (does w x.event) x.cut (host a v) (host b u) → Stepped (stepped r t) w x loud (station a v told) (station b u told)
-step_fails (Ok y) f t w x loud v u a b told is p = absurd is
-step_fails (Err e) f t w x loud v u a b told is p =
-    let P : Fault → Type 0 = λ z. Stepped (Err (halt_of z t.before)) w x loud (station a v told) (station b u told) in
-    subst P (sym is) (step_halts (halt_of f t.before) w x loud v u a b told p)
+pub step_fails : (r : Result (Unit {0}) Fault) (f : Fault) (t : Telling) (w : RuleWorld) (x : Step) (reported : Bool) (v u : Option RunningMote) (a b : Device) (told : List Report) → IsErrAnd r (λ e. e ≡ f)
+    → EventPlayed (Err (halt_of f t.before)) w (mote_of x.event) (does w x.event) x.cut (host a v) (host b u) → Stepped (stepped r t) w x reported (station a v told) (station b u told)
+step_fails (Ok y) f t w x reported v u a b told is p = absurd is
+step_fails (Err e) f t w x reported v u a b told is p =
+    let P : Fault → Type 0 = λ z. Stepped (Err (halt_of z t.before)) w x reported (station a v told) (station b u told) in
+    subst P (sym is) (step_halts (halt_of f t.before) w x reported v u a b told p)
 
 -- the mote of a step that fits is one of the world
 pub event_mote : (motes : ℕ) (event : Event) → EventInRange motes event → mote_of event < motes

@@ -19,7 +19,7 @@ use Rattle.dg_volume.specs.Stands.{Stands, IsVolume}
 use Rattle.dg_volume.specs.Told.{told}
 use Rattle.dg_rules.specs.World.{World as RuleWorld, Running, Site, site}
 use Rattle.dg_rules.specs.Changes.{mote_line, kept_line, site_lines}
-use Rattle.dg_base.specs.declared.events.Key.{Key}
+use Rattle.dg_base.specs.declared.events.ImageVersion.{ImageVersion}
 use Rattle.dg_script.specs.declared.report.Report.{Report}
 use Rattle.dg_script.specs.declared.report.Report.TheVariants.{MoteOn}
 use Rattle.dg_world.specs.Applied.{SameBoards, ReadFlash}
@@ -39,7 +39,7 @@ use Rattle.dg_world.proofs.ShownLemmas.{range_more, same_over}
 
 mote_is : (m : ℕ) (c : List ℕ) (v : Option RunningMote) (s : Store) (r : Option Running) → MoteStands c v s r → mote_shown m v ≡ mote_line m r
 mote_is m c None s None stands = refl
-mote_is m c (Some v) s (Some r) stands = ap (λ (k : Key). MoteOn m k.image k.version) stands.0
+mote_is m c (Some v) s (Some r) stands = ap (λ (k : ImageVersion). MoteOn m k.image k.version) stands.0
 mote_is m c None s (Some r) stands = absurd stands
 mote_is m c (Some v) s None stands = absurd stands
 

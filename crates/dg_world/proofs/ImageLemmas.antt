@@ -7,20 +7,20 @@ use Rattle.std.proofs.lemmas.Bool.Decides.{nat_tests}
 use Rattle.dg_object.specs.Object.{Row}
 use Rattle.dg_volume.specs.Table.{row_at, has_key}
 use Rattle.dg_rules.specs.Changes.{same_row, is_taken}
-use Rattle.dg_base.specs.declared.events.Key.{Key}
+use Rattle.dg_base.specs.declared.events.ImageVersion.{ImageVersion}
 use Rattle.dg_base.specs.contracts.events.KeyOrd.TheImpl.{cmp-value}
 use Rattle.dg_world.specs.Images.{found, is_key, row_of_image, Declares, NothingDeclared}
 use Rattle.dg_world.specs.declared.images.Image.{Image}
 use Rattle.dg_world.specs.declared.images.Images.{Images}
 
 -- the order of keys
-abbrev pub key_cmp : Key → Key → Ordering
+abbrev pub key_cmp : ImageVersion → ImageVersion → Ordering
 key_cmp = cmp-value.it
 
-same_test : (k q : Key) → is_at (key_cmp k) q ≡ is_key k q
+same_test : (k q : ImageVersion) → is_at (key_cmp k) q ≡ is_key k q
 same_test k q = grind (arith, nat_tests)
 
-same_found : (q : Key) (es : List (Key × Image)) → lookup (is_at (key_cmp q)) es ≡ lookup (is_key q) es
+same_found : (q : ImageVersion) (es : List (ImageVersion × Image)) → lookup (is_at (key_cmp q)) es ≡ lookup (is_key q) es
 same_found q [] = refl
 same_found q (e ∷ es) = ap (λ (b : Bool). cond b (Some e.1) (lookup (is_at (key_cmp q)) es)) (same_test q e.0) ∙ ap (λ (r : Option Image). cond (is_key q e.0) (Some e.1) r) (same_found q es)
 
@@ -45,11 +45,11 @@ behind_other None row = refl
 behind_other (Some kept) row = refl
 
 -- what is found under a key where an image was added whose key was not there
-put_at : (b : Bool) (key q : Key) (image : Image) (r : Option Image) (s : Option Row) → option_map (row_of_image q) r ≡ s → (b ≡ true → s ≡ None) → (b ≡ true → q ≡ key)
+put_at : (b : Bool) (key q : ImageVersion) (image : Image) (r : Option Image) (s : Option Row) → option_map (row_of_image q) r ≡ s → (b ≡ true → s ≡ None) → (b ≡ true → q ≡ key)
     → option_map (row_of_image q) (cond b (Some image) r) ≡ behind s b (row_of_image key image)
 unfolding behind
 put_at true key q image r s e none same =
-    ap (λ (k : Key). Some (row_of_image k image)) (same refl) ∙ sym (ap (λ (o : Option Row). behind o true (row_of_image key image)) (none refl))
+    ap (λ (k : ImageVersion). Some (row_of_image k image)) (same refl) ∙ sym (ap (λ (o : Option Row). behind o true (row_of_image key image)) (none refl))
 put_at false key q image r s e none same = e ∙ sym (behind_other s (row_of_image key image))
 
 and-left : (a b : Bool) → (a && b) ≡ true → a ≡ true
@@ -60,23 +60,23 @@ and-right : (a b : Bool) → (a && b) ≡ true → b ≡ true
 and-right true b e = e
 and-right false b e = cc
 
-same_key_is : (k : Key) (i v : ℕ) → is_key k (record { image = i; version = v }) ≡ true → record { image = i; version = v } ≡ k
+same_key_is : (k : ImageVersion) (i v : ℕ) → is_key k (record { image = i; version = v }) ≡ true → record { image = i; version = v } ≡ k
 same_key_is k i v is =
     let e : i ≡ k.image = sym (eqb-true k.image i (and-left (k.image == i) (k.version == v) is)) in
     let f : v ≡ k.version = sym (eqb-true k.version v (and-right (k.image == i) (k.version == v) is)) in
-    let P : ℕ → ℕ → Key = λ a b. record { image = a; version = b } in
+    let P : ℕ → ℕ → ImageVersion = λ a b. record { image = a; version = b } in
     ap (λ (a : ℕ). P a v) e ∙ ap (P k.image) f
 
 -- an image that is added is declared behind the others
-pub added : (old new : Images) (key : Key) (image : Image) (rows : List Row)
-    → ((q : Key) → get key_cmp new.by_key q ≡ cond (is_at (key_cmp key) q) (Some image) (get key_cmp old.by_key q))
+pub added : (old new : Images) (key : ImageVersion) (image : Image) (rows : List Row)
+    → ((q : ImageVersion) → get key_cmp new.by_key q ≡ cond (is_at (key_cmp key) q) (Some image) (get key_cmp old.by_key q))
     → found old key ≡ None → Declares old rows → Declares new (rows ++ row_of_image key image ∷ [])
 added old new key image rows put fresh declares =
-    let at : (q : Key) → found new q ≡ cond (is_key key q) (Some image) (found old q) =
+    let at : (q : ImageVersion) → found new q ≡ cond (is_key key q) (Some image) (found old q) =
     λ q. sym (same_found q new.by_key.entries) ∙ put q ∙ ap (λ (b : Bool). cond b (Some image) (get key_cmp old.by_key q)) (same_test key q)
     ∙ ap (λ (r : Option Image). cond (is_key key q) (Some image) r) (same_found q old.by_key.entries) in
     record {
-      each = λ i v. let q : Key = record { image = i; version = v } in
+      each = λ i v. let q : ImageVersion = record { image = i; version = v } in
           ap (option_map (row_of_image q)) (at q)
           ∙ put_at (is_key key q) key q image (found old q) (row_at rows i v) (declares.each i v)
           (λ is. sym (declares.each i v) ∙ ap (option_map (row_of_image q)) (ap (found old) (same_key_is key i v is) ∙ fresh))
@@ -84,26 +84,26 @@ added old new key image rows put fresh declares =
           ∙ sym (row_behind rows (row_of_image key image) i v);
     }
 
-same_entries : (old new : Images) → new.by_key.entries ≡ old.by_key.entries → (q : Key) → found new q ≡ found old q
+same_entries : (old new : Images) → new.by_key.entries ≡ old.by_key.entries → (q : ImageVersion) → found new q ≡ found old q
 same_entries old new same q = ap (lookup (is_key q)) same
 
 -- where nothing changed the same rows are declared
 pub still_declared : (old new : Images) (rows : List Row) → new.by_key.entries ≡ old.by_key.entries → Declares old rows → Declares new rows
-still_declared old new rows same declares = record { each = λ i v. let q : Key = record { image = i; version = v } in ap (option_map (row_of_image q)) (same_entries old new same q) ∙ declares.each i v }
+still_declared old new rows same declares = record { each = λ i v. let q : ImageVersion = record { image = i; version = v } in ap (option_map (row_of_image q)) (same_entries old new same q) ∙ declares.each i v }
 
 -- ---- what is found
 
-pub unknown_row : (images : Images) (rows : List Row) (key : Key) → Declares images rows → None ≡ found images key → row_at rows key.image key.version ≡ None
+pub unknown_row : (images : Images) (rows : List Row) (key : ImageVersion) → Declares images rows → None ≡ found images key → row_at rows key.image key.version ≡ None
 unknown_row images rows key declares none = sym (declares.each key.image key.version) ∙ ap (option_map (row_of_image key)) (sym none)
 
-pub known_row : (images : Images) (rows : List Row) (key : Key) (image : Image) → Declares images rows → Some image ≡ found images key → row_at rows key.image key.version ≡ Some (row_of_image key image)
+pub known_row : (images : Images) (rows : List Row) (key : ImageVersion) (image : Image) → Declares images rows → Some image ≡ found images key → row_at rows key.image key.version ≡ Some (row_of_image key image)
 known_row images rows key image declares here = sym (declares.each key.image key.version) ∙ ap (option_map (row_of_image key)) (sym here)
 
 -- images of which none is declared
 pub declares_none : (images : Images) → NothingDeclared images → Declares images []
-declares_none images none = record { each = λ i v. let q : Key = record { image = i; version = v } in ap (option_map (row_of_image q)) (none q) }
+declares_none images none = record { each = λ i v. let q : ImageVersion = record { image = i; version = v } in ap (option_map (row_of_image q)) (none q) }
 
 -- whether a row is taken where its key was declared
-pub taken_by : (images : Images) (rows : List Row) (key : Key) (kept : Image) (row : Row) → Declares images rows → Some kept ≡ found images key
+pub taken_by : (images : Images) (rows : List Row) (key : ImageVersion) (kept : Image) (row : Row) → Declares images rows → Some kept ≡ found images key
     → is_taken (row_at rows key.image key.version) row ≡ not (same_row (row_of_image key kept) row)
 taken_by images rows key kept row declares here = ap (λ o. is_taken o row) (known_row images rows key kept declares here)

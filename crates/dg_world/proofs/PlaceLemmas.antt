@@ -121,7 +121,7 @@ pub record KnownKeeps (v u : World) (i : ℕ) (b : Device) : Type 0 where
   pub others : (k : ℕ) → k ≢ i → known_of u k ≡ known_of v k
   pub here : known_of u i ≡ true → IsOrderlyChip b.image
 
-module _ (v u : World) (bs : List Device) (w : RuleWorld) (x : Step) (loud : Bool) (i : ℕ) (runs : Option RunningMote) (frame : Option (List ℕ)) (b : Device) (start end : List Report) (is : IsWorld v bs w) (at : i ≡ mote_of x.event) (known : i < length w.sites) (moves : Moves v u i (w.moment + dt_of x.event) runs frame) (keeps : KnownKeeps v u i b) (s : StepDone w x loud frame start (station b runs end)) where
+module _ (v u : World) (bs : List Device) (w : RuleWorld) (x : Step) (reported : Bool) (i : ℕ) (runs : Option RunningMote) (frame : Option (List ℕ)) (b : Device) (start end : List Report) (is : IsWorld v bs w) (at : i ≡ mote_of x.event) (known : i < length w.sites) (moves : Moves v u i (w.moment + dt_of x.event) runs frame) (keeps : KnownKeeps v u i b) (s : StepDone w x reported frame start (station b runs end)) where
   sites_are : s.world.sites ≡ set w.sites i s.here
   sites_are = s.sites ∙ ap (λ (j : ℕ). set w.sites j s.here) (sym at)
 
@@ -184,7 +184,7 @@ module _ (v u : World) (bs : List Device) (w : RuleWorld) (x : Step) (loud : Boo
     orderly = orderly_then;
   }
 
-  pub applied : (a : Device) → v.events < most_events → dt_of x.event < 2 ^ 32 → WorldTimely s.world → slice_get bs i ≡ Some a → Endures (beneath_of a) (beneath_of b) → b.faults ≡ a.faults → Applied w x loud (deployed v bs start) (deployed u (set bs i b) end)
+  pub applied : (a : Device) → v.events < most_events → dt_of x.event < 2 ^ 32 → WorldTimely s.world → slice_get bs i ≡ Some a → Endures (beneath_of a) (beneath_of b) → b.faults ≡ a.faults → Applied w x reported (deployed v bs start) (deployed u (set bs i b) end)
   applied a few short timely here endures stays =
       let wide : i < length bs = omega (arith, known, is.boards_enough) in
       record {
@@ -272,22 +272,22 @@ runs_at v bs w i now a runs is known here read later =
     may_run a.image runs (site w i).store (site w i).runs w.moment now (omega (arith, later, is.moment)) s.mote (is.timely i known)
 
 -- what a step answers that was begun
-abbrev pub ApplyEnds : Result (Unit {0}) WorldFault → RuleWorld → Step → (loud : Bool) → (a b : Deployment) → Type 0
-ApplyEnds (Ok u) w x loud a b = Applied w x loud a b
-ApplyEnds (Err (world_fault.Flash board)) w x loud a b = FlashAt w x board a.boards b.boards × (b.told ≡ a.told)
-ApplyEnds (Err world_fault.NoImage) w x loud a b = RunEnded w x a.boards b.boards × (b.told ≡ a.told)
-ApplyEnds (Err world_fault.NotAVolume) w x loud a b = ⊥
-ApplyEnds (Err world_fault.Memory) w x loud a b = ⊥
-ApplyEnds (Err world_fault.TooMany) w x loud a b = ⊥
+abbrev pub ApplyEnds : Result (Unit {0}) WorldFault → RuleWorld → Step → (reported : Bool) → (a b : Deployment) → Type 0
+ApplyEnds (Ok u) w x reported a b = Applied w x reported a b
+ApplyEnds (Err (world_fault.Flash board)) w x reported a b = FlashAt w x board a.boards b.boards × (b.told ≡ a.told)
+ApplyEnds (Err world_fault.NoImage) w x reported a b = RunEnded w x a.boards b.boards × (b.told ≡ a.told)
+ApplyEnds (Err world_fault.NotAVolume) w x reported a b = ⊥
+ApplyEnds (Err world_fault.Memory) w x reported a b = ⊥
+ApplyEnds (Err world_fault.TooMany) w x reported a b = ⊥
 
-pub halts_at : (h : Halt) (f : WorldFault) (v u : World) (bs : List Device) (w : RuleWorld) (x : Step) (loud : Bool) (was runs : Option RunningMote) (i mote : ℕ) (a b : Device) (start end : List Report) → f ≡ fault_of h mote → i ≡ mote → IsWorld v bs w → i ≡ mote_of x.event → i < length w.sites
-    → slice_get bs i ≡ Some a → Stepped (Err h) w x loud (station a was start) (station b runs end) → ApplyEnds (Err f) w x loud (deployed v bs start) (deployed u (set bs i b) end)
-halts_at (Stopped k) f v u bs w x loud was runs i mote a b start end is_fault same is at known here s =
-    let P : WorldFault → Type 0 = λ y. ApplyEnds (Err y) w x loud (deployed v bs start) (deployed u (set bs i b) end) in
+pub halts_at : (h : Halt) (f : WorldFault) (v u : World) (bs : List Device) (w : RuleWorld) (x : Step) (reported : Bool) (was runs : Option RunningMote) (i mote : ℕ) (a b : Device) (start end : List Report) → f ≡ fault_of h mote → i ≡ mote → IsWorld v bs w → i ≡ mote_of x.event → i < length w.sites
+    → slice_get bs i ≡ Some a → Stepped (Err h) w x reported (station a was start) (station b runs end) → ApplyEnds (Err f) w x reported (deployed v bs start) (deployed u (set bs i b) end)
+halts_at (Stopped k) f v u bs w x reported was runs i mote a b start end is_fault same is at known here s =
+    let P : WorldFault → Type 0 = λ y. ApplyEnds (Err y) w x reported (deployed v bs start) (deployed u (set bs i b) end) in
     subst P (sym is_fault) (subst (λ (j : ℕ). FlashAt w x j bs (set bs i b)) same (flashed v bs w x i a b is at known here s.endures s.ends.0), s.ends.1)
-halts_at NotAVolume f v u bs w x loud was runs i mote a b start end is_fault same is at known here s = absurd s.ends
-halts_at NoImage f v u bs w x loud was runs i mote a b start end is_fault same is at known here s =
-    let P : WorldFault → Type 0 = λ y. ApplyEnds (Err y) w x loud (deployed v bs start) (deployed u (set bs i b) end) in
+halts_at NotAVolume f v u bs w x reported was runs i mote a b start end is_fault same is at known here s = absurd s.ends
+halts_at NoImage f v u bs w x reported was runs i mote a b start end is_fault same is at known here s =
+    let P : WorldFault → Type 0 = λ y. ApplyEnds (Err y) w x reported (deployed v bs start) (deployed u (set bs i b) end) in
     subst P (sym is_fault) (lacked v bs w x i a b is at known here s.endures s.count s.ends.0, s.ends.1)
 
 -- a step that fits one world that the code stands for fits every one
@@ -295,16 +295,16 @@ pub fits_each : (v : World) (bs : List Device) (w u : RuleWorld) (x : Step) → 
 fits_each v bs w u x is other fits = subst (λ (n : ℕ). StepInRange n x) (is.motes ∙ sym other.motes) fits
 
 -- the same over boards that are given by an equation
-pub applied_at : (v u : World) (bs cs : List Device) (w : RuleWorld) (x : Step) (loud : Bool) (i : ℕ) (was runs : Option RunningMote) (frame : Option (List ℕ)) (a b : Device) (start end : List Report) → cs ≡ set bs i b → IsWorld v bs w → i ≡ mote_of x.event → i < length w.sites → v.events < most_events → dt_of x.event < 2 ^ 32
-    → Moves v u i (w.moment + dt_of x.event) runs frame → KnownKeeps v u i b → slice_get bs i ≡ Some a → (s : Stepped (Ok frame) w x loud (station a was start) (station b runs end)) → ((z : RuleWorld) (reports : List Report) → WorldStep w x z reports → WorldTimely z) → Applied w x loud (deployed v bs start) (deployed u cs end)
-applied_at v u bs cs w x loud i was runs frame a b start end e is at known few short moves keeps here s timely =
-    subst (λ (ds : List Device). Applied w x loud (deployed v bs start) (deployed u ds end)) (sym e)
-    (applied v u bs w x loud i runs frame b start end is at known moves keeps s.ends a few short (timely s.ends.world s.ends.reports s.ends.step) here s.endures s.count)
+pub applied_at : (v u : World) (bs cs : List Device) (w : RuleWorld) (x : Step) (reported : Bool) (i : ℕ) (was runs : Option RunningMote) (frame : Option (List ℕ)) (a b : Device) (start end : List Report) → cs ≡ set bs i b → IsWorld v bs w → i ≡ mote_of x.event → i < length w.sites → v.events < most_events → dt_of x.event < 2 ^ 32
+    → Moves v u i (w.moment + dt_of x.event) runs frame → KnownKeeps v u i b → slice_get bs i ≡ Some a → (s : Stepped (Ok frame) w x reported (station a was start) (station b runs end)) → ((z : RuleWorld) (reports : List Report) → WorldStep w x z reports → WorldTimely z) → Applied w x reported (deployed v bs start) (deployed u cs end)
+applied_at v u bs cs w x reported i was runs frame a b start end e is at known few short moves keeps here s timely =
+    subst (λ (ds : List Device). Applied w x reported (deployed v bs start) (deployed u ds end)) (sym e)
+    (applied v u bs w x reported i runs frame b start end is at known moves keeps s.ends a few short (timely s.ends.world s.ends.reports s.ends.step) here s.endures s.count)
 
-pub halts_there : (h : Halt) (f : WorldFault) (v u : World) (bs cs : List Device) (w : RuleWorld) (x : Step) (loud : Bool) (was runs : Option RunningMote) (i mote : ℕ) (a b : Device) (start end : List Report) → cs ≡ set bs i b → f ≡ fault_of h mote → i ≡ mote → IsWorld v bs w → i ≡ mote_of x.event → i < length w.sites
-    → slice_get bs i ≡ Some a → Stepped (Err h) w x loud (station a was start) (station b runs end) → ApplyEnds (Err f) w x loud (deployed v bs start) (deployed u cs end)
-halts_there h f v u bs cs w x loud was runs i mote a b start end e is_fault same is at known here s =
-    subst (λ (ds : List Device). ApplyEnds (Err f) w x loud (deployed v bs start) (deployed u ds end)) (sym e) (halts_at h f v u bs w x loud was runs i mote a b start end is_fault same is at known here s)
+pub halts_there : (h : Halt) (f : WorldFault) (v u : World) (bs cs : List Device) (w : RuleWorld) (x : Step) (reported : Bool) (was runs : Option RunningMote) (i mote : ℕ) (a b : Device) (start end : List Report) → cs ≡ set bs i b → f ≡ fault_of h mote → i ≡ mote → IsWorld v bs w → i ≡ mote_of x.event → i < length w.sites
+    → slice_get bs i ≡ Some a → Stepped (Err h) w x reported (station a was start) (station b runs end) → ApplyEnds (Err f) w x reported (deployed v bs start) (deployed u cs end)
+halts_there h f v u bs cs w x reported was runs i mote a b start end e is_fault same is at known here s =
+    subst (λ (ds : List Device). ApplyEnds (Err f) w x reported (deployed v bs start) (deployed u ds end)) (sym e) (halts_at h f v u bs w x reported was runs i mote a b start end is_fault same is at known here s)
 
 pub sent_at : (m i : ℕ) (frame : Option (List ℕ)) (before : List Sent) (air : Air) → i ≡ m → Carries air (before ++ sent_now m frame) → Carries air (before ++ sent_now i frame)
 sent_at m i frame before air same carries = subst (λ (j : ℕ). Carries air (before ++ sent_now j frame)) (sym same) carries

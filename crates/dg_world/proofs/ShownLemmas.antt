@@ -100,75 +100,75 @@ told_then {A} start mid end a b c e f g = f ∙ ap (λ (l : List A). l ++ b) e �
 
 -- ---- lines that are told
 
-loud_told : (r : Report) → is_told true r ≡ true
-loud_told (OrderLine m n i v) = refl
-loud_told (Lost m i) = refl
-loud_told (Have m i v n) = refl
-loud_told (Start m i v n c) = refl
-loud_told (Off m) = refl
-loud_told (SentAdvert m) = refl
-loud_told (SentRequest m to i v p n) = refl
-loud_told (SentData m i v p n) = refl
-loud_told (Refused m why) = refl
-loud_told (Taken i v) = refl
-loud_told (End n) = refl
-loud_told (MoteOn m i v) = refl
-loud_told (MoteOff m) = refl
-loud_told (KeptLine m i v n) = refl
+reported_told : (r : Report) → is_told true r ≡ true
+reported_told (OrderLine m n i v) = refl
+reported_told (Lost m i) = refl
+reported_told (Have m i v n) = refl
+reported_told (Start m i v n c) = refl
+reported_told (Off m) = refl
+reported_told (SentAdvert m) = refl
+reported_told (SentRequest m to i v p n) = refl
+reported_told (SentData m i v p n) = refl
+reported_told (Refused m why) = refl
+reported_told (Taken i v) = refl
+reported_told (End n) = refl
+reported_told (MoteOn m i v) = refl
+reported_told (MoteOff m) = refl
+reported_told (KeptLine m i v n) = refl
 
 -- where `sent` lines are wanted every line is told
-pub all_loud : (xs : List Report) → filter (is_told true) xs ≡ xs
-all_loud [] = refl
-all_loud (x ∷ xs) = ap (λ (b : Bool). cond b (x ∷ filter (is_told true) xs) (filter (is_told true) xs)) (loud_told x) ∙ ap (λ (l : List Report). x ∷ l) (all_loud xs)
+pub all_reported : (xs : List Report) → filter (is_told true) xs ≡ xs
+all_reported [] = refl
+all_reported (x ∷ xs) = ap (λ (b : Bool). cond b (x ∷ filter (is_told true) xs) (filter (is_told true) xs)) (reported_told x) ∙ ap (λ (l : List Report). x ∷ l) (all_reported xs)
 
 -- a line that is told whether or not `sent` lines are
 abbrev Always : Option Report → Type 0
 Always None = Unit {0}
-Always (Some r) = (loud : Bool) → is_told loud r ≡ true
+Always (Some r) = (reported : Bool) → is_told reported r ≡ true
 
-cons_told : (loud : Bool) (o : Option Report) (xs : List Report) → Always o → filter (is_told loud) xs ≡ xs → filter (is_told loud) (cons_option o xs) ≡ cons_option o xs
-cons_told loud None xs always e = e
-cons_told loud (Some r) xs always e = ap (λ (b : Bool). cond b (r ∷ filter (is_told loud) xs) (filter (is_told loud) xs)) (always loud) ∙ ap (λ (l : List Report). r ∷ l) e
+cons_told : (reported : Bool) (o : Option Report) (xs : List Report) → Always o → filter (is_told reported) xs ≡ xs → filter (is_told reported) (cons_option o xs) ≡ cons_option o xs
+cons_told reported None xs always e = e
+cons_told reported (Some r) xs always e = ap (λ (b : Bool). cond b (r ∷ filter (is_told reported) xs) (filter (is_told reported) xs)) (always reported) ∙ ap (λ (l : List Report). r ∷ l) e
 
-over_told : (loud : Bool) (f : ℕ → Option Report) (k n : ℕ) → ((i : ℕ) → Always (f i)) → filter (is_told loud) (filter_map f (range_with_len k n)) ≡ filter_map f (range_with_len k n)
-over_told loud f k zero always = refl
-over_told loud f k (suc n) always = cons_told loud (f k) (filter_map f (range_with_len (k + 1) n)) (always k) (over_told loud f (k + 1) n always)
+over_told : (reported : Bool) (f : ℕ → Option Report) (k n : ℕ) → ((i : ℕ) → Always (f i)) → filter (is_told reported) (filter_map f (range_with_len k n)) ≡ filter_map f (range_with_len k n)
+over_told reported f k zero always = refl
+over_told reported f k (suc n) always = cons_told reported (f k) (filter_map f (range_with_len (k + 1) n)) (always k) (over_told reported f (k + 1) n always)
 
-order_told : (loud : Bool) (m : ℕ) (a b : Order) → filter (is_told loud) (order_change m a b) ≡ order_change m a b
-order_told loud m a b = either (same_order a b)
+order_told : (reported : Bool) (m : ℕ) (a b : Order) → filter (is_told reported) (order_change m a b) ≡ order_change m a b
+order_told reported m a b = either (same_order a b)
   where
-    either : (c : Bool) → filter (is_told loud) (if c then [] else (OrderLine m b.number b.image b.version ∷ [])) ≡ (if c then [] else (OrderLine m b.number b.image b.version ∷ []))
+    either : (c : Bool) → filter (is_told reported) (if c then [] else (OrderLine m b.number b.image b.version ∷ [])) ≡ (if c then [] else (OrderLine m b.number b.image b.version ∷ []))
     either true = refl
     either false = refl
 
 unless_always : (c : Bool) (m i v n : ℕ) → Always (if c then None else Some (Have m i v n))
 unless_always true m i v n = tt
-unless_always false m i v n = λ loud. refl
+unless_always false m i v n = λ reported. refl
 
 have_always : (m i : ℕ) (a b : Option Kept) → Always (have_shown m i a b)
 have_always m i None None = tt
-have_always m i (Some a) None = λ loud. refl
-have_always m i None (Some b) = λ loud. refl
+have_always m i (Some a) None = λ reported. refl
+have_always m i None (Some b) = λ reported. refl
 have_always m i (Some a) (Some b) = unless_always _ m i b.version b.done
 
 held_always : (m i : ℕ) (a b : Option Held) → Always (have_change m i a b)
 held_always m i None None = tt
-held_always m i (Some a) None = λ loud. refl
-held_always m i None (Some b) = λ loud. refl
+held_always m i (Some a) None = λ reported. refl
+held_always m i None (Some b) = λ reported. refl
 held_always m i (Some a) (Some b) = unless_always _ m i b.version (length b.complete)
 
-both_told : (loud : Bool) (xs ys : List Report) → filter (is_told loud) xs ≡ xs → filter (is_told loud) ys ≡ ys → filter (is_told loud) (xs ++ ys) ≡ xs ++ ys
-both_told loud xs ys e f = filter-append (is_told loud) xs ys ∙ ap (λ (l : List Report). l ++ filter (is_told loud) ys) e ∙ ap (λ (l : List Report). xs ++ l) f
+both_told : (reported : Bool) (xs ys : List Report) → filter (is_told reported) xs ≡ xs → filter (is_told reported) ys ≡ ys → filter (is_told reported) (xs ++ ys) ≡ xs ++ ys
+both_told reported xs ys e f = filter-append (is_told reported) xs ys ∙ ap (λ (l : List Report). l ++ filter (is_told reported) ys) e ∙ ap (λ (l : List Report). xs ++ l) f
 
 -- what changed is always told
-pub shown_told : (loud : Bool) (m : ℕ) (a b : Shown) → filter (is_told loud) (changes_shown m a b) ≡ changes_shown m a b
-shown_told loud m a b =
-    both_told loud (order_change m a.order b.order) (haves_shown m a b images) (order_told loud m a.order b.order)
-    (over_told loud (λ i. have_shown m i (slice_index_or a.kept i None) (slice_index_or b.kept i None)) 0 images (λ i. have_always m i (slice_index_or a.kept i None) (slice_index_or b.kept i None)))
+pub shown_told : (reported : Bool) (m : ℕ) (a b : Shown) → filter (is_told reported) (changes_shown m a b) ≡ changes_shown m a b
+shown_told reported m a b =
+    both_told reported (order_change m a.order b.order) (haves_shown m a b images) (order_told reported m a.order b.order)
+    (over_told reported (λ i. have_shown m i (slice_index_or a.kept i None) (slice_index_or b.kept i None)) 0 images (λ i. have_always m i (slice_index_or a.kept i None) (slice_index_or b.kept i None)))
 
 -- and that the power was cut
-pub cut_told : (loud : Bool) (m : ℕ) (s t : Store) → filter (is_told loud) (changes m s t ++ Off m ∷ []) ≡ changes m s t ++ Off m ∷ []
-cut_told loud m s t =
-    both_told loud (changes m s t) (Off m ∷ [])
-    (both_told loud (order_change m s.order t.order) _ (order_told loud m s.order t.order) (over_told loud (λ i. have_change m i (held s i) (held t i)) 0 images (λ i. held_always m i (held s i) (held t i))))
+pub cut_told : (reported : Bool) (m : ℕ) (s t : Store) → filter (is_told reported) (changes m s t ++ Off m ∷ []) ≡ changes m s t ++ Off m ∷ []
+cut_told reported m s t =
+    both_told reported (changes m s t) (Off m ∷ [])
+    (both_told reported (order_change m s.order t.order) _ (order_told reported m s.order t.order) (over_told reported (λ i. have_change m i (held s i) (held t i)) 0 images (λ i. held_always m i (held s i) (held t i))))
     refl

@@ -18,10 +18,10 @@ use Rattle.dg_world.specs.declared.world.World.{World}
 pub same_count : (v : World) (boards : List Device) (w x : RuleWorld) → IsWorld v boards w → IsWorld v boards x → length w.sites ≡ length x.sites
 same_count v boards w x a b = a.motes ∙ sym b.motes
 
-pub applied_consistent : (golden : Row) (a b : Deployment) (w : RuleWorld) (x : Step) (loud : Bool) → IsWorld a.world a.boards w → StepInRange (length w.sites) x → (here : BoardsAreConsistent golden a.world a.boards)
+pub applied_consistent : (golden : Row) (a b : Deployment) (w : RuleWorld) (x : Step) (reported : Bool) → IsWorld a.world a.boards w → StepInRange (length w.sites) x → (here : BoardsAreConsistent golden a.world a.boards)
     → ((y z : RuleWorld) (reports : List Report) → WorldConsistent golden y → StepInRange (length y.sites) x → WorldStep y x z reports → WorldConsistent golden z)
-    → Applied here.world x loud a b → BoardsAreConsistent golden b.world b.boards
-applied_consistent golden a b w x loud is fits here keep applied =
+    → Applied here.world x reported a b → BoardsAreConsistent golden b.world b.boards
+applied_consistent golden a b w x reported is fits here keep applied =
     record {
       world = applied.world;
       stands = applied.stood;

@@ -42,7 +42,7 @@ use Rattle.dg_mote.specs.declared.mote.Heard.{Heard}
 use Rattle.dg_rules.specs.World.{World as RuleWorld, Running, store_at}
 use Rattle.dg_rules.specs.Events.{Does, Refuses, trail_of, key_of, of_effect}
 use Rattle.dg_rules.specs.Changes.{changes, start_line, sent_line}
-use Rattle.dg_base.specs.declared.events.Key.{Key}
+use Rattle.dg_base.specs.declared.events.ImageVersion.{ImageVersion}
 use Rattle.dg_script.specs.declared.report.Cause.TheVariants as cause
 use Rattle.dg_script.specs.declared.report.Report.{Report}
 use Rattle.dg_script.specs.declared.report.Report.TheVariants.{Start}
@@ -84,7 +84,7 @@ boot_trail : (o : Option Runs) (t : Trail Store) (id : ℕ) (wide : Bool) (now w
 boot_trail None t id wide now word = refl
 boot_trail (Some r) t id wide now word = refl
 
-module _ (w : RuleWorld) (m : ℕ) (k : StartCause) (id : ℕ) (wide : Bool) (now word : ℕ) (old : Option Key) where
+module _ (w : RuleWorld) (m : ℕ) (k : StartCause) (id : ℕ) (wide : Bool) (now word : ℕ) (old : Option ImageVersion) where
   abbrev s : Store
   s = store_at w m
 

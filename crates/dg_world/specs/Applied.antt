@@ -37,12 +37,12 @@ pub record OneBoard (board : ℕ) (old new : List Device) : Type 0 where
 
 -- A step was applied to a, which is b then: what the rules allow, told as it should be. No board's count rose, also where a cut
 -- blew. Where something was started, its pages stand in program memory.
-pub record Applied (w : RuleWorld) (x : Step) (loud : Bool) (a b : Deployment) : Type 0 where
+pub record Applied (w : RuleWorld) (x : Step) (reported : Bool) (a b : Deployment) : Type 0 where
   pub world : RuleWorld
   pub reports : List Report
   pub step : WorldStep w x world reports
   pub stood : IsWorld b.world b.boards world
-  pub told_now : b.told ≡ a.told ++ filter (is_told loud) reports
+  pub told_now : b.told ≡ a.told ++ filter (is_told reported) reports
   pub boards : OneBoard (mote_of x.event) a.boards b.boards
   pub calm : NoneRose a.boards b.boards
   pub memory : (d : Deed) (r : Runs) (c : Device) → does w x.event ≡ Goes d → blows x.cut d.trail ≡ false → d.started ≡ Some r

@@ -20,8 +20,8 @@ abbrev pub IsOf : Deployment → RuleWorld → Type 0
 IsOf a w = IsWorld a.world a.boards w
 
 -- What a step made of a, which is b then, and what it answers.
-pub record ApplyDone (r : Result (Unit {0}) WorldFault) (x : Step) (loud : Bool) (a b : Deployment) : Type 0 where
-  pub applied : OnOk r ((w : RuleWorld) → IsOf a w → Applied w x loud a b)
+pub record ApplyDone (r : Result (Unit {0}) WorldFault) (x : Step) (reported : Bool) (a b : Deployment) : Type 0 where
+  pub applied : OnOk r ((w : RuleWorld) → IsOf a w → Applied w x reported a b)
   -- a world that has made all its events tells it, and only such a one
   pub too_many : r ≡ Err TooMany → (w : RuleWorld) → IsOf a w → w.events ≡ most_events
   pub full : (w : RuleWorld) → IsOf a w → w.events ≡ most_events → r ≡ Err TooMany

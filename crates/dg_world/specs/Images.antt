@@ -3,18 +3,18 @@ use Rattle.std.specs.Prelude.{◌≡◌, ℕ, ◌==◌, ◌&&◌, Bool, List, Op
 use Rattle.std.specs.Map.{lookup}
 use Rattle.dg_object.specs.Object.{Row, row_of}
 use Rattle.dg_volume.specs.Table.{row_at}
-use Rattle.dg_base.specs.declared.events.Key.{Key}
+use Rattle.dg_base.specs.declared.events.ImageVersion.{ImageVersion}
 use Rattle.dg_world.specs.declared.images.Image.{Image}
 use Rattle.dg_world.specs.declared.images.Images.{Images}
 
-abbrev pub row_of_image : Key → Image → Row
+abbrev pub row_of_image : ImageVersion → Image → Row
 row_of_image k i = row_of k.image k.version i.name i.content
 
-abbrev pub is_key : Key → Key → Bool
+abbrev pub is_key : ImageVersion → ImageVersion → Bool
 is_key a b = (a.image == b.image) && (a.version == b.version)
 
 -- the image that was declared with a key
-abbrev pub found : Images → Key → Option Image
+abbrev pub found : Images → ImageVersion → Option Image
 found images key = lookup (is_key key) images.by_key.entries
 
 -- the images are the declared rows
@@ -23,4 +23,4 @@ pub record Declares (images : Images) (rows : List Row) : Type 0 where
       (found images (record { image = image; version = version })) ≡ row_at rows image version
 
 abbrev pub NothingDeclared : Images → Type 0
-NothingDeclared images = (key : Key) → found images key ≡ None
+NothingDeclared images = (key : ImageVersion) → found images key ≡ None

@@ -70,12 +70,12 @@ station board runs told = record { board = board; runs = runs; told = told }
 
 -- A step was done at its board, which stood for the mote's store: what the rules allow, where the mote and the board are then,
 -- what was told, and what was sent. The station of the mote is b.
-pub record StepDone (w : RuleWorld) (x : Step) (loud : Bool) (frame : Option (List ℕ)) (told_before : List Report)
+pub record StepDone (w : RuleWorld) (x : Step) (reported : Bool) (frame : Option (List ℕ)) (told_before : List Report)
     (b : Station) : Type 0 where
   pub world : RuleWorld
   pub reports : List Report
   pub step : WorldStep w x world reports
-  pub told_now : b.told ≡ told_before ++ filter (is_told loud) reports
+  pub told_now : b.told ≡ told_before ++ filter (is_told reported) reports
   pub here : Site
   pub moment : world.moment ≡ w.moment + dt_of x.event
   pub events : world.events ≡ w.events + 1
@@ -89,25 +89,25 @@ pub record StepDone (w : RuleWorld) (x : Step) (loud : Bool) (frame : Option (Li
   pub memory : (d : Deed) (r : Runs) → does w x.event ≡ Goes d → blows x.cut d.trail ≡ false → d.started ≡ Some r
       → program b.board.image (length r.pages) ≡ r.pages
 
-abbrev pub StepEnds : Result (Option (List ℕ)) Halt → RuleWorld → Step → (loud : Bool) → (told_before : List Report) → Station
+abbrev pub StepEnds : Result (Option (List ℕ)) Halt → RuleWorld → Step → (reported : Bool) → (told_before : List Report) → Station
     → Type 0
-StepEnds (Ok frame) w x loud told_before b = StepDone w x loud frame told_before b
-StepEnds (Err (Stopped before)) w x loud told_before b = IsStopped w (mote_of x.event) (does w x.event) x.cut b.board
+StepEnds (Ok frame) w x reported told_before b = StepDone w x reported frame told_before b
+StepEnds (Err (Stopped before)) w x reported told_before b = IsStopped w (mote_of x.event) (does w x.event) x.cut b.board
     × (b.told ≡ told_before)
-StepEnds (Err NoImage) w x loud told_before b = IsLacking (does w x.event) x.cut b.board.image × (b.told ≡ told_before)
-StepEnds (Err NotAVolume) w x loud told_before b = ⊥
+StepEnds (Err NoImage) w x reported told_before b = IsLacking (does w x.event) x.cut b.board.image × (b.told ≡ told_before)
+StepEnds (Err NotAVolume) w x reported told_before b = ⊥
 
 -- The step ended so at its board, whose count did not fall, and stays unless the board stopped. The station of its mote was a
 -- and is b.
-pub record Stepped (r : Result (Option (List ℕ)) Halt) (w : RuleWorld) (x : Step) (loud : Bool) (a b : Station) : Type 0 where
-  pub ends : StepEnds r w x loud a.told b
+pub record Stepped (r : Result (Option (List ℕ)) Halt) (w : RuleWorld) (x : Step) (reported : Bool) (a b : Station) : Type 0 where
+  pub ends : StepEnds r w x reported a.told b
   pub endures : Endures (beneath_of a.board) (beneath_of b.board)
   pub count : CountStays r a.board b.board
 
 -- What a step did at the station of its mote that answers r and has this to tell.
 pub record StepDid (r : Result (Unit {0}) Fault) (o : Occasion) (x : Step) (t : Telling) (a b : Station) : Type 0 where
   pub steps : (w : RuleWorld) → StepInRange (length w.sites) x → HappensIn o w x.event a.board a.runs
-      → Stepped (stepped r t) w x o.loud a b
+      → Stepped (stepped r t) w x o.reported a b
   pub sees : OnOk r ((w : RuleWorld) → HappensIn o w x.event a.board a.runs
       → StepSees w x.event o.known t.orderly b.runs a.board.image b.board.image)
   pub order_reads : IsTrue o.known → OrderTakes x.event a.board b.board

@@ -23,18 +23,19 @@ use dg_rules::{Cut, Event, Report, agreement_is_kept, consistency_is_kept};
 const MOST_EVENTS: u32 = 1_000_000;
 
 impl World {
-    /// One step: an event, and the cut that waits for it. What it tells is appended, its `sent` line only where `loud` is true.
+    /// One step: an event, and the cut that waits for it. What it tells is appended, its `sent` line only where `reported` is
+    /// true.
     pub fn apply<N: Nor>(
         &mut self,
         boards: &mut Vec<N>,
         event: &Event,
         cut: Option<&Cut>,
-        loud: bool,
+        reported: bool,
         out: &mut Vec<Report>,
     ) -> Result<(), WorldFault>
         requires world { (w : RuleWorld) × IsWorld self.old (map N.device boards.old.items) w
             × StepInRange (length w.sites) (step_of event.now (option_copied cut)) }
-        ensures { ApplyDone result (step_of event.now (option_copied cut.entry)) loud
+        ensures { ApplyDone result (step_of event.now (option_copied cut.entry)) reported
             (deployed self.old (map N.device boards.old.items) out.old.items)
             (deployed self.new (map N.device boards.new.items) out.new.items) }
     {
@@ -61,7 +62,7 @@ impl World {
             mote,
             moment,
             known,
-            loud,
+            reported,
         };
         let mut telling = Telling::new();
         match step_at(&occasion, runs, event, cut, board, &mut telling, out) {

@@ -13,7 +13,7 @@ ghost use Rattle.dg_rules.specs.World.{World as RuleWorld, first_world, no_site}
 ghost use Rattle.dg_rules.specs.Changes.{same_row, is_taken};
 ghost use Rattle.dg_rules.specs.Steps.{declared_as};
 ghost use Rattle.dg_script.specs.Places.{none_narrow};
-ghost use Rattle.dg_base.specs.declared.events.Key.{Key};
+ghost use Rattle.dg_base.specs.declared.events.ImageVersion.{ImageVersion};
 ghost use Rattle.dg_world.specs.Images.{row_of_image};
 ghost use Rattle.dg_world.specs.Worlds.{IsWorld};
 ghost use Rattle.dg_world.specs.Known.{known_of};
@@ -25,7 +25,7 @@ use crate::shared::{Shared, mark};
 use crate::world::{DeclareFault, RunningMote, World};
 use dg_base::Bytes;
 use dg_bits::PageBits;
-use dg_rules::Key;
+use dg_rules::ImageVersion;
 use std::alloc::{AllocError, Global};
 
 impl World {
@@ -112,7 +112,7 @@ impl World {
         ensures unchanged { OnErr result ((boards : List Device) (w : RuleWorld) → IsWorld self.old boards w
             → IsWorld self.new boards w) }
     {
-        let key = Key { image, version };
+        let key = ImageVersion { image, version };
         if let Some(kept) = self.shared.images.get(key) {
             if is_same(kept, &name, &content) {
                 return Ok(());
@@ -139,7 +139,8 @@ fn all_off(alloc: Global, motes: u8) -> Result<Vec<Option<RunningMote>>, AllocEr
 
 /// Whether an image has this name and these bytes.
 fn is_same(kept: &Image, name: &Bytes, content: &Bytes) -> bool
-    ensures { (key : Key) → result ≡ same_row (row_of_image key kept.now) (row_of key.image key.version name.now content.now) }
+    ensures { (key : ImageVersion)
+        → result ≡ same_row (row_of_image key kept.now) (row_of key.image key.version name.now content.now) }
 {
     kept.name.as_slice() == name.as_slice() && kept.content.as_slice() == content.as_slice()
 }

@@ -20,7 +20,7 @@ use crate::telling::{Fault, Telling};
 use crate::ticking::tick;
 use crate::world::RunningMote;
 use dg_nor::Nor;
-use dg_rules::{Event, Key};
+use dg_rules::{Event, ImageVersion};
 
 /// What an event does at the board of its mote, which runs `runs`. Where the board is known it is mounted again by halving.
 pub(crate) fn happen<N: Nor>(
@@ -62,7 +62,7 @@ pub(crate) fn happen<N: Nor>(
             word,
             ..
         } => {
-            let key = Key {
+            let key = ImageVersion {
                 image: *image,
                 version: *version,
             };
@@ -75,7 +75,7 @@ pub(crate) fn happen<N: Nor>(
             word,
             ..
         } => {
-            let key = Key {
+            let key = ImageVersion {
                 image: *image,
                 version: *version,
             };

@@ -4,7 +4,7 @@ ghost use Rattle.dg_base.specs.Texts.{spells_name};
 ghost use Rattle.dg_rules.specs.Sizes.{most_content};
 
 use dg_base::Bytes;
-use dg_rules::Key;
+use dg_rules::ImageVersion;
 use std::alloc::{AllocError, Global};
 use std::collections::BTreeMap;
 
@@ -20,7 +20,7 @@ pub struct Image {
 /// The images, by their keys.
 #[derive(Drop)]
 pub struct Images {
-    pub(crate) by_key: BTreeMap<Key, Image>,
+    pub(crate) by_key: BTreeMap<ImageVersion, Image>,
 }
 
 impl Images {
@@ -37,14 +37,14 @@ impl Images {
     }
 
     /// The image that was declared with this key.
-    pub(crate) fn get(&self, key: Key) -> Option<&Image>
+    pub(crate) fn get(&self, key: ImageVersion) -> Option<&Image>
         ensures { option_map (λ i. i.now) result ≡ found self.now key }
     {
         self.by_key.get(&key)
     }
 
     /// Declares an image whose key was not declared. Without memory nothing is declared.
-    pub(crate) fn add(&mut self, key: Key, image: Image) -> Result<(), AllocError>
+    pub(crate) fn add(&mut self, key: ImageVersion, image: Image) -> Result<(), AllocError>
         requires { found self.old key ≡ None }
         ensures added { OnOk result ((rows : List Row) → Declares self.old rows
             → Declares self.new (rows ++ row_of_image key image ∷ [])) }

@@ -25,7 +25,7 @@ use crate::telling::{Fault, Telling};
 use crate::world::RunningMote;
 use dg_frame::NARROW_IMAGES;
 use dg_nor::Nor;
-use dg_rules::{Cause, Key};
+use dg_rules::{Cause, ImageVersion};
 use dg_volume::{InjectFault, Volume};
 
 /// A mote that is on goes on with its chip's new volume.
@@ -45,7 +45,7 @@ pub(crate) fn reload(runs: &mut Option<RunningMote>, volume: Volume, now: u64, w
 fn inject_image<N: Nor>(
     occasion: &Occasion<'_>,
     runs: &mut Option<RunningMote>,
-    key: Key,
+    key: ImageVersion,
     image: &Image,
     word: u32,
     board: &mut N,
@@ -106,7 +106,7 @@ fn inject_fault(fault: InjectFault, bytes: usize) -> Result<Cause, Fault>
 fn inject<N: Nor>(
     occasion: &Occasion<'_>,
     runs: &mut Option<RunningMote>,
-    key: Key,
+    key: ImageVersion,
     word: u32,
     board: &mut N,
     telling: &mut Telling,
@@ -156,7 +156,7 @@ pub(crate) fn knows(wide: bool, image: u8) -> bool
 pub(crate) fn inject_known<N: Nor>(
     occasion: &Occasion<'_>,
     runs: &mut Option<RunningMote>,
-    key: Key,
+    key: ImageVersion,
     word: u32,
     board: &mut N,
     telling: &mut Telling,

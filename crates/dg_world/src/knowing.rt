@@ -15,7 +15,7 @@ use crate::links::MOST_MOTES;
 use crate::shared::Shared;
 use crate::world::{RunningMote, World};
 use dg_bits::PageBits;
-use dg_rules::{Event, Key};
+use dg_rules::{Event, ImageVersion};
 
 impl World {
     /// Whether the board of a mote is known: it is orderly, and the world mounts it again by halving. A reset makes the
@@ -61,7 +61,7 @@ fn is_declared(shared: &Shared, mote: u8, image: u8, version: u32) -> bool
     if image == 0 {
         return false;
     }
-    match shared.images.get(Key { image, version }) {
+    match shared.images.get(ImageVersion { image, version }) {
         None => false,
         Some(_) => true,
     }

@@ -16,7 +16,7 @@ pub(crate) struct Occasion<'a> {
     /// Whether the board is known: it may be mounted again by halving.
     pub(crate) known: bool,
     /// Whether a frame that is sent is told.
-    pub(crate) loud: bool,
+    pub(crate) reported: bool,
     ghost in_world: { mote < most_motes },
     ghost early: { moment < 2 ^ 62 },
 }

@@ -19,7 +19,7 @@ use crate::shown::show;
 use crate::telling::{Fault, Telling};
 use crate::world::RunningMote;
 use dg_nor::Nor;
-use dg_rules::{Cause, Key};
+use dg_rules::{Cause, ImageVersion};
 use dg_volume::{OrderFault, a_volume_bounds_a_remount};
 
 /// Keeps an order.
@@ -27,7 +27,7 @@ fn order<N: Nor>(
     occasion: &Occasion<'_>,
     runs: &mut Option<RunningMote>,
     number: u32,
-    key: Key,
+    key: ImageVersion,
     word: u32,
     board: &mut N,
     telling: &mut Telling,
@@ -70,7 +70,7 @@ pub(crate) fn order_known<N: Nor>(
     occasion: &Occasion<'_>,
     runs: &mut Option<RunningMote>,
     number: u32,
-    key: Key,
+    key: ImageVersion,
     word: u32,
     board: &mut N,
     telling: &mut Telling,

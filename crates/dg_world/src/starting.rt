@@ -4,7 +4,7 @@ ghost use Rattle.dg_volume.specs.Stands.{Stands, NothingLent};
 ghost use Rattle.dg_mote.specs.Effects.{boots, reset_effect};
 ghost use Rattle.dg_rules.specs.World.{World as RuleWorld, store_at, wide_at};
 ghost use Rattle.dg_rules.specs.Events.{of_effect};
-ghost use Rattle.dg_base.specs.declared.events.Key.{Key as KeyValue};
+ghost use Rattle.dg_base.specs.declared.events.ImageVersion.{ImageVersion as KeyValue};
 ghost use Rattle.dg_world.specs.Shareds.{IsShared};
 ghost use Rattle.dg_world.specs.Turn.{Starts};
 ghost use Rattle.dg_world.specs.Turns.{BeginsOver, TurnEnds};
@@ -19,7 +19,7 @@ use crate::world::RunningMote;
 use dg_boot::{BootFault, StartCause, Started, start};
 use dg_mote::Mote;
 use dg_nor::Nor;
-use dg_rules::Key;
+use dg_rules::ImageVersion;
 
 /// A mote that was started, and what is told of that.
 #[derive(Drop)]
@@ -79,7 +79,7 @@ fn start_line(started: &Started) -> StartLine
     ensures crc { result.crc ≡ started.now.crc }
 {
     StartLine {
-        key: Key {
+        key: ImageVersion {
             image: started.image,
             version: started.version,
         },

@@ -36,12 +36,12 @@ use dg_volume::{Volume, a_volume_bounds_a_remount};
 pub(crate) const MOST_LINES: usize = MOST_CHANGES + 1;
 
 /// Appends the lines of what is told. There is room for them.
-fn push_told(mote: u8, telling: &Telling, loud: bool, out: &mut Vec<Report>)
+fn push_told(mote: u8, telling: &Telling, reported: bool, out: &mut Vec<Report>)
     requires room { vec_len out.old + MOST_CHANGES ≤ vec_capacity out.old }
-    ensures { out.new.items ≡ out.old.items ++ filter (is_told loud) (turn_lines mote (turn_of telling.now)) }
+    ensures { out.new.items ≡ out.old.items ++ filter (is_told reported) (turn_lines mote (turn_of telling.now)) }
 {
     if let Some(frame) = telling.outbox.frame() {
-        push_sent(mote, frame, loud, out);
+        push_sent(mote, frame, reported, out);
     } else if let Some(cause) = telling.refused {
         push_refused(mote, cause, out);
     } else if let Some(line) = telling.started {
@@ -52,13 +52,14 @@ fn push_told(mote: u8, telling: &Telling, loud: bool, out: &mut Vec<Report>)
 }
 
 /// Appends the line on a frame where it is wanted.
-fn push_sent(mote: u8, frame: &Frame, loud: bool, out: &mut Vec<Report>)
+fn push_sent(mote: u8, frame: &Frame, reported: bool, out: &mut Vec<Report>)
     requires room { vec_len out.old + 1 ≤ vec_capacity out.old }
-    ensures told { out.new.items ≡ out.old.items ++ filter (is_told loud) (sent_shown mote (message_of frame.now.items true)) }
+    ensures told { out.new.items
+        ≡ out.old.items ++ filter (is_told reported) (sent_shown mote (message_of frame.now.items true)) }
     ensures room { vec_capacity out.new ≡ vec_capacity out.old }
     ensures few { vec_len out.new ≤ vec_len out.old + 1 }
 {
-    if loud {
+    if reported {
         push_line(sent_line(mote, frame), out);
     }
 }
@@ -245,7 +246,7 @@ fn step_cut<N: Nor>(
 {
     let mote = occasion.mote;
     match play_cut(occasion, runs, event, cut, board, telling)? {
-        Power::Stays => push_told(mote, telling, occasion.loud, out),
+        Power::Stays => push_told(mote, telling, occasion.reported, out),
         Power::Cut => {
             a_volume_bounds_a_remount();
             let orderly = look_after_cut(mote, event, &telling.before, occasion.known, board, out)?;
@@ -278,7 +279,7 @@ pub(crate) fn step_at<N: Nor>(
     match cut {
         None => {
             happen(occasion, runs, event, board, telling)?;
-            push_told(occasion.mote, telling, occasion.loud, out);
+            push_told(occasion.mote, telling, occasion.reported, out);
             Ok(())
         }
         Some(cut) => step_cut(occasion, runs, event, cut, board, telling, out),

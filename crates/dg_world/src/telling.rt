@@ -3,12 +3,12 @@ ghost use Rattle.dg_world.specs.Tellings.{IsNothing};
 
 use crate::shown::Shown;
 use dg_mote::Outbox;
-use dg_rules::{Cause, Key};
+use dg_rules::{Cause, ImageVersion};
 
 /// An image that was started.
 #[derive(Clone, Copy, Debug, PartialEq, Eq)]
 pub(crate) struct StartLine {
-    pub(crate) key: Key,
+    pub(crate) key: ImageVersion,
     pub(crate) length: u32,
     pub(crate) crc: u16,
 }

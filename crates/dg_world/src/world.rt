@@ -3,12 +3,12 @@ use crate::links::MOST_MOTES;
 use crate::shared::Shared;
 use dg_bits::PageBits;
 use dg_mote::Mote;
-use dg_rules::Key;
+use dg_rules::ImageVersion;
 
 /// A mote that is on, and the image that it runs.
 #[derive(Drop)]
 pub struct RunningMote {
-    pub(crate) key: Key,
+    pub(crate) key: ImageVersion,
     pub(crate) mote: Mote,
 }
 

@@ -2,7 +2,7 @@ use Rattle.std.proofs.Common.{List, [], ◌++◌, map, refl, ap, append-nil}
 use Rattle.std.proofs.lemmas.Result.{err_from_is_err_and}
 use Rattle.dg_base.specs.declared.events.Event.{Event}
 use Rattle.dg_rounds.specs.Rounds.{round}
-use Rattle.dg_script.specs.Items.{quietly}
+use Rattle.dg_script.specs.Items.{unreported}
 use Rattle.dg_replay.proofs.StepLemmas.{so_far_none, so_far_one, so_far_then, so_far_stop}
 use Rattle.dg_replay.proofs.items.play_both.Goals as goal
 
@@ -21,17 +21,17 @@ returns-in_err-play_round-2-clause-played g c =
     let back = round c.args.b c.args.a in
     rw (p.1, p.2)
     (so_far_stop c.in_err-play_round-2.field-0.0 there back [] (there ++ back) c.args.world.now c.play_round.new.world c.play_round-2.new.world _ _ _ c.args.told.now.text.items c.play_round.new.told.text.items c.play_round-2.new.told.text.items
-    (so_far_one (quietly there) c.args.world.now c.play_round.new.world _ _ c.args.told.now.text.items c.play_round.new.told.text.items c.in_ok-play_round.ensures.goes_on c.in_ok-play_round.ensures.played)
+    (so_far_one (unreported there) c.args.world.now c.play_round.new.world _ _ c.args.told.now.text.items c.play_round.new.told.text.items c.in_ok-play_round.ensures.goes_on c.in_ok-play_round.ensures.played)
     c.in_err-play_round-2.ensures.played (ap (λ (xs : List Event). there ++ xs) (append-nil back)))
 
 pub returns-clause-played : goal.returns-clause-played
 returns-clause-played g c =
     (so_far_then (round c.args.a c.args.b) (round c.args.b c.args.a) c.args.world.now c.play_round.new.world c.play_round-2.new.world _ _ _ c.args.told.now.text.items c.play_round.new.told.text.items c.play_round-2.new.told.text.items
-    (so_far_one (quietly (round c.args.a c.args.b)) c.args.world.now c.play_round.new.world _ _ c.args.told.now.text.items c.play_round.new.told.text.items c.in_ok-play_round.ensures.goes_on c.in_ok-play_round.ensures.played)
+    (so_far_one (unreported (round c.args.a c.args.b)) c.args.world.now c.play_round.new.world _ _ c.args.told.now.text.items c.play_round.new.told.text.items c.in_ok-play_round.ensures.goes_on c.in_ok-play_round.ensures.played)
     c.in_ok-play_round-2.ensures.goes_on c.in_ok-play_round-2.ensures.played).played
 
 pub returns-clause-goes_on : goal.returns-clause-goes_on
 returns-clause-goes_on g c =
     (so_far_then (round c.args.a c.args.b) (round c.args.b c.args.a) c.args.world.now c.play_round.new.world c.play_round-2.new.world _ _ _ c.args.told.now.text.items c.play_round.new.told.text.items c.play_round-2.new.told.text.items
-    (so_far_one (quietly (round c.args.a c.args.b)) c.args.world.now c.play_round.new.world _ _ c.args.told.now.text.items c.play_round.new.told.text.items c.in_ok-play_round.ensures.goes_on c.in_ok-play_round.ensures.played)
+    (so_far_one (unreported (round c.args.a c.args.b)) c.args.world.now c.play_round.new.world _ _ c.args.told.now.text.items c.play_round.new.told.text.items c.in_ok-play_round.ensures.goes_on c.in_ok-play_round.ensures.played)
     c.in_ok-play_round-2.ensures.goes_on c.in_ok-play_round-2.ensures.played).goes

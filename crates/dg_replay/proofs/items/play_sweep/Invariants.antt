@@ -1,10 +1,10 @@
 use Rattle.std.proofs.Common.{map, take}
 use Rattle.dg_rounds.specs.Rounds.{sweep}
-use Rattle.dg_script.specs.Items.{quietly}
+use Rattle.dg_script.specs.Items.{unreported}
 use Rattle.dg_replay.proofs.StepLemmas.{PlayedSoFar}
 use Rattle.dg_replay.proofs.items.play_sweep.Given as goal
 
 -- the rounds over so many links are played
 abbrev pub invariant-loop-link : goal.invariant-loop-link
 invariant-loop-link g l =
-    PlayedSoFar (quietly (sweep (take l.link-index l.links))) l.fn.world l.world (map g.N.Nor.device l.fn.boards.items) (map g.N.Nor.device l.boards.items) l.fn.told.text.items l.told.text.items
+    PlayedSoFar (unreported (sweep (take l.link-index l.links))) l.fn.world l.world (map g.N.Nor.device l.fn.boards.items) (map g.N.Nor.device l.boards.items) l.fn.told.text.items l.told.text.items

@@ -1,10 +1,10 @@
 use Rattle.std.proofs.Common.{map}
 use Rattle.dg_rounds.specs.Rounds.{times, sweep}
-use Rattle.dg_script.specs.Items.{quietly}
+use Rattle.dg_script.specs.Items.{unreported}
 use Rattle.dg_replay.proofs.StepLemmas.{PlayedSoFar}
 use Rattle.dg_replay.proofs.items.play_sweeps.Given as goal
 
 -- so many sweeps are played
 abbrev pub invariant-loop : goal.invariant-loop
 invariant-loop g l =
-    PlayedSoFar (quietly (times l.counter (sweep l.links))) l.fn.world l.world (map g.N.Nor.device l.fn.boards.items) (map g.N.Nor.device l.boards.items) l.fn.told.text.items l.told.text.items
+    PlayedSoFar (unreported (times l.counter (sweep l.links))) l.fn.world l.world (map g.N.Nor.device l.fn.boards.items) (map g.N.Nor.device l.boards.items) l.fn.told.text.items l.told.text.items

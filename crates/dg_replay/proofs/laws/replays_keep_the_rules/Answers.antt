@@ -23,8 +23,8 @@ returns c = λ table input came.
         keeps = honest_runs input came (record { golden = c.scripts_with_golden.ensures.plays; boards = c.scripts_with_boards.ensures.plays }) (λ (ps : List Played). AllByRecursion KeepsAll ps) tt (λ u v played from. steps.keeps u v played from) honest;
         starts = honest_runs input came (record { golden = c.scripts_with_golden.ensures.plays; boards = c.scripts_with_boards.ensures.plays }) (λ (ps : List Played). AllByRecursion StartsRow ps) tt (λ u v played from. steps.starts u v played from) honest;
         agrees = honest_worlds input came (record { golden = c.scripts_with_golden.ensures.plays; boards = c.scripts_with_boards.ensures.plays }) (λ (ps : List Played) (last : Option World). AllByRecursion LeavesAgreement ps × IfSome last WorldAgrees) (tt, tt) (λ u v played from. steps.agrees u v played from) honest;
-        halves = λ w step loud more is next here holds.
-            halves_agree (record { golden = c.scripts_with_golden.ensures.halves; boards = c.scripts_with_boards.ensures.halves }) input came w step loud more honest is next here holds;
+        halves = λ w step reported more is next here holds.
+            halves_agree (record { golden = c.scripts_with_golden.ensures.halves; boards = c.scripts_with_boards.ensures.halves }) input came w step reported more honest is next here holds;
         rounds = honest_runs input came (record { golden = c.scripts_with_golden.ensures.plays; boards = c.scripts_with_boards.ensures.plays }) RoundsBring rounds.nothing (λ u v played from. rounds.brings u played v from) honest;
         pipeline = λ w v t is ends. ended_pipelined input came (record { golden = c.scripts_with_golden.ensures.plays; boards = c.scripts_with_boards.ensures.plays }) c.scripts_end_complete.ensures.pipeline w v t honest is ends;
         completes = λ w v n k is ends enough most. ended_complete input came (record { golden = c.scripts_with_golden.ensures.plays; boards = c.scripts_with_boards.ensures.plays }) c.scripts_end_complete.ensures.completes w v n k honest is ends enough most;

@@ -1,5 +1,5 @@
 use Rattle.std.proofs.Common.{refl, ◌∙◌}
-use Rattle.dg_base.specs.declared.events.Key.{Key}
+use Rattle.dg_base.specs.declared.events.ImageVersion.{ImageVersion}
 use Rattle.dg_world.specs.Images.{row_of_image}
 use Rattle.dg_world.proofs.ImageLemmas.{known_row, unknown_row}
 use Rattle.dg_world.proofs.InjectLemmas.{not_zero}
@@ -14,10 +14,10 @@ returns-then-image-eq0 c = λ w dt word is. (λ x. absurd cc, λ made. absurd (g
 
 pub returns-in-None : goal.returns-in-None
 returns-in-None c = λ w dt word is.
-    let key : Key = record { image = c.args.image; version = c.args.version } in
+    let key : ImageVersion = record { image = c.args.image; version = c.args.version } in
     (λ x. absurd cc, λ made. absurd (unknown_makes w c.args.mote c.args.image c.args.version dt word (c.is_known_to.ensures w is ∙ c.if-not-is_known_to.false) (not_zero c.args.image c.if-image-eq0.false) (unknown_row c.args.shared.now.images w.declared key is.declared c.in-None.ensures) made))
 
 pub returns-in-Some : goal.returns-in-Some
 returns-in-Some c = λ w dt word is.
-    let key : Key = record { image = c.args.image; version = c.args.version } in
+    let key : ImageVersion = record { image = c.args.image; version = c.args.version } in
     (λ x. known_makes w c.args.mote c.args.image c.args.version dt word (row_of_image key c.in-Some.field-0.now) (c.is_known_to.ensures w is ∙ c.if-not-is_known_to.false) (not_zero c.args.image c.if-image-eq0.false) refl (known_row c.args.shared.now.images w.declared key c.in-Some.field-0.now is.declared c.in-Some.ensures), λ made. refl)

@@ -32,7 +32,7 @@ returns-in_err-play_cut g c =
     record {
       steps = λ w fits on.
           let p = played_as _ (ended_as c.play_cut.result t) x.cut (Some c.args.cut.now) w m (does w event) _ _ _ _ (sym (ap (λ r. ended_as r t) c.in_err-play_cut.was)) refl (c.play_cut.ensures.played w on) in
-          step_fails c.from_residual.result c.in_err-play_cut.field-0.0 t w x o.loud _ _ _ _ c.args.out.now.items c.from_residual.ensures.1 p;
+          step_fails c.from_residual.result c.in_err-play_cut.field-0.0 t w x o.reported _ _ _ _ c.args.out.now.items c.from_residual.ensures.1 p;
       sees = search rules;
       order_reads = λ known. order_takes event o.known _ t.refused _ _ known c.play_cut.ensures.reads;
       inject_reads = search rules;
@@ -53,8 +53,8 @@ returns-in-Stays g c =
     record {
       steps = λ w fits on.
           let p = played_as _ (ended_as c.play_cut.result t) x.cut (Some c.args.cut.now) w m (does w event) _ _ a b (sym (ap (λ r. ended_as r t) was)) refl (c.play_cut.ensures.played w on) in
-          step_turn w x o.loud _ _ _ (turn_of t) _ _ told c.push_told.new.out.items (event_mote _ event fits.event) on.stands p (frame_told t)
-          (c.push_told.ensures ∙ ap (λ m. told ++ filter (is_told o.loud) (turn_lines m (turn_of t))) c.requires.may.here);
+          step_turn w x o.reported _ _ _ (turn_of t) _ _ told c.push_told.new.out.items (event_mote _ event fits.event) on.stands p (frame_told t)
+          (c.push_told.ensures ∙ ap (λ m. told ++ filter (is_told o.reported) (turn_lines m (turn_of t))) c.requires.may.here);
       sees = λ w on.
           let p = played_as _ (ended_as c.play_cut.result t) x.cut (Some c.args.cut.now) w m (does w event) _ _ a b (sym (ap (λ r. ended_as r t) was)) refl (c.play_cut.ensures.played w on) in
           step_sees w o.known c.play_cut.new.runs a.image b.image event t (c.play_cut.ensures.sees was) (play_refused w m (does w event) x.cut _ _ a b (turn_of t) p.ends);
@@ -80,9 +80,9 @@ returns-in_ok-orderly-in-Cut g c =
     record {
       steps = λ w fits on.
           let p = played_as _ (ended_as c.play_cut.result t) x.cut (Some c.args.cut.now) w m (does w event) _ _ _ _ (sym (ap (λ r. ended_as r t) was)) refl (c.play_cut.ensures.played w on) in
-          let P : Option (List ℕ) → Type 0 = λ sent. Stepped (Ok sent) w x o.loud (station a c.args.runs.now told) (station (g.N.Nor.device c.look_after_cut.new.board) None c.push_reserved.new.self.items) in
+          let P : Option (List ℕ) → Type 0 = λ sent. Stepped (Ok sent) w x o.reported (station a c.args.runs.now told) (station (g.N.Nor.device c.look_after_cut.new.board) None c.push_reserved.new.self.items) in
           subst P (sym c.new-telling.ensures)
-          (step_cut w x o.loud _ _ t.before c.look_after_cut.result _ _ _ _ told c.look_after_cut.new.out.items c.push_reserved.new.self.items p c.in_ok-orderly-in-Cut.was
+          (step_cut w x o.reported _ _ t.before c.look_after_cut.result _ _ _ _ told c.look_after_cut.new.out.items c.push_reserved.new.self.items p c.in_ok-orderly-in-Cut.was
           (told_at c.look_after_cut.result o.mote m t.before p.ends.leaves.store _ _ _ _ same (c.look_after_cut.ensures.told p.ends.leaves.store p.ends.leaves.stands_for))
           (c.push_reserved.ensures.items ∙ ap (λ m. c.look_after_cut.new.out.items ++ Off m ∷ []) same));
       sees = λ w on. cut_sees w o.known None a.image (g.N.Nor.device c.look_after_cut.new.board).image event c.in_ok-orderly-in-Cut.orderly (c.in_ok-orderly-in-Cut.ensures.sees w);
@@ -105,7 +105,7 @@ returns-in_err-orderly-in-Cut g c =
     record {
       steps = λ w fits on.
           let p = played_as _ (ended_as c.play_cut.result t) x.cut (Some c.args.cut.now) w m (does w event) _ _ _ _ (sym (ap (λ r. ended_as r t) was)) refl (c.play_cut.ensures.played w on) in
-          step_cut_halts c.from_residual-in_err-orderly-in-Cut.result c.look_after_cut.result t c.in_err-orderly-in-Cut.field-0.0 w x o.loud _ _ _ t.before _ _ _ c.args.out.now.items c.look_after_cut.new.out.items
+          step_cut_halts c.from_residual-in_err-orderly-in-Cut.result c.look_after_cut.result t c.in_err-orderly-in-Cut.field-0.0 w x o.reported _ _ _ t.before _ _ _ c.args.out.now.items c.look_after_cut.new.out.items
           c.from_residual-in_err-orderly-in-Cut.ensures.1 c.in_err-orderly-in-Cut.was p
           (told_at c.look_after_cut.result o.mote m t.before p.ends.leaves.store _ _ _ _ c.requires.may.here (c.look_after_cut.ensures.told p.ends.leaves.store p.ends.leaves.stands_for));
       sees = search rules;

@@ -14,4 +14,4 @@ pub returns-clause-does : goal.returns-clause-does
 returns-clause-does c =
     let d = c.args.self.now in
     let some = sym c.in_ok-said.was ∙ c.last_of.ensures ∙ ap (λ (xs : List Said). last_said xs c.args.from c.args.key) c.deref.ensures.value in
-    λ w loud s. last_takes d _ w loud c.args.from c.args.to c.args.key c.in_ok-said.said c.take.result s some (c.take.ensures.hears w s)
+    λ w reported s. last_takes d _ w reported c.args.from c.args.to c.args.key c.in_ok-said.said c.take.result s some (c.take.ensures.hears w s)

@@ -4,15 +4,15 @@ use Rattle.dg_drip_run.proofs.HappenLemmas.{filled, happen_ran, goes_on}
 use Rattle.dg_drip_run.proofs.player.Player.happen.Goals as goal
 
 pub returns-then-self-ge-MOST_EVENTS-clause-ran : goal.returns-then-self-ge-MOST_EVENTS-clause-ran
-returns-then-self-ge-MOST_EVENTS-clause-ran c = λ s before h. filled c.args.self.now s before (record { event = c.args.event.now; loud = c.args.loud }) h c.if-self-ge-MOST_EVENTS.true
+returns-then-self-ge-MOST_EVENTS-clause-ran c = λ s before h. filled c.args.self.now s before (record { event = c.args.event.now; reported = c.args.reported }) h c.if-self-ge-MOST_EVENTS.true
 
 pub returns-clause-ran : goal.returns-clause-ran
 returns-clause-ran c =
     let short : time_of c.args.event.now < 2 ^ 32 = omega (arith, c.dt_of-short.ensures, c.dt_of-short.type_inv) in
     happen_ran c.push_told.result c.args.self.now (record { network = c.apply.new.self; standing = c.args.self.now.standing; events = c.args.self.now.events + 1; text = c.push_told.new.text })
-    c.args.event.now c.args.loud c.in-Ok.told c.push_told.ensures.told c.push_told.ensures.stop c.requires.fits short c.requires.begun c.if-self-ge-MOST_EVENTS.false c.in-Ok.ensures.does c.in-Ok.ensures.passes refl refl
+    c.args.event.now c.args.reported c.in-Ok.told c.push_told.ensures.told c.push_told.ensures.stop c.requires.fits short c.requires.begun c.if-self-ge-MOST_EVENTS.false c.in-Ok.ensures.does c.in-Ok.ensures.passes refl refl
 
 pub returns-clause-on : goal.returns-clause-on
 returns-clause-on c =
     goes_on c.push_told.result c.args.self.now (record { network = c.apply.new.self; standing = c.args.self.now.standing; events = c.args.self.now.events + 1; text = c.push_told.new.text })
-    (record { event = c.args.event.now; loud = c.args.loud } ∷ []) c.requires.playing refl (returns-clause-ran c)
+    (record { event = c.args.event.now; reported = c.args.reported } ∷ []) c.requires.playing refl (returns-clause-ran c)

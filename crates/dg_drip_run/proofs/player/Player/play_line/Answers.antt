@@ -17,7 +17,7 @@ play_sweeps-requires-clause-playing c = begun_playing c.args.self.now c.requires
 
 pub returns-in-Happens : goal.returns-in-Happens
 returns-in-Happens c =
-    rw c.in-Happens.is (events_played c.happen.result c.args.self.now c.happen.new.self (Happens c.in-Happens.event) (record { event = c.in-Happens.event; loud = true } ∷ []) (λ s before h. refl) c.happen.ensures.ran)
+    rw c.in-Happens.is (events_played c.happen.result c.args.self.now c.happen.new.self (Happens c.in-Happens.event) (record { event = c.in-Happens.event; reported = true } ∷ []) (λ s before h. refl) c.happen.ensures.ran)
 
 pub returns-in-Round : goal.returns-in-Round
 returns-in-Round c =

@@ -22,15 +22,15 @@ use Rattle.dg_world.proofs.KnownLemmas.{known_then, on_control}
 use Rattle.dg_world.proofs.world.World.apply.Goals as goal
 
 pub returns-then-self-ge-MOST_EVENTS : goal.returns-then-self-ge-MOST_EVENTS
-returns-then-self-ge-MOST_EVENTS g c = full_done _ c.args.loud _ (omega (arith, c.if-self-ge-MOST_EVENTS.true))
+returns-then-self-ge-MOST_EVENTS g c = full_done _ c.args.reported _ (omega (arith, c.if-self-ge-MOST_EVENTS.true))
 
 pub returns-then-is_err : goal.returns-then-is_err
 returns-then-is_err g c =
-    lacking_done _ c.args.loud _ _ c.if-self-ge-MOST_EVENTS.false refl refl (λ w is. reserved c.args.self.now c.reserve.new.self _ w c.reserve.ensures.same is)
+    lacking_done _ c.args.reported _ _ c.if-self-ge-MOST_EVENTS.false refl refl (λ w is. reserved c.args.self.now c.reserve.new.self _ w c.reserve.ensures.same is)
 
 pub returns-then-is_err-2 : goal.returns-then-is_err-2
 returns-then-is_err-2 g c =
-    lacking_done _ c.args.loud _ _ c.if-self-ge-MOST_EVENTS.false refl c.reserve-2.ensures.items (λ w is. reserved c.args.self.now c.reserve.new.self _ w c.reserve.ensures.same is)
+    lacking_done _ c.args.reported _ _ c.if-self-ge-MOST_EVENTS.false refl c.reserve-2.ensures.items (λ w is. reserved c.args.self.now c.reserve.new.self _ w c.reserve.ensures.same is)
 
 pub invariant_of-occasion : goal.invariant_of-occasion
 invariant_of-occasion g c =
@@ -109,7 +109,7 @@ returns-in-Ok g c =
     let law = c.consistency_is_kept.ensures in
     let first = deployed begun bs c.args.out.now.items in
     let last = deployed (record { moment = v.moment + c.from.result; events = v.events + 1; shared = record v.shared { air = c.send.new.self }; motes = with_item v.motes i c.step_at.new.runs; known = c.note.new.boards }) (map device (slice_set boards i c.step_at.new.board)) c.step_at.new.out.items in
-    let Made : List Report → Type 0 = λ old. ApplyMade (Ok tt) x c.args.loud (deployed v bs old) last in
+    let Made : List Report → Type 0 = λ old. ApplyMade (Ok tt) x c.args.reported (deployed v bs old) last in
     let made : Made told = record {
       ends = λ w is fits.
           let short : dt_of event < 2 ^ 32 = omega (arith, c.dt_at.ensures, c.dt_at.type_inv) in
@@ -120,7 +120,7 @@ returns-in-Ok g c =
           (c.in-Ok.ensures.sees w (record { shared = is.shared; stands = stands w is; moment = now w is })) after (on_control b.image c.step_at.new.runs stepped.ends.here.store stepped.ends.here.runs stepped.ends.mote) in
           let others : (k : ℕ) → k ≢ i → set.contains c.note.new.boards k ≡ known_of v k = λ k other. c.note.ensures.others k (λ e. other (e ∙ sym c.from-index.ensures)) in
           let noted = ap (λ (j : ℕ). set.contains c.note.new.boards j) c.from-index.ensures ∙ c.note.ensures.here in
-          applied_at v _ bs _ w x c.args.loud i _ c.step_at.new.runs (sent_in t.outbox) _ b told c.step_at.new.out.items put is at (within w is) few short
+          applied_at v _ bs _ w x c.args.reported i _ c.step_at.new.runs (sent_in t.outbox) _ b told c.step_at.new.out.items put is at (within w is) few short
           (record { moment_then = now w is; events = refl; images = refl; links = refl; narrow = refl; sends = λ before carries. sent_at c.mote_at-mote.result i (sent_in t.outbox) before c.send.new.self c.from-index.ensures (c.send.ensures before carries); motes = refl })
           (record { others = others; here = λ known. (iff.0 (sym noted ∙ known)).0 }) here stepped
           (λ z reports step. c.agreement_is_kept.ensures.timely w z x reports is.timely fits step);
@@ -146,7 +146,7 @@ returns-in-Ok g c =
           let stays = c.step_at.ensures.unseen w (record { shared = is.shared; stands = stands w is; moment = now w is }) unseen in
           (put ∙ put_back bs i _ _ here stays.0, tt);
     } in
-    made_done x c.args.loud first last c.reserve.new.self asked.0 asked.1 asked.2 few c.reserve.ensures.same (λ golden y z reports. law.stepped golden y z x reports) (λ golden y. law.stopped golden y x.event) (Ok tt)
+    made_done x c.args.reported first last c.reserve.new.self asked.0 asked.1 asked.2 few c.reserve.ensures.same (λ golden y z reports. law.stepped golden y z x reports) (λ golden y. law.stopped golden y x.event) (Ok tt)
     (subst Made c.reserve-2.ensures.items made)
 
 pub returns-in-Err : goal.returns-in-Err
@@ -178,16 +178,16 @@ returns-in-Err g c =
     let law = c.consistency_is_kept.ensures in
     let first = deployed begun bs c.args.out.now.items in
     let last = deployed (record v { motes = with_item v.motes i c.step_at.new.runs }) (map device (slice_set boards i c.step_at.new.board)) c.step_at.new.out.items in
-    let Made : List Report → Type 0 = λ old. ApplyMade (Err c.fault_at.result) x c.args.loud (deployed v bs old) last in
+    let Made : List Report → Type 0 = λ old. ApplyMade (Err c.fault_at.result) x c.args.reported (deployed v bs old) last in
     let made : Made told = record {
       ends = λ w is fits.
           let stepped = c.in-Err.ensures.steps w fits (record { shared = is.shared; stands = stands w is; moment = now w is }) in
-          halts_there (halt_of c.in-Err.fault t.before) c.fault_at.result v _ bs _ w x c.args.loud _ _ i c.mote_at-mote.result _ b told c.step_at.new.out.items put (c.fault_at.ensures t.before) c.from-index.ensures is at (within w is) here stepped;
+          halts_there (halt_of c.in-Err.fault t.before) c.fault_at.result v _ bs _ w x c.args.reported _ _ i c.mote_at-mote.result _ b told c.step_at.new.out.items put (c.fault_at.ensures t.before) c.from-index.ensures is at (within w is) here stepped;
       known = tt;
       order_reads = λ w m p q is same known old new.
           said_at (λ d e. OrderTakes event d e) bs _ i m _ b p q put (omega (arith, wide, length-map boards device)) here (at ∙ sym same) old new (c.step_at.ensures.order_reads (is_known m same known));
       inject_reads = tt;
       unseen = λ w is fits unseen. not_err c.step_at.result _ c.in-Err.is (c.step_at.ensures.unseen w (record { shared = is.shared; stands = stands w is; moment = now w is }) unseen).1;
     } in
-    made_done x c.args.loud first last c.reserve.new.self asked.0 asked.1 asked.2 few c.reserve.ensures.same (λ golden y z reports. law.stepped golden y z x reports) (λ golden y. law.stopped golden y x.event) (Err c.fault_at.result)
+    made_done x c.args.reported first last c.reserve.new.self asked.0 asked.1 asked.2 few c.reserve.ensures.same (λ golden y z reports. law.stepped golden y z x reports) (λ golden y. law.stopped golden y x.event) (Err c.fault_at.result)
     (subst Made c.reserve-2.ensures.items made)

@@ -1,6 +1,6 @@
 use Rattle.std.proofs.Common.{◌∷◌, ◌++◌, [], ap, sym, ◌∙◌, subst}
 use Rattle.std.specs.Prelude.{not, Option}
-use Rattle.dg_base.specs.declared.events.Key.{Key}
+use Rattle.dg_base.specs.declared.events.ImageVersion.{ImageVersion}
 use Rattle.dg_object.specs.Object.{Row, row_of}
 use Rattle.dg_rules.specs.Steps.{declared_as}
 use Rattle.dg_world.specs.Worlds.{IsWorld}
@@ -22,7 +22,7 @@ pub returns-in-Ok-clause-declared : goal.returns-in-Ok-clause-declared
 returns-in-Ok-clause-declared c = λ boards w is.
     let v = c.args.self.now in
     let row = row_of c.args.image c.args.version c.args.name c.args.content in
-    let key : Key = record { image = c.args.image; version = c.args.version } in
+    let key : ImageVersion = record { image = c.args.image; version = c.args.version } in
     let s : Shared = record { images = c.add.new.self; links = v.shared.links; narrow = v.shared.narrow; air = v.shared.air } in
     let u : World = record v { shared = s } in
     subst (λ (o : Option Row). IsWorld u boards (declared_as o w row)) (sym (unknown_row v.shared.images w.declared key is.shared.declared c.in_default.ensures))
