@@ -8,7 +8,7 @@ use Rattle.dg_object.specs.Object.{Row}
 use Rattle.dg_volume.specs.Table.{row_at, has_key}
 use Rattle.dg_rules.specs.Changes.{same_row, is_taken}
 use Rattle.dg_base.specs.declared.events.ImageVersion.{ImageVersion}
-use Rattle.dg_base.specs.contracts.events.KeyOrd.TheImpl.{cmp-value}
+use Rattle.dg_base.specs.contracts.events.ImageVersionOrd.TheImpl.{cmp-value}
 use Rattle.dg_world.specs.Images.{found, is_key, row_of_image, Declares, NothingDeclared}
 use Rattle.dg_world.specs.declared.images.Image.{Image}
 use Rattle.dg_world.specs.declared.images.Images.{Images}
