@@ -65,8 +65,8 @@ pub enum BootFault {
 }
 
 /// Starts the image of a chip: counts the start, makes the choice, copies the image where it is not in program memory
-/// yet, and sets program memory to it. A page is copied by 9 operations, an erase and 8 programs of 138 bytes. Where the
-/// image runs on that is in program memory, nothing is written. No clause bounds what is read.
+/// yet, and sets program memory to it. A page is copied by 9 operations, an erase and 8 programs of 138 bytes. A start with
+/// nothing to commit and nothing to copy writes nothing. No clause bounds what is read.
 ///
 /// Whatever frames made the store of a consistent chip: golden runs byte for byte, or pages that fit the descriptor before
 /// them, and the chip stays consistent, however the start ends, also where it stops. A chip that is no volume keeps its

@@ -31,7 +31,7 @@ use Rattle.dg_world.specs.declared.world.World.{World as KeptWorld}
 use Rattle.dg_replay.specs.Boards.{WorldStands, ItemStops, LacksImage, EventNext}
 use Rattle.dg_replay.specs.Playing.{KeepsMotes, ItemsRun, ItemsPlayed, ItemsBegun, ItemsPlayedAs, IsOneTooMany, StopsInItem}
 use Rattle.dg_replay.specs.declared.stop.Stop.{Stop}
-use Rattle.dg_replay.specs.Stages.{telling}
+use Rattle.dg_replay.specs.Stages.{boards_told}
 use Rattle.dg_replay.specs.declared.stop.Stop.TheVariants.{Memory, BadInput, WriteFault, FlashFault, TooMany, NoBoard, NoImage, NotAVolume}
 use Rattle.dg_replay.proofs.ItemLemmas.{items_run_none, items_run_one, items_run_join, declared_same, step_counts}
 use Rattle.dg_replay.proofs.BoardLemmas.{boards_through, caused_through, there}
@@ -199,13 +199,13 @@ ended_in w x reported v initial old new told may is e stands =
     begun_none w (Happened x reported ∷ []) (λ u left text. LacksImage u left initial new × (told ≡ told ++ text)) is.few_events
     (record { next = record { step = x; reported = reported; more = []; is = refl }; after = e.world; ends = e.ends; boards = ended_stands w x v initial old new may is e stands }, sym (append-nil told))
 
--- it was applied, and this came of telling it
+-- it was applied, and this came of boards_told it
 pub told_as : (r : Result (Unit {0}) Stop) (w : World) (x : Step) (reported : Bool) (v v2 : KeptWorld) (initial old new : List Device) (before reports : List Report) (told_before told : List ℕ) → before ≡ [] → MayStep v old x → Applied w x reported (deployed v old before) (deployed v2 new reports)
-    → OnOk r (told ≡ told_before ++ report_text reports) → OnErr r (r ≡ Err Memory) → IsWorld v old w → WorldStands w initial old → ItemsPlayedAs r w (Happened x reported ∷ []) v2 initial told_before (telling new told)
+    → OnOk r (told ≡ told_before ++ report_text reports) → OnErr r (r ≡ Err Memory) → IsWorld v old w → WorldStands w initial old → ItemsPlayedAs r w (Happened x reported ∷ []) v2 initial told_before (boards_told new told)
 told_as (Ok u) w x reported v v2 initial old new before reports told_before told none may a is_told memory is stands = applied_played w x reported v v2 initial old new before reports told_before told none may a is_told is stands
 told_as (Err stop) w x reported v v2 initial old new before reports told_before told none may a is_told memory is stands =
     let same : stop ≡ Memory = err_is stop Memory memory in
-    subst (λ (e : Stop). ItemsPlayedAs (Err e) w (Happened x reported ∷ []) v2 initial told_before (telling new told)) (sym same) (applied_untold w x reported v v2 initial old new before reports none may a is stands)
+    subst (λ (e : Stop). ItemsPlayedAs (Err e) w (Happened x reported ∷ []) v2 initial told_before (boards_told new told)) (sym same) (applied_untold w x reported v v2 initial old new before reports none may a is stands)
 
 -- the world that is kept goes on behind an event
 pub goes_on : (r : Result (Unit {0}) Stop) (k k2 : KeptWorld) (old new : List Device) → ((w : World) → IsWorld k old w → (u : World) × IsWorld k2 new u × (length u.sites ≡ length w.sites)) → KeepsMotes r k k2 old new
@@ -241,13 +241,13 @@ declared_played w z row reports v2 initial now told_before told step kept is_tol
       told_now = is_told;
     }
 
--- it was declared with another name or content, and this came of telling it
+-- it was declared with another name or content, and this came of boards_told it
 pub taken_as : (r : Result (Unit {0}) Stop) (w : World) (row : Row) (v2 : KeptWorld) (initial now : List Device) (reports : List Report) (told_before told : List ℕ) → DeclareStep w row w reports → OnOk r (told ≡ told_before ++ report_text reports) → OnErr r (r ≡ Err Memory)
-    → IsWorld v2 now w → WorldStands w initial now → ItemsPlayedAs r w (Declares row ∷ []) v2 initial told_before (telling now told)
+    → IsWorld v2 now w → WorldStands w initial now → ItemsPlayedAs r w (Declares row ∷ []) v2 initial told_before (boards_told now told)
 taken_as (Ok u) w row v2 initial now reports told_before told step is_told memory is stands = declared_played w w row reports v2 initial now told_before told step is is_told stands
 taken_as (Err stop) w row v2 initial now reports told_before told step is_told memory is stands =
     let same : stop ≡ Memory = err_is stop Memory memory in
-    subst (λ (e : Stop). ItemsPlayedAs (Err e) w (Declares row ∷ []) v2 initial told_before (telling now told)) (sym same) (begun_none w (Declares row ∷ []) (λ u left text. WorldStands u initial now) is.few_events stands)
+    subst (λ (e : Stop). ItemsPlayedAs (Err e) w (Declares row ∷ []) v2 initial told_before (boards_told now told)) (sym same) (begun_none w (Declares row ∷ []) (λ u left text. WorldStands u initial now) is.few_events stands)
 
 -- a row was declared that is not taken: nothing is told
 pub declared_step : (o : Option Row) (w : World) (row : Row) → row_at w.declared row.image row.version ≡ o → is_taken o row ≡ false → DeclareStep w row (declared_as o w row) []
@@ -301,8 +301,8 @@ played_join w xs ys k k2 initial mid now t0 t1 t2 a b =
     }
 
 -- one part was played, and another stopped
-pub stopped_later : (stop : Stop) (w : World) (xs ys more whole : List Item) (k k2 : KeptWorld) (initial mid now : List Device) (t0 t1 t2 : List ℕ) (a : ItemsPlayed w xs k initial mid t0 t1) → ItemsPlayedAs (Err stop) a.world ys k2 initial t1 (telling now t2)
-    → whole ≡ xs ++ (ys ++ more) → ItemsPlayedAs (Err stop) w whole k2 initial t0 (telling now t2)
+pub stopped_later : (stop : Stop) (w : World) (xs ys more whole : List Item) (k k2 : KeptWorld) (initial mid now : List Device) (t0 t1 t2 : List ℕ) (a : ItemsPlayed w xs k initial mid t0 t1) → ItemsPlayedAs (Err stop) a.world ys k2 initial t1 (boards_told now t2)
+    → whole ≡ xs ++ (ys ++ more) → ItemsPlayedAs (Err stop) w whole k2 initial t0 (boards_told now t2)
 unfolding next_more
 stopped_later Memory w xs ys more whole k k2 initial mid now t0 t1 t2 a b is =
     begun_later w a.world xs ys more whole a.text (λ v left text. WorldStands v initial now) (λ v left text. WorldStands v initial now) a.runs b is (λ v left text h. h)

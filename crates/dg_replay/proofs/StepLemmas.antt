@@ -15,7 +15,7 @@ use Rattle.dg_world.specs.declared.world.World.{World as KeptWorld}
 use Rattle.dg_completion.proofs.GrowLemmas.{all_append, all_replicate, all_times}
 use Rattle.dg_replay.specs.Boards.{WorldStands}
 use Rattle.dg_replay.specs.Playing.{ItemsPlayed, ItemsPlayedAs}
-use Rattle.dg_replay.specs.Stages.{telling}
+use Rattle.dg_replay.specs.Stages.{boards_told}
 use Rattle.dg_replay.specs.declared.stop.Stop.{Stop}
 use Rattle.dg_replay.proofs.ItemStepLemmas.{played_none, played_join, stopped_later}
 
@@ -40,8 +40,8 @@ so_far_more xs ys first k k2 old mid now t0 t1 t2 s goes played =
     }
 
 so_far_stops : (stop : Stop) (xs ys more whole : List Item) (first k k2 : KeptWorld) (old mid now : List Device) (t0 t1 t2 : List ℕ) → PlayedSoFar xs first k old mid t0 t1
-    → ((w : World) (initial : List Device) → IsWorld k mid w → WorldStands w initial mid → ItemsPlayedAs (Err stop) w ys k2 initial t1 (telling now t2)) → whole ≡ xs ++ (ys ++ more)
-    → (w : World) (initial : List Device) → IsWorld first old w → WorldStands w initial old → ItemsPlayedAs (Err stop) w whole k2 initial t0 (telling now t2)
+    → ((w : World) (initial : List Device) → IsWorld k mid w → WorldStands w initial mid → ItemsPlayedAs (Err stop) w ys k2 initial t1 (boards_told now t2)) → whole ≡ xs ++ (ys ++ more)
+    → (w : World) (initial : List Device) → IsWorld first old w → WorldStands w initial old → ItemsPlayedAs (Err stop) w whole k2 initial t0 (boards_told now t2)
 so_far_stops stop xs ys more whole first k k2 old mid now t0 t1 t2 s played is w initial at stands =
     let a = s.played w initial at stands in
     stopped_later stop w xs ys more whole k k2 initial mid now t0 t1 t2 a (played a.world initial a.kept_now a.boards) is
@@ -122,8 +122,8 @@ events_more all given left others event first k k2 old mid now t0 t1 t2 s next g
     }
 
 pub events_stop : (stop : Stop) (all given left others : List Event) (event : Event) (first k k2 : KeptWorld) (old mid now : List Device) (t0 t1 t2 : List ℕ) → EventsSoFar all given left first k old mid t0 t1 → left ≡ event ∷ others
-    → ((w : World) (initial : List Device) → IsWorld k mid w → WorldStands w initial mid → ItemsPlayedAs (Err stop) w (unreported (event ∷ [])) k2 initial t1 (telling now t2))
-    → (w : World) (initial : List Device) → IsWorld first old w → WorldStands w initial old → ItemsPlayedAs (Err stop) w (unreported all) k2 initial t0 (telling now t2)
+    → ((w : World) (initial : List Device) → IsWorld k mid w → WorldStands w initial mid → ItemsPlayedAs (Err stop) w (unreported (event ∷ [])) k2 initial t1 (boards_told now t2))
+    → (w : World) (initial : List Device) → IsWorld first old w → WorldStands w initial old → ItemsPlayedAs (Err stop) w (unreported all) k2 initial t0 (boards_told now t2)
 events_stop stop all given left others event first k k2 old mid now t0 t1 t2 s next played =
     so_far_stops stop (unreported given) (unreported (event ∷ [])) (unreported others) (unreported all) first k k2 old mid now t0 t1 t2 s.so_far played
     (unreported_join given (event ∷ []) others all (ap (λ (xs : List Event). given ++ xs) (sym next) ∙ s.parts))
@@ -152,8 +152,8 @@ times_so_far k events first k1 k2 old mid now t0 t1 t2 s goes played =
     subst (λ (xs : List Item). PlayedSoFar xs first k2 old now t0 t2) (sym e) (so_far_more (unreported (times k events)) (unreported events) first k1 k2 old mid now t0 t1 t2 s goes played)
 
 pub times_stop : (stop : Stop) (k n : ℕ) (events : List Event) (first k1 k2 : KeptWorld) (old mid now : List Device) (t0 t1 t2 : List ℕ) → PlayedSoFar (unreported (times k events)) first k1 old mid t0 t1 → k < n
-    → ((w : World) (initial : List Device) → IsWorld k1 mid w → WorldStands w initial mid → ItemsPlayedAs (Err stop) w (unreported events) k2 initial t1 (telling now t2))
-    → (w : World) (initial : List Device) → IsWorld first old w → WorldStands w initial old → ItemsPlayedAs (Err stop) w (unreported (times n events)) k2 initial t0 (telling now t2)
+    → ((w : World) (initial : List Device) → IsWorld k1 mid w → WorldStands w initial mid → ItemsPlayedAs (Err stop) w (unreported events) k2 initial t1 (boards_told now t2))
+    → (w : World) (initial : List Device) → IsWorld first old w → WorldStands w initial old → ItemsPlayedAs (Err stop) w (unreported (times n events)) k2 initial t0 (boards_told now t2)
 times_stop stop k n events first k1 k2 old mid now t0 t1 t2 s h played =
     so_far_stops stop (unreported (times k events)) (unreported events) (unreported (times (n - k - 1) events)) (unreported (times n events)) first k1 k2 old mid now t0 t1 t2 s played
     (unreported_join (times k events) events (times (n - k - 1) events) (times n events) (times_next k n events h))
@@ -187,8 +187,8 @@ so_far_then xs ys first k k2 old mid now t0 t1 t2 s goes played =
 
 -- a call behind others at which the replay stops
 pub so_far_stop : (stop : Stop) (xs ys more all : List Event) (first k k2 : KeptWorld) (old mid now : List Device) (t0 t1 t2 : List ℕ) → PlayedSoFar (unreported xs) first k old mid t0 t1
-    → ((w : World) (initial : List Device) → IsWorld k mid w → WorldStands w initial mid → ItemsPlayedAs (Err stop) w (unreported ys) k2 initial t1 (telling now t2)) → xs ++ (ys ++ more) ≡ all
-    → (w : World) (initial : List Device) → IsWorld first old w → WorldStands w initial old → ItemsPlayedAs (Err stop) w (unreported all) k2 initial t0 (telling now t2)
+    → ((w : World) (initial : List Device) → IsWorld k mid w → WorldStands w initial mid → ItemsPlayedAs (Err stop) w (unreported ys) k2 initial t1 (boards_told now t2)) → xs ++ (ys ++ more) ≡ all
+    → (w : World) (initial : List Device) → IsWorld first old w → WorldStands w initial old → ItemsPlayedAs (Err stop) w (unreported all) k2 initial t0 (boards_told now t2)
 so_far_stop stop xs ys more all first k k2 old mid now t0 t1 t2 s played parts =
     so_far_stops stop (unreported xs) (unreported ys) (unreported more) (unreported all) first k k2 old mid now t0 t1 t2 s played (unreported_join xs ys more all parts)
 

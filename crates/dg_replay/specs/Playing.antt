@@ -31,7 +31,7 @@ use Rattle.dg_replay.specs.Boards.{LacksImage}
 use Rattle.dg_script.specs.Items.{Item, Declares, Happens as Happened, item_by, items_of, place_behind}
 use Rattle.dg_replay.specs.Items.{Ground, UsesBoards, beginning_of, motes_in, lacking_by}
 use Rattle.dg_replay.specs.Outcome.{IsGround, item_played, played_text, RunsTo}
-use Rattle.dg_replay.specs.Stages.{Basis, DoneSoFar, Telling}
+use Rattle.dg_replay.specs.Stages.{Basis, DoneSoFar, BoardsTold}
 use Rattle.dg_replay.specs.declared.player.Player.{Player}
 use Rattle.dg_replay.specs.declared.stop.Stop.{Stop}
 use Rattle.dg_replay.specs.declared.stop.Stop.TheVariants.{Memory, BadInput, WriteFault, FlashFault, TooMany, NoBoard, NoImage}
@@ -80,7 +80,7 @@ pub record StopsInItem (w : World) (left : List Item) (initial now : List Device
 
 -- What playing items answers, where this was told before, and b are the boards and what is told then.
 abbrev pub ItemsPlayedAs : Result (Unit {0}) Stop → World → List Item → KeptWorld → (initial : List Device)
-    → (told_before : List ℕ) → (b : Telling) → Type 0
+    → (told_before : List ℕ) → (b : BoardsTold) → Type 0
 ItemsPlayedAs (Ok u) w items kept initial told_before b = ItemsPlayed w items kept initial b.boards told_before b.told
 ItemsPlayedAs (Err Memory) w items kept initial told_before b =
     ItemsBegun w items (λ v left text. WorldStands v initial b.boards)
@@ -184,7 +184,7 @@ LineRuns table initial done line w v text = (g : Ground) (played : List Played) 
 
 -- A line was played behind others, and this is told of it.
 pub record PlayedLine (basis : Basis) (q : Player) (behind : DoneSoFar) (line : Line) (told_before : List ℕ)
-    (b : Telling) : Type 0 where
+    (b : BoardsTold) : Type 0 where
   pub world : Option World
   pub text : List ℕ
   pub told_now : b.told ≡ told_before ++ text
@@ -218,7 +218,7 @@ pub record LacksBoards (line : Line) (motes boards : ℕ) (initial old new : Lis
 
 -- What playing a line answers, from a player and boards that stand for the world behind other lines. The boards and what is
 -- told were a before it, and are b then.
-abbrev pub PlayedAs : Basis → Result (Unit {0}) Stop → Player → (behind : DoneSoFar) → Line → (a b : Telling) → Type 0
+abbrev pub PlayedAs : Basis → Result (Unit {0}) Stop → Player → (behind : DoneSoFar) → Line → (a b : BoardsTold) → Type 0
 PlayedAs basis (Ok u) q behind line a b = PlayedLine basis q behind line a.told b
 PlayedAs basis (Err Memory) q behind line a b =
     LineBegun behind.lines line behind.world (λ v left text. BoardsStand v basis.boards b.boards)

@@ -27,7 +27,7 @@ use Rattle.dg_replay.specs.Outcome.{Progress, ReachesEnding, AtTooMany, closing,
 use Rattle.dg_replay.specs.Outcome.{RunsTo, item_played, played_text, told_of, IsSettled, AreWhole, AllWhole, NextIsWhole}
 use Rattle.dg_replay.specs.Outcome.{DoneIsWhole, ReadEnough, ReadsNear, NoVolumeThere, NoImageThere, no_volume_line}
 use Rattle.dg_replay.specs.Outcome.{no_image_line}
-use Rattle.dg_replay.specs.Stages.{Basis, DoneSoFar, ReplayState, LineRead, Span, BytesTaken, Failures, telling, span}
+use Rattle.dg_replay.specs.Stages.{Basis, DoneSoFar, ReplayState, LineRead, Span, BytesTaken, Failures, boards_told, span}
 use Rattle.dg_replay.specs.Playing.{Stood, PlayedLine, LineBegun, IsOneTooMany, LacksBoards, Grounded}
 use Rattle.dg_replay.specs.declared.player.Player.{Player}
 use Rattle.dg_script.specs.declared.line.Line.{Line}
@@ -45,7 +45,7 @@ pub record TextPlayed (basis : Basis) (text : List ℕ) (so_far : DoneSoFar) (p 
   pub line : Line
   pub spelled : line_of p.place text ≡ Ok line
   pub told : List ℕ
-  pub to : PlayedLine basis q so_far line [] (telling now told)
+  pub to : PlayedLine basis q so_far line [] (boards_told now told)
   pub behind : q.place ≡ place_after p.place line
 
 -- and what is told of it was written

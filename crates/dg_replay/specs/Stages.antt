@@ -23,12 +23,12 @@ abbrev pub done_so_far : (lines : List Line) (world : Option World) → DoneSoFa
 done_so_far lines world = record { lines = lines; world = world }
 
 -- The boards, and what was told of lines so far.
-pub record Telling : Type 0 where
+pub record BoardsTold : Type 0 where
   pub boards : List Device
   pub told : List ℕ
 
-abbrev pub telling : (boards : List Device) (told : List ℕ) → Telling
-telling boards told = record { boards = boards; told = told }
+abbrev pub boards_told : (boards : List Device) (told : List ℕ) → BoardsTold
+boards_told boards told = record { boards = boards; told = told }
 
 -- The state of a replay: its player, the boards, and what was written, where that is told.
 pub record ReplayState : Type 0 where

@@ -15,7 +15,7 @@ ghost use Rattle.dg_world.specs.Worlds.{IsWorld};
 ghost use Rattle.dg_world.specs.Occasions.{step_of};
 ghost use Rattle.dg_replay.specs.Boards.{WorldStands};
 ghost use Rattle.dg_replay.specs.Playing.{ItemsPlayedAs, KeepsMotes};
-ghost use Rattle.dg_replay.specs.Stages.{telling};
+ghost use Rattle.dg_replay.specs.Stages.{boards_told};
 
 use crate::stop::Stop;
 use dg_base::{Bytes, Cut, Event, ImageVersion};
@@ -70,7 +70,7 @@ pub fn play_image(
     requires fits { FitsImage key.image key.version name content }
     ensures { (boards initial : List Device) (w : RuleWorld) → IsWorld world.old boards w → WorldStands w initial boards
         → ItemsPlayedAs result w (Declares (row_of key.image key.version name content) ∷ []) world.new initial
-        told.old.text.items (telling boards told.new.text.items) }
+        told.old.text.items (boards_told boards told.new.text.items) }
 {
     let ImageVersion { image, version } = key;
     told.reports.clear();
@@ -101,7 +101,7 @@ pub fn play_event<N: Nor>(
     ensures played { (w : RuleWorld) (initial : List Device) → IsWorld world.old (map N.device boards.old.items) w
         → WorldStands w initial (map N.device boards.old.items)
         → ItemsPlayedAs result w (Happens (step_of event.now (option_copied cut.entry)) reported ∷ []) world.new initial
-        told.old.text.items (telling (map N.device boards.new.items) told.new.text.items) }
+        told.old.text.items (boards_told (map N.device boards.new.items) told.new.text.items) }
 {
     told.reports.clear();
     match world.apply(boards, event, cut, reported, &mut told.reports) {
@@ -127,7 +127,7 @@ pub fn play_round<N: Nor>(
     ensures played { (w : RuleWorld) (initial : List Device) → IsWorld world.old (map N.device boards.old.items) w
         → WorldStands w initial (map N.device boards.old.items)
         → ItemsPlayedAs result w (unreported (round a b)) world.new initial told.old.text.items
-        (telling (map N.device boards.new.items) told.new.text.items) }
+        (boards_told (map N.device boards.new.items) told.new.text.items) }
 {
     for event in round(a, b) {
         play_event(world, &event, None, false, boards, told)?;
@@ -148,7 +148,7 @@ fn play_both<N: Nor>(
     ensures played { (w : RuleWorld) (initial : List Device) → IsWorld world.old (map N.device boards.old.items) w
         → WorldStands w initial (map N.device boards.old.items)
         → ItemsPlayedAs result w (unreported (round a b ++ round b a)) world.new initial told.old.text.items
-        (telling (map N.device boards.new.items) told.new.text.items) }
+        (boards_told (map N.device boards.new.items) told.new.text.items) }
 {
     play_round(world, a, b, boards, told)?;
     play_round(world, b, a, boards, told)?;
@@ -168,7 +168,7 @@ fn play_sweep<N: Nor>(
     ensures played { (w : RuleWorld) (initial : List Device) → IsWorld world.old (map N.device boards.old.items) w
         → WorldStands w initial (map N.device boards.old.items)
         → ItemsPlayedAs result w (unreported (sweep links.now)) world.new initial told.old.text.items
-        (telling (map N.device boards.new.items) told.new.text.items) }
+        (boards_told (map N.device boards.new.items) told.new.text.items) }
 {
     for link in links {
         play_both(world, link.0, link.1, boards, told)?;
@@ -189,7 +189,7 @@ pub fn play_sweeps<N: Nor>(
     ensures { (w : RuleWorld) (initial : List Device) → IsWorld world.old (map N.device boards.old.items) w
         → WorldStands w initial (map N.device boards.old.items)
         → ItemsPlayedAs result w (unreported (times count (sweep links.now))) world.new initial told.old.text.items
-        (telling (map N.device boards.new.items) told.new.text.items) }
+        (boards_told (map N.device boards.new.items) told.new.text.items) }
 {
     for _ in 0..count {
         play_sweep(world, links, boards, told)?;

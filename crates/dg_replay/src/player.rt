@@ -5,7 +5,7 @@ ghost use Rattle.dg_volume.specs.Store.{fresh};
 ghost use Rattle.dg_script.specs.Fitting.{IsGolden};
 ghost use Rattle.dg_script.specs.Places.{first_place, place_after};
 ghost use Rattle.dg_replay.specs.Playing.{Stood, MayPlay, gone_on, Counted, PlayedAs, FormattedAs, MountedAs, mount_stop};
-ghost use Rattle.dg_replay.specs.Stages.{Basis, DoneSoFar, telling};
+ghost use Rattle.dg_replay.specs.Stages.{Basis, DoneSoFar, boards_told};
 
 use crate::items::{Told, play_event, play_image, play_round, play_sweeps};
 use crate::stop::Stop;
@@ -101,8 +101,8 @@ fn play_golden<N: Nor>(
     ensures played { (basis : Basis) (behind : DoneSoFar) (told : List ℕ)
         → Stood player.old behind.lines behind.world basis.boards (map N.device boards.old.items)
         → PlayedAs basis result (gone_on player.new (Line.Golden name.now used content.now)) behind
-        (Line.Golden name.now used content.now) (telling (map N.device boards.old.items) told)
-        (telling (map N.device boards.new.items) told) }
+        (Line.Golden name.now used content.now) (boards_told (map N.device boards.old.items) told)
+        (boards_told (map N.device boards.new.items) told) }
     ensures place { player.new.place ≡ player.old.place }
 {
     let motes = player.place.motes;
@@ -153,7 +153,7 @@ fn play_boards<N: Nor>(alloc: Global, player: &mut Player, boards: &mut Vec<N>) 
     ensures played { (basis : Basis) (behind : DoneSoFar) (told : List ℕ)
         → Stood player.old behind.lines behind.world basis.boards (map N.device boards.old.items)
         → PlayedAs basis result (gone_on player.new Line.Boards) behind Line.Boards
-        (telling (map N.device boards.old.items) told) (telling (map N.device boards.new.items) told) }
+        (boards_told (map N.device boards.old.items) told) (boards_told (map N.device boards.new.items) told) }
     ensures place { player.new.place ≡ player.old.place }
 {
     let motes = player.place.motes;
@@ -190,8 +190,8 @@ pub fn play_line<N: Nor>(
     ensures played { (basis : Basis) (behind : DoneSoFar)
         → Stood player.old behind.lines behind.world basis.boards (map N.device boards.old.items)
         → PlayedAs basis result (gone_on player.new line.new) behind line.old
-        (telling (map N.device boards.old.items) told.old.text.items)
-        (telling (map N.device boards.new.items) told.new.text.items) }
+        (boards_told (map N.device boards.old.items) told.old.text.items)
+        (boards_told (map N.device boards.new.items) told.new.text.items) }
     ensures behind { place_after player.new.place line.new ≡ place_after player.old.place line.old }
     ensures linked { (a b : ℕ) → line.new ≡ Line.Link a b → boards.new.items ≡ boards.old.items }
 {

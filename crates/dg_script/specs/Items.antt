@@ -11,7 +11,7 @@ use Rattle.dg_script.specs.declared.line.Line.TheVariants.{Nothing, Motes, Golde
 use Rattle.dg_script.specs.declared.line.Line.TheVariants.{Happens as HappensLine, Round, Sweeps}
 use Rattle.dg_script.specs.declared.place.Place.{Place}
 
--- A row is declared, or an event happens. It is quiet where a round or a sweep gave it: then it tells of no frame that it sent.
+-- A row is declared, or an event happens. One that a round or a sweep gave is unreported: it tells of no frame that it sent.
 pub data Item : Type 0 where
   Declares : (row : Row) → Item
   Happens : (step : Step) → (reported : Bool) → Item

@@ -45,14 +45,14 @@ pub record CutChangesAre (m : ℕ) (before : Option Shown) (t : Store) (told_bef
       → lines ≡ changes m s t
   pub told_now : told ≡ told_before ++ lines
 
--- they were told by what was found on the board, which stands for t
+-- what a look at the board tells, which stands for t: the lines of what the cut changed, or nothing where the board stopped
 abbrev pub CutTold : {T : Type 0} → Result T Fault → (m : ℕ) → Option Shown → Store → (told_before told : List Report) → Type 0
 CutTold (Ok u) m before t told_before told = CutChangesAre m before t told_before told
 CutTold (Err fault.Stopped) m before t told_before told = told ≡ told_before
 CutTold (Err fault.NotAVolume) m before t told_before told = ⊥
 CutTold (Err fault.NoImage) m before t told_before told = ⊥
 
--- for which it was read
+-- and how it leaves the board, which is only read
 abbrev pub CutRead : {T : Type 0} → Result T Fault → Device → Device → Type 0
 CutRead (Ok u) old new = BoardOnlyRead old new × (new.faults ≡ old.faults)
 CutRead (Err fault.Stopped) old new = (new.stopped ≡ true) × BoardOnlyRead old new

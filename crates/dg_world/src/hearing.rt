@@ -36,7 +36,7 @@ fn is_quiet(heard: Heard) -> bool
     }
 }
 
-/// A frame is heard, by a mote that is on. What its chip keeps is told by its own volume.
+/// A frame is heard, where the mote is on: what its chip keeps is told by its own volume. One that is off refuses it.
 pub(crate) fn hear<N: Nor>(
     runs: &mut Option<RunningMote>,
     now: u64,
