@@ -4,7 +4,7 @@ use Rattle.std.specs.Prelude.{Result, Ok}
 use Rattle.dg_base.specs.declared.events.Cut.{Cut}
 use Rattle.dg_script.specs.Lines.{cut_with}
 use Rattle.dg_script.specs.declared.fault.LineFault.{LineFault}
-use Rattle.dg_script.proofs.LineLemmas.{cut_with-ok}
+use Rattle.dg_script.proofs.FieldLemmas.{cut_with-ok}
 
 ok_is : (a b : Cut) → ◌≡◌ {A = Result Cut LineFault} (Ok a) (Ok b) → a ≡ b
 ok_is a b e = cc
