@@ -130,11 +130,8 @@ fn a_trace_leaves_the_same_bytes(rt: HostRuntime) -> Result<(), Fail> {
     let mut link = UdpLink::new(&rt, alloc);
     prepare(&rt, &paths, &mut link)?;
     for i in 0..2 {
-        fs::write(
-            &rt,
-            paths.copies[i].as_str(),
-            &fs::read(&rt, paths.chips[i].as_str())?,
-        )?;
+        let chip = fs::read(&rt, paths.chips[i].as_str())?;
+        fs::write(&rt, paths.copies[i].as_str(), &chip)?;
     }
     let serve = ["serve", "--turns", "50", "--seed", "7"];
     let profile = profile.as_bytes();
