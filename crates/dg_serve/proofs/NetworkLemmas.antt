@@ -24,7 +24,7 @@ use Rattle.dg_serve.specs.declared.network.NoProfile.TheVariants as none
 spells_by : (f : ProfileFault) (text : List ℕ) → length text ≤ most_used_bytes → Reads (Err f) (netprofile text) → SpellsNone (no_profile_of f) text
 spells_by fault.Memory text few h = tt
 spells_by fault.NotToml text few h = (few, sym h)
-spells_by fault.ImageVersion text few h = (few, sym h)
+spells_by fault.Key text few h = (few, sym h)
 spells_by fault.Id text few h = (few, sym h)
 spells_by fault.Link text few h = (few, sym h)
 spells_by fault.Port text few h = (few, sym h)
