@@ -41,6 +41,8 @@ impl World {
     {
         consistency_is_kept();
         agreement_is_kept();
+        // made before any return, so that its place is filled once
+        let mut telling = Telling::new();
         if self.events >= MOST_EVENTS {
             return Err(WorldFault::TooMany);
         }
@@ -64,7 +66,6 @@ impl World {
             known,
             reported,
         };
-        let mut telling = Telling::new();
         match step_at(&occasion, runs, event, cut, board, &mut telling, out) {
             Ok(()) => {
                 self.moment = moment;
