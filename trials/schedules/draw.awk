@@ -2,10 +2,10 @@
 # image, 1 for its odd versions and 0 for its even ones, the length and the seed of its content, its pages and the CRC; a
 # line of frames is a frame that nobody sent.
 function below(n) { x = x * 16807 % 2147483647; return int(x / 2147483647 * n) }
-function word() { return below(4) ? below(1000) : sprintf("%.0f", below(65536) * 65536 + below(65536)) }
+function draw() { return below(4) ? below(1000) : sprintf("%.0f", below(65536) * 65536 + below(65536)) }
 function hex(n, digits) { for (digits = ""; n > 0; n--) digits = digits sprintf("%02x", below(256)); return digits }
 function beside(m) { return (m + (below(2) ? 1 : 15)) % 16 }
-function wait() { return below(20) " " word() }
+function wait() { return below(20) " " draw() }
 function declare(i) { version[i]++; print "image " i " " version[i] " drawn gen:" content[i, version[i] % 2] }
 function row(i) { i = 1 + below(6); return i " " version[i] - (version[i] > 1 && below(4) == 0) }
 FNR == NR { content[$1, $2] = $3 ":" $4; next }
@@ -23,7 +23,7 @@ END {
         if (below(400) == 0) declare(1 + below(6))
         if (kind < 6 && events - played >= 202) { print "round " m " " beside(m); played += 201; continue }
         if (below(kind < 880 ? 40 : 3) == 0) print "cut " 1 + below(kind < 880 ? 3 : kind < 920 ? 160 : 26) " " hex(1 + below(3))
-        if (kind < 500) print "tick " m " " below(below(3) ? 400 : 6000) " " word()
+        if (kind < 500) print "tick " m " " below(below(3) ? 400 : 6000) " " draw()
         else if (kind < 780) print "last " m " " beside(m) " " wait()
         else if (kind < 840) print "hear " m " " wait() " " 1 + below(1 + int(played / 3))
         else if (kind < 860) print "frame " m " " wait() " hex:" frames[below(known)]

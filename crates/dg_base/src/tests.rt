@@ -189,7 +189,7 @@ fn events(rt: HostRuntime) -> Result<(), Fail> {
         event: Event::Frame {
             mote: 0,
             dt: 16,
-            word: 7,
+            draw: 7,
             bytes: Bytes::new(vec![in rt.alloc(); 0x01]?),
         },
         cut: Some(Cut {
@@ -203,15 +203,16 @@ fn events(rt: HostRuntime) -> Result<(), Fail> {
     pairs.push((0, 1))?;
     pairs.push((3, 2))?;
     assert_eq!(rt; pairs.as_slice(), [(0, 1), (3, 2)].as_slice());
-    let key = ImageVersion {
+    let image_version = ImageVersion {
         image: 1,
         version: 2,
     };
     assert!(rt;
-        key < ImageVersion {
-            image: 2,
-            version: 1
-        }
+        image_version
+            < ImageVersion {
+                image: 2,
+                version: 1
+            }
     );
     Ok(())
 }

@@ -10,7 +10,7 @@ use std::marker::Model;
 /// Where the text of the line that begins at `from` ends, and where the next line begins.
 ///
 /// A line ends at LF or at the end of `bytes`. One CR before the LF is not part of its text. The
-/// two places differ exactly where an LF ended the line.
+/// two offsets differ exactly where an LF ended the line.
 pub fn next_line(bytes: &[u8], from: usize) -> (usize, usize)
     requires { from ≤ length bytes.now }
     ensures start { from ≤ result.0 }
@@ -40,7 +40,7 @@ fn text_end(bytes: &[u8], from: usize, to: usize) -> usize
     ensures start { from ≤ result }
     ensures end { result ≤ to }
     ensures text { slice_range bytes.now from result ≡ strip_carriage_return (slice_range bytes.now from to) }
-    ensures cut { result < to → (result + 1 ≡ to) × (slice_index bytes.now result ≡ 13) }
+    ensures carriage_return { result < to → (result + 1 ≡ to) × (slice_index bytes.now result ≡ 13) }
 {
     if from == to {
         return to;

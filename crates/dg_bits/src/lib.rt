@@ -229,22 +229,22 @@ fn bits_set(byte: u8) -> u8
     byte.count_ones() as u8
 }
 
-// The byte with the bit at `place` set.
-fn with_bit(byte: u8, place: u8) -> u8
-    requires { place < 8 }
-    ensures set { bit_at result place ≡ 1 }
-    ensures others { (i : ℕ) → i < 8 → i ≢ place → bit_at result i ≡ bit_at byte i }
+// The byte with the bit at `position` set.
+fn with_bit(byte: u8, position: u8) -> u8
+    requires { position < 8 }
+    ensures set { bit_at result position ≡ 1 }
+    ensures others { (i : ℕ) → i < 8 → i ≢ position → bit_at result i ≡ bit_at byte i }
 {
-    byte | 1 << place
+    byte | 1 << position
 }
 
-// The byte with the bit at `place` cleared.
-fn without_bit(byte: u8, place: u8) -> u8
-    requires { place < 8 }
-    ensures cleared { bit_at result place ≡ 0 }
-    ensures others { (i : ℕ) → i < 8 → i ≢ place → bit_at result i ≡ bit_at byte i }
+// The byte with the bit at `position` cleared.
+fn without_bit(byte: u8, position: u8) -> u8
+    requires { position < 8 }
+    ensures cleared { bit_at result position ≡ 0 }
+    ensures others { (i : ℕ) → i < 8 → i ≢ position → bit_at result i ≡ bit_at byte i }
 {
-    byte & !(1 << place)
+    byte & !(1 << position)
 }
 
 // Adds the bits of other bytes.

@@ -14,11 +14,11 @@ use dg_control::{GOLDEN_VERSION, Program, SHORT_STARTS};
 use dg_order::pending;
 use dg_volume::{Kept, StartCause, Volume};
 
-/// Whether a start of this kind counts as a short one: it came by power, fewer than three stand, and there is room.
-pub(crate) fn counts(kind: StartCause, gesture: u8, room: u32) -> bool
-    ensures { (s : Store) → gesture ≡ s.gesture → room ≡ s.room → result ≡ counts kind s }
+/// Whether a start by this cause counts as a short one: it came by power, fewer than three stand, and there is room.
+pub(crate) fn counts(cause: StartCause, gesture: u8, room: u32) -> bool
+    ensures { (s : Store) → gesture ≡ s.gesture → room ≡ s.room → result ≡ counts cause s }
 {
-    match kind {
+    match cause {
         StartCause::Power => gesture < SHORT_STARTS && room > 0,
         StartCause::Order => false,
     }

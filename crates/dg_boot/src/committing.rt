@@ -48,17 +48,17 @@ pub(crate) fn commit<N: Nor>(
 pub(crate) fn count_start<N: Nor>(
     nor: &mut N,
     volume: &mut Volume,
-    kind: StartCause,
+    cause: StartCause,
 ) -> Result<(), Stopped>
     requires mounted { IsMounted (N.device nor.old).image volume.old }
     requires free { NothingLent volume.old }
     ensures goes { (s : Store) → Mounted (N.device nor.old).image volume.old s
-        → Goes result (count_trail kind s) (N.device nor.old) (N.device nor.new) volume.new }
+        → Goes result (count_trail cause s) (N.device nor.old) (N.device nor.new) volume.new }
     ensures free { OnOk result (NothingLent volume.new) }
     ensures touches { Touches 0 control_sectors (N.device nor.old).image (N.device nor.new).image }
 {
     let now = volume.snapshot();
-    if !counts(kind, now.gesture, volume.room()) {
+    if !counts(cause, now.gesture, volume.room()) {
         return Ok(());
     }
     commit(nor, volume, now.program, now.gesture + 1, now.waived)

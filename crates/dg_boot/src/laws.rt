@@ -6,7 +6,7 @@ ghost use Rattle.dg_volume.specs.Store.{Store, IsNear};
 ghost use Rattle.dg_volume.specs.Start.{app_of, boot, is_set_to, sound};
 ghost use Rattle.dg_volume.specs.Ends.{IsGolden};
 ghost use Rattle.dg_volume.specs.declared.volume.StartCause.{StartCause};
-ghost use Rattle.dg_volume.specs.declared.volume.StartCause.TheVariants as kinds;
+ghost use Rattle.dg_volume.specs.declared.volume.StartCause.TheVariants as causes;
 ghost use Rattle.dg_slot.specs.Layout.{page_size};
 ghost use Rattle.dg_boot.specs.Sizes.{copy_pieces, copy_piece_size};
 
@@ -22,26 +22,27 @@ pub fn a_copy_has_these_sizes()
 /// Where three short starts stand, golden alone is started while there is room for a commit. A start by power is the
 /// third itself where there is room to count it.
 pub fn three_short_starts_start_golden()
-    ensures stand { (kind : StartCause) (s : Store) → s.gesture ≡ short_starts → 1 ≤ s.room → IfSome (boot kind s).runs IsGolden }
-    ensures third { (s : Store) → s.gesture + 1 ≡ short_starts → 2 ≤ s.room → IfSome (boot kinds.Power s).runs IsGolden }
+    ensures stand { (cause : StartCause) (s : Store) → s.gesture ≡ short_starts → 1 ≤ s.room
+        → IfSome (boot cause s).runs IsGolden }
+    ensures third { (s : Store) → s.gesture + 1 ≡ short_starts → 2 ≤ s.room → IfSome (boot causes.Power s).runs IsGolden }
 {}
 
 /// A waived order is not started: golden runs, or what program memory was set to.
 pub fn a_waived_order_is_not_started()
-    ensures { (kind : StartCause) (s : Store) → s.waived ≡ true
-        → IfSome (boot kind s).runs (λ r. IsGolden r ⊎ (s.app ≡ Some (app_of r))) }
+    ensures { (cause : StartCause) (s : Store) → s.waived ≡ true
+        → IfSome (boot cause s).runs (λ r. IsGolden r ⊎ (s.app ≡ Some (app_of r))) }
 {}
 
 /// Program memory is set to what was copied with the last operation of a start, and not before: a stop in any earlier
 /// one leaves it blank, or as it was.
 pub fn an_image_is_set_once_it_is_copied()
-    ensures { (kind : StartCause) (s t : Store) (k : ℕ) → k + 1 < operations (boot kind s).trail
-        → Leaves IsNear (boot kind s).trail k t → (t.app ≡ s.app) ⊎ (t.app ≡ None) }
+    ensures { (cause : StartCause) (s t : Store) (k : ℕ) → k + 1 < operations (boot cause s).trail
+        → Leaves IsNear (boot cause s).trail k t → (t.app ≡ s.app) ⊎ (t.app ≡ None) }
 {}
 
 /// A start has an image where golden is sound, and where program memory is set to golden. So it lacks one only where
 /// neither holds.
 pub fn golden_can_be_started()
-    ensures sound { (kind : StartCause) (s : Store) → sound s 0 ≡ true → IsSome (boot kind s).runs }
-    ensures set { (kind : StartCause) (s : Store) → is_set_to s.app 0 golden_version ≡ true → IsSome (boot kind s).runs }
+    ensures sound { (cause : StartCause) (s : Store) → sound s 0 ≡ true → IsSome (boot cause s).runs }
+    ensures set { (cause : StartCause) (s : Store) → is_set_to s.app 0 golden_version ≡ true → IsSome (boot cause s).runs }
 {}

@@ -238,14 +238,14 @@ fn start_counted<N: Nor>(nor: &mut N, volume: Volume) -> Result<Started, BootFau
 pub(crate) fn start_mounted<N: Nor>(
     nor: &mut N,
     mut volume: Volume,
-    kind: StartCause,
+    cause: StartCause,
 ) -> Result<Started, BootFault>
     requires mounted { IsMounted (N.device nor.old).image volume }
     requires free { NothingLent volume }
     ensures boots { (s : Store) → Mounted (N.device nor.old).image volume s
-        → BootOutcome result (boot kind s) (N.device nor.old) (N.device nor.new) }
+        → BootOutcome result (boot cause s) (N.device nor.old) (N.device nor.new) }
     ensures touches { TouchesBut (program_sector 0) program_end (N.device nor.old).image (N.device nor.new).image }
 {
-    count_start(nor, &mut volume, kind)?;
+    count_start(nor, &mut volume, cause)?;
     start_counted(nor, volume)
 }

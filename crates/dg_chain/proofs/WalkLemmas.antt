@@ -66,12 +66,12 @@ unbroken kept n (page ∷ pages) h =
 
 collides_later : (page other : List ℕ) (pages others : List (List ℕ)) → Collision pages others → Collision (page ∷ pages) (other ∷ others)
 collides_later page other pages others c =
-    let a : c.place < length pages = c.in_pages in
-    let b : c.place < length others = c.in_others in
-    record { place = suc c.place; page = suc c.page; numbered = omega (arith, c.numbered); in_pages = omega arith; in_others = omega arith; differ = c.differ; one_digest = c.one_digest }
+    let a : c.index < length pages = c.in_pages in
+    let b : c.index < length others = c.in_others in
+    record { index = suc c.index; page = suc c.page; numbered = omega (arith, c.numbered); in_pages = omega arith; in_others = omega arith; differ = c.differ; one_digest = c.one_digest }
 
 collides_here : (page other : List ℕ) (pages others : List (List ℕ)) → page ≢ other → sha256 page ≡ sha256 other → Collision (page ∷ pages) (other ∷ others)
-collides_here page other pages others n e = record { place = zero; page = 1; numbered = refl; in_pages = omega arith; in_others = omega arith; differ = n; one_digest = e }
+collides_here page other pages others n e = record { index = zero; page = 1; numbered = refl; in_pages = omega arith; in_others = omega arith; differ = n; one_digest = e }
 
 same_or_collide : (kept : List ℕ) (pages others : List (List ℕ)) → Linked kept pages → Linked kept others → length pages ≡ length others → (pages ≡ others) ⊎ Collision pages others
 same_or_collide kept [] [] p q e = inl refl

@@ -68,13 +68,13 @@ by_break None pages = if has_shape pages then Fine (length_in pages) else Missha
 unfoldable pub answer_of : (root : List ℕ) → List (List ℕ) → Answer
 answer_of root pages = by_break (first_break root 1 pages) pages
 
--- a page of the one and a page of the other at the same place differ, and have one digest
+-- a page of the one and a page of the other at the same index differ, and have one digest
 pub record Collision (pages others : List (List ℕ)) : Type 0 where
-  pub place : ℕ
+  pub index : ℕ
   -- the page's number in its slot
   pub page : ℕ
-  pub numbered : page ≡ place + 1
-  pub in_pages : place < length pages
-  pub in_others : place < length others
-  pub differ : slice_index_or pages place [] ≢ slice_index_or others place []
-  pub one_digest : sha256 (slice_index_or pages place []) ≡ sha256 (slice_index_or others place [])
+  pub numbered : page ≡ index + 1
+  pub in_pages : index < length pages
+  pub in_others : index < length others
+  pub differ : slice_index_or pages index [] ≢ slice_index_or others index []
+  pub one_digest : sha256 (slice_index_or pages index []) ≡ sha256 (slice_index_or others index [])

@@ -143,7 +143,7 @@ pub fn check<N: Nor>(nor: &mut N, image: u8, root: &[u8; DIGEST_SIZE]) -> Result
     requires whole { IsWhole (N.device nor.old).image image }
     ensures answer { (h : Held) → KeepsImage (N.device nor.old).image image h
         → ChainAnswers result (answer_of root.now (drop 1 h.complete)) }
-    // Pages that answer the root of a payload are its pages, or two that differ at one place have one digest.
+    // Pages that answer the root of a payload are its pages, or two of one index that differ have one digest.
     ensures named { (x : List ℕ) (h : Held) → IsPayload x → root.now ≡ root_of x → KeepsImage (N.device nor.old).image image h
         → OnOk result ((drop 1 h.complete ≡ chain x) ⊎ Collision (drop 1 h.complete) (chain x)) }
     // Its own pages answer with its length.

@@ -17,10 +17,10 @@ use Rattle.dg_tool.specs.declared.refusal.Refusal.TheVariants as refusals
 use Rattle.dg_tool.specs.declared.stop.Stop.{Stop}
 use Rattle.dg_tool.specs.Endings.{Ending, Ends, NoBoards, Refuses, status_of, text_of}
 use Rattle.dg_tool.specs.Done.{NeedsBoard, IsCaused, Wrote, Faulted}
-use Rattle.dg_tool.specs.Stops.{Makes, OnStore, told_status, told_text}
+use Rattle.dg_tool.specs.Stops.{Makes, OnStore, result_status, result_text}
 use Rattle.dg_tool.proofs.BoardLemmas.{by_some}
 use Rattle.dg_tool.proofs.ComesLemmas.{made_comes, refused_comes, stopped_comes, halts_stopped}
-use Rattle.dg_chain_tool.specs.Verbs.{chain_told, answered, check_by, check_ending, chain_stop}
+use Rattle.dg_chain_tool.specs.Verbs.{chain_text, answered, check_by, check_ending, chain_stop}
 use Rattle.dg_chain_tool.specs.Done.{TellsLength}
 
 -- ---- what is found of the data pages
@@ -32,10 +32,10 @@ answered_needs Misshapen = tt
 
 module _ {T : Type 0} (view : T → List ℕ) (a b : Device) where
   abbrev pub Checked : Result T Stop → Ending → Type 0
-  Checked r ending = OnStore (told_status r) (told_text view r) ending Looked ReadStopped a b
+  Checked r ending = OnStore (result_status r) (result_text view r) ending Looked ReadStopped a b
 
-  pub check_passes : (r : Result T Stop) (n : ℕ) (answer : Answer) → answer ≡ Fine n → Makes view r (chain_told n) → Looked a b → Checked r (answered answer)
-  check_passes r n answer is makes looked = subst (λ (x : Answer). Checked r (answered x)) (sym is) (made_comes view r (chain_told n) Looked ReadStopped a b makes looked)
+  pub check_passes : (r : Result T Stop) (n : ℕ) (answer : Answer) → answer ≡ Fine n → Makes view r (chain_text n) → Looked a b → Checked r (answered answer)
+  check_passes r n answer is makes looked = subst (λ (x : Answer). Checked r (answered x)) (sym is) (made_comes view r (chain_text n) Looked ReadStopped a b makes looked)
 
   pub check_fails : (fault : ChainFault) (stop : Stop) (answer : Answer) → stop ≡ chain_stop fault → ChainAnswers (Err fault) answer → ChainEnds {T = ℕ} (Err fault) a b → Checked (Err stop) (answered answer)
   check_fails fault stop answer e is ends = subst (λ (x : Stop). Checked (Err x) (answered answer)) (sym e) (by fault is ends)
@@ -108,13 +108,13 @@ done_fine boards image root s h status here done caused =
     whole_by (length h.complete == h.pages) root h (subst (λ (o : Option Held). statuses.Done ≡ status_of (check_by root o)) here f)
 
 -- a check of pages that pass is to tell their length
-pub own_ending : (boards image : ℕ) (root : List ℕ) (s : Store) (h : Held) (n : ℕ) → 1 ≤ boards → held s image ≡ Some h → length h.complete ≡ h.pages → answer_of root (drop 1 h.complete) ≡ Fine n → check_ending boards image root (Some s) ≡ Ends (chain_told n)
+pub own_ending : (boards image : ℕ) (root : List ℕ) (s : Store) (h : Held) (n : ℕ) → 1 ≤ boards → held s image ≡ Some h → length h.complete ≡ h.pages → answer_of root (drop 1 h.complete) ≡ Fine n → check_ending boards image root (Some s) ≡ Ends (chain_text n)
 own_ending boards image root s h n some here whole fine =
     by_some boards (check_by root (held s image)) (omega (arith, some))
     ∙ ap (check_by root) here ∙ whole_is root h whole ∙ ap answered fine
 
 -- and tells it
-pub told_by : (status : Status) (ending : Ending) (n : ℕ) (text : List ℕ) (before after : Option (List ℕ)) (w b : Type 0) → ending ≡ Ends (chain_told n) → IsCaused status ending → Wrote status ending text → Faulted status ⊥ w b text → Puts before after text → TellsLength status n before after
+pub told_by : (status : Status) (ending : Ending) (n : ℕ) (text : List ℕ) (before after : Option (List ℕ)) (w b : Type 0) → ending ≡ Ends (chain_text n) → IsCaused status ending → Wrote status ending text → Faulted status ⊥ w b text → Puts before after text → TellsLength status n before after
 told_by statuses.Done ending n text before after w b is caused wrote faulted puts = subst (λ (x : List ℕ). Puts before after x) (wrote ∙ ap text_of is) puts
 told_by statuses.Memory ending n text before after w b is caused wrote faulted puts = tt
 told_by statuses.WriteFault ending n text before after w b is caused wrote faulted puts = tt

@@ -31,10 +31,10 @@ use Rattle.dg_tool.specs.declared.refusal.Refusal.TheVariants as refusals
 use Rattle.dg_tool.specs.declared.stop.Stop.{Stop}
 use Rattle.dg_tool.specs.declared.stop.Stop.TheVariants as stops
 use Rattle.dg_tool.specs.Endings.{Ending}
-use Rattle.dg_tool.specs.Verbs.{have_told, inject_cause}
+use Rattle.dg_tool.specs.Verbs.{have_text, inject_cause}
 use Rattle.dg_tool.specs.Done.{Went, NeedsBoard, NeedsInput}
 use Rattle.dg_base.specs.declared.answers.Status.TheVariants as statuses
-use Rattle.dg_tool.specs.Stops.{Makes, OnStore, stop_status, stop_text, told_status, told_text}
+use Rattle.dg_tool.specs.Stops.{Makes, OnStore, stop_status, stop_text, result_status, result_text}
 use Rattle.dg_tool.proofs.ComesLemmas.{made_comes, refused_comes, breaks_comes, stopped_comes, halts_stopped}
 use Rattle.dg_volume.proofs.ReadLemmas.{Looked-none}
 use Rattle.dg_tool.proofs.VerbLemmas.{looked_same}
@@ -92,10 +92,10 @@ went t a b v h = record { ran = h.ran; stands = h.mounted.stands }
 
 module _ {T : Type 0} (view : T → List ℕ) (root : List ℕ) (s : Store) (row : Row) (a b : Device) where
   abbrev pub Received : Result T Stop → Type 0
-  Received r = OnStore (told_status r) (told_text view r) (receive_to root row s) (Went (receive_trail root s row)) (Stops (receive_trail root s row)) a b
+  Received r = OnStore (result_status r) (result_text view r) (receive_to root row s) (Went (receive_trail root s row)) (Stops (receive_trail root s row)) a b
 
   abbrev By : Result T Stop → Option InjectFault → Option Break → Type 0
-  By r refusal found = OnStore (told_status r) (told_text view r) (receive_by row refusal found) (Went (receive_trail root s row)) (Stops (receive_trail root s row)) a b
+  By r refusal found = OnStore (result_status r) (result_text view r) (receive_by row refusal found) (Went (receive_trail root s row)) (Stops (receive_trail root s row)) a b
 
   ends_by : (r : Result T Stop) (refusal : Option InjectFault) (found : Option Break) → inject_refusal s row ≡ refusal → foreign_in root s row ≡ found → By r refusal found → Received r
   ends_by r refusal found e f h = subst (λ (o : Option InjectFault). By r o (foreign_in root s row)) (sym e) (subst (λ (o : Option Break). By r refusal o) (sym f) h)
@@ -108,9 +108,9 @@ module _ {T : Type 0} (view : T → List ℕ) (root : List ℕ) (s : Store) (row
       ends_by (Err (stops.Refused cause)) (Some fault) (foreign_in root s row) e refl
       (subst (λ (c : Refusal). By (Err (stops.Refused c)) (Some fault) (foreign_in root s row)) (sym same) (refused_comes view (inject_cause row fault) (Went (receive_trail root s row)) (Stops (receive_trail root s row)) a b looked))
 
-  filled_ok : (x : T) (v : Volume) → view x ≡ have_told row → inject_refusal s row ≡ None → foreign_in root s row ≡ None → Acted (receive_trail root s row) a b v → Received (Ok x)
+  filled_ok : (x : T) (v : Volume) → view x ≡ have_text row → inject_refusal s row ≡ None → foreign_in root s row ≡ None → Acted (receive_trail root s row) a b v → Received (Ok x)
   filled_ok x v told none whole acted =
-      ends_by (Ok x) None None none whole (made_comes view (Ok x) (have_told row) (Went (receive_trail root s row)) (Stops (receive_trail root s row)) a b told (went (receive_trail root s row) a b v acted))
+      ends_by (Ok x) None None none whole (made_comes view (Ok x) (have_text row) (Went (receive_trail root s row)) (Stops (receive_trail root s row)) a b told (went (receive_trail root s row) a b v acted))
 
   filled_foreign : (k : ℕ) (at : Break) (v : Volume) → inject_refusal s row ≡ None → foreign_in root s row ≡ Some at → at.page ≡ k → Acted (receive_trail root s row) a b v → Received (Err (stops.Refused (refusals.Foreign k)))
   filled_foreign k at v none found page acted =
@@ -118,7 +118,7 @@ module _ {T : Type 0} (view : T → List ℕ) (root : List ℕ) (s : Store) (row
       (subst (λ (n : ℕ). By (Err (stops.Refused (refusals.Foreign n))) None (Some at)) page
       (breaks_comes view (refusals.Foreign at.page) (Went (receive_trail root s row)) (Stops (receive_trail root s row)) a b (went (receive_trail root s row) a b v acted)))
 
-  pub received_filled : (r : Result T Stop) (found : Option Break) (t : Trail Store) (v : Volume) → ((x : T) → view x ≡ have_told row) → inject_refusal s row ≡ None → found ≡ foreign_in root s row → t ≡ receive_trail root s row → FillEnds r found t a b v → Received r
+  pub received_filled : (r : Result T Stop) (found : Option Break) (t : Trail Store) (v : Volume) → ((x : T) → view x ≡ have_text row) → inject_refusal s row ≡ None → found ≡ foreign_in root s row → t ≡ receive_trail root s row → FillEnds r found t a b v → Received r
   received_filled (Ok x) found t v told none same is h = filled_ok x v (told x) none (sym same ∙ h.0) (subst (λ (u : Trail Store). Acted u a b v) is h.1)
   received_filled (Err (stops.Refused (refusals.Foreign k))) found t v told none same is h = filled_foreign k h.0.0 v none (sym same ∙ h.0.1) h.0.2 (subst (λ (u : Trail Store). Acted u a b v) is h.1)
   received_filled (Err stops.FlashFault) found t v told none same is h = received_stops (subst (λ (u : Trail Store). Stops u a b) is h)
@@ -262,7 +262,7 @@ not_reserved s row some older e = reserved_by (nat_lt s.room 2) s.room (sym (tak
 
 -- ---- what is told of it
 
-pub told_made : {T : Type 0} (view : T → List ℕ) (r : Result T Stop) (text : List ℕ) (ending : Ending) (acted may : Device → Device → Type 0) (a b : Device) → OnStore statuses.Done text ending acted may a b → Makes view r text → OnStore (told_status r) (told_text view r) ending acted may a b
+pub told_made : {T : Type 0} (view : T → List ℕ) (r : Result T Stop) (text : List ℕ) (ending : Ending) (acted may : Device → Device → Type 0) (a b : Device) → OnStore statuses.Done text ending acted may a b → Makes view r text → OnStore (result_status r) (result_text view r) ending acted may a b
 told_made view (Ok t) text ending acted may a b h made = record { comes = record { caused = h.comes.caused; wrote = made ∙ h.comes.wrote; board = h.comes.board }; of_board = tt; stops = tt }
 told_made view (Err stops.Memory) text ending acted may a b h made = record { comes = record { caused = tt; wrote = refl; board = inr h.comes.board }; of_board = tt; stops = tt }
 told_made view (Err stop) text ending acted may a b h made = absurd made

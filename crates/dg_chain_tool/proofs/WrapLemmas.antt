@@ -12,11 +12,11 @@ use Rattle.dg_tool.specs.declared.stop.Stop.{Stop}
 use Rattle.dg_tool.specs.declared.stop.Stop.TheVariants as stops
 use Rattle.dg_tool.specs.Endings.{Ending, Ends, Unfit, by_input, status_of, text_of}
 use Rattle.dg_tool.specs.Done.{LeftBy, NeedsInput}
-use Rattle.dg_tool.specs.Stops.{Makes, InputFails, told_status, told_text}
+use Rattle.dg_tool.specs.Stops.{Makes, InputFails, result_status, result_text}
 use Rattle.dg_tool.proofs.BoardLemmas.{on_same}
 use Rattle.dg_chain.specs.declared.wrapping.WrapFault.{WrapFault}
 use Rattle.dg_chain.specs.declared.wrapping.WrapFault.TheVariants as wrap_fault
-use Rattle.dg_chain_tool.specs.Verbs.{wrapped_told, wrap_by, wrap_stop}
+use Rattle.dg_chain_tool.specs.Verbs.{wrapped_text, wrap_by, wrap_stop}
 use Rattle.dg_chain_tool.specs.Done.{TextFound, Wraps}
 
 -- ---- the tests of the length
@@ -34,7 +34,7 @@ fits_test : (most n : ℕ) → n ≤ most → nat_lt most n ≡ false
 fits_test most n h = grind (arith, nat_tests)
 
 by_tests : (b d : Bool) → List ℕ → Ending
-by_tests b d x = cond b (Unfit refusals.Empty) (cond d (Unfit (refusals.TooLarge (length x))) (Ends (wrapped_told x)))
+by_tests b d x = cond b (Unfit refusals.Empty) (cond d (Unfit (refusals.TooLarge (length x))) (Ends (wrapped_text x)))
 
 pub wrap_empty : (x : List ℕ) → length x ≡ 0 → wrap_by x ≡ Unfit refusals.Empty
 unfolding by_tests
@@ -47,7 +47,7 @@ wrap_large x n large e =
     ∙ ap (λ (d : Bool). by_tests false d x) (large_test most_payload (length x) large)
     ∙ ap (λ (k : ℕ). Unfit (refusals.TooLarge k)) (sym e)
 
-pub wrap_fits : (x : List ℕ) → IsPayload x → wrap_by x ≡ Ends (wrapped_told x)
+pub wrap_fits : (x : List ℕ) → IsPayload x → wrap_by x ≡ Ends (wrapped_text x)
 unfolding by_tests
 wrap_fits x is =
     ap (λ (b : Bool). by_tests b (nat_lt most_payload (length x)) x) (some_test (length x) is.some)
@@ -55,7 +55,7 @@ wrap_fits x is =
 
 -- ---- what a payload comes to
 
-pub wraps_made : {T : Type 0} (view : T → List ℕ) (r : Result T Stop) (x : List ℕ) → IsPayload x → Makes view r (wrapped_told x) → Wraps view r x
+pub wraps_made : {T : Type 0} (view : T → List ℕ) (r : Result T Stop) (x : List ℕ) → IsPayload x → Makes view r (wrapped_text x) → Wraps view r x
 wraps_made view (Ok t) x is made = wrap_fits x is ∙ ap Ends (sym made)
 wraps_made view (Err stops.Memory) x is made = tt
 wraps_made view (Err stops.ReadFault) x is made = absurd made
@@ -86,7 +86,7 @@ Same chip a b = b ≡ a
 abbrev Never : Option Store → Device → Device → Type 0
 Never chip a b = ⊥
 
-pub wraps_found : {T : Type 0} (view : T → List ℕ) (r : Result T Stop) (x input : List ℕ) → by_input input wrap_by ≡ wrap_by x → Wraps view r x → TextFound (told_status r) (by_input input wrap_by) (told_text view r)
+pub wraps_found : {T : Type 0} (view : T → List ℕ) (r : Result T Stop) (x input : List ℕ) → by_input input wrap_by ≡ wrap_by x → Wraps view r x → TextFound (result_status r) (by_input input wrap_by) (result_text view r)
 wraps_found view (Ok t) x input e h =
     let is : by_input input wrap_by ≡ Ends (view t) = e ∙ h in
     on_same statuses.Done Any (λ chip. by_input input wrap_by) Same Never (view t) [] (λ chip _. ap status_of (sym is)) (λ chip _. ap text_of (sym is)) (λ chip d _. subst (λ (y : Ending). LeftBy y (Same chip) d d) (sym is) refl) (None, tt) tt
@@ -104,7 +104,7 @@ wraps_found view (Err stops.NotAVolume) x input e h = absurd h
 wraps_found view (Err stops.NoImage) x input e h = absurd h
 
 -- it fails no read
-pub wraps_calm : {T : Type 0} (view : T → List ℕ) (r : Result T Stop) (x : List ℕ) (before after : ℕ) → Wraps view r x → InputFails (told_status r) before after
+pub wraps_calm : {T : Type 0} (view : T → List ℕ) (r : Result T Stop) (x : List ℕ) (before after : ℕ) → Wraps view r x → InputFails (result_status r) before after
 wraps_calm view (Ok t) x before after h = tt
 wraps_calm view (Err (stops.Refused cause)) x before after h = tt
 wraps_calm view (Err stops.Memory) x before after h = tt

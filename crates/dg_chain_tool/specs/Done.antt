@@ -8,7 +8,7 @@ use Rattle.dg_tool.specs.declared.stop.Stop.TheVariants as stops
 use Rattle.dg_tool.specs.Endings.{Ending, Ends, Unfit}
 use Rattle.dg_tool.specs.Done.{VerbRule, verb_rule, tool_outside, ToolDone}
 use Rattle.dg_tool.specs.Stops.{OnBoards}
-use Rattle.dg_chain_tool.specs.Verbs.{wrap_by, chain_told}
+use Rattle.dg_chain_tool.specs.Verbs.{wrap_by, chain_text}
 
 -- a verb that uses no board goes by its input alone, and there are no boards
 abbrev pub text_rule : Ending → VerbRule
@@ -34,7 +34,7 @@ Wraps view (Err stop) x = ⊥
 
 -- that the pages are those of a payload of this length is told, unless memory ran out or the outside failed
 abbrev pub TellsLength : Status → ℕ → (written_before written_after : Option (List ℕ)) → Type 0
-TellsLength Done n before after = Puts before after (chain_told n)
+TellsLength Done n before after = Puts before after (chain_text n)
 TellsLength Memory n before after = Unit {0}
 TellsLength WriteFault n before after = Unit {0}
 TellsLength FlashFault n before after = Unit {0}

@@ -18,20 +18,20 @@ use Rattle.dg_tool.specs.declared.stop.Stop.{Stop}
 use Rattle.dg_tool.specs.declared.stop.Stop.TheVariants as stops
 use Rattle.dg_tool.specs.Texts.{numbers, line}
 use Rattle.dg_tool.specs.Endings.{Ending, Ends, Unfit, Refuses, Breaks, by_boards, by_input, by_store}
-use Rattle.dg_tool.specs.Verbs.{inject_cause, have_told}
+use Rattle.dg_tool.specs.Verbs.{inject_cause, have_text}
 use Rattle.dg_chain_tool.specs.Receiving.{foreign_in}
 
 -- ---- wrap
 
 -- the root of a payload in lower case, and then the HEX file of its image
-abbrev pub wrapped_told : List ℕ → List ℕ
-wrapped_told x = line (codes "root " ++ hex_text (root_of x)) ++ written_file (image_of x)
+abbrev pub wrapped_text : List ℕ → List ℕ
+wrapped_text x = line (codes "root " ++ hex_text (root_of x)) ++ written_file (image_of x)
 
 abbrev pub wrap_by : List ℕ → Ending
 wrap_by x =
     if length x == 0 then Unfit refusals.Empty
     else if nat_lt most_payload (length x) then Unfit (refusals.TooLarge (length x))
-    else Ends (wrapped_told x)
+    else Ends (wrapped_text x)
 
 abbrev pub wrap_ending : (input : List ℕ) → Ending
 wrap_ending input = by_input input wrap_by
@@ -44,12 +44,12 @@ wrap_stop (wrap_fault.TooLarge length) = stops.Refused (refusals.TooLarge length
 
 -- ---- check
 
-abbrev pub chain_told : ℕ → List ℕ
-chain_told n = line (codes "chain" ++ numbers (n ∷ []))
+abbrev pub chain_text : ℕ → List ℕ
+chain_text n = line (codes "chain" ++ numbers (n ∷ []))
 
 -- what is found of the data pages
 abbrev pub answered : Answer → Ending
-answered (Fine n) = Ends (chain_told n)
+answered (Fine n) = Ends (chain_text n)
 answered (Broken at) = Refuses (refusals.Broken at.page at.kept at.found)
 answered Misshapen = Refuses refusals.Shape
 
@@ -75,7 +75,7 @@ chain_stop chain_fault.Shape = stops.Refused refusals.Shape
 
 abbrev pub receive_by : Row → Option InjectFault → Option Break → Ending
 receive_by row (Some fault) found = Refuses (inject_cause row fault)
-receive_by row None None = Ends (have_told row)
+receive_by row None None = Ends (have_text row)
 receive_by row None (Some at) = Breaks (refusals.Foreign at.page)
 
 abbrev pub receive_to : (root : List ℕ) → Row → Store → Ending

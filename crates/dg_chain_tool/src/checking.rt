@@ -11,8 +11,8 @@ ghost use Rattle.dg_chain.specs.Checking.{answer_of};
 ghost use Rattle.dg_chain.specs.Answers.{IsWhole};
 ghost use Rattle.dg_tool.specs.Endings.{StandsAs, FirstAs};
 ghost use Rattle.dg_tool.specs.Done.{verb_rule};
-ghost use Rattle.dg_tool.specs.Stops.{Makes, OnStore, OnBoard, OnBoards, told_status, told_text};
-ghost use Rattle.dg_chain_tool.specs.Verbs.{chain_told, answered, check_by, check_on, check_ending, chain_stop};
+ghost use Rattle.dg_tool.specs.Stops.{Makes, OnStore, OnBoard, OnBoards, result_status, result_text};
+ghost use Rattle.dg_chain_tool.specs.Verbs.{chain_text, answered, check_by, check_on, check_ending, chain_stop};
 
 use dg_base::Status;
 use dg_chain::{ChainFault, DIGEST_SIZE, check};
@@ -23,7 +23,7 @@ use std::alloc::Global;
 
 /// The line that tells the length of a payload.
 fn chain_line(alloc: Global, length: u32) -> Result<Vec<u8>, Stop>
-    ensures { Makes (λ text. text.items) result (chain_told length) }
+    ensures { Makes (λ text. text.items) result (chain_text length) }
 {
     or_memory(line_of(alloc, b"chain", &[length]))
 }
@@ -51,7 +51,7 @@ fn check_whole<N: Nor>(
     requires known_image { image < slots }
     requires whole { IsWhole (N.device nor.old).image image }
     ensures done { (h : Held) → KeepsImage (N.device nor.old).image image h
-        → OnStore (told_status result) (told_text (λ text. text.items) result)
+        → OnStore (result_status result) (result_text (λ text. text.items) result)
         (answered (answer_of root.now (drop 1 h.complete))) Looked ReadStopped
         (N.device nor.old) (N.device nor.new) }
     ensures unchanged { (N.device nor.new).image ≡ (N.device nor.old).image }
@@ -73,7 +73,7 @@ fn check_kept<N: Nor>(
     requires known_image { image < images }
     requires keeps { (h : Held) × KeepsImage (N.device nor.old).image image h × (kept.now ≡ told_held h) }
     ensures done { (h : Held) → KeepsImage (N.device nor.old).image image h → kept.now ≡ told_held h
-        → OnStore (told_status result) (told_text (λ text. text.items) result)
+        → OnStore (result_status result) (result_text (λ text. text.items) result)
         (check_by root.now (Some h)) Looked ReadStopped (N.device nor.old)
         (N.device nor.new) }
     ensures unchanged { (N.device nor.new).image ≡ (N.device nor.old).image }
@@ -97,7 +97,7 @@ fn check_mounted<N: Nor>(
     requires known_image { image < images }
     requires mounted { IsMounted (N.device nor.old).image volume.now }
     ensures done { (s : Store) → Mounted (N.device nor.old).image volume.now s
-        → OnStore (told_status result) (told_text (λ text. text.items) result)
+        → OnStore (result_status result) (result_text (λ text. text.items) result)
         (check_by root.now (held s image)) Looked ReadStopped (N.device nor.old)
         (N.device nor.new) }
     ensures unchanged { (N.device nor.new).image ≡ (N.device nor.old).image }
@@ -116,9 +116,9 @@ fn check_on<N: Nor>(
     nor: &mut N,
 ) -> Result<Vec<u8>, Stop>
     requires known_image { image < images }
-    ensures done { OnBoard (told_status result)
+    ensures done { OnBoard (result_status result)
         (verb_rule (StandsAs (N.device nor.old).image) (check_on image root.now) (λ chip. Looked) (λ chip. ReadStopped))
-        (told_text (λ text. text.items) result) (N.device nor.old) (N.device nor.new) }
+        (result_text (λ text. text.items) result) (N.device nor.old) (N.device nor.new) }
     ensures unchanged { (N.device nor.new).image ≡ (N.device nor.old).image }
 {
     match mount(nor) {
@@ -135,12 +135,12 @@ fn check_first<N: Nor>(
     boards: &mut [N],
 ) -> Result<Vec<u8>, Stop>
     requires known_image { image < images }
-    ensures done { OnBoards (told_status result)
+    ensures done { OnBoards (result_status result)
         (verb_rule (FirstAs (map N.device boards.old)) (check_ending (length boards.old) image root.now)
         (λ chip. Looked) (λ chip. ReadStopped))
-        (told_text (λ text. text.items) result) (map N.device boards.old) (map N.device boards.new) }
+        (result_text (λ text. text.items) result) (map N.device boards.old) (map N.device boards.new) }
     ensures unchanged { map (λ board. (N.device board).image) boards.new ≡ map (λ board. (N.device board).image) boards.old }
-    ensures unread { told_status result ≢ Status.ReadFault }
+    ensures unread { result_status result ≢ Status.ReadFault }
 {
     if boards.is_empty() {
         return Err(Stop::NoBoard);
@@ -156,13 +156,13 @@ pub(crate) fn check_boards<N: Nor>(
     boards: &mut Vec<N>,
 ) -> Result<Vec<u8>, Stop>
     requires known_image { image < images }
-    ensures done { OnBoards (told_status result)
+    ensures done { OnBoards (result_status result)
         (verb_rule (FirstAs (map N.device boards.old.items)) (check_ending (length boards.old.items) image root.now)
         (λ chip. Looked) (λ chip. ReadStopped))
-        (told_text (λ text. text.items) result) (map N.device boards.old.items) (map N.device boards.new.items) }
+        (result_text (λ text. text.items) result) (map N.device boards.old.items) (map N.device boards.new.items) }
     ensures unchanged { map (λ board. (N.device board).image) boards.new.items
         ≡ map (λ board. (N.device board).image) boards.old.items }
-    ensures unread { told_status result ≢ Status.ReadFault }
+    ensures unread { result_status result ≢ Status.ReadFault }
 {
     check_first(alloc, image, root, boards.as_mut_slice())
 }

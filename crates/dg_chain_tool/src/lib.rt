@@ -47,8 +47,8 @@ pub fn wrap<S: Source, K: Sink>(alloc: Global, input: &mut S, out: &mut K) -> St
     ensures reads { S.faults input.old ≤ S.faults input.new }
     ensures writes { K.faults out.old ≤ K.faults out.new }
 {
-    let told = wrap_input(alloc, input);
-    end(alloc, out, told)
+    let report = wrap_input(alloc, input);
+    end(alloc, out, report)
 }
 
 /// Compares the data pages of an image that the first board keeps whole with a root, and changes no byte. Writes
@@ -67,7 +67,7 @@ pub fn check<K: Sink, N: Nor>(
         ⊥ (tool_outside (K.written out.old) (K.faults out.old) (map N.device boards.old.items))
         (tool_outside (K.written out.new) (K.faults out.new) (map N.device boards.new.items)) }
     // Whatever made the board's bytes: pages that pass for the root of a payload are its pages, or two that differ at one
-    // place have one digest.
+    // index have one digest.
     ensures named { (x : List ℕ) (s : Store) (h : Held) → IsPayload x → root.now ≡ root_of x
         → FirstAs (map N.device boards.old.items) (Some s) → held s image ≡ Some h
         → result ≡ Status.Done → (drop 1 h.complete ≡ chain x) ⊎ Collision (drop 1 h.complete) (chain x) }
@@ -81,8 +81,8 @@ pub fn check<K: Sink, N: Nor>(
     ensures writes { K.faults out.old ≤ K.faults out.new }
 {
     a_root_names_its_pages();
-    let told = check_boards(alloc, image, root, boards);
-    end(alloc, out, told)
+    let report = check_boards(alloc, image, root, boards);
+    end(alloc, out, report)
 }
 
 /// Keeps an image that `wrap` made whole on the first board, page by page: the image of the HEX file that `input` spells,
@@ -115,6 +115,6 @@ pub fn receive<S: Source, K: Sink, N: Nor>(
     ensures reads { S.faults input.old ≤ S.faults input.new }
     ensures writes { K.faults out.old ≤ K.faults out.new }
 {
-    let told = receive_boards(alloc, image, version, name, root, input, boards);
-    end(alloc, out, told)
+    let report = receive_boards(alloc, image, version, name, root, input, boards);
+    end(alloc, out, report)
 }

@@ -8,9 +8,9 @@ ghost use Rattle.dg_volume.specs.Stands.{kept_at, Mounted, IsMounted, NothingLen
 ghost use Rattle.dg_volume.specs.Acts.{Stops};
 ghost use Rattle.dg_volume.specs.declared.volume.Kept.{Kept};
 ghost use Rattle.dg_tool.specs.Endings.{StandsAs, FirstAs, content_in};
-ghost use Rattle.dg_tool.specs.Verbs.{have_told};
+ghost use Rattle.dg_tool.specs.Verbs.{have_text};
 ghost use Rattle.dg_tool.specs.Done.{verb_rule, InputRead, Went, WentOn, StopsOn};
-ghost use Rattle.dg_tool.specs.Stops.{InputFails, OnStore, OnBoard, OnBoards, told_status, told_text};
+ghost use Rattle.dg_tool.specs.Stops.{InputFails, OnStore, OnBoard, OnBoards, result_status, result_text};
 ghost use Rattle.dg_chain_tool.specs.Receiving.{receive_trail};
 ghost use Rattle.dg_chain_tool.specs.Verbs.{receive_to, receive_into, receive_ending};
 ghost use Rattle.dg_chain_tool.specs.Filling.{received_row, take_stop};
@@ -40,7 +40,7 @@ fn receive_kept<N: Nor>(
     requires kept { kept_at volume.old new.now.image ≡ Some kept.now }
     requires same_version { kept.now.version ≡ new.now.version }
     ensures ends { (s : Store) → Mounted (N.device nor.old).image volume.old s → let row = received_row new.now in
-        OnStore (told_status result) (told_text (λ u. have_told row) result)
+        OnStore (result_status result) (result_text (λ u. have_text row) result)
         (receive_to root.now row s) (Went (receive_trail root.now s row))
         (Stops (receive_trail root.now s row)) (N.device nor.old) (N.device nor.new) }
 {
@@ -81,7 +81,7 @@ fn receive_anew<N: Nor>(
     requires known_image { new.now.image < images }
     requires older { (k : Kept) → kept_at volume.old new.now.image ≡ Some k → k.version < new.now.version }
     ensures ends { (s : Store) → Mounted (N.device nor.old).image volume.old s → let row = received_row new.now in
-        OnStore (told_status result) (told_text (λ u. have_told row) result)
+        OnStore (result_status result) (result_text (λ u. have_text row) result)
         (receive_to root.now row s) (Went (receive_trail root.now s row))
         (Stops (receive_trail root.now s row)) (N.device nor.old) (N.device nor.new) }
 {
@@ -108,7 +108,7 @@ fn receive_new<N: Nor>(
     requires known_image { new.now.image < images }
     requires newest { (k : Kept) → kept_at volume.old new.now.image ≡ Some k → k.version ≤ new.now.version }
     ensures ends { (s : Store) → Mounted (N.device nor.old).image volume.old s → let row = received_row new.now in
-        OnStore (told_status result) (told_text (λ u. have_told row) result)
+        OnStore (result_status result) (result_text (λ u. have_text row) result)
         (receive_to root.now row s) (Went (receive_trail root.now s row))
         (Stops (receive_trail root.now s row)) (N.device nor.old) (N.device nor.new) }
 {
@@ -132,7 +132,7 @@ fn receive_told<N: Nor>(
     requires known_image { new.now.image < images }
     requires newest { (k : Kept) → kept_at volume.old new.now.image ≡ Some k → k.version ≤ new.now.version }
     ensures ends { (s : Store) → Mounted (N.device nor.old).image volume.old s → let row = received_row new.now in
-        OnStore (told_status result) (told_text (λ text. text.items) result)
+        OnStore (result_status result) (result_text (λ text. text.items) result)
         (receive_to root.now row s) (Went (receive_trail root.now s row))
         (Stops (receive_trail root.now s row)) (N.device nor.old) (N.device nor.new) }
 {
@@ -159,7 +159,7 @@ fn receive_mounted<N: Nor>(
     requires version { 1 ≤ version }
     requires named { IsTrue (spells_name name.now) }
     ensures { (s : Store) → Mounted (N.device nor.old).image volume.old s → let row = row_of image version name.now bytes.now in
-        OnStore (told_status result) (told_text (λ text. text.items) result)
+        OnStore (result_status result) (result_text (λ text. text.items) result)
         (receive_to root.now row s) (Went (receive_trail root.now s row))
         (Stops (receive_trail root.now s row)) (N.device nor.old) (N.device nor.new) }
 {
@@ -191,10 +191,10 @@ fn receive_on<N: Nor>(
     requires version { 1 ≤ version }
     requires named { IsTrue (spells_name name.now) }
     ensures { let row = row_of image version name.now bytes.now in
-        OnBoard (told_status result)
+        OnBoard (result_status result)
         (verb_rule (StandsAs (N.device nor.old).image) (receive_into root.now row)
         (WentOn (λ s. receive_trail root.now s row)) (StopsOn (λ s. receive_trail root.now s row)))
-        (told_text (λ text. text.items) result) (N.device nor.old) (N.device nor.new) }
+        (result_text (λ text. text.items) result) (N.device nor.old) (N.device nor.new) }
 {
     match mount(nor) {
         Ok(mut volume) => receive_mounted(
@@ -224,15 +224,15 @@ fn receive_first<S: Source, N: Nor>(
     requires image { image < images }
     requires version { 1 ≤ version }
     requires named { IsTrue (spells_name name.now) }
-    ensures done { (bytes : List ℕ) × InputRead (told_status result) (length boards.old) bytes (S.left input.old)
+    ensures done { (bytes : List ℕ) × InputRead (result_status result) (length boards.old) bytes (S.left input.old)
         (S.left input.new) (S.faults input.old) (S.faults input.new)
-        × InputFails (told_status result) (S.faults input.old) (S.faults input.new)
-        × OnBoards (told_status result)
+        × InputFails (result_status result) (S.faults input.old) (S.faults input.new)
+        × OnBoards (result_status result)
         (verb_rule (FirstAs (map N.device boards.old))
         (receive_ending (length boards.old) root.now (row_of image version name.now) bytes)
         (WentOn (λ s. receive_trail root.now s (row_of image version name.now (content_in bytes))))
         (StopsOn (λ s. receive_trail root.now s (row_of image version name.now (content_in bytes)))))
-        (told_text (λ text. text.items) result) (map N.device boards.old) (map N.device boards.new) }
+        (result_text (λ text. text.items) result) (map N.device boards.old) (map N.device boards.new) }
     ensures reads { S.faults input.old ≤ S.faults input.new }
 {
     if boards.is_empty() {
@@ -257,15 +257,15 @@ pub(crate) fn receive_boards<S: Source, N: Nor>(
     requires image { image < images }
     requires version { 1 ≤ version }
     requires named { IsTrue (spells_name name.now) }
-    ensures done { (bytes : List ℕ) × InputRead (told_status result) (length boards.old.items) bytes (S.left input.old)
+    ensures done { (bytes : List ℕ) × InputRead (result_status result) (length boards.old.items) bytes (S.left input.old)
         (S.left input.new) (S.faults input.old) (S.faults input.new)
-        × InputFails (told_status result) (S.faults input.old) (S.faults input.new)
-        × OnBoards (told_status result)
+        × InputFails (result_status result) (S.faults input.old) (S.faults input.new)
+        × OnBoards (result_status result)
         (verb_rule (FirstAs (map N.device boards.old.items))
         (receive_ending (length boards.old.items) root.now (row_of image version name.now) bytes)
         (WentOn (λ s. receive_trail root.now s (row_of image version name.now (content_in bytes))))
         (StopsOn (λ s. receive_trail root.now s (row_of image version name.now (content_in bytes)))))
-        (told_text (λ text. text.items) result) (map N.device boards.old.items) (map N.device boards.new.items) }
+        (result_text (λ text. text.items) result) (map N.device boards.old.items) (map N.device boards.new.items) }
     ensures reads { S.faults input.old ≤ S.faults input.new }
 {
     receive_first(

@@ -5,7 +5,7 @@ ghost use Rattle.dg_ihex.specs.Written.{written_file};
 ghost use Rattle.dg_ihex.specs.Sizes.{most_image};
 ghost use Rattle.dg_tool.specs.Texts.{line};
 ghost use Rattle.dg_tool.specs.Done.{InputRead};
-ghost use Rattle.dg_tool.specs.Stops.{InputFails, told_status, told_text};
+ghost use Rattle.dg_tool.specs.Stops.{InputFails, result_status, result_text};
 ghost use Rattle.dg_chain_tool.specs.Verbs.{wrap_ending, wrap_stop};
 ghost use Rattle.dg_chain_tool.specs.Done.{TextFound, Wraps};
 
@@ -16,7 +16,7 @@ use dg_tool::{Refusal, Stop, or_memory, read_image};
 use std::alloc::{AllocError, Global};
 
 /// The line of a root, and then the HEX file of the image.
-fn told(alloc: Global, wrapped: &Wrapped) -> Result<Vec<u8>, AllocError>
+fn wrapped_report(alloc: Global, wrapped: &Wrapped) -> Result<Vec<u8>, AllocError>
     requires some { 1 ≤ length wrapped.now.image }
     requires fits { length wrapped.now.image ≤ most_image }
     ensures { IfOk result (λ text. text.items ≡ line (codes "root " ++ hex_text wrapped.now.root)
@@ -36,7 +36,7 @@ fn wrap_payload(alloc: Global, payload: &[u8]) -> Result<Vec<u8>, Stop>
     ensures { Wraps (λ text. text.items) result payload.now }
 {
     match wrap(alloc, payload) {
-        Ok(wrapped) => or_memory(told(alloc, &wrapped)),
+        Ok(wrapped) => or_memory(wrapped_report(alloc, &wrapped)),
         Err(fault) => Err(stop_at(fault)),
     }
 }
@@ -54,10 +54,10 @@ fn stop_at(fault: WrapFault) -> Stop
 
 /// The text of the payload that an input spells.
 pub(crate) fn wrap_input<S: Source>(alloc: Global, input: &mut S) -> Result<Vec<u8>, Stop>
-    ensures done { (bytes : List ℕ) × InputRead (told_status result) 1 bytes (S.left input.old) (S.left input.new)
+    ensures done { (bytes : List ℕ) × InputRead (result_status result) 1 bytes (S.left input.old) (S.left input.new)
         (S.faults input.old) (S.faults input.new)
-        × InputFails (told_status result) (S.faults input.old) (S.faults input.new)
-        × TextFound (told_status result) (wrap_ending bytes) (told_text (λ text. text.items) result) }
+        × InputFails (result_status result) (S.faults input.old) (S.faults input.new)
+        × TextFound (result_status result) (wrap_ending bytes) (result_text (λ text. text.items) result) }
     ensures reads { S.faults input.old ≤ S.faults input.new }
 {
     match read_image(alloc, input) {

@@ -7,11 +7,11 @@ use Rattle.dg_volume.specs.Stands.{IsNoVolume}
 use Rattle.dg_serial_base.specs.Deeds.{Base}
 use Rattle.dg_serial_base.specs.Based.{Outside, EndsBy, RefusedBy}
 use Rattle.dg_replay.specs.Around.{Around}
-use Rattle.dg_cli.specs.Basing.{around_chip, BasedOn, NoBoardTold, BasedOver}
+use Rattle.dg_cli.specs.Basing.{around_chip, BasedOn, NoBoardReported, BasedOver}
 
 -- ---- the first of the boards
 
-pub over_none : {N : Type 0} (f : N → Device) (items : List N) (base : Base) (status : Status) (a b : Around) → length items ≡ 0 → NoBoardTold status a b → BasedOver base status a b (map f items) (map f items)
+pub over_none : {N : Type 0} (f : N → Device) (items : List N) (base : Base) (status : Status) (a b : Around) → length items ≡ 0 → NoBoardReported status a b → BasedOver base status a b (map f items) (map f items)
 over_none f [] base status a b none h = h
 over_none f (x ∷ xs) base status a b none h = absurd (omega (arith, none))
 

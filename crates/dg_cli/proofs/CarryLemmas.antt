@@ -24,38 +24,38 @@ said_done c d e s a b h = subst (λ (x : Command). SaidDone (said_by x) s a b) (
 
 -- ---- each command, with the number of boards and the name as its call has them
 
-abbrev pub FormatTold : (n : ℕ) → (name : List ℕ) → (used form : ℕ) → Status → Around → Around → Type 0
-FormatTold n name used form s a b =
+abbrev pub FormatReported : (n : ℕ) → (name : List ℕ) → (used form : ℕ) → Status → Around → Around → Type 0
+FormatReported n name used form s a b =
     (input : List ℕ) × InputRead s n input a.left b.left a.reads b.reads
     × ToolDone s (verb_rule (λ chip. Unit {0}) (format_ending n used input) (λ chip. IsFormatted name (content_in input) used form) (λ chip. FormatStops name (content_in input) used))
     (Rose a.reads b.reads) (tool_around a) (tool_around b)
 
-pub format_done : (n : ℕ) (told name : List ℕ) (used form : ℕ) (s : Status) (a b : Around) → n ≡ length a.boards → told ≡ name → FormatTold n told used form s a b → FormatDone name used form s a b
+pub format_done : (n : ℕ) (told name : List ℕ) (used form : ℕ) (s : Status) (a b : Around) → n ≡ length a.boards → told ≡ name → FormatReported n told used form s a b → FormatDone name used form s a b
 format_done n told name used form s a b e f h =
-    subst (λ (k : ℕ). FormatTold k name used form s a b) e (subst (λ (t : List ℕ). FormatTold n t used form s a b) f h)
+    subst (λ (k : ℕ). FormatReported k name used form s a b) e (subst (λ (t : List ℕ). FormatReported n t used form s a b) f h)
 
-abbrev pub InjectTold : (n image version : ℕ) → (name : List ℕ) → Status → Around → Around → Type 0
-InjectTold n image version name s a b =
+abbrev pub InjectReported : (n image version : ℕ) → (name : List ℕ) → Status → Around → Around → Type 0
+InjectReported n image version name s a b =
     (input : List ℕ) × InputRead s n input a.left b.left a.reads b.reads
     × ToolDone s (verb_rule (FirstAs a.boards) (inject_ending n (row_of image version name) input)
     (WentOn (λ t. inject_trail t (row_of image version name (content_in input)))) (StopsOn (λ t. inject_trail t (row_of image version name (content_in input)))))
     (Rose a.reads b.reads) (tool_around a) (tool_around b)
 
-pub inject_done : (n image version : ℕ) (told name : List ℕ) (s : Status) (a b : Around) → n ≡ length a.boards → told ≡ name → InjectTold n image version told s a b → InjectDone image version name s a b
+pub inject_done : (n image version : ℕ) (told name : List ℕ) (s : Status) (a b : Around) → n ≡ length a.boards → told ≡ name → InjectReported n image version told s a b → InjectDone image version name s a b
 inject_done n image version told name s a b e f h =
-    subst (λ (k : ℕ). InjectTold k image version name s a b) e (subst (λ (t : List ℕ). InjectTold n image version t s a b) f h)
+    subst (λ (k : ℕ). InjectReported k image version name s a b) e (subst (λ (t : List ℕ). InjectReported n image version t s a b) f h)
 
-abbrev pub OrderTold : (n : ℕ) → Order → Status → Around → Around → Type 0
-OrderTold n o s a b = ToolDone s (verb_rule (FirstAs a.boards) (order_ending n o) (WentOn (λ t. order_trail t o)) (StopsOn (λ t. order_trail t o))) ⊥ (tool_around a) (tool_around b)
+abbrev pub OrderReported : (n : ℕ) → Order → Status → Around → Around → Type 0
+OrderReported n o s a b = ToolDone s (verb_rule (FirstAs a.boards) (order_ending n o) (WentOn (λ t. order_trail t o)) (StopsOn (λ t. order_trail t o))) ⊥ (tool_around a) (tool_around b)
 
-pub order_done : (n : ℕ) (o : Order) (s : Status) (a b : Around) → n ≡ length a.boards → b.left ≡ a.left → b.reads ≡ a.reads → OrderTold n o s a b → OrderDone o s a b
-order_done n o s a b e left reads h = ((left, reads), subst (λ (k : ℕ). OrderTold k o s a b) e h)
+pub order_done : (n : ℕ) (o : Order) (s : Status) (a b : Around) → n ≡ length a.boards → b.left ≡ a.left → b.reads ≡ a.reads → OrderReported n o s a b → OrderDone o s a b
+order_done n o s a b e left reads h = ((left, reads), subst (λ (k : ℕ). OrderReported k o s a b) e h)
 
-abbrev pub BootTold : (n : ℕ) → Status → Around → Around → Type 0
-BootTold n s a b = ToolDone s (verb_rule (FirstAs a.boards) (boot_ending n) (BootedOn power_boot) (StopsOn (λ t. (power_boot t).trail))) ⊥ (tool_around a) (tool_around b)
+abbrev pub BootReported : (n : ℕ) → Status → Around → Around → Type 0
+BootReported n s a b = ToolDone s (verb_rule (FirstAs a.boards) (boot_ending n) (BootedOn power_boot) (StopsOn (λ t. (power_boot t).trail))) ⊥ (tool_around a) (tool_around b)
 
-pub boot_done : (n : ℕ) (s : Status) (a b : Around) → n ≡ length a.boards → b.left ≡ a.left → b.reads ≡ a.reads → BootTold n s a b → BootDone s a b
-boot_done n s a b e left reads h = ((left, reads), subst (λ (k : ℕ). BootTold k s a b) e h)
+pub boot_done : (n : ℕ) (s : Status) (a b : Around) → n ≡ length a.boards → b.left ≡ a.left → b.reads ≡ a.reads → BootReported n s a b → BootDone s a b
+boot_done n s a b e left reads h = ((left, reads), subst (λ (k : ℕ). BootReported k s a b) e h)
 
 -- ---- no command over one board speaks of a link
 

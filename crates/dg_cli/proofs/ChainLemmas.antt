@@ -89,17 +89,17 @@ receive_nothing image version name root a = (
 )
 
 -- with the number of boards as the call has it
-abbrev ReceiveTold : Status → (n image version : ℕ) → (name root : List ℕ) → (a b : Around) → Type 0
-ReceiveTold status n image version name root a b =
+abbrev ReceiveReported : Status → (n image version : ℕ) → (name root : List ℕ) → (a b : Around) → Type 0
+ReceiveReported status n image version name root a b =
     (input : List ℕ) × InputRead status n input a.left b.left a.reads b.reads
     × ToolDone status (verb_rule (FirstAs a.boards) (receive_ending n root (row_of image version name) input)
     (WentOn (λ s. receive_trail root s (row_of image version name (content_in input)))) (StopsOn (λ s. receive_trail root s (row_of image version name (content_in input)))))
     (Rose a.reads b.reads) (tool_around a) (tool_around b)
 
-pub received : (status : Status) (n image version : ℕ) (name told root : List ℕ) (a b : Around) → n ≡ length a.boards → told ≡ root → ReceiveTold status n image version name told a b
+pub received : (status : Status) (n image version : ℕ) (name told root : List ℕ) (a b : Around) → n ≡ length a.boards → told ≡ root → ReceiveReported status n image version name told a b
     → ReceivedDone status image version name root a b
 received status n image version name told root a b e f h =
-    subst (λ (r : List ℕ). ReceivedDone status image version name r a b) f (subst (λ (k : ℕ). ReceiveTold status k image version name told a b) e h)
+    subst (λ (r : List ℕ). ReceivedDone status image version name r a b) f (subst (λ (k : ℕ). ReceiveReported status k image version name told a b) e h)
 
 -- ---- the digits of a root
 

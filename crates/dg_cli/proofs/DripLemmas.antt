@@ -5,7 +5,7 @@ use Rattle.dg_base.specs.declared.answers.Status.TheVariants as statuses
 use Rattle.dg_words.specs.Counts.{Rose}
 use Rattle.dg_drip_script.specs.Scripts.{DripScript}
 use Rattle.dg_drip_run.specs.AroundDrip.{AroundDrip}
-use Rattle.dg_drip_run.specs.Outcome.{Ending, Ends, BadLine, TooManyEvents, Over, status_of, Closed, Wrote, Dripped}
+use Rattle.dg_drip_run.specs.Dripped.{Ending, Ends, BadLine, TooManyEvents, Over, status_of, Closed, Wrote, Dripped}
 
 abbrev IsNoLink : Status → Type 0
 IsNoLink statuses.LinkFault = ⊥

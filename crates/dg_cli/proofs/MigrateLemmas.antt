@@ -15,12 +15,12 @@ use Rattle.dg_cli.specs.Migrating.{MigratedDone}
 use Rattle.dg_cli.proofs.CarryLemmas.{no_link}
 
 -- the same with the number of boards as the call has it
-abbrev pub MigratedTold : (n : ℕ) → Status → (before after : ToolOutside) → Type 0
-MigratedTold n s before after =
+abbrev pub MigrateReported : (n : ℕ) → Status → (before after : ToolOutside) → Type 0
+MigrateReported n s before after =
     (form : ℕ) → FirstInForm form before.boards → ToolDone s (verb_rule (FirstAs before.boards) (migrate_ending n form) (MigratedOn form) (StopsOn (migrate_trail form))) ⊥ before after
 
-pub migrated_done : (n : ℕ) (s : Status) (before after : ToolOutside) → n ≡ length before.boards → MigratedTold n s before after → MigratedDone s before after
-migrated_done n s before after e h = subst (λ (m : ℕ). MigratedTold m s before after) e h
+pub migrated_done : (n : ℕ) (s : Status) (before after : ToolOutside) → n ≡ length before.boards → MigrateReported n s before after → MigratedDone s before after
+migrated_done n s before after e h = subst (λ (m : ℕ). MigrateReported m s before after) e h
 
 abbrev pub FormLaw : Type 0
 FormLaw = (c : List ℕ) (s : Store) → Stands c s → HasForm c old_form ⊎ HasForm c new_form
@@ -36,5 +36,5 @@ some_form law (board ∷ boards) none =
     none old_form (λ v. absurd (in_neither (HasForm board.image old_form) (HasForm board.image new_form) (λ h. none old_form (λ _. h)) (λ h. none new_form (λ _. h)) (law board.image v.0 v.1)))
 
 -- it speaks of no link
-pub no_link_of_migration : FormLaw → (n : ℕ) (s : Status) (before after : ToolOutside) → MigratedTold n s before after → s ≡ statuses.LinkFault → ⊥
+pub no_link_of_migration : FormLaw → (n : ℕ) (s : Status) (before after : ToolOutside) → MigrateReported n s before after → s ≡ statuses.LinkFault → ⊥
 no_link_of_migration law n s before after h e = some_form law before.boards (λ form first. no_link _ _ _ _ _ (h form first).faulted e)

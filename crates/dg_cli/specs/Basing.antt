@@ -41,7 +41,7 @@ abbrev pub no_base_board_line : List ℕ
 no_base_board_line = codes "noboard 1 0" ++ 10 ∷ []
 
 -- It was written, or a front of it, since a write failed. Nothing is read.
-pub record NoBoardTold (status : Status) (a b : Around) : Type 0 where
+pub record NoBoardReported (status : Status) (a b : Around) : Type 0 where
   pub left : b.left ≡ a.left
   pub reads : b.reads ≡ a.reads
   pub told : ((status ≡ NoBoard) × Puts a.written b.written no_base_board_line × (b.writes ≡ a.writes))
@@ -49,7 +49,7 @@ pub record NoBoardTold (status : Status) (a b : Around) : Type 0 where
 
 -- over the first of the boards, and the others are as before
 abbrev pub BasedOver : Base → Status → Around → Around → (old new : List Device) → Type 0
-BasedOver base status a b [] [] = NoBoardTold status a b
+BasedOver base status a b [] [] = NoBoardReported status a b
 BasedOver base status a b (old ∷ others) (new ∷ rest) =
     BasedOn base status (around_chip a old) (around_chip b new) × (rest ≡ others)
 BasedOver base status a b old new = ⊥

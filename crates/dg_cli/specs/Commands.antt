@@ -22,14 +22,14 @@ use Rattle.dg_serve.specs.Networks.{NetworkServed, around_service}
 use Rattle.dg_trial.specs.AroundTrial.{around_trial}
 use Rattle.dg_trial.specs.Trials.{TrialEnds}
 use Rattle.dg_drip_run.specs.AroundDrip.{around_drip}
-use Rattle.dg_drip_run.specs.Outcome.{Dripped, played}
+use Rattle.dg_drip_run.specs.Dripped.{Dripped, played}
 use Rattle.dg_drip_run.specs.Promised.{GreatestIsKept, NothingFalls, SetsMakeAll, RoundsRaise, SweepsBringTheGreatest}
 use Rattle.dg_command.specs.Asking.{Said, Replay, Serve, Format, Inject, Order as OrderSaid, Boot, Ping, Dump, Migrate, Trial}
 use Rattle.dg_command.specs.Asking.{Wrap, Check, Receive, Drip, Base, Asking, Asks, Helps, Misuses}
 use Rattle.dg_tool.specs.Endings.{Ending, FirstAs, content_in}
 use Rattle.dg_tool.specs.Verbs.{format_ending, inject_ending, order_ending, power_boot, boot_ending, ping_ending, dump_ending}
 use Rattle.dg_tool.specs.Done.{verb_rule, ToolDone, InputRead, IsFormatted, FormatStops, WentOn, StopsOn, BootedOn}
-use Rattle.dg_cli.specs.Words.{UsageTold, HelpTold}
+use Rattle.dg_cli.specs.Words.{UsageWritten, HelpWritten}
 use Rattle.dg_cli.specs.Surroundings.{Surroundings, tool_around, outside_of}
 use Rattle.dg_cli.specs.Migrating.{MigratedDone}
 use Rattle.dg_cli.specs.Basing.{BaseDone}
@@ -146,12 +146,12 @@ pub record DripDone (status : Status) (a b : Around) : Type 0 where
 pub record UsageDone (status : Status) (a b : Around) : Type 0 where
   pub unread : Unread a b
   pub boards : b.boards ≡ a.boards
-  pub told : UsageTold status a.written b.written a.writes b.writes
+  pub told : UsageWritten status a.written b.written a.writes b.writes
 
 pub record HelpDone (status : Status) (a b : Around) : Type 0 where
   pub unread : Unread a b
   pub boards : b.boards ≡ a.boards
-  pub told : HelpTold status a.written b.written a.writes b.writes
+  pub told : HelpWritten status a.written b.written a.writes b.writes
 
 -- ---- all commands
 

@@ -10,13 +10,13 @@ abbrev pub usage_line : List ℕ
 usage_line = codes "usage" ++ 10 ∷ []
 
 -- it was written, or a front of it, since a write failed
-abbrev pub UsageTold : Status → (written_before written_after : Option (List ℕ)) → (writes_before writes_after : ℕ) → Type 0
-UsageTold status before after faults_before faults_after =
+abbrev pub UsageWritten : Status → (written_before written_after : Option (List ℕ)) → (writes_before writes_after : ℕ) → Type 0
+UsageWritten status before after faults_before faults_after =
     ((status ≡ Usage) × Puts before after usage_line × (faults_after ≡ faults_before))
     ⊎ ((status ≡ WriteFault) × PutsFront before after usage_line × Rose faults_before faults_after)
 
 -- some text was written, or a front of it, since a write failed
-abbrev pub HelpTold : Status → (written_before written_after : Option (List ℕ)) → (writes_before writes_after : ℕ) → Type 0
-HelpTold status before after faults_before faults_after =
+abbrev pub HelpWritten : Status → (written_before written_after : Option (List ℕ)) → (writes_before writes_after : ℕ) → Type 0
+HelpWritten status before after faults_before faults_after =
     (text : List ℕ) × (((status ≡ Done) × Puts before after text × (faults_after ≡ faults_before))
     ⊎ ((status ≡ WriteFault) × PutsFront before after text × Rose faults_before faults_after))

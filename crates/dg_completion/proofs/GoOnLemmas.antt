@@ -3,7 +3,7 @@ use Rattle.std.proofs.Common.{◌≡◌, ℕ, Bool, List, [], ◌∷◌, ◌++�
 use Rattle.std.specs.List.{AllByRecursion, filter}
 use Rattle.dg_script.specs.Items.{Item}
 use Rattle.dg_rules.specs.World.{World}
-use Rattle.dg_rules.specs.Changes.{is_told}
+use Rattle.dg_rules.specs.Changes.{is_reported}
 use Rattle.dg_rules.specs.Runs.{Played, Plays}
 use Rattle.dg_rules.specs.Ranges.{EventInRange}
 use Rattle.dg_rules.specs.Premises.{WorldAgrees, PlayedInRange, IsTrueThen, LeavesAgreement}
@@ -13,7 +13,7 @@ use Rattle.dg_base.specs.declared.events.Event.{Event}
 use Rattle.dg_completion.specs.Rests.{IsFree, IsRest}
 use Rattle.dg_completion.specs.Completion.{Follows, FreeLaw}
 use Rattle.dg_completion.specs.Ends.{events_of, IsUncut}
-use Rattle.dg_completion.specs.Met.{HappensLaw, SpendLaw, happening, GoesOnLaw}
+use Rattle.dg_completion.specs.Met.{AppliesLaw, SpendLaw, applying, GoesOnLaw}
 use Rattle.dg_completion.proofs.GrowLemmas.{all_append, rounds_free}
 use Rattle.dg_completion.proofs.FreeLemmas.{true_free}
 use Rattle.dg_completion.proofs.MetLemmas.{comes}
@@ -26,7 +26,7 @@ plays_join (x ∷ xs) ys w u v a b = (a.0, a.1, plays_join xs ys x.after u v a.2
 -- events that follow one another, as what was played
 record AsPlayed (motes : ℕ) (reported : Bool) (w v : World) (es : List Event) : Type 0 where
   rest : List Played
-  items : map (λ (p : Played). p.item) rest ≡ map (happening reported) es
+  items : map (λ (p : Played). p.item) rest ≡ map (applying reported) es
   plays : Plays w rest v
   events : events_of rest ≡ es
   ranges : AllByRecursion (PlayedInRange motes) rest
@@ -38,10 +38,10 @@ unfolding Plays Follows events_of
 as_played motes reported [] w v f free fits = record { rest = []; items = refl; plays = f; events = refl; ranges = tt; are_true = tt; uncut = tt }
 as_played motes reported (e ∷ es) w v f free fits =
     let more = as_played motes reported es f.0 v f.3 free.1 fits.1 in
-    let p : Played = record { item = happening reported e; before = w; after = f.0; reports = filter (is_told reported) f.1 } in
+    let p : Played = record { item = applying reported e; before = w; after = f.0; reports = filter (is_reported reported) f.1 } in
     record {
       rest = p ∷ more.rest;
-      items = ap (λ (items : List Item). happening reported e ∷ items) more.items;
+      items = ap (λ (items : List Item). applying reported e ∷ items) more.items;
       plays = (refl, (f.1, f.2, refl), more.plays);
       events = ap (λ (events : List Event). e ∷ events) more.events;
       ranges = (record { event = fits.0; cut = tt }, more.ranges);
@@ -52,13 +52,13 @@ as_played motes reported (e ∷ es) w v f free fits =
 module _
     (agrees : (u v : World) (played : List Played) → PlaysFrom u played v → AllByRecursion LeavesAgreement played × WorldAgrees v)
     (free : FreeLaw)
-    (happen : HappensLaw)
+    (apply : AppliesLaw)
     (spend : SpendLaw) where
   pub goes_on_law : GoesOnLaw
   goes_on_law u before w n es reported from may =
       let good = (agrees u w before from).1 in
       let all = rounds_free (times n (rounds_of w.links)) es may.rest in
-      let came = comes free happen spend es w good all in
+      let came = comes free apply spend es w good all in
       let known = as_played (length u.sites) reported es w came.v came.run all may.ranges in
       record {
         rest = known.rest;

@@ -1,4 +1,4 @@
--- Free events happen, and take few commits. So a rest happens.
+-- Free events can be applied, and take few commits. So can a rest.
 use Rattle.std.proofs.Common.{◌≡◌, ℕ, ◌+◌, ◌<◌, Bool, cond, List, [], ◌∷◌, length, get_or, Option, Some, None, refl, sym, ap, subst, ◌∙◌, inl, inr, arith}
 use Rattle.std.specs.List.{AllByRecursion, sum_by}
 use Rattle.std.proofs.lemmas.Bool.{cases_eq, eq-eqb}
@@ -7,7 +7,7 @@ use Rattle.std.proofs.lemmas.List.Sums.{sum_by-cons}
 use Rattle.dg_nor.specs.Trail.{last}
 use Rattle.dg_nor.proofs.ThroughLemmas.{Through-last}
 use Rattle.dg_volume.specs.Start.{Runs, boot}
-use Rattle.dg_volume.specs.declared.volume.StartCause.TheVariants as kind
+use Rattle.dg_volume.specs.declared.volume.StartCause.TheVariants as cause
 use Rattle.dg_mote.specs.Changes.{MayClear}
 use Rattle.dg_mote.specs.Ticks.{tick_of}
 use Rattle.dg_rules.specs.World.{World, Running, Site, site, store_at, with_site, counted, no_site}
@@ -24,7 +24,7 @@ use Rattle.dg_base.specs.declared.events.Step.{Step}
 use Rattle.dg_script.specs.declared.report.Report.{Report}
 use Rattle.dg_completion.specs.Rests.{IsFree}
 use Rattle.dg_completion.specs.Completion.{Follows, FreeLaw}
-use Rattle.dg_completion.specs.Met.{HappensLaw, most_commits, commits_at, SpendLaw, MetLaw}
+use Rattle.dg_completion.specs.Met.{AppliesLaw, most_commits, commits_at, SpendLaw, MetLaw}
 use Rattle.dg_completion.proofs.GrowLemmas.{rounds_free}
 use Rattle.dg_completion.proofs.FreeLemmas.{Laws, ranged, on_there, sent_same}
 use Rattle.dg_completion.proofs.SpendLemmas.{Spends, TakeLaws, golden_sound, start_spends, clear_spends, heard_spends}
@@ -40,57 +40,57 @@ abbrev pub FewDoes : World → ℕ → Does → Type 0
 FewDoes w m (Refuses why) = Unit {0}
 FewDoes w m (Goes d) = FewDeed w m d
 
-found_runs : (o : Option Runs) (id : ℕ) (wide : Bool) (now word : ℕ) → (o ≡ None → ⊥) → (runs : Option Running) × (running_by o id wide now word ≡ Some runs)
-found_runs None id wide now word found = absurd (found refl)
-found_runs (Some r) id wide now word found = (_, refl)
+found_runs : (o : Option Runs) (id : ℕ) (wide : Bool) (now draw : ℕ) → (o ≡ None → ⊥) → (runs : Option Running) × (running_by o id wide now draw ≡ Some runs)
+found_runs None id wide now draw found = absurd (found refl)
+found_runs (Some r) id wide now draw found = (_, refl)
 
 module _ (laws : Laws) (takes : TakeLaws) (w : World) (good : WorldAgrees w) where
   few_does : (e : Event) → IsFree e → FewDoes w (mote_of e) (does w e)
   few_does =
       does_cases laws.restarts w (SentIsWell w.table) good.sent (λ e D. IsFree e → FewDoes w (mote_of e) D)
       (λ e why free. tt)
-      (λ m dt word r is free.
+      (λ m dt draw r is free.
       let s = store_at w m in
-      let step = tick_of r.mote s (w.moment + dt) word in
+      let step = tick_of r.mote s (w.moment + dt) draw in
       record {
-        goes_on = (Some (record { key = r.key; mote = step.mote }), refl);
-        spends = omega (arith, clear_spends s (last step.trail) (Through-last (MayClear s) step.trail (laws.changes.ticked r.mote s (w.moment + dt) word)));
+        goes_on = (Some (record { image_version = r.image_version; mote = step.mote }), refl);
+        spends = omega (arith, clear_spends s (last step.trail) (Through-last (MayClear s) step.trail (laws.changes.ticked r.mote s (w.moment + dt) draw)));
       })
-      (λ m dt word r is waits free.
+      (λ m dt draw r is waits free.
       let s = store_at w m in
       let agrees = (good.sites m (on_there w m r is)).store.agrees in
       let rows = laws.sound w.table good.table in
       record {
-        goes_on = found_runs (boot kind.Order s).runs r.mote.id r.mote.wide (w.moment + dt) word ((boot_start kind.Order s).found (golden_sound laws.starts w.table s rows agrees));
+        goes_on = found_runs (boot cause.Order s).runs r.mote.id r.mote.wide (w.moment + dt) draw ((boot_start cause.Order s).found (golden_sound laws.starts w.table s rows agrees));
         spends = omega (arith, start_spends laws.starts w.table s rows agrees waits);
       })
-      (λ m dt word free. absurd cc)
-      (λ m dt word number f r is at q free. record {
+      (λ m dt draw free. absurd cc)
+      (λ m dt draw number f r is at q free. record {
         goes_on = (_, refl);
-        spends = heard_spends takes laws.changes r.mote (store_at w m) (w.moment + dt) word f.bytes;
+        spends = heard_spends takes laws.changes r.mote (store_at w m) (w.moment + dt) draw f.bytes;
       })
-      (λ from m dt word f r is at q free. record {
+      (λ from m dt draw f r is at q free. record {
         goes_on = (_, refl);
-        spends = heard_spends takes laws.changes r.mote (store_at w m) (w.moment + dt) word f.bytes;
+        spends = heard_spends takes laws.changes r.mote (store_at w m) (w.moment + dt) draw f.bytes;
       })
-      (λ m dt word bytes r is free. absurd cc)
-      (λ m image version dt word row known none free. absurd cc)
-      (λ m number image version dt word none free. absurd cc)
+      (λ m dt draw bytes r is free. absurd cc)
+      (λ m image version dt draw row known none free. absurd cc)
+      (λ m number image version dt draw none free. absurd cc)
 
   abbrev step : Event → Step
   step e = record { event = e; cut = None }
 
-  -- ---- it happens
+  -- ---- it can be applied
 
-  happens_by : (e : Event) (D : Does) → FewDoes w (mote_of e) D → (v : World) × (reports : List Report) × StepDoes D w (step e) v reports
-  happens_by e (Refuses why) few = (_, _, (refl, refl))
-  happens_by e (Goes d) few =
+  applies_by : (e : Event) (D : Does) → FewDoes w (mote_of e) D → (v : World) × (reports : List Report) × StepDoes D w (step e) v reports
+  applies_by e (Refuses why) few = (_, _, (refl, refl))
+  applies_by e (Goes d) few =
       let runs = few.goes_on.0 in
       (done_world w (mote_of e) (dt_of e) d runs, done_reports w (mote_of e) d, (runs, few.goes_on.1, refl, refl))
 
-  happens : (e : Event) → IsFree e → (v : World) × (reports : List Report) × WorldStep w (step e) v reports
+  applies : (e : Event) → IsFree e → (v : World) × (reports : List Report) × WorldStep w (step e) v reports
   unfolding WorldStep
-  happens e free = happens_by e (does w e) (few_does e free)
+  applies e free = applies_by e (does w e) (few_does e free)
 
   -- ---- and few commits are made at its mote
 
@@ -122,15 +122,15 @@ module _ (laws : Laws) (takes : TakeLaws) (w : World) (good : WorldAgrees w) whe
       | inr refused ↦ refused_spends (subst (λ D. StepDoes D w (step e) v reports) refused.1 did).0
     ]
 
-pub happens_law : Laws → TakeLaws → HappensLaw
-happens_law laws takes w e good free = happens laws takes w good e free
+pub applies_law : Laws → TakeLaws → AppliesLaw
+applies_law laws takes w e good free = applies laws takes w good e free
 
 pub spend_law : Laws → TakeLaws → SpendLaw
 spend_law laws takes w v e reports good free did = spends laws takes w good v e reports free did
 
 -- ---- a rest
 
-module _ (free : FreeLaw) (happen : HappensLaw) (spend : SpendLaw) where
+module _ (free : FreeLaw) (apply : AppliesLaw) (spend : SpendLaw) where
   -- what comes of these events
   pub record Came (w : World) (es : List Event) : Type 0 where
     pub v : World
@@ -141,7 +141,7 @@ module _ (free : FreeLaw) (happen : HappensLaw) (spend : SpendLaw) where
   unfolding Follows
   comes [] w good all = record { v = w; run = refl; room = λ m. omega arith }
   comes (e ∷ es) w good all =
-      let one = happen w e good all.0 in
+      let one = apply w e good all.0 in
       let rest = comes es one.0 (free w one.0 e one.1 good all.0 one.2).good all.1 in
       record {
         v = rest.v;

@@ -32,21 +32,21 @@ hear_walks w u a b x message reports at link sent spelled walk =
     let d1 = subst (λ (s : Site). StepDoes (unless_off s.runs (cond (linked w a b) (hear_last_by s (last_frame w a)) (Refuses cause.Link))) w step u reports) at.site_is walk in
     let d2 = subst (λ c. StepDoes (cond c (hear_last_by here (last_frame w a)) (Refuses cause.Link)) w step u reports) link d1 in
     let d3 = subst (λ o. StepDoes (hear_last_by here o) w step u reports) sent d2 in
-    let d4 = subst (λ (m : Result Message FrameFault). StepDoes (of_effect w (silent (by_message m x.mote x.store (w.moment + 0) 0)) (Some at.key)) w step u reports) spelled d3 in
-    let done = subst (λ n. StepDoes (of_effect w (silent (by_message (Ok message) x.mote x.store n 0)) (Some at.key)) w step u reports) now d4 in
+    let d4 = subst (λ (m : Result Message FrameFault). StepDoes (of_effect w (silent (by_message m x.mote x.store (w.moment + 0) 0)) (Some at.image_version)) w step u reports) spelled d3 in
+    let done = subst (λ n. StepDoes (of_effect w (silent (by_message (Ok message) x.mote x.store n 0)) (Some at.image_version)) w step u reports) now d4 in
     let t = by_message (Ok message) x.mote x.store w.moment 0 in
-    let new : Site = record { store = last t.trail; runs = Some (record { key = at.key; mote = t.mote }) } in
-    let runs : Some (record { key = at.key; mote = t.mote }) ≡ done.0 = cc in
+    let new : Site = record { store = last t.trail; runs = Some (record { image_version = at.image_version; mote = t.mote }) } in
+    let runs : Some (record { image_version = at.image_version; mote = t.mote }) ≡ done.0 = cc in
     let same : u ≡ made w b 0 new None = done.2 ∙ ap (λ r. made w b 0 (record { store = last t.trail; runs = r }) None) (sym runs) in
     subst (λ v. Walks b w v (record { store = last t.trail; mote = t.mote }) None 0) (sym same) (record {
-      at = record { there = subst (λ n. b < n) (sym (made_beside w b 0 new None).count) at.there; key = at.key; site_is = made_site w b 0 new None at.there };
+      at = record { there = subst (λ n. b < n) (sym (made_beside w b 0 new None).count) at.there; image_version = at.image_version; site_is = made_site w b 0 new None at.there };
       beside = made_beside w b 0 new None;
       frame = refl;
       moment = refl;
     })
   where
     here : Site
-    here = record { store = x.store; runs = Some (record { key = at.key; mote = x.mote }) }
+    here = record { store = x.store; runs = Some (record { image_version = at.image_version; mote = x.mote }) }
 
     hear_last_by : Site → Option Sent → Does
     hear_last_by s None = Refuses cause.Frame
@@ -56,7 +56,7 @@ hear_walks w u a b x message reports at link sent spelled walk =
 
 pub at_beside : (m b : ℕ) (w u : World) (x : Spot) → b ≢ m → Beside m w u → At w b x → At u b x
 at_beside m b w u x other beside at =
-    record { there = subst (λ n. b < n) (sym beside.count) at.there; key = at.key; site_is = beside.others b other ∙ at.site_is }
+    record { there = subst (λ n. b < n) (sym beside.count) at.there; image_version = at.image_version; site_is = beside.others b other ∙ at.site_is }
 
 pub linked_beside : (a b : ℕ) (w u : World) → u.links ≡ w.links → linked w a b ≡ true → linked u a b ≡ true
 linked_beside a b w u e l = ap (λ ls. list_any (λ (k : ℕ × ℕ). (eqb k.0 a && eqb k.1 b) || (eqb k.0 b && eqb k.1 a)) ls) e ∙ l

@@ -103,7 +103,7 @@ store_at_is : (w : World) (m : ℕ) (x : Spot) → At w m x → store_at w m ≡
 store_at_is w m x at = ap (λ (s : Site). s.store) at.site_is
 
 at_on : (w : World) (m : ℕ) → m < length w.sites → (o : IsOn w m) → At w m (record { store = store_at w m; mote = o.running.mote })
-at_on w m h o = record { there = h; key = o.running.key; site_is = ap (λ r. record { store = (site w m).store; runs = r }) o.runs }
+at_on w m h o = record { there = h; image_version = o.running.image_version; site_is = ap (λ r. record { store = (site w m).store; runs = r }) o.runs }
 
 told_of : (m : ℕ) (wide : Bool) (f : Option Sent) (o : Option Message) (message : Message) → IsTold m wide f o → o ≡ Some message → (f ≡ frame_told m (Some message)) × Spelled wide message
 told_of m wide f o message t e = subst (IsTold m wide f) e t
@@ -298,7 +298,7 @@ ticks_drain laws drain w v m good there on run room =
     let store : store_at v m ≡ y.store = store_at_is v m y k.at in
     let l = drain w.table x w.moment good.table (well_at w m x good at).well (omega (arith, room, ap (λ (s : Store). s.room) store)) in
     record {
-      running = record { key = k.at.key; mote = y.mote };
+      running = record { image_version = k.at.image_version; mote = y.mote };
       runs = ap (λ (s : Site). s.runs) k.at.site_is;
       drained = subst (λ (s : Store). Drained (record { store = s; mote = y.mote }) v.moment) (sym store) (drained_later y (w.moment + 50 * pace) v.moment (omega (arith, k.moment)) l.drained);
       kept = λ j. ap (λ (s : Store). held s j) store ∙ l.kept j;

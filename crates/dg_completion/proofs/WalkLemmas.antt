@@ -15,7 +15,7 @@ use Rattle.dg_mote.specs.declared.mote.Did.TheVariants as did
 use Rattle.dg_volume.specs.Store.{Store}
 use Rattle.dg_volume.specs.Table.{IsTable}
 use Rattle.dg_volume.specs.Start.{boot}
-use Rattle.dg_volume.specs.declared.volume.StartCause.TheVariants as kind
+use Rattle.dg_volume.specs.declared.volume.StartCause.TheVariants as cause
 use Rattle.dg_frame.specs.Grammar.{message_of}
 use Rattle.dg_mote.specs.Effects.{tick_effect, tick_by, boot_by}
 use Rattle.dg_mote.specs.Spots.{Spot, pace, tick_at, ticked, after_ticks, last_sent, newer_of, mote_or}
@@ -32,8 +32,8 @@ use Rattle.dg_script.specs.declared.report.Report.{Report}
 -- the mote with this number is on, over this store
 pub record At (w : World) (m : ℕ) (x : Spot) : Type 0 where
   pub there : m < length w.sites
-  pub key : ImageVersion
-  pub site_is : site w m ≡ record { store = x.store; runs = Some (record { key = key; mote = x.mote }) }
+  pub image_version : ImageVersion
+  pub site_is : site w m ≡ record { store = x.store; runs = Some (record { image_version = image_version; mote = x.mote }) }
 
 -- nothing but mote m changed, and the moment
 pub record Beside (m : ℕ) (w u : World) : Type 0 where
@@ -105,11 +105,11 @@ made_moment w m dt x None = refl
 made_moment w m dt x (Some s) = refl
 
 -- a mote that did not meet NoImage goes on
-went : (o : Option MoteState) (started : Option Runs) (key : ImageVersion) (before : MoteState) (runs : Option Running) → option_map (runs_by started (Some key)) o ≡ Some runs
-    → (k : ImageVersion) × (runs ≡ Some (record { key = k; mote = mote_or o before }))
-went None started key before runs e = absurd cc
-went (Some m) None key before runs e = (key, cc)
-went (Some m) (Some r) key before runs e = (key_of r, cc)
+went : (o : Option MoteState) (started : Option Runs) (image_version : ImageVersion) (before : MoteState) (runs : Option Running) → option_map (runs_by started (Some image_version)) o ≡ Some runs
+    → (k : ImageVersion) × (runs ≡ Some (record { image_version = k; mote = mote_or o before }))
+went None started image_version before runs e = absurd cc
+went (Some m) None image_version before runs e = (image_version, cc)
+went (Some m) (Some r) image_version before runs e = (key_of r, cc)
 
 -- an event at mote m made spot x into y, and it sent this
 pub record Walks (m : ℕ) (w u : World) (y : Spot) (sent : Option Message) (dt : ℕ) : Type 0 where
@@ -124,13 +124,13 @@ unfolding WorldStep does ticked
 tick_walks w u m x reports at walk =
     let e = tick_at x (w.moment + pace) in
     let done = subst (λ (s : Site). StepDoes (tick_does w s.store s.runs (w.moment + pace) 0) w (record { event = paced m; cut = None }) u reports) at.site_is walk in
-    let next = went e.mote e.started at.key x.mote done.0 done.1 in
-    let new : Site = record { store = last e.trail; runs = Some (record { key = next.0; mote = mote_or e.mote x.mote }) } in
+    let next = went e.mote e.started at.image_version x.mote done.0 done.1 in
+    let new : Site = record { store = last e.trail; runs = Some (record { image_version = next.0; mote = mote_or e.mote x.mote }) } in
     let same : u ≡ made w m pace new e.sent = done.2 ∙ ap (λ r. made w m pace (record { store = last e.trail; runs = r }) e.sent) next.1 in
     subst (λ v. Walks m w v (record { store = last e.trail; mote = mote_or e.mote x.mote }) e.sent pace) (sym same) (record {
       at = record {
         there = subst (λ n. m < n) (sym (made_beside w m pace new e.sent).count) at.there;
-        key = next.0;
+        image_version = next.0;
         site_is = made_site w m pace new e.sent at.there;
       };
       beside = made_beside w m pace new e.sent;
@@ -147,25 +147,25 @@ Spelled wide m = message_of (frame_of m) wide ≡ Ok m
 pub record WalkLaws : Type 0 where
   pub free : FreeLaw
   pub later : (table : List Row) (m : MoteState) (s : Store) (now then : ℕ) → now ≤ then → IsWell table m s now → IsWell table m s then
-  pub said : (table : List Row) (m : MoteState) (s : Store) (now word : ℕ) → IsTable table → IsWell table m s now → Speaks m s → IfSome (tick_of m s now word).sent (IsSaid m.id m.wide)
+  pub said : (table : List Row) (m : MoteState) (s : Store) (now draw : ℕ) → IsTable table → IsWell table m s now → Speaks m s → IfSome (tick_of m s now draw).sent (IsSaid m.id m.wide)
 
 if_said : (id : ℕ) (wide : Bool) (o : Option Message) → IfSome o (IsSaid id wide) → IfSome o (Spelled wide)
 if_said id wide None i = tt
 if_said id wide (Some m) i = i.is_read
 
-boot_silent : (o : Option Runs) (t : Trail Store) (id : ℕ) (wide : Bool) (now word : ℕ) (P : Message → Type 0) → IfSome (boot_by o t id wide now word).sent P
-boot_silent None t id wide now word P = tt
-boot_silent (Some r) t id wide now word P = tt
+boot_silent : (o : Option Runs) (t : Trail Store) (id : ℕ) (wide : Bool) (now draw : ℕ) (P : Message → Type 0) → IfSome (boot_by o t id wide now draw).sent P
+boot_silent None t id wide now draw P = tt
+boot_silent (Some r) t id wide now draw P = tt
 
-effect_said : (wide : Bool) (a : Did) (step : Turn Did) (now word : ℕ) → IfSome step.sent (Spelled wide) → IfSome (tick_by a step now word).sent (Spelled wide)
-effect_said wide did.Sent step now word i = i
-effect_said wide did.Idle step now word i = i
-effect_said wide did.Restart step now word i =
-    boot_silent (boot kind.Order (last step.trail)).runs (boot kind.Order (last step.trail)).trail step.mote.id step.mote.wide now word (Spelled wide)
+effect_said : (wide : Bool) (a : Did) (step : Turn Did) (now draw : ℕ) → IfSome step.sent (Spelled wide) → IfSome (tick_by a step now draw).sent (Spelled wide)
+effect_said wide did.Sent step now draw i = i
+effect_said wide did.Idle step now draw i = i
+effect_said wide did.Restart step now draw i =
+    boot_silent (boot cause.Order (last step.trail)).runs (boot cause.Order (last step.trail)).trail step.mote.id step.mote.wide now draw (Spelled wide)
 
-pub well_at : (w : World) (m : ℕ) (x : Spot) → WorldAgrees w → (at : At w m x) → RunsWell w.table m (wide_at w m) w.moment x.store (record { key = at.key; mote = x.mote })
+pub well_at : (w : World) (m : ℕ) (x : Spot) → WorldAgrees w → (at : At w m x) → RunsWell w.table m (wide_at w m) w.moment x.store (record { image_version = at.image_version; mote = x.mote })
 well_at w m x good at =
-    let here : SiteIsWell w.table m (wide_at w m) w.moment (record { store = x.store; runs = Some (record { key = at.key; mote = x.mote }) }) = subst (SiteIsWell w.table m (wide_at w m) w.moment) at.site_is (good.sites m at.there) in
+    let here : SiteIsWell w.table m (wide_at w m) w.moment (record { store = x.store; runs = Some (record { image_version = at.image_version; mote = x.mote }) }) = subst (SiteIsWell w.table m (wide_at w m) w.moment) at.site_is (good.sites m at.there) in
     here.runs
 
 -- a mote has its width by the world

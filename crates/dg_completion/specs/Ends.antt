@@ -5,7 +5,7 @@ use Rattle.dg_base.specs.declared.events.Event.{Event}
 use Rattle.dg_object.specs.Object.{Row}
 use Rattle.dg_volume.specs.Sizes.{images}
 use Rattle.dg_volume.specs.Store.{held, held_whole}
-use Rattle.dg_script.specs.Items.{Item, Declares, Happens}
+use Rattle.dg_script.specs.Items.{Item, Declares, Applies}
 use Rattle.dg_rules.specs.World.{World, store_at}
 use Rattle.dg_rules.specs.Runs.{Played, Plays}
 use Rattle.dg_rules.specs.Premises.{OneWidth}
@@ -16,7 +16,7 @@ use Rattle.dg_completion.specs.Completion.{Follows, IsOn, HasRoomAt, newest, pag
 -- the event of an item: a declaration is none
 abbrev pub event_in : Item → List Event
 event_in (Declares row) = []
-event_in (Happens step reported) = step.event ∷ []
+event_in (Applies step reported) = step.event ∷ []
 
 -- the events of what was played, in their order
 unfoldable pub events_of : List Played → List Event
@@ -26,7 +26,7 @@ events_of (p ∷ ps) = event_in p.item ++ events_of ps
 -- no power is to be cut in it
 abbrev pub IsUncutItem : Item → Type 0
 IsUncutItem (Declares row) = Unit {0}
-IsUncutItem (Happens step reported) = step.cut ≡ None
+IsUncutItem (Applies step reported) = step.cut ≡ None
 
 abbrev pub IsUncut : Played → Type 0
 IsUncut p = IsUncutItem p.item

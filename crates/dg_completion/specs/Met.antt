@@ -2,7 +2,7 @@
 use Rattle.std.specs.Prelude.{◌≡◌, ℕ, ◌+◌, ◌<◌, ◌≤◌, ◌==◌, Bool, if◌then◌else◌, List, ◌++◌, length, map, None}
 use Rattle.std.specs.List.{AllByRecursion, sum_by}
 use Rattle.dg_base.specs.declared.events.Event.{Event}
-use Rattle.dg_script.specs.Items.{Item, Happens}
+use Rattle.dg_script.specs.Items.{Item, Applies}
 use Rattle.dg_script.specs.declared.report.Report.{Report}
 use Rattle.dg_rules.specs.World.{World, store_at}
 use Rattle.dg_rules.specs.Events.{mote_of}
@@ -17,8 +17,8 @@ use Rattle.dg_completion.specs.Completion.{IsOn, Rests}
 use Rattle.dg_completion.specs.Ends.{EndsInRest}
 
 -- From a world that agrees with its table a tick or a heard frame leads to a world, also where it is refused.
-abbrev pub HappensLaw : Type 0
-HappensLaw = (w : World) (e : Event) → WorldAgrees w → IsFree e → (v : World) × (reports : List Report)
+abbrev pub AppliesLaw : Type 0
+AppliesLaw = (w : World) (e : Event) → WorldAgrees w → IsFree e → (v : World) × (reports : List Report)
     × WorldStep w (record { event = e; cut = None }) v reports
 
 -- The most commits of a tick or a heard frame: an advert brings an order, which takes one, and a version of an image in
@@ -44,15 +44,15 @@ pub record MayRest (w : World) (n : ℕ) (es : List Event) : Type 0 where
   pub widths : OneWidth w
   pub room : (m : ℕ) → m < length w.sites → spare_room + sum_by (commits_at m) es ≤ (store_at w m).room
 
--- Then the rest happens, and meets what completion asks for.
+-- Then the rest can be applied, and meets what completion asks for.
 abbrev pub MetLaw : Type 0
 MetLaw = (w : World) (n : ℕ) (es : List Event) → MayRest w n es → (v : World) × Rests w n es v
 
 -- ---- scripts
 
 -- an event that is not to be cut, as an item of a script
-abbrev pub happening : Bool → Event → Item
-happening reported e = Happens (record { event = e; cut = None }) reported
+abbrev pub applying : Bool → Event → Item
+applying reported e = Applies (record { event = e; cut = None }) reported
 
 -- Every number is in its range, every mote is on, all are of one width, and each has room for whatever these events may commit
 -- there.
@@ -66,7 +66,7 @@ pub record MayGoOn (motes : ℕ) (w : World) (n : ℕ) (es : List Event) : Type 
 -- What was played before goes on with these events, and so ends with a rest of n sweeps that begins in world w.
 pub record GoesOn (u : World) (before : List Played) (w : World) (n : ℕ) (es : List Event) (reported : Bool) : Type 0 where
   pub rest : List Played
-  pub items : map (λ p. p.item) rest ≡ map (happening reported) es
+  pub items : map (λ p. p.item) rest ≡ map (applying reported) es
   pub v : World
   pub plays : PlaysFrom u (before ++ rest) v
   pub ends : EndsInRest (before ++ rest) w n v

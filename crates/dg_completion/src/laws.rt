@@ -7,7 +7,7 @@ ghost use Rattle.dg_completion.specs.Rests.{IsFree, IsRest};
 ghost use Rattle.dg_completion.specs.Completion.{FreeLaw, RoundLaw, PipelineLaw, CompletionLaw};
 ghost use Rattle.dg_completion.specs.Holders.{WithinLaw, EnoughLaw, OneEnoughLaw};
 ghost use Rattle.dg_completion.specs.Ends.{PlayedLaw, EndsLaw, EndsPipelineLaw};
-ghost use Rattle.dg_completion.specs.Met.{HappensLaw, SpendLaw, MetLaw, GoesOnLaw};
+ghost use Rattle.dg_completion.specs.Met.{AppliesLaw, SpendLaw, MetLaw, GoesOnLaw};
 ghost use Rattle.dg_completion.specs.Played.{DrainedLaw, RoundsBring, RoundsLaw};
 
 use dg_mote::{
@@ -27,7 +27,7 @@ pub fn sweeps_are_a_rest()
         → IsRest links (m + n) (es ++ fs) }
 {}
 
-/// A tick or a heard frame, at any moment and with any word, keeps a world that agrees with its table: it still agrees,
+/// A tick or a heard frame, at any moment and with any draw, keeps a world that agrees with its table: it still agrees,
 /// the table, the links, the narrow motes and those that are on stay, room does not grow, and no page of the newest version
 /// of an image is lost.
 pub fn a_free_event_keeps_a_good_world()
@@ -124,8 +124,8 @@ pub fn rounds_of_scripts_bring_pages()
 
 /// From a world that agrees with its table a tick or a heard frame always leads to a world. It makes no more than three
 /// commits, all of them at its mote.
-pub fn a_free_event_happens()
-    ensures happens { HappensLaw }
+pub fn a_free_event_can_be_applied()
+    ensures applies { AppliesLaw }
     ensures spends { SpendLaw }
 {
     agreement_is_kept();
@@ -140,12 +140,12 @@ pub fn a_free_event_happens()
 }
 
 /// The premises of completion can be met: where every mote is on, all are of one width, and each has room for what it may
-/// commit, a rest happens.
-pub fn a_rest_happens()
+/// commit, a rest can be applied.
+pub fn a_rest_can_be_applied()
     ensures { MetLaw }
 {
     a_free_event_keeps_a_good_world();
-    a_free_event_happens();
+    a_free_event_can_be_applied();
 }
 
 /// What was played from a world that agrees with its table, with true events, can go on with a rest: where every mote is on,
@@ -156,5 +156,5 @@ pub fn a_script_goes_on_with_a_rest()
 {
     every_step_is_legal();
     a_free_event_keeps_a_good_world();
-    a_free_event_happens();
+    a_free_event_can_be_applied();
 }

@@ -1,11 +1,11 @@
--- What is told of an event.
+-- What is reported of an event.
 use Rattle.std.specs.Prelude.{ℕ, ◌+◌, ◌&&◌, Bool, if◌then◌else◌, Option, Some, None}
 use Rattle.dg_drip.specs.declared.entry.Entry.{Entry}
 use Rattle.dg_drip.specs.declared.frame.Said.{Said}
 use Rattle.dg_drip.specs.declared.events.DripEvent.{DripEvent}
 use Rattle.dg_drip.specs.declared.events.DripEvent.TheVariants.{Set, Tick, Hear, Last}
 use Rattle.dg_drip.specs.Cells.{is_last, is_same, tells}
-use Rattle.dg_drip.specs.Network.{Network, entry_at, is_linked, frame_numbered, last_said, happens}
+use Rattle.dg_drip.specs.Network.{Network, entry_at, is_linked, frame_numbered, last_said, applied}
 use Rattle.dg_drip_replay.specs.declared.report.DripCause.TheVariants as cause
 use Rattle.dg_drip_replay.specs.declared.report.DripReport.{DripReport}
 use Rattle.dg_drip_replay.specs.declared.report.DripReport.TheVariants.{Refused, Sent, Got}
@@ -19,23 +19,23 @@ abbrev pub got : (old new : Network) → (node key : ℕ) → Option DripReport
 got old new node key = got_if_other node key (entry_at old node key) (entry_at new node key)
 
 -- a node hears a frame of a neighbour, and no other
-abbrev pub told_of_frame : (old new : Network) → ℕ → Option Said → Option DripReport
-told_of_frame old new node None = Some (Refused node cause.Frame)
-told_of_frame old new node (Some s) =
+abbrev pub report_of_frame : (old new : Network) → ℕ → Option Said → Option DripReport
+report_of_frame old new node None = Some (Refused node cause.Frame)
+report_of_frame old new node (Some s) =
     if is_linked old.links s.source node then got old new node s.key else Some (Refused node cause.Link)
 
 -- in a round nothing is refused
-abbrev pub told_of_last : (old new : Network) → ℕ → Option Said → Option DripReport
-told_of_last old new node None = None
-told_of_last old new node (Some s) = got old new node s.key
+abbrev pub report_of_last : (old new : Network) → ℕ → Option Said → Option DripReport
+report_of_last old new node None = None
+report_of_last old new node (Some s) = got old new node s.key
 
--- What is told of an event. In rounds it is not told that a frame was sent.
-abbrev pub told_of : Network → (reported : Bool) → DripEvent → Option DripReport
-told_of w reported (Set node key value dt word) =
+-- What is reported of an event. In rounds it is not told that a frame was sent.
+abbrev pub report_of_event : Network → (reported : Bool) → DripEvent → Option DripReport
+report_of_event w reported (Set node key value dt draw) =
     if is_last (entry_at w node key) then Some (Refused node cause.Last)
-    else got w (happens w (Set node key value dt word)) node key
-told_of w reported (Tick node key dt word) =
+    else got w (applied w (Set node key value dt draw)) node key
+report_of_event w reported (Tick node key dt draw) =
     if reported && tells (w.cells node key) (w.moment + dt) then Some (Sent node key (entry_at w node key)) else None
-told_of w reported (Hear node dt word frame) =
-    told_of_frame w (happens w (Hear node dt word frame)) node (frame_numbered w.sent frame)
-told_of w reported (Last from to key) = told_of_last w (happens w (Last from to key)) to (last_said w.sent from key)
+report_of_event w reported (Hear node dt draw frame) =
+    report_of_frame w (applied w (Hear node dt draw frame)) node (frame_numbered w.sent frame)
+report_of_event w reported (Last from to key) = report_of_last w (applied w (Last from to key)) to (last_said w.sent from key)

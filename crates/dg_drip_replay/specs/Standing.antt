@@ -4,10 +4,10 @@ use Rattle.std.specs.Prelude.{[]}
 use Rattle.dg_drip.specs.Sizes.{key_count}
 use Rattle.dg_drip.specs.declared.events.DripEvent.{DripEvent}
 use Rattle.dg_drip.specs.declared.events.DripEvent.TheVariants.{Set, Tick, Hear, Last}
-use Rattle.dg_drip.specs.Network.{Network, happens, heard, is_linked}
+use Rattle.dg_drip.specs.Network.{Network, applied, heard, is_linked}
 use Rattle.dg_drip.specs.Nodes.{Node, new_node, cell_of}
 use Rattle.dg_drip.specs.declared.frame.Said.{Said}
-use Rattle.dg_drip_replay.specs.Reports.{told_of, got}
+use Rattle.dg_drip_replay.specs.Reports.{report_of_event, got}
 use Rattle.dg_drip_replay.specs.declared.network.DripNetwork.{DripNetwork}
 use Rattle.dg_drip_replay.specs.declared.report.DripReport.{DripReport}
 
@@ -26,19 +26,19 @@ pub record Stands (d : DripNetwork) (w : Network) : Type 0 where
 
 -- an event is at some of so many nodes, and of a key
 abbrev pub FitsEvent : (nodes : ℕ) → DripEvent → Type 0
-FitsEvent nodes (Set node key value dt word) = (node < nodes) × (key < key_count)
-FitsEvent nodes (Tick node key dt word) = (node < nodes) × (key < key_count)
-FitsEvent nodes (Hear node dt word frame) = node < nodes
+FitsEvent nodes (Set node key value dt draw) = (node < nodes) × (key < key_count)
+FitsEvent nodes (Tick node key dt draw) = (node < nodes) × (key < key_count)
+FitsEvent nodes (Hear node dt draw frame) = node < nodes
 FitsEvent nodes (Last from to key) = (from < nodes) × (to < nodes) × (key < key_count)
 
 -- frames that were sent are of keys
 abbrev pub AreKeyed : List Said → Type 0
 AreKeyed sent = All (λ s. s.key < key_count) sent
 
--- an event happened in the network, and this is told of it
+-- an event was applied in the network, and this is reported of it
 pub record Does (d : DripNetwork) (w : Network) (reported : Bool) (event : DripEvent) (told : Option DripReport) : Type 0 where
-  pub after : Stands d (happens w event)
-  pub told_is : told ≡ told_of w reported event
+  pub after : Stands d (applied w event)
+  pub told_is : told ≡ report_of_event w reported event
 
 -- The clock went on by dt, and there are as many nodes as before.
 pub record Passes (old new : DripNetwork) (dt : ℕ) : Type 0 where
@@ -47,15 +47,15 @@ pub record Passes (old new : DripNetwork) (dt : ℕ) : Type 0 where
   pub keyed : AreKeyed new.sent.items
 
 -- A node heard what a frame tells, at the moment of the network.
-pub record Hears (d : DripNetwork) (w : Network) (node word : ℕ) (s : Said) (told : Option DripReport) : Type 0 where
-  pub after : Stands d (heard w node w.moment word (Some s))
-  pub told_is : told ≡ got w (heard w node w.moment word (Some s)) node s.key
+pub record Hears (d : DripNetwork) (w : Network) (node draw : ℕ) (s : Said) (told : Option DripReport) : Type 0 where
+  pub after : Stands d (heard w node w.moment draw (Some s))
+  pub told_is : told ≡ got w (heard w node w.moment draw (Some s)) node s.key
 
 -- how long it is since the event before
 abbrev pub time_of : DripEvent → ℕ
-time_of (Set node key value dt word) = dt
-time_of (Tick node key dt word) = dt
-time_of (Hear node dt word frame) = dt
+time_of (Set node key value dt draw) = dt
+time_of (Tick node key dt draw) = dt
+time_of (Hear node dt draw frame) = dt
 time_of (Last from to key) = 0
 
 -- two nodes are neighbours, unless they are already

@@ -1,4 +1,4 @@
-//! A network of nodes that spread small values, event by event, and what is told of each event.
+//! A network of nodes that spread small values, event by event, and what is reported of each event.
 #![tactic(auto)]
 
 mod network;

@@ -1,4 +1,4 @@
-//! What is told of an event.
+//! What is reported of an event.
 
 use dg_drip::Entry;
 

@@ -1,6 +1,6 @@
 pub mod ScriptLemmas
 pub mod RanLemmas
-pub mod HappenLemmas
+pub mod ApplyLemmas
 pub mod RangeLemmas
 pub mod RoundLemmas
 pub mod LineLemmas

@@ -5,7 +5,7 @@ use Rattle.std.proofs.lemmas.List.{take_all, take-append-le}
 use Rattle.std.specs.declared.alloc.AllocError.{AllocError}
 use Rattle.dg_drip.specs.Network.{Network, start, run, is_linked}
 use Rattle.dg_drip_replay.specs.Standing.{Stands, Passes, with_link}
-use Rattle.dg_drip_script.specs.Scripts.{DripItem, DripScript, begun_script, with_drip_line, with_items, network_of, events_of, told_of_run}
+use Rattle.dg_drip_script.specs.Scripts.{DripItem, DripScript, begun_script, with_drip_line, with_items, network_of, events_of, text_of_run}
 use Rattle.dg_drip_script.specs.Sizes.{most_events}
 use Rattle.dg_drip_script.specs.declared.line.DripLine.{DripLine}
 use Rattle.dg_drip_script.specs.declared.line.DripLine.TheVariants.{Link}
@@ -78,8 +78,8 @@ link_plays p q s before a b h stands passes early less few standing events text 
     behind : (links : List (ℕ × ℕ)) → run (start links) (events_of s.items) ≡ start links
     behind links = ap (λ (is : List DripItem). run (start links) (events_of is)) none
 
-    told_none : (links : List (ℕ × ℕ)) → told_of_run (start links) s.items ≡ []
-    told_none links = ap (told_of_run (start links)) none
+    told_none : (links : List (ℕ × ℕ)) → text_of_run (start links) s.items ≡ []
+    told_none links = ap (text_of_run (start links)) none
 
     moved : q.network.moment ≤ length s.items * 2 ^ 32
     moved = subst (λ (m : ℕ). m ≤ length s.items * 2 ^ 32) (sym passes.moment) (let m = h.moment in omega (arith, m))

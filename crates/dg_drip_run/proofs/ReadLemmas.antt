@@ -19,7 +19,7 @@ use Rattle.dg_drip_script.specs.declared.line.DripFault.{DripFault}
 use Rattle.dg_drip_script.specs.declared.line.DripFault.TheVariants as fault
 use Rattle.dg_drip_run.specs.AroundDrip.{AroundDrip}
 use Rattle.dg_drip_run.specs.Playing.{Plays}
-use Rattle.dg_drip_run.specs.Outcome.{AreLines, Ends, BadLine, TooManyEvents, Over, played, Closed, Wrote, Dripped, LineStops, LineAnswer, TextAnswer, BadText, DripStage, NextPlays, LinesPlayed, LinesAnswer}
+use Rattle.dg_drip_run.specs.Dripped.{AreLines, Ends, BadLine, TooManyEvents, Over, played, Closed, Wrote, Dripped, LineStops, LineAnswer, TextAnswer, BadText, DripStage, NextPlays, LinesPlayed, LinesAnswer}
 use Rattle.dg_drip_run.specs.declared.player.Player.{Player}
 use Rattle.dg_drip_run.proofs.ToldLemmas.{front_behind, played_all}
 

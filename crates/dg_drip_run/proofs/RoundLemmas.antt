@@ -9,13 +9,13 @@ use Rattle.dg_drip.specs.declared.events.DripEvent.{DripEvent}
 use Rattle.dg_drip.specs.declared.events.DripEvent.TheVariants.{Tick, Last}
 use Rattle.dg_drip.specs.Spread.{drip_round, round_of_key, sweeps}
 use Rattle.dg_rounds.specs.Rounds.{pace, rounds_of}
-use Rattle.dg_drip_script.specs.Scripts.{DripItem, quiet, rounds_items}
+use Rattle.dg_drip_script.specs.Scripts.{DripItem, unreported_items, rounds_items}
 use Rattle.dg_drip_run.specs.Playing.{DripItemsPlayed, GoesOn, IsPlaying, AreBelow}
 use Rattle.dg_drip_run.specs.declared.player.Player.{Player}
 use Rattle.dg_drip_run.specs.declared.player.PlayStop.{PlayStop}
 use Rattle.dg_drip_run.proofs.RangeLemmas.{each_more, each_rest}
 use Rattle.dg_drip_run.proofs.RanLemmas.{ran_then, ran_short, ran_as}
-use Rattle.dg_drip_run.proofs.HappenLemmas.{links_of_player}
+use Rattle.dg_drip_run.proofs.ApplyLemmas.{links_of_player}
 
 halt_is : (r : Result (Unit {0}) PlayStop) (e : PlayStop) → IsErrAnd r (λ x. x ≡ e) → Err e ≡ r
 halt_is (Ok u) e h = absurd h
@@ -42,33 +42,33 @@ tick_item a key = record { event = Tick a key pace 0; reported = false }
 abbrev pub last_item : (a b key : ℕ) → DripItem
 last_item a b key = record { event = Last a b key; reported = false }
 
-pub key_items : (a b key : ℕ) → tick_item a key ∷ tick_item a key ∷ tick_item a key ∷ last_item a b key ∷ [] ≡ quiet (round_of_key a b key)
+pub key_items : (a b key : ℕ) → tick_item a key ∷ tick_item a key ∷ tick_item a key ∷ last_item a b key ∷ [] ≡ unreported_items (round_of_key a b key)
 unfolding round_of_key
 key_items a b key = refl
 
 -- ---- a round
 
 abbrev pub keys_items : (a b k : ℕ) → List DripItem
-keys_items a b k = quiet (flat_map (round_of_key a b) (range_with_len 0 k))
+keys_items a b k = unreported_items (flat_map (round_of_key a b) (range_with_len 0 k))
 
 abbrev unreported : DripEvent → DripItem
 unreported e = record { event = e; reported = false }
 
-pub round_more : (a b k : ℕ) → keys_items a b k ++ quiet (round_of_key a b k) ≡ keys_items a b (k + 1)
-round_more a b k = sym (map-append (λ (e : DripEvent). unreported e) (flat_map (round_of_key a b) (range_with_len 0 k)) (round_of_key a b k)) ∙ ap quiet (each_more (round_of_key a b) k)
+pub round_more : (a b k : ℕ) → keys_items a b k ++ unreported_items (round_of_key a b k) ≡ keys_items a b (k + 1)
+round_more a b k = sym (map-append (λ (e : DripEvent). unreported e) (flat_map (round_of_key a b) (range_with_len 0 k)) (round_of_key a b k)) ∙ ap unreported_items (each_more (round_of_key a b) k)
 
-pub round_all : (a b : ℕ) → keys_items a b key_count ≡ quiet (drip_round a b)
+pub round_all : (a b : ℕ) → keys_items a b key_count ≡ unreported_items (drip_round a b)
 unfolding drip_round
 round_all a b = refl
 
-pub round_rest : (a b k : ℕ) → k < key_count → (zs : List DripItem) × ((keys_items a b k ++ quiet (round_of_key a b k)) ++ zs ≡ quiet (drip_round a b))
+pub round_rest : (a b k : ℕ) → k < key_count → (zs : List DripItem) × ((keys_items a b k ++ unreported_items (round_of_key a b k)) ++ zs ≡ unreported_items (drip_round a b))
 round_rest a b k below =
     let f : ℕ → List DripEvent = round_of_key a b in
     let r = each_rest f (k + 1) (key_count - (k + 1)) in
     let whole : (k + 1) + (key_count - (k + 1)) ≡ key_count = omega (arith, below) in (
-      quiet r.0,
-      ap (λ (xs : List DripItem). xs ++ quiet r.0) (round_more a b k)
-          ∙ (sym (map-append (λ (e : DripEvent). unreported e) (flat_map f (range_with_len 0 (k + 1))) r.0) ∙ (ap quiet (r.1 ∙ ap (λ n. flat_map f (range_with_len 0 n)) whole) ∙ round_all a b)),
+      unreported_items r.0,
+      ap (λ (xs : List DripItem). xs ++ unreported_items r.0) (round_more a b k)
+          ∙ (sym (map-append (λ (e : DripEvent). unreported e) (flat_map f (range_with_len 0 (k + 1))) r.0) ∙ (ap unreported_items (r.1 ∙ ap (λ n. flat_map f (range_with_len 0 n)) whole) ∙ round_all a b)),
     )
 
 -- ---- a sweep
@@ -77,15 +77,15 @@ abbrev pub pairs_items : List (ℕ × ℕ) → List DripItem
 pairs_items links = rounds_items (rounds_of links)
 
 abbrev pub both : ℕ × ℕ → List DripItem
-both l = quiet (drip_round l.0 l.1) ++ quiet (drip_round l.1 l.0)
+both l = unreported_items (drip_round l.0 l.1) ++ unreported_items (drip_round l.1 l.0)
 
 pub sweep_more : (links : List (ℕ × ℕ)) (n : ℕ) (l : ℕ × ℕ) → n < length links → l ≡ get_or links n l → pairs_items (take n links) ++ both l ≡ pairs_items (take (n + 1) links)
 sweep_more [] n l within is = absurd (omega (arith, within))
 sweep_more (x ∷ links) zero l within is =
-    ap (λ (ys : List DripItem). quiet (drip_round l.0 l.1) ++ ys) (sym (append-nil (quiet (drip_round l.1 l.0)))) ∙ ap (λ (y : ℕ × ℕ). quiet (drip_round y.0 y.1) ++ (quiet (drip_round y.1 y.0) ++ [])) is
+    ap (λ (ys : List DripItem). unreported_items (drip_round l.0 l.1) ++ ys) (sym (append-nil (unreported_items (drip_round l.1 l.0)))) ∙ ap (λ (y : ℕ × ℕ). unreported_items (drip_round y.0 y.1) ++ (unreported_items (drip_round y.1 y.0) ++ [])) is
 sweep_more (x ∷ links) (suc n) l within is =
-    let xs : List DripItem = quiet (drip_round x.0 x.1) in
-    let ys : List DripItem = quiet (drip_round x.1 x.0) in
+    let xs : List DripItem = unreported_items (drip_round x.0 x.1) in
+    let ys : List DripItem = unreported_items (drip_round x.1 x.0) in
     let on : suc (n + 1) ≡ suc n + 1 = omega arith in
     let less : n < length links = omega (arith, within) in
     append_assoc xs (ys ++ pairs_items (take n links)) (both l)
@@ -97,48 +97,48 @@ sweep_rest [] zero = ([], refl)
 sweep_rest [] (suc n) = ([], refl)
 sweep_rest (x ∷ links) zero = (pairs_items (x ∷ links), refl)
 sweep_rest (x ∷ links) (suc n) =
-    let xs : List DripItem = quiet (drip_round x.0 x.1) in
-    let ys : List DripItem = quiet (drip_round x.1 x.0) in
+    let xs : List DripItem = unreported_items (drip_round x.0 x.1) in
+    let ys : List DripItem = unreported_items (drip_round x.1 x.0) in
     let r = sweep_rest links n in (
       r.0,
       append_assoc xs (ys ++ pairs_items (take n links)) r.0 ∙ ap (λ (zs : List DripItem). xs ++ zs) (append_assoc ys (pairs_items (take n links)) r.0 ∙ ap (λ (zs : List DripItem). ys ++ zs) r.1),
     )
 
 -- behind the first round of a link, and behind its second
-pub first_rest : (links : List (ℕ × ℕ)) (n : ℕ) (l : ℕ × ℕ) → n < length links → l ≡ get_or links n l → (zs : List DripItem) × ((pairs_items (take n links) ++ quiet (drip_round l.0 l.1)) ++ zs ≡ pairs_items links)
+pub first_rest : (links : List (ℕ × ℕ)) (n : ℕ) (l : ℕ × ℕ) → n < length links → l ≡ get_or links n l → (zs : List DripItem) × ((pairs_items (take n links) ++ unreported_items (drip_round l.0 l.1)) ++ zs ≡ pairs_items links)
 first_rest links n l within is =
     let r = sweep_rest links (n + 1) in
     let before : List DripItem = pairs_items (take n links) in
-    let xs : List DripItem = quiet (drip_round l.0 l.1) in
-    let ys : List DripItem = quiet (drip_round l.1 l.0) in (
+    let xs : List DripItem = unreported_items (drip_round l.0 l.1) in
+    let ys : List DripItem = unreported_items (drip_round l.1 l.0) in (
       ys ++ r.0,
       sym (append_assoc (before ++ xs) ys r.0) ∙ ap (λ (zs : List DripItem). zs ++ r.0) (append_assoc before xs ys ∙ sweep_more links n l within is) ∙ r.1,
     )
 
-pub second_rest : (links : List (ℕ × ℕ)) (n : ℕ) (l : ℕ × ℕ) → n < length links → l ≡ get_or links n l → (zs : List DripItem) × (((pairs_items (take n links) ++ quiet (drip_round l.0 l.1)) ++ quiet (drip_round l.1 l.0)) ++ zs ≡ pairs_items links)
+pub second_rest : (links : List (ℕ × ℕ)) (n : ℕ) (l : ℕ × ℕ) → n < length links → l ≡ get_or links n l → (zs : List DripItem) × (((pairs_items (take n links) ++ unreported_items (drip_round l.0 l.1)) ++ unreported_items (drip_round l.1 l.0)) ++ zs ≡ pairs_items links)
 second_rest links n l within is =
     let r = sweep_rest links (n + 1) in
     let before : List DripItem = pairs_items (take n links) in
-    let xs : List DripItem = quiet (drip_round l.0 l.1) in
-    let ys : List DripItem = quiet (drip_round l.1 l.0) in
+    let xs : List DripItem = unreported_items (drip_round l.0 l.1) in
+    let ys : List DripItem = unreported_items (drip_round l.1 l.0) in
     (r.0, ap (λ (zs : List DripItem). zs ++ r.0) (append_assoc before xs ys ∙ sweep_more links n l within is) ∙ r.1)
 
-pub second_more : (links : List (ℕ × ℕ)) (n : ℕ) (l : ℕ × ℕ) → n < length links → l ≡ get_or links n l → (pairs_items (take n links) ++ quiet (drip_round l.0 l.1)) ++ quiet (drip_round l.1 l.0) ≡ pairs_items (take (n + 1) links)
-second_more links n l within is = append_assoc (pairs_items (take n links)) (quiet (drip_round l.0 l.1)) (quiet (drip_round l.1 l.0)) ∙ sweep_more links n l within is
+pub second_more : (links : List (ℕ × ℕ)) (n : ℕ) (l : ℕ × ℕ) → n < length links → l ≡ get_or links n l → (pairs_items (take n links) ++ unreported_items (drip_round l.0 l.1)) ++ unreported_items (drip_round l.1 l.0) ≡ pairs_items (take (n + 1) links)
+second_more links n l within is = append_assoc (pairs_items (take n links)) (unreported_items (drip_round l.0 l.1)) (unreported_items (drip_round l.1 l.0)) ∙ sweep_more links n l within is
 
 pub all_links : (links : List (ℕ × ℕ)) (n : ℕ) → length links ≤ n → pairs_items (take n links) ≡ pairs_items links
 all_links [] zero h = refl
 all_links [] (suc n) h = refl
 all_links (x ∷ links) zero h = absurd (omega (arith, h))
 all_links (x ∷ links) (suc n) h =
-    ap (λ (zs : List DripItem). quiet (drip_round x.0 x.1) ++ (quiet (drip_round x.1 x.0) ++ zs)) (all_links links n (omega (arith, h)))
+    ap (λ (zs : List DripItem). unreported_items (drip_round x.0 x.1) ++ (unreported_items (drip_round x.1 x.0) ++ zs)) (all_links links n (omega (arith, h)))
 
 -- ---- sweeps
 
 pub sweeps_more : (k : ℕ) (links : List (ℕ × ℕ)) → rounds_items (sweeps k links) ++ pairs_items links ≡ rounds_items (sweeps (k + 1) links)
 sweeps_more k links =
     let on : suc k ≡ k + 1 = omega arith in
-    sym (flat_map-append (λ (p : ℕ × ℕ). quiet (drip_round p.0 p.1)) (sweeps k links) (rounds_of links)) ∙ ap (λ n. rounds_items (sweeps n links)) on
+    sym (flat_map-append (λ (p : ℕ × ℕ). unreported_items (drip_round p.0 p.1)) (sweeps k links) (rounds_of links)) ∙ ap (λ n. rounds_items (sweeps n links)) on
 
 sweeps_behind : (k d : ℕ) (links : List (ℕ × ℕ)) → (zs : List DripItem) × (rounds_items (sweeps k links) ++ zs ≡ rounds_items (sweeps (k + d) links))
 sweeps_behind k zero links = let here : k ≡ k + 0 = omega arith in ([], append-nil (rounds_items (sweeps k links)) ∙ ap (λ n. rounds_items (sweeps n links)) here)

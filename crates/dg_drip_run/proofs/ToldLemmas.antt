@@ -1,4 +1,4 @@
--- What is told of a line, and written.
+-- What is reported of a line, and written.
 use Rattle.std.proofs.Common.{◌≡◌, ◌∙◌, ◌⊎◌, inl, inr, ⊎_elim, ℕ, suc, ◌<◌, ◌≤◌, ◌+◌, ◌*◌, ◌^◌, List, [], ◌∷◌, ◌++◌, length, take, refl, ap, sym, subst, append-nil, length-append, arith, Err}
 use Rattle.std.specs.Prelude.{Option, codes}
 use Rattle.std.proofs.lemmas.List.{take_all, take-append-le}
@@ -12,7 +12,7 @@ use Rattle.dg_drip_script.specs.Scripts.{DripItem, DripScript, with_drip_line, n
 use Rattle.dg_drip_script.specs.Sizes.{most_events}
 use Rattle.dg_drip_script.specs.declared.line.DripLine.{DripLine}
 use Rattle.dg_drip_run.specs.Playing.{Plays, IsPlaying, LinePlayed}
-use Rattle.dg_drip_run.specs.Outcome.{played, Closed, Tells, LineStops}
+use Rattle.dg_drip_run.specs.Dripped.{played, Closed, Tells, LineStops}
 use Rattle.dg_drip_run.specs.declared.player.Player.{Player}
 use Rattle.dg_drip_run.specs.declared.player.PlayStop.{PlayStop}
 use Rattle.dg_drip_run.specs.declared.player.PlayStop.TheVariants.{TooMany}

@@ -1,4 +1,4 @@
 pub mod AroundDrip
 pub mod Playing
-pub mod Outcome
+pub mod Dripped
 pub mod Promised

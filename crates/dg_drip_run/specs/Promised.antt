@@ -10,7 +10,7 @@ use Rattle.dg_drip.specs.Spread.{came, made_in, drip_round, sweeps, HasRounds, I
 use Rattle.dg_base.specs.declared.answers.Status.{Status}
 use Rattle.dg_drip_script.specs.Scripts.{DripScript, events_of, network_of}
 use Rattle.dg_drip_run.specs.AroundDrip.{AroundDrip}
-use Rattle.dg_drip_run.specs.Outcome.{Dripped, played}
+use Rattle.dg_drip_run.specs.Dripped.{Dripped, played}
 
 -- each node keeps of a key the greatest among none, what was set there, and what it heard
 abbrev pub GreatestIsKept : DripScript → Type 0

@@ -3,7 +3,7 @@ ghost use Rattle.std.specs.Prelude.{◌≡◌, ◌≤◌, ℕ, ◌++◌, [], Lis
 ghost use Rattle.dg_base.specs.Outside.{Takes};
 ghost use Rattle.dg_drip_script.specs.Scripts.{DripScript, first_script};
 ghost use Rattle.dg_drip_run.specs.AroundDrip.{around_drip};
-ghost use Rattle.dg_drip_run.specs.Outcome.{Dripped, NextPlays, LinesAnswer, drip_stage};
+ghost use Rattle.dg_drip_run.specs.Dripped.{Dripped, NextPlays, LinesAnswer, drip_stage};
 ghost use Rattle.dg_drip_run.specs.Promised.{ValuesSpread};
 ghost use Rattle.dg_drip_run.specs.Playing.{Plays, IsPlaying};
 

@@ -7,7 +7,7 @@ ghost use Rattle.dg_drip.specs.Network.{Network};
 ghost use Rattle.dg_drip_replay.specs.Standing.{Stands};
 ghost use Rattle.dg_drip_script.specs.Reports.{value_text, node_text, final_text, bad_line};
 ghost use Rattle.dg_drip_script.specs.Scripts.{DripScript, network_of};
-ghost use Rattle.dg_drip_run.specs.Outcome.{Closed};
+ghost use Rattle.dg_drip_run.specs.Dripped.{Closed};
 ghost use Rattle.dg_drip_run.specs.Playing.{Plays, IsPlaying};
 
 use crate::player::Player;

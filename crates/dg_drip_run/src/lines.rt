@@ -1,10 +1,10 @@
-//! Plays a line of a script, and writes what is told of it.
+//! Plays a line of a script, and writes what is reported of it.
 ghost use Rattle.std.specs.Prelude.{◌≡◌, ◌≤◌, ℕ, ◌++◌, ◌∷◌, [], List, codes, OnOk, OnErr};
 ghost use Rattle.dg_words.specs.Counts.{Rose};
 ghost use Rattle.dg_base.specs.Outside.{Puts, PutsFront};
 ghost use Rattle.dg_drip_script.specs.Lines.{FitsDripLine, DripStandsAt};
 ghost use Rattle.dg_drip_script.specs.Scripts.{DripScript, with_drip_line};
-ghost use Rattle.dg_drip_run.specs.Outcome.{Closed, LineAnswer, TextAnswer};
+ghost use Rattle.dg_drip_run.specs.Dripped.{Closed, LineAnswer, TextAnswer};
 ghost use Rattle.dg_drip_run.specs.Playing.{Plays, IsPlaying};
 
 use crate::finish::{end_at_line, end_with};
@@ -13,8 +13,8 @@ use dg_base::{Sink, Status, WriteFailed};
 use dg_drip_script::{DripLine, read_line};
 use std::alloc::Global;
 
-// Writes what is told of a line, where it is something.
-fn put_told<K: Sink>(out: &mut K, text: &[u8]) -> Result<(), WriteFailed>
+// Writes what is reported of a line, where it is something.
+fn put_text<K: Sink>(out: &mut K, text: &[u8]) -> Result<(), WriteFailed>
     ensures ok { OnOk result (Puts (K.written out.old) (K.written out.new) text.now) }
     ensures err { OnErr result (PutsFront (K.written out.old) (K.written out.new) text.now) }
     ensures failed { OnErr result (Rose (K.faults out.old) (K.faults out.new)) }
@@ -33,13 +33,13 @@ fn end_full<K: Sink>(out: &mut K, text: &[u8]) -> Status
         (Rose (K.faults out.old) (K.faults out.new)) }
     ensures counts { K.faults out.old ≤ K.faults out.new }
 {
-    match put_told(out, text) {
+    match put_text(out, text) {
         Ok(()) => end_with(out, b"toomany\n", Status::TooMany),
         Err(WriteFailed) => Status::WriteFault,
     }
 }
 
-// Plays a line, and writes what is told of it. A status where the replay ends there.
+// Plays a line, and writes what is reported of it. A status where the replay ends there.
 fn play_read<K: Sink>(
     alloc: Global,
     player: &mut Player,
@@ -57,7 +57,7 @@ fn play_read<K: Sink>(
 {
     player.text.clear();
     match player.play_line(alloc, line) {
-        Ok(()) => match put_told(out, &player.text) {
+        Ok(()) => match put_text(out, &player.text) {
             Ok(()) => Ok(()),
             Err(WriteFailed) => Err(Status::WriteFault),
         },

@@ -1,12 +1,12 @@
-//! Plays the events of a script, and keeps what is told of them.
+//! Plays the events of a script, and keeps what is reported of them.
 ghost use Rattle.std.specs.Prelude.{◌≡◌, ℕ, ◌+◌, ◌∷◌, ◌++◌, [], ◌<◌, true, false, List, Ok, length, OnOk, OnErr, IfOk, IsOk, Err};
 ghost use Rattle.dg_drip.specs.Sizes.{key_count};
 ghost use Rattle.dg_drip.specs.Spread.{drip_round, round_of_key, sweeps};
 ghost use Rattle.dg_rounds.specs.Rounds.{rounds_of};
 ghost use Rattle.dg_drip_replay.specs.Standing.{FitsEvent, time_of};
 ghost use Rattle.dg_drip_script.specs.Lines.{FitsDripLine, DripStandsAt};
-ghost use Rattle.dg_drip_script.specs.Reports.{told_text};
-ghost use Rattle.dg_drip_script.specs.Scripts.{first_script, quiet, rounds_items, with_drip_line};
+ghost use Rattle.dg_drip_script.specs.Reports.{reported_text};
+ghost use Rattle.dg_drip_script.specs.Scripts.{first_script, unreported_items, rounds_items, with_drip_line};
 ghost use Rattle.dg_drip_run.specs.Playing.{Plays, IsPlaying, GoesOn, DripItemsPlayed, LinePlayed};
 
 use dg_drip::{DripEvent, KEYS};
@@ -24,7 +24,7 @@ pub enum PlayStop {
     TooMany,
 }
 
-/// The nodes of a script, and what is told of the line that is played.
+/// The nodes of a script, and what is reported of the line that is played.
 #[derive(Drop)]
 pub struct Player {
     pub network: DripNetwork,
@@ -33,12 +33,12 @@ pub struct Player {
     pub text: Vec<u8>,
 }
 
-// Appends what is told of an event.
-fn push_told(text: &mut Vec<u8>, told: &Option<DripReport>) -> Result<(), PlayStop>
-    ensures told { OnOk result (text.new.items ≡ text.old.items ++ told_text told.now) }
+// Appends what is reported of an event.
+fn push_text(text: &mut Vec<u8>, report: &Option<DripReport>) -> Result<(), PlayStop>
+    ensures told { OnOk result (text.new.items ≡ text.old.items ++ reported_text report.now) }
     ensures stop { OnErr result (result ≡ Err PlayStop.Memory) }
 {
-    match told {
+    match report {
         Some(report) => remembered(push_report(text, report)),
         None => Ok(()),
     }
@@ -82,8 +82,8 @@ impl Player {
         })
     }
 
-    /// An event happens.
-    fn happen(&mut self, event: &DripEvent, reported: bool) -> Result<(), PlayStop>
+    /// An event is applied.
+    fn apply_event(&mut self, event: &DripEvent, reported: bool) -> Result<(), PlayStop>
         requires playing { IsPlaying self.old }
         requires begun { self.old.standing.begun ≡ true }
         requires fits { FitsEvent self.old.standing.nodes event.now }
@@ -94,12 +94,12 @@ impl Player {
         if self.events >= MOST_EVENTS {
             return Err(PlayStop::TooMany);
         }
-        let told = match self.network.apply(event, reported) {
-            Ok(told) => told,
+        let report = match self.network.apply(event, reported) {
+            Ok(report) => report,
             Err(AllocError) => return Err(PlayStop::Memory),
         };
         self.events += 1;
-        push_told(&mut self.text, &told)
+        push_text(&mut self.text, &report)
     }
 
     /// One node tells another one what it keeps of a key.
@@ -107,24 +107,24 @@ impl Player {
         requires playing { IsPlaying self.old }
         requires begun { self.old.standing.begun ≡ true }
         requires fits { (a < self.old.standing.nodes) × (b < self.old.standing.nodes) × (key < key_count) }
-        ensures ran { DripItemsPlayed result self.old self.new (quiet (round_of_key a b key)) }
+        ensures ran { DripItemsPlayed result self.old self.new (unreported_items (round_of_key a b key)) }
         ensures on { OnOk result (GoesOn self.old self.new) }
     {
         let tick = DripEvent::Tick {
             node: a,
             key,
             dt: PACE,
-            word: 0,
+            draw: 0,
         };
-        self.happen(&tick, false)?;
-        self.happen(&tick, false)?;
-        self.happen(&tick, false)?;
+        self.apply_event(&tick, false)?;
+        self.apply_event(&tick, false)?;
+        self.apply_event(&tick, false)?;
         let last = DripEvent::Last {
             from: a,
             to: b,
             key,
         };
-        self.happen(&last, false)?;
+        self.apply_event(&last, false)?;
         Ok(())
     }
 
@@ -133,7 +133,7 @@ impl Player {
         requires playing { IsPlaying self.old }
         requires begun { self.old.standing.begun ≡ true }
         requires fits { (a < self.old.standing.nodes) × (b < self.old.standing.nodes) }
-        ensures ran { DripItemsPlayed result self.old self.new (quiet (drip_round a b)) }
+        ensures ran { DripItemsPlayed result self.old self.new (unreported_items (drip_round a b)) }
         ensures on { OnOk result (GoesOn self.old self.new) }
     {
         for key in 0..KEYS as u8 {
@@ -205,9 +205,9 @@ impl Player {
             DripLine::Nothing => Ok(()),
             DripLine::Nodes { count } => self.play_nodes(alloc, count),
             DripLine::Link { a, b } => self.play_link(a, b),
-            DripLine::Happens { event } => {
+            DripLine::Event { event } => {
                 self.standing.begun = true;
-                self.happen(&event, true)
+                self.apply_event(&event, true)
             }
             DripLine::Round { a, b } => {
                 self.standing.begun = true;

@@ -11,7 +11,7 @@ use Rattle.dg_drip_script.specs.Fields.{Field, numbers_of_words, one_number, two
 use Rattle.dg_drip_script.specs.Fields.{from_one_to}
 use Rattle.dg_drip_script.specs.Sizes.{most_nodes, most_sweeps, most_line, most_number, key_count}
 use Rattle.dg_drip_script.specs.declared.line.DripLine.{DripLine}
-use Rattle.dg_drip_script.specs.declared.line.DripLine.TheVariants.{Nothing, Nodes, Link, Happens, Round, Sweeps}
+use Rattle.dg_drip_script.specs.declared.line.DripLine.TheVariants.{Nothing, Nodes, Link, Event as EventLine, Round, Sweeps}
 use Rattle.dg_drip_script.specs.declared.line.DripFault.{DripFault}
 use Rattle.dg_drip_script.specs.declared.line.DripFault.TheVariants.{Long, Verb, Place, Number}
 use Rattle.dg_drip_script.specs.declared.line.Standing.{Standing}
@@ -39,18 +39,18 @@ pair_of nodes fields = field_below nodes fields.0 >>? λ a. field_below nodes fi
 
 abbrev pub drip_tick_of : (nodes : ℕ) → Field × Field × Field × Field → Option DripEvent
 drip_tick_of nodes fields =
-    field_below nodes fields.0 >>? λ node. field_below key_count fields.1 >>? λ key. fields.2 >>? λ dt. fields.3 >>? λ word.
-    Some (event.Tick node key dt word)
+    field_below nodes fields.0 >>? λ node. field_below key_count fields.1 >>? λ key. fields.2 >>? λ dt. fields.3 >>? λ draw.
+    Some (event.Tick node key dt draw)
 
 abbrev pub drip_hear_of : (nodes : ℕ) → Field × Field × Field × Field → Option DripEvent
 drip_hear_of nodes fields =
-    field_below nodes fields.0 >>? λ node. fields.1 >>? λ dt. fields.2 >>? λ word. from_one_to most_number fields.3 >>?
-    λ frame. Some (event.Hear node dt word frame)
+    field_below nodes fields.0 >>? λ node. fields.1 >>? λ dt. fields.2 >>? λ draw. from_one_to most_number fields.3 >>?
+    λ frame. Some (event.Hear node dt draw frame)
 
 abbrev pub set_of : (nodes : ℕ) → Field × Field × Field × Field × Field → Option DripEvent
 set_of nodes fields =
     field_below nodes fields.0 >>? λ node. field_below key_count fields.1 >>? λ key. fields.2 >>? λ value. fields.3 >>? λ dt.
-    fields.4 >>? λ word. Some (event.Set node key value dt word)
+    fields.4 >>? λ draw. Some (event.Set node key value dt draw)
 
 -- ---- each verb's line
 
@@ -68,13 +68,13 @@ abbrev pub round_line : Standing → List Field → Result DripLine DripFault
 round_line at fields = shaped (two_numbers fields) (has_nodes at) (λ ends. pair_of at.nodes ends >>? λ p. Some (Round p.0 p.1))
 
 abbrev pub tick_line : Standing → List Field → Result DripLine DripFault
-tick_line at fields = shaped (four_numbers fields) (has_nodes at) (λ f. drip_tick_of at.nodes f >>? λ e. Some (Happens e))
+tick_line at fields = shaped (four_numbers fields) (has_nodes at) (λ f. drip_tick_of at.nodes f >>? λ e. Some (EventLine e))
 
 abbrev pub hear_line : Standing → List Field → Result DripLine DripFault
-hear_line at fields = shaped (four_numbers fields) (has_nodes at) (λ f. drip_hear_of at.nodes f >>? λ e. Some (Happens e))
+hear_line at fields = shaped (four_numbers fields) (has_nodes at) (λ f. drip_hear_of at.nodes f >>? λ e. Some (EventLine e))
 
 abbrev pub set_line : Standing → List Field → Result DripLine DripFault
-set_line at fields = shaped (five_numbers fields) (has_nodes at) (λ f. set_of at.nodes f >>? λ e. Some (Happens e))
+set_line at fields = shaped (five_numbers fields) (has_nodes at) (λ f. set_of at.nodes f >>? λ e. Some (EventLine e))
 
 -- the line of a verb
 abbrev pub event_line : Standing → (verb : List ℕ) → List Field → Result DripLine DripFault
@@ -106,7 +106,7 @@ abbrev pub FitsDripLine : (nodes : ℕ) → DripLine → Type 0
 FitsDripLine nodes Nothing = Unit {0}
 FitsDripLine nodes (Nodes count) = (1 ≤ count) × (count ≤ most_nodes)
 FitsDripLine nodes (Link a b) = (a < nodes) × (b < nodes)
-FitsDripLine nodes (Happens event) = FitsEvent nodes event
+FitsDripLine nodes (EventLine event) = FitsEvent nodes event
 FitsDripLine nodes (Round a b) = (a < nodes) × (b < nodes)
 FitsDripLine nodes (Sweeps count) = 1 ≤ count
 
@@ -115,6 +115,6 @@ abbrev pub DripStandsAt : Standing → DripLine → Type 0
 DripStandsAt at Nothing = Unit {0}
 DripStandsAt at (Nodes count) = at.nodes ≡ 0
 DripStandsAt at (Link a b) = at.begun ≡ false
-DripStandsAt at (Happens event) = Unit {0}
+DripStandsAt at (EventLine event) = Unit {0}
 DripStandsAt at (Round a b) = Unit {0}
 DripStandsAt at (Sweeps count) = Unit {0}

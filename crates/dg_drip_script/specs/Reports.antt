@@ -32,9 +32,9 @@ drip_report_line (Got node key e) = entry_line (codes "got") node key e
 drip_report_line (End events) = codes "end" ++ numbers_text (events ∷ []) ++ 10 ∷ []
 drip_report_line (Value node key e) = entry_line (codes "value") node key e
 
-abbrev pub told_text : Option DripReport → List ℕ
-told_text None = []
-told_text (Some report) = drip_report_line report
+abbrev pub reported_text : Option DripReport → List ℕ
+reported_text None = []
+reported_text (Some report) = drip_report_line report
 
 -- ---- the last lines
 

@@ -2,13 +2,13 @@
 use Rattle.std.specs.Prelude.{ℕ, Bool, true, false, if◌then◌else◌, List, [], ◌∷◌, ◌++◌, map, Option, Some, None, Result, Ok, Err}
 use Rattle.std.specs.List.{flat_map}
 use Rattle.dg_drip.specs.declared.events.DripEvent.{DripEvent}
-use Rattle.dg_drip.specs.Network.{Network, start, run, happens, is_linked}
+use Rattle.dg_drip.specs.Network.{Network, start, run, applied, is_linked}
 use Rattle.dg_drip.specs.Spread.{drip_round, sweeps}
-use Rattle.dg_drip_replay.specs.Reports.{told_of}
+use Rattle.dg_drip_replay.specs.Reports.{report_of_event}
 use Rattle.dg_drip_script.specs.Lines.{drip_line_of}
-use Rattle.dg_drip_script.specs.Reports.{told_text}
+use Rattle.dg_drip_script.specs.Reports.{reported_text}
 use Rattle.dg_drip_script.specs.declared.line.DripLine.{DripLine}
-use Rattle.dg_drip_script.specs.declared.line.DripLine.TheVariants.{Nothing, Nodes, Link, Happens, Round, Sweeps}
+use Rattle.dg_drip_script.specs.declared.line.DripLine.TheVariants.{Nothing, Nodes, Link, Event as EventLine, Round, Sweeps}
 use Rattle.dg_drip_script.specs.declared.line.DripFault.{DripFault}
 use Rattle.dg_drip_script.specs.declared.line.Standing.{Standing}
 
@@ -34,12 +34,12 @@ standing_of s = record { nodes = s.nodes; begun = s.begun }
 
 -- ---- what lines bring
 
-abbrev pub quiet : List DripEvent → List DripItem
-quiet events = map (λ e. record { event = e; reported = false }) events
+abbrev pub unreported_items : List DripEvent → List DripItem
+unreported_items events = map (λ e. record { event = e; reported = false }) events
 
 -- the rounds between these pairs of nodes
 abbrev pub rounds_items : List (ℕ × ℕ) → List DripItem
-rounds_items pairs = flat_map (λ p. quiet (drip_round p.0 p.1)) pairs
+rounds_items pairs = flat_map (λ p. unreported_items (drip_round p.0 p.1)) pairs
 
 abbrev pub with_items : DripScript → List DripItem → DripScript
 with_items s items = record s { items = s.items ++ items }
@@ -55,8 +55,8 @@ abbrev pub with_drip_line : DripScript → DripLine → DripScript
 with_drip_line s Nothing = s
 with_drip_line s (Nodes count) = record s { nodes = count }
 with_drip_line s (Link a b) = script_with_link s a b
-with_drip_line s (Happens event) = with_items (begun_script s) (record { event = event; reported = true } ∷ [])
-with_drip_line s (Round a b) = with_items (begun_script s) (quiet (drip_round a b))
+with_drip_line s (EventLine event) = with_items (begun_script s) (record { event = event; reported = true } ∷ [])
+with_drip_line s (Round a b) = with_items (begun_script s) (unreported_items (drip_round a b))
 with_drip_line s (Sweeps count) = with_items (begun_script s) (rounds_items (sweeps count s.links))
 
 -- the script that the texts of lines spell behind a script, where none of them has a fault
@@ -82,9 +82,9 @@ abbrev pub network_of : DripScript → Network
 network_of s = run (start s.links) (events_of s.items)
 
 -- what is told of events, one after the other
-abbrev pub told_of_run : Network → List DripItem → List ℕ
-told_of_run w [] = []
-told_of_run w (i ∷ items) = told_text (told_of w i.reported i.event) ++ told_of_run (happens w i.event) items
+abbrev pub text_of_run : Network → List DripItem → List ℕ
+text_of_run w [] = []
+text_of_run w (i ∷ items) = reported_text (report_of_event w i.reported i.event) ++ text_of_run (applied w i.event) items
 
 abbrev pub report_of : DripScript → List ℕ
-report_of s = told_of_run (start s.links) s.items
+report_of s = text_of_run (start s.links) s.items

@@ -12,7 +12,7 @@ pub enum DripLine {
     /// Two nodes are neighbours.
     Link { a: u8, b: u8 },
     /// An event happens.
-    Happens { event: DripEvent },
+    Event { event: DripEvent },
     /// One node tells another one all that it keeps.
     Round { a: u8, b: u8 },
     /// So many sweeps: in each, a round both ways over every link.

@@ -47,12 +47,12 @@ fn tick(nodes: u8, fields: (Field, Field, Field, Field)) -> Option<DripEvent>
     let node = below(fields.0, nodes)?;
     let key = below(fields.1, KEYS as u8)?;
     let dt = fields.2?;
-    let word = fields.3?;
+    let draw = fields.3?;
     Some(DripEvent::Tick {
         node,
         key,
         dt,
-        word,
+        draw,
     })
 }
 
@@ -62,12 +62,12 @@ fn hear(nodes: u8, fields: (Field, Field, Field, Field)) -> Option<DripEvent>
 {
     let node = below(fields.0, nodes)?;
     let dt = fields.1?;
-    let word = fields.2?;
+    let draw = fields.2?;
     let frame = from_one_to(fields.3, u32::MAX)?;
     Some(DripEvent::Hear {
         node,
         dt,
-        word,
+        draw,
         frame,
     })
 }
@@ -80,13 +80,13 @@ fn set(nodes: u8, fields: (Field, Field, Field, Field, Field)) -> Option<DripEve
     let key = below(fields.1, KEYS as u8)?;
     let value = fields.2?;
     let dt = fields.3?;
-    let word = fields.4?;
+    let draw = fields.4?;
     Some(DripEvent::Set {
         node,
         key,
         value,
         dt,
-        word,
+        draw,
     })
 }
 
@@ -165,7 +165,7 @@ fn read_tick(at: Standing, text: &[u8]) -> Result<DripLine, DripFault>
         return Err(DripFault::Place);
     }
     match tick(at.nodes, fields) {
-        Some(event) => Ok(DripLine::Happens { event }),
+        Some(event) => Ok(DripLine::Event { event }),
         None => Err(DripFault::Number),
     }
 }
@@ -181,7 +181,7 @@ fn read_hear(at: Standing, text: &[u8]) -> Result<DripLine, DripFault>
         return Err(DripFault::Place);
     }
     match hear(at.nodes, fields) {
-        Some(event) => Ok(DripLine::Happens { event }),
+        Some(event) => Ok(DripLine::Event { event }),
         None => Err(DripFault::Number),
     }
 }
@@ -197,7 +197,7 @@ fn read_set(at: Standing, text: &[u8]) -> Result<DripLine, DripFault>
         return Err(DripFault::Place);
     }
     match set(at.nodes, fields) {
-        Some(event) => Ok(DripLine::Happens { event }),
+        Some(event) => Ok(DripLine::Event { event }),
         None => Err(DripFault::Number),
     }
 }

@@ -54,7 +54,7 @@ entry_size = 8
 abbrev pub order_size : ℕ
 order_size = 9
 
--- where so many entries begin, one behind the other, the first at this place
+-- where so many entries begin, one behind the other, the first at this offset
 abbrev pub entry_places : (at count : ℕ) → List ℕ
 entry_places at zero = []
 entry_places at (suc n) = at ∷ entry_places (at + entry_size) n

@@ -33,7 +33,7 @@ const WIDE: [u8; 62] = [
     6, 0, 0, 0, 7, 0x0B, 0xA0,
 ];
 
-/// A frame, a place in it, a byte that is put there, and whether the reader is wide: each is read.
+/// A frame, an offset in it, a byte that is put there, and whether the reader is wide: each is read.
 const FITTING: [(&[u8], usize, u8, bool); 8] = [
     (&REQUEST, 16, 0, false),
     (&REQUEST, 5, 6, true),
@@ -80,9 +80,9 @@ const UNFIT: [(&[u8], usize, u8, bool); 28] = [
 /// A frame with one byte changed and the CRC made anew: whether a reader that is wide or narrow reads it.
 fn with_change(frame: &[u8], at: usize, byte: u8, wide: bool) -> Result<(), FrameFault> {
     let mut changed = Frame::new();
-    for (place, old) in frame.iter().enumerate() {
-        if place + 2 < frame.len() {
-            let _ = changed.try_push(if place == at { byte } else { *old });
+    for (offset, old) in frame.iter().enumerate() {
+        if offset + 2 < frame.len() {
+            let _ = changed.try_push(if offset == at { byte } else { *old });
         }
     }
     let crc = crc16(changed.as_slice());

@@ -54,7 +54,7 @@ abbrev pub Advances : {A : Type 0} → Result A HexFileFault → List ℕ → (A
 Advances (Ok x) input After = After
 Advances (Err fault) input After = Tells fault input
 
--- the same of a piece behind an input, up to a place in it
+-- the same of a piece behind an input, up to an offset in it
 abbrev pub AdvancesTo : Result ℕ HexFileFault → (input piece : List ℕ) → (ℕ → Type 0) → Type 0
 AdvancesTo (Ok next) input piece After = After next
 AdvancesTo (Err fault) input piece After = Tells fault (input ++ piece)

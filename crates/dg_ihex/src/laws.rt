@@ -45,7 +45,7 @@ pub fn a_refused_file_has_its_first_fault()
     ensures image { (bytes image : List ℕ) → hex_file bytes ≡ Ok image → image ≡ image_of (blocks_of (records_of (lines bytes))) }
 {}
 
-/// In an image the lowest address is byte 0. Each byte that is given stands in its place, a byte that is
+/// In an image the lowest address is byte 0. Each byte that is given stands at its address, a byte that is
 /// not given is 0xFF, and the highest address is the last byte.
 pub fn an_image_holds_what_is_given()
     ensures given { (blocks : List Block) (address byte : ℕ) → byte_at blocks address ≡ Some byte

@@ -55,7 +55,7 @@ impl Stream {
         self.numbered.take_ended(alloc, &line)
     }
 
-    // The bytes of a piece from a place on, up to the end of their first line, and answers where that is.
+    // The bytes of a piece from an offset on, up to the end of their first line, and answers where that is.
     fn take_from(&mut self, alloc: Global, piece: &[u8], from: usize) -> Result<usize, HexFileFault>
         requires { from < length piece.now }
         ensures on { IfOk result (λ next. (from < next) × (next ≤ length piece.now)) }

@@ -10,7 +10,7 @@ use Rattle.dg_volume.specs.Trails.{BeginsAt}
 use Rattle.dg_volume.specs.Start.{Boot, boot, boot_counted, counts, count_trail, by_gesture, order_waits, is_whole, is_set_to, app_of, sound}
 use Rattle.dg_volume.specs.Ends.{BootEnds, ordered_runs, order_started, blank_commits}
 use Rattle.dg_volume.specs.declared.volume.StartCause.{StartCause}
-use Rattle.dg_volume.specs.declared.volume.StartCause.TheVariants as kind
+use Rattle.dg_volume.specs.declared.volume.StartCause.TheVariants as cause
 use Rattle.dg_mote.specs.Model.{Turn, begun_mote}
 use Rattle.dg_mote.specs.Ticks.{tick_of}
 use Rattle.dg_mote.specs.Effects.{Effect, boot_by}
@@ -28,13 +28,13 @@ pub record OrderLaws : Type 0 where
 
 module _ (laws : OrderLaws) where
   -- a start for the order does not count, and starts it
-  boot_ends : (s : Store) → s.gesture ≡ 0 → order_waits s ≡ true → sound s s.order.image ≡ true → BootEnds (boot kind.Order s) (ordered_runs s) (order_started s)
+  boot_ends : (s : Store) → s.gesture ≡ 0 → order_waits s ≡ true → sound s s.order.image ≡ true → BootEnds (boot cause.Order s) (ordered_runs s) (order_started s)
   boot_ends s g waits fine =
       let not_golden : by_gesture s ≡ false = ap (λ n. eqb n short_starts && (ltb 0 s.room || (not (is_some s.app) || is_set_to s.app 0 golden_version))) g in
       let ends = laws.order s not_golden waits fine in
       record {
-        started = (laws.counted kind.Order s).0 ∙ ap (λ c. (boot_counted c).runs) (laws.count kind.Order s) ∙ ends.started;
-        ends = (laws.counted kind.Order s).1 ∙ ap (λ c. last (boot_counted c).trail) (laws.count kind.Order s) ∙ ends.ends;
+        started = (laws.counted cause.Order s).0 ∙ ap (λ c. (boot_counted c).runs) (laws.count cause.Order s) ∙ ends.started;
+        ends = (laws.counted cause.Order s).1 ∙ ap (λ c. last (boot_counted c).trail) (laws.count cause.Order s) ∙ ends.ends;
       }
 
   pub restarts : (x : Spot) (now : ℕ) → tick_of x.mote x.store now 0 ≡ record { mote = x.mote; trail = resting x.store 0; sent = None; answer = Restart }
@@ -44,13 +44,13 @@ module _ (laws : OrderLaws) where
   restarts x now e g waits fine =
       ticked_by x now step e
       ∙ ap (λ o. spot_from x.mote (restart (boot_by o b.trail x.mote.id x.mote.wide now 0))) ends.started
-      ∙ ap (λ c. record { store = c; mote = begun_mote x.mote.id x.mote.wide now 0 }) (last-joined (resting x.store 0) b.trail (sym (laws.begins kind.Order x.store).first) ∙ ends.ends)
+      ∙ ap (λ c. record { store = c; mote = begun_mote x.mote.id x.mote.wide now 0 }) (last-joined (resting x.store 0) b.trail (sym (laws.begins cause.Order x.store).first) ∙ ends.ends)
     where
       step : Turn Did
       step = record { mote = x.mote; trail = resting x.store 0; sent = None; answer = Restart }
 
       b : Boot
-      b = boot kind.Order x.store
+      b = boot cause.Order x.store
 
       ends : BootEnds b (ordered_runs x.store) (order_started x.store)
       ends = boot_ends x.store g waits fine

@@ -4,7 +4,7 @@ use Rattle.dg_nor.specs.Trail.{Trail, last, joined}
 use Rattle.dg_volume.specs.Store.{Store}
 use Rattle.dg_volume.specs.Start.{Runs, boot}
 use Rattle.dg_volume.specs.declared.volume.StartCause.{StartCause}
-use Rattle.dg_volume.specs.declared.volume.StartCause.TheVariants as kind
+use Rattle.dg_volume.specs.declared.volume.StartCause.TheVariants as cause
 use Rattle.dg_frame.specs.declared.Message.{Message}
 use Rattle.dg_mote.specs.Model.{MoteState, Turn, begun_mote}
 use Rattle.dg_mote.specs.Ticks.{tick_of}
@@ -19,17 +19,17 @@ pub record Effect : Type 0 where
   pub started : Option Runs
   pub sent : Option Message
 
-abbrev pub boot_by : Option Runs → Trail Store → (id : ℕ) (wide : Bool) (now word : ℕ) → Effect
-boot_by None t id wide now word = record { mote = None; trail = t; started = None; sent = None }
-boot_by (Some r) t id wide now word =
-    record { mote = Some (begun_mote id wide now word); trail = t; started = Some r; sent = None }
+abbrev pub boot_by : Option Runs → Trail Store → (id : ℕ) (wide : Bool) (now draw : ℕ) → Effect
+boot_by None t id wide now draw = record { mote = None; trail = t; started = None; sent = None }
+boot_by (Some r) t id wide now draw =
+    record { mote = Some (begun_mote id wide now draw); trail = t; started = Some r; sent = None }
 
-abbrev pub boots : StartCause → Store → (id : ℕ) (wide : Bool) (now word : ℕ) → Effect
-boots k s id wide now word = let b = boot k s in boot_by b.runs b.trail id wide now word
+abbrev pub boots : StartCause → Store → (id : ℕ) (wide : Bool) (now draw : ℕ) → Effect
+boots k s id wide now draw = let b = boot k s in boot_by b.runs b.trail id wide now draw
 
 -- its power came
-unfoldable pub reset_effect : Store → (id : ℕ) (wide : Bool) (now word : ℕ) → Effect
-reset_effect s id wide now word = boots kind.Power s id wide now word
+unfoldable pub reset_effect : Store → (id : ℕ) (wide : Bool) (now draw : ℕ) → Effect
+reset_effect s id wide now draw = boots cause.Power s id wide now draw
 
 abbrev pub on : {A : Type 0} → Turn A → Effect
 on step = record { mote = Some step.mote; trail = step.trail; started = None; sent = step.sent }
@@ -39,15 +39,15 @@ abbrev pub silent : {A : Type 0} → Turn A → Effect
 silent step = record { mote = Some step.mote; trail = step.trail; started = None; sent = None }
 
 -- a tick that answers Restart goes on with a start
-abbrev pub tick_by : Did → Turn Did → (now word : ℕ) → Effect
-tick_by Restart step now word =
-    let e = boots kind.Order (last step.trail) step.mote.id step.mote.wide now word in
+abbrev pub tick_by : Did → Turn Did → (now draw : ℕ) → Effect
+tick_by Restart step now draw =
+    let e = boots cause.Order (last step.trail) step.mote.id step.mote.wide now draw in
     record e { trail = joined step.trail e.trail }
-tick_by Sent step now word = on step
-tick_by Idle step now word = on step
+tick_by Sent step now draw = on step
+tick_by Idle step now draw = on step
 
-unfoldable pub tick_effect : MoteState → Store → (now word : ℕ) → Effect
-tick_effect m s now word = let step = tick_of m s now word in tick_by step.answer step now word
+unfoldable pub tick_effect : MoteState → Store → (now draw : ℕ) → Effect
+tick_effect m s now draw = let step = tick_of m s now draw in tick_by step.answer step now draw
 
-unfoldable pub frame_effect : MoteState → Store → (now word : ℕ) → List ℕ → Effect
-frame_effect m s now word bytes = silent (heard_of m s now word bytes)
+unfoldable pub frame_effect : MoteState → Store → (now draw : ℕ) → List ℕ → Effect
+frame_effect m s now draw bytes = silent (heard_of m s now draw bytes)

@@ -18,7 +18,7 @@ use dg_frame::{Message, read};
 use dg_nor::{Nor, Stopped};
 
 impl Mote {
-    /// Hears the bytes of a frame at this moment, in milliseconds, with a word as a random draw. The answer says what the
+    /// Hears the bytes of a frame at this moment, in milliseconds, with a draw for random choices. The answer says what the
     /// mote did. Bytes that are no frame, and the mote's own frames, change nothing.
     ///
     /// A mote that maintains keeps a better order, asks the sender of an advert for the next page of what it lacks, and
@@ -31,18 +31,18 @@ impl Mote {
         &mut self,
         nor: &mut N,
         now: u64,
-        word: u32,
+        draw: u32,
         bytes: &[u8],
     ) -> Result<Heard, Stopped>
         requires mote { (m : MoteState) × (s : Store) × IsMote (N.device nor.old).image self.old m s × Timely m now }
         requires moment { now < 2 ^ 62 }
         ensures done { IfOk result (λ heard. (m : MoteState) (s : Store) → IsMote (N.device nor.old).image self.old m s
-            → Done (heard_of m s now word bytes.now) (N.device nor.old) (N.device nor.new) self.new heard) }
+            → Done (heard_of m s now draw bytes.now) (N.device nor.old) (N.device nor.new) self.new heard) }
         // a frame that is refused or dropped changes nothing
         ensures unchanged { IfOk result (λ heard. StaysIf heard ((N.device nor.new ≡ N.device nor.old) × (self.new ≡ self.old))) }
         ensures same_reference { (N.device nor.new).references ≡ (N.device nor.old).references }
         ensures stopped { OnErr result ((m : MoteState) (s : Store) → IsMote (N.device nor.old).image self.old m s
-            → Stops (heard_of m s now word bytes.now).trail (N.device nor.old) (N.device nor.new)) }
+            → Stops (heard_of m s now draw bytes.now).trail (N.device nor.old) (N.device nor.new)) }
         // whatever is heard: a consistent chip stays so, also where it stops
         ensures consistent { OnOk result ((golden : Row) → MoteIsConsistent golden (N.device nor.old).image self.old
             → MoteIsConsistent golden (N.device nor.new).image self.new) }
@@ -52,7 +52,7 @@ impl Mote {
         a_mote_keeps_consistency();
         match read(bytes, self.wide) {
             Err(fault) => Ok(Heard::Refused(fault)),
-            Ok(message) => self.hear_message(nor, now, word, message),
+            Ok(message) => self.hear_message(nor, now, draw, message),
         }
     }
 
@@ -61,18 +61,18 @@ impl Mote {
         &mut self,
         nor: &mut N,
         now: u64,
-        word: u32,
+        draw: u32,
         message: Message,
     ) -> Result<Heard, Stopped>
         requires mote { (m : MoteState) × (s : Store) × IsMote (N.device nor.old).image self.old m s }
         requires moment { now < 2 ^ 62 }
         requires range { IsInRange self.old.wide message }
         ensures done { IfOk result (λ heard. (m : MoteState) (s : Store) → IsMote (N.device nor.old).image self.old m s
-            → Done (by_message (Ok message) m s now word) (N.device nor.old) (N.device nor.new) self.new heard) }
+            → Done (by_message (Ok message) m s now draw) (N.device nor.old) (N.device nor.new) self.new heard) }
         ensures unchanged { IfOk result (λ heard. StaysIf heard ((N.device nor.new ≡ N.device nor.old) × (self.new ≡ self.old))) }
         ensures same_reference { (N.device nor.new).references ≡ (N.device nor.old).references }
         ensures stopped { OnErr result ((m : MoteState) (s : Store) → IsMote (N.device nor.old).image self.old m s
-            → Stops (by_message (Ok message) m s now word).trail (N.device nor.old) (N.device nor.new)) }
+            → Stops (by_message (Ok message) m s now draw).trail (N.device nor.old) (N.device nor.new)) }
     {
         if source(&message) == self.id {
             return Ok(Heard::Dropped);
@@ -82,12 +82,12 @@ impl Mote {
                 source,
                 entries,
                 order,
-            } => self.hear_advert(nor, now, word, source, &entries, &order),
+            } => self.hear_advert(nor, now, draw, source, &entries, &order),
             Message::Wide {
                 source,
                 entries,
                 order,
-            } => self.hear_advert(nor, now, word, source, &entries, &order),
+            } => self.hear_advert(nor, now, draw, source, &entries, &order),
             Message::Request {
                 to,
                 image,
@@ -108,7 +108,7 @@ impl Mote {
                 ..
             } => {
                 let name = PageName::new(image, version, page);
-                self.hear_packet(nor, now, word, name, packet, &bytes)
+                self.hear_packet(nor, now, draw, name, packet, &bytes)
             }
         }
     }

@@ -38,7 +38,7 @@ impl Mote {
         &mut self,
         nor: &mut N,
         now: u64,
-        word: u32,
+        draw: u32,
         name: PageName,
         packet: u8,
         bytes: &[u8; PACKET_SIZE],
@@ -48,17 +48,17 @@ impl Mote {
         requires range { PageInRange (known_images self.old.wide) name.image name.version name.page }
         requires in_page { packet ≤ last_packet }
         ensures done { IfOk result (λ heard. (m : MoteState) (s : Store) → IsMote (N.device nor.old).image self.old m s
-            → Done (on_packet m.mode m s now word (page_packet name.image name.version name.page packet bytes.now))
+            → Done (on_packet m.mode m s now draw (page_packet name.image name.version name.page packet bytes.now))
             (N.device nor.old) (N.device nor.new) self.new heard) }
         ensures unchanged { IfOk result (λ heard. StaysIf heard ((N.device nor.new ≡ N.device nor.old) × (self.new ≡ self.old))) }
         ensures same_reference { (N.device nor.new).references ≡ (N.device nor.old).references }
         ensures stopped { OnErr result ((m : MoteState) (s : Store) → IsMote (N.device nor.old).image self.old m s
-            → Stops (on_packet m.mode m s now word (page_packet name.image name.version name.page packet bytes.now)).trail
+            → Stops (on_packet m.mode m s now draw (page_packet name.image name.version name.page packet bytes.now)).trail
             (N.device nor.old) (N.device nor.new)) }
     {
         match self.mode {
             Mode::Maintain(_) => Ok(self.overhear_packet(now, name)),
-            Mode::Receive { .. } => self.take_packet(nor, now, word, name, packet, bytes),
+            Mode::Receive { .. } => self.take_packet(nor, now, draw, name, packet, bytes),
             Mode::Transmit { .. } => Ok(Heard::Dropped),
         }
     }
@@ -66,9 +66,9 @@ impl Mote {
     /// A page is sent to another mote: that is noted where it would be of use here.
     fn overhear_packet(&mut self, now: u64, name: PageName) -> Heard
         requires { PageInRange (known_images self.old.wide) name.image name.version name.page }
-        ensures rests { (c : List ℕ) (m : MoteState) (s : Store) (timer : Timer) (word packet : ℕ) (bytes : List ℕ)
+        ensures rests { (c : List ℕ) (m : MoteState) (s : Store) (timer : Timer) (draw packet : ℕ) (bytes : List ℕ)
             → IsMote c self.old m s
-            → ChipStays (on_packet (Maintain timer) m s now word (page_packet name.image name.version name.page packet bytes))
+            → ChipStays (on_packet (Maintain timer) m s now draw (page_packet name.image name.version name.page packet bytes))
             c s self.new result }
         ensures unchanged { StaysIf result (self.new ≡ self.old) }
     {
@@ -84,7 +84,7 @@ impl Mote {
         &mut self,
         nor: &mut N,
         now: u64,
-        word: u32,
+        draw: u32,
         name: PageName,
         packet: u8,
         bytes: &[u8; PACKET_SIZE],
@@ -96,13 +96,13 @@ impl Mote {
         requires in_page { packet ≤ last_packet }
         ensures done { IfOk result (λ heard. (m : MoteState) (s : Store) (r : Receiving)
             → IsMote (N.device nor.old).image self.old m s → m.mode ≡ Receive r
-            → Done (on_packet (Receive r) m s now word (page_packet name.image name.version name.page packet bytes.now))
+            → Done (on_packet (Receive r) m s now draw (page_packet name.image name.version name.page packet bytes.now))
             (N.device nor.old) (N.device nor.new) self.new heard) }
         ensures unchanged { IfOk result (λ heard. StaysIf heard ((N.device nor.new ≡ N.device nor.old) × (self.new ≡ self.old))) }
         ensures same_reference { (N.device nor.new).references ≡ (N.device nor.old).references }
         ensures stopped { OnErr result ((m : MoteState) (s : Store) (r : Receiving)
             → IsMote (N.device nor.old).image self.old m s → m.mode ≡ Receive r
-            → Stops (on_packet (Receive r) m s now word (page_packet name.image name.version name.page packet bytes.now)).trail
+            → Stops (on_packet (Receive r) m s now draw (page_packet name.image name.version name.page packet bytes.now)).trail
             (N.device nor.old) (N.device nor.new)) }
     {
         what_stands_behind_the_commits();
@@ -123,24 +123,24 @@ impl Mote {
         if usize::from(asking.got().count()) < PACKETS {
             return Ok(Heard::Took { packet });
         }
-        self.end_page(nor, now, word)
+        self.end_page(nor, now, draw)
     }
 
     /// Seals the page that is whole, and maintains anew.
-    fn end_page<N: Nor>(&mut self, nor: &mut N, now: u64, word: u32) -> Result<Heard, Stopped>
+    fn end_page<N: Nor>(&mut self, nor: &mut N, now: u64, draw: u32) -> Result<Heard, Stopped>
         requires moment { now < 2 ^ 62 }
         requires whole { (m : MoteState) × (s : Store) × (r : Receiving) × (h : Held) × (ps : Packets)
             × PageIsWhole (N.device nor.old).image self.old m s r h ps }
         ensures done { IfOk result (λ heard. (m : MoteState) (s : Store) (r : Receiving) (h : Held) (ps : Packets)
             → PageIsWhole (N.device nor.old).image self.old m s r h ps
-            → Done (page_ends m r h s now word (page_from ps)) (N.device nor.old) (N.device nor.new) self.new heard) }
+            → Done (page_ends m r h s now draw (page_from ps)) (N.device nor.old) (N.device nor.new) self.new heard) }
         ensures not_dropped { IfOk result (λ heard. StaysIf heard ⊥) }
         ensures same_reference { (N.device nor.new).references ≡ (N.device nor.old).references }
         ensures stopped { OnErr result ((m : MoteState) (s : Store) (r : Receiving) (h : Held) (ps : Packets)
             → PageIsWhole (N.device nor.old).image self.old m s r h ps
-            → Stops (page_ends m r h s now word (page_from ps)).trail (N.device nor.old) (N.device nor.new)) }
+            → Stops (page_ends m r h s now draw (page_from ps)).trail (N.device nor.old) (N.device nor.new)) }
     {
-        let maintain = Mode::Maintain(Trickle::new(now, word));
+        let maintain = Mode::Maintain(Trickle::new(now, draw));
         let Mode::Receive { job, .. } = mem::replace(&mut self.mode, maintain) else {
             unreachable!();
         };

@@ -8,8 +8,8 @@ use Rattle.std.specs.List.{fold}
 use Rattle.dg_script.specs.declared.report.Report.{Report}
 use Rattle.dg_picture.specs.Layout.{left_of, column, shown, lane_bottom, height_of}
 use Rattle.dg_picture.specs.Picture.{step_text, bar_text, mark_text, column_marks, lane_of}
-use Rattle.dg_picture.specs.declared.told.Pages.{Pages}
-use Rattle.dg_picture.specs.declared.told.Mark.{Mark}
+use Rattle.dg_picture.specs.declared.reports.Pages.{Pages}
+use Rattle.dg_picture.specs.declared.reports.Mark.{Mark}
 use Rattle.dg_picture.specs.declared.layout.Grid.{Grid}
 
 none : (per : ℕ) → 0 * per ≡ 0

@@ -5,11 +5,11 @@ use Rattle.std.proofs.Math.Nat.{mul-le-mul_left}
 use Rattle.std.specs.List.{fold, filter, AllByRecursion}
 use Rattle.dg_script.specs.declared.report.Report.{Report}
 use Rattle.dg_script.specs.declared.report.Report.TheVariants.{SentAdvert}
-use Rattle.dg_picture.specs.Told.{is_change, changes, nothing, told, last_told, motes, report_motes}
+use Rattle.dg_picture.specs.Reports.{is_change, changes, nothing, reported, last_reported, motes, report_motes}
 use Rattle.dg_picture.specs.Layout.{lanes, grid_of, left_of, shown, lane_bottom}
 use Rattle.dg_picture.specs.Texts.{height_of_rows}
 use Rattle.dg_picture.specs.Reading.{report_image, IsOfReplay}
-use Rattle.dg_picture.specs.declared.told.Pages.{Pages}
+use Rattle.dg_picture.specs.declared.reports.Pages.{Pages}
 use Rattle.dg_picture.proofs.ColumnLemmas.{grid_fits}
 
 pub has_lane : (report : Report) → IsOfReplay report → report_image report < lanes
@@ -44,16 +44,16 @@ unfolding grid_of
 spans n = spans_by n (n / 240 + 1) (omega arith)
 
 -- a line that tells no change tells nothing of pages
-told_changes : (mote image : ℕ) (kept : Pages) (reports : List Report) → fold (told mote image) kept (filter is_change reports) ≡ fold (told mote image) kept reports
-told_changes mote image kept [] = refl
-told_changes mote image kept (SentAdvert m ∷ rs) = told_changes mote image kept rs
-told_changes mote image kept (r ∷ rs) = told_changes mote image (told mote image kept r) rs
+reported_changes : (mote image : ℕ) (kept : Pages) (reports : List Report) → fold (reported mote image) kept (filter is_change reports) ≡ fold (reported mote image) kept reports
+reported_changes mote image kept [] = refl
+reported_changes mote image kept (SentAdvert m ∷ rs) = reported_changes mote image kept rs
+reported_changes mote image kept (r ∷ rs) = reported_changes mote image (reported mote image kept r) rs
 
 pub last : (mote image k : ℕ) (reports : List Report) → k + 1 ≡ (grid_of (length (changes reports))).columns
-    → shown mote image (grid_of (length (changes reports))).per k (changes reports) ≡ last_told mote image reports
+    → shown mote image (grid_of (length (changes reports))).per k (changes reports) ≡ last_reported mote image reports
 last mote image k reports is =
     let cs = changes reports in
     let per = (grid_of (length cs)).per in
     let all : (k + 1) * per ≡ (grid_of (length cs)).columns * per = ap (λ n. n * per) is in
     let long : length cs ≤ (k + 1) * per = let s = spans (length cs) in omega (arith, all, s) in
-    ap (λ (xs : List Report). fold (told mote image) nothing xs) (take_all ((k + 1) * per) cs long) ∙ told_changes mote image nothing reports
+    ap (λ (xs : List Report). fold (reported mote image) nothing xs) (take_all ((k + 1) * per) cs long) ∙ reported_changes mote image nothing reports

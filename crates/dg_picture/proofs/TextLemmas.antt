@@ -4,7 +4,7 @@ use Rattle.std.proofs.Math.Path.{fun_ext}
 use Rattle.std.specs.BTreeMap.{BTreeMap}
 use Rattle.dg_script.specs.declared.report.Report.{Report}
 use Rattle.dg_picture.specs.Counts.{held}
-use Rattle.dg_picture.specs.Told.{largest}
+use Rattle.dg_picture.specs.Reports.{largest}
 
 five : (o a b c d e : List ℕ) → ((((o ++ a) ++ b) ++ c) ++ d) ++ e ≡ o ++ (a ++ (b ++ (c ++ (d ++ e))))
 five o a b c d e = simp append_assoc

@@ -2,8 +2,8 @@
 use Rattle.std.specs.Prelude.{ℕ, ◌+◌, ◌*◌, ◌/◌, max, min, zero, suc, List, [], ◌++◌, take, drop}
 use Rattle.std.specs.List.{fold}
 use Rattle.dg_script.specs.declared.report.Report.{Report}
-use Rattle.dg_picture.specs.Told.{nothing, told}
-use Rattle.dg_picture.specs.declared.told.Pages.{Pages}
+use Rattle.dg_picture.specs.Reports.{nothing, reported}
+use Rattle.dg_picture.specs.declared.reports.Pages.{Pages}
 use Rattle.dg_picture.specs.declared.layout.Grid.{Grid}
 
 -- the texts for all numbers below n, in their order
@@ -28,7 +28,7 @@ column per k changes = take per (drop (k * per) changes)
 
 -- what a column shows of an image at a mote: the last state that is told in it, or else before it
 abbrev pub shown : (mote image per k : ℕ) → List Report → Pages
-shown mote image per k changes = fold (told mote image) nothing (take ((k + 1) * per) changes)
+shown mote image per k changes = fold (reported mote image) nothing (take ((k + 1) * per) changes)
 
 -- the lanes of a row: the row of a mote has one for golden, and one for each image
 abbrev pub lanes : ℕ

@@ -1,4 +1,4 @@
-pub mod Told
+pub mod Reports
 pub mod Counts
 pub mod Layout
 pub mod Texts

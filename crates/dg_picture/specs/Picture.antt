@@ -3,12 +3,12 @@ use Rattle.std.specs.Prelude.{ℕ, ◌+◌, ◌-◌, List, [], ◌∷◌, ◌++�
 use Rattle.std.specs.List.{list_any}
 use Rattle.std.specs.Fmt.{decimal}
 use Rattle.dg_script.specs.declared.report.Report.{Report}
-use Rattle.dg_picture.specs.Told.{changes, motes, largest, total, is_marked}
+use Rattle.dg_picture.specs.Reports.{changes, motes, largest, total, is_marked}
 use Rattle.dg_picture.specs.Layout.{each, lanes, grid_of, left_of, column, shown, lane_bottom, height_of}
 use Rattle.dg_picture.specs.Texts.{form_of, class_of, head_text}
-use Rattle.dg_picture.specs.declared.told.Pages.{Pages}
-use Rattle.dg_picture.specs.declared.told.Mark.{Mark}
-use Rattle.dg_picture.specs.declared.told.Mark.TheVariants.{Started, Ordered, Lost}
+use Rattle.dg_picture.specs.declared.reports.Pages.{Pages}
+use Rattle.dg_picture.specs.declared.reports.Mark.{Mark}
+use Rattle.dg_picture.specs.declared.reports.Mark.TheVariants.{Started, Ordered, Lost}
 use Rattle.dg_picture.specs.declared.layout.Grid.{Grid}
 use Rattle.dg_words.specs.Lists.{concatenated}
 

@@ -9,7 +9,7 @@ use Rattle.dg_script.specs.ReportReading.{FitsReport}
 use Rattle.dg_script.specs.declared.report.Report.{Report}
 use Rattle.dg_script.specs.declared.report.Report.TheVariants.{Order, Lost, Have, Start, SentRequest, SentData, Taken, MoteOn}
 use Rattle.dg_script.specs.declared.report.Report.TheVariants.{Kept}
-use Rattle.dg_picture.specs.Told.{report_motes}
+use Rattle.dg_picture.specs.Reports.{report_motes}
 
 -- the lines of a report that are used
 abbrev pub most_lines : ℕ

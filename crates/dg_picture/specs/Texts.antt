@@ -2,8 +2,8 @@
 use Rattle.std.specs.Prelude.{ℕ, ◌+◌, ◌*◌, List, [], ◌∷◌, ◌++◌, codes}
 use Rattle.std.specs.Fmt.{decimal}
 use Rattle.std.specs.List.{flat_map}
-use Rattle.dg_picture.specs.declared.told.Mark.{Mark}
-use Rattle.dg_picture.specs.declared.told.Mark.TheVariants as mark
+use Rattle.dg_picture.specs.declared.reports.Mark.{Mark}
+use Rattle.dg_picture.specs.declared.reports.Mark.TheVariants as mark
 use Rattle.dg_picture.specs.declared.pieces.Piece.{Piece}
 use Rattle.dg_picture.specs.declared.pieces.Piece.TheVariants as piece
 use Rattle.dg_picture.specs.declared.texts.TheConstants.{LEGEND}

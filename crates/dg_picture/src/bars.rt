@@ -8,7 +8,7 @@ ghost use Rattle.dg_picture.specs.Picture.{image_text, group_text, kept_of};
 use crate::counts::{largest, largest_of};
 use crate::layout::{Grid, base_of, height_of, next_column};
 use crate::pieces::{Piece, push_pieces};
-use crate::told::{Pages, last_told, total};
+use crate::reports::{Pages, last_reported, total};
 use dg_script::Report;
 use std::alloc::{AllocError, Global};
 use std::collections::BTreeMap;
@@ -79,7 +79,7 @@ fn push_steps(
     let mut rest = changes;
     for k in 0..grid.columns {
         let (column, behind) = next_column(rest, grid.per);
-        kept = last_told(kept, mote, image, column);
+        kept = last_reported(kept, mote, image, column);
         push_pages(out, counts, base, grid.width, kept)?;
         rest = behind;
     }

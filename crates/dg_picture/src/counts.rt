@@ -1,9 +1,9 @@
 //! The largest count of pages that is told of each version of an image.
 ghost use Rattle.std.specs.Prelude.{◌≡◌, ◌==◌, ◌&&◌, ℕ, max, unwrap_or, if◌then◌else◌, IfOk, OnOk};
 ghost use Rattle.dg_picture.specs.Counts.{held, counted_of};
-ghost use Rattle.dg_picture.specs.Told.{counted, largest};
+ghost use Rattle.dg_picture.specs.Reports.{counted, largest};
 
-use crate::told::Pages;
+use crate::reports::Pages;
 use dg_script::Report;
 use std::alloc::{AllocError, Global};
 use std::collections::BTreeMap;

@@ -7,8 +7,8 @@ use crate::bars::push_image;
 use crate::layout::{Grid, LANES, base_of, grid_for};
 use crate::marks::push_marks;
 use crate::pieces::{Piece, push_pieces};
+use crate::reports::{Mark, changes, motes};
 use crate::texts::push_head;
-use crate::told::{Mark, changes, motes};
 use dg_script::Report;
 use std::alloc::{AllocError, Global};
 

@@ -2,7 +2,7 @@
 ghost use Rattle.std.specs.Prelude.{◌≡◌, ℕ, ◌+◌, ◌≤◌, ◌<◌, List, length};
 ghost use Rattle.std.specs.List.{AllByRecursion};
 ghost use Rattle.dg_script.specs.declared.report.Report.{Report};
-ghost use Rattle.dg_picture.specs.Told.{changes, last_told, motes};
+ghost use Rattle.dg_picture.specs.Reports.{changes, last_reported, motes};
 ghost use Rattle.dg_picture.specs.Layout.{lanes, grid_of, left_of, shown, lane_bottom};
 ghost use Rattle.dg_picture.specs.Texts.{height_of_rows};
 ghost use Rattle.dg_picture.specs.Reading.{report_image, IsOfReplay};
@@ -19,5 +19,5 @@ pub fn a_picture_fits()
 /// The last column shows of each image at each mote the last state that any line of the report tells of it.
 pub fn the_last_column_shows_the_last_state()
     ensures { (mote image k : ℕ) (reports : List Report) → k + 1 ≡ (grid_of (length (changes reports))).columns
-        → shown mote image (grid_of (length (changes reports))).per k (changes reports) ≡ last_told mote image reports }
+        → shown mote image (grid_of (length (changes reports))).per k (changes reports) ≡ last_reported mote image reports }
 {}

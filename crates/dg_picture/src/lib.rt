@@ -10,8 +10,8 @@ mod layout;
 mod marks;
 mod pieces;
 mod reading;
+mod reports;
 mod texts;
-mod told;
 
 pub use call::{PictureFault, picture};
 pub use laws::{a_picture_fits, the_last_column_shows_the_last_state};

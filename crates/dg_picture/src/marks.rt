@@ -1,14 +1,14 @@
 //! Draws the marks of starts, orders and losses of power.
 ghost use Rattle.std.specs.Prelude.{◌≡◌, ◌+◌, ◌*◌, ◌++◌, ◌≤◌, ◌<◌, take, OnOk, if◌then◌else◌};
 ghost use Rattle.std.specs.List.{list_any};
-ghost use Rattle.dg_picture.specs.Told.{is_marked};
+ghost use Rattle.dg_picture.specs.Reports.{is_marked};
 ghost use Rattle.dg_picture.specs.Layout.{each, lanes, lane_bottom};
 ghost use Rattle.dg_picture.specs.Picture.{point_text, mark_text, lane_of, row_marks, marks_text};
 
 use crate::layout::{Grid, base_of, next_column};
 use crate::pieces::{Piece, push_pieces};
+use crate::reports::{Mark, has_mark};
 use crate::texts::{form_of, push_class};
-use crate::told::{Mark, has_mark};
 use dg_script::Report;
 use std::alloc::AllocError;
 

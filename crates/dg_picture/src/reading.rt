@@ -4,7 +4,7 @@ ghost use Rattle.dg_script.specs.Report.{report_line};
 ghost use Rattle.dg_picture.specs.Reading.{report_image, IsOfReplay, IsFirstLine, IsNoReport, AreReports, FirstNoReport};
 ghost use Rattle.dg_picture.specs.Reading.{HasMoreLines};
 
-use crate::told::motes_of;
+use crate::reports::motes_of;
 use dg_script::{MOST_IMAGE, Report, ReportFault, read_report};
 use memchr::memchr;
 use std::alloc::{AllocError, Global};

@@ -3,7 +3,7 @@ ghost use Rattle.std.specs.Prelude.{◌≡◌, ◌++◌, ◌≤◌, OnOk};
 ghost use Rattle.dg_picture.specs.Texts.{form_of, class_of, legend, first_text, head_text};
 
 use crate::pieces::{Piece, push_pieces};
-use crate::told::Mark;
+use crate::reports::Mark;
 use std::alloc::AllocError;
 
 /// Title, colours and legend. The colours of the images are told apart also by who is colour-blind.

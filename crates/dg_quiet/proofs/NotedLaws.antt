@@ -1,4 +1,4 @@
--- That the kept moments are those of the newest notes, and that a list with a place for each image is such a map.
+-- That the kept moments are those of the newest notes, and that a list with a window for each image is such a map.
 use Rattle.std.specs.Prelude.{◌≡◌, ℕ, ◌+◌, ◌-◌, ◌≤◌, Bool, true, false, Decides, ◌&&◌, ◌↔◌, Option, None, Some, List, [], ◌∷◌, length}
 use Rattle.std.proofs.Common.{zero, suc, get_or, cond, eqb, ltb, refl, sym, ap, ◌∙◌, inl, inr, arith}
 use Rattle.std.proofs.Math.ListN.{replicate, set as put}
@@ -40,7 +40,7 @@ pub may_ask-noted : (notes : List Note) (moment image : ℕ) → may_ask (noted 
 may_ask-noted notes moment image =
     λ i. is_past (request-noted notes image i) request_window moment && is_past (packet-noted notes image i) packet_window moment
 
--- ---- a list with a place for each image
+-- ---- a list with a window for each image
 
 at_head : (a q : ℕ) (x : Option ℕ) (rest : List (Option ℕ)) → q ≡ a → cond (ltb q a) None (get_or (x ∷ rest) (q - a) None) ≡ x
 at_head a q x rest e =
@@ -105,7 +105,7 @@ pub moments_of-none : (n : ℕ) → moments_of (replicate n None) ≡ map.empty
 unfolding moments_of
 moments_of-none n = moments_from-none n 1
 
--- a moment is written at the place of its image
+-- a moment is written at the window of its image
 pub moments_of-put : (places : List (Option ℕ)) (image moment : ℕ) → 1 ≤ image → image ≤ length places → moments_of (put places (image - 1) (Some moment)) ≡ map.insert (moments_of places) image moment
 moments_of-put places image moment low high =
     same_moments _ _ (λ q.

@@ -62,7 +62,7 @@ impl Windows {
         requires high { image ≤ windowed_images }
         ensures { self.new ≡ with_request self.old now image }
     {
-        let k = place(image);
+        let k = window_of(image);
         self.requests[k] = Some(now);
     }
 
@@ -72,7 +72,7 @@ impl Windows {
         requires high { image ≤ windowed_images }
         ensures { self.new ≡ with_packet self.old now image }
     {
-        let k = place(image);
+        let k = window_of(image);
         self.packets[k] = Some(now);
     }
 
@@ -85,7 +85,7 @@ impl Windows {
             ↔ (IsPast (map.get self.now.requests image) request_window now
             × IsPast (map.get self.now.packets image) packet_window now) }
     {
-        let k = place(image);
+        let k = window_of(image);
         are_over(self.requests[k], self.packets[k], now)
     }
 }
@@ -111,7 +111,7 @@ pub fn last_note_counts()
 {}
 
 // Where the moment of an image stands.
-fn place(image: u8) -> usize
+fn window_of(image: u8) -> usize
     requires { 1 ≤ image }
     ensures { result ≡ image - 1 }
 {

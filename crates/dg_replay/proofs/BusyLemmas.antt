@@ -8,11 +8,11 @@ use Rattle.dg_base.specs.declared.events.Event.{Event}
 use Rattle.dg_base.specs.declared.events.Cut.{Cut as CutOfPower}
 use Rattle.dg_rounds.specs.Rounds.{times, round, sweep}
 use Rattle.dg_script.specs.Fitting.{FitsCut, FitsLine, StandsAt, IsPlayed, UsesBoard, declared_row}
-use Rattle.dg_script.specs.Items.{Item, Declares, Happens as Happened, unreported, item_by, place_behind}
+use Rattle.dg_script.specs.Items.{Item, Declares, Applies, unreported, item_by, place_behind}
 use Rattle.dg_script.specs.Places.{first_place, place_after}
 use Rattle.dg_script.specs.declared.place.Place.{Place}
 use Rattle.dg_script.specs.declared.line.Line.{Line}
-use Rattle.dg_script.specs.declared.line.Line.TheVariants.{Image, Happens, Round, Sweeps}
+use Rattle.dg_script.specs.declared.line.Line.TheVariants.{Image, Event as EventLine, Round, Sweeps}
 use Rattle.dg_rules.specs.Premises.{LinkFits}
 use Rattle.dg_rules.specs.Ranges.{EventInRange, StepInRange}
 use Rattle.dg_rules.specs.World.{World}
@@ -22,7 +22,7 @@ use Rattle.dg_replay.specs.Items.{Ground, no_ground, Beginning, begin_by, motes_
 use Rattle.dg_replay.specs.Playing.{Seated, InWorld, Stood, Ready, ItemsPlayedAs, StopsInItem, PlayedAs}
 use Rattle.dg_replay.specs.declared.player.Player.{Player}
 use Rattle.dg_replay.specs.declared.stop.Stop.{Stop}
-use Rattle.dg_replay.specs.Stages.{based_on, done_so_far, boards_told}
+use Rattle.dg_replay.specs.Stages.{based_on, done_so_far, boards_reported}
 use Rattle.dg_replay.specs.declared.stop.Stop.TheVariants.{Memory, BadInput, WriteFault, FlashFault, TooMany, NoBoard, NoImage, NotAVolume}
 use Rattle.dg_replay.proofs.ItemLemmas.{items_run_counts}
 use Rattle.dg_replay.proofs.PlayLemmas.{false_not, event_at, round_at, sweeps_at, seated_as}
@@ -72,10 +72,10 @@ image_has done image version name content =
       stops = λ left w board image initial now s. s;
     }
 
-pub event_has : (done : List Line) (event : Event) (cut : Option CutOfPower) → cut ≡ (place_behind first_place done).cut → HasItems done (Happens event) (Happened (record { event = event; cut = cut }) true ∷ [])
+pub event_has : (done : List Line) (event : Event) (cut : Option CutOfPower) → cut ≡ (place_behind first_place done).cut → HasItems done (EventLine event) (Applies (record { event = event; cut = cut }) true ∷ [])
 event_has done event cut waits =
     record {
-      are = ap (λ (o : Option CutOfPower). Happened (record { event = event; cut = o }) true ∷ []) (sym waits);
+      are = ap (λ (o : Option CutOfPower). Applies (record { event = event; cut = o }) true ∷ []) (sym waits);
       begins = λ g b. refl;
       plain = refl;
       counts = λ b. refl;
@@ -136,17 +136,17 @@ stopped_in motes done line items left w initial now has count s =
       there = has.stops left w s.stopped.board s.stopped.after.image initial now s.there;
     }
 
-busy_as : (table : List Row) (r : Result (Unit {0}) Stop) (p q : Player) (done : List Line) (w : World) (line : Line) (items : List Item) (told_before told : List ℕ) (initial old now : List Device)
+busy_as : (table : List Row) (r : Result (Unit {0}) Stop) (p q : Player) (done : List Line) (w : World) (line : Line) (items : List Item) (report_before told : List ℕ) (initial old now : List Device)
     → HasItems done line items → StandsAt p.place line → FitsLine p.place.motes line → q.place ≡ place_after p.place line
-    → Stood p done (Some w) initial old → ItemsPlayedAs r w items q.world initial told_before (boards_told now told) → PlayedAs (based_on table initial) r q (done_so_far done (Some w)) line (boards_told old told_before) (boards_told now told)
-busy_as table (Ok u) p q done w line items told_before told initial old now has stands fits place s x =
+    → Stood p done (Some w) initial old → ItemsPlayedAs r w items q.world initial report_before (boards_reported now told) → PlayedAs (based_on table initial) r q (done_so_far done (Some w)) line (boards_reported old report_before) (boards_reported now told)
+busy_as table (Ok u) p q done w line items report_before told initial old now has stands fits place s x =
     let motes : q.place.motes ≡ p.place.motes = ap (λ (at : Place). at.motes) place ∙ has.motes p.place in
     let count : length now ≡ length old = x.boards.all.count ∙ sym s.boards.all.count in
     let sites : length x.world.sites ≡ p.place.motes = (items_run_counts w x.world items x.text x.runs).sites ∙ s.world.1 in
     record {
       world = Some x.world;
       text = x.text;
-      told_now = x.told_now;
+      report_now = x.report_now;
       runs = busy_runs done line w x.world items x.text has.are (λ g. has.begins g _) has.plain has.counts x.runs;
       stood = stood_next p q done line (Some w) (Some x.world) initial old now (joined_next p.place line stands fits s.links) s place
           (seated_as p.place q.place (length now) motes (subst (λ (n : ℕ). Seated p.place n) (sym count) s.seats))
@@ -155,26 +155,26 @@ busy_as table (Ok u) p q done w line items told_before told initial old now has 
           x.boards;
       boards_enough = has.enough (length initial);
     }
-busy_as table (Err Memory) p q done w line items told_before told initial old now has stands fits place s x = line_begun done line w items has.are x (λ h. h)
-busy_as table (Err TooMany) p q done w line items told_before told initial old now has stands fits place s x = line_begun done line w items has.are x (λ h. h)
-busy_as table (Err NoImage) p q done w line items told_before told initial old now has stands fits place s x = line_begun done line w items has.are x (λ h. h)
-busy_as table (Err NotAVolume) p q done w line items told_before told initial old now has stands fits place s x = absurd x
-busy_as table (Err FlashFault) p q done w line items told_before told initial old now has stands fits place s x =
+busy_as table (Err Memory) p q done w line items report_before told initial old now has stands fits place s x = line_begun done line w items has.are x (λ h. h)
+busy_as table (Err TooMany) p q done w line items report_before told initial old now has stands fits place s x = line_begun done line w items has.are x (λ h. h)
+busy_as table (Err NoImage) p q done w line items report_before told initial old now has stands fits place s x = line_begun done line w items has.are x (λ h. h)
+busy_as table (Err NotAVolume) p q done w line items report_before told initial old now has stands fits place s x = absurd x
+busy_as table (Err FlashFault) p q done w line items report_before told initial old now has stands fits place s x =
     let sites : length x.world.sites ≡ motes_in done = (items_run_counts w x.world x.begun x.text x.runs).sites ∙ s.world.1 ∙ s.motes in (
       has.uses x.begun x.left x.world initial now x.parts x.there.0,
       line_begun done line w items has.are x (λ h. (stopped_in (motes_in done) done line items x.left x.world initial now has sites h.0, h.1)),
     )
-busy_as table (Err (NoBoard motes boards)) p q done w line items told_before told initial old now has stands fits place s x = absurd x
-busy_as table (Err (BadInput n fault)) p q done w line items told_before told initial old now has stands fits place s x = absurd x
-busy_as table (Err WriteFault) p q done w line items told_before told initial old now has stands fits place s x = absurd x
+busy_as table (Err (NoBoard motes boards)) p q done w line items report_before told initial old now has stands fits place s x = absurd x
+busy_as table (Err (BadInput n fault)) p q done w line items report_before told initial old now has stands fits place s x = absurd x
+busy_as table (Err WriteFault) p q done w line items report_before told initial old now has stands fits place s x = absurd x
 
 -- the same where some world is kept
-pub busy_in : (table : List Row) (r : Result (Unit {0}) Stop) (p q : Player) (done : List Line) (w : Option World) (line : Line) (items : List Item) (told_before told : List ℕ) (initial old now : List Device)
+pub busy_in : (table : List Row) (r : Result (Unit {0}) Stop) (p q : Player) (done : List Line) (w : Option World) (line : Line) (items : List Item) (report_before told : List ℕ) (initial old now : List Device)
     → HasItems done line items → StandsAt p.place line → FitsLine p.place.motes line → p.place.ready ≡ true → q.place ≡ place_after p.place line
-    → Stood p done w initial old → ((u : World) → IsWorld p.world old u → WorldStands u initial old → ItemsPlayedAs r u items q.world initial told_before (boards_told now told)) → PlayedAs (based_on table initial) r q (done_so_far done w) line (boards_told old told_before) (boards_told now told)
-busy_in table r p q done None line items told_before told initial old now has stands fits ready place s play = false_not p.place.ready ready s.world
-busy_in table r p q done (Some w) line items told_before told initial old now has stands fits ready place s play =
-    busy_as table r p q done w line items told_before told initial old now has stands fits place s (play w s.world.0 s.boards)
+    → Stood p done w initial old → ((u : World) → IsWorld p.world old u → WorldStands u initial old → ItemsPlayedAs r u items q.world initial report_before (boards_reported now told)) → PlayedAs (based_on table initial) r q (done_so_far done w) line (boards_reported old report_before) (boards_reported now told)
+busy_in table r p q done None line items report_before told initial old now has stands fits ready place s play = false_not p.place.ready ready s.world
+busy_in table r p q done (Some w) line items report_before told initial old now has stands fits ready place s play =
+    busy_as table r p q done w line items report_before told initial old now has stands fits place s (play w s.world.0 s.boards)
 
 -- ---- what they ask
 
@@ -186,7 +186,7 @@ kept_for p boards r ready = from r.world r.kept
     from None k = false_not p.place.ready ready k
     from (Some w) k = (w, k.0, k.1)
 
-pub step_asked : (p : Player) (boards : List Device) (event : Event) (cut : Option CutOfPower) → Ready p boards → StandsAt p.place (Happens event) → FitsLine p.place.motes (Happens event) → IsPlayed (Happens event) → cut ≡ p.place.cut
+pub step_asked : (p : Player) (boards : List Device) (event : Event) (cut : Option CutOfPower) → Ready p boards → StandsAt p.place (EventLine event) → FitsLine p.place.motes (EventLine event) → IsPlayed (EventLine event) → cut ≡ p.place.cut
     → (u : World) × IsWorld p.world boards u × StepInRange (length u.sites) (record { event = event; cut = cut })
 step_asked p boards event cut r stands fits played waits =
     let k = kept_for p boards r (event_at p.place event stands).0 in (

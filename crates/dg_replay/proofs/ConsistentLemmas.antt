@@ -5,7 +5,7 @@ use Rattle.std.specs.List.{AllByRecursion}
 use Rattle.dg_object.specs.Object.{Row}
 use Rattle.dg_volume.specs.Store.{golden_row}
 use Rattle.dg_base.specs.declared.events.Event.{Event}
-use Rattle.dg_script.specs.Items.{Item, Happens}
+use Rattle.dg_script.specs.Items.{Item, Applies}
 use Rattle.dg_rules.specs.World.{World}
 use Rattle.dg_rules.specs.Ranges.{EventInRange}
 use Rattle.dg_rules.specs.Premises.{ItemInRange}
@@ -14,7 +14,7 @@ use Rattle.dg_rules.specs.Golden.{GoldenNetwork, network_row, PlaysGolden}
 use Rattle.dg_rules.specs.Consistency.{WorldConsistent, LeavesConsistent, StartsSound, StopsConsistent}
 use Rattle.dg_replay.specs.Items.{UsesBoards, Beginning, beginning_of}
 use Rattle.dg_replay.specs.Ending.{script_of}
-use Rattle.dg_replay.specs.Outcome.{Progress}
+use Rattle.dg_replay.specs.Replayed.{Progress}
 use Rattle.dg_replay.specs.Promised.{StaysConsistent}
 use Rattle.dg_replay.proofs.ItemLemmas.{some_is}
 use Rattle.dg_replay.proofs.GoldenLemmas.{golden_at_end, nothing_or}
@@ -43,7 +43,7 @@ module _ (laws : ConsistentLaws) where
         ends = kept.1;
         starts = laws.starts (ran_network g) played v g.plays;
         halves = λ w step reported more is next.
-            let fits : AllByRecursion (ItemInRange b.motes) (Happens step reported ∷ more) = subst (AllByRecursion (ItemInRange b.motes)) next g.left_fits in
+            let fits : AllByRecursion (ItemInRange b.motes) (Applies step reported ∷ more) = subst (AllByRecursion (ItemInRange b.motes)) next g.left_fits in
             subst (λ (u : World). StopsConsistent (golden_row g.name g.bytes) u step.event) (some_is v w is) (laws.halves (ran_network g) played v step.event g.plays fits.0.event);
       }
 

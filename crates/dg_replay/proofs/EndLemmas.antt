@@ -27,9 +27,9 @@ use Rattle.dg_rules.specs.World.{World}
 use Rattle.dg_replay.specs.Boards.{EventNext, InSome, LacksImage, WorldStands, BoardsStand, StoppedIn}
 use Rattle.dg_replay.specs.Ending.{Ending, Ends, NoBoards, TooManyEvents, FaultAt, Over, events_in, InBounds, by_fault, ending_from, ending_line, whole_lines, used, has_unused_bytes, script_of, ending_of, InLimits}
 use Rattle.dg_replay.specs.Near.{behind_lines, FewBytesBehind}
-use Rattle.dg_replay.specs.Outcome.{Progress, item_played, played_text, ReachesEnding, closing, StopsAt, BoardsLeft, RunsTo, IsSettled, NextIsWhole, DoneIsWhole, BoardsEndIt, no_volume_line, no_image_line}
+use Rattle.dg_replay.specs.Replayed.{Progress, item_played, played_text, ReachesEnding, closing, StopsAt, BoardsLeft, RunsTo, IsSettled, NextIsWhole, DoneIsWhole, BoardsEndIt, no_volume_line, no_image_line}
 use Rattle.dg_world.specs.Mounted.{StandFor}
-use Rattle.dg_replay.specs.Replaying.{ToldBefore, StopEnds, Reached, HasFew, StopsAtText, StopsInTaken, ByRules, ReadyToEnd, EndsWith, FinishesWith, ScriptReplayed}
+use Rattle.dg_replay.specs.Replaying.{ReportedBefore, StopEnds, Reached, HasFew, StopsAtText, StopsInTaken, ByRules, ReadyToEnd, EndsWith, FinishesWith, ScriptReplayed}
 use Rattle.dg_replay.specs.declared.player.Player.{Player}
 use Rattle.dg_script.specs.declared.line.Line.{Line}
 use Rattle.dg_replay.specs.declared.stop.Stop.{Stop}
@@ -62,7 +62,7 @@ stop_ending NotAVolume over script W number initial now before after failed f = 
 -- boards end the replay, and the last line was not all written
 cut_at_end : {table : List Row} (result : Status) (script : Script) (over : Bool) (input : List ℕ) (at_end : Type 0) (number : ℕ) (initial now : List Device) (before mid after : Option (List ℕ)) (later reads worse : Type 0) → (later → worse) → FewBytesBehind number input
     → (c : Progress table script) (line : List ℕ) → BoardsEndIt c line → Puts before mid (played_text c.played) → InBounds (length initial) c.done (map item_played c.played) → (UsesBoards c.done → StandFor (motes_in c.done) c.ground.stores initial) → BoardsLeft status.WriteFault c initial now
-    → ((more : List ℕ) → ToldBefore number c (played_text c.played ++ more)) → at_end ⊎ NextIsWhole input c.done c.rest → result ≡ status.WriteFault → PutsFront mid after line → later → ScriptReplayed table result script (ending_from (length initial) over script) (bytes_taken input at_end) (span initial now before after) (failures reads worse)
+    → ((more : List ℕ) → ReportedBefore number c (played_text c.played ++ more)) → at_end ⊎ NextIsWhole input c.done c.rest → result ≡ status.WriteFault → PutsFront mid after line → later → ScriptReplayed table result script (ending_from (length initial) over script) (bytes_taken input at_end) (span initial now before after) (failures reads worse)
 cut_at_end {table} result script over input at_end number initial now before mid after later reads worse widen near c line ends told limits stood boards tells whole same cut rose =
     let k = cut.0 in
     let front = tells (take k line) in

@@ -12,18 +12,18 @@ use Rattle.dg_base.specs.declared.answers.Status.TheVariants as status
 use Rattle.dg_nor.specs.Device.{Device}
 use Rattle.dg_object.specs.Object.{Row}
 use Rattle.dg_rules.specs.Sizes.{most_events}
-use Rattle.dg_script.specs.Items.{Item, Happens as Happened, place_behind, items_behind, items_of}
+use Rattle.dg_script.specs.Items.{Item, Applies, place_behind, items_behind, items_of}
 use Rattle.dg_replay.specs.Items.{UsesBoards, lacking, lacking_by, motes_in, next_items, is_event, events_among}
 use Rattle.dg_script.specs.Places.{first_place, place_after}
 use Rattle.dg_script.specs.Script.{Script}
 use Rattle.dg_script.specs.declared.fault.LineFault.{LineFault}
 use Rattle.dg_replay.specs.Boards.{EventNext, BoardsStand, BoardStopped}
 use Rattle.dg_replay.specs.Ending.{Ending, Ends, NoBoards, TooManyEvents, FaultAt, Over, events_in, by_fault, by_events, by_boards, ending_from, status_of, used}
-use Rattle.dg_replay.specs.Outcome.{Progress, played_text, AtTooMany, IsWholeReport, Wrote, BoardsLeft, IsCaused, IsSettled, DoneIsWhole, ReadEnough, EndsNear, ReadsNear, NoVolumeThere, NoImageThere}
+use Rattle.dg_replay.specs.Replayed.{Progress, played_text, AtTooMany, IsWholeReport, Wrote, BoardsLeft, IsCaused, IsSettled, DoneIsWhole, ReadEnough, EndsNear, ReadsNear, NoVolumeThere, NoImageThere}
 use Rattle.dg_replay.specs.Replaying.{HasFew, ReadyToEnd, EndsWith, ScriptReplayed}
 use Rattle.dg_base.specs.declared.events.Step.{Step}
 use Rattle.dg_script.specs.declared.line.Line.{Line}
-use Rattle.dg_script.specs.declared.line.Line.TheVariants.{Nothing, Motes, Golden, Boards as BoardsLine, Link, Narrow, Image, Cut, Happens, Round, Sweeps}
+use Rattle.dg_script.specs.declared.line.Line.TheVariants.{Nothing, Motes, Golden, Boards as BoardsLine, Link, Narrow, Image, Cut, Event as EventLine, Round, Sweeps}
 use Rattle.dg_replay.specs.Stages.{span, bytes_taken, failures}
 use Rattle.dg_replay.proofs.ItemLemmas.{items_split, items_first, events_among-append}
 
@@ -158,7 +158,7 @@ lacking_behind boards motes (x ∷ xs) more short none = through x (lacking boar
     through (Narrow m) rest later e f = f e
     through (Image image version name content) rest later e f = f e
     through (Cut cut) rest later e f = f e
-    through (Happens event) rest later e f = f e
+    through (EventLine event) rest later e f = f e
     through (Round a b) rest later e f = f e
     through (Sweeps n) rest later e f = f e
 
@@ -167,26 +167,26 @@ board_ending over script initial motes done more short none lines =
     ap (λ (o : Option ℕ). by_boards o (length initial) (by_events over script)) (ap (lacking (length initial)) (sym lines) ∙ lacking_behind (length initial) motes done more short none)
 
 -- an event behind some others is one more
-one_more : (before : List Item) (step : Step) (reported : Bool) (more : List Item) → events_among before ≡ most_events → most_events < events_among (before ++ Happened step reported ∷ more)
+one_more : (before : List Item) (step : Step) (reported : Bool) (more : List Item) → events_among before ≡ most_events → most_events < events_among (before ++ Applies step reported ∷ more)
 one_more before step reported more full =
-    let parts : events_among (before ++ Happened step reported ∷ more) ≡ events_among before + events_among (Happened step reported ∷ more) = events_among-append before (Happened step reported ∷ more) in
-    let last : events_among (Happened step reported ∷ more) ≡ 1 + events_among more = sum_by-cons (λ x. cond (is_event x) 1 0) (Happened step reported) more in
+    let parts : events_among (before ++ Applies step reported ∷ more) ≡ events_among before + events_among (Applies step reported ∷ more) = events_among-append before (Applies step reported ∷ more) in
+    let last : events_among (Applies step reported ∷ more) ≡ 1 + events_among more = sum_by-cons (λ x. cond (is_event x) 1 0) (Applies step reported) more in
     omega (arith, parts, last, full)
 
 -- the items of a script, where the next of them is an event
-items_come : (done rest : List Line) (begun left : List Item) (next : EventNext left) → next_items done rest ≡ begun ++ left → (more : List Item) × (items_of (done ++ rest) ≡ (items_of done ++ begun) ++ Happened next.step next.reported ∷ more)
+items_come : (done rest : List Line) (begun left : List Item) (next : EventNext left) → next_items done rest ≡ begun ++ left → (more : List Item) × (items_of (done ++ rest) ≡ (items_of done ++ begun) ++ Applies next.step next.reported ∷ more)
 items_come done [] begun left next parts = absurd (no_items begun left next parts)
   where
     no_items : (xs ys : List Item) → EventNext ys → [] ≡ xs ++ ys → ⊥
-    no_items [] ys e none = let f : [] ≡ Happened e.step e.reported ∷ e.more = none ∙ e.is in cc
+    no_items [] ys e none = let f : [] ≡ Applies e.step e.reported ∷ e.more = none ∙ e.is in cc
     no_items (x ∷ xs) ys e none = cc
 items_come done (line ∷ rest) begun left next parts =
     let behind : List Item = items_behind (place_after (place_behind first_place done) line) rest in
     let first : items_behind (place_behind first_place done) (line ∷ rest) ≡ (begun ++ left) ++ behind =
     items_first (place_behind first_place done) line rest ∙ ap (λ (xs : List Item). xs ++ behind) parts in
-    let here : (begun ++ left) ++ behind ≡ begun ++ (Happened next.step next.reported ∷ (next.more ++ behind)) = append_assoc begun left behind ∙ ap (λ (xs : List Item). begun ++ (xs ++ behind)) next.is in (
+    let here : (begun ++ left) ++ behind ≡ begun ++ (Applies next.step next.reported ∷ (next.more ++ behind)) = append_assoc begun left behind ∙ ap (λ (xs : List Item). begun ++ (xs ++ behind)) next.is in (
       next.more ++ behind,
-      items_split done (line ∷ rest) ∙ ap (λ (xs : List Item). items_of done ++ xs) (first ∙ here) ∙ sym (append_assoc (items_of done) begun (Happened next.step next.reported ∷ (next.more ++ behind))),
+      items_split done (line ∷ rest) ∙ ap (λ (xs : List Item). items_of done ++ xs) (first ∙ here) ∙ sym (append_assoc (items_of done) begun (Applies next.step next.reported ∷ (next.more ++ behind))),
     )
 
 -- a million events, and one more behind them

@@ -14,7 +14,7 @@ use Rattle.dg_script.specs.declared.line.Line.{Line}
 use Rattle.dg_script.specs.declared.place.Place.{Place}
 use Rattle.dg_replay.specs.Ending.{up_to, whole_lines, used, has_unused_bytes, script_of, ending_from}
 use Rattle.dg_replay.specs.Fronts.{IsFront, BeginsAs, ReadsTo}
-use Rattle.dg_replay.specs.Outcome.{IsSettled, AreWhole}
+use Rattle.dg_replay.specs.Replayed.{IsSettled, AreWhole}
 use Rattle.dg_replay.proofs.NextLineLemmas.{script_line, script_fault}
 use Rattle.dg_replay.proofs.WholeLemmas.{are_whole_lines}
 

@@ -13,7 +13,7 @@ use Rattle.dg_script.specs.Script.{Script}
 use Rattle.dg_script.proofs.SpelledLemmas.{IsSpelled, is_spelled}
 use Rattle.dg_script.specs.declared.place.Place.{Place}
 use Rattle.dg_script.specs.declared.line.Line.{Line}
-use Rattle.dg_script.specs.declared.line.Line.TheVariants.{Nothing, Motes, Golden, Boards, Link, Narrow, Image, Cut, Happens, Round, Sweeps}
+use Rattle.dg_script.specs.declared.line.Line.TheVariants.{Nothing, Motes, Golden, Boards, Link, Narrow, Image, Cut, Event as EventLine, Round, Sweeps}
 use Rattle.dg_rules.specs.World.{World, first_world}
 use Rattle.dg_rules.specs.Ranges.{EventInRange}
 use Rattle.dg_rounds.specs.Rounds.{round, sweep, times}
@@ -23,13 +23,13 @@ use Rattle.dg_rules.specs.Events.{Goes, does}
 use Rattle.dg_rules.specs.Golden.{GoldenNetwork, network_world, PlaysGolden, FindsImage}
 use Rattle.dg_rules.specs.Begins.{PlaysFrom, StoresAgree, AreShaped, HoldsTo, HoldsToThen, PlaysBoards}
 use Rattle.dg_rules.specs.Promises.{StopsAgree}
-use Rattle.dg_script.specs.Items.{Item, Happens as Happened, item_by, place_behind, items_behind, items_of}
+use Rattle.dg_script.specs.Items.{Item, Applies, item_by, place_behind, items_behind, items_of}
 use Rattle.dg_replay.specs.Items.{Ground, UsesBoards, BringsNone, IsNoFrame, Beginning, beginning_of, no_beginning, next_items}
 use Rattle.dg_completion.specs.Completion.{IsEnough}
 use Rattle.dg_completion.specs.Ends.{EndsInRest, PagesCome, KeepsNewest, EndsLaw, EndsPipelineLaw}
 use Rattle.dg_completion.proofs.GrowLemmas.{all_append, all_times}
 use Rattle.dg_replay.specs.Ending.{script_of}
-use Rattle.dg_replay.specs.Outcome.{Progress, RunsTo, item_played}
+use Rattle.dg_replay.specs.Replayed.{Progress, RunsTo, item_played}
 use Rattle.dg_replay.specs.Promised.{FramesAreHonest}
 use Rattle.dg_replay.specs.Boards.{LacksImage, InSome}
 use Rattle.dg_replay.specs.Playing.{LineBegun, RunsFrom}
@@ -132,7 +132,7 @@ pub record HalvesLaws : Type 0 where
   pub boards : (table : List Row) (stores : List Store) (links : List (ℕ × ℕ)) (narrow : List Bool) (played : List Played) (v : World) (e : Event) → PlaysBoards table stores links narrow played v
       → StoresAgree table stores → AllByRecursion (HoldsToThen table) played → EventInRange (length stores) e → HoldsTo table v e → StopsAgree v e
 
-pub halves_agree : {table : List Row} → HalvesLaws → (input : List ℕ) (c : Progress table (script_of input)) (w : World) (step : Step) (reported : Bool) (more : List Item) → FramesAreHonest c → c.last ≡ Some w → c.left ≡ Happened step reported ∷ more
+pub halves_agree : {table : List Row} → HalvesLaws → (input : List ℕ) (c : Progress table (script_of input)) (w : World) (step : Step) (reported : Bool) (more : List Item) → FramesAreHonest c → c.last ≡ Some w → c.left ≡ Applies step reported ∷ more
     → HonestEvent w.table step.event → (UsesBoards c.done → HoldsTo c.ground.table w step.event) → StopsAgree w step.event
 halves_agree laws input c w step reported more honest is next here holds =
     let b = beginning_of c.ground c.done in
@@ -140,11 +140,11 @@ halves_agree laws input c w step reported more honest is next here holds =
     elim r.opens [
       | inl by ↦
           let run = golden_of c.ground c.done b c.left c.played w r by in
-          let fits : AllByRecursion (ItemInRange b.motes) (Happened step reported ∷ more) = subst (AllByRecursion (ItemInRange b.motes)) next run.left_fits in
+          let fits : AllByRecursion (ItemInRange b.motes) (Applies step reported ∷ more) = subst (AllByRecursion (ItemInRange b.motes)) next run.left_fits in
           laws.golden (ran_network run) c.played w step.event run.plays honest.frames fits.0.event here
       | inr by ↦
           let run = boards_at input c w r by in
-          let fits : AllByRecursion (ItemInRange b.motes) (Happened step reported ∷ more) = subst (AllByRecursion (ItemInRange b.motes)) next run.left_fits in
+          let fits : AllByRecursion (ItemInRange b.motes) (Applies step reported ∷ more) = subst (AllByRecursion (ItemInRange b.motes)) next run.left_fits in
           laws.boards c.ground.table c.ground.stores run.links run.narrow c.played w step.event run.plays (honest.agree by.uses) (honest.hold by.uses)
           (subst (λ (n : ℕ). EventInRange n step.event) (sym (boards_ground input c by.uses).0) fits.0.event) (holds by.uses)
     ]
@@ -155,16 +155,16 @@ abbrev HonestAlways : Item → Type 0
 HonestAlways item = (w : World) → HonestItem item w
 
 event_honest : (event : Event) (table : List Row) → BringsNone event → HonestEvent table event
-event_honest (Tick mote dt word) table none = tt
-event_honest (Hear mote dt word frame) table none = tt
-event_honest (Last from to dt word) table none = tt
-event_honest (Reset mote dt word) table none = tt
-event_honest (Inject mote image version dt word) table none = tt
-event_honest (Order mote number image version dt word) table none = tt
-event_honest (Frame mote dt word bytes) table none = absurd none
+event_honest (Tick mote dt draw) table none = tt
+event_honest (Hear mote dt draw frame) table none = tt
+event_honest (Last from to dt draw) table none = tt
+event_honest (Reset mote dt draw) table none = tt
+event_honest (Inject mote image version dt draw) table none = tt
+event_honest (Order mote number image version dt draw) table none = tt
+event_honest (Frame mote dt draw bytes) table none = absurd none
 
 abbrev QuietHonest : Event → Type 0
-QuietHonest e = HonestAlways (Happened (record { event = e; cut = None }) false)
+QuietHonest e = HonestAlways (Applies (record { event = e; cut = None }) false)
 
 quiet_honest : (l : ℕ × ℕ) → HoldsOver QuietHonest l
 quiet_honest l = record { near = λ w. tt; far = λ w. tt; there = λ w. tt; back = λ w. tt }
@@ -182,7 +182,7 @@ line_honest place (Link a b) none = tt
 line_honest place (Narrow m) none = tt
 line_honest place (Image image version name content) none = (λ w. tt, tt)
 line_honest place (Cut c) none = tt
-line_honest place (Happens event) none = (λ w. event_honest event w.table none, tt)
+line_honest place (EventLine event) none = (λ w. event_honest event w.table none, tt)
 line_honest place (Round a b) none = quiet_all HonestAlways (round a b) (round_all QuietHonest (a, b) (quiet_honest (a, b)))
 line_honest place (Sweeps n) none = quiet_all HonestAlways (times n (sweep place.links)) (all_times QuietHonest n (sweep place.links) (sweep_all QuietHonest place.links (each_honest place.links)))
 
@@ -205,7 +205,7 @@ front_honest : (items begun left : List Item) → items ≡ begun ++ left → Al
 front_honest items begun left parts all = all_front HonestAlways begun left (subst (AllByRecursion HonestAlways) parts all)
 
 line_begun_honest : (place : Place) (line : Line) (begun left : List Item) → item_by place line ≡ begun ++ left → (left ≡ [] → begun ≡ []) → AllByRecursion HonestAlways begun
-line_begun_honest place (Happens event) begun left parts within = subst (AllByRecursion HonestAlways) (sym (one_begun _ begun left parts within)) tt
+line_begun_honest place (EventLine event) begun left parts within = subst (AllByRecursion HonestAlways) (sym (one_begun _ begun left parts within)) tt
 line_begun_honest place line begun left parts within = front_honest (item_by place line) begun left parts (line_honest place line tt)
 
 begun_honest : (done rest : List Line) (begun left : List Item) → next_items done rest ≡ begun ++ left → (left ≡ [] → begun ≡ []) → AllByRecursion HonestAlways begun
@@ -230,7 +230,7 @@ ImageIsFound = (g : GoldenNetwork) (played : List Played) (v : World) (e : Event
 
 golden_finds : ImageIsFound → (b : Beginning) (left : List Item) (played : List Played) (u : World) (old new : List Device) → GoldenRun b left played u → LacksImage u left old new → ⊥
 golden_finds law b left played u old new g lacks =
-    let fits : AllByRecursion (ItemInRange b.motes) (Happened lacks.next.step lacks.next.reported ∷ lacks.next.more) = subst (AllByRecursion (ItemInRange b.motes)) lacks.next.is g.left_fits in
+    let fits : AllByRecursion (ItemInRange b.motes) (Applies lacks.next.step lacks.next.reported ∷ lacks.next.more) = subst (AllByRecursion (ItemInRange b.motes)) lacks.next.is g.left_fits in
     let finds : FindsImage (does u lacks.next.step.event) = law (ran_network g) played u lacks.next.step.event g.plays fits.0.event in
     let some : FindsImage (Goes lacks.ends.deed) = subst FindsImage lacks.ends.goes finds in
     some lacks.ends.none

@@ -9,7 +9,7 @@ use Rattle.dg_script.specs.Fitting.{FitsCut, IsGolden}
 use Rattle.dg_script.specs.Places.{first_place, place_after, none_narrow}
 use Rattle.dg_script.specs.declared.place.Place.{Place}
 use Rattle.dg_script.specs.declared.line.Line.{Line}
-use Rattle.dg_script.specs.declared.line.Line.TheVariants.{Nothing, Motes, Golden, Boards, Link, Narrow, Image, Cut, Happens, Round, Sweeps}
+use Rattle.dg_script.specs.declared.line.Line.TheVariants.{Nothing, Motes, Golden, Boards, Link, Narrow, Image, Cut, Event as EventLine, Round, Sweeps}
 use Rattle.dg_rules.specs.Sizes.{most_motes}
 use Rattle.dg_rules.specs.World.{World, first_world}
 use Rattle.dg_rules.specs.Premises.{ItemInRange, PlayedInRange, LinkFits}
@@ -19,7 +19,7 @@ use Rattle.dg_rules.specs.Begins.{AreShaped, PlaysBoards}
 use Rattle.dg_script.specs.Items.{Item, place_behind, items_behind, items_of}
 use Rattle.dg_replay.specs.Items.{Ground, UsesBoards, Beginning, begin_by, begin_behind, beginning_of, with_link, with_narrow, lacking, no_beginning, next_items}
 use Rattle.dg_completion.proofs.GrowLemmas.{all_append}
-use Rattle.dg_replay.specs.Outcome.{RunsTo, item_played}
+use Rattle.dg_replay.specs.Replayed.{RunsTo, item_played}
 use Rattle.dg_replay.proofs.ItemLemmas.{some_is}
 use Rattle.dg_replay.proofs.PlayLemmas.{false_not, later_at, second_at, link_at, narrow_at, event_at}
 use Rattle.dg_replay.proofs.LineRanges.{LinesFit, first_fits, IsBehind, not_first, not_second, not_boards, one_more, link_fits, IsKept, kept_behind, line_in_range, in_range}
@@ -79,7 +79,7 @@ module _ (motes : ℕ) (table : List Row) (stores : List Store) (g : Ground) whe
       })
   carries b place (Image image version name content ∷ lines) behind count h k = carries b place lines behind count h.3 k
   carries b place (Cut c ∷ lines) behind count h k = carries b (place_after place (Cut c)) lines (record { ready = behind.ready; some = behind.some }) count h.3 k
-  carries b place (Happens event ∷ lines) behind count h k = carries b (place_after place (Happens event)) lines (record { ready = behind.ready; some = behind.some }) count h.3 k
+  carries b place (EventLine event ∷ lines) behind count h k = carries b (place_after place (EventLine event)) lines (record { ready = behind.ready; some = behind.some }) count h.3 k
   carries b place (Round x y ∷ lines) behind count h k = carries b (place_after place (Round x y)) lines (record { ready = behind.ready; some = behind.some }) count h.3 k
   carries b place (Sweeps n ∷ lines) behind count h k = carries b (place_after place (Sweeps n)) lines (record { ready = behind.ready; some = behind.some }) count h.3 k
 
@@ -95,7 +95,7 @@ lacking_none boards place (Link x y ∷ lines) behind h = lacking_none boards (p
 lacking_none boards place (Narrow m ∷ lines) behind h = lacking_none boards (place_after place (Narrow m)) lines (record { ready = behind.ready; some = behind.some }) h.3
 lacking_none boards place (Image image version name content ∷ lines) behind h = lacking_none boards place lines behind h.3
 lacking_none boards place (Cut c ∷ lines) behind h = lacking_none boards (place_after place (Cut c)) lines (record { ready = behind.ready; some = behind.some }) h.3
-lacking_none boards place (Happens event ∷ lines) behind h = lacking_none boards (place_after place (Happens event)) lines (record { ready = behind.ready; some = behind.some }) h.3
+lacking_none boards place (EventLine event ∷ lines) behind h = lacking_none boards (place_after place (EventLine event)) lines (record { ready = behind.ready; some = behind.some }) h.3
 lacking_none boards place (Round x y ∷ lines) behind h = lacking_none boards (place_after place (Round x y)) lines (record { ready = behind.ready; some = behind.some }) h.3
 lacking_none boards place (Sweeps n ∷ lines) behind h = lacking_none boards (place_after place (Sweeps n)) lines (record { ready = behind.ready; some = behind.some }) h.3
 
@@ -155,7 +155,7 @@ begins g all b place (Link x y ∷ lines) w among count few none before alone un
 begins g all b place (Narrow m ∷ lines) w among count few none before alone uncut h is = false_not place.ready (narrow_at place m h.0).0.0 before
 begins g all b place (Image image version name content ∷ lines) w among count few none before alone uncut h is = false_not place.ready (later_at place h.0.fits).0 before
 begins g all b place (Cut c ∷ lines) w among count few none before alone uncut h is = false_not place.ready (later_at place h.0.fits).0 before
-begins g all b place (Happens event ∷ lines) w among count few none before alone uncut h is = false_not place.ready (event_at place event h.0).0 before
+begins g all b place (EventLine event ∷ lines) w among count few none before alone uncut h is = false_not place.ready (event_at place event h.0).0 before
 begins g all b place (Round x y ∷ lines) w among count few none before alone uncut h is = false_not place.ready (later_at place h.0.fits).0 before
 begins g all b place (Sweeps n ∷ lines) w among count few none before alone uncut h is = false_not place.ready (later_at place h.0.fits).0 before
 

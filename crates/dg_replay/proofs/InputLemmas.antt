@@ -16,7 +16,7 @@ use Rattle.dg_replay.specs.Ending.{script_of, has_unused_bytes, used, ending_of}
 use Rattle.dg_replay.specs.Fronts.{IsFront}
 use Rattle.dg_replay.specs.Following.{LineTaken, AllAsBefore, NextPlayed}
 use Rattle.dg_replay.specs.Near.{behind_lines}
-use Rattle.dg_replay.specs.Outcome.{Progress, IsSettled, AllRead, AllWhole, AreWhole}
+use Rattle.dg_replay.specs.Replayed.{Progress, IsSettled, AllRead, AllWhole, AreWhole}
 use Rattle.dg_replay.specs.Playing.{Ready}
 use Rattle.dg_replay.specs.Replaying.{Reached, PlayedUpTo, StopsAtText, StopsThere, IsWholeAt, StopsInTaken, ByRules}
 use Rattle.dg_replay.specs.declared.halt.Halt.{Halt}

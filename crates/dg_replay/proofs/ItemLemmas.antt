@@ -12,7 +12,7 @@ use Rattle.dg_script.specs.Places.{first_place, place_after}
 use Rattle.dg_script.specs.Report.{report_text}
 use Rattle.dg_script.specs.declared.place.Place.{Place}
 use Rattle.dg_script.specs.declared.line.Line.{Line}
-use Rattle.dg_script.specs.declared.line.Line.TheVariants.{Nothing, Motes, Golden, Boards, Link, Narrow, Image, Cut, Happens, Round, Sweeps}
+use Rattle.dg_script.specs.declared.line.Line.TheVariants.{Nothing, Motes, Golden, Boards, Link, Narrow, Image, Cut, Event as EventLine, Round, Sweeps}
 use Rattle.dg_script.specs.declared.report.Report.{Report}
 use Rattle.dg_script.specs.declared.report.Report.TheVariants as report
 use Rattle.dg_rules.specs.Sizes.{most_events}
@@ -22,9 +22,9 @@ use Rattle.dg_rules.specs.Events.{Does, Refuses, Goes, Deed, does, mote_of, dt_o
 use Rattle.dg_rules.specs.Steps.{WorldStep, DeclareStep, StepDoes, Ended, declared_as, blows, and_sent}
 use Rattle.dg_rules.specs.Runs.{Played, Plays, ItemStep}
 use Rattle.dg_rules.proofs.SiteLemmas.{site_count}
-use Rattle.dg_script.specs.Items.{Item, Declares, Happens as Happened, place_behind, item_by, items_behind, items_of}
+use Rattle.dg_script.specs.Items.{Item, Declares, Applies, place_behind, item_by, items_behind, items_of}
 use Rattle.dg_replay.specs.Items.{Ground, Beginning, begin_by, begin_behind, beginning_of, no_beginning, with_link, with_narrow, is_event, events_among}
-use Rattle.dg_replay.specs.Outcome.{RunsTo, item_played, played_text}
+use Rattle.dg_replay.specs.Replayed.{RunsTo, item_played, played_text}
 use Rattle.dg_replay.specs.Playing.{ItemsRun}
 
 pub some_is : {A : Type 0} (x y : A) → Some x ≡ Some y → x ≡ y
@@ -74,7 +74,7 @@ motes_same g h b c (Link x y ∷ lines) e = motes_same g h (begin_by g b (Link x
 motes_same g h b c (Narrow m ∷ lines) e = motes_same g h (begin_by g b (Narrow m)) (begin_by h c (Narrow m)) lines e
 motes_same g h b c (Image image version name content ∷ lines) e = motes_same g h b c lines e
 motes_same g h b c (Cut cut ∷ lines) e = motes_same g h b c lines e
-motes_same g h b c (Happens event ∷ lines) e = motes_same g h b c lines e
+motes_same g h b c (EventLine event ∷ lines) e = motes_same g h b c lines e
 motes_same g h b c (Round x y ∷ lines) e = motes_same g h b c lines e
 motes_same g h b c (Sweeps n ∷ lines) e = motes_same g h b c lines e
 
@@ -127,7 +127,7 @@ events_among-append xs ys = sum_by-append (λ x. cond (is_event x) 1 0) xs ys
 
 item_counts : (w v : World) (item : Item) (reports : List Report) → ItemStep w item v reports → Counts w v (events_among (item ∷ []))
 item_counts w v (Declares row) reports step = declared_same w v row reports step
-item_counts w v (Happened x reported) reports step = step_counts w v x step.0 step.1
+item_counts w v (Applies x reported) reports step = step_counts w v x step.0 step.1
 
 pub plays_counts : (w v : World) (ps : List Played) → Plays w ps v → Counts w v (events_among (map item_played ps))
 unfolding Plays
@@ -184,7 +184,7 @@ no_events_by g b (Link x y) h = no_events_set (with_link (x, y)) (λ w. refl) b.
 no_events_by g b (Narrow m) h = no_events_set (with_narrow m) (λ w. refl) b.world h
 no_events_by g b (Image image version name content) h = h
 no_events_by g b (Cut c) h = h
-no_events_by g b (Happens event) h = h
+no_events_by g b (EventLine event) h = h
 no_events_by g b (Round x y) h = h
 no_events_by g b (Sweeps n) h = h
 

@@ -9,14 +9,14 @@ use Rattle.dg_base.specs.declared.events.Step.{Step}
 use Rattle.dg_object.specs.Object.{Row}
 use Rattle.dg_nor.specs.Device.{Device}
 use Rattle.dg_nor.specs.Fuse.{beneath_of}
-use Rattle.dg_script.specs.Items.{Item, Declares, Happens as Happened}
+use Rattle.dg_script.specs.Items.{Item, Declares, Applies}
 use Rattle.dg_script.specs.Report.{report_text}
 use Rattle.dg_script.specs.declared.report.Report.{Report}
 use Rattle.dg_rules.specs.Ranges.{EventInRange, StepInRange}
 use Rattle.dg_rules.specs.Steps.{DeclareStep, declared_as}
 use Rattle.dg_script.specs.declared.report.Report.TheVariants as report
 use Rattle.dg_volume.specs.Table.{row_at}
-use Rattle.dg_rules.specs.Changes.{is_told, is_taken, declared_lines}
+use Rattle.dg_rules.specs.Changes.{is_reported, is_taken, declared_lines}
 use Rattle.dg_rules.specs.World.{World}
 use Rattle.dg_rules.specs.Events.{mote_of}
 use Rattle.dg_rules.specs.Sizes.{most_events}
@@ -31,7 +31,7 @@ use Rattle.dg_world.specs.declared.world.World.{World as KeptWorld}
 use Rattle.dg_replay.specs.Boards.{WorldStands, ItemStops, LacksImage, EventNext}
 use Rattle.dg_replay.specs.Playing.{KeepsMotes, ItemsRun, ItemsPlayed, ItemsBegun, ItemsPlayedAs, IsOneTooMany, StopsInItem}
 use Rattle.dg_replay.specs.declared.stop.Stop.{Stop}
-use Rattle.dg_replay.specs.Stages.{boards_told}
+use Rattle.dg_replay.specs.Stages.{boards_reported}
 use Rattle.dg_replay.specs.declared.stop.Stop.TheVariants.{Memory, BadInput, WriteFault, FlashFault, TooMany, NoBoard, NoImage, NotAVolume}
 use Rattle.dg_replay.proofs.ItemLemmas.{items_run_none, items_run_one, items_run_join, declared_same, step_counts}
 use Rattle.dg_replay.proofs.BoardLemmas.{boards_through, caused_through, there}
@@ -66,7 +66,7 @@ stands_next u z v2 mote initial old new within count kept one calm b =
           one.others m (other_than m mote (length u.sites) within far) ∙ b.others m far;
     }
 
-flash_next : (u : World) (x : Step) (reported : Bool) (more : List Item) (board : ℕ) (initial old new : List Device) → u.events < most_events → mote_of x.event < length u.sites → FlashAt u x board old new → WorldStands u initial old → StopsInItem u (Happened x reported ∷ more) initial new
+flash_next : (u : World) (x : Step) (reported : Bool) (more : List Item) (board : ℕ) (initial old new : List Device) → u.events < most_events → mote_of x.event < length u.sites → FlashAt u x board old new → WorldStands u initial old → StopsInItem u (Applies x reported ∷ more) initial new
 flash_next u x reported more board initial old new few within f b =
     let was : slice_get initial board ≡ Some (get_or initial board f.before) = there old initial board f.before (sym b.all.count) f.was in
     record {
@@ -110,19 +110,19 @@ begun_all w v items text P runs there =
 
 pub played_none : (w : World) (kept : KeptWorld) (initial now : List Device) (told : List ℕ) → IsWorld kept now w → WorldStands w initial now → ItemsPlayed w [] kept initial now told told
 played_none w kept initial now told is stands =
-    record { world = w; text = []; runs = items_run_none w is.few_events; kept_now = is; boards = stands; told_now = sym (append-nil told) }
+    record { world = w; text = []; runs = items_run_none w is.few_events; kept_now = is; boards = stands; report_now = sym (append-nil told) }
 
 sites_same : (k : KeptWorld) (boards : List Device) (w z : World) → IsWorld k boards w → IsWorld k boards z → length w.sites ≡ length z.sites
 sites_same k boards w z a b = a.motes ∙ sym b.motes
 
 event_within : (n : ℕ) (event : Event) → EventInRange n event → mote_of event < n
-event_within n (Tick mote dt word) h = h
-event_within n (Hear mote dt word frame) h = h.0
-event_within n (Last from to dt word) h = h.1
-event_within n (Reset mote dt word) h = h
-event_within n (Inject mote image version dt word) h = h.0
-event_within n (Order mote number image version dt word) h = h.0
-event_within n (Frame mote dt word bytes) h = h.0
+event_within n (Tick mote dt draw) h = h
+event_within n (Hear mote dt draw frame) h = h.0
+event_within n (Last from to dt draw) h = h.1
+event_within n (Reset mote dt draw) h = h
+event_within n (Inject mote image version dt draw) h = h.0
+event_within n (Order mote number image version dt draw) h = h.0
+event_within n (Frame mote dt draw bytes) h = h.0
 
 -- a world in which the step may be applied
 abbrev MayStep : KeptWorld → List Device → Step → Type 0
@@ -131,33 +131,33 @@ MayStep k old x = (z : World) × IsWorld k old z × StepInRange (length z.sites)
 step_within : (k : KeptWorld) (old : List Device) (w : World) (x : Step) → IsWorld k old w → MayStep k old x → mote_of x.event < length w.sites
 step_within k old w x is (z, at, fits) = subst (λ (n : ℕ). mote_of x.event < n) (sites_same k old z w at is) (event_within (length z.sites) x.event fits.event)
 
-applied_runs : (w : World) (x : Step) (reported : Bool) (v v2 : KeptWorld) (old new : List Device) (before reports : List Report) → before ≡ [] → (a : Applied w x reported (deployed v old before) (deployed v2 new reports)) → ItemsRun w (Happened x reported ∷ []) a.world (report_text reports)
+applied_runs : (w : World) (x : Step) (reported : Bool) (v v2 : KeptWorld) (old new : List Device) (before reports : List Report) → before ≡ [] → (a : Applied w x reported (deployed v old before) (deployed v2 new reports)) → ItemsRun w (Applies x reported ∷ []) a.world (report_text reports)
 applied_runs w x reported v v2 old new before reports none a =
-    let told : reports ≡ filter (is_told reported) a.reports = a.told_now ∙ ap (λ (rs : List Report). rs ++ filter (is_told reported) a.reports) none in
-    items_run_one w a.world (Happened x reported) reports (a.reports, a.step, told) a.stood.few_events
+    let told : reports ≡ filter (is_reported reported) a.reports = a.report_now ∙ ap (λ (rs : List Report). rs ++ filter (is_reported reported) a.reports) none in
+    items_run_one w a.world (Applies x reported) reports (a.reports, a.step, told) a.stood.few_events
 
 applied_stands : (w : World) (x : Step) (reported : Bool) (v v2 : KeptWorld) (initial old new : List Device) (before reports : List Report) → MayStep v old x → IsWorld v old w → WorldStands w initial old → (a : Applied w x reported (deployed v old before) (deployed v2 new reports)) → WorldStands a.world initial new
 applied_stands w x reported v v2 initial old new before reports may is stands a =
     stands_next w a.world v2 (mote_of x.event) initial old new (step_within v old w x is may) (step_counts w a.world x a.reports a.step).sites a.stood a.boards a.calm stands
 
 -- an event was applied, and told
-applied_played : (w : World) (x : Step) (reported : Bool) (v v2 : KeptWorld) (initial old new : List Device) (before reports : List Report) (told_before told : List ℕ) → before ≡ [] → MayStep v old x → Applied w x reported (deployed v old before) (deployed v2 new reports)
-    → told ≡ told_before ++ report_text reports → IsWorld v old w → WorldStands w initial old → ItemsPlayed w (Happened x reported ∷ []) v2 initial new told_before told
-applied_played w x reported v v2 initial old new before reports told_before told none may a is_told is stands =
+applied_played : (w : World) (x : Step) (reported : Bool) (v v2 : KeptWorld) (initial old new : List Device) (before reports : List Report) (report_before told : List ℕ) → before ≡ [] → MayStep v old x → Applied w x reported (deployed v old before) (deployed v2 new reports)
+    → told ≡ report_before ++ report_text reports → IsWorld v old w → WorldStands w initial old → ItemsPlayed w (Applies x reported ∷ []) v2 initial new report_before told
+applied_played w x reported v v2 initial old new before reports report_before told none may a is_reported is stands =
     record {
       world = a.world;
       text = report_text reports;
       runs = applied_runs w x reported v v2 old new before reports none a;
       kept_now = a.stood;
       boards = applied_stands w x reported v v2 initial old new before reports may is stands a;
-      told_now = is_told;
+      report_now = is_reported;
     }
 
 -- it was applied, and there was no memory to tell it
 pub applied_untold : (w : World) (x : Step) (reported : Bool) (v v2 : KeptWorld) (initial old new : List Device) (before reports : List Report) → before ≡ [] → MayStep v old x → Applied w x reported (deployed v old before) (deployed v2 new reports) → IsWorld v old w → WorldStands w initial old
-    → ItemsBegun w (Happened x reported ∷ []) (λ u left text. WorldStands u initial new)
+    → ItemsBegun w (Applies x reported ∷ []) (λ u left text. WorldStands u initial new)
 applied_untold w x reported v v2 initial old new before reports none may a is stands =
-    begun_all w a.world (Happened x reported ∷ []) (report_text reports) (λ u left text. WorldStands u initial new) (applied_runs w x reported v v2 old new before reports none a) (applied_stands w x reported v v2 initial old new before reports may is stands a)
+    begun_all w a.world (Applies x reported ∷ []) (report_text reports) (λ u left text. WorldStands u initial new) (applied_runs w x reported v v2 old new before reports none a) (applied_stands w x reported v v2 initial old new before reports may is stands a)
 
 -- there was no memory to apply it
 pub nothing_applied : (w : World) (items : List Item) (v : KeptWorld) (initial old new : List Device) → IsWorld v old w → new ≡ old → WorldStands w initial old → ItemsBegun w items (λ u left text. WorldStands u initial new)
@@ -165,18 +165,18 @@ nothing_applied w items v initial old new is same stands =
     begun_none w items (λ u left text. WorldStands u initial new) is.few_events (subst (λ (ds : List Device). WorldStands w initial ds) (sym same) stands)
 
 -- it was one too many
-pub not_applied : (w : World) (x : Step) (reported : Bool) (v : KeptWorld) (initial old new : List Device) (told_before told : List ℕ) → IsWorld v old w → w.events ≡ most_events → new ≡ old → told ≡ told_before → WorldStands w initial old
-    → ItemsBegun w (Happened x reported ∷ []) (λ u left text. IsOneTooMany u left × WorldStands u initial new × (told ≡ told_before ++ text))
-not_applied w x reported v initial old new told_before told is full same untold stands =
-    begun_none w (Happened x reported ∷ []) (λ u left text. IsOneTooMany u left × WorldStands u initial new × (told ≡ told_before ++ text)) is.few_events
-    (record { full = full; next = record { step = x; reported = reported; more = []; is = refl } }, subst (λ (ds : List Device). WorldStands w initial ds) (sym same) stands, untold ∙ sym (append-nil told_before))
+pub not_applied : (w : World) (x : Step) (reported : Bool) (v : KeptWorld) (initial old new : List Device) (report_before told : List ℕ) → IsWorld v old w → w.events ≡ most_events → new ≡ old → told ≡ report_before → WorldStands w initial old
+    → ItemsBegun w (Applies x reported ∷ []) (λ u left text. IsOneTooMany u left × WorldStands u initial new × (told ≡ report_before ++ text))
+not_applied w x reported v initial old new report_before told is full same untold stands =
+    begun_none w (Applies x reported ∷ []) (λ u left text. IsOneTooMany u left × WorldStands u initial new × (told ≡ report_before ++ text)) is.few_events
+    (record { full = full; next = record { step = x; reported = reported; more = []; is = refl } }, subst (λ (ds : List Device). WorldStands w initial ds) (sym same) stands, untold ∙ sym (append-nil report_before))
 
 -- a board stopped in it
-pub stopped_in : (w : World) (x : Step) (reported : Bool) (v : KeptWorld) (board : ℕ) (initial old new : List Device) (told_before told : List ℕ) → MayStep v old x → IsWorld v old w → w.events < most_events → FlashAt w x board old new → told ≡ told_before → WorldStands w initial old
-    → ItemsBegun w (Happened x reported ∷ []) (λ u left text. StopsInItem u left initial new × (told ≡ told_before ++ text))
-stopped_in w x reported v board initial old new told_before told may is few f untold stands =
-    begun_none w (Happened x reported ∷ []) (λ u left text. StopsInItem u left initial new × (told ≡ told_before ++ text)) is.few_events
-    (flash_next w x reported [] board initial old new few (step_within v old w x is may) f stands, untold ∙ sym (append-nil told_before))
+pub stopped_in : (w : World) (x : Step) (reported : Bool) (v : KeptWorld) (board : ℕ) (initial old new : List Device) (report_before told : List ℕ) → MayStep v old x → IsWorld v old w → w.events < most_events → FlashAt w x board old new → told ≡ report_before → WorldStands w initial old
+    → ItemsBegun w (Applies x reported ∷ []) (λ u left text. StopsInItem u left initial new × (told ≡ report_before ++ text))
+stopped_in w x reported v board initial old new report_before told may is few f untold stands =
+    begun_none w (Applies x reported ∷ []) (λ u left text. StopsInItem u left initial new × (told ≡ report_before ++ text)) is.few_events
+    (flash_next w x reported [] board initial old new few (step_within v old w x is may) f stands, untold ∙ sym (append-nil report_before))
 
 -- it found no image to start
 ended_stands : (w : World) (x : Step) (v : KeptWorld) (initial old new : List Device) → MayStep v old x → IsWorld v old w → (e : RunEnded w x old new) → WorldStands w initial old → WorldStands e.world initial new
@@ -194,18 +194,18 @@ ended_stands w x v initial old new may is e b =
     }
 
 pub ended_in : (w : World) (x : Step) (reported : Bool) (v : KeptWorld) (initial old new : List Device) (told : List ℕ) → MayStep v old x → IsWorld v old w → RunEnded w x old new → WorldStands w initial old
-    → ItemsBegun w (Happened x reported ∷ []) (λ u left text. LacksImage u left initial new × (told ≡ told ++ text))
+    → ItemsBegun w (Applies x reported ∷ []) (λ u left text. LacksImage u left initial new × (told ≡ told ++ text))
 ended_in w x reported v initial old new told may is e stands =
-    begun_none w (Happened x reported ∷ []) (λ u left text. LacksImage u left initial new × (told ≡ told ++ text)) is.few_events
+    begun_none w (Applies x reported ∷ []) (λ u left text. LacksImage u left initial new × (told ≡ told ++ text)) is.few_events
     (record { next = record { step = x; reported = reported; more = []; is = refl }; after = e.world; ends = e.ends; boards = ended_stands w x v initial old new may is e stands }, sym (append-nil told))
 
--- it was applied, and this came of boards_told it
-pub told_as : (r : Result (Unit {0}) Stop) (w : World) (x : Step) (reported : Bool) (v v2 : KeptWorld) (initial old new : List Device) (before reports : List Report) (told_before told : List ℕ) → before ≡ [] → MayStep v old x → Applied w x reported (deployed v old before) (deployed v2 new reports)
-    → OnOk r (told ≡ told_before ++ report_text reports) → OnErr r (r ≡ Err Memory) → IsWorld v old w → WorldStands w initial old → ItemsPlayedAs r w (Happened x reported ∷ []) v2 initial told_before (boards_told new told)
-told_as (Ok u) w x reported v v2 initial old new before reports told_before told none may a is_told memory is stands = applied_played w x reported v v2 initial old new before reports told_before told none may a is_told is stands
-told_as (Err stop) w x reported v v2 initial old new before reports told_before told none may a is_told memory is stands =
+-- it was applied, and this came of reporting it
+pub told_as : (r : Result (Unit {0}) Stop) (w : World) (x : Step) (reported : Bool) (v v2 : KeptWorld) (initial old new : List Device) (before reports : List Report) (report_before told : List ℕ) → before ≡ [] → MayStep v old x → Applied w x reported (deployed v old before) (deployed v2 new reports)
+    → OnOk r (told ≡ report_before ++ report_text reports) → OnErr r (r ≡ Err Memory) → IsWorld v old w → WorldStands w initial old → ItemsPlayedAs r w (Applies x reported ∷ []) v2 initial report_before (boards_reported new told)
+told_as (Ok u) w x reported v v2 initial old new before reports report_before told none may a is_reported memory is stands = applied_played w x reported v v2 initial old new before reports report_before told none may a is_reported is stands
+told_as (Err stop) w x reported v v2 initial old new before reports report_before told none may a is_reported memory is stands =
     let same : stop ≡ Memory = err_is stop Memory memory in
-    subst (λ (e : Stop). ItemsPlayedAs (Err e) w (Happened x reported ∷ []) v2 initial told_before (boards_told new told)) (sym same) (applied_untold w x reported v v2 initial old new before reports none may a is stands)
+    subst (λ (e : Stop). ItemsPlayedAs (Err e) w (Applies x reported ∷ []) v2 initial report_before (boards_reported new told)) (sym same) (applied_untold w x reported v v2 initial old new before reports none may a is stands)
 
 -- the world that is kept goes on behind an event
 pub goes_on : (r : Result (Unit {0}) Stop) (k k2 : KeptWorld) (old new : List Device) → ((w : World) → IsWorld k old w → (u : World) × IsWorld k2 new u × (length u.sites ≡ length w.sites)) → KeepsMotes r k k2 old new
@@ -229,25 +229,25 @@ declared_stands w z row reports v2 initial now step kept b =
       others = λ m past. b.others m (omega (arith, past, same));
     }
 
-pub declared_played : (w z : World) (row : Row) (reports : List Report) (v2 : KeptWorld) (initial now : List Device) (told_before told : List ℕ) → DeclareStep w row z reports → IsWorld v2 now z → told ≡ told_before ++ report_text reports → WorldStands w initial now
-    → ItemsPlayed w (Declares row ∷ []) v2 initial now told_before told
-declared_played w z row reports v2 initial now told_before told step kept is_told b =
+pub declared_played : (w z : World) (row : Row) (reports : List Report) (v2 : KeptWorld) (initial now : List Device) (report_before told : List ℕ) → DeclareStep w row z reports → IsWorld v2 now z → told ≡ report_before ++ report_text reports → WorldStands w initial now
+    → ItemsPlayed w (Declares row ∷ []) v2 initial now report_before told
+declared_played w z row reports v2 initial now report_before told step kept is_reported b =
     record {
       world = z;
       text = report_text reports;
       runs = items_run_one w z (Declares row) reports step kept.few_events;
       kept_now = kept;
       boards = declared_stands w z row reports v2 initial now step kept b;
-      told_now = is_told;
+      report_now = is_reported;
     }
 
--- it was declared with another name or content, and this came of boards_told it
-pub taken_as : (r : Result (Unit {0}) Stop) (w : World) (row : Row) (v2 : KeptWorld) (initial now : List Device) (reports : List Report) (told_before told : List ℕ) → DeclareStep w row w reports → OnOk r (told ≡ told_before ++ report_text reports) → OnErr r (r ≡ Err Memory)
-    → IsWorld v2 now w → WorldStands w initial now → ItemsPlayedAs r w (Declares row ∷ []) v2 initial told_before (boards_told now told)
-taken_as (Ok u) w row v2 initial now reports told_before told step is_told memory is stands = declared_played w w row reports v2 initial now told_before told step is is_told stands
-taken_as (Err stop) w row v2 initial now reports told_before told step is_told memory is stands =
+-- it was declared with another name or content, and this came of reporting it
+pub taken_as : (r : Result (Unit {0}) Stop) (w : World) (row : Row) (v2 : KeptWorld) (initial now : List Device) (reports : List Report) (report_before told : List ℕ) → DeclareStep w row w reports → OnOk r (told ≡ report_before ++ report_text reports) → OnErr r (r ≡ Err Memory)
+    → IsWorld v2 now w → WorldStands w initial now → ItemsPlayedAs r w (Declares row ∷ []) v2 initial report_before (boards_reported now told)
+taken_as (Ok u) w row v2 initial now reports report_before told step is_reported memory is stands = declared_played w w row reports v2 initial now report_before told step is is_reported stands
+taken_as (Err stop) w row v2 initial now reports report_before told step is_reported memory is stands =
     let same : stop ≡ Memory = err_is stop Memory memory in
-    subst (λ (e : Stop). ItemsPlayedAs (Err e) w (Declares row ∷ []) v2 initial told_before (boards_told now told)) (sym same) (begun_none w (Declares row ∷ []) (λ u left text. WorldStands u initial now) is.few_events stands)
+    subst (λ (e : Stop). ItemsPlayedAs (Err e) w (Declares row ∷ []) v2 initial report_before (boards_reported now told)) (sym same) (begun_none w (Declares row ∷ []) (λ u left text. WorldStands u initial now) is.few_events stands)
 
 -- a row was declared that is not taken: nothing is told
 pub declared_step : (o : Option Row) (w : World) (row : Row) → row_at w.declared row.image row.version ≡ o → is_taken o row ≡ false → DeclareStep w row (declared_as o w row) []
@@ -273,7 +273,7 @@ lacks_more left more w initial now h = record { next = next_more left more h.nex
 stops_more : (left more : List Item) (w : World) (board : ℕ) (image : List ℕ) (old new : List Device) → ItemStops left (Some w) board image old new → ItemStops (left ++ more) (Some w) board image old new
 stops_more [] more w board image old new h = absurd h
 stops_more (Declares row ∷ left) more w board image old new h = absurd h
-stops_more (Happened x reported ∷ left) more w board image old new h = h
+stops_more (Applies x reported ∷ left) more w board image old new h = h
 
 begun_later : (w u : World) (xs ys more whole : List Item) (before : List ℕ) (P Q : World → List Item → List ℕ → Type 0) → ItemsRun w xs u before → ItemsBegun u ys P → whole ≡ xs ++ (ys ++ more)
     → ((v : World) (left : List Item) (text : List ℕ) → P v left text → Q v (left ++ more) (before ++ text)) → ItemsBegun w whole Q
@@ -297,24 +297,24 @@ played_join w xs ys k k2 initial mid now t0 t1 t2 a b =
       runs = items_run_join w a.world b.world xs ys a.text b.text a.runs b.runs;
       kept_now = b.kept_now;
       boards = b.boards;
-      told_now = b.told_now ∙ ap (λ (t : List ℕ). t ++ b.text) a.told_now ∙ append_assoc t0 a.text b.text;
+      report_now = b.report_now ∙ ap (λ (t : List ℕ). t ++ b.text) a.report_now ∙ append_assoc t0 a.text b.text;
     }
 
 -- one part was played, and another stopped
-pub stopped_later : (stop : Stop) (w : World) (xs ys more whole : List Item) (k k2 : KeptWorld) (initial mid now : List Device) (t0 t1 t2 : List ℕ) (a : ItemsPlayed w xs k initial mid t0 t1) → ItemsPlayedAs (Err stop) a.world ys k2 initial t1 (boards_told now t2)
-    → whole ≡ xs ++ (ys ++ more) → ItemsPlayedAs (Err stop) w whole k2 initial t0 (boards_told now t2)
+pub stopped_later : (stop : Stop) (w : World) (xs ys more whole : List Item) (k k2 : KeptWorld) (initial mid now : List Device) (t0 t1 t2 : List ℕ) (a : ItemsPlayed w xs k initial mid t0 t1) → ItemsPlayedAs (Err stop) a.world ys k2 initial t1 (boards_reported now t2)
+    → whole ≡ xs ++ (ys ++ more) → ItemsPlayedAs (Err stop) w whole k2 initial t0 (boards_reported now t2)
 unfolding next_more
 stopped_later Memory w xs ys more whole k k2 initial mid now t0 t1 t2 a b is =
     begun_later w a.world xs ys more whole a.text (λ v left text. WorldStands v initial now) (λ v left text. WorldStands v initial now) a.runs b is (λ v left text h. h)
 stopped_later TooMany w xs ys more whole k k2 initial mid now t0 t1 t2 a b is =
     begun_later w a.world xs ys more whole a.text (λ v left text. IsOneTooMany v left × WorldStands v initial now × (t2 ≡ t1 ++ text)) (λ v left text. IsOneTooMany v left × WorldStands v initial now × (t2 ≡ t0 ++ text)) a.runs b is
-    (λ v left text h. (record { full = h.0.full; next = next_more left more h.0.next }, h.1, h.2 ∙ ap (λ (t : List ℕ). t ++ text) a.told_now ∙ append_assoc t0 a.text text))
+    (λ v left text h. (record { full = h.0.full; next = next_more left more h.0.next }, h.1, h.2 ∙ ap (λ (t : List ℕ). t ++ text) a.report_now ∙ append_assoc t0 a.text text))
 stopped_later FlashFault w xs ys more whole k k2 initial mid now t0 t1 t2 a b is =
     begun_later w a.world xs ys more whole a.text (λ v left text. StopsInItem v left initial now × (t2 ≡ t1 ++ text)) (λ v left text. StopsInItem v left initial now × (t2 ≡ t0 ++ text)) a.runs b is
-    (λ v left text h. (record { stopped = h.0.stopped; there = stops_more left more v h.0.stopped.board h.0.stopped.after.image initial now h.0.there }, h.1 ∙ ap (λ (t : List ℕ). t ++ text) a.told_now ∙ append_assoc t0 a.text text))
+    (λ v left text h. (record { stopped = h.0.stopped; there = stops_more left more v h.0.stopped.board h.0.stopped.after.image initial now h.0.there }, h.1 ∙ ap (λ (t : List ℕ). t ++ text) a.report_now ∙ append_assoc t0 a.text text))
 stopped_later NoImage w xs ys more whole k k2 initial mid now t0 t1 t2 a b is =
     begun_later w a.world xs ys more whole a.text (λ v left text. LacksImage v left initial now × (t2 ≡ t1 ++ text)) (λ v left text. LacksImage v left initial now × (t2 ≡ t0 ++ text)) a.runs b is
-    (λ v left text h. (lacks_more left more v initial now h.0, h.1 ∙ ap (λ (t : List ℕ). t ++ text) a.told_now ∙ append_assoc t0 a.text text))
+    (λ v left text h. (lacks_more left more v initial now h.0, h.1 ∙ ap (λ (t : List ℕ). t ++ text) a.report_now ∙ append_assoc t0 a.text text))
 stopped_later NotAVolume w xs ys more whole k k2 initial mid now t0 t1 t2 a b is = absurd b
 stopped_later (NoBoard motes boards) w xs ys more whole k k2 initial mid now t0 t1 t2 a b is = absurd b
 stopped_later (BadInput n fault) w xs ys more whole k k2 initial mid now t0 t1 t2 a b is = absurd b

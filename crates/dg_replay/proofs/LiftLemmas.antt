@@ -8,7 +8,7 @@ use Rattle.dg_object.specs.Object.{Row}
 use Rattle.dg_rules.specs.World.{World}
 use Rattle.dg_script.specs.Sizes.{most_used_bytes}
 use Rattle.dg_rules.specs.Runs.{Played}
-use Rattle.dg_script.specs.Items.{Item, Happens as Happened}
+use Rattle.dg_script.specs.Items.{Item, Applies}
 use Rattle.dg_script.specs.Places.{first_place}
 use Rattle.dg_script.specs.Script.{Script, script_from}
 use Rattle.dg_script.specs.declared.fault.LineFault.{LineFault}
@@ -18,8 +18,8 @@ use Rattle.dg_replay.specs.Boards.{EventNext, InSome, LacksImage, BoardsStand, S
 use Rattle.dg_replay.specs.Items.{motes_in, lacking, next_items}
 use Rattle.dg_replay.specs.Ending.{script_of}
 use Rattle.dg_replay.specs.Fronts.{IsFront, BeginsAs}
-use Rattle.dg_replay.specs.Outcome.{Progress, played_text, AtTooMany, BoardsLeft, AreWhole, NextIsWhole, DoneIsWhole}
-use Rattle.dg_replay.specs.Replaying.{PlayedUpTo, HasFew, ToldBefore, StopsThere, StopsInTaken}
+use Rattle.dg_replay.specs.Replayed.{Progress, played_text, AtTooMany, BoardsLeft, AreWhole, NextIsWhole, DoneIsWhole}
+use Rattle.dg_replay.specs.Replaying.{PlayedUpTo, HasFew, ReportedBefore, StopsThere, StopsInTaken}
 use Rattle.dg_replay.specs.declared.stop.Stop.{Stop}
 use Rattle.dg_replay.specs.Stages.{span, bytes_taken}
 use Rattle.dg_replay.specs.declared.stop.Stop.TheVariants.{Memory, BadInput, WriteFault, FlashFault, TooMany, NoBoard, NoImage, NotAVolume}
@@ -67,7 +67,7 @@ stopped_on done [] more begun left last old new e some s = absurd (some (none_be
 stopped_on done (line ∷ rest) more begun left last old new e some s = record { stopped = s.stopped; there = s.there }
 
 no_items : {A : Type 0} (xs ys : List Item) → EventNext ys → [] ≡ xs ++ ys → A
-no_items [] ys e none = absurd (let f : [] ≡ Happened e.step e.reported ∷ e.more = none ∙ e.is in cc)
+no_items [] ys e none = absurd (let f : [] ≡ Applies e.step e.reported ∷ e.more = none ∙ e.is in cc)
 no_items (x ∷ xs) ys e none = absurd (cc)
 
 lacks_rest : (done rest more : List Line) (begun left : List Item) (w : World) (old new : List Device) → next_items done rest ≡ begun ++ left → LacksImage w left old new → LacksImage w (left_of done rest more left) old new
@@ -84,7 +84,7 @@ left_there b c initial now (inr (inr (inr (uses, lacks)))) = inr (inr (inr (uses
 left_there b c initial now (inr (inr (inl lacking))) = inr (inr (inl (record { more = lacking.more ++ b.rest; next = ap (λ (ls : List Line). ls ++ b.rest) lacking.next; there = lacking.there })))
 left_there b c initial now (inr (inl (some, stop))) = inr (inl (some, stopped_on c.done c.rest b.rest c.begun c.left c.last initial now c.parts some stop))
 
-told_there : {table : List Row} {first script : Script} (b : BeginsAs first script) (c : Progress table first) (line : ℕ) (text : List ℕ) → ToldBefore line c text → ToldBefore line (lifted b c) text
+told_there : {table : List Row} {first script : Script} (b : BeginsAs first script) (c : Progress table first) (line : ℕ) (text : List ℕ) → ReportedBefore line c text → ReportedBefore line (lifted b c) text
 told_there b c line text t = record { lines = t.lines; within = t.within; behind = t.behind; more = t.more; told = t.told }
 
 many_on : (done rest more : List Line) (begun left : List Item) (played : List Played) → next_items done rest ≡ begun ++ left → AtTooMany left played → AtTooMany (left_of done rest more left) played

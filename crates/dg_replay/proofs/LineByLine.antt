@@ -14,7 +14,7 @@ use Rattle.dg_script.specs.declared.line.Line.{Line}
 use Rattle.dg_replay.specs.Fronts.{IsFront}
 use Rattle.dg_replay.specs.Playing.{Stood}
 use Rattle.dg_replay.specs.Near.{behind_line, behind_lines}
-use Rattle.dg_replay.specs.Replaying.{TextTold, TextAnswer, Reached, StopsThere}
+use Rattle.dg_replay.specs.Replaying.{TextReported, TextAnswer, Reached, StopsThere}
 use Rattle.dg_replay.specs.declared.player.Player.{Player}
 use Rattle.dg_replay.specs.Stages.{based_on, done_so_far, replay_state, line_read, span}
 use Rattle.dg_replay.specs.declared.stop.Stop.{Stop}
@@ -40,7 +40,7 @@ not_feed bytes h k d within = ne_eqb (get_or bytes k d) 10 (h k d within)
 
 -- the text of one more line
 one_text : (text line : List ℕ) → IsLine text line → lines line ≡ text ∷ []
-one_text text line l = ap lines l.ended ∙ lines-ended l.before [] (not_feed l.before l.whole) ∙ ap (λ (t : List ℕ). t ∷ []) (sym l.told)
+one_text text line l = ap lines l.ended ∙ lines-ended l.before [] (not_feed l.before l.whole) ∙ ap (λ (t : List ℕ). t ∷ []) (sym l.line_report)
 
 pub texts_next : (front text line : List ℕ) (more : List (List ℕ)) → IsFront front → IsLine text line → lines (front ++ line) ++ more ≡ lines front ++ text ∷ more
 texts_next front text line more is l =
@@ -54,9 +54,9 @@ pub behind_more : (front text line : List ℕ) (given : ℕ) → ((more : List �
 behind_more front text line given behind l more =
     behind_next given ((front ++ line) ++ more) ∙ ap behind_line (ap (behind_lines given) (append_assoc front line more) ∙ behind (line ++ more)) ∙ behind_whole text line more l
 
--- one more line was played, and what is told of it was written
+-- one more line was played, and what is reported of it was written
 pub front_next : (front text line : List ℕ) (given : ℕ) (p q : Player) (initial old now : List Device) (before mid after : Option (List ℕ)) → FrontPlayed front given p initial old before mid → IsLine text line
-    → ((done : List Line) (w : Option World) (table : List Row) → Stood p done w initial old → TextTold (based_on table initial) text (done_so_far done w) (replay_state p old mid) (replay_state q now after)) → FrontPlayed (front ++ line) (given + 1) q initial now before after
+    → ((done : List Line) (w : Option World) (table : List Row) → Stood p done w initial old → TextReported (based_on table initial) text (done_so_far done w) (replay_state p old mid) (replay_state q now after)) → FrontPlayed (front ++ line) (given + 1) q initial now before after
 front_next front text line given p q initial old now before mid after f l told = record {
   is = front_more front text line l;
   behind = behind_more front text line given f.behind l;

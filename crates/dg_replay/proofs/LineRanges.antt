@@ -14,11 +14,11 @@ use Rattle.dg_script.proofs.SpelledLemmas.{IsSpelled, is_spelled}
 use Rattle.dg_script.specs.declared.fault.LineFault.{LineFault}
 use Rattle.dg_script.specs.declared.place.Place.{Place}
 use Rattle.dg_script.specs.declared.line.Line.{Line}
-use Rattle.dg_script.specs.declared.line.Line.TheVariants.{Nothing, Motes, Golden, Boards, Link, Narrow, Image, Cut, Happens, Round, Sweeps}
+use Rattle.dg_script.specs.declared.line.Line.TheVariants.{Nothing, Motes, Golden, Boards, Link, Narrow, Image, Cut, Event as EventLine, Round, Sweeps}
 use Rattle.dg_rules.specs.Ranges.{EventInRange, CutInRange}
 use Rattle.dg_rounds.specs.Rounds.{round, sweep, times, paced, passed}
 use Rattle.dg_rules.specs.Premises.{IsDeclared, ItemInRange, LinkFits}
-use Rattle.dg_script.specs.Items.{Item, Happens as Happened, unreported, item_by, place_behind, items_behind}
+use Rattle.dg_script.specs.Items.{Item, Applies, unreported, item_by, place_behind, items_behind}
 use Rattle.dg_completion.proofs.GrowLemmas.{all_append, all_replicate, all_times, all_map}
 use Rattle.dg_replay.proofs.PlayLemmas.{false_not, second_at}
 
@@ -76,13 +76,13 @@ not_boards place ready h = false_not place.ready ready (second_at place h.fits).
 -- ---- items in their ranges
 
 pub event_fits : (motes : ℕ) (event : Event) → FitsEvent motes event → IsPlayedEvent event → EventInRange motes event
-event_fits motes (Tick mote dt word) h played = h.0
-event_fits motes (Hear mote dt word frame) h played = (h.0, h.2.counted)
-event_fits motes (Last from to dt word) h played = (h.0.first, h.0.second, λ same. h.0.other (sym same))
-event_fits motes (Reset mote dt word) h played = h.0
-event_fits motes (Inject mote image version dt word) h played = (h.0, omega (arith, h.1.image), h.1.version)
-event_fits motes (Order mote number image version dt word) h played = (h.0, h.1.counted, h.1.fits, omega (arith, h.2.image), h.2.version, h.2.version_fits)
-event_fits motes (Frame mote dt word bytes) h played = (h.0, h.2.few, h.2.bytes)
+event_fits motes (Tick mote dt draw) h played = h.0
+event_fits motes (Hear mote dt draw frame) h played = (h.0, h.2.counted)
+event_fits motes (Last from to dt draw) h played = (h.0.first, h.0.second, λ same. h.0.other (sym same))
+event_fits motes (Reset mote dt draw) h played = h.0
+event_fits motes (Inject mote image version dt draw) h played = (h.0, omega (arith, h.1.image), h.1.version)
+event_fits motes (Order mote number image version dt draw) h played = (h.0, h.1.counted, h.1.fits, omega (arith, h.2.image), h.2.version, h.2.version_fits)
+event_fits motes (Frame mote dt draw bytes) h played = (h.0, h.2.few, h.2.bytes)
 
 cut_fits : (cut : CutOfPower) → FitsCut cut → CutInRange cut
 cut_fits cut h = record { counted = h.counted; some = omega (arith, h.some); few = omega (arith, h.few) }
@@ -130,13 +130,13 @@ sweep_all P [] h = tt
 sweep_all P (l ∷ links) h =
     all_append P (round l.0 l.1) _ (round_all P l h.0) (all_append P (round l.1 l.0) _ (round_all P (l.1, l.0) (turned P l h.0)) (sweep_all P links h.1))
 
-pub quiet_all : (P : Item → Type 0) (events : List Event) → AllByRecursion (λ e. P (Happened (record { event = e; cut = None }) false)) events → AllByRecursion P (unreported events)
+pub quiet_all : (P : Item → Type 0) (events : List Event) → AllByRecursion (λ e. P (Applies (record { event = e; cut = None }) false)) events → AllByRecursion P (unreported events)
 quiet_all P [] h = tt
 quiet_all P (e ∷ events) h = (h.0, quiet_all P events h.1)
 
 -- the item of an event that a round gives is in its range
 abbrev QuietFits : ℕ → Event → Type 0
-QuietFits motes e = ItemInRange motes (Happened (record { event = e; cut = None }) false)
+QuietFits motes e = ItemInRange motes (Applies (record { event = e; cut = None }) false)
 
 quiet_fits : (motes : ℕ) (l : ℕ × ℕ) → LinkFits motes l → HoldsOver (QuietFits motes) l
 quiet_fits motes l h =
@@ -171,7 +171,7 @@ kept_next motes place (Link a b) k h =
 kept_next motes place (Narrow m) k h = record { behind = record { ready = k.behind.ready; some = k.behind.some }; count = k.count; waits = k.waits; links = k.links }
 kept_next motes place (Image image version name content) k h = k
 kept_next motes place (Cut c) k h = record { behind = record { ready = k.behind.ready; some = k.behind.some }; count = k.count; waits = h.fits; links = k.links }
-kept_next motes place (Happens event) k h = record { behind = record { ready = k.behind.ready; some = k.behind.some }; count = k.count; waits = tt; links = k.links }
+kept_next motes place (EventLine event) k h = record { behind = record { ready = k.behind.ready; some = k.behind.some }; count = k.count; waits = tt; links = k.links }
 kept_next motes place (Round a b) k h = record { behind = record { ready = k.behind.ready; some = k.behind.some }; count = k.count; waits = k.waits; links = k.links }
 kept_next motes place (Sweeps n) k h = record { behind = record { ready = k.behind.ready; some = k.behind.some }; count = k.count; waits = k.waits; links = k.links }
 
@@ -189,7 +189,7 @@ line_in_range motes place (Link a b) k h = tt
 line_in_range motes place (Narrow m) k h = tt
 line_in_range motes place (Image image version name content) k h = (row_fits image version name content h.fits, tt)
 line_in_range motes place (Cut c) k h = tt
-line_in_range motes place (Happens event) k h = (record { event = subst (λ (n : ℕ). EventInRange n event) k.count (event_fits place.motes event h.fits h.played); cut = cut_fits_too place.cut k.waits }, tt)
+line_in_range motes place (EventLine event) k h = (record { event = subst (λ (n : ℕ). EventInRange n event) k.count (event_fits place.motes event h.fits h.played); cut = cut_fits_too place.cut k.waits }, tt)
 line_in_range motes place (Round a b) k h =
     let link : LinkFits motes (a, b) = subst (λ (n : ℕ). LinkFits n (a, b)) k.count (link_fits place.motes a b h.fits) in
     quiet_all (ItemInRange motes) (round a b) (round_all (QuietFits motes) (a, b) (quiet_fits motes (a, b) link))

@@ -12,7 +12,7 @@ use Rattle.dg_script.specs.Script.{Script, script_from, with_line}
 use Rattle.dg_script.specs.declared.fault.LineFault.{LineFault}
 use Rattle.dg_script.specs.declared.place.Place.{Place}
 use Rattle.dg_script.specs.declared.line.Line.{Line}
-use Rattle.dg_script.specs.declared.line.Line.TheVariants.{Nothing, Motes, Golden, Boards, Link, Narrow, Image, Cut, Happens, Round, Sweeps}
+use Rattle.dg_script.specs.declared.line.Line.TheVariants.{Nothing, Motes, Golden, Boards, Link, Narrow, Image, Cut, Event as EventLine, Round, Sweeps}
 use Rattle.dg_rules.specs.Sizes.{most_events}
 use Rattle.dg_rules.specs.World.{World}
 use Rattle.dg_rules.specs.Runs.{Played, Plays}
@@ -20,9 +20,9 @@ use Rattle.dg_script.specs.Items.{Item, item_by, place_behind, items_of}
 use Rattle.dg_replay.specs.Items.{Ground, no_ground, UsesBoards, is_boards, Beginning, begin_by, beginning_of, motes_in, lacking, lacking_by, next_items, events_among}
 use Rattle.dg_replay.specs.Boards.{EventNext, InSome, LacksImage}
 use Rattle.dg_replay.specs.Ending.{events_in, InBounds}
-use Rattle.dg_replay.specs.Outcome.{Progress, AtTooMany, RunsTo, item_played, played_text}
+use Rattle.dg_replay.specs.Replayed.{Progress, AtTooMany, RunsTo, item_played, played_text}
 use Rattle.dg_replay.specs.Playing.{InWorld, RunsOn, RunsFrom, LineBegun, IsOneTooMany}
-use Rattle.dg_replay.specs.Replaying.{TextPlayed, TextTold, Reached, PlayedFront}
+use Rattle.dg_replay.specs.Replaying.{TextPlayed, TextReported, Reached, PlayedFront}
 use Rattle.dg_replay.specs.Stages.{based_on, done_so_far, replay_state, span}
 use Rattle.dg_replay.specs.declared.player.Player.{Player}
 use Rattle.dg_replay.proofs.ItemLemmas.{some_is, items_next, begin_next, plays_append, played_more, runs_from_none, run_counts}
@@ -71,7 +71,7 @@ lacking_append boards (l ∷ done) more none one = through l (lacking boards don
     through (Narrow m) rest more e f = f e
     through (Image image version name content) rest more e f = f e
     through (Cut cut) rest more e f = f e
-    through (Happens event) rest more e f = f e
+    through (EventLine event) rest more e f = f e
     through (Round a b) rest more e f = f e
     through (Sweeps n) rest more e f = f e
 
@@ -150,9 +150,9 @@ few_lines done ps items few = subst (λ (xs : List Item). events_among xs ≤ mo
 pub few_items : (done : List Line) (ps : List Played) → map item_played ps ≡ items_of done → events_in done ≤ most_events → events_among (map item_played ps) ≤ most_events
 few_items done ps items few = subst (λ (xs : List Item). events_among xs ≤ most_events) (sym items) few
 
--- the next line was played, and what is told of it was written
+-- the next line was played, and what is reported of it was written
 pub reached_next : {table : List Row} (ends : Bool) (script : Script) (texts : List (List ℕ)) (text : List ℕ) (n : ℕ) (p q : Player) (initial old now : List Device) (before mid after : Option (List ℕ))
-    → (r : Reached table ends script (text ∷ texts) n p (span initial old before mid)) → TextTold (based_on table initial) text (done_so_far r.done r.last) (replay_state p old mid) (replay_state q now after) → Reached table ends script texts (n + 1) q (span initial now before after)
+    → (r : Reached table ends script (text ∷ texts) n p (span initial old before mid)) → TextReported (based_on table initial) text (done_so_far r.done r.last) (replay_state p old mid) (replay_state q now after) → Reached table ends script texts (n + 1) q (span initial now before after)
 reached_next ends script texts text n p q initial old now before mid after r t =
     let line = t.played.line in
     let to = t.played.to in
@@ -168,7 +168,7 @@ reached_next ends script texts text n p q initial old now before mid after r t =
       ground = on.ground;
       grounded = on.grounded;
       run = on.run;
-      told = subst (λ (xs : List ℕ). Puts before after xs) (ap (λ (xs : List ℕ). played_text r.played ++ xs) to.told_now ∙ sym on.told) (Puts-join before mid after _ _ r.told t.written);
+      told = subst (λ (xs : List ℕ). Puts before after xs) (ap (λ (xs : List ℕ). played_text r.played ++ xs) to.report_now ∙ sym on.told) (Puts-join before mid after _ _ r.told t.written);
       stood = to.stood;
       few = few_lines (r.done ++ line ∷ []) on.now on.items (few_next on.ground (r.done ++ line ∷ []) to.world on.now q now on.run to.stood.world);
       boards_enough = lacking_next (length initial) r.done line r.boards_enough to.boards_enough;
@@ -304,7 +304,7 @@ busy place (Link a b) item items e = no_items item items e
 busy place (Narrow m) item items e = no_items item items e
 busy place (Image image version name content) item items e = record { begins = λ g b. refl; plain = refl; counts = λ b. refl; enough = λ boards. refl }
 busy place (Cut c) item items e = no_items item items e
-busy place (Happens event) item items e = record { begins = λ g b. refl; plain = refl; counts = λ b. refl; enough = λ boards. refl }
+busy place (EventLine event) item items e = record { begins = λ g b. refl; plain = refl; counts = λ b. refl; enough = λ boards. refl }
 busy place (Round a b) item items e = record { begins = λ g b. refl; plain = refl; counts = λ b. refl; enough = λ boards. refl }
 busy place (Sweeps n) item items e = record { begins = λ g b. refl; plain = refl; counts = λ b. refl; enough = λ boards. refl }
 

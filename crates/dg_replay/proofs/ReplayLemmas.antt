@@ -12,7 +12,7 @@ use Rattle.dg_script.specs.Places.{first_place}
 use Rattle.dg_script.specs.Script.{Script, script_from}
 use Rattle.dg_script.specs.declared.place.Place.{Place}
 use Rattle.dg_script.specs.declared.line.Line.{Line}
-use Rattle.dg_script.specs.declared.line.Line.TheVariants.{Nothing, Motes, Golden, Boards, Link, Narrow, Image, Cut, Happens, Round, Sweeps}
+use Rattle.dg_script.specs.declared.line.Line.TheVariants.{Nothing, Motes, Golden, Boards, Link, Narrow, Image, Cut, Event as EventLine, Round, Sweeps}
 use Rattle.dg_rules.specs.Sizes.{most_events}
 use Rattle.dg_rules.specs.World.{World}
 use Rattle.dg_rules.specs.Runs.{Played}
@@ -21,9 +21,9 @@ use Rattle.dg_replay.specs.Items.{UsesBoards, is_boards, begin_behind, beginning
 use Rattle.dg_replay.specs.Boards.{InSome, LacksImage, BoardsStand, StoppedIn}
 use Rattle.dg_replay.specs.Ending.{events_in}
 use Rattle.dg_base.specs.declared.answers.Status.TheVariants as status
-use Rattle.dg_replay.specs.Outcome.{Progress, AtTooMany, NoImageThere, BoardStoppedThere, BoardsLeft, item_played, played_text}
+use Rattle.dg_replay.specs.Replayed.{Progress, AtTooMany, NoImageThere, BoardStoppedThere, BoardsLeft, item_played, played_text}
 use Rattle.dg_replay.specs.Playing.{InWorld, Stood, Ready, Joined, RunsOn, RunsFrom, LineBegun, IsOneTooMany}
-use Rattle.dg_replay.specs.Replaying.{TextPlayed, TextCut, TextRead, NothingDone, TextAnswer, CutAtStop, CutAtTooMany, CutAtImage, Reached, PlayedFront, PlayedUpTo, HasFew, ToldBefore, StopsThere}
+use Rattle.dg_replay.specs.Replaying.{TextPlayed, TextCut, TextRead, NothingDone, TextAnswer, CutAtStop, CutAtTooMany, CutAtImage, Reached, PlayedFront, PlayedUpTo, HasFew, ReportedBefore, StopsThere}
 use Rattle.dg_replay.specs.declared.player.Player.{Player}
 use Rattle.dg_replay.specs.declared.stop.Stop.{Stop}
 use Rattle.dg_replay.specs.Stages.{based_on, done_so_far, replay_state, line_read, span}
@@ -55,14 +55,14 @@ stop_within place (Link a b) motes begun [] v initial now parts s none = absurd 
 stop_within place (Narrow m) motes begun [] v initial now parts s none = absurd s.there
 stop_within place (Image image version name content) motes begun [] v initial now parts s none = absurd s.there
 stop_within place (Cut c) motes begun [] v initial now parts s none = absurd s.there
-stop_within place (Happens event) motes begun [] v initial now parts s none = absurd s.there
+stop_within place (EventLine event) motes begun [] v initial now parts s none = absurd s.there
 stop_within place (Round a b) motes begun [] v initial now parts s none = absurd s.there
 stop_within place (Sweeps n) motes begun [] v initial now parts s none = absurd s.there
 
 stopped_more : (motes : ℕ) (line : Line) (more : List Line) (left : List Item) (w : Option World) (initial now : List Device) → StoppedIn motes (line ∷ []) left w initial now → StoppedIn motes (line ∷ more) left w initial now
 stopped_more motes line more left w initial now s = record { stopped = s.stopped; there = s.there }
 
--- what is told of items is told of some
+-- what is reported of items is reported of some
 begun_some : (o v : Option World) (ps : List Played) (begun : List Item) (t : List ℕ) → Over o ps begun v t → t ≢ [] → begun ≢ []
 begun_some o v ps begun t x some none = some (x.told ∙ none_told x.now (x.are ∙ none))
 
@@ -85,7 +85,7 @@ memory_begun ends script texts text n p initial old now before mid after line r 
       few_events = (over_bounds (length initial) r.ground r.done b.world r.played b.begun b.text r.boards_enough o).few_events;
     }) (λ uses. (grounded_next r.ground r.done line does.plain does.counts r.grounded uses).1) (λ k. (b.there, tt))
 
--- what is told of the lines that were done before is what was told then
+-- what is reported of the lines that were done before is what was told then
 told_front : (done all : List Line) (ps behind : List Played) → take (length done) all ≡ done → map item_played ps ≡ items_of done → played_text (take (length (items_of (take (length done) all))) (ps ++ behind)) ≡ played_text ps
 told_front done all ps behind front items =
     let count : length ps ≡ length (items_of done) = sym (length-map ps item_played) ∙ ap length items in
@@ -99,7 +99,7 @@ told_all done ps items =
 -- all that was told before a line that was played was written
 told_line : {table : List Row} (ends : Bool) (script : Script) (texts : List (List ℕ)) (text : List ℕ) (n : ℕ) (p q : Player) (initial old now : List Device) (before mid : Option (List ℕ))
     → (r : Reached table ends script (text ∷ texts) n p (span initial old before mid)) → (t : TextPlayed (based_on table initial) text (done_so_far r.done r.last) p q now) → (on : RunsOn table initial r.done t.line t.to.world t.to.text r.played) → (told : List ℕ) (k : ℕ) → told ≡ t.to.text
-    → ToldBefore n (behind_line ends script texts text n p q initial old now before mid r t on) (played_text r.played ++ take k told)
+    → ReportedBefore n (behind_line ends script texts text n p q initial old now before mid r t on) (played_text r.played ++ take k told)
 told_line ends script texts text n p q initial old now before mid r t on told k same =
     ⊎_elim
     (λ (none : t.to.text ≡ []).
@@ -122,24 +122,24 @@ told_line ends script texts text n p q initial old now before mid r t on told k 
     })
     on.on
 
--- a line was played, and what is told of it was not all written
+-- a line was played, and what is reported of it was not all written
 cut_told : {table : List Row} (ends : Bool) (script : Script) (texts : List (List ℕ)) (text : List ℕ) (n : ℕ) (p q : Player) (initial old now : List Device) (before mid after : Option (List ℕ))
-    → (r : Reached table ends script (text ∷ texts) n p (span initial old before mid)) → TextCut (based_on table initial) text (done_so_far r.done r.last) (replay_state p old mid) (replay_state q now after) → PlayedFront table script initial before after (λ c text. BoardsLeft status.WriteFault c initial now × ToldBefore n c text × Unit {0})
+    → (r : Reached table ends script (text ∷ texts) n p (span initial old before mid)) → TextCut (based_on table initial) text (done_so_far r.done r.last) (replay_state p old mid) (replay_state q now after) → PlayedFront table script initial before after (λ c text. BoardsLeft status.WriteFault c initial now × ReportedBefore n c text × Unit {0})
 cut_told ends script texts text n p q initial old now before mid after r t =
     let to = t.played.to in
     let line = t.played.line in
     let on = to.runs r.ground r.played r.grounded r.items r.run in
     front_put script initial before mid after r.played t.played.told (behind_line ends script texts text n p q initial old now before mid r t.played on) r.told
-    (on.told ∙ ap (λ (xs : List ℕ). played_text r.played ++ xs) (sym to.told_now)) t.written
+    (on.told ∙ ap (λ (xs : List ℕ). played_text r.played ++ xs) (sym to.report_now)) t.written
     (record {
       boards_enough = lacking_next (length initial) r.done line r.boards_enough to.boards_enough;
       few_events = few_next on.ground (r.done ++ line ∷ []) to.world on.now q now on.run to.stood.world;
-    }) (λ uses. (on.grounded uses).1) (λ k. (inl to.stood.boards, told_line ends script texts text n p q initial old now before mid r t.played on t.played.told k to.told_now, tt))
+    }) (λ uses. (on.grounded uses).1) (λ k. (inl to.stood.boards, told_line ends script texts text n p q initial old now before mid r t.played on t.played.told k to.report_now, tt))
 
 -- all that was told before a line that was begun was written
 told_begun : {table : List Row} {P : Option World → List Item → List ℕ → Type 0} (ends : Bool) (script : Script) (texts : List (List ℕ)) (text : List ℕ) (n : ℕ) (p : Player) (initial old : List Device) (before mid : Option (List ℕ)) (line : Line)
     → (r : Reached table ends script (text ∷ texts) n p (span initial old before mid)) → (spelled : line_of p.place text ≡ Ok line) → (b : LineBegun r.done line r.last P) → (o : Over (beginning_of r.ground r.done).world r.played b.begun b.world b.text) → (within : b.left ≡ [] → b.begun ≡ []) → (k : ℕ)
-    → ToldBefore n (in_line ends script texts text n p initial old before mid line r spelled b o within) (played_text r.played ++ take k b.text)
+    → ReportedBefore n (in_line ends script texts text n p initial old before mid line r spelled b o within) (played_text r.played ++ take k b.text)
 told_begun ends script texts text n p initial old before mid line r spelled b o within k = record {
   lines = length r.done;
   within = omega arith;
@@ -152,7 +152,7 @@ told_begun ends script texts text n p initial old before mid line r spelled b o 
 cut_begun : {table : List Row} (ends : Bool) (script : Script) (texts : List (List ℕ)) (text : List ℕ) (n : ℕ) (p : Player) (initial old now : List Device) (before mid after : Option (List ℕ)) (line : Line) (r : Reached table ends script (text ∷ texts) n p (span initial old before mid))
     → line_of p.place text ≡ Ok line → (b : LineBegun r.done line r.last (λ v left t. CutAtStop r.done line v left t (span initial now mid after) ⊎ (CutAtTooMany v left t (span initial now mid after) ⊎ CutAtImage v left t (span initial now mid after))))
     → CutAtStop r.done line b.world b.left b.text (span initial now mid after) ⊎ (CutAtTooMany b.world b.left b.text (span initial now mid after) ⊎ CutAtImage b.world b.left b.text (span initial now mid after))
-    → (InSome b.world (λ u. LacksImage u b.left initial now) → UsesBoards r.done) → PlayedFront table script initial before after (λ c text. BoardsLeft status.WriteFault c initial now × ToldBefore n c text × Unit {0})
+    → (InSome b.world (λ u. LacksImage u b.left initial now) → UsesBoards r.done) → PlayedFront table script initial before after (λ c text. BoardsLeft status.WriteFault c initial now × ReportedBefore n c text × Unit {0})
 cut_begun ends script texts text n p initial old now before mid after line r spelled b (inl (some, stop, cut)) uses =
     let o = run_of ends script texts text n p initial old before mid line r b in
     let within = stop_within (place_behind first_place r.done) line (motes_in r.done) b.begun b.left b.world initial now b.parts stop in
@@ -182,10 +182,10 @@ cut_begun ends script texts text n p initial old now before mid after line r spe
       tt,
     ))
 
--- all that was told before a line that was begun was told, whatever follows all that is told of that
+-- all that was told before a line that was begun was told, whatever follows all that is reported of that
 image_told : {table : List Row} {P : Option World → List Item → List ℕ → Type 0} (ends : Bool) (script : Script) (texts : List (List ℕ)) (text : List ℕ) (n : ℕ) (p : Player) (initial old : List Device) (before mid : Option (List ℕ)) (line : Line)
     → (r : Reached table ends script (text ∷ texts) n p (span initial old before mid)) → (spelled : line_of p.place text ≡ Ok line) → (b : LineBegun r.done line r.last P) → (o : Over (beginning_of r.ground r.done).world r.played b.begun b.world b.text) → (within : b.left ≡ [] → b.begun ≡ []) → (more : List ℕ)
-    → ToldBefore n (in_line ends script texts text n p initial old before mid line r spelled b o within) (played_text (r.played ++ o.now) ++ more)
+    → ReportedBefore n (in_line ends script texts text n p initial old before mid line r spelled b o within) (played_text (r.played ++ o.now) ++ more)
 image_told ends script texts text n p initial old before mid line r spelled b o within more = record {
   lines = length r.done;
   within = omega arith;
@@ -198,7 +198,7 @@ image_told ends script texts text n p initial old before mid line r spelled b o 
 -- an event of a line found no image to start
 image_begun : {table : List Row} (ends : Bool) (script : Script) (texts : List (List ℕ)) (text : List ℕ) (n : ℕ) (p : Player) (initial old now : List Device) (before mid after : Option (List ℕ)) (line : Line) (r : Reached table ends script (text ∷ texts) n p (span initial old before mid))
     → line_of p.place text ≡ Ok line → UsesBoards r.done → LineBegun r.done line r.last (λ v left t. InSome v (λ u. LacksImage u left initial now) × Puts mid after t)
-    → PlayedUpTo table script initial before after (λ c. ((line : Line) × (more : List Line) × (c.rest ≡ line ∷ more)) × UsesBoards c.done × NoImageThere c initial now × ((more : List ℕ) → ToldBefore n c (played_text c.played ++ more)) × Unit {0})
+    → PlayedUpTo table script initial before after (λ c. ((line : Line) × (more : List Line) × (c.rest ≡ line ∷ more)) × UsesBoards c.done × NoImageThere c initial now × ((more : List ℕ) → ReportedBefore n c (played_text c.played ++ more)) × Unit {0})
 image_begun ends script texts text n p initial old now before mid after line r spelled uses b =
     let o = run_of ends script texts text n p initial old before mid line r b in
     record {

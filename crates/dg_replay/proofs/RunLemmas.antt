@@ -19,7 +19,7 @@ use Rattle.dg_replay.specs.Ending.{Ending, Ends, Over, ending_from, ending_of, e
 use Rattle.dg_replay.specs.Around.{Around, around}
 use Rattle.dg_replay.specs.Promised.{Headline}
 use Rattle.dg_replay.specs.Done.{IsUnfailed, ReplaysAll, ReplayDone}
-use Rattle.dg_replay.specs.Outcome.{Progress, RunsTo, played_text, Wrote, BoardsLeft, NoVolumeThere, NoImageThere, IsComplete, AreVolumes, IsSettled, AreWhole, AllWhole, NextIsWhole, ReadEnough, IsCaused, Replayed}
+use Rattle.dg_replay.specs.Replayed.{Progress, RunsTo, played_text, Wrote, BoardsLeft, NoVolumeThere, NoImageThere, IsComplete, AreVolumes, IsSettled, AreWhole, AllWhole, NextIsWhole, ReadEnough, IsCaused, Replayed}
 use Rattle.dg_replay.specs.Replaying.{Reached, PlayedUpTo, InputAnswer, StopEnds, EndsWith, ScriptReplayed}
 use Rattle.dg_replay.specs.declared.halt.Halt.{Halt}
 use Rattle.dg_replay.specs.declared.halt.Halt.TheVariants as halts

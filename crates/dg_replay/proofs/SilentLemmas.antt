@@ -32,43 +32,43 @@ use Rattle.dg_replay.specs.Boards.{BoardsEndure, StoppedIn}
 use Rattle.dg_replay.specs.Playing.{Counted, InWorld, Stood, PlayedLine, LacksBoards, PlayedAs, mount_stop}
 use Rattle.dg_replay.specs.declared.player.Player.{Player}
 use Rattle.dg_replay.specs.declared.stop.Stop.{Stop}
-use Rattle.dg_replay.specs.Stages.{based_on, done_so_far, boards_told}
+use Rattle.dg_replay.specs.Stages.{based_on, done_so_far, boards_reported}
 use Rattle.dg_replay.specs.declared.stop.Stop.TheVariants.{Memory, BadInput, WriteFault, FlashFault, TooMany, NoBoard, NoImage, NotAVolume}
 use Rattle.dg_replay.proofs.BoardLemmas.{there}
 use Rattle.dg_replay.proofs.PlayLemmas.{false_not, no_world, in_world_as, seated_as}
 use Rattle.dg_replay.proofs.StandLemmas.{joined_next, stood_next, grounded_next, grounded_motes, silent_runs, golden_runs, boards_runs, link_runs, narrow_runs, none_begun}
 
 -- memory ran out before anything of a line was done
-pub memory_line : (table : List Row) (p q : Player) (done : List Line) (w : Option World) (line : Line) (told_before told : List ℕ) (initial now : List Device) → Stood p done w initial now → PlayedAs (based_on table initial) (Err Memory) q (done_so_far done w) line (boards_told now told_before) (boards_told now told)
-memory_line table p q done w line told_before told initial now s = none_begun p done line w now s.world s.boards
+pub memory_line : (table : List Row) (p q : Player) (done : List Line) (w : Option World) (line : Line) (report_before told : List ℕ) (initial now : List Device) → Stood p done w initial now → PlayedAs (based_on table initial) (Err Memory) q (done_so_far done w) line (boards_reported now report_before) (boards_reported now told)
+memory_line table p q done w line report_before told initial now s = none_begun p done line w now s.world s.boards
 
 -- the same where it ran out behind a line that left the boards as they were
-pub memory_behind : (table : List Row) (p q : Player) (done : List Line) (w : Option World) (line : Line) (told_before told : List ℕ) (initial old now : List Device) → now ≡ old → Stood p done w initial old → PlayedAs (based_on table initial) (Err Memory) q (done_so_far done w) line (boards_told old told_before) (boards_told now told)
-memory_behind table p q done w line told_before told initial old now same s =
-    subst (λ (ds : List Device). PlayedAs (based_on table initial) (Err Memory) q (done_so_far done w) line (boards_told old told_before) (boards_told ds told)) (sym same) (memory_line table p q done w line told_before told initial old s)
+pub memory_behind : (table : List Row) (p q : Player) (done : List Line) (w : Option World) (line : Line) (report_before told : List ℕ) (initial old now : List Device) → now ≡ old → Stood p done w initial old → PlayedAs (based_on table initial) (Err Memory) q (done_so_far done w) line (boards_reported old report_before) (boards_reported now told)
+memory_behind table p q done w line report_before told initial old now same s =
+    subst (λ (ds : List Device). PlayedAs (based_on table initial) (Err Memory) q (done_so_far done w) line (boards_reported old report_before) (boards_reported ds told)) (sym same) (memory_line table p q done w line report_before told initial old s)
 
 -- of a line that was not played to its end nothing is said of the player
-pub stop_as : (table : List Row) (stop : Stop) (p q : Player) (done : List Line) (w : Option World) (line : Line) (told_before told : List ℕ) (initial old now : List Device)
-    → PlayedAs (based_on table initial) (Err stop) p (done_so_far done w) line (boards_told old told_before) (boards_told now told) → PlayedAs (based_on table initial) (Err stop) q (done_so_far done w) line (boards_told old told_before) (boards_told now told)
-stop_as table Memory p q done w line told_before told initial old now x = x
-stop_as table FlashFault p q done w line told_before told initial old now x = x
-stop_as table TooMany p q done w line told_before told initial old now x = x
-stop_as table (NoBoard motes boards) p q done w line told_before told initial old now x = x
-stop_as table NoImage p q done w line told_before told initial old now x = x
-stop_as table NotAVolume p q done w line told_before told initial old now x = x
-stop_as table (BadInput n fault) p q done w line told_before told initial old now x = absurd x
-stop_as table WriteFault p q done w line told_before told initial old now x = absurd x
+pub stop_as : (table : List Row) (stop : Stop) (p q : Player) (done : List Line) (w : Option World) (line : Line) (report_before told : List ℕ) (initial old now : List Device)
+    → PlayedAs (based_on table initial) (Err stop) p (done_so_far done w) line (boards_reported old report_before) (boards_reported now told) → PlayedAs (based_on table initial) (Err stop) q (done_so_far done w) line (boards_reported old report_before) (boards_reported now told)
+stop_as table Memory p q done w line report_before told initial old now x = x
+stop_as table FlashFault p q done w line report_before told initial old now x = x
+stop_as table TooMany p q done w line report_before told initial old now x = x
+stop_as table (NoBoard motes boards) p q done w line report_before told initial old now x = x
+stop_as table NoImage p q done w line report_before told initial old now x = x
+stop_as table NotAVolume p q done w line report_before told initial old now x = x
+stop_as table (BadInput n fault) p q done w line report_before told initial old now x = absurd x
+stop_as table WriteFault p q done w line report_before told initial old now x = absurd x
 
 -- ---- lines that say nothing to the motes
 
-pub nothing_played : {table : List Row} (p q : Player) (done : List Line) (w : Option World) (told : List ℕ) (initial now : List Device) → q.place ≡ place_after p.place Nothing → q.world ≡ p.world → Stood p done w initial now → PlayedLine (based_on table initial) q (done_so_far done w) Nothing told (boards_told now told)
+pub nothing_played : {table : List Row} (p q : Player) (done : List Line) (w : Option World) (told : List ℕ) (initial now : List Device) → q.place ≡ place_after p.place Nothing → q.world ≡ p.world → Stood p done w initial now → PlayedLine (based_on table initial) q (done_so_far done w) Nothing told (boards_reported now told)
 nothing_played p q done w told initial now place world s =
     let motes = ap (λ (x : Place). x.motes) place in
     let ready = ap (λ (x : Place). x.ready) place in
     record {
       world = w;
       text = [];
-      told_now = sym (append-nil told);
+      report_now = sym (append-nil told);
       runs = silent_runs done Nothing w refl (λ g. refl) (λ g played r before. grounded_next g done Nothing refl (λ b. refl) before);
       stood = stood_next p q done Nothing w w initial now now s.links s place (seated_as p.place q.place (length now) motes s.seats) s.cut_fits
           (in_world_as p q w now world motes ready s.world) s.boards;
@@ -83,50 +83,50 @@ no_motes p None now none k = k
 no_motes p (Some w) now none k = absurd (omega (arith, none, k.3))
 
 pub motes_played : {table : List Row} (p q : Player) (done : List Line) (w : Option World) (motes : ℕ) (told : List ℕ) (initial now : List Device) → StandsAt p.place (Motes motes) → q.place ≡ place_after p.place (Motes motes) → Counted motes (length now) → Stood p done w initial now
-    → PlayedLine (based_on table initial) q (done_so_far done w) (Motes motes) told (boards_told now told)
+    → PlayedLine (based_on table initial) q (done_so_far done w) (Motes motes) told (boards_reported now told)
 motes_played {table} p q done w motes told initial now stands place counted s =
     let unready = no_motes p w now (eqb-true p.place.motes 0 stands.fits) s.world in
     let kept = no_world p w now unready s.world in
     motes_first p q done motes told initial now stands place counted unready (subst (λ (o : Option World). Stood p done o initial now) kept s) (sym kept)
   where
     motes_first : (p q : Player) (done : List Line) (motes : ℕ) (told : List ℕ) (initial now : List Device) → StandsAt p.place (Motes motes) → q.place ≡ place_after p.place (Motes motes) → Counted motes (length now) → p.place.ready ≡ false → Stood p done None initial now
-        → {w : Option World} → None ≡ w → PlayedLine (based_on table initial) q (done_so_far done w) (Motes motes) told (boards_told now told)
+        → {w : Option World} → None ≡ w → PlayedLine (based_on table initial) q (done_so_far done w) (Motes motes) told (boards_reported now told)
     motes_first p q done motes told initial now stands place counted unready s {w} e =
         let many : q.place.motes ≡ motes = ap (λ (x : Place). x.motes) place in
         let ready : q.place.ready ≡ p.place.ready = ap (λ (x : Place). x.ready) place in
-        let made : PlayedLine (based_on table initial) q (done_so_far done None) (Motes motes) told (boards_told now told) = record {
+        let made : PlayedLine (based_on table initial) q (done_so_far done None) (Motes motes) told (boards_reported now told) = record {
           world = None;
           text = [];
-          told_now = sym (append-nil told);
+          report_now = sym (append-nil told);
           runs = silent_runs done (Motes motes) None refl (λ g. refl) (λ g played r before. grounded_motes g done motes played r);
           stood = stood_next p q done (Motes motes) None None initial now now (joined_next p.place (Motes motes) stands (counted.0, counted.1) s.links) s place (λ some. subst (λ (n : ℕ). Counted n (length now)) (sym many) counted) s.cut_fits
               (ready ∙ unready) s.boards;
           boards_enough = ap (λ (b : Bool). if b then Some motes else None) (not_below (length initial) motes (subst (λ (ds : List Device). motes ≤ length ds) s.boards counted.2));
         } in
-        subst (λ (o : Option World). PlayedLine (based_on table initial) q (done_so_far done o) (Motes motes) told (boards_told now told)) e made
+        subst (λ (o : Option World). PlayedLine (based_on table initial) q (done_so_far done o) (Motes motes) told (boards_reported now told)) e made
 
 lacking_boards : (p : Player) (done : List Line) (w : Option World) (motes boards : ℕ) (initial now : List Device) → p.place.motes ≡ 0 → boards ≡ length now → boards < motes → Stood p done w initial now → LacksBoards (Motes motes) motes boards initial now now
 lacking_boards p done None motes boards initial now none count short s = record { is_motes = refl; have = count ∙ ap (λ (ds : List Device). length ds) s.boards; missing = short; same = refl }
 lacking_boards p done (Some w) motes boards initial now none count short s = absurd (omega (arith, none, s.world.3))
 
 pub motes_as : (table : List Row) (r : Result (Unit {0}) Stop) (p q : Player) (done : List Line) (w : Option World) (motes boards : ℕ) (told : List ℕ) (initial now : List Device) → StandsAt p.place (Motes motes) → q.place ≡ place_after p.place (Motes motes) → (1 ≤ motes) × (motes ≤ most_motes) → boards ≡ length now
-    → OnOk r (motes ≤ boards) → ((stop : Stop) → r ≡ Err stop → (stop ≡ NoBoard motes boards) × (boards < motes)) → Stood p done w initial now → PlayedAs (based_on table initial) r q (done_so_far done w) (Motes motes) (boards_told now told) (boards_told now told)
+    → OnOk r (motes ≤ boards) → ((stop : Stop) → r ≡ Err stop → (stop ≡ NoBoard motes boards) × (boards < motes)) → Stood p done w initial now → PlayedAs (based_on table initial) r q (done_so_far done w) (Motes motes) (boards_reported now told) (boards_reported now told)
 motes_as table (Ok u) p q done w motes boards told initial now stands place fits count enough missing s =
     motes_played p q done w motes told initial now stands place (fits.0, fits.1, subst (λ (n : ℕ). motes ≤ n) count enough) s
 motes_as table (Err stop) p q done w motes boards told initial now stands place fits count enough missing s =
     let m = missing stop refl in
-    let P : Stop → Type 0 = λ x. PlayedAs (based_on table initial) (Err x) q (done_so_far done w) (Motes motes) (boards_told now told) (boards_told now told) in
+    let P : Stop → Type 0 = λ x. PlayedAs (based_on table initial) (Err x) q (done_so_far done w) (Motes motes) (boards_reported now told) (boards_reported now told) in
     subst P (sym m.0) (lacking_boards p done w motes boards initial now (eqb-true p.place.motes 0 stands.fits) count m.1 s)
 
 pub cut_played : {table : List Row} (p q : Player) (done : List Line) (w : Option World) (cut : CutOfPower) (told : List ℕ) (initial now : List Device) → FitsCut cut → q.place ≡ place_after p.place (Cut cut) → q.world ≡ p.world → Stood p done w initial now
-    → PlayedLine (based_on table initial) q (done_so_far done w) (Cut cut) told (boards_told now told)
+    → PlayedLine (based_on table initial) q (done_so_far done w) (Cut cut) told (boards_reported now told)
 cut_played p q done w cut told initial now fits place world s =
     let motes = ap (λ (x : Place). x.motes) place in
     let ready = ap (λ (x : Place). x.ready) place in
     record {
       world = w;
       text = [];
-      told_now = sym (append-nil told);
+      report_now = sym (append-nil told);
       runs = silent_runs done (Cut cut) w refl (λ g. refl) (λ g played r before. grounded_next g done (Cut cut) refl (λ b. refl) before);
       stood = stood_next p q done (Cut cut) w w initial now now s.links s place (seated_as p.place q.place (length now) motes s.seats) fits
           (in_world_as p q w now world motes ready s.world) s.boards;
@@ -162,7 +162,7 @@ pub golden_played : {table : List Row} (p q : Player) (done : List Line) (w : Op
     → ((m : ℕ) (d : Device) → m < motes → slice_get old m ≡ Some d → d.stopped ≡ false) → NoneRose old new → FirstBoards motes old new
     → ((boards : List Device) (stores : List Store) (table : List Row) → length stores ≡ motes → motes ≤ length boards
     → ((m : ℕ) (d : Device) → m < motes → slice_get boards m ≡ Some d → Stands d.image (slice_index_or stores m no_site.store)) → IsWorld q.world boards (first_world table [] none_narrow stores))
-    → Stood p done w initial old → PlayedLine (based_on table initial) q (done_so_far done w) (Golden name used content) told (boards_told new told)
+    → Stood p done w initial old → PlayedLine (based_on table initial) q (done_so_far done w) (Golden name used content) told (boards_reported new told)
 golden_played p q done (Some w) name used content motes told initial old new unready count counted place formatted awake calm others begins s = false_not p.place.ready s.world.2 unready
 golden_played p q done None name used content motes told initial old new unready count counted place formatted awake calm others begins s =
     let first : old ≡ initial = s.boards in
@@ -178,7 +178,7 @@ golden_played p q done None name used content motes told initial old new unready
     record {
       world = Some z;
       text = [];
-      told_now = sym (append-nil told);
+      report_now = sym (append-nil told);
       runs = golden_runs done name used content motes (count ∙ s.motes);
       stood = stood_next p q done (Golden name used content) None (Some z) initial old new s.links s place
           (λ some. subst (λ (n : ℕ). Counted n (length new)) (sym same) (counted.0, counted.1, enough))
@@ -196,7 +196,7 @@ golden_played p q done None name used content motes told initial old new unready
 
 -- formatting stopped
 pub golden_stopped : (table : List Row) (p q : Player) (done : List Line) (w : Option World) (name : List ℕ) (used : ℕ) (content : List ℕ) (motes : ℕ) (e : FormatStopped) (told : List ℕ) (initial old new : List Device) → p.place.ready ≡ false → motes ≡ p.place.motes
-    → FirstBoards motes old new → FormatStops e.board motes (fresh name content used) old new → Stood p done w initial old → PlayedAs (based_on table initial) (Err FlashFault) q (done_so_far done w) (Golden name used content) (boards_told old told) (boards_told new told)
+    → FirstBoards motes old new → FormatStops e.board motes (fresh name content used) old new → Stood p done w initial old → PlayedAs (based_on table initial) (Err FlashFault) q (done_so_far done w) (Golden name used content) (boards_reported old told) (boards_reported new told)
 golden_stopped table p q done (Some w) name used content motes e told initial old new unready count others stops s = false_not p.place.ready s.world.2 unready
 golden_stopped table p q done None name used content motes e told initial old new unready count others stops s =
     let first : old ≡ initial = s.boards in
@@ -240,7 +240,7 @@ pub boards_played : (table : List Row) (p q : Player) (done : List Line) (w : Op
     → ((m : ℕ) (d : Device) → m < motes → slice_get old m ≡ Some d → d.stopped ≡ false) → NoneRose old new → SameBoards old new → ((m : ℕ) → motes ≤ m → slice_get new m ≡ slice_get old m)
     → ((boards : List Device) (stores : List Store) (table : List Row) → length stores ≡ motes → motes ≤ length boards
     → ((m : ℕ) (d : Device) → m < motes → slice_get boards m ≡ Some d → Stands d.image (slice_index_or stores m no_site.store)) → IsWorld q.world boards (first_world table [] none_narrow stores))
-    → Stood p done w initial old → PlayedLine (based_on table initial) q (done_so_far done w) Boards told (boards_told new told)
+    → Stood p done w initial old → PlayedLine (based_on table initial) q (done_so_far done w) Boards told (boards_reported new told)
 boards_played table p q done (Some w) motes told initial old new unready count counted place stand awake calm same others begins s = false_not p.place.ready s.world.2 unready
 boards_played table p q done None motes told initial old new unready count counted place (stores, stand, shaped) awake calm same others begins s =
     let first : old ≡ initial = s.boards in
@@ -253,7 +253,7 @@ boards_played table p q done None motes told initial old new unready count count
     record {
       world = Some z;
       text = [];
-      told_now = sym (append-nil told);
+      report_now = sym (append-nil told);
       runs = boards_runs done table stores (subst (λ (n : ℕ). StandFor n stores initial) known (subst (λ (ds : List Device). StandFor motes stores ds) first (stood_before motes stores old new stand same))) (λ m within. shaped m (omega (arith, within, stand.count)));
       stood = stood_next p q done Boards None (Some z) initial old new s.links s place
           (λ some. subst (λ (n : ℕ). Counted n (length new)) (sym here) (counted.0, counted.1, enough))
@@ -271,7 +271,7 @@ boards_played table p q done None motes told initial old new unready count count
 
 -- a board stopped while it was mounted
 pub boards_stopped : (table : List Row) (p q : Player) (done : List Line) (w : Option World) (motes board : ℕ) (told : List ℕ) (initial old new : List Device) → p.place.ready ≡ false → motes ≡ p.place.motes
-    → SameBoards old new → MountStops board motes old new → Stood p done w initial old → PlayedAs (based_on table initial) (Err FlashFault) q (done_so_far done w) Boards (boards_told old told) (boards_told new told)
+    → SameBoards old new → MountStops board motes old new → Stood p done w initial old → PlayedAs (based_on table initial) (Err FlashFault) q (done_so_far done w) Boards (boards_reported old told) (boards_reported new told)
 boards_stopped table p q done (Some w) motes board told initial old new unready count same stops s = false_not p.place.ready s.world.2 unready
 boards_stopped table p q done None motes board told initial old new unready count same stops s =
     let first : old ≡ initial = s.boards in
@@ -296,7 +296,7 @@ boards_stopped table p q done None motes board told initial old new unready coun
 
 -- a board is no volume
 pub boards_refused : (table : List Row) (p q : Player) (done : List Line) (w : Option World) (motes board : ℕ) (told : List ℕ) (initial old new : List Device) → p.place.ready ≡ false → motes ≡ p.place.motes
-    → SameBoards old new → NoVolumeAt board motes old new → NoneRose old new → Stood p done w initial old → PlayedAs (based_on table initial) (Err NotAVolume) q (done_so_far done w) Boards (boards_told old told) (boards_told new told)
+    → SameBoards old new → NoVolumeAt board motes old new → NoneRose old new → Stood p done w initial old → PlayedAs (based_on table initial) (Err NotAVolume) q (done_so_far done w) Boards (boards_reported old told) (boards_reported new told)
 boards_refused table p q done (Some w) motes board told initial old new unready count same lacking calm s = false_not p.place.ready s.world.2 unready
 boards_refused table p q done None motes board told initial old new unready count same lacking calm s =
     let first : old ≡ initial = s.boards in
@@ -311,18 +311,18 @@ boards_refused table p q done None motes board told initial old new unready coun
     )
 
 pub boards_ended : (table : List Row) (p q : Player) (done : List Line) (w : Option World) (motes : ℕ) (e : MountStopped) (stop : Stop) (told : List ℕ) (initial old new : List Device) → stop ≡ mount_stop e → p.place.ready ≡ false → motes ≡ p.place.motes
-    → SameBoards old new → ((board : ℕ) → e ≡ Flash board → MountStops board motes old new) → ((board : ℕ) → e ≡ NoVolume board → NoVolumeAt board motes old new × NoneRose old new) → Stood p done w initial old → PlayedAs (based_on table initial) (Err stop) q (done_so_far done w) Boards (boards_told old told) (boards_told new told)
+    → SameBoards old new → ((board : ℕ) → e ≡ Flash board → MountStops board motes old new) → ((board : ℕ) → e ≡ NoVolume board → NoVolumeAt board motes old new × NoneRose old new) → Stood p done w initial old → PlayedAs (based_on table initial) (Err stop) q (done_so_far done w) Boards (boards_reported old told) (boards_reported new told)
 boards_ended table p q done w motes (Flash board) stop told initial old new is unready count same stops refuses s =
-    subst (λ (x : Stop). PlayedAs (based_on table initial) (Err x) q (done_so_far done w) Boards (boards_told old told) (boards_told new told)) (sym is) (boards_stopped table p q done w motes board told initial old new unready count same (stops board refl) s)
+    subst (λ (x : Stop). PlayedAs (based_on table initial) (Err x) q (done_so_far done w) Boards (boards_reported old told) (boards_reported new told)) (sym is) (boards_stopped table p q done w motes board told initial old new unready count same (stops board refl) s)
 boards_ended table p q done w motes (NoVolume board) stop told initial old new is unready count same stops refuses s =
     let lacking = refuses board refl in
-    subst (λ (x : Stop). PlayedAs (based_on table initial) (Err x) q (done_so_far done w) Boards (boards_told old told) (boards_told new told)) (sym is) (boards_refused table p q done w motes board told initial old new unready count same lacking.0 lacking.1 s)
+    subst (λ (x : Stop). PlayedAs (based_on table initial) (Err x) q (done_so_far done w) Boards (boards_reported old told) (boards_reported new told)) (sym is) (boards_refused table p q done w motes board told initial old new unready count same lacking.0 lacking.1 s)
 
 -- ---- links and narrow motes
 
 pub link_played : {table : List Row} (p q : Player) (done : List Line) (w : Option World) (a b : ℕ) (told : List ℕ) (initial now : List Device)
     → StandsAt p.place (Link a b) → FitsLine p.place.motes (Link a b) → p.place.ready ≡ true → p.place.events ≡ false → q.place ≡ place_after p.place (Link a b)
-    → ((boards : List Device) (u : World) → IsWorld p.world boards u → IsWorld q.world boards (with_link (a, b) u)) → Stood p done w initial now → PlayedLine (based_on table initial) q (done_so_far done w) (Link a b) told (boards_told now told)
+    → ((boards : List Device) (u : World) → IsWorld p.world boards u → IsWorld q.world boards (with_link (a, b) u)) → Stood p done w initial now → PlayedLine (based_on table initial) q (done_so_far done w) (Link a b) told (boards_reported now told)
 link_played p q done None a b told initial now stands fits later early place linked s = false_not p.place.ready later s.world
 link_played p q done (Some w) a b told initial now stands fits later early place linked s =
     let k = s.world in
@@ -331,7 +331,7 @@ link_played p q done (Some w) a b told initial now stands fits later early place
     record {
       world = Some (with_link (a, b) w);
       text = [];
-      told_now = sym (append-nil told);
+      report_now = sym (append-nil told);
       runs = link_runs done a b w (s.early early);
       stood = stood_next p q done (Link a b) (Some w) (Some (with_link (a, b) w)) initial now now (joined_next p.place (Link a b) stands fits s.links) s place
           (seated_as p.place q.place (length now) motes s.seats)
@@ -343,7 +343,7 @@ link_played p q done (Some w) a b told initial now stands fits later early place
 
 pub narrow_played : {table : List Row} (p q : Player) (done : List Line) (w : Option World) (m : ℕ) (told : List ℕ) (initial now : List Device)
     → StandsAt p.place (Narrow m) → FitsLine p.place.motes (Narrow m) → p.place.ready ≡ true → p.place.events ≡ false → q.place ≡ place_after p.place (Narrow m)
-    → ((boards : List Device) (u : World) → IsWorld p.world boards u → IsWorld q.world boards (with_narrow m u)) → Stood p done w initial now → PlayedLine (based_on table initial) q (done_so_far done w) (Narrow m) told (boards_told now told)
+    → ((boards : List Device) (u : World) → IsWorld p.world boards u → IsWorld q.world boards (with_narrow m u)) → Stood p done w initial now → PlayedLine (based_on table initial) q (done_so_far done w) (Narrow m) told (boards_reported now told)
 narrow_played p q done None m told initial now stands fits later early place narrowed s = false_not p.place.ready later s.world
 narrow_played p q done (Some w) m told initial now stands fits later early place narrowed s =
     let k = s.world in
@@ -352,7 +352,7 @@ narrow_played p q done (Some w) m told initial now stands fits later early place
     record {
       world = Some (with_narrow m w);
       text = [];
-      told_now = sym (append-nil told);
+      report_now = sym (append-nil told);
       runs = narrow_runs done m w (s.early early);
       stood = stood_next p q done (Narrow m) (Some w) (Some (with_narrow m w)) initial now now (joined_next p.place (Narrow m) stands fits s.links) s place
           (seated_as p.place q.place (length now) motes s.seats)

@@ -7,12 +7,12 @@ use Rattle.dg_nor.specs.Device.{Device}
 use Rattle.dg_object.specs.Object.{Row}
 use Rattle.dg_volume.specs.Table.{row_at}
 use Rattle.dg_script.specs.Fitting.{FitsCut, FitsLine, StandsAt}
-use Rattle.dg_script.specs.Items.{Item, Declares, Happens as Happened, item_by, place_behind, items_of}
+use Rattle.dg_script.specs.Items.{Item, Declares, Applies, item_by, place_behind, items_of}
 use Rattle.dg_script.specs.Places.{first_place, place_after, none_narrow}
 use Rattle.dg_script.specs.Report.{report_text}
 use Rattle.dg_script.specs.declared.place.Place.{Place}
 use Rattle.dg_script.specs.declared.line.Line.{Line}
-use Rattle.dg_script.specs.declared.line.Line.TheVariants.{Nothing, Motes, Golden, Boards, Link, Narrow, Image, Cut, Happens, Round, Sweeps}
+use Rattle.dg_script.specs.declared.line.Line.TheVariants.{Nothing, Motes, Golden, Boards, Link, Narrow, Image, Cut, Event as EventLine, Round, Sweeps}
 use Rattle.dg_script.specs.declared.report.Report.{Report}
 use Rattle.dg_rules.specs.Sizes.{most_events}
 use Rattle.dg_rules.specs.Premises.{LinkFits}
@@ -25,7 +25,7 @@ use Rattle.dg_rules.specs.Begins.{AreShaped}
 use Rattle.dg_world.specs.Mounted.{StandFor}
 use Rattle.dg_replay.specs.Boards.{BoardsStand}
 use Rattle.dg_replay.specs.Items.{Ground, no_ground, Beginning, begin_by, beginning_of, motes_in, no_beginning, golden_world, with_link, with_narrow, is_boards, UsesBoards, begin_behind}
-use Rattle.dg_replay.specs.Outcome.{IsGround, RunsTo, item_played, played_text}
+use Rattle.dg_replay.specs.Replayed.{IsGround, RunsTo, item_played, played_text}
 use Rattle.dg_replay.specs.Playing.{IsDeclaration, Seated, InWorld, Joined, Stood, ItemsRun, ItemsBegun, LineRuns, LineBegun, Grounded}
 use Rattle.dg_replay.specs.declared.player.Player.{Player}
 use Rattle.dg_replay.proofs.ItemLemmas.{some_is, items_next, place_next, begin_next, motes_same, runs_append, runs_from_none, plays_none, played_more, items_run_none}
@@ -42,7 +42,7 @@ motes_next g place b (Link x y) e = e
 motes_next g place b (Narrow m) e = e
 motes_next g place b (Image image version name content) e = e
 motes_next g place b (Cut cut) e = e
-motes_next g place b (Happens event) e = e
+motes_next g place b (EventLine event) e = e
 motes_next g place b (Round x y) e = e
 motes_next g place b (Sweeps n) e = e
 
@@ -60,7 +60,7 @@ early_by place at (Link x y) e = (e, tt)
 early_by place at (Narrow m) e = (e, tt)
 early_by place at (Image image version name content) e = (e, (tt, tt))
 early_by place at (Cut c) e = (e, tt)
-early_by place at (Happens event) e = absurd (let f : true ≡ false = e in cc)
+early_by place at (EventLine event) e = absurd (let f : true ≡ false = e in cc)
 early_by place at (Round x y) e = absurd (let f : true ≡ false = e in cc)
 early_by place at (Sweeps n) e = absurd (let f : true ≡ false = e in cc)
 
@@ -84,7 +84,7 @@ joined_next place (Link a b) stands fits all =
 joined_next place (Narrow m) stands fits all = all
 joined_next place (Image image version name content) stands fits all = all
 joined_next place (Cut cut) stands fits all = all
-joined_next place (Happens event) stands fits all = all
+joined_next place (EventLine event) stands fits all = all
 joined_next place (Round a b) stands fits all = all
 joined_next place (Sweeps n) stands fits all = all
 
@@ -138,7 +138,7 @@ stays_by g b (Link x y) w e = (with_link (x, y) w, ap (λ (o : Option World). op
 stays_by g b (Narrow m) w e = (with_narrow m w, ap (λ (o : Option World). option_map (with_narrow m) o) e)
 stays_by g b (Image image version name content) w e = (w, e)
 stays_by g b (Cut c) w e = (w, e)
-stays_by g b (Happens event) w e = (w, e)
+stays_by g b (EventLine event) w e = (w, e)
 stays_by g b (Round x y) w e = (w, e)
 stays_by g b (Sweeps n) w e = (w, e)
 
@@ -158,7 +158,7 @@ uses_some g b (Link x y ∷ lines) uses = uses_some g (begin_by g b (Link x y)) 
 uses_some g b (Narrow m ∷ lines) uses = uses_some g (begin_by g b (Narrow m)) lines uses
 uses_some g b (Image image version name content ∷ lines) uses = uses_some g b lines uses
 uses_some g b (Cut c ∷ lines) uses = uses_some g b lines uses
-uses_some g b (Happens event ∷ lines) uses = uses_some g b lines uses
+uses_some g b (EventLine event ∷ lines) uses = uses_some g b lines uses
 uses_some g b (Round x y ∷ lines) uses = uses_some g b lines uses
 uses_some g b (Sweeps n ∷ lines) uses = uses_some g b lines uses
 
@@ -264,7 +264,7 @@ item_set f s (Declares row) w v reports is step =
       world = ap f step.world ∙ s.rows (row_at w.declared row.image row.version) w row ∙ ap (λ (o : Option Row). declared_as o (f w) row) (sym same);
       told = step.told ∙ ap (λ (o : Option Row). declared_lines o row) (sym same);
     }
-item_set f s (Happened x reported) w v reports is step = absurd is
+item_set f s (Applies x reported) w v reports is step = absurd is
 
 plays_set : (f : World → World) → Sets f → (w v : World) (ps : List Played) → AllByRecursion IsDeclaration (map item_played ps) → Plays w ps v → Plays (f w) (map (set_in f) ps) (f v)
 unfolding Plays

@@ -6,7 +6,7 @@ use Rattle.std.specs.Prelude.{None, Err}
 use Rattle.dg_base.specs.declared.events.Event.{Event}
 use Rattle.dg_rounds.specs.Rounds.{times, round, sweep, paced, passed}
 use Rattle.dg_nor.specs.Device.{Device}
-use Rattle.dg_script.specs.Items.{Item, Happens as Happened, unreported}
+use Rattle.dg_script.specs.Items.{Item, Applies, unreported}
 use Rattle.dg_rules.specs.Premises.{LinkFits}
 use Rattle.dg_rules.specs.Ranges.{EventInRange}
 use Rattle.dg_rules.specs.World.{World}
@@ -15,16 +15,16 @@ use Rattle.dg_world.specs.declared.world.World.{World as KeptWorld}
 use Rattle.dg_completion.proofs.GrowLemmas.{all_append, all_replicate, all_times}
 use Rattle.dg_replay.specs.Boards.{WorldStands}
 use Rattle.dg_replay.specs.Playing.{ItemsPlayed, ItemsPlayedAs}
-use Rattle.dg_replay.specs.Stages.{boards_told}
+use Rattle.dg_replay.specs.Stages.{boards_reported}
 use Rattle.dg_replay.specs.declared.stop.Stop.{Stop}
 use Rattle.dg_replay.proofs.ItemStepLemmas.{played_none, played_join, stopped_later}
 
 -- ---- what a loop over items keeps
 
 -- So many items were played, from a kept world and boards to these.
-pub record PlayedSoFar (items : List Item) (first kept : KeptWorld) (old now : List Device) (told_before told : List ℕ) : Type 0 where
+pub record PlayedSoFar (items : List Item) (first kept : KeptWorld) (old now : List Device) (report_before told : List ℕ) : Type 0 where
   pub goes : (w : World) → IsWorld first old w → (v : World) × IsWorld kept now v × (length v.sites ≡ length w.sites)
-  pub played : (w : World) (initial : List Device) → IsWorld first old w → WorldStands w initial old → ItemsPlayed w items kept initial now told_before told
+  pub played : (w : World) (initial : List Device) → IsWorld first old w → WorldStands w initial old → ItemsPlayed w items kept initial now report_before told
 
 pub so_far_none : (first : KeptWorld) (old : List Device) (told : List ℕ) → PlayedSoFar [] first first old old told told
 so_far_none first old told = record { goes = λ w is. (w, is, refl); played = λ w initial is stands. played_none w first initial old told is stands }
@@ -40,8 +40,8 @@ so_far_more xs ys first k k2 old mid now t0 t1 t2 s goes played =
     }
 
 so_far_stops : (stop : Stop) (xs ys more whole : List Item) (first k k2 : KeptWorld) (old mid now : List Device) (t0 t1 t2 : List ℕ) → PlayedSoFar xs first k old mid t0 t1
-    → ((w : World) (initial : List Device) → IsWorld k mid w → WorldStands w initial mid → ItemsPlayedAs (Err stop) w ys k2 initial t1 (boards_told now t2)) → whole ≡ xs ++ (ys ++ more)
-    → (w : World) (initial : List Device) → IsWorld first old w → WorldStands w initial old → ItemsPlayedAs (Err stop) w whole k2 initial t0 (boards_told now t2)
+    → ((w : World) (initial : List Device) → IsWorld k mid w → WorldStands w initial mid → ItemsPlayedAs (Err stop) w ys k2 initial t1 (boards_reported now t2)) → whole ≡ xs ++ (ys ++ more)
+    → (w : World) (initial : List Device) → IsWorld first old w → WorldStands w initial old → ItemsPlayedAs (Err stop) w whole k2 initial t0 (boards_reported now t2)
 so_far_stops stop xs ys more whole first k k2 old mid now t0 t1 t2 s played is w initial at stands =
     let a = s.played w initial at stands in
     stopped_later stop w xs ys more whole k k2 initial mid now t0 t1 t2 a (played a.world initial a.kept_now a.boards) is
@@ -49,7 +49,7 @@ so_far_stops stop xs ys more whole first k k2 old mid now t0 t1 t2 s played is w
 -- ---- events of rounds
 
 unreported-append : (xs ys : List Event) → unreported (xs ++ ys) ≡ unreported xs ++ unreported ys
-unreported-append xs ys = map-append (λ (e : Event). Happened (record { event = e; cut = None }) false) xs ys
+unreported-append xs ys = map-append (λ (e : Event). Applies (record { event = e; cut = None }) false) xs ys
 
 unreported_join : (xs ys more all : List Event) → xs ++ (ys ++ more) ≡ all → unreported all ≡ unreported xs ++ (unreported ys ++ unreported more)
 unreported_join xs ys more all e =
@@ -96,17 +96,17 @@ times_one xs = append-nil xs
 -- ---- what a loop over events keeps
 
 -- These events were played of all, and the others are left.
-pub record EventsSoFar (all given left : List Event) (first kept : KeptWorld) (old now : List Device) (told_before told : List ℕ) : Type 0 where
-  pub so_far : PlayedSoFar (unreported given) first kept old now told_before told
+pub record EventsSoFar (all given left : List Event) (first kept : KeptWorld) (old now : List Device) (report_before told : List ℕ) : Type 0 where
+  pub so_far : PlayedSoFar (unreported given) first kept old now report_before told
   pub parts : given ++ left ≡ all
 
 pub events_none : (all left : List Event) (first : KeptWorld) (old : List Device) (told : List ℕ) → left ≡ all → EventsSoFar all [] left first first old old told told
 events_none all left first old told e = record { so_far = so_far_none first old told; parts = e }
 
 -- the next event may be played
-pub events_may : (all given left others : List Event) (event : Event) (first kept : KeptWorld) (old now : List Device) (told_before told : List ℕ) → EventsSoFar all given left first kept old now told_before told → left ≡ event ∷ others
+pub events_may : (all given left others : List Event) (event : Event) (first kept : KeptWorld) (old now : List Device) (report_before told : List ℕ) → EventsSoFar all given left first kept old now report_before told → left ≡ event ∷ others
     → (z : World) → IsWorld first old z → AllByRecursion (EventInRange (length z.sites)) all → (u : World) × IsWorld kept now u × EventInRange (length u.sites) event
-events_may all given left others event first kept old now told_before told s next z is fits =
+events_may all given left others event first kept old now report_before told s next z is fits =
     let on = s.so_far.goes z is in
     let at : given ++ event ∷ others ≡ all = ap (λ (xs : List Event). given ++ xs) (sym next) ∙ s.parts in
     (on.0, on.1, subst (λ (n : ℕ). EventInRange n event) (sym on.2) (all_at (EventInRange (length z.sites)) given event others all at fits))
@@ -122,16 +122,16 @@ events_more all given left others event first k k2 old mid now t0 t1 t2 s next g
     }
 
 pub events_stop : (stop : Stop) (all given left others : List Event) (event : Event) (first k k2 : KeptWorld) (old mid now : List Device) (t0 t1 t2 : List ℕ) → EventsSoFar all given left first k old mid t0 t1 → left ≡ event ∷ others
-    → ((w : World) (initial : List Device) → IsWorld k mid w → WorldStands w initial mid → ItemsPlayedAs (Err stop) w (unreported (event ∷ [])) k2 initial t1 (boards_told now t2))
-    → (w : World) (initial : List Device) → IsWorld first old w → WorldStands w initial old → ItemsPlayedAs (Err stop) w (unreported all) k2 initial t0 (boards_told now t2)
+    → ((w : World) (initial : List Device) → IsWorld k mid w → WorldStands w initial mid → ItemsPlayedAs (Err stop) w (unreported (event ∷ [])) k2 initial t1 (boards_reported now t2))
+    → (w : World) (initial : List Device) → IsWorld first old w → WorldStands w initial old → ItemsPlayedAs (Err stop) w (unreported all) k2 initial t0 (boards_reported now t2)
 events_stop stop all given left others event first k k2 old mid now t0 t1 t2 s next played =
     so_far_stops stop (unreported given) (unreported (event ∷ [])) (unreported others) (unreported all) first k k2 old mid now t0 t1 t2 s.so_far played
     (unreported_join given (event ∷ []) others all (ap (λ (xs : List Event). given ++ xs) (sym next) ∙ s.parts))
 
-pub events_all : (all given left : List Event) (first kept : KeptWorld) (old now : List Device) (told_before told : List ℕ) → EventsSoFar all given left first kept old now told_before told → left ≡ []
-    → PlayedSoFar (unreported all) first kept old now told_before told
-events_all all given left first kept old now told_before told s none =
-    subst (λ (xs : List Event). PlayedSoFar (unreported xs) first kept old now told_before told) (sym (append-nil given) ∙ ap (λ (xs : List Event). given ++ xs) (sym none) ∙ s.parts) s.so_far
+pub events_all : (all given left : List Event) (first kept : KeptWorld) (old now : List Device) (report_before told : List ℕ) → EventsSoFar all given left first kept old now report_before told → left ≡ []
+    → PlayedSoFar (unreported all) first kept old now report_before told
+events_all all given left first kept old now report_before told s none =
+    subst (λ (xs : List Event). PlayedSoFar (unreported xs) first kept old now report_before told) (sym (append-nil given) ∙ ap (λ (xs : List Event). given ++ xs) (sym none) ∙ s.parts) s.so_far
 
 -- ---- what a loop over sweeps keeps
 
@@ -152,8 +152,8 @@ times_so_far k events first k1 k2 old mid now t0 t1 t2 s goes played =
     subst (λ (xs : List Item). PlayedSoFar xs first k2 old now t0 t2) (sym e) (so_far_more (unreported (times k events)) (unreported events) first k1 k2 old mid now t0 t1 t2 s goes played)
 
 pub times_stop : (stop : Stop) (k n : ℕ) (events : List Event) (first k1 k2 : KeptWorld) (old mid now : List Device) (t0 t1 t2 : List ℕ) → PlayedSoFar (unreported (times k events)) first k1 old mid t0 t1 → k < n
-    → ((w : World) (initial : List Device) → IsWorld k1 mid w → WorldStands w initial mid → ItemsPlayedAs (Err stop) w (unreported events) k2 initial t1 (boards_told now t2))
-    → (w : World) (initial : List Device) → IsWorld first old w → WorldStands w initial old → ItemsPlayedAs (Err stop) w (unreported (times n events)) k2 initial t0 (boards_told now t2)
+    → ((w : World) (initial : List Device) → IsWorld k1 mid w → WorldStands w initial mid → ItemsPlayedAs (Err stop) w (unreported events) k2 initial t1 (boards_reported now t2))
+    → (w : World) (initial : List Device) → IsWorld first old w → WorldStands w initial old → ItemsPlayedAs (Err stop) w (unreported (times n events)) k2 initial t0 (boards_reported now t2)
 times_stop stop k n events first k1 k2 old mid now t0 t1 t2 s h played =
     so_far_stops stop (unreported (times k events)) (unreported events) (unreported (times (n - k - 1) events)) (unreported (times n events)) first k1 k2 old mid now t0 t1 t2 s played
     (unreported_join (times k events) events (times (n - k - 1) events) (times n events) (times_next k n events h))
@@ -162,20 +162,20 @@ pub times_none : (events : List Event) → unreported (times 0 events) ≡ []
 unfolding times
 times_none events = refl
 
-pub at_end : (k n : ℕ) (events : List Event) (first kept : KeptWorld) (old now : List Device) (told_before told : List ℕ) → n ≤ k → k ≤ n → PlayedSoFar (unreported (times k events)) first kept old now told_before told
-    → (w : World) (initial : List Device) → IsWorld first old w → WorldStands w initial old → ItemsPlayed w (unreported (times n events)) kept initial now told_before told
-at_end k n events first kept old now told_before told low high s =
+pub at_end : (k n : ℕ) (events : List Event) (first kept : KeptWorld) (old now : List Device) (report_before told : List ℕ) → n ≤ k → k ≤ n → PlayedSoFar (unreported (times k events)) first kept old now report_before told
+    → (w : World) (initial : List Device) → IsWorld first old w → WorldStands w initial old → ItemsPlayed w (unreported (times n events)) kept initial now report_before told
+at_end k n events first kept old now report_before told low high s =
     let e : k ≡ n = omega arith in
-    (subst (λ (m : ℕ). PlayedSoFar (unreported (times m events)) first kept old now told_before told) e s).played
+    (subst (λ (m : ℕ). PlayedSoFar (unreported (times m events)) first kept old now report_before told) e s).played
 
 -- ---- the rounds of a sweep
 
 -- one call was made
-pub so_far_one : (xs : List Item) (first kept : KeptWorld) (old now : List Device) (told_before told : List ℕ)
+pub so_far_one : (xs : List Item) (first kept : KeptWorld) (old now : List Device) (report_before told : List ℕ)
     → ((w : World) → IsWorld first old w → (v : World) × IsWorld kept now v × (length v.sites ≡ length w.sites))
-    → ((w : World) (initial : List Device) → IsWorld first old w → WorldStands w initial old → ItemsPlayed w xs kept initial now told_before told)
-    → PlayedSoFar xs first kept old now told_before told
-so_far_one xs first kept old now told_before told goes played = record { goes = goes; played = played }
+    → ((w : World) (initial : List Device) → IsWorld first old w → WorldStands w initial old → ItemsPlayed w xs kept initial now report_before told)
+    → PlayedSoFar xs first kept old now report_before told
+so_far_one xs first kept old now report_before told goes played = record { goes = goes; played = played }
 
 -- a call behind others
 pub so_far_then : (xs ys : List Event) (first k k2 : KeptWorld) (old mid now : List Device) (t0 t1 t2 : List ℕ) → PlayedSoFar (unreported xs) first k old mid t0 t1
@@ -187,8 +187,8 @@ so_far_then xs ys first k k2 old mid now t0 t1 t2 s goes played =
 
 -- a call behind others at which the replay stops
 pub so_far_stop : (stop : Stop) (xs ys more all : List Event) (first k k2 : KeptWorld) (old mid now : List Device) (t0 t1 t2 : List ℕ) → PlayedSoFar (unreported xs) first k old mid t0 t1
-    → ((w : World) (initial : List Device) → IsWorld k mid w → WorldStands w initial mid → ItemsPlayedAs (Err stop) w (unreported ys) k2 initial t1 (boards_told now t2)) → xs ++ (ys ++ more) ≡ all
-    → (w : World) (initial : List Device) → IsWorld first old w → WorldStands w initial old → ItemsPlayedAs (Err stop) w (unreported all) k2 initial t0 (boards_told now t2)
+    → ((w : World) (initial : List Device) → IsWorld k mid w → WorldStands w initial mid → ItemsPlayedAs (Err stop) w (unreported ys) k2 initial t1 (boards_reported now t2)) → xs ++ (ys ++ more) ≡ all
+    → (w : World) (initial : List Device) → IsWorld first old w → WorldStands w initial old → ItemsPlayedAs (Err stop) w (unreported all) k2 initial t0 (boards_reported now t2)
 so_far_stop stop xs ys more all first k k2 old mid now t0 t1 t2 s played parts =
     so_far_stops stop (unreported xs) (unreported ys) (unreported more) (unreported all) first k k2 old mid now t0 t1 t2 s played (unreported_join xs ys more all parts)
 

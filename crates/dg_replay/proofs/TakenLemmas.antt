@@ -9,12 +9,12 @@ use Rattle.dg_script.specs.Places.{first_place, place_after}
 use Rattle.dg_script.specs.Script.{Script, script_from}
 use Rattle.dg_script.specs.declared.place.Place.{Place}
 use Rattle.dg_script.specs.declared.line.Line.{Line}
-use Rattle.dg_script.specs.declared.line.Line.TheVariants.{Nothing, Motes, Golden, Boards, Link, Narrow, Image, Cut, Happens, Round, Sweeps}
+use Rattle.dg_script.specs.declared.line.Line.TheVariants.{Nothing, Motes, Golden, Boards, Link, Narrow, Image, Cut, Event as EventLine, Round, Sweeps}
 use Rattle.dg_script.specs.Items.{Item}
 use Rattle.dg_replay.specs.Items.{Ground, no_ground, Beginning, begin_by, begin_behind, motes_in, next_items}
 use Rattle.dg_replay.specs.Boards.{BoardStopped}
 use Rattle.dg_replay.specs.Ending.{whole_lines, used, has_unused_bytes, script_of, ending_from}
-use Rattle.dg_replay.specs.Outcome.{IsSettled, AreWhole, DoneIsWhole}
+use Rattle.dg_replay.specs.Replayed.{IsSettled, AreWhole, DoneIsWhole}
 use Rattle.dg_replay.proofs.EndLemmas.{is_over-true, over_more}
 use Rattle.dg_replay.proofs.GoldenLemmas.{script_of_fits}
 use Rattle.dg_replay.proofs.LineRanges.{LinesFit, front_fits, not_first}
@@ -74,7 +74,7 @@ counted_stays g b place (Link x y ∷ lines) some h = counted_stays g (begin_by 
 counted_stays g b place (Narrow m ∷ lines) some h = counted_stays g (begin_by g b (Narrow m)) (place_after place (Narrow m)) lines some h.3
 counted_stays g b place (Image image version name content ∷ lines) some h = counted_stays g b place lines some h.3
 counted_stays g b place (Cut c ∷ lines) some h = counted_stays g b (place_after place (Cut c)) lines some h.3
-counted_stays g b place (Happens event ∷ lines) some h = counted_stays g b (place_after place (Happens event)) lines some h.3
+counted_stays g b place (EventLine event ∷ lines) some h = counted_stays g b (place_after place (EventLine event)) lines some h.3
 counted_stays g b place (Round x y ∷ lines) some h = counted_stays g b (place_after place (Round x y)) lines some h.3
 counted_stays g b place (Sweeps n ∷ lines) some h = counted_stays g b (place_after place (Sweeps n)) lines some h.3
 
@@ -96,7 +96,7 @@ counted_once (Link x y ∷ done) rest h some = none_yet (link_at first_place x y
 counted_once (Narrow m ∷ done) rest h some = none_yet (narrow_at first_place m h.0).0.1
 counted_once (Image image version name content ∷ done) rest h some = none_yet (later_at first_place h.0.fits).1
 counted_once (Cut c ∷ done) rest h some = none_yet (later_at first_place h.0.fits).1
-counted_once (Happens event ∷ done) rest h some = none_yet (event_at first_place event h.0).1
+counted_once (EventLine event ∷ done) rest h some = none_yet (event_at first_place event h.0).1
 counted_once (Round x y ∷ done) rest h some = none_yet (later_at first_place h.0.fits).1
 counted_once (Sweeps n ∷ done) rest h some = none_yet (later_at first_place h.0.fits).1
 

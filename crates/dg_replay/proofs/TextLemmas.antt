@@ -16,7 +16,7 @@ use Rattle.dg_replay.specs.Playing.{PlayedLine, PlayedAs, LineBegun}
 use Rattle.dg_replay.specs.Replaying.{NotFound, StopsAtLine, TextPlayed, TextAnswer, BegunWritten}
 use Rattle.dg_replay.specs.declared.player.Player.{Player}
 use Rattle.dg_replay.specs.declared.stop.Stop.{Stop}
-use Rattle.dg_replay.specs.Stages.{based_on, done_so_far, boards_told, replay_state, line_read}
+use Rattle.dg_replay.specs.Stages.{based_on, done_so_far, boards_reported, replay_state, line_read}
 use Rattle.dg_replay.specs.declared.stop.Stop.TheVariants.{Memory, BadInput, WriteFault, FlashFault, TooMany, NoBoard, NoImage, NotAVolume}
 
 same_stop : (s t : Stop) → ◌≡◌ {A = Result (Unit {0}) Stop} (Err s) (Err t) → s ≡ t
@@ -26,9 +26,9 @@ same_stop s t e = cc
 begun_then : {done : List Line} {line : Line} {w : Option World} {P Q : Option World → List Item → List ℕ → Type 0} → ((v : Option World) (left : List Item) (t : List ℕ) → P v left t → Q v left t) → LineBegun done line w P → LineBegun done line w Q
 begun_then f b = record { begun = b.begun; left = b.left; parts = b.parts; world = b.world; text = b.text; runs = b.runs; there = f b.world b.left b.text b.there }
 
--- a line was played, and what is told of it was written, or a front of it
+-- a line was played, and what is reported of it was written, or a front of it
 pub told_as : (table : List Row) (r : Result (Unit {0}) Stop) (text : List ℕ) (number : ℕ) (p q : Player) (done : List Line) (w : Option World) (initial old new : List Device) (before after : Option (List ℕ)) (failed : Type 0) (line : Line) (told : List ℕ)
-    → line_of p.place text ≡ Ok line → PlayedLine (based_on table initial) q (done_so_far done w) line [] (boards_told new told) → q.place ≡ place_after p.place line
+    → line_of p.place text ≡ Ok line → PlayedLine (based_on table initial) q (done_so_far done w) line [] (boards_reported new told) → q.place ≡ place_after p.place line
     → OnOk r (Puts before after told) → OnErr r (PutsFront before after told × (told ≢ [])) → OnErr r ((r ≡ Err WriteFault) × failed)
     → TextAnswer (based_on table initial) r (line_read text number) (done_so_far done w) (replay_state p old before) (replay_state q new after) failed
 told_as table (Ok u) text number p q done w initial old new before after failed line told spelled to behind ok cut cause =
@@ -38,9 +38,9 @@ told_as table (Err s) text number p q done w initial old new before after failed
     let played : TextPlayed (based_on table initial) text (done_so_far done w) p q new = record { line = line; spelled = spelled; told = told; to = to; behind = behind } in
     subst P (sym (same_stop s WriteFault cause.0)) (cause.1, inl (record { played = played; written = cut.0 }))
 
--- a line was not played, or begun, and what is told of that was written, or a front of it
+-- a line was not played, or begun, and what is reported of that was written, or a front of it
 pub begun_as : (table : List Row) (stop result : Stop) (text : List ℕ) (number : ℕ) (p q : Player) (done : List Line) (w : Option World) (initial old new : List Device) (before after : Option (List ℕ)) (failed : Type 0) (line : Line) (told : List ℕ)
-    → line_of p.place text ≡ Ok line → PlayedAs (based_on table initial) (Err stop) q (done_so_far done w) line (boards_told old []) (boards_told new told) → BegunWritten stop result told before after failed
+    → line_of p.place text ≡ Ok line → PlayedAs (based_on table initial) (Err stop) q (done_so_far done w) line (boards_reported old []) (boards_reported new told) → BegunWritten stop result told before after failed
     → TextAnswer (based_on table initial) (Err result) (line_read text number) (done_so_far done w) (replay_state p old before) (replay_state q new after) failed
 begun_as table Memory result text number p q done w initial old new before after failed line told spelled played (is, none) =
     let P : Stop → Type 0 = λ x. TextAnswer (based_on table initial) (Err x) (line_read text number) (done_so_far done w) (replay_state p old before) (replay_state q new after) failed in

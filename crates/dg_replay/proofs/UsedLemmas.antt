@@ -12,7 +12,7 @@ use Rattle.dg_script.specs.Places.{first_place}
 use Rattle.dg_script.specs.Script.{script_from}
 use Rattle.dg_replay.specs.Ending.{up_to, whole_lines, used}
 use Rattle.dg_replay.specs.Fronts.{IsFront}
-use Rattle.dg_replay.specs.Outcome.{AllRead}
+use Rattle.dg_replay.specs.Replayed.{AllRead}
 use Rattle.dg_replay.specs.Replaying.{Reached}
 use Rattle.dg_replay.specs.Stages.{span}
 use Rattle.dg_replay.specs.declared.player.Player.{Player}

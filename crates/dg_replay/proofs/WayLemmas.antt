@@ -1,4 +1,4 @@
--- The way of a line: it is played where the player stands, then the place goes on behind it, and what is told of it is written.
+-- The way of a line: it is played where the player stands, then the place goes on behind it, and what is reported of it is written.
 use Rattle.std.proofs.Common.{◌≡◌, ◌≢◌, ◌⊎◌, inl, inr, ℕ, ◌+◌, ◌≤◌, Bool, List, [], ◌++◌, length, Ok, Err, Some, refl, sym, ◌∙◌, subst}
 use Rattle.std.specs.Prelude.{Option, Result, OnOk, OnErr}
 use Rattle.dg_base.specs.Outside.{Puts, PutsFront, Takes, AtEnd}
@@ -27,7 +27,7 @@ use Rattle.dg_replay.specs.declared.halt.Halt.{Halt}
 use Rattle.dg_replay.specs.declared.halt.Halt.TheVariants.{Stopped}
 use Rattle.dg_replay.specs.declared.player.Player.{Player}
 use Rattle.dg_replay.specs.declared.stop.Stop.{Stop}
-use Rattle.dg_replay.specs.Stages.{Basis, based_on, DoneSoFar, done_so_far, boards_told, span, bytes_taken, failures}
+use Rattle.dg_replay.specs.Stages.{Basis, based_on, DoneSoFar, done_so_far, boards_reported, span, bytes_taken, failures}
 use Rattle.dg_replay.specs.declared.stop.Stop.TheVariants.{Memory, WriteFault}
 use Rattle.dg_replay.proofs.FollowingLemmas.{TextPlays, given_next}
 use Rattle.dg_replay.proofs.RunLemmas.{HeadlineLaw, replay_done, replayed_of}
@@ -36,44 +36,44 @@ use Rattle.dg_replay.proofs.TextLemmas.{told_as, begun_as, not_found_as}
 
 -- nothing is to do in an empty line, nor in one whose cut waits for its event
 pub waits_played : (table : List Row) (p : Player) (done : List Line) (w : Option World) (line : Line) (told : List ℕ) (initial now : List Device) → (line ≡ Nothing) ⊎ ((cut : CutOfPower) × (line ≡ Cut cut)) → FitsLine p.place.motes line → Stood p done w initial now
-    → PlayedLine (based_on table initial) (gone_on p line) (done_so_far done w) line told (boards_told now told)
-waits_played table p done w line told initial now (inl is) fits s = subst (λ (x : Line). PlayedLine (based_on table initial) (gone_on p x) (done_so_far done w) x told (boards_told now told)) (sym is) (nothing_played p (gone_on p Nothing) done w told initial now refl refl s)
+    → PlayedLine (based_on table initial) (gone_on p line) (done_so_far done w) line told (boards_reported now told)
+waits_played table p done w line told initial now (inl is) fits s = subst (λ (x : Line). PlayedLine (based_on table initial) (gone_on p x) (done_so_far done w) x told (boards_reported now told)) (sym is) (nothing_played p (gone_on p Nothing) done w told initial now refl refl s)
 waits_played table p done w line told initial now (inr (cut, is)) fits s =
-    subst (λ (x : Line). PlayedLine (based_on table initial) (gone_on p x) (done_so_far done w) x told (boards_told now told)) (sym is)
+    subst (λ (x : Line). PlayedLine (based_on table initial) (gone_on p x) (done_so_far done w) x told (boards_reported now told)) (sym is)
     (cut_played p (gone_on p (Cut cut)) done w cut told initial now (subst (λ (x : Line). FitsLine p.place.motes x) is fits) refl refl s)
 
 -- the place went on behind a line that was played
-pub passed_played : (table : List Row) (p : Player) (place : Place) (done : List Line) (w : Option World) (line passed : Line) (told_before told : List ℕ) (initial now : List Device) → place ≡ place_after p.place passed
-    → PlayedLine (based_on table initial) (gone_on p passed) (done_so_far done w) line told_before (boards_told now told) → PlayedLine (based_on table initial) (record p { place = place }) (done_so_far done w) line told_before (boards_told now told)
-passed_played table p place done w line passed told_before told initial now behind played = subst (λ (x : Place). PlayedLine (based_on table initial) (record p { place = x }) (done_so_far done w) line told_before (boards_told now told)) (sym behind) played
+pub passed_played : (table : List Row) (p : Player) (place : Place) (done : List Line) (w : Option World) (line passed : Line) (report_before told : List ℕ) (initial now : List Device) → place ≡ place_after p.place passed
+    → PlayedLine (based_on table initial) (gone_on p passed) (done_so_far done w) line report_before (boards_reported now told) → PlayedLine (based_on table initial) (record p { place = place }) (done_so_far done w) line report_before (boards_reported now told)
+passed_played table p place done w line passed report_before told initial now behind played = subst (λ (x : Place). PlayedLine (based_on table initial) (record p { place = x }) (done_so_far done w) line report_before (boards_reported now told)) (sym behind) played
 
 -- ---- what is played of a text
 
 -- what is promised of a line that is played where the player stands
-abbrev pub LinePlays : Result (Unit {0}) Stop → (p q : Player) → Line → (told_before told : List ℕ) → (old now : List Device) → Type 0
-LinePlays r p q line told_before told old now = (basis : Basis) (so_far : DoneSoFar) → Stood p so_far.lines so_far.world basis.boards old → PlayedAs basis r q so_far line (boards_told old told_before) (boards_told now told)
+abbrev pub LinePlays : Result (Unit {0}) Stop → (p q : Player) → Line → (report_before told : List ℕ) → (old now : List Device) → Type 0
+LinePlays r p q line report_before told old now = (basis : Basis) (so_far : DoneSoFar) → Stood p so_far.lines so_far.world basis.boards old → PlayedAs basis r q so_far line (boards_reported old report_before) (boards_reported now told)
 
 -- no line was found
 pub text_unread : (stop : Stop) (text : List ℕ) (number : ℕ) (p : Player) (old : List Device) (before : Option (List ℕ)) (failed : Type 0) → NotFound p.place text number stop → TextPlays (Err stop) text number p p old old before before failed
 text_unread stop text number p old before failed missing = λ basis so_far s. not_found_as basis.table stop text number p p so_far.lines so_far.world basis.boards old before failed missing
 
--- a line was played, its place went on, and what is told of it was written, or a front of it
+-- a line was played, its place went on, and what is reported of it was written, or a front of it
 pub text_played : (r : Result (Unit {0}) Stop) (text : List ℕ) (number : ℕ) (p q : Player) (place : Place) (old now : List Device) (line passed : Line) (cleared told shown : List ℕ) (before after : Option (List ℕ)) (failed : Type 0)
     → line_of p.place text ≡ Ok line → cleared ≡ [] → shown ≡ told → LinePlays (Ok tt) p (gone_on q passed) line cleared told old now → place_after q.place passed ≡ place_after p.place line → place ≡ place_after q.place passed
     → OnOk r (Puts before after shown) → OnErr r (PutsFront before after shown × (shown ≢ [])) → OnErr r ((r ≡ Err WriteFault) × failed)
     → TextPlays r text number p (record q { place = place }) old now before after failed
 text_played r text number p q place old now line passed cleared told shown before after failed spelled clear same plays behind at ok cut cause = λ basis so_far s.
-    let there : PlayedLine basis (gone_on q passed) so_far line [] (boards_told now told) = subst (λ (xs : List ℕ). PlayedLine basis (gone_on q passed) so_far line xs (boards_told now told)) clear (plays basis so_far s) in
-    let to : PlayedLine basis (gone_on q passed) so_far line [] (boards_told now shown) = subst (λ (xs : List ℕ). PlayedLine basis (gone_on q passed) so_far line [] (boards_told now xs)) (sym same) there in
+    let there : PlayedLine basis (gone_on q passed) so_far line [] (boards_reported now told) = subst (λ (xs : List ℕ). PlayedLine basis (gone_on q passed) so_far line xs (boards_reported now told)) clear (plays basis so_far s) in
+    let to : PlayedLine basis (gone_on q passed) so_far line [] (boards_reported now shown) = subst (λ (xs : List ℕ). PlayedLine basis (gone_on q passed) so_far line [] (boards_reported now xs)) (sym same) there in
     told_as basis.table r text number p (record q { place = place }) so_far.lines so_far.world basis.boards old now before after failed line shown spelled (passed_played basis.table q place so_far.lines so_far.world line passed [] shown basis.boards now at to) (at ∙ behind) ok cut cause
 
--- a line was not played, or begun, and what is told of that was written, or a front of it
+-- a line was not played, or begun, and what is reported of that was written, or a front of it
 pub text_begun : (stop result : Stop) (text : List ℕ) (number : ℕ) (p q gone : Player) (old now : List Device) (line : Line) (cleared told shown : List ℕ) (before after : Option (List ℕ)) (failed : Type 0)
     → line_of p.place text ≡ Ok line → cleared ≡ [] → shown ≡ told → LinePlays (Err stop) p gone line cleared told old now → BegunWritten stop result shown before after failed
     → TextPlays (Err result) text number p q old now before after failed
 text_begun stop result text number p q gone old now line cleared told shown before after failed spelled clear same plays written = λ basis so_far s.
-    let there : PlayedAs basis (Err stop) gone so_far line (boards_told old []) (boards_told now told) = subst (λ (xs : List ℕ). PlayedAs basis (Err stop) gone so_far line (boards_told old xs) (boards_told now told)) clear (plays basis so_far s) in
-    let to : PlayedAs basis (Err stop) gone so_far line (boards_told old []) (boards_told now shown) = subst (λ (xs : List ℕ). PlayedAs basis (Err stop) gone so_far line (boards_told old []) (boards_told now xs)) (sym same) there in
+    let there : PlayedAs basis (Err stop) gone so_far line (boards_reported old []) (boards_reported now told) = subst (λ (xs : List ℕ). PlayedAs basis (Err stop) gone so_far line (boards_reported old xs) (boards_reported now told)) clear (plays basis so_far s) in
+    let to : PlayedAs basis (Err stop) gone so_far line (boards_reported old []) (boards_reported now shown) = subst (λ (xs : List ℕ). PlayedAs basis (Err stop) gone so_far line (boards_reported old []) (boards_reported now xs)) (sym same) there in
     begun_as basis.table stop result text number p q so_far.lines so_far.world basis.boards old now before after failed line shown spelled (stop_as basis.table stop gone q so_far.lines so_far.world line [] shown basis.boards old now to) written
 
 -- there was no memory for the place behind a line that left the boards as they were

@@ -18,7 +18,7 @@ use Rattle.dg_rules.specs.Steps.{EndsRun}
 use Rattle.dg_world.specs.Counts.{NoneRose}
 use Rattle.dg_world.specs.Applied.{SameBoards}
 use Rattle.dg_world.specs.Mounted.{NoVolumeAt, MountedTo}
-use Rattle.dg_script.specs.Items.{Item, Happens}
+use Rattle.dg_script.specs.Items.{Item, Applies}
 
 -- No count of a board fell, and a board is stopped only where it was, or where its count rose.
 pub record BoardsEndure (old new : List Device) : Type 0 where
@@ -89,7 +89,7 @@ pub record EventStops (w : World) (step : Step) (board : ℕ) (image : List ℕ)
 
 -- A board stopped in the first of these items, which is an event.
 abbrev pub ItemStops : List Item → Option World → (board : ℕ) → List ℕ → (old new : List Device) → Type 0
-ItemStops (Happens step reported ∷ left) (Some w) board image old new = EventStops w step board image old new
+ItemStops (Applies step reported ∷ left) (Some w) board image old new = EventStops w step board image old new
 ItemStops left last board image old new = ⊥
 
 -- Where a board stopped in a line, of which these items are left: in formatting, in mounting, or in an event.
@@ -127,7 +127,7 @@ pub record EventNext (items : List Item) : Type 0 where
   pub step : Step
   pub reported : Bool
   pub more : List Item
-  pub is : items ≡ Happens step reported ∷ more
+  pub is : items ≡ Applies step reported ∷ more
 
 -- a world is there, and P holds of it
 abbrev pub InSome : Option World → (World → Type 0) → Type 0

@@ -8,7 +8,7 @@ use Rattle.dg_replay.specs.Boards.{BoardStopped}
 use Rattle.dg_replay.specs.Items.{UsesBoards, motes_in}
 use Rattle.dg_replay.specs.Ending.{InLimits, script_of}
 use Rattle.dg_replay.specs.Around.{Around}
-use Rattle.dg_replay.specs.Outcome.{Replayed, IsComplete, AreVolumes}
+use Rattle.dg_replay.specs.Replayed.{Replayed, IsComplete, AreVolumes}
 use Rattle.dg_replay.specs.Promised.{Headline}
 
 -- These are all bytes of the source. They spell a script in its grammar and limits, for whose motes there are boards,

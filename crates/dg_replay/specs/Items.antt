@@ -6,10 +6,11 @@ use Rattle.dg_object.specs.Object.{Row}
 use Rattle.dg_volume.specs.Store.{Store, fresh, golden_row}
 use Rattle.dg_base.specs.declared.events.Event.{Event}
 use Rattle.dg_base.specs.declared.events.Event.TheVariants.{Tick, Hear, Last, Reset, Inject, Order, Frame}
-use Rattle.dg_script.specs.Items.{Item, Declares, Happens as Happened, item_by, place_behind}
+use Rattle.dg_script.specs.Items.{Item, Declares, Applies, item_by, place_behind}
 use Rattle.dg_script.specs.Places.{first_place, none_narrow}
 use Rattle.dg_script.specs.declared.line.Line.{Line}
-use Rattle.dg_script.specs.declared.line.Line.TheVariants.{Nothing, Motes, Golden, Boards, Link, Narrow, Image, Cut, Happens}
+use Rattle.dg_script.specs.declared.line.Line.TheVariants.{Nothing, Motes, Golden, Boards, Link, Narrow, Image, Cut}
+use Rattle.dg_script.specs.declared.line.Line.TheVariants.{Event as EventLine}
 use Rattle.dg_script.specs.declared.line.Line.TheVariants.{Round, Sweeps}
 use Rattle.dg_rules.specs.World.{World, first_world}
 
@@ -47,7 +48,7 @@ begin_by g b (Link x y) = record b { world = option_map (with_link (x, y)) b.wor
 begin_by g b (Narrow m) = record b { world = option_map (with_narrow m) b.world }
 begin_by g b (Image image version name content) = b
 begin_by g b (Cut c) = b
-begin_by g b (Happens event) = b
+begin_by g b (EventLine event) = b
 begin_by g b (Round x y) = b
 begin_by g b (Sweeps n) = b
 
@@ -79,7 +80,7 @@ is_boards (Link x y) = false
 is_boards (Narrow m) = false
 is_boards (Image image version name content) = false
 is_boards (Cut c) = false
-is_boards (Happens event) = false
+is_boards (EventLine event) = false
 is_boards (Round x y) = false
 is_boards (Sweeps n) = false
 
@@ -97,7 +98,7 @@ lacking_by boards (Link a b) rest = rest
 lacking_by boards (Narrow m) rest = rest
 lacking_by boards (Image image version name content) rest = rest
 lacking_by boards (Cut c) rest = rest
-lacking_by boards (Happens event) rest = rest
+lacking_by boards (EventLine event) rest = rest
 lacking_by boards (Round a b) rest = rest
 lacking_by boards (Sweeps n) rest = rest
 
@@ -108,13 +109,13 @@ lacking boards (line ∷ lines) = lacking_by boards line (lacking boards lines)
 
 -- a line that brings no frame from outside
 abbrev pub BringsNone : Event → Type 0
-BringsNone (Tick mote dt word) = Unit {0}
-BringsNone (Hear mote dt word frame) = Unit {0}
-BringsNone (Last from to dt word) = Unit {0}
-BringsNone (Reset mote dt word) = Unit {0}
-BringsNone (Inject mote image version dt word) = Unit {0}
-BringsNone (Order mote number image version dt word) = Unit {0}
-BringsNone (Frame mote dt word bytes) = ⊥
+BringsNone (Tick mote dt draw) = Unit {0}
+BringsNone (Hear mote dt draw frame) = Unit {0}
+BringsNone (Last from to dt draw) = Unit {0}
+BringsNone (Reset mote dt draw) = Unit {0}
+BringsNone (Inject mote image version dt draw) = Unit {0}
+BringsNone (Order mote number image version dt draw) = Unit {0}
+BringsNone (Frame mote dt draw bytes) = ⊥
 
 abbrev pub IsNoFrame : Line → Type 0
 IsNoFrame Nothing = Unit {0}
@@ -125,7 +126,7 @@ IsNoFrame (Link a b) = Unit {0}
 IsNoFrame (Narrow m) = Unit {0}
 IsNoFrame (Image image version name content) = Unit {0}
 IsNoFrame (Cut c) = Unit {0}
-IsNoFrame (Happens event) = BringsNone event
+IsNoFrame (EventLine event) = BringsNone event
 IsNoFrame (Round a b) = Unit {0}
 IsNoFrame (Sweeps n) = Unit {0}
 
@@ -136,7 +137,7 @@ next_items done (line ∷ rest) = item_by (place_behind first_place done) line
 
 abbrev pub is_event : Item → Bool
 is_event (Declares row) = false
-is_event (Happened step reported) = true
+is_event (Applies step reported) = true
 
 -- how many events there are among items
 abbrev pub events_among : List Item → ℕ

@@ -28,10 +28,10 @@ use Rattle.dg_world.specs.Worlds.{IsWorld}
 use Rattle.dg_world.specs.declared.world.World.{World as KeptWorld}
 use Rattle.dg_replay.specs.Boards.{WorldStands, BoardsStand, BoardStopped, ItemStops, StoppedIn, EventNext, InSome, NoVolumeIn}
 use Rattle.dg_replay.specs.Boards.{LacksImage}
-use Rattle.dg_script.specs.Items.{Item, Declares, Happens as Happened, item_by, items_of, place_behind}
+use Rattle.dg_script.specs.Items.{Item, Declares, Applies, item_by, items_of, place_behind}
 use Rattle.dg_replay.specs.Items.{Ground, UsesBoards, beginning_of, motes_in, lacking_by}
-use Rattle.dg_replay.specs.Outcome.{IsGround, item_played, played_text, RunsTo}
-use Rattle.dg_replay.specs.Stages.{Basis, DoneSoFar, BoardsTold}
+use Rattle.dg_replay.specs.Replayed.{IsGround, item_played, played_text, RunsTo}
+use Rattle.dg_replay.specs.Stages.{Basis, DoneSoFar, BoardsReported}
 use Rattle.dg_replay.specs.declared.player.Player.{Player}
 use Rattle.dg_replay.specs.declared.stop.Stop.{Stop}
 use Rattle.dg_replay.specs.declared.stop.Stop.TheVariants.{Memory, BadInput, WriteFault, FlashFault, TooMany, NoBoard, NoImage}
@@ -39,7 +39,7 @@ use Rattle.dg_replay.specs.declared.stop.Stop.TheVariants.{NotAVolume}
 
 -- ---- items
 
--- Items were played from a world to a world, and this is told of them. There were no more than a million events then.
+-- Items were played from a world to a world, and this is reported of them. There were no more than a million events then.
 pub record ItemsRun (w : World) (items : List Item) (v : World) (text : List ℕ) : Type 0 where
   pub played : List Played
   pub are : map item_played played ≡ items
@@ -49,16 +49,16 @@ pub record ItemsRun (w : World) (items : List Item) (v : World) (text : List ℕ
 
 -- Items were played, and the boards, which were `initial` when the replay began, stand for the world then.
 pub record ItemsPlayed (w : World) (items : List Item) (kept : KeptWorld) (initial now : List Device)
-    (told_before told : List ℕ) : Type 0 where
+    (report_before report : List ℕ) : Type 0 where
   pub world : World
   pub text : List ℕ
   pub runs : ItemsRun w items world text
   pub kept_now : IsWorld kept now world
   pub boards : WorldStands world initial now
-  pub told_now : told ≡ told_before ++ text
+  pub report_now : report ≡ report_before ++ text
 
 -- Of these items the first were played, and P holds of the world then, of those that are left,
--- and of what is told of those that were played.
+-- and of what is reported of those that were played.
 pub record ItemsBegun (w : World) (items : List Item) (P : World → (left : List Item) → (text : List ℕ) → Type 0) : Type 0 where
   pub begun : List Item
   pub left : List Item
@@ -78,22 +78,22 @@ pub record StopsInItem (w : World) (left : List Item) (initial now : List Device
   pub stopped : BoardStopped (length w.sites) initial now
   pub there : ItemStops left (Some w) stopped.board stopped.after.image initial now
 
--- What playing items answers, where this was told before, and b are the boards and what is told then.
+-- What playing items answers, where this was reported before, and b are the boards and what is reported then.
 abbrev pub ItemsPlayedAs : Result (Unit {0}) Stop → World → List Item → KeptWorld → (initial : List Device)
-    → (told_before : List ℕ) → (b : BoardsTold) → Type 0
-ItemsPlayedAs (Ok u) w items kept initial told_before b = ItemsPlayed w items kept initial b.boards told_before b.told
-ItemsPlayedAs (Err Memory) w items kept initial told_before b =
+    → (report_before : List ℕ) → (b : BoardsReported) → Type 0
+ItemsPlayedAs (Ok u) w items kept initial report_before b = ItemsPlayed w items kept initial b.boards report_before b.told
+ItemsPlayedAs (Err Memory) w items kept initial report_before b =
     ItemsBegun w items (λ v left text. WorldStands v initial b.boards)
-ItemsPlayedAs (Err TooMany) w items kept initial told_before b =
-    ItemsBegun w items (λ v left text. IsOneTooMany v left × WorldStands v initial b.boards × (b.told ≡ told_before ++ text))
-ItemsPlayedAs (Err FlashFault) w items kept initial told_before b =
-    ItemsBegun w items (λ v left text. StopsInItem v left initial b.boards × (b.told ≡ told_before ++ text))
-ItemsPlayedAs (Err NoImage) w items kept initial told_before b =
-    ItemsBegun w items (λ v left text. LacksImage v left initial b.boards × (b.told ≡ told_before ++ text))
-ItemsPlayedAs (Err NotAVolume) w items kept initial told_before b = ⊥
-ItemsPlayedAs (Err (NoBoard motes boards)) w items kept initial told_before b = ⊥
-ItemsPlayedAs (Err (BadInput n fault)) w items kept initial told_before b = ⊥
-ItemsPlayedAs (Err WriteFault) w items kept initial told_before b = ⊥
+ItemsPlayedAs (Err TooMany) w items kept initial report_before b =
+    ItemsBegun w items (λ v left text. IsOneTooMany v left × WorldStands v initial b.boards × (b.told ≡ report_before ++ text))
+ItemsPlayedAs (Err FlashFault) w items kept initial report_before b =
+    ItemsBegun w items (λ v left text. StopsInItem v left initial b.boards × (b.told ≡ report_before ++ text))
+ItemsPlayedAs (Err NoImage) w items kept initial report_before b =
+    ItemsBegun w items (λ v left text. LacksImage v left initial b.boards × (b.told ≡ report_before ++ text))
+ItemsPlayedAs (Err NotAVolume) w items kept initial report_before b = ⊥
+ItemsPlayedAs (Err (NoBoard motes boards)) w items kept initial report_before b = ⊥
+ItemsPlayedAs (Err (BadInput n fault)) w items kept initial report_before b = ⊥
+ItemsPlayedAs (Err WriteFault) w items kept initial report_before b = ⊥
 
 -- the world that is kept stands for one with as many motes as before
 abbrev pub KeepsMotes : Result (Unit {0}) Stop → (before after : KeptWorld) → (old new : List Device) → Type 0
@@ -123,7 +123,7 @@ Joined place = AllByRecursion (LinkFits place.motes) place.links
 -- an item that declares an image
 abbrev pub IsDeclaration : Item → Type 0
 IsDeclaration (Declares row) = Unit {0}
-IsDeclaration (Happened step reported) = ⊥
+IsDeclaration (Applies step reported) = ⊥
 
 -- The player and the boards, which were `initial` when the replay began, stand for this world, behind these lines.
 pub record Stood (p : Player) (done : List Line) (w : Option World) (initial now : List Device) : Type 0 where
@@ -162,7 +162,8 @@ gone_on p line = record p { place = place_after p.place line }
 abbrev pub Grounded : (table : List Row) → (initial : List Device) → Ground → List Line → Type 0
 Grounded table initial g done = UsesBoards done → IsGround g table (motes_in done) × StandFor (motes_in done) g.stores initial
 
--- The run behind a line: its items are those of the lines up to this one, and it tells this text behind what was told before.
+-- The run behind a line: its items are those of the lines up to this one, and it reports this text behind what was reported
+-- before.
 pub record RunsOn (table : List Row) (initial : List Device) (done : List Line) (line : Line) (v : Option World)
     (text : List ℕ) (played : List Played) : Type 0 where
   pub now : List Played
@@ -171,7 +172,7 @@ pub record RunsOn (table : List Row) (initial : List Device) (done : List Line) 
   pub grounded : Grounded table initial ground (done ++ line ∷ [])
   pub run : RunsTo (beginning_of ground (done ++ line ∷ [])).world now v
   pub told : played_text now ≡ played_text played ++ text
-  -- where something is told, it goes on behind what was played before
+  -- where something is reported, it goes on behind what was played before
   pub on : (text ≡ []) ⊎ ((more : List Played) × (now ≡ played ++ more))
 
 -- What a line behind others makes of a run that leads to a world. Behind a link or a narrow mote it is the run of the same
@@ -182,12 +183,12 @@ LineRuns table initial done line w v text = (g : Ground) (played : List Played) 
     → map item_played played ≡ items_of done → RunsTo (beginning_of g done).world played w
     → RunsOn table initial done line v text played
 
--- A line was played behind others, and this is told of it.
-pub record PlayedLine (basis : Basis) (q : Player) (behind : DoneSoFar) (line : Line) (told_before : List ℕ)
-    (b : BoardsTold) : Type 0 where
+-- A line was played behind others, and this is reported of it.
+pub record PlayedLine (basis : Basis) (q : Player) (behind : DoneSoFar) (line : Line) (report_before : List ℕ)
+    (b : BoardsReported) : Type 0 where
   pub world : Option World
   pub text : List ℕ
-  pub told_now : b.told ≡ told_before ++ text
+  pub report_now : b.told ≡ report_before ++ text
   pub runs : LineRuns basis.table basis.boards behind.lines line behind.world world text
   pub stood : Stood q (behind.lines ++ line ∷ []) world basis.boards b.boards
   pub boards_enough : lacking_by (length basis.boards) line None ≡ None
@@ -198,7 +199,7 @@ RunsFrom None items v text = (items ≡ []) × (v ≡ None) × (text ≡ [])
 RunsFrom (Some w) items v text = (u : World) × (v ≡ Some u) × ItemsRun w items u text
 
 -- A line behind others was begun: of its items the first were played, and P holds of the world then, of those that are left,
--- and of what is told of those that were played.
+-- and of what is reported of those that were played.
 pub record LineBegun (done : List Line) (line : Line) (w : Option World) (P : Option World → (left : List Item)
     → (text : List ℕ) → Type 0) : Type 0 where
   pub begun : List Item
@@ -218,7 +219,7 @@ pub record LacksBoards (line : Line) (motes boards : ℕ) (initial old new : Lis
 
 -- What playing a line answers, from a player and boards that stand for the world behind other lines. The boards and what is
 -- told were a before it, and are b then.
-abbrev pub PlayedAs : Basis → Result (Unit {0}) Stop → Player → (behind : DoneSoFar) → Line → (a b : BoardsTold) → Type 0
+abbrev pub PlayedAs : Basis → Result (Unit {0}) Stop → Player → (behind : DoneSoFar) → Line → (a b : BoardsReported) → Type 0
 PlayedAs basis (Ok u) q behind line a b = PlayedLine basis q behind line a.told b
 PlayedAs basis (Err Memory) q behind line a b =
     LineBegun behind.lines line behind.world (λ v left text. BoardsStand v basis.boards b.boards)

@@ -4,7 +4,7 @@ use Rattle.std.specs.List.{AllByRecursion}
 use Rattle.dg_base.specs.declared.events.Step.{Step}
 use Rattle.dg_object.specs.Object.{Row}
 use Rattle.dg_script.specs.Script.{Script}
-use Rattle.dg_script.specs.Items.{Item, Happens}
+use Rattle.dg_script.specs.Items.{Item, Applies}
 use Rattle.dg_rules.specs.World.{World}
 use Rattle.dg_rules.specs.Runs.{Played, EachAfter}
 use Rattle.dg_rules.specs.Promises.{IsLegal, KeepsAll, StartsRow, StopsAgree}
@@ -15,7 +15,7 @@ use Rattle.dg_completion.specs.Ends.{EndsInRest, PagesCome, KeepsNewest}
 use Rattle.dg_completion.specs.Played.{RoundsBring}
 use Rattle.dg_rules.specs.Begins.{StoresAgree, HoldsTo, HoldsToThen}
 use Rattle.dg_replay.specs.Items.{IsNoFrame, UsesBoards, beginning_of}
-use Rattle.dg_replay.specs.Outcome.{Progress}
+use Rattle.dg_replay.specs.Replayed.{Progress}
 
 -- Each frame from outside is honest by the table of its moment. Where the boards are used as they are, what they stood for
 -- agrees with the table, and no key of that table is injected with another content. A script with golden meets that.
@@ -32,7 +32,7 @@ HonestWithoutFrames c = AllByRecursion IsNoFrame c.done → (UsesBoards c.done �
 -- agrees with the table behind it.
 abbrev pub HalvesAgree : {table : List Row} {script : Script} → Progress table script → Type 0
 HalvesAgree c = (w : World) (step : Step) (reported : Bool) (more : List Item) → c.last ≡ Some w
-    → c.left ≡ Happens step reported ∷ more → HonestEvent w.table step.event
+    → c.left ≡ Applies step reported ∷ more → HonestEvent w.table step.event
     → (UsesBoards c.done → HoldsTo c.ground.table w step.event) → StopsAgree w step.event
 
 -- where it ends with a rest, pages came along the links as in a pipeline, by so many sweeps as the rest has
@@ -75,7 +75,7 @@ pub record StaysConsistent (golden : Row) (played : List Played) (last : Option 
   pub ends : IfSome last (WorldConsistent golden)
   pub starts : AllByRecursion (StartsSound golden) played
   pub halves : (w : World) (step : Step) (reported : Bool) (more : List Item) → last ≡ Some w
-      → left ≡ Happens step reported ∷ more → StopsConsistent golden w step.event
+      → left ≡ Applies step reported ∷ more → StopsConsistent golden w step.event
 
 -- Whatever bytes its frames carry: golden is the one row of the table with which the run begins
 abbrev pub StoresStayConsistent : {table : List Row} {script : Script} → Progress table script → Type 0

@@ -23,11 +23,12 @@ use Rattle.dg_replay.specs.Boards.{BoardsStand, BoardStopped, StoppedIn, InSome,
 use Rattle.dg_replay.specs.Items.{Ground, UsesBoards, beginning_of, motes_in, lacking}
 use Rattle.dg_replay.specs.Ending.{Ending, NoBoards, TooManyEvents, FaultAt, script_of, events_in, InBounds, ending_line}
 use Rattle.dg_replay.specs.Near.{behind_lines, FewBytesBehind}
-use Rattle.dg_replay.specs.Outcome.{Progress, ReachesEnding, AtTooMany, closing, Wrote, BoardsLeft, BoardStoppedThere, IsCaused}
-use Rattle.dg_replay.specs.Outcome.{RunsTo, item_played, played_text, told_of, IsSettled, AreWhole, AllWhole, NextIsWhole}
-use Rattle.dg_replay.specs.Outcome.{DoneIsWhole, ReadEnough, ReadsNear, NoVolumeThere, NoImageThere, no_volume_line}
-use Rattle.dg_replay.specs.Outcome.{no_image_line}
-use Rattle.dg_replay.specs.Stages.{Basis, DoneSoFar, ReplayState, LineRead, Span, BytesTaken, Failures, boards_told, span}
+use Rattle.dg_replay.specs.Replayed.{Progress, ReachesEnding, AtTooMany, closing, Wrote, BoardsLeft, BoardStoppedThere, IsCaused}
+use Rattle.dg_replay.specs.Replayed.{RunsTo, item_played, played_text, report_of_lines, IsSettled, AreWhole, AllWhole}
+use Rattle.dg_replay.specs.Replayed.{NextIsWhole}
+use Rattle.dg_replay.specs.Replayed.{DoneIsWhole, ReadEnough, ReadsNear, NoVolumeThere, NoImageThere, no_volume_line}
+use Rattle.dg_replay.specs.Replayed.{no_image_line}
+use Rattle.dg_replay.specs.Stages.{Basis, DoneSoFar, ReplayState, LineRead, Span, BytesTaken, Failures, boards_reported, span}
 use Rattle.dg_replay.specs.Playing.{Stood, PlayedLine, LineBegun, IsOneTooMany, LacksBoards, Grounded}
 use Rattle.dg_replay.specs.declared.player.Player.{Player}
 use Rattle.dg_script.specs.declared.line.Line.{Line}
@@ -45,11 +46,11 @@ pub record TextPlayed (basis : Basis) (text : List ℕ) (so_far : DoneSoFar) (p 
   pub line : Line
   pub spelled : line_of p.place text ≡ Ok line
   pub told : List ℕ
-  pub to : PlayedLine basis q so_far line [] (boards_told now told)
+  pub to : PlayedLine basis q so_far line [] (boards_reported now told)
   pub behind : q.place ≡ place_after p.place line
 
--- and what is told of it was written
-pub record TextTold (basis : Basis) (text : List ℕ) (behind : DoneSoFar) (a b : ReplayState) : Type 0 where
+-- and what is reported of it was written
+pub record TextReported (basis : Basis) (text : List ℕ) (behind : DoneSoFar) (a b : ReplayState) : Type 0 where
   pub played : TextPlayed basis text behind a.player b.player b.boards
   pub written : Puts a.written b.written played.told
 
@@ -86,7 +87,7 @@ abbrev pub NotFound : Place → (text : List ℕ) → ℕ → Stop → Type 0
 NotFound place text number stop =
     (stop ≡ Memory) ⊎ ((fault : LineFault) × (stop ≡ BadInput number fault) × (line_of place text ≡ Err fault))
 
--- a board stopped within a line of which these items are left, and what is told of the others, which is something,
+-- a board stopped within a line of which these items are left, and what is reported of the others, which is something,
 -- was not all written
 abbrev pub CutAtStop : (done : List Line) → Line → Option World → (left : List Item) → (text : List ℕ) → Span → Type 0
 CutAtStop done line v left text s =
@@ -107,14 +108,14 @@ abbrev pub BegunWrittenOr : Stop → Stop → (text : List ℕ) → (before afte
 BegunWrittenOr stop result text before after failed =
     ((result ≡ stop) × Puts before after text) ⊎ ((result ≡ WriteFault) × failed × (text ≢ []) × PutsFront before after text)
 
--- what comes of writing what is told of a line that the replay did not end, and why it stops then
+-- what comes of writing what is reported of a line that the replay did not end, and why it stops then
 abbrev pub BegunWritten : Stop → Stop → (text : List ℕ) → (before after : Option (List ℕ)) → (write_failed : Type 0) → Type 0
 BegunWritten TooMany result text before after failed = BegunWrittenOr TooMany result text before after failed
 BegunWritten FlashFault result text before after failed = BegunWrittenOr FlashFault result text before after failed
 BegunWritten NoImage result text before after failed = BegunWrittenOr NoImage result text before after failed
 BegunWritten stop result text before after failed = (result ≡ stop) × (after ≡ before)
 
--- items of a line behind others were played, and what is told of them was not all written, since a write failed
+-- items of a line behind others were played, and what is reported of them was not all written, since a write failed
 abbrev pub BegunAndCut : (initial : List Device) → (behind : DoneSoFar) → (a b : ReplayState) → Line → Type 0
 BegunAndCut initial behind a b line = LineBegun behind.lines line behind.world
     (λ v left t. CutAtStop behind.lines line v left t (span initial b.boards a.written b.written)
@@ -125,7 +126,7 @@ BegunAndCut initial behind a b line = LineBegun behind.lines line behind.world
 -- and are b then.
 abbrev pub TextAnswer : Basis → Result (Unit {0}) Stop → LineRead → (behind : DoneSoFar) → (a b : ReplayState)
     → (write_failed : Type 0) → Type 0
-TextAnswer basis (Ok u) read behind a b failed = TextTold basis read.text behind a b
+TextAnswer basis (Ok u) read behind a b failed = TextReported basis read.text behind a b
 TextAnswer basis (Err Memory) read behind a b failed = NothingDone a.boards b.boards a.written b.written
     ⊎ (TextRead read.text a.player (λ line. LineBegun behind.lines line behind.world
     (λ v left t. BoardsStand v basis.boards b.boards)) × (b.written ≡ a.written))
@@ -168,7 +169,7 @@ pub record Reached (table : List Row) (ends : Bool) (script : Script) (texts : L
   -- there are boards for the motes of every line that was done
   pub boards_enough : lacking (length s.initial) done ≡ None
 
--- A script was played so far, what was written is a front of what is told of that, and P holds of how far,
+-- A script was played so far, what was written is a front of what is reported of that, and P holds of how far,
 -- and of what was written.
 pub record PlayedFront (table : List Row) (script : Script) (initial : List Device) (before after : Option (List ℕ))
     (P : Progress table script → List ℕ → Type 0) : Type 0 where
@@ -181,7 +182,7 @@ pub record PlayedFront (table : List Row) (script : Script) (initial : List Devi
   pub stood : UsesBoards came.done → StandFor (motes_in came.done) came.ground.stores initial
   pub there : P came text
 
--- A script was played so far, and all that is told of that was written.
+-- A script was played so far, and all that is reported of that was written.
 pub record PlayedUpTo (table : List Row) (script : Script) (initial : List Device) (before after : Option (List ℕ))
     (P : Progress table script → Type 0) : Type 0 where
   pub came : Progress table script
@@ -195,13 +196,14 @@ pub record HasFew (script : Script) (initial : List Device) : Type 0 where
   pub events : events_in script.lines ≤ most_events
   pub boards_enough : lacking (length initial) script.lines ≡ None
 
--- All that is told of the lines before this one was written.
-pub record ToldBefore {table : List Row} {script : Script} (line : ℕ) (c : Progress table script) (text : List ℕ) : Type 0 where
+-- All that is reported of the lines before this one was written.
+pub record ReportedBefore {table : List Row} {script : Script} (line : ℕ) (c : Progress table script)
+    (text : List ℕ) : Type 0 where
   pub lines : ℕ
   pub within : lines ≤ length c.done
   pub behind : line ≤ lines + 1
   pub more : List ℕ
-  pub told : text ≡ told_of lines c ++ more
+  pub told : text ≡ report_of_lines lines c ++ more
 
 -- Why playing a script stops at the line of this number, and how far it came: W holds of that.
 abbrev pub StopsAtText : (table : List Row) → Stop → (script : Script) → (W : Progress table script → Type 0)
@@ -213,7 +215,7 @@ StopsAtText table (BadInput line fault) script W number s failed = (line ≡ num
     × BoardsStand c.last s.initial s.now × HasFew script s.initial × W c)
 StopsAtText table WriteFault script W number s failed = failed
     × PlayedFront table script s.initial s.before s.after (λ c text. BoardsLeft status.WriteFault c s.initial s.now
-    × ToldBefore number c text × W c)
+    × ReportedBefore number c text × W c)
 StopsAtText table FlashFault script W number s failed =
     PlayedUpTo table script s.initial s.before s.after
     (λ c. ((line : Line) × (more : List Line) × (c.rest ≡ line ∷ more) × UsesBoard line)
@@ -228,10 +230,10 @@ StopsAtText table (NoBoard motes boards) script W number s failed =
 StopsAtText table NoImage script W number s failed =
     PlayedUpTo table script s.initial s.before s.after (λ c. ((line : Line) × (more : List Line) × (c.rest ≡ line ∷ more))
     × UsesBoards c.done × NoImageThere c s.initial s.now
-    × ((more : List ℕ) → ToldBefore number c (played_text c.played ++ more)) × W c)
+    × ((more : List ℕ) → ReportedBefore number c (played_text c.played ++ more)) × W c)
 StopsAtText table NotAVolume script W number s failed =
     PlayedUpTo table script s.initial s.before s.after (λ c. NoVolumeThere c s.initial s.now
-    × ((more : List ℕ) → ToldBefore number c (played_text c.played ++ more)) × W c)
+    × ((more : List ℕ) → ReportedBefore number c (played_text c.played ++ more)) × W c)
 
 -- the same where nothing more is said of how far it came
 abbrev pub StopsThere : (table : List Row) → Stop → (script : Script) → (number : ℕ) → Span → (write_failed : Type 0) → Type 0

@@ -22,13 +22,13 @@ pub record DoneSoFar : Type 0 where
 abbrev pub done_so_far : (lines : List Line) (world : Option World) → DoneSoFar
 done_so_far lines world = record { lines = lines; world = world }
 
--- The boards, and what was told of lines so far.
-pub record BoardsTold : Type 0 where
+-- The boards, and what was reported of lines so far.
+pub record BoardsReported : Type 0 where
   pub boards : List Device
   pub told : List ℕ
 
-abbrev pub boards_told : (boards : List Device) (told : List ℕ) → BoardsTold
-boards_told boards told = record { boards = boards; told = told }
+abbrev pub boards_reported : (boards : List Device) (report : List ℕ) → BoardsReported
+boards_reported boards report = record { boards = boards; told = report }
 
 -- The state of a replay: its player, the boards, and what was written, where that is told.
 pub record ReplayState : Type 0 where

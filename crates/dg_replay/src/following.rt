@@ -9,8 +9,8 @@ ghost use Rattle.dg_replay.specs.Replaying.{TextAnswer, InputAnswer};
 ghost use Rattle.dg_replay.specs.Stages.{Basis, DoneSoFar, replay_state, line_read, span, bytes_taken, failures};
 
 use crate::halt::Halt;
-use crate::items::Told;
-use crate::lines::{next_line, write_begun, write_told};
+use crate::items::LineReport;
+use crate::lines::{next_line, write_begun, write_text};
 use crate::player::{Player, play_line};
 use crate::stop::Stop;
 use dg_base::{Sink, Source};
@@ -41,7 +41,7 @@ fn play_next<S: Source, K: Sink, N: Nor>(
     player: &mut Player,
     boards: &mut Vec<N>,
     out: &mut K,
-    told: &mut Told,
+    line_report: &mut LineReport,
 ) -> Result<bool, Halt>
     requires { Ready player.old (map N.device boards.old.items) }
     ensures answer { (more : List ℕ) × Takes (S.left input.old) (S.left input.new) more
@@ -69,16 +69,16 @@ fn play_next<S: Source, K: Sink, N: Nor>(
         Ok(line) => line,
         Err(stop) => return Err(Halt::Stopped(stop)),
     };
-    told.text.clear();
-    match play_line(alloc, &mut line, player, boards, told) {
+    line_report.text.clear();
+    match play_line(alloc, &mut line, player, boards, line_report) {
         Ok(()) => match player.place.pass(line) {
-            Ok(()) => match write_told(out, &told.text) {
+            Ok(()) => match write_text(out, &line_report.text) {
                 Ok(()) => Ok(true),
                 Err(stop) => Err(Halt::Stopped(stop)),
             },
             Err(AllocError) => Err(Halt::Stopped(Stop::Memory)),
         },
-        Err(stop) => Err(Halt::Stopped(write_begun(out, &told.text, stop))),
+        Err(stop) => Err(Halt::Stopped(write_begun(out, &line_report.text, stop))),
     }
 }
 
@@ -105,12 +105,20 @@ pub fn play_lines<S: Source, K: Sink, N: Nor>(
 {
     scripts_with_golden();
     let mut player = Player::first(alloc);
-    let mut told = Told {
+    let mut line_report = LineReport {
         reports: Vec::new(alloc),
         text: Vec::new(alloc),
     };
     let mut number = 1;
-    while play_next(alloc, reader, input, &mut player, boards, out, &mut told)? {
+    while play_next(
+        alloc,
+        reader,
+        input,
+        &mut player,
+        boards,
+        out,
+        &mut line_report,
+    )? {
         number += 1;
         if reader.is_last() {
             return Ok((player, number));

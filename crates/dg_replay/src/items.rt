@@ -5,7 +5,7 @@ ghost use Rattle.dg_nor.specs.Device.{Device};
 ghost use Rattle.dg_object.specs.Object.{row_of};
 ghost use Rattle.dg_rounds.specs.Rounds.{times, round, sweep};
 ghost use Rattle.dg_script.specs.Fitting.{FitsImage};
-ghost use Rattle.dg_script.specs.Items.{Declares, Happens, unreported};
+ghost use Rattle.dg_script.specs.Items.{Declares, Applies, unreported};
 ghost use Rattle.dg_script.specs.Report.{report_text};
 ghost use Rattle.dg_rules.specs.Sizes.{most_events};
 ghost use Rattle.dg_rules.specs.World.{World as RuleWorld};
@@ -15,7 +15,7 @@ ghost use Rattle.dg_world.specs.Worlds.{IsWorld};
 ghost use Rattle.dg_world.specs.Occasions.{step_of};
 ghost use Rattle.dg_replay.specs.Boards.{WorldStands};
 ghost use Rattle.dg_replay.specs.Playing.{ItemsPlayedAs, KeepsMotes};
-ghost use Rattle.dg_replay.specs.Stages.{boards_told};
+ghost use Rattle.dg_replay.specs.Stages.{boards_reported};
 
 use crate::stop::Stop;
 use dg_base::{Bytes, Cut, Event, ImageVersion};
@@ -27,7 +27,7 @@ use std::alloc::AllocError;
 
 /// The buffers of a line.
 #[derive(Drop)]
-pub struct Told {
+pub struct LineReport {
     /// What one item of it reports.
     pub reports: Vec<Report>,
     /// The text of all that it reports.
@@ -45,15 +45,16 @@ pub fn push_reports(text: &mut Vec<u8>, reports: &[Report]) -> Result<(), AllocE
 }
 
 /// Appends the text of what an item reports.
-fn tell(told: &mut Told) -> Result<(), Stop>
-    ensures told { OnOk result (told.new.text.items ≡ told.old.text.items ++ report_text told.old.reports.items) }
+fn append_text(line_report: &mut LineReport) -> Result<(), Stop>
+    ensures told { OnOk result (line_report.new.text.items ≡ line_report.old.text.items
+        ++ report_text line_report.old.reports.items) }
     ensures memory { OnErr result (result ≡ Err Stop.Memory) }
 {
     // Most events of a round report nothing.
-    if told.reports.is_empty() {
+    if line_report.reports.is_empty() {
         return Ok(());
     }
-    match push_reports(&mut told.text, &told.reports) {
+    match push_reports(&mut line_report.text, &line_report.reports) {
         Ok(()) => Ok(()),
         Err(AllocError) => Err(Stop::Memory),
     }
@@ -62,36 +63,39 @@ fn tell(told: &mut Told) -> Result<(), Stop>
 /// Declares an image.
 pub fn play_image(
     world: &mut World,
-    key: ImageVersion,
+    image_version: ImageVersion,
     name: Bytes,
     content: Bytes,
-    told: &mut Told,
+    line_report: &mut LineReport,
 ) -> Result<(), Stop>
-    requires fits { FitsImage key.image key.version name content }
+    requires fits { FitsImage image_version.image image_version.version name content }
     ensures { (boards initial : List Device) (w : RuleWorld) → IsWorld world.old boards w → WorldStands w initial boards
-        → ItemsPlayedAs result w (Declares (row_of key.image key.version name content) ∷ []) world.new initial
-        told.old.text.items (boards_told boards told.new.text.items) }
+        → ItemsPlayedAs result w (Declares (row_of image_version.image image_version.version name content) ∷ []) world.new initial
+        line_report.old.text.items (boards_reported boards line_report.new.text.items) }
 {
-    let ImageVersion { image, version } = key;
-    told.reports.clear();
+    let ImageVersion { image, version } = image_version;
+    line_report.reports.clear();
     match world.declare(image, version, name, content) {
         Ok(()) => Ok(()),
         Err(DeclareFault::Memory) => Err(Stop::Memory),
-        Err(DeclareFault::Taken) => match told.reports.push(Report::Taken { image, version }) {
-            Ok(()) => tell(told),
+        Err(DeclareFault::Taken) => match line_report
+            .reports
+            .push(Report::Taken { image, version })
+        {
+            Ok(()) => append_text(line_report),
             Err(_) => Err(Stop::Memory),
         },
     }
 }
 
-/// Plays an event with the cut that waits for it. Its frame is told where `reported` is true.
+/// Plays an event with the cut that waits for it. Its frame is reported where `reported` is true.
 pub fn play_event<N: Nor>(
     world: &mut World,
     event: &Event,
     cut: Option<&Cut>,
     reported: bool,
     boards: &mut Vec<N>,
-    told: &mut Told,
+    line_report: &mut LineReport,
 ) -> Result<(), Stop>
     requires { (w : RuleWorld) × IsWorld world.old (map N.device boards.old.items) w
         × StepInRange (length w.sites) (step_of event.now (option_copied cut)) }
@@ -100,12 +104,12 @@ pub fn play_event<N: Nor>(
         → result ≡ Err Stop.TooMany }
     ensures played { (w : RuleWorld) (initial : List Device) → IsWorld world.old (map N.device boards.old.items) w
         → WorldStands w initial (map N.device boards.old.items)
-        → ItemsPlayedAs result w (Happens (step_of event.now (option_copied cut.entry)) reported ∷ []) world.new initial
-        told.old.text.items (boards_told (map N.device boards.new.items) told.new.text.items) }
+        → ItemsPlayedAs result w (Applies (step_of event.now (option_copied cut.entry)) reported ∷ []) world.new initial
+        line_report.old.text.items (boards_reported (map N.device boards.new.items) line_report.new.text.items) }
 {
-    told.reports.clear();
-    match world.apply(boards, event, cut, reported, &mut told.reports) {
-        Ok(()) => tell(told),
+    line_report.reports.clear();
+    match world.apply(boards, event, cut, reported, &mut line_report.reports) {
+        Ok(()) => append_text(line_report),
         Err(WorldFault::Memory) => Err(Stop::Memory),
         Err(WorldFault::Flash { .. }) => Err(Stop::FlashFault),
         Err(WorldFault::TooMany) => Err(Stop::TooMany),
@@ -114,23 +118,23 @@ pub fn play_event<N: Nor>(
     }
 }
 
-/// Plays the events of a round. Their frames are not told.
+/// Plays the events of a round. Their frames are not reported.
 pub fn play_round<N: Nor>(
     world: &mut World,
     a: u8,
     b: u8,
     boards: &mut Vec<N>,
-    told: &mut Told,
+    line_report: &mut LineReport,
 ) -> Result<(), Stop>
     requires { (w : RuleWorld) × IsWorld world.old (map N.device boards.old.items) w × LinkFits (length w.sites) (a, b) }
     ensures goes_on { KeepsMotes result world.old world.new (map N.device boards.old.items) (map N.device boards.new.items) }
     ensures played { (w : RuleWorld) (initial : List Device) → IsWorld world.old (map N.device boards.old.items) w
         → WorldStands w initial (map N.device boards.old.items)
-        → ItemsPlayedAs result w (unreported (round a b)) world.new initial told.old.text.items
-        (boards_told (map N.device boards.new.items) told.new.text.items) }
+        → ItemsPlayedAs result w (unreported (round a b)) world.new initial line_report.old.text.items
+        (boards_reported (map N.device boards.new.items) line_report.new.text.items) }
 {
     for event in round(a, b) {
-        play_event(world, &event, None, false, boards, told)?;
+        play_event(world, &event, None, false, boards, line_report)?;
     }
     Ok(())
 }
@@ -141,17 +145,17 @@ fn play_both<N: Nor>(
     a: u8,
     b: u8,
     boards: &mut Vec<N>,
-    told: &mut Told,
+    line_report: &mut LineReport,
 ) -> Result<(), Stop>
     requires { (w : RuleWorld) × IsWorld world.old (map N.device boards.old.items) w × LinkFits (length w.sites) (a, b) }
     ensures goes_on { KeepsMotes result world.old world.new (map N.device boards.old.items) (map N.device boards.new.items) }
     ensures played { (w : RuleWorld) (initial : List Device) → IsWorld world.old (map N.device boards.old.items) w
         → WorldStands w initial (map N.device boards.old.items)
-        → ItemsPlayedAs result w (unreported (round a b ++ round b a)) world.new initial told.old.text.items
-        (boards_told (map N.device boards.new.items) told.new.text.items) }
+        → ItemsPlayedAs result w (unreported (round a b ++ round b a)) world.new initial line_report.old.text.items
+        (boards_reported (map N.device boards.new.items) line_report.new.text.items) }
 {
-    play_round(world, a, b, boards, told)?;
-    play_round(world, b, a, boards, told)?;
+    play_round(world, a, b, boards, line_report)?;
+    play_round(world, b, a, boards, line_report)?;
     Ok(())
 }
 
@@ -160,18 +164,18 @@ fn play_sweep<N: Nor>(
     world: &mut World,
     links: &[(u8, u8)],
     boards: &mut Vec<N>,
-    told: &mut Told,
+    line_report: &mut LineReport,
 ) -> Result<(), Stop>
     requires { (w : RuleWorld) × IsWorld world.old (map N.device boards.old.items) w
         × AllByRecursion (LinkFits (length w.sites)) links.now }
     ensures goes_on { KeepsMotes result world.old world.new (map N.device boards.old.items) (map N.device boards.new.items) }
     ensures played { (w : RuleWorld) (initial : List Device) → IsWorld world.old (map N.device boards.old.items) w
         → WorldStands w initial (map N.device boards.old.items)
-        → ItemsPlayedAs result w (unreported (sweep links.now)) world.new initial told.old.text.items
-        (boards_told (map N.device boards.new.items) told.new.text.items) }
+        → ItemsPlayedAs result w (unreported (sweep links.now)) world.new initial line_report.old.text.items
+        (boards_reported (map N.device boards.new.items) line_report.new.text.items) }
 {
     for link in links {
-        play_both(world, link.0, link.1, boards, told)?;
+        play_both(world, link.0, link.1, boards, line_report)?;
     }
     Ok(())
 }
@@ -182,17 +186,17 @@ pub fn play_sweeps<N: Nor>(
     links: &[(u8, u8)],
     count: u32,
     boards: &mut Vec<N>,
-    told: &mut Told,
+    line_report: &mut LineReport,
 ) -> Result<(), Stop>
     requires { (w : RuleWorld) × IsWorld world.old (map N.device boards.old.items) w
         × AllByRecursion (LinkFits (length w.sites)) links.now }
     ensures { (w : RuleWorld) (initial : List Device) → IsWorld world.old (map N.device boards.old.items) w
         → WorldStands w initial (map N.device boards.old.items)
-        → ItemsPlayedAs result w (unreported (times count (sweep links.now))) world.new initial told.old.text.items
-        (boards_told (map N.device boards.new.items) told.new.text.items) }
+        → ItemsPlayedAs result w (unreported (times count (sweep links.now))) world.new initial line_report.old.text.items
+        (boards_reported (map N.device boards.new.items) line_report.new.text.items) }
 {
     for _ in 0..count {
-        play_sweep(world, links, boards, told)?;
+        play_sweep(world, links, boards, line_report)?;
     }
     Ok(())
 }

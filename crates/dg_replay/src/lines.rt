@@ -1,4 +1,4 @@
-//! Reads the text of a line, and writes what is told of one that was played.
+//! Reads the text of a line, and writes what is reported of one that was played.
 ghost use Rattle.std.specs.Prelude.{◌≡◌, ◌≢◌, ◌≤◌, [], OnOk, OnErr, MatchResult, Err};
 ghost use Rattle.dg_words.specs.Counts.{Rose};
 ghost use Rattle.dg_base.specs.Outside.{Puts, PutsFront};
@@ -12,7 +12,7 @@ use std::alloc::Global;
 /// Writes a piece.
 pub fn put_piece<K: Sink>(out: &mut K, piece: &[u8]) -> Result<(), Stop>
     ensures ok { OnOk result (Puts (K.written out.old) (K.written out.new) piece.now) }
-    ensures cut { OnErr result (PutsFront (K.written out.old) (K.written out.new) piece.now) }
+    ensures front { OnErr result (PutsFront (K.written out.old) (K.written out.new) piece.now) }
     ensures cause { OnErr result ((result ≡ Err Stop.WriteFault) × Rose (K.faults out.old) (K.faults out.new)) }
     ensures counts { K.faults out.old ≤ K.faults out.new }
     ensures unfailed { result ≢ Err Stop.WriteFault → K.faults out.new ≡ K.faults out.old }
@@ -23,10 +23,10 @@ pub fn put_piece<K: Sink>(out: &mut K, piece: &[u8]) -> Result<(), Stop>
     }
 }
 
-/// Writes what is told of a line, in one piece, where it is something.
-pub fn write_told<K: Sink>(out: &mut K, text: &[u8]) -> Result<(), Stop>
+/// Writes what is reported of a line, in one piece, where it is something.
+pub fn write_text<K: Sink>(out: &mut K, text: &[u8]) -> Result<(), Stop>
     ensures ok { OnOk result (Puts (K.written out.old) (K.written out.new) text.now) }
-    ensures cut { OnErr result (PutsFront (K.written out.old) (K.written out.new) text.now × (text.now ≢ [])) }
+    ensures front { OnErr result (PutsFront (K.written out.old) (K.written out.new) text.now × (text.now ≢ [])) }
     ensures cause { OnErr result ((result ≡ Err Stop.WriteFault) × Rose (K.faults out.old) (K.faults out.new)) }
     ensures counts { K.faults out.old ≤ K.faults out.new }
     ensures unfailed { result ≢ Err Stop.WriteFault → K.faults out.new ≡ K.faults out.old }
@@ -37,7 +37,7 @@ pub fn write_told<K: Sink>(out: &mut K, text: &[u8]) -> Result<(), Stop>
     put_piece(out, text)
 }
 
-/// Writes what is told of the items of a line before the one at which the replay stops, and answers why it does.
+/// Writes what is reported of the items of a line before the one at which the replay stops, and answers why it does.
 pub fn write_begun<K: Sink>(out: &mut K, text: &[u8], stop: Stop) -> Stop
     ensures written { BegunWritten stop result text.now (K.written out.old) (K.written out.new)
         (Rose (K.faults out.old) (K.faults out.new)) }
@@ -45,7 +45,7 @@ pub fn write_begun<K: Sink>(out: &mut K, text: &[u8], stop: Stop) -> Stop
     ensures unfailed { result ≢ Stop.WriteFault → K.faults out.new ≡ K.faults out.old }
 {
     match stop {
-        Stop::TooMany | Stop::FlashFault | Stop::NoImage => match write_told(out, text) {
+        Stop::TooMany | Stop::FlashFault | Stop::NoImage => match write_text(out, text) {
             Ok(()) => stop,
             Err(fault) => fault,
         },

@@ -5,9 +5,9 @@ ghost use Rattle.dg_volume.specs.Store.{fresh};
 ghost use Rattle.dg_script.specs.Fitting.{IsGolden};
 ghost use Rattle.dg_script.specs.Places.{first_place, place_after};
 ghost use Rattle.dg_replay.specs.Playing.{Stood, MayPlay, gone_on, Counted, PlayedAs, FormattedAs, MountedAs, mount_stop};
-ghost use Rattle.dg_replay.specs.Stages.{Basis, DoneSoFar, boards_told};
+ghost use Rattle.dg_replay.specs.Stages.{Basis, DoneSoFar, boards_reported};
 
-use crate::items::{Told, play_event, play_image, play_round, play_sweeps};
+use crate::items::{LineReport, play_event, play_image, play_round, play_sweeps};
 use crate::stop::Stop;
 use dg_base::{Bytes, ImageVersion};
 use dg_nor::Nor;
@@ -98,11 +98,11 @@ fn play_golden<N: Nor>(
     requires fits { IsGolden name.now used content.now }
     requires counted { Counted player.old.place.motes (length boards.old.items) }
     requires unready { player.old.place.ready ≡ false }
-    ensures played { (basis : Basis) (behind : DoneSoFar) (told : List ℕ)
+    ensures played { (basis : Basis) (behind : DoneSoFar) (text : List ℕ)
         → Stood player.old behind.lines behind.world basis.boards (map N.device boards.old.items)
         → PlayedAs basis result (gone_on player.new (Line.Golden name.now used content.now)) behind
-        (Line.Golden name.now used content.now) (boards_told (map N.device boards.old.items) told)
-        (boards_told (map N.device boards.new.items) told) }
+        (Line.Golden name.now used content.now) (boards_reported (map N.device boards.old.items) text)
+        (boards_reported (map N.device boards.new.items) text) }
     ensures place { player.new.place ≡ player.old.place }
 {
     let motes = player.place.motes;
@@ -150,10 +150,10 @@ fn mount_stop(stopped: MountStopped) -> Stop
 fn play_boards<N: Nor>(alloc: Global, player: &mut Player, boards: &mut Vec<N>) -> Result<(), Stop>
     requires counted { Counted player.old.place.motes (length boards.old.items) }
     requires unready { player.old.place.ready ≡ false }
-    ensures played { (basis : Basis) (behind : DoneSoFar) (told : List ℕ)
+    ensures played { (basis : Basis) (behind : DoneSoFar) (text : List ℕ)
         → Stood player.old behind.lines behind.world basis.boards (map N.device boards.old.items)
         → PlayedAs basis result (gone_on player.new Line.Boards) behind Line.Boards
-        (boards_told (map N.device boards.old.items) told) (boards_told (map N.device boards.new.items) told) }
+        (boards_reported (map N.device boards.old.items) text) (boards_reported (map N.device boards.new.items) text) }
     ensures place { player.new.place ≡ player.old.place }
 {
     let motes = player.place.motes;
@@ -178,20 +178,20 @@ fn take_bytes(alloc: Global, bytes: &mut Bytes) -> Bytes
 }
 
 /// Plays a line where the player stands, whose place does not go on behind it yet. The bytes of an image are taken out of the
-/// line, which its place does not go on by. A cut waits for its event. What is told of the line is appended.
+/// line, which its place does not go on by. A cut waits for its event. What is reported of the line is appended.
 pub fn play_line<N: Nor>(
     alloc: Global,
     line: &mut Line,
     player: &mut Player,
     boards: &mut Vec<N>,
-    told: &mut Told,
+    line_report: &mut LineReport,
 ) -> Result<(), Stop>
     requires may { MayPlay line.old player.old (map N.device boards.old.items) }
     ensures played { (basis : Basis) (behind : DoneSoFar)
         → Stood player.old behind.lines behind.world basis.boards (map N.device boards.old.items)
         → PlayedAs basis result (gone_on player.new line.new) behind line.old
-        (boards_told (map N.device boards.old.items) told.old.text.items)
-        (boards_told (map N.device boards.new.items) told.new.text.items) }
+        (boards_reported (map N.device boards.old.items) line_report.old.text.items)
+        (boards_reported (map N.device boards.new.items) line_report.new.text.items) }
     ensures behind { place_after player.new.place line.new ≡ place_after player.old.place line.old }
     ensures linked { (a b : ℕ) → line.new ≡ Line.Link a b → boards.new.items ≡ boards.old.items }
 {
@@ -210,16 +210,16 @@ pub fn play_line<N: Nor>(
             name,
             content,
         } => {
-            let key = ImageVersion {
+            let image_version = ImageVersion {
                 image: *image,
                 version: *version,
             };
             let (name, content) = (take_bytes(alloc, name), take_bytes(alloc, content));
-            play_image(&mut player.world, key, name, content, told)
+            play_image(&mut player.world, image_version, name, content, line_report)
         }
-        Line::Happens(event) => {
+        Line::Event(event) => {
             let cut = player.place.cut.as_ref();
-            play_event(&mut player.world, event, cut, true, boards, told)
+            play_event(&mut player.world, event, cut, true, boards, line_report)
         }
         Line::Link(a, b) => {
             player.world.link(*a, *b);
@@ -229,10 +229,10 @@ pub fn play_line<N: Nor>(
             player.world.narrow(*mote);
             Ok(())
         }
-        Line::Round(a, b) => play_round(&mut player.world, *a, *b, boards, told),
+        Line::Round(a, b) => play_round(&mut player.world, *a, *b, boards, line_report),
         Line::Sweeps(count) => {
             let links = player.place.links.as_slice();
-            play_sweeps(&mut player.world, links, *count, boards, told)
+            play_sweeps(&mut player.world, links, *count, boards, line_report)
         }
     }
 }

@@ -1,4 +1,4 @@
--- The places of a round.
+-- The positions of a round.
 use Rattle.std.proofs.Common.{◌≡◌, ℕ, zero, suc, ◌+◌, ◌-◌, ◌*◌, ◌%◌, ◌<◌, ◌≤◌, List, [], ◌∷◌, ◌++◌, length, get_or, drop, replicate, refl, ap, ◌∙◌, arith}
 use Rattle.std.proofs.lemmas.List.{length-append, length-replicate, get_or-replicate, get_or_append_left, get_or-append_right, drop_more, drop_all}
 use Rattle.dg_base.specs.declared.events.Event.{Event}
@@ -9,7 +9,7 @@ unfolding times
 length-times zero xs = omega arith
 length-times (suc n) xs = length-append xs (times n xs) ∙ omega (arith, length-times n xs)
 
--- what stands at the places of a pair that is repeated
+-- what stands at the positions of a pair that is repeated
 even_place : {A : Type 0} (n j : ℕ) (x y d : A) → j < 2 * n → j % 2 ≡ 0 → get_or (times n (x ∷ y ∷ [])) j d ≡ x
 unfolding times
 even_place zero j x y d h e = absurd (omega arith)

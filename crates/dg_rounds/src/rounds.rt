@@ -16,7 +16,7 @@ const REST: u8 = 50;
 /// How many ticks make it advertise.
 const ADVERT: u8 = 3;
 
-/// The place of the last event before the packets.
+/// The position of the last event before the packets.
 const ASKED: u8 = 2 * REST + ADVERT + 2;
 
 /// The events of a round.
@@ -70,36 +70,36 @@ pub fn round(a: u8, b: u8) -> RoundEvents
     RoundEvents { a, b, given: 0 }
 }
 
-/// The event at a place of a round, counted from 0.
-fn event_at(a: u8, b: u8, place: u8) -> Event
-    requires { place < ROUND_EVENTS }
-    ensures { (d : Event) → slice_index_or (round a b) place d ≡ result }
+/// The event at a position of a round, counted from 0.
+fn event_at(a: u8, b: u8, position: u8) -> Event
+    requires { position < ROUND_EVENTS }
+    ensures { (d : Event) → slice_index_or (round a b) position d ≡ result }
 {
-    if place < REST {
+    if position < REST {
         return paced(a);
     }
-    if place < 2 * REST {
+    if position < 2 * REST {
         return paced(b);
     }
-    if place < 2 * REST + ADVERT {
+    if position < 2 * REST + ADVERT {
         return paced(a);
     }
-    if place <= ASKED {
-        return asking_at(a, b, place - (2 * REST + ADVERT));
+    if position <= ASKED {
+        return asking_at(a, b, position - (2 * REST + ADVERT));
     }
-    if place % 2 == 0 {
+    if position % 2 == 0 {
         paced(a)
     } else {
         passed(a, b)
     }
 }
 
-/// The event at a place of those by which a mote asks: it hears the advert, and is heard.
-fn asking_at(a: u8, b: u8, place: u8) -> Event
-    requires { place < 3 }
-    ensures { result ≡ slice_index_or (passed a b ∷ paced b ∷ []) place (passed b a) }
+/// The event at a position of those by which a mote asks: it hears the advert, and is heard.
+fn asking_at(a: u8, b: u8, position: u8) -> Event
+    requires { position < 3 }
+    ensures { result ≡ slice_index_or (passed a b ∷ paced b ∷ []) position (passed b a) }
 {
-    match place {
+    match position {
         0 => passed(a, b),
         1 => paced(b),
         _ => passed(b, a),
@@ -113,7 +113,7 @@ fn paced(mote: u8) -> Event
     Event::Tick {
         mote,
         dt: PACE,
-        word: 0,
+        draw: 0,
     }
 }
 
@@ -125,6 +125,6 @@ fn passed(from: u8, to: u8) -> Event
         from,
         to,
         dt: 0,
-        word: 0,
+        draw: 0,
     }
 }

@@ -7,7 +7,7 @@ use Rattle.dg_rules.specs.Ranges.{EventInRange, StepInRange}
 use Rattle.dg_rules.specs.Premises.{WorldAgrees, TrueEvent, ItemFits, PlayedFits, ItemInRange, PlayedInRange, TrueItem, IsTrueThen, LeavesAgreement}
 use Rattle.dg_rules.specs.Begins.{PlaysFrom}
 use Rattle.dg_rules.specs.Promises.{StopsAgree}
-use Rattle.dg_script.specs.Items.{Item, Declares, Happens}
+use Rattle.dg_script.specs.Items.{Item, Declares, Applies}
 use Rattle.dg_rules.specs.Runs.{Played, ItemStep, Plays, EachAfter}
 use Rattle.dg_base.specs.declared.events.Event.{Event}
 use Rattle.dg_script.specs.declared.report.Report.{Report}
@@ -17,11 +17,11 @@ use Rattle.dg_rules.proofs.PlayLemmas.{Ended, plays, all_then, all_both}
 
 item_count : (motes : ℕ) (item : Item) (w v : World) (reports : List Report) → length w.sites ≡ motes → ItemInRange motes item → ItemStep w item v reports → length v.sites ≡ motes
 item_count motes (Declares row) w v reports count range did = ap length (ap (λ (u : World). u.sites) did.world ∙ declared_sites (row_at w.declared row.image row.version) w row) ∙ count
-item_count motes (Happens x reported) w v reports count range did = step_count w x v did.0 (subst (λ (n : ℕ). StepInRange n x) (sym count) range) did.1 ∙ count
+item_count motes (Applies x reported) w v reports count range did = step_count w x v did.0 (subst (λ (n : ℕ). StepInRange n x) (sym count) range) did.1 ∙ count
 
 item_fits : (motes : ℕ) (item : Item) (w : World) → length w.sites ≡ motes → ItemInRange motes item → TrueItem item w → ItemFits item w
 item_fits motes (Declares row) w count range is_true = range
-item_fits motes (Happens x reported) w count range is_true = (subst (λ (n : ℕ). StepInRange n x) (sym count) range, is_true)
+item_fits motes (Applies x reported) w count range is_true = (subst (λ (n : ℕ). StepInRange n x) (sym count) range, is_true)
 
 fits_played : (motes : ℕ) (past : List Played) (p : Played) → length p.before.sites ≡ motes → PlayedInRange motes p × IsTrueThen p → ItemStep p.before p.item p.after p.reports
     → (length p.after.sites ≡ motes) × PlayedFits p

@@ -18,7 +18,7 @@ use Rattle.dg_volume.specs.Table.{row_at}
 use Rattle.dg_volume.specs.Agreement.{KeepsRow, HoldsRow, Agrees}
 use Rattle.dg_volume.specs.Start.{Runs, Boot, behind, counts, count_trail, by_gesture, order_waits, complete_pages, is_whole, is_set_to, blank_by, blank_trail, copy_trail, app_of, kept_runs, order_boot, golden_done, finish_trail, golden_copied, golden_stays, golden_by, golden_boot, kept_by, kept_boot, waived_once, boot_counted, boot, sound}
 use Rattle.dg_volume.specs.declared.volume.StartCause.{StartCause}
-use Rattle.dg_volume.specs.declared.volume.StartCause.TheVariants as kind
+use Rattle.dg_volume.specs.declared.volume.StartCause.TheVariants as cause
 use Rattle.dg_base.specs.declared.events.ImageVersion.{ImageVersion}
 use Rattle.dg_rules.specs.Small.{app_key}
 use Rattle.dg_rules.specs.Events.{key_of}
@@ -165,8 +165,8 @@ set_key app image version is =
     let parts = and_parts (app.image == image) (app.version == version) is in
     (eqb-true app.image image parts.0, eqb-true app.version version parts.1)
 
-same_app_key : (app : App) (key : ImageVersion) → app.image ≡ key.image → app.version ≡ key.version → app_key app ≡ key
-same_app_key app key image version i = record { image = image i; version = version i }
+same_app_key : (app : App) (image_version : ImageVersion) → app.image ≡ image_version.image → app.version ≡ image_version.version → app_key app ≡ image_version
+same_app_key app image_version image version i = record { image = image i; version = version i }
 
 golden_stays_start : (s : Store) (app : App) (three : Bool) → s.app ≡ Some app → is_set_to (Some app) 0 golden_version ≡ true → (three ≡ false → IsSettled s) → IsStart s (golden_stays s app three)
 golden_stays_start s app three here is old =
@@ -318,7 +318,7 @@ boot_start k s =
     (λ _. behind_start s s.gesture s.waived s.room (resting s 0) (boot_counted s) refl refl (counted_start s))
 
 -- an order that waits is started, where its image is sound and short starts do not choose golden
-pub order_alone : (s : Store) → order_waits s ≡ true → IsSettled s → sound s s.order.image ≡ true → (boot kind.Order s).runs ≡ Some (kept_runs s s.order.image s.order.version)
+pub order_alone : (s : Store) → order_waits s ≡ true → IsSettled s → sound s s.order.image ≡ true → (boot cause.Order s).runs ≡ Some (kept_runs s s.order.image s.order.version)
 unfolding boot count_trail boot_counted order_boot Rattle.dg_nor.specs.Trail.last_of
 order_alone s waits old is =
     let three = s.gesture == short_starts in

@@ -12,7 +12,7 @@ use Rattle.dg_rules.specs.Ranges.{EventInRange, StepInRange}
 use Rattle.dg_rules.specs.Premises.{IsDeclared, ItemInRange, PlayedInRange}
 use Rattle.dg_rules.specs.Golden.{GoldenNetwork, network_row, network_world, PlaysGolden}
 use Rattle.dg_rules.specs.Consistency.{SiteConsistent, WorldConsistent, LeavesConsistent, StartsSoundDoes, StartsSoundItem, StartsSound, StopsConsistent}
-use Rattle.dg_script.specs.Items.{Item, Declares, Happens}
+use Rattle.dg_script.specs.Items.{Item, Declares, Applies}
 use Rattle.dg_rules.specs.Runs.{Played, ItemStep, EachAfter}
 use Rattle.dg_base.specs.declared.events.Event.{Event}
 use Rattle.dg_base.specs.declared.events.Step.{Step}
@@ -45,13 +45,13 @@ module _ (laws : RunLaws) (golden : Row) (motes : ℕ) where
     world = laws.declared golden w v row reports h.world range did;
     count = ap length (ap (λ (u : World). u.sites) did.world ∙ declared_sites (row_at w.declared row.image row.version) w row) ∙ h.count;
   }
-  item_holds (Happens x reported) w v reports h range did =
+  item_holds (Applies x reported) w v reports h range did =
       let fits : StepInRange (length w.sites) x = subst (λ (n : ℕ). StepInRange n x) (sym h.count) range in
       record { world = laws.stepped golden w v x did.0 h.world fits did.1; count = step_count w x v did.0 fits did.1 ∙ h.count }
 
   item_starts : (item : Item) (w : World) → Holds golden motes w → ItemInRange motes item → StartsSoundItem golden item w
   item_starts (Declares row) w h range = tt
-  item_starts (Happens x reported) w h range = laws.starts golden w x.event h.world (subst (λ (n : ℕ). StepInRange n x) (sym h.count) range).event
+  item_starts (Applies x reported) w h range = laws.starts golden w x.event h.world (subst (λ (n : ℕ). StepInRange n x) (sym h.count) range).event
 
   played_holds : (past : List Played) (p : Played) → Holds golden motes p.before → PlayedInRange motes p → ItemStep p.before p.item p.after p.reports → Holds golden motes p.after × Has golden p
   played_holds past p h range did =

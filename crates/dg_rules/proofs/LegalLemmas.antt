@@ -17,7 +17,7 @@ use Rattle.dg_volume.specs.Table.{row_at, IsTable}
 use Rattle.dg_volume.specs.Agreement.{KeepsRow, Agrees}
 use Rattle.dg_volume.specs.RowLaws.{RowLaws}
 use Rattle.dg_volume.specs.declared.volume.StartCause.{StartCause}
-use Rattle.dg_volume.specs.declared.volume.StartCause.TheVariants as kind
+use Rattle.dg_volume.specs.declared.volume.StartCause.TheVariants as cause
 use Rattle.dg_mote.specs.Model.{MoteState}
 use Rattle.dg_base.specs.declared.events.ImageVersion.{ImageVersion}
 use Rattle.dg_rules.specs.World.{Site, Running}
@@ -69,11 +69,11 @@ waiting_whole table s agrees is = whole_by table s.order.image s.order.version (
 holding_whole : (row : Row) → holding (held_whole row) ≡ whole row
 holding_whole row i = record { version = row.version; pages = length-tabulate (pages_for (length row.bytes)) (page_of_row row) i }
 
-holds_whole : (table : List Row) (x : Site) (key : ImageVersion) (o : Option Held) → held x.store key.image ≡ o → Whole table key.image key.version o → HoldsWholeRow table (small_mote x) key
-holds_whole table x key o here w = record {
+holds_whole : (table : List Row) (x : Site) (image_version : ImageVersion) (o : Option Held) → held x.store image_version.image ≡ o → Whole table image_version.image image_version.version o → HoldsWholeRow table (small_mote x) image_version
+holds_whole table x image_version o here w = record {
   row = w.row;
   in_table = w.in_table;
-  whole_row = holds_at x key.image ∙ ap (option_map holding) (here ∙ w.is) ∙ ap (λ (h : Holding). Some h) (holding_whole w.row);
+  whole_row = holds_at x image_version.image ∙ ap (option_map holding) (here ∙ w.is) ∙ ap (λ (h : Holding). Some h) (holding_whole w.row);
 }
 
 -- ---- starts
@@ -102,13 +102,13 @@ module _ (ends : (k : StartCause) (s : Store) → Boots s (boot k s)) (table : L
       may
 
   -- where the start is not stopped
-  pub legal_start : (k : StartCause) (r : Runs) (n : MoteState) → (boot k x.store).runs ≡ Some r → LegalStart table (small_mote x) (mote (last (boot k x.store).trail) (Some (record { key = key_of r; mote = n })))
+  pub legal_start : (k : StartCause) (r : Runs) (n : MoteState) → (boot k x.store).runs ≡ Some r → LegalStart table (small_mote x) (mote (last (boot k x.store).trail) (Some (record { image_version = key_of r; mote = n })))
   legal_start k r n runs =
       let b = boot k x.store in
       let start = boot_start k x.store in
       let way = Through-last (OnTheWay x.store b.runs) b.trail (ends k x.store).way in
       record {
-        key = key_of r;
+        image_version = key_of r;
         app = option_map app_key (last b.trail).app;
         chosen = may_start r (start.chosen r runs);
         memory =
@@ -123,7 +123,7 @@ module _ (ends : (k : StartCause) (s : Store) → Boots s (boot k s)) (table : L
   chosen_start k r runs = may_start r ((boot_start k x.store).chosen r runs)
 
   cut_app : (k : StartCause) (may : ImageVersion → Type 0) → ((r : Runs) → (boot k x.store).runs ≡ Some r → may (key_of r)) → (new : Option App) → AppOnWay x.store.app (boot k x.store).runs new
-      → (option_map app_key new ≡ (small_mote x).app) ⊎ ((option_map app_key new ≡ None) ⊎ ((key : ImageVersion) × (option_map app_key new ≡ Some key) × may key))
+      → (option_map app_key new ≡ (small_mote x).app) ⊎ ((option_map app_key new ≡ None) ⊎ ((image_version : ImageVersion) × (option_map app_key new ≡ Some image_version) × may image_version))
   cut_app k may chosen new way =
       ⊎_elim
       (λ same. inl (ap (option_map app_key) same))
@@ -147,7 +147,7 @@ module _ (ends : (k : StartCause) (s : Store) → Boots s (boot k s)) (table : L
 
   -- a tick starts the order's image alone
   pub tick_starts : IsTable table → ((row : Row) → IsRow row → RowLaws row) → order_waits x.store ≡ true → IsSettled x.store
-      → (boot kind.Order x.store).runs ≡ Some (kept_runs x.store x.store.order.image x.store.order.version)
+      → (boot cause.Order x.store).runs ≡ Some (kept_runs x.store x.store.order.image x.store.order.version)
   tick_starts is_table laws waits settled =
       let o = x.store.order in
       let w = waiting_whole table x.store agrees (waits_whole x.store waits) in
@@ -159,8 +159,8 @@ module _ (ends : (k : StartCause) (s : Store) → Boots s (boot k s)) (table : L
       let o = x.store.order in
       waits_legal (kept_runs x.store o.image o.version) (record { some = waits_some x.store waits; image = refl; version = refl; whole = waits_whole x.store waits })
 
-  pub tick_start : (n : MoteState) → order_waits x.store ≡ true → (boot kind.Order x.store).runs ≡ Some (kept_runs x.store x.store.order.image x.store.order.version)
-      → LegalTick table false (small_mote x) (mote (last (boot kind.Order x.store).trail) (Some (record { key = key_of (kept_runs x.store x.store.order.image x.store.order.version); mote = n })))
+  pub tick_start : (n : MoteState) → order_waits x.store ≡ true → (boot cause.Order x.store).runs ≡ Some (kept_runs x.store x.store.order.image x.store.order.version)
+      → LegalTick table false (small_mote x) (mote (last (boot cause.Order x.store).trail) (Some (record { image_version = key_of (kept_runs x.store x.store.order.image x.store.order.version); mote = n })))
   unfolding legal_start
   tick_start n waits chosen =
-      inr (legal_start kind.Order (kept_runs x.store x.store.order.image x.store.order.version) n chosen, tick_waits waits)
+      inr (legal_start cause.Order (kept_runs x.store x.store.order.image x.store.order.version) n chosen, tick_waits waits)

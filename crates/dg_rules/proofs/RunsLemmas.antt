@@ -9,7 +9,7 @@ use Rattle.dg_volume.specs.Table.{IsTable}
 use Rattle.dg_volume.specs.Agreement.{HoldsRow, Agrees}
 use Rattle.dg_volume.specs.RowLaws.{RowLaws}
 use Rattle.dg_volume.specs.declared.volume.StartCause.{StartCause}
-use Rattle.dg_volume.specs.declared.volume.StartCause.TheVariants as kind
+use Rattle.dg_volume.specs.declared.volume.StartCause.TheVariants as cause
 use Rattle.dg_rules.specs.World.{World, store_at}
 use Rattle.dg_rules.specs.Events.{does}
 use Rattle.dg_rules.specs.Ranges.{EventInRange}
@@ -29,13 +29,13 @@ module _ (laws : (row : Row) → IsRow row → RowLaws row) (table : List Row) (
   runs_row r h =
       let row = h.row in
       let known = laws row (row_at-each IsRow table r.image r.version row is_table.each h.in_table) in
-      let told : runs_length r ≡ length row.bytes = ap (λ (pages : List (List ℕ)). length_in (slice_index_or pages 0 [])) h.pages ∙ known.length_told in
+      let told : runs_length r ≡ length row.bytes = ap (λ (pages : List (List ℕ)). length_in (slice_index_or pages 0 [])) h.pages ∙ known.length_reported in
       record {
         row = row;
         in_table = h.in_table;
         pages = h.pages;
-        length_told = told;
-        crc_told = ap crc_of (ap (λ (n : ℕ). content n r.pages) told ∙ ap (content (length row.bytes)) h.pages ∙ known.bytes);
+        length_reported = told;
+        crc_reported = ap crc_of (ap (λ (n : ℕ). content n r.pages) told ∙ ap (content (length row.bytes)) h.pages ∙ known.bytes);
       }
 
   boot_row : (k : StartCause) (s : Store) → Agrees table s → IfSome (boot k s).runs (RunsRow table)
@@ -46,11 +46,11 @@ starts_row restarts laws w agrees =
     let boots : (k : StartCause) (m : ℕ) → m < length w.sites → IfSome (boot k (store_at w m)).runs (RunsRow w.table) = λ k m low. boot_row laws w.table agrees.table k (store_at w m) (agrees.sites m low).store.agrees in
     does_cases restarts w (λ f. Unit {0}) (all_sent w.sent) (λ e D. EventInRange (length w.sites) e → StartsDoes D w.table)
     (λ e why fits. tt)
-    (λ m dt word r is fits. tt)
-    (λ m dt word r is waits fits. boots kind.Order m fits)
-    (λ m dt word fits. boots kind.Power m fits)
-    (λ m dt word number f r is at q fits. tt)
-    (λ from m dt word f r is at q fits. tt)
-    (λ m dt word bytes r is fits. tt)
-    (λ m image version dt word row known none fits. tt)
-    (λ m number image version dt word none fits. tt)
+    (λ m dt draw r is fits. tt)
+    (λ m dt draw r is waits fits. boots cause.Order m fits)
+    (λ m dt draw fits. boots cause.Power m fits)
+    (λ m dt draw number f r is at q fits. tt)
+    (λ from m dt draw f r is at q fits. tt)
+    (λ m dt draw bytes r is fits. tt)
+    (λ m image version dt draw row known none fits. tt)
+    (λ m number image version dt draw none fits. tt)

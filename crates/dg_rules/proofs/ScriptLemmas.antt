@@ -19,7 +19,7 @@ use Rattle.dg_rules.specs.Ranges.{EventInRange, StepInRange}
 use Rattle.dg_rules.specs.Premises.{IsDeclared, LinkFits, SiteIsWell, WorldAgrees, ItemInRange, PlayedInRange, HonestEvent, HonestItem, IsHonestThen, TrueEvent, TrueItem, IsTrueThen, AllOff}
 use Rattle.dg_rules.specs.Begins.{PlaysFrom}
 use Rattle.dg_rules.specs.Golden.{SiteKeepsGolden, WorldKeepsGolden, FindsImage, GoldenNetwork, network_world, PlaysGolden}
-use Rattle.dg_script.specs.Items.{Item, Declares, Happens}
+use Rattle.dg_script.specs.Items.{Item, Declares, Applies}
 use Rattle.dg_rules.specs.Runs.{Played, ItemStep, Plays}
 use Rattle.dg_base.specs.declared.events.Event.{Event}
 use Rattle.dg_base.specs.declared.events.Event.TheVariants.{Tick, Hear, Last, Reset, Inject, Order as OrderEvent, Frame as FrameEvent}
@@ -46,18 +46,18 @@ known_does : RestartLaws → (w : World) → KnownRows w.table w.declared → (e
 known_does restarts w known =
     does_cases restarts w (λ f. Unit {0}) (all_sent w.sent) (λ e D. KnownDoes w D)
     (λ e why. tt)
-    (λ m dt word r on. known)
-    (λ m dt word r on waits. known)
-    (λ m dt word. known)
-    (λ m dt word number f r on at q. known)
-    (λ from m dt word f r on at q. known)
-    (λ m dt word bytes r on. known)
-    (λ m image version dt word row here none i v r low e.
+    (λ m dt draw r on. known)
+    (λ m dt draw r on waits. known)
+    (λ m dt draw. known)
+    (λ m dt draw number f r on at q. known)
+    (λ from m dt draw f r on at q. known)
+    (λ m dt draw bytes r on. known)
+    (λ m image version dt draw row here none i v r low e.
     ⊎_elim
     (λ new. ap (λ n. row_at w.declared n v) (sym new.1) ∙ ap (row_at w.declared row.image) (sym new.2) ∙ row_at-own w.declared image version row here ∙ ap (λ (x : Row). Some x) (sym new.0))
     (λ old. known i v r low old)
     (row_at-of_with_row w.table row r i v e))
-    (λ m number image version dt word none. known)
+    (λ m number image version dt draw none. known)
 
 -- the rows and the number of motes
 record Frame (motes : ℕ) (v : World) : Type 0 where
@@ -101,7 +101,7 @@ declared_frame motes w v row is may f =
 
 item_frame : RestartLaws → (motes : ℕ) (item : Item) (w v : World) (reports : List Report) → ItemInRange motes item → Frame motes w → ItemStep w item v reports → Frame motes v
 item_frame restarts motes (Declares row) w v reports range f did = declared_frame motes w v row did.world range f
-item_frame restarts motes (Happens x reported) w v reports range f did = step_frame restarts motes w x v did.0 f did.1
+item_frame restarts motes (Applies x reported) w v reports range f did = step_frame restarts motes w x v did.0 f did.1
 
 -- ---- golden is kept in every mote
 
@@ -113,7 +113,7 @@ module _ (restarts : RestartLaws) (stepped : (w v : World) (x : Step) (reports :
   golden_item : (item : Item) (w v : World) (reports : List Report) → WorldKeepsGolden w → length w.sites ≡ motes → ItemInRange motes item → ItemStep w item v reports → WorldKeepsGolden v
   golden_item (Declares row) w v reports golden count range did =
       subst (At (λ m y. SiteKeepsGolden y)) (sym (ap (λ (u : World). u.sites) did.world ∙ declared_sites (row_at w.declared row.image row.version) w row)) golden
-  golden_item (Happens x reported) w v reports golden count range did = stepped w v x did.0 golden (subst (λ (n : ℕ). StepInRange n x) (sym count) range) did.1
+  golden_item (Applies x reported) w v reports golden count range did = stepped w v x did.0 golden (subst (λ (n : ℕ). StepInRange n x) (sym count) range) did.1
 
   keeps_played : (past : List Played) (p : Played) → Keeps motes past p.before → PlayedInRange motes p → ItemStep p.before p.item p.after p.reports → Keeps motes (p ∷ past) p.after × Unit {0}
   keeps_played past p k range did = (
@@ -128,30 +128,30 @@ module _ (restarts : RestartLaws) (stepped : (w v : World) (x : Step) (reports :
 
 -- an honest event is true, since each row of the table is golden or declared
 event_true : (motes : ℕ) (w : World) → Frame motes w → (e : Event) → HonestEvent w.table e → TrueEvent w e
-event_true motes w f (Tick m dt word) honest = tt
-event_true motes w f (Hear m dt word frame) honest = tt
-event_true motes w f (Last from m dt word) honest = tt
-event_true motes w f (Reset m dt word) honest = tt
-event_true motes w f (Inject m image version dt word) honest = λ row kept here there.
+event_true motes w f (Tick m dt draw) honest = tt
+event_true motes w f (Hear m dt draw frame) honest = tt
+event_true motes w f (Last from m dt draw) honest = tt
+event_true motes w f (Reset m dt draw) honest = tt
+event_true motes w f (Inject m image version dt draw) honest = λ row kept here there.
     let low = (row_at-each IsDeclared w.declared image version row f.rows here).not_golden in
     let key = row_at-key w.declared image version row here in
     same_some kept row (sym (f.known image version kept (subst (λ (n : ℕ). 1 ≤ n) key.0 low) there) ∙ here)
-event_true motes w f (OrderEvent m number image version dt word) honest = tt
-event_true motes w f (FrameEvent m dt word bytes) honest = honest
+event_true motes w f (OrderEvent m number image version dt draw) honest = tt
+event_true motes w f (FrameEvent m dt draw bytes) honest = honest
 
 -- and a true event is honest
 event_honest : (w : World) (e : Event) → TrueEvent w e → HonestEvent w.table e
-event_honest w (Tick m dt word) is_true = tt
-event_honest w (Hear m dt word frame) is_true = tt
-event_honest w (Last from m dt word) is_true = tt
-event_honest w (Reset m dt word) is_true = tt
-event_honest w (Inject m image version dt word) is_true = tt
-event_honest w (OrderEvent m number image version dt word) is_true = tt
-event_honest w (FrameEvent m dt word bytes) is_true = is_true
+event_honest w (Tick m dt draw) is_true = tt
+event_honest w (Hear m dt draw frame) is_true = tt
+event_honest w (Last from m dt draw) is_true = tt
+event_honest w (Reset m dt draw) is_true = tt
+event_honest w (Inject m image version dt draw) is_true = tt
+event_honest w (OrderEvent m number image version dt draw) is_true = tt
+event_honest w (FrameEvent m dt draw bytes) is_true = is_true
 
 item_honest : (item : Item) (w : World) → TrueItem item w → HonestItem item w
 item_honest (Declares row) w is_true = tt
-item_honest (Happens x reported) w is_true = event_honest w x.event is_true
+item_honest (Applies x reported) w is_true = event_honest w x.event is_true
 
 all_honest : (played : List Played) → AllByRecursion IsTrueThen played → AllByRecursion IsHonestThen played
 all_honest [] are_true = tt
@@ -159,7 +159,7 @@ all_honest (p ∷ ps) are_true = (item_honest p.item p.before are_true.0, all_ho
 
 item_true : (motes : ℕ) (item : Item) (w : World) → Frame motes w → HonestItem item w → TrueItem item w
 item_true motes (Declares row) w f honest = tt
-item_true motes (Happens x reported) w f honest = event_true motes w f x.event honest
+item_true motes (Applies x reported) w f honest = event_true motes w f x.event honest
 
 module _ (restarts : RestartLaws) (motes : ℕ) where
   true_played : (past : List Played) (p : Played) → Frame motes p.before → PlayedInRange motes p × IsHonestThen p → ItemStep p.before p.item p.after p.reports → Frame motes p.after × IsTrueThen p

@@ -15,7 +15,7 @@ use Rattle.dg_rules.specs.Legal.{Past}
 use Rattle.dg_rules.specs.Past.{past_item, past_of}
 use Rattle.dg_rules.specs.Premises.{IsDeclared, WorldAgrees, TrueEvent, ItemFits, PlayedFits, LeavesAgreement, AllOff}
 use Rattle.dg_rules.specs.Promises.{IsLegal, LegalItem, KeepsAll, StartsDoes, StartsRow, StartsItem}
-use Rattle.dg_script.specs.Items.{Item, Declares, Happens}
+use Rattle.dg_script.specs.Items.{Item, Declares, Applies}
 use Rattle.dg_rules.specs.Runs.{Played, ItemStep, Plays, EachAfter}
 use Rattle.dg_script.specs.declared.report.Report.{Report}
 use Rattle.dg_rules.proofs.BootLemmas.{IsSettled}
@@ -78,7 +78,7 @@ module _ (laws : RunLaws) where
         ap small did.world ∙ declared_small o w row,
         tt,
       )
-  sound_item past (Happens x reported) w v reports i fits did = (
+  sound_item past (Applies x reported) w v reports i fits did = (
     record {
       agrees = laws.stepped w v x did.0 i.agrees fits.0 fits.1 did.1;
       settled = step_settled laws.steps past w i.agrees i.settled i.came x v did.0 fits.0 fits.1 did.1;

@@ -10,7 +10,7 @@ use Rattle.dg_rules.specs.Events.{Does, Refuses, Goes, does, mote_of}
 use Rattle.dg_rules.specs.Steps.{blows, and_sent, StepDoes, WorldStep, declared_as}
 use Rattle.dg_rules.specs.Premises.{TrueEvent, TrueItem, IsTrueThen}
 use Rattle.dg_rules.specs.Begins.{HoldsTo, ItemHoldsTo, HoldsToThen, PlaysBoards}
-use Rattle.dg_script.specs.Items.{Item, Declares, Happens}
+use Rattle.dg_script.specs.Items.{Item, Declares, Applies}
 use Rattle.dg_rules.specs.Runs.{Played, ItemStep, EachAfter}
 use Rattle.dg_base.specs.declared.events.Event.{Event}
 use Rattle.dg_base.specs.declared.events.Event.TheVariants.{Tick, Hear, Last, Reset, Inject, Order as OrderEvent, Frame}
@@ -34,18 +34,18 @@ module _ (began : List Row) where
   come_does restarts w come =
       does_cases restarts w (λ f. Unit {0}) (all_sent w.sent) (λ e D. ComeDoes w D)
       (λ e why. tt)
-      (λ m dt word r on. come)
-      (λ m dt word r on waits. come)
-      (λ m dt word. come)
-      (λ m dt word number f r on at q. come)
-      (λ from m dt word f r on at q. come)
-      (λ m dt word bytes r on. come)
-      (λ m image version dt word row here none i v r e.
+      (λ m dt draw r on. come)
+      (λ m dt draw r on waits. come)
+      (λ m dt draw. come)
+      (λ m dt draw number f r on at q. come)
+      (λ from m dt draw f r on at q. come)
+      (λ m dt draw bytes r on. come)
+      (λ m image version dt draw row here none i v r e.
       ⊎_elim
       (λ new. inr (ap (λ n. row_at w.declared n v) (sym new.1) ∙ ap (row_at w.declared row.image) (sym new.2) ∙ row_at-own w.declared image version row here ∙ ap (λ (x : Row). Some x) (sym new.0)))
       (λ old. come i v r old)
       (row_at-of_with_row w.table row r i v e))
-      (λ m number image version dt word none. come)
+      (λ m number image version dt draw none. come)
 
   -- of a world
   abbrev RowsCome : World → Type 0
@@ -72,23 +72,23 @@ module _ (began : List Row) where
 
   item_come : RestartLaws → (item : Item) (w v : World) (reports : List Report) → RowsCome w → ItemStep w item v reports → RowsCome v
   item_come restarts (Declares row) w v reports come did = subst RowsCome (sym did.world) (declared_come (row_at w.declared row.image row.version) w row come)
-  item_come restarts (Happens x reported) w v reports come did = step_come restarts w x v did.0 come did.1
+  item_come restarts (Applies x reported) w v reports come did = step_come restarts w x v did.0 come did.1
 
   -- ---- an injection that brings no other content for these rows brings none for any
 
   event_true : (w : World) → RowsCome w → (e : Event) → HoldsTo began w e → TrueEvent w e
-  event_true w come (Tick m dt word) holds = tt
-  event_true w come (Hear m dt word frame) holds = tt
-  event_true w come (Last from m dt word) holds = tt
-  event_true w come (Reset m dt word) holds = tt
-  event_true w come (Inject m image version dt word) holds = λ row kept here there.
+  event_true w come (Tick m dt draw) holds = tt
+  event_true w come (Hear m dt draw frame) holds = tt
+  event_true w come (Last from m dt draw) holds = tt
+  event_true w come (Reset m dt draw) holds = tt
+  event_true w come (Inject m image version dt draw) holds = λ row kept here there.
       ⊎_elim (λ old. holds row kept here old) (λ known. same_some kept row (sym known ∙ here)) (come image version kept there)
-  event_true w come (OrderEvent m number image version dt word) holds = tt
-  event_true w come (Frame m dt word bytes) holds = holds
+  event_true w come (OrderEvent m number image version dt draw) holds = tt
+  event_true w come (Frame m dt draw bytes) holds = holds
 
   item_true : (item : Item) (w : World) → RowsCome w → ItemHoldsTo began item w → TrueItem item w
   item_true (Declares row) w come holds = tt
-  item_true (Happens x reported) w come holds = event_true w come x.event holds
+  item_true (Applies x reported) w come holds = event_true w come x.event holds
 
   true_played : RestartLaws → (past : List Played) (p : Played) → RowsCome p.before → HoldsToThen began p → ItemStep p.before p.item p.after p.reports → RowsCome p.after × IsTrueThen p
   true_played restarts past p come holds did = (item_come restarts p.item p.before p.after p.reports come did, item_true p.item p.before come holds)

@@ -11,7 +11,7 @@ use Rattle.dg_rules.specs.Steps.{DeclareStep, EndsRun, declared_as}
 use Rattle.dg_rules.specs.Runs.{Played, ItemStep, Plays}
 use Rattle.dg_base.specs.declared.events.Event.TheVariants.{Inject, Order as OrderEvent}
 use Rattle.dg_base.specs.declared.events.Step.{Step}
-use Rattle.dg_script.specs.Items.{Item, Declares, Happens}
+use Rattle.dg_script.specs.Items.{Item, Declares, Applies}
 use Rattle.dg_script.specs.declared.report.Cause.TheVariants.{Image}
 use Rattle.dg_script.specs.declared.report.Report.{Report}
 use Rattle.dg_rules.proofs.EventLemmas.{order_of}
@@ -31,7 +31,7 @@ ended_narrow w v x ends = ap (λ (u : World). u.narrow) ends.world
 
 item_narrow : (item : Item) (w v : World) (reports : List Report) → ItemStep w item v reports → v.narrow ≡ w.narrow
 item_narrow (Declares row) w v reports did = declare_narrow w v row reports did
-item_narrow (Happens x reported) w v reports did = step_narrow w x v did.0 did.1
+item_narrow (Applies x reported) w v reports did = step_narrow w x v did.0 did.1
 
 pub played_narrow : (w v : World) (played : List Played) → Plays w played v → v.narrow ≡ w.narrow
 unfolding Plays
@@ -46,10 +46,10 @@ knows_not wide image narrow high = ap (λ (b : Bool). b || nat_le image narrow_i
 refuses : (wide : Bool) (image : ℕ) (d : Does) → wide ≡ false → narrow_images < image → cond (knows wide image) d (Refuses Image) ≡ Refuses Image
 refuses wide image d narrow high = ap (λ (b : Bool). cond b d (Refuses Image)) (knows_not wide image narrow high)
 
-pub refuses_injection : (w : World) (m image version dt word : ℕ) → wide_at w m ≡ false → narrow_images < image → does w (Inject m image version dt word) ≡ Refuses Image
+pub refuses_injection : (w : World) (m image version dt draw : ℕ) → wide_at w m ≡ false → narrow_images < image → does w (Inject m image version dt draw) ≡ Refuses Image
 unfolding does
-refuses_injection w m image version dt word narrow high = refuses (wide_at w m) image (injects w m image version (w.moment + dt) word) narrow high
+refuses_injection w m image version dt draw narrow high = refuses (wide_at w m) image (injects w m image version (w.moment + dt) draw) narrow high
 
-pub refuses_order : (w : World) (m number image version dt word : ℕ) → wide_at w m ≡ false → narrow_images < image → does w (OrderEvent m number image version dt word) ≡ Refuses Image
+pub refuses_order : (w : World) (m number image version dt draw : ℕ) → wide_at w m ≡ false → narrow_images < image → does w (OrderEvent m number image version dt draw) ≡ Refuses Image
 unfolding does
-refuses_order w m number image version dt word narrow high = refuses (wide_at w m) image (orders w m (order_of number image version) (w.moment + dt) word) narrow high
+refuses_order w m number image version dt draw narrow high = refuses (wide_at w m) image (orders w m (order_of number image version) (w.moment + dt) draw) narrow high

@@ -49,12 +49,12 @@ sent_line m (Some (Request source to image version page want)) = SentRequest m t
 sent_line m (Some (Packet source image version page packet bytes)) = SentData m image version page packet ∷ []
 sent_line m (Some (Wide source entries order)) = SentAdvert m ∷ []
 
--- `sent` lines are told where they are wanted
-abbrev pub is_told : Bool → Report → Bool
-is_told reported (SentAdvert mote) = reported
-is_told reported (SentRequest mote to image version page count) = reported
-is_told reported (SentData mote image version page packet) = reported
-is_told reported report = true
+-- `sent` lines are reported where they are wanted
+abbrev pub is_reported : Bool → Report → Bool
+is_reported reported (SentAdvert mote) = reported
+is_reported reported (SentRequest mote to image version page count) = reported
+is_reported reported (SentData mote image version page packet) = reported
+is_reported reported report = true
 
 -- ---- declarations
 
@@ -73,7 +73,7 @@ declared_lines kept row = if is_taken kept row then Taken row.image row.version 
 
 abbrev pub mote_line : ℕ → Option Running → Report
 mote_line m None = MoteOff m
-mote_line m (Some r) = MoteOn m r.key.image r.key.version
+mote_line m (Some r) = MoteOn m r.image_version.image r.image_version.version
 
 abbrev pub kept_line : ℕ → ℕ → Option Held → Option Report
 kept_line m i None = None

@@ -10,7 +10,7 @@ use Rattle.dg_mote.specs.Consistency.{AsksForKnown, StoreIsConsistent}
 use Rattle.dg_base.specs.declared.events.Event.{Event}
 use Rattle.dg_rules.specs.Events.{Does, Refuses, Goes, mote_of, trail_of, does}
 use Rattle.dg_rules.specs.Premises.{IsDeclared}
-use Rattle.dg_script.specs.Items.{Item, Declares, Happens}
+use Rattle.dg_script.specs.Items.{Item, Declares, Applies}
 use Rattle.dg_rules.specs.Runs.{Played}
 use Rattle.dg_rules.specs.World.{World, Site, site, store_at}
 
@@ -36,7 +36,7 @@ StartsSoundDoes golden (Goes d) = IfSome d.started (λ r. IsSoundApp golden (app
 
 abbrev pub StartsSoundItem : Row → Item → World → Type 0
 StartsSoundItem golden (Declares row) w = Unit {0}
-StartsSoundItem golden (Happens step reported) w = StartsSoundDoes golden (does w step.event)
+StartsSoundItem golden (Applies step reported) w = StartsSoundDoes golden (does w step.event)
 
 abbrev pub StartsSound : Row → Played → Type 0
 StartsSound golden p = StartsSoundItem golden p.item p.before

@@ -43,22 +43,22 @@ trail_of (Goes d) s = d.trail
 
 -- the mote at which an event is, and its step of time
 abbrev pub mote_of : Event → ℕ
-mote_of (Tick mote dt word) = mote
-mote_of (Hear mote dt word frame) = mote
-mote_of (Last from to dt word) = to
-mote_of (Reset mote dt word) = mote
-mote_of (Inject mote image version dt word) = mote
-mote_of (OrderEvent mote number image version dt word) = mote
-mote_of (Frame mote dt word bytes) = mote
+mote_of (Tick mote dt draw) = mote
+mote_of (Hear mote dt draw frame) = mote
+mote_of (Last from to dt draw) = to
+mote_of (Reset mote dt draw) = mote
+mote_of (Inject mote image version dt draw) = mote
+mote_of (OrderEvent mote number image version dt draw) = mote
+mote_of (Frame mote dt draw bytes) = mote
 
 abbrev pub dt_of : Event → ℕ
-dt_of (Tick mote dt word) = dt
-dt_of (Hear mote dt word frame) = dt
-dt_of (Last from to dt word) = dt
-dt_of (Reset mote dt word) = dt
-dt_of (Inject mote image version dt word) = dt
-dt_of (OrderEvent mote number image version dt word) = dt
-dt_of (Frame mote dt word bytes) = dt
+dt_of (Tick mote dt draw) = dt
+dt_of (Hear mote dt draw frame) = dt
+dt_of (Last from to dt draw) = dt
+dt_of (Reset mote dt draw) = dt
+dt_of (Inject mote image version dt draw) = dt
+dt_of (OrderEvent mote number image version dt draw) = dt
+dt_of (Frame mote dt draw bytes) = dt
 
 -- ---- events of the mote itself
 
@@ -67,8 +67,8 @@ key_of r = record { image = r.image; version = r.version }
 
 -- what runs behind an effect: what was started, or what ran before
 abbrev pub runs_by : Option Runs → Option ImageVersion → MoteState → Option Running
-runs_by (Some r) old m = Some (record { key = key_of r; mote = m })
-runs_by None (Some key) m = Some (record { key = key; mote = m })
+runs_by (Some r) old m = Some (record { image_version = key_of r; mote = m })
+runs_by None (Some image_version) m = Some (record { image_version = image_version; mote = m })
 runs_by None None m = None
 
 abbrev pub of_effect : World → Effect → Option ImageVersion → Does
@@ -80,31 +80,31 @@ of_effect w e old = Goes (record {
   runs = option_map (runs_by e.started old) e.mote;
 })
 
-abbrev pub tick_does : World → Store → Option Running → (now word : ℕ) → Does
-tick_does w s None now word = Refuses cause.Off
-tick_does w s (Some r) now word = of_effect w (tick_effect r.mote s now word) (Some r.key)
+abbrev pub tick_does : World → Store → Option Running → (now draw : ℕ) → Does
+tick_does w s None now draw = Refuses cause.Off
+tick_does w s (Some r) now draw = of_effect w (tick_effect r.mote s now draw) (Some r.image_version)
 
-abbrev pub hear_by : World → Store → Option Running → (now word : ℕ) → List ℕ → Does
-hear_by w s None now word bytes = Refuses cause.Off
-hear_by w s (Some r) now word bytes = of_effect w (frame_effect r.mote s now word bytes) (Some r.key)
+abbrev pub hear_by : World → Store → Option Running → (now draw : ℕ) → List ℕ → Does
+hear_by w s None now draw bytes = Refuses cause.Off
+hear_by w s (Some r) now draw bytes = of_effect w (frame_effect r.mote s now draw bytes) (Some r.image_version)
 
-abbrev pub heard_sent : World → ℕ → (now word : ℕ) → Option Sent → Does
-heard_sent w m now word None = Refuses cause.Frame
-heard_sent w m now word (Some f) =
-    if linked w f.by m then hear_by w (store_at w m) (site w m).runs now word f.bytes else Refuses cause.Link
+abbrev pub heard_sent : World → ℕ → (now draw : ℕ) → Option Sent → Does
+heard_sent w m now draw None = Refuses cause.Frame
+heard_sent w m now draw (Some f) =
+    if linked w f.by m then hear_by w (store_at w m) (site w m).runs now draw f.bytes else Refuses cause.Link
 
 abbrev pub unless_off : Option Running → Does → Does
 unless_off None d = Refuses cause.Off
 unless_off (Some r) d = d
 
-abbrev pub heard_last : World → (from to now word : ℕ) → Option Sent → Does
-heard_last w from to now word None = Refuses cause.Frame
-heard_last w from to now word (Some f) = hear_by w (store_at w to) (site w to).runs now word f.bytes
+abbrev pub heard_last : World → (from to now draw : ℕ) → Option Sent → Does
+heard_last w from to now draw None = Refuses cause.Frame
+heard_last w from to now draw (Some f) = hear_by w (store_at w to) (site w to).runs now draw f.bytes
 
 -- ---- injections and orders
 
--- The cause that is told of a refused injection. `inject_refusal` never says Stopped, since a stop is no refusal: a board
--- that stops ends the run, and nothing is told of the event. So the first line is for no event.
+-- The cause that is reported of a refused injection. `inject_refusal` never says Stopped, since a stop is no refusal: a board
+-- that stops ends the run, and nothing is reported of the event. So the first line is for no event.
 abbrev pub inject_cause : Row → InjectFault → Cause
 inject_cause row inject.Stopped = cause.Empty
 inject_cause row inject.Empty = cause.Empty
@@ -115,61 +115,61 @@ inject_cause row (inject.Worn room) = cause.Worn room
 inject_cause row inject.Taken = cause.Taken
 
 -- a mote that is on goes on with its new volume
-abbrev pub reloaded : Option Running → (now word : ℕ) → Option Running
-reloaded None now word = None
-reloaded (Some r) now word = Some (record r { mote = maintains r.mote now word })
+abbrev pub reloaded : Option Running → (now draw : ℕ) → Option Running
+reloaded None now draw = None
+reloaded (Some r) now draw = Some (record r { mote = maintains r.mote now draw })
 
-abbrev pub acts : World → ℕ → Trail Store → List Row → (now word : ℕ) → Does
-acts w m t table now word = Goes (record {
+abbrev pub acts : World → ℕ → Trail Store → List Row → (now draw : ℕ) → Does
+acts w m t table now draw = Goes (record {
   trail = t;
   table = table;
   started = None;
   sent = None;
-  runs = Some (reloaded (site w m).runs now word);
+  runs = Some (reloaded (site w m).runs now draw);
 })
 
-abbrev pub inject_unless : Option InjectFault → World → ℕ → Row → (now word : ℕ) → Does
-inject_unless (Some fault) w m row now word = Refuses (inject_cause row fault)
-inject_unless None w m row now word = acts w m (inject_trail (store_at w m) row) (with_row w.table row) now word
+abbrev pub inject_unless : Option InjectFault → World → ℕ → Row → (now draw : ℕ) → Does
+inject_unless (Some fault) w m row now draw = Refuses (inject_cause row fault)
+inject_unless None w m row now draw = acts w m (inject_trail (store_at w m) row) (with_row w.table row) now draw
 
-abbrev pub inject_row : World → ℕ → Option Row → (now word : ℕ) → Does
-inject_row w m None now word = Refuses cause.Image
-inject_row w m (Some row) now word = inject_unless (inject_refusal (store_at w m) row) w m row now word
+abbrev pub inject_row : World → ℕ → Option Row → (now draw : ℕ) → Does
+inject_row w m None now draw = Refuses cause.Image
+inject_row w m (Some row) now draw = inject_unless (inject_refusal (store_at w m) row) w m row now draw
 
--- The cause that is told of a refused order. `order_refusal` never says Stopped either.
+-- The cause that is reported of a refused order. `order_refusal` never says Stopped either.
 abbrev pub order_cause : OrderFault → Cause
 order_cause order_fault.Stopped = cause.Empty
 order_cause (order_fault.Worn room) = cause.Worn room
 order_cause (order_fault.OldOrder kept) = cause.OldOrder kept
 
-abbrev pub order_unless : Option OrderFault → World → ℕ → Order → (now word : ℕ) → Does
-order_unless (Some fault) w m order now word = Refuses (order_cause fault)
-order_unless None w m order now word = acts w m (order_trail (store_at w m) order) w.table now word
+abbrev pub order_unless : Option OrderFault → World → ℕ → Order → (now draw : ℕ) → Does
+order_unless (Some fault) w m order now draw = Refuses (order_cause fault)
+order_unless None w m order now draw = acts w m (order_trail (store_at w m) order) w.table now draw
 
 -- A narrow mote knows only the images that its frames speak of, and golden.
 abbrev pub knows : (wide : Bool) → ℕ → Bool
 knows wide image = wide || nat_le image narrow_images
 
-abbrev pub injects : World → (m image version now word : ℕ) → Does
-injects w m image version now word =
-    if image == 0 then Refuses cause.Reserved else inject_row w m (row_at w.declared image version) now word
+abbrev pub injects : World → (m image version now draw : ℕ) → Does
+injects w m image version now draw =
+    if image == 0 then Refuses cause.Reserved else inject_row w m (row_at w.declared image version) now draw
 
-abbrev pub orders : World → ℕ → Order → (now word : ℕ) → Does
-orders w m order now word = order_unless (order_refusal (store_at w m) order) w m order now word
+abbrev pub orders : World → ℕ → Order → (now draw : ℕ) → Does
+orders w m order now draw = order_unless (order_refusal (store_at w m) order) w m order now draw
 
 -- ---- every event
 
 unfoldable pub does : World → Event → Does
-does w (Tick m dt word) = tick_does w (store_at w m) (site w m).runs (w.moment + dt) word
-does w (Hear m dt word frame) = unless_off (site w m).runs (heard_sent w m (w.moment + dt) word (frame_at w frame))
-does w (Last from to dt word) =
+does w (Tick m dt draw) = tick_does w (store_at w m) (site w m).runs (w.moment + dt) draw
+does w (Hear m dt draw frame) = unless_off (site w m).runs (heard_sent w m (w.moment + dt) draw (frame_at w frame))
+does w (Last from to dt draw) =
     unless_off (site w to).runs
-    (if linked w from to then heard_last w from to (w.moment + dt) word (last_frame w from) else Refuses cause.Link)
-does w (Reset m dt word) = of_effect w (reset_effect (store_at w m) m (wide_at w m) (w.moment + dt) word) None
-does w (Inject m image version dt word) =
-    if knows (wide_at w m) image then injects w m image version (w.moment + dt) word else Refuses cause.Image
-does w (OrderEvent m number image version dt word) =
+    (if linked w from to then heard_last w from to (w.moment + dt) draw (last_frame w from) else Refuses cause.Link)
+does w (Reset m dt draw) = of_effect w (reset_effect (store_at w m) m (wide_at w m) (w.moment + dt) draw) None
+does w (Inject m image version dt draw) =
+    if knows (wide_at w m) image then injects w m image version (w.moment + dt) draw else Refuses cause.Image
+does w (OrderEvent m number image version dt draw) =
     if knows (wide_at w m) image
-    then orders w m (record { number = number; image = image; version = version }) (w.moment + dt) word
+    then orders w m (record { number = number; image = image; version = version }) (w.moment + dt) draw
     else Refuses cause.Image
-does w (Frame m dt word bytes) = hear_by w (store_at w m) (site w m).runs (w.moment + dt) word bytes
+does w (Frame m dt draw bytes) = hear_by w (store_at w m) (site w m).runs (w.moment + dt) draw bytes

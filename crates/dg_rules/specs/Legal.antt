@@ -55,53 +55,54 @@ CutHolding old row (Some new) =
     (old ≡ Some new)
     ⊎ ((new.version ≡ row.version) × ((h : Holding) → old ≡ Some h → h.version ≡ row.version → h.pages ≤ new.pages))
 
-pub record LegalInject (declared table after : List Row) (blew : Bool) (key : ImageVersion) (old new : SmallMote) : Type 0 where
-  pub known : 1 ≤ key.image
+pub record LegalInject (declared table after : List Row) (blew : Bool) (image_version : ImageVersion)
+    (old new : SmallMote) : Type 0 where
+  pub known : 1 ≤ image_version.image
   pub row : Row
-  pub is_declared : row_at declared key.image key.version ≡ Some row
+  pub is_declared : row_at declared image_version.image image_version.version ≡ Some row
   pub table_after : after ≡ with_row table row
-  pub before : MayInject (holds old key.image) row
+  pub before : MayInject (holds old image_version.image) row
   pub held : Option Holding
-  pub change : new ≡ taking old key.image held
-  pub how : ((blew ≡ false) × (held ≡ Some (whole row))) ⊎ ((blew ≡ true) × CutHolding (holds old key.image) row held)
+  pub change : new ≡ taking old image_version.image held
+  pub how : ((blew ≡ false) × (held ≡ Some (whole row))) ⊎ ((blew ≡ true) × CutHolding (holds old image_version.image) row held)
 
 pub record LegalOrder (blew : Bool) (order : Order) (old new : SmallMote) : Type 0 where
   pub larger : old.order.number < order.number
   pub change : (new ≡ record old { order = order }) ⊎ ((blew ≡ true) × (new ≡ old))
 
 abbrev pub IsGoldenKey : ImageVersion → Type 0
-IsGoldenKey key = (key.image ≡ 0) × (key.version ≡ golden_version)
+IsGoldenKey image_version = (image_version.image ≡ 0) × (image_version.version ≡ golden_version)
 
-pub record HoldsWholeRow (table : List Row) (x : SmallMote) (key : ImageVersion) : Type 0 where
+pub record HoldsWholeRow (table : List Row) (x : SmallMote) (image_version : ImageVersion) : Type 0 where
   pub row : Row
-  pub in_table : row_at table key.image key.version ≡ Some row
-  pub whole_row : holds x key.image ≡ Some (whole row)
+  pub in_table : row_at table image_version.image image_version.version ≡ Some row
+  pub whole_row : holds x image_version.image ≡ Some (whole row)
 
-pub record OrdersKey (x : SmallMote) (key : ImageVersion) : Type 0 where
+pub record OrdersKey (x : SmallMote) (image_version : ImageVersion) : Type 0 where
   pub some : x.order.number ≢ 0
-  pub image : x.order.image ≡ key.image
-  pub version : x.order.version ≡ key.version
+  pub image : x.order.image ≡ image_version.image
+  pub version : x.order.version ≡ image_version.version
 
 -- a row that the mote holds whole and that its order names
 abbrev pub OrdersWholeRow : List Row → SmallMote → ImageVersion → Type 0
-OrdersWholeRow table x key = OrdersKey x key × HoldsWholeRow table x key
+OrdersWholeRow table x image_version = OrdersKey x image_version × HoldsWholeRow table x image_version
 
 -- golden, what program memory is Set to, or such a row
 abbrev pub MayStart : List Row → SmallMote → ImageVersion → Type 0
-MayStart table x key = IsGoldenKey key ⊎ ((x.app ≡ Some key) ⊎ OrdersWholeRow table x key)
+MayStart table x image_version = IsGoldenKey image_version ⊎ ((x.app ≡ Some image_version) ⊎ OrdersWholeRow table x image_version)
 
 -- a start that was not stopped
 pub record LegalStart (table : List Row) (old new : SmallMote) : Type 0 where
-  pub key : ImageVersion
+  pub image_version : ImageVersion
   pub app : Option ImageVersion
-  pub chosen : MayStart table old key
-  pub memory : (app ≡ Some key) ⊎ ((app ≡ None) × IsGoldenKey key)
-  pub change : new ≡ record old { app = app; runs = Some key }
+  pub chosen : MayStart table old image_version
+  pub memory : (app ≡ Some image_version) ⊎ ((app ≡ None) × IsGoldenKey image_version)
+  pub change : new ≡ record old { app = app; runs = Some image_version }
 
 -- one whose cut blew: program memory stays, is blank, or is what was chosen
 pub record CutStart (may : ImageVersion → Type 0) (old new : SmallMote) : Type 0 where
   pub app : Option ImageVersion
-  pub how : (app ≡ old.app) ⊎ ((app ≡ None) ⊎ ((key : ImageVersion) × (app ≡ Some key) × may key))
+  pub how : (app ≡ old.app) ⊎ ((app ≡ None) ⊎ ((image_version : ImageVersion) × (app ≡ Some image_version) × may image_version))
   pub change : new ≡ record old { app = app; runs = None }
 
 -- nothing is kept, or an older version
@@ -144,11 +145,11 @@ LegalMessage past blew m wide (Ok (Wide source entries order)) old new = LegalAd
 
 -- A mote that is off changes by Reset, Inject and Order alone.
 abbrev pub SmallIsOn : SmallMote → Type 0
-SmallIsOn x = (key : ImageVersion) × (x.runs ≡ Some key)
+SmallIsOn x = (image_version : ImageVersion) × (x.runs ≡ Some image_version)
 
 -- A Tick may also change nothing, and it starts the ordered row alone.
 abbrev pub LegalTick : List Row → Bool → SmallMote → SmallMote → Type 0
-LegalTick table false old new = (new ≡ old) ⊎ ((s : LegalStart table old new) × OrdersWholeRow table old s.key)
+LegalTick table false old new = (new ≡ old) ⊎ ((s : LegalStart table old new) × OrdersWholeRow table old s.image_version)
 LegalTick table true old new = CutStart (OrdersWholeRow table old) old new
 
 abbrev pub LegalReset : List Row → Bool → SmallMote → SmallMote → Type 0
@@ -175,21 +176,21 @@ step_facts past declared blew wide frame =
 
 -- What an event that is not refused may change at its mote, from one table to another. A cut that blew makes the mote off.
 abbrev pub LegalAt : StepFacts → List Row → Event → SmallMote → SmallMote → List Row → Type 0
-LegalAt f table (Tick m dt word) old new after = SmallIsOn old × LegalTick table f.blew old new × (after ≡ table)
-LegalAt f table (Reset m dt word) old new after = LegalReset table f.blew old new × (after ≡ table)
-LegalAt f table (Inject m image version dt word) old new after =
+LegalAt f table (Tick m dt draw) old new after = SmallIsOn old × LegalTick table f.blew old new × (after ≡ table)
+LegalAt f table (Reset m dt draw) old new after = LegalReset table f.blew old new × (after ≡ table)
+LegalAt f table (Inject m image version dt draw) old new after =
     (mid : SmallMote) × LegalInject f.declared table after f.blew (record { image = image; version = version }) old mid
     × (new ≡ off_after f.blew mid)
-LegalAt f table (OrderEvent m number image version dt word) old new after =
+LegalAt f table (OrderEvent m number image version dt draw) old new after =
     (mid : SmallMote) × LegalOrder f.blew (record { number = number; image = image; version = version }) old mid
     × (new ≡ off_after f.blew mid) × (after ≡ table)
-LegalAt f table (Hear m dt word number) old new after =
+LegalAt f table (Hear m dt draw number) old new after =
     SmallIsOn old × (mid : SmallMote) × LegalFrame f.past f.blew m f.wide f.frame old mid
     × (new ≡ off_after f.blew mid) × (after ≡ table)
-LegalAt f table (Last from m dt word) old new after =
+LegalAt f table (Last from m dt draw) old new after =
     SmallIsOn old × (mid : SmallMote) × LegalFrame f.past f.blew m f.wide f.frame old mid
     × (new ≡ off_after f.blew mid) × (after ≡ table)
-LegalAt f table (Frame m dt word bytes) old new after =
+LegalAt f table (Frame m dt draw bytes) old new after =
     SmallIsOn old × (mid : SmallMote) × LegalFrame f.past f.blew m f.wide f.frame old mid
     × (new ≡ off_after f.blew mid) × (after ≡ table)
 

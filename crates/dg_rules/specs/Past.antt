@@ -5,7 +5,7 @@ use Rattle.dg_rules.specs.World.{World, Sent, frame_at, last_frame}
 use Rattle.dg_rules.specs.Events.{Does, Refuses, Goes, does, mote_of}
 use Rattle.dg_rules.specs.Steps.{blows}
 use Rattle.dg_rules.specs.Legal.{Past, Begins, Came, Started}
-use Rattle.dg_script.specs.Items.{Item, Declares, Happens}
+use Rattle.dg_script.specs.Items.{Item, Declares, Applies}
 use Rattle.dg_rules.specs.Runs.{Played}
 use Rattle.dg_base.specs.declared.events.Event.{Event}
 use Rattle.dg_base.specs.declared.events.Event.TheVariants.{Tick, Hear, Last, Reset, Inject, Order as OrderEvent, Frame}
@@ -13,13 +13,13 @@ use Rattle.dg_base.specs.declared.events.Step.{Step}
 
 -- the frame that an event brings to its mote
 abbrev pub brought : World → Event → Option (List ℕ)
-brought w (Hear mote dt word frame) = option_map (λ (f : Sent). f.bytes) (frame_at w frame)
-brought w (Last from to dt word) = option_map (λ (f : Sent). f.bytes) (last_frame w from)
-brought w (Frame mote dt word bytes) = Some bytes
-brought w (Tick mote dt word) = None
-brought w (Reset mote dt word) = None
-brought w (Inject mote image version dt word) = None
-brought w (OrderEvent mote number image version dt word) = None
+brought w (Hear mote dt draw frame) = option_map (λ (f : Sent). f.bytes) (frame_at w frame)
+brought w (Last from to dt draw) = option_map (λ (f : Sent). f.bytes) (last_frame w from)
+brought w (Frame mote dt draw bytes) = Some bytes
+brought w (Tick mote dt draw) = None
+brought w (Reset mote dt draw) = None
+brought w (Inject mote image version dt draw) = None
+brought w (OrderEvent mote number image version dt draw) = None
 
 -- ---- the past of what was played
 
@@ -45,7 +45,7 @@ past_by (Goes d) w x past =
 
 abbrev pub past_item : Item → World → Past → Past
 past_item (Declares row) w past = past
-past_item (Happens step reported) w past = past_by (does w step.event) w step past
+past_item (Applies step reported) w past = past_by (does w step.event) w step past
 
 -- of what was played, the newest first
 unfoldable pub past_of : List Played → Past

@@ -19,7 +19,7 @@ use Rattle.dg_mote.specs.Timely.{Timely}
 use Rattle.dg_rules.specs.Sizes.{most_motes, most_content}
 use Rattle.dg_rules.specs.World.{World, Running, Site, Sent, site, wide_at}
 use Rattle.dg_rules.specs.Ranges.{StepInRange}
-use Rattle.dg_script.specs.Items.{Item, Declares, Happens}
+use Rattle.dg_script.specs.Items.{Item, Declares, Applies}
 use Rattle.dg_rules.specs.Runs.{Played}
 use Rattle.dg_base.specs.declared.events.Event.{Event}
 use Rattle.dg_base.specs.declared.events.Event.TheVariants.{Tick, Hear, Last, Reset, Inject, Order as OrderEvent, Frame}
@@ -76,25 +76,25 @@ WorldTimely w = (m : ℕ) → m < length w.sites → IfSome (site w m).runs (λ 
 
 -- a frame that is brought from outside is honest by the table before it
 abbrev pub HonestEvent : List Row → Event → Type 0
-HonestEvent table (Frame mote dt word bytes) = IsHonest table bytes
+HonestEvent table (Frame mote dt draw bytes) = IsHonest table bytes
 HonestEvent table event = Unit {0}
 
 -- An event is true in a world: a frame that it brings from outside is honest by the table before it, and a row that it
 -- injects is the table's, where the table has its key
 abbrev pub TrueEvent : World → Event → Type 0
-TrueEvent w (Tick mote dt word) = Unit {0}
-TrueEvent w (Hear mote dt word frame) = Unit {0}
-TrueEvent w (Last from to dt word) = Unit {0}
-TrueEvent w (Reset mote dt word) = Unit {0}
-TrueEvent w (Inject mote image version dt word) =
+TrueEvent w (Tick mote dt draw) = Unit {0}
+TrueEvent w (Hear mote dt draw frame) = Unit {0}
+TrueEvent w (Last from to dt draw) = Unit {0}
+TrueEvent w (Reset mote dt draw) = Unit {0}
+TrueEvent w (Inject mote image version dt draw) =
     (row kept : Row) → row_at w.declared image version ≡ Some row → row_at w.table image version ≡ Some kept → kept ≡ row
-TrueEvent w (OrderEvent mote number image version dt word) = Unit {0}
-TrueEvent w (Frame mote dt word bytes) = IsHonest w.table bytes
+TrueEvent w (OrderEvent mote number image version dt draw) = Unit {0}
+TrueEvent w (Frame mote dt draw bytes) = IsHonest w.table bytes
 
 -- what is played is in its ranges, and true
 abbrev pub ItemFits : Item → World → Type 0
 ItemFits (Declares row) w = IsDeclared row
-ItemFits (Happens step reported) w = StepInRange (length w.sites) step × TrueEvent w step.event
+ItemFits (Applies step reported) w = StepInRange (length w.sites) step × TrueEvent w step.event
 
 abbrev pub PlayedFits : Played → Type 0
 PlayedFits p = ItemFits p.item p.before
@@ -102,7 +102,7 @@ PlayedFits p = ItemFits p.item p.before
 -- the same where nothing is said of the world: of a script with so many motes
 abbrev pub ItemInRange : ℕ → Item → Type 0
 ItemInRange motes (Declares row) = IsDeclared row
-ItemInRange motes (Happens step reported) = StepInRange motes step
+ItemInRange motes (Applies step reported) = StepInRange motes step
 
 abbrev pub PlayedInRange : ℕ → Played → Type 0
 PlayedInRange motes p = ItemInRange motes p.item
@@ -110,7 +110,7 @@ PlayedInRange motes p = ItemInRange motes p.item
 -- a frame from outside is honest by the table of that moment
 abbrev pub HonestItem : Item → World → Type 0
 HonestItem (Declares row) w = Unit {0}
-HonestItem (Happens step reported) w = HonestEvent w.table step.event
+HonestItem (Applies step reported) w = HonestEvent w.table step.event
 
 abbrev pub IsHonestThen : Played → Type 0
 IsHonestThen p = HonestItem p.item p.before
@@ -118,7 +118,7 @@ IsHonestThen p = HonestItem p.item p.before
 -- an event is true in the world of that moment
 abbrev pub TrueItem : Item → World → Type 0
 TrueItem (Declares row) w = Unit {0}
-TrueItem (Happens step reported) w = TrueEvent w step.event
+TrueItem (Applies step reported) w = TrueEvent w step.event
 
 abbrev pub IsTrueThen : Played → Type 0
 IsTrueThen p = TrueItem p.item p.before

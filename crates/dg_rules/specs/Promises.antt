@@ -18,7 +18,7 @@ use Rattle.dg_rules.specs.Steps.{blows}
 use Rattle.dg_rules.specs.Small.{Holding, small, small_mote_at, holds}
 use Rattle.dg_rules.specs.Legal.{Past, LegalStep, step_facts}
 use Rattle.dg_rules.specs.Past.{brought, past_of}
-use Rattle.dg_script.specs.Items.{Item, Declares, Happens}
+use Rattle.dg_script.specs.Items.{Item, Declares, Applies}
 use Rattle.dg_rules.specs.Runs.{Played}
 use Rattle.dg_base.specs.declared.events.Event.{Event}
 use Rattle.dg_base.specs.declared.events.Event.TheVariants.{Tick, Hear, Last, Reset, Inject, Order as OrderEvent, Frame}
@@ -35,7 +35,7 @@ LegalDoes (Goes d) past w x v =
 
 abbrev pub LegalItem : Item → Past → World → World → Type 0
 LegalItem (Declares row) past w v = small v ≡ small w
-LegalItem (Happens step reported) past w v = LegalDoes (does w step.event) past w step v
+LegalItem (Applies step reported) past w v = LegalDoes (does w step.event) past w step v
 
 -- what was played is legal after what was played before it, the newest first
 abbrev pub IsLegal : List Played → Played → Type 0
@@ -59,13 +59,13 @@ NamesNewer wide (Some bytes) i h =
 
 -- an injection brings a newer version of the image, or an advert that is heard names one
 abbrev pub Replaces : World → Event → ℕ → Holding → Type 0
-Replaces w (Inject m image version dt word) i h = (image ≡ i) × (h.version < version)
-Replaces w (Hear m dt word frame) i h = NamesNewer (wide_at w m) (brought w (Hear m dt word frame)) i h
-Replaces w (Last from to dt word) i h = NamesNewer (wide_at w to) (brought w (Last from to dt word)) i h
-Replaces w (Frame m dt word bytes) i h = NamesNewer (wide_at w m) (Some bytes) i h
-Replaces w (Tick m dt word) i h = ⊥
-Replaces w (Reset m dt word) i h = ⊥
-Replaces w (OrderEvent m number image version dt word) i h = ⊥
+Replaces w (Inject m image version dt draw) i h = (image ≡ i) × (h.version < version)
+Replaces w (Hear m dt draw frame) i h = NamesNewer (wide_at w m) (brought w (Hear m dt draw frame)) i h
+Replaces w (Last from to dt draw) i h = NamesNewer (wide_at w to) (brought w (Last from to dt draw)) i h
+Replaces w (Frame m dt draw bytes) i h = NamesNewer (wide_at w m) (Some bytes) i h
+Replaces w (Tick m dt draw) i h = ⊥
+Replaces w (Reset m dt draw) i h = ⊥
+Replaces w (OrderEvent m number image version dt draw) i h = ⊥
 
 -- the cut of the step blew
 abbrev pub IsBlown : Does → Step → Type 0
@@ -84,7 +84,7 @@ pub record IsReplacing (w : World) (x : Step) (m i : ℕ) (h : Holding) (new : O
 abbrev pub KeepsItem : Item → World → World → Type 0
 KeepsItem (Declares row) w v =
     (m i : ℕ) (h : Holding) → holds (small_mote_at (small w) m) i ≡ Some h → IsKeptIn (holds (small_mote_at (small v) m) i) h
-KeepsItem (Happens step reported) w v = (m i : ℕ) (h : Holding) → holds (small_mote_at (small w) m) i ≡ Some h
+KeepsItem (Applies step reported) w v = (m i : ℕ) (h : Holding) → holds (small_mote_at (small w) m) i ≡ Some h
     → IsKeptIn (holds (small_mote_at (small v) m) i) h ⊎ IsReplacing w step m i h (holds (small_mote_at (small v) m) i)
 
 abbrev pub KeepsAll : Played → Type 0
@@ -101,8 +101,8 @@ pub record RunsRow (table : List Row) (r : Runs) : Type 0 where
   pub row : Row
   pub in_table : row_at table r.image r.version ≡ Some row
   pub pages : r.pages ≡ object row
-  pub length_told : runs_length r ≡ length row.bytes
-  pub crc_told : runs_crc r ≡ crc_of row.bytes
+  pub length_reported : runs_length r ≡ length row.bytes
+  pub crc_reported : runs_crc r ≡ crc_of row.bytes
 
 abbrev pub StartsDoes : Does → List Row → Type 0
 StartsDoes (Refuses why) table = Unit {0}
@@ -110,7 +110,7 @@ StartsDoes (Goes d) table = IfSome d.started (RunsRow table)
 
 abbrev pub StartsItem : Item → World → Type 0
 StartsItem (Declares row) w = Unit {0}
-StartsItem (Happens step reported) w = StartsDoes (does w step.event) w.table
+StartsItem (Applies step reported) w = StartsDoes (does w step.event) w.table
 
 abbrev pub StartsRow : Played → Type 0
 StartsRow p = StartsItem p.item p.before

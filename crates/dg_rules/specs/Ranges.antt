@@ -11,14 +11,14 @@ use Rattle.dg_base.specs.declared.events.Step.{Step}
 
 -- of a world with so many motes
 abbrev pub EventInRange : ℕ → Event → Type 0
-EventInRange motes (Tick mote dt word) = mote < motes
-EventInRange motes (Hear mote dt word frame) = (mote < motes) × (1 ≤ frame)
-EventInRange motes (Last from to dt word) = (from < motes) × (to < motes) × (from ≢ to)
-EventInRange motes (Reset mote dt word) = mote < motes
-EventInRange motes (Inject mote image version dt word) = (mote < motes) × (image < images) × (1 ≤ version)
-EventInRange motes (OrderEvent mote number image version dt word) =
+EventInRange motes (Tick mote dt draw) = mote < motes
+EventInRange motes (Hear mote dt draw frame) = (mote < motes) × (1 ≤ frame)
+EventInRange motes (Last from to dt draw) = (from < motes) × (to < motes) × (from ≢ to)
+EventInRange motes (Reset mote dt draw) = mote < motes
+EventInRange motes (Inject mote image version dt draw) = (mote < motes) × (image < images) × (1 ≤ version)
+EventInRange motes (OrderEvent mote number image version dt draw) =
     (mote < motes) × (1 ≤ number) × (number < 2 ^ 32) × (image < images) × (1 ≤ version) × (version < 2 ^ 32)
-EventInRange motes (Frame mote dt word bytes) = (mote < motes) × (length bytes ≤ longest_frame) × AreBytes bytes
+EventInRange motes (Frame mote dt draw bytes) = (mote < motes) × (length bytes ≤ longest_frame) × AreBytes bytes
 
 pub record CutInRange (cut : Cut) : Type 0 where
   pub counted : 1 ≤ cut.after

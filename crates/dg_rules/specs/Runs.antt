@@ -2,9 +2,9 @@
 use Rattle.std.specs.Prelude.{◌≡◌, List, [], ◌∷◌}
 use Rattle.std.specs.List.{filter}
 use Rattle.dg_rules.specs.World.{World}
-use Rattle.dg_rules.specs.Changes.{is_told}
+use Rattle.dg_rules.specs.Changes.{is_reported}
 use Rattle.dg_rules.specs.Steps.{WorldStep, DeclareStep}
-use Rattle.dg_script.specs.Items.{Item, Declares, Happens}
+use Rattle.dg_script.specs.Items.{Item, Declares, Applies}
 use Rattle.dg_script.specs.declared.report.Report.{Report}
 
 pub record Played : Type 0 where
@@ -16,8 +16,8 @@ pub record Played : Type 0 where
 -- what an item makes of a world, and the lines that are reported of it
 abbrev pub ItemStep : World → Item → World → List Report → Type 0
 ItemStep w (Declares row) v reports = DeclareStep w row v reports
-ItemStep w (Happens step reported) v reports =
-    (all : List Report) × WorldStep w step v all × (reports ≡ filter (is_told reported) all)
+ItemStep w (Applies step reported) v reports =
+    (all : List Report) × WorldStep w step v all × (reports ≡ filter (is_reported reported) all)
 
 unfoldable pub Plays : World → List Played → World → Type 0
 Plays w [] v = w ≡ v

@@ -29,7 +29,7 @@ abbrev pub app_key : App → ImageVersion
 app_key app = record { image = app.image; version = app.version }
 
 abbrev pub running_key : Option Running → Option ImageVersion
-running_key r = option_map (λ (x : Running). x.key) r
+running_key r = option_map (λ (x : Running). x.image_version) r
 
 abbrev pub small_mote : Site → SmallMote
 small_mote x =

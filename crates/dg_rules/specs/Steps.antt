@@ -80,7 +80,7 @@ declared_as None w row = record w { declared = w.declared ++ row ∷ [] }
 declared_as (Some kept) w row = w
 
 -- A row is declared: it is added where its key is not there. Where the key has another name or content,
--- that is told and nothing changes
+-- that is reported and nothing changes
 pub record DeclareStep (w : World) (row : Row) (v : World) (reports : List Report) : Type 0 where
   pub world : v ≡ declared_as (row_at w.declared row.image row.version) w row
   pub told : reports ≡ declared_lines (row_at w.declared row.image row.version) row

@@ -10,7 +10,7 @@ use Rattle.dg_script.specs.Places.{is_narrow}
 
 -- a mote that is on: what it runs, and its state
 pub record Running : Type 0 where
-  pub key : ImageVersion
+  pub image_version : ImageVersion
   pub mote : MoteState
 
 -- what the chip of a mote stands for, and the mote, None where it is off

@@ -45,10 +45,10 @@ pub fn widths_stay()
 /// A narrow mote takes no image that its frames do not speak of: whatever else is wrong, its injection and an order of it
 /// are refused for the image.
 pub fn narrow_motes_know_few_images()
-    ensures injects { (w : World) (m image version dt word : ℕ) → wide_at w m ≡ false → narrow_images < image
-        → does w (Inject m image version dt word) ≡ Refuses Image }
-    ensures orders { (w : World) (m number image version dt word : ℕ) → wide_at w m ≡ false → narrow_images < image
-        → does w (Order m number image version dt word) ≡ Refuses Image }
+    ensures injects { (w : World) (m image version dt draw : ℕ) → wide_at w m ≡ false → narrow_images < image
+        → does w (Inject m image version dt draw) ≡ Refuses Image }
+    ensures orders { (w : World) (m number image version dt draw : ℕ) → wide_at w m ≡ false → narrow_images < image
+        → does w (Order m number image version dt draw) ≡ Refuses Image }
 {}
 
 /// A store that a cut leaves on a trail of agreeing stores agrees.

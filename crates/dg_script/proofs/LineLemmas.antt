@@ -18,7 +18,7 @@ use Rattle.dg_script.specs.Reading.{Reads}
 use Rattle.dg_script.specs.declared.fault.LineFault.{LineFault}
 use Rattle.dg_script.specs.declared.fault.LineFault.TheVariants as fault
 use Rattle.dg_script.specs.declared.line.Line.{Line}
-use Rattle.dg_script.specs.declared.line.Line.TheVariants.{Motes, Golden, Boards, Link, Narrow, Image, Cut, Happens, Round, Sweeps}
+use Rattle.dg_script.specs.declared.line.Line.TheVariants.{Motes, Golden, Boards, Link, Narrow, Image, Cut, Event as EventLine, Round, Sweeps}
 use Rattle.dg_script.specs.declared.place.Place.{Place}
 use Rattle.dg_script.specs.declared.verbs.Verb.{Verb}
 use Rattle.dg_script.specs.declared.verbs.Verb.TheVariants as verb
@@ -41,8 +41,8 @@ standing-by v place u h =
     let behind = guarded_ok (follows v place) fault.Cut (tt {0}) u stood.2 in
     record { fits = fits.0; behind = behind.0 }
 
-timed : (dt word : List ℕ) (d w : ℕ) → number_in dt ≡ Ok d → number_in word ≡ Ok w → IsTimed d w
-timed dt word d w e f = record { dt = number_in-fits dt d e; word = number_in-fits word w f }
+timed : (dt draw : List ℕ) (d w : ℕ) → number_in dt ≡ Ok d → number_in draw ≡ Ok w → IsTimed d w
+timed dt draw d w e f = record { dt = number_in-fits dt d e; draw = number_in-fits draw w f }
 
 counted : (word : List ℕ) (n : ℕ) → counted_in word ≡ Ok n → IsCounted n
 counted word n h = let here = ranged_in-within fault.Number 1 most_number word n h in record { counted = here.0; fits = omega (arith, here.1) }
@@ -160,12 +160,12 @@ tick_known place fields line h =
     let u = bound (standing verb.Tick place) _ line t.2 in
     let mote = bound (mote_in place.motes t.0.0) _ line u.2 in
     let dt = bound (number_in t.0.1) _ line mote.2 in
-    let word = bound (number_in t.0.2) _ line dt.2 in
-    let here : Happens (Tick mote.0 dt.0 word.0) ≡ line = cc in
+    let draw = bound (number_in t.0.2) _ line dt.2 in
+    let here : EventLine (Tick mote.0 dt.0 draw.0) ≡ line = cc in
     let P : Line → Type 0 = λ l. Known verb.Tick place l in
     subst P here (record {
       stood = standing-by verb.Tick place u.0 u.1;
-      fitting = (mote_in-below place.motes t.0.0 mote.0 mote.1, timed t.0.1 t.0.2 dt.0 word.0 dt.1 word.1);
+      fitting = (mote_in-below place.motes t.0.0 mote.0 mote.1, timed t.0.1 t.0.2 dt.0 draw.0 dt.1 draw.1);
       playing = λ p. p;
     })
 
@@ -176,13 +176,13 @@ hear_known place fields line h =
     let u = bound (standing verb.Hear place) _ line t.2 in
     let mote = bound (mote_in place.motes t.0.0) _ line u.2 in
     let dt = bound (number_in t.0.1) _ line mote.2 in
-    let word = bound (number_in t.0.2) _ line dt.2 in
-    let frame = bound (counted_in t.0.3) _ line word.2 in
-    let here : Happens (Hear mote.0 dt.0 word.0 frame.0) ≡ line = cc in
+    let draw = bound (number_in t.0.2) _ line dt.2 in
+    let frame = bound (counted_in t.0.3) _ line draw.2 in
+    let here : EventLine (Hear mote.0 dt.0 draw.0 frame.0) ≡ line = cc in
     let P : Line → Type 0 = λ l. Known verb.Hear place l in
     subst P here (record {
       stood = standing-by verb.Hear place u.0 u.1;
-      fitting = (mote_in-below place.motes t.0.0 mote.0 mote.1, timed t.0.1 t.0.2 dt.0 word.0 dt.1 word.1, counted t.0.3 frame.0 frame.1);
+      fitting = (mote_in-below place.motes t.0.0 mote.0 mote.1, timed t.0.1 t.0.2 dt.0 draw.0 dt.1 draw.1, counted t.0.3 frame.0 frame.1);
       playing = λ p. p;
     })
 
@@ -194,12 +194,12 @@ last_known place fields line h =
     let a = bound (mote_in place.motes t.0.0) _ line u.2 in
     let b = bound (other_in place.motes a.0 t.0.1) _ line a.2 in
     let dt = bound (number_in t.0.2) _ line b.2 in
-    let word = bound (number_in t.0.3) _ line dt.2 in
-    let here : Happens (Last a.0 b.0 dt.0 word.0) ≡ line = cc in
+    let draw = bound (number_in t.0.3) _ line dt.2 in
+    let here : EventLine (Last a.0 b.0 dt.0 draw.0) ≡ line = cc in
     let P : Line → Type 0 = λ l. Known verb.Last place l in
     subst P here (record {
       stood = standing-by verb.Last place u.0 u.1;
-      fitting = (two place.motes t.0.0 t.0.1 a.0 b.0 a.1 b.1, timed t.0.2 t.0.3 dt.0 word.0 dt.1 word.1);
+      fitting = (two place.motes t.0.0 t.0.1 a.0 b.0 a.1 b.1, timed t.0.2 t.0.3 dt.0 draw.0 dt.1 draw.1);
       playing = λ p. p;
     })
 
@@ -210,12 +210,12 @@ reset_known place fields line h =
     let u = bound (standing verb.Reset place) _ line t.2 in
     let mote = bound (mote_in place.motes t.0.0) _ line u.2 in
     let dt = bound (number_in t.0.1) _ line mote.2 in
-    let word = bound (number_in t.0.2) _ line dt.2 in
-    let here : Happens (Reset mote.0 dt.0 word.0) ≡ line = cc in
+    let draw = bound (number_in t.0.2) _ line dt.2 in
+    let here : EventLine (Reset mote.0 dt.0 draw.0) ≡ line = cc in
     let P : Line → Type 0 = λ l. Known verb.Reset place l in
     subst P here (record {
       stood = standing-by verb.Reset place u.0 u.1;
-      fitting = (mote_in-below place.motes t.0.0 mote.0 mote.1, timed t.0.1 t.0.2 dt.0 word.0 dt.1 word.1);
+      fitting = (mote_in-below place.motes t.0.0 mote.0 mote.1, timed t.0.1 t.0.2 dt.0 draw.0 dt.1 draw.1);
       playing = λ p. p;
     })
 
@@ -228,12 +228,12 @@ inject_known place fields line h =
     let image = bound (any_image_in t.0.1) _ line mote.2 in
     let version = bound (version_in t.0.2) _ line image.2 in
     let dt = bound (number_in t.0.3) _ line version.2 in
-    let word = bound (number_in t.0.4) _ line dt.2 in
-    let here : Happens (Inject mote.0 image.0 version.0 dt.0 word.0) ≡ line = cc in
+    let draw = bound (number_in t.0.4) _ line dt.2 in
+    let here : EventLine (Inject mote.0 image.0 version.0 dt.0 draw.0) ≡ line = cc in
     let P : Line → Type 0 = λ l. Known verb.Inject place l in
     subst P here (record {
       stood = standing-by verb.Inject place u.0 u.1;
-      fitting = (mote_in-below place.motes t.0.0 mote.0 mote.1, version_known t.0.1 t.0.2 image.0 version.0 image.1 version.1, timed t.0.3 t.0.4 dt.0 word.0 dt.1 word.1);
+      fitting = (mote_in-below place.motes t.0.0 mote.0 mote.1, version_known t.0.1 t.0.2 image.0 version.0 image.1 version.1, timed t.0.3 t.0.4 dt.0 draw.0 dt.1 draw.1);
       playing = λ p. p;
     })
 
@@ -247,13 +247,13 @@ order_known place fields line h =
     let image = bound (any_image_in t.0.2) _ line number.2 in
     let version = bound (version_in t.0.3) _ line image.2 in
     let dt = bound (number_in t.0.4) _ line version.2 in
-    let word = bound (number_in t.0.5) _ line dt.2 in
-    let order : Line = Happens (Order mote.0 number.0 image.0 version.0 dt.0 word.0) in
-    let here : order ≡ line = same_of_ok order line _ _ refl refl word.2 in
+    let draw = bound (number_in t.0.5) _ line dt.2 in
+    let order : Line = EventLine (Order mote.0 number.0 image.0 version.0 dt.0 draw.0) in
+    let here : order ≡ line = same_of_ok order line _ _ refl refl draw.2 in
     let P : Line → Type 0 = λ l. Known verb.Order place l in
     subst P here (record {
       stood = standing-by verb.Order place u.0 u.1;
-      fitting = (mote_in-below place.motes t.0.0 mote.0 mote.1, numbered t.0.1 number.0 number.1, version_known t.0.2 t.0.3 image.0 version.0 image.1 version.1, timed t.0.4 t.0.5 dt.0 word.0 dt.1 word.1);
+      fitting = (mote_in-below place.motes t.0.0 mote.0 mote.1, numbered t.0.1 number.0 number.1, version_known t.0.2 t.0.3 image.0 version.0 image.1 version.1, timed t.0.4 t.0.5 dt.0 draw.0 dt.1 draw.1);
       playing = λ p. p;
     })
 
@@ -264,14 +264,14 @@ frame_known place fields line h =
     let u = bound (standing verb.Frame place) _ line t.2 in
     let mote = bound (mote_in place.motes t.0.0) _ line u.2 in
     let dt = bound (number_in t.0.1) _ line mote.2 in
-    let word = bound (number_in t.0.2) _ line dt.2 in
-    let content = bound (sized_content 0 longest_frame t.0.3) _ line word.2 in
+    let draw = bound (number_in t.0.2) _ line dt.2 in
+    let content = bound (sized_content 0 longest_frame t.0.3) _ line draw.2 in
     let size = sized_content-is 0 longest_frame t.0.3 content.0 content.1 in
-    let here : Happens (Frame mote.0 dt.0 word.0 content.0) ≡ line = cc in
+    let here : EventLine (Frame mote.0 dt.0 draw.0 content.0) ≡ line = cc in
     let P : Line → Type 0 = λ l. Known verb.Frame place l in
     subst P here (record {
       stood = standing-by verb.Frame place u.0 u.1;
-      fitting = (mote_in-below place.motes t.0.0 mote.0 mote.1, timed t.0.1 t.0.2 dt.0 word.0 dt.1 word.1, record { few = size.high; bytes = size.bytes });
+      fitting = (mote_in-below place.motes t.0.0 mote.0 mote.1, timed t.0.1 t.0.2 dt.0 draw.0 dt.1 draw.1, record { few = size.high; bytes = size.bytes });
       playing = λ p. p;
     })
 

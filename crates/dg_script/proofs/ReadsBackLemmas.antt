@@ -16,7 +16,7 @@ use Rattle.dg_script.specs.Fitting.{StandsBy, StandsAt, FitsLine, FitsEvent, IsV
 use Rattle.dg_script.specs.Spelling.{content_text, event_words, line_text, IsShort}
 use Rattle.dg_script.specs.declared.fault.LineFault.TheVariants as fault
 use Rattle.dg_script.specs.declared.line.Line.{Line}
-use Rattle.dg_script.specs.declared.line.Line.TheVariants.{Nothing, Motes, Golden, Boards, Link, Narrow, Image, Cut, Happens, Round, Sweeps}
+use Rattle.dg_script.specs.declared.line.Line.TheVariants.{Nothing, Motes, Golden, Boards, Link, Narrow, Image, Cut, Event as EventLine, Round, Sweeps}
 use Rattle.dg_script.specs.declared.place.Place.{Place}
 use Rattle.dg_script.specs.declared.verbs.Verb.TheVariants as verb
 use Rattle.dg_script.proofs.FieldLemmas.{cut_with-ok}
@@ -99,15 +99,15 @@ sweeps_read place n stands low high plays =
 
 -- an event is read back
 abbrev EventReads : Place → Event → Type 0
-EventReads place event = StandsBy (verb_of_event event) place → FitsEvent most_motes event → FitsEvent place.motes event → is_played (verb_of_event event) ≡ true → line_of place (spaced (event_words event)) ≡ Ok (Happens event)
+EventReads place event = StandsBy (verb_of_event event) place → FitsEvent most_motes event → FitsEvent place.motes event → is_played (verb_of_event event) ≡ true → line_of place (spaced (event_words event)) ≡ Ok (EventLine event)
 
 tick_read : (place : Place) (m d w : ℕ) → EventReads place (Tick m d w)
 unfolding tick_of
 tick_read place m d w stands few fits plays =
     let a = number m (omega (arith, few.0)) in
     let b = number d fits.1.dt in
-    let c = number w fits.1.word in
-    reads_words verb.Tick place (decimal m ∷ decimal d ∷ decimal w ∷ []) (Happens (Tick m d w)) (a.word, (b.word, (c.word, tt))) (omega (arith, a.short, b.short, c.short)) plays
+    let c = number w fits.1.draw in
+    reads_words verb.Tick place (decimal m ∷ decimal d ∷ decimal w ∷ []) (EventLine (Tick m d w)) (a.word, (b.word, (c.word, tt))) (omega (arith, a.short, b.short, c.short)) plays
     (rw (stood verb.Tick place stands, mote place.motes m a fits.0, b.read, c.read) refl)
 
 hear_read : (place : Place) (m d w k : ℕ) → EventReads place (Hear m d w k)
@@ -115,9 +115,9 @@ unfolding hear_of
 hear_read place m d w k stands few fits plays =
     let a = number m (omega (arith, few.0)) in
     let b = number d fits.1.dt in
-    let c = number w fits.1.word in
+    let c = number w fits.1.draw in
     let e = number k fits.2.fits in
-    reads_words verb.Hear place (decimal m ∷ decimal d ∷ decimal w ∷ decimal k ∷ []) (Happens (Hear m d w k)) (a.word, (b.word, (c.word, (e.word, tt)))) (omega (arith, a.short, b.short, c.short, e.short)) plays
+    reads_words verb.Hear place (decimal m ∷ decimal d ∷ decimal w ∷ decimal k ∷ []) (EventLine (Hear m d w k)) (a.word, (b.word, (c.word, (e.word, tt)))) (omega (arith, a.short, b.short, c.short, e.short)) plays
     (rw (stood verb.Hear place stands, mote place.motes m a fits.0, b.read, c.read, ranged fault.Number 1 k most_number e fits.2.counted (omega (arith, fits.2.fits))) refl)
 
 last_read : (place : Place) (a b d w : ℕ) → EventReads place (Last a b d w)
@@ -126,8 +126,8 @@ last_read place a b d w stands few fits plays =
     let x = number a (omega (arith, few.0.first)) in
     let y = number b (omega (arith, few.0.second)) in
     let p = number d fits.1.dt in
-    let q = number w fits.1.word in
-    reads_words verb.Last place (decimal a ∷ decimal b ∷ decimal d ∷ decimal w ∷ []) (Happens (Last a b d w)) (x.word, (y.word, (p.word, (q.word, tt)))) (omega (arith, x.short, y.short, p.short, q.short)) plays
+    let q = number w fits.1.draw in
+    reads_words verb.Last place (decimal a ∷ decimal b ∷ decimal d ∷ decimal w ∷ []) (EventLine (Last a b d w)) (x.word, (y.word, (p.word, (q.word, tt)))) (omega (arith, x.short, y.short, p.short, q.short)) plays
     (rw (stood verb.Last place stands, mote place.motes a x fits.0.first, other_mote place.motes a b y fits.0.second fits.0.other, p.read, q.read) refl)
 
 reset_read : (place : Place) (m d w : ℕ) → EventReads place (Reset m d w)
@@ -135,8 +135,8 @@ unfolding reset_of
 reset_read place m d w stands few fits plays =
     let a = number m (omega (arith, few.0)) in
     let b = number d fits.1.dt in
-    let c = number w fits.1.word in
-    reads_words verb.Reset place (decimal m ∷ decimal d ∷ decimal w ∷ []) (Happens (Reset m d w)) (a.word, (b.word, (c.word, tt))) (omega (arith, a.short, b.short, c.short)) plays
+    let c = number w fits.1.draw in
+    reads_words verb.Reset place (decimal m ∷ decimal d ∷ decimal w ∷ []) (EventLine (Reset m d w)) (a.word, (b.word, (c.word, tt))) (omega (arith, a.short, b.short, c.short)) plays
     (rw (stood verb.Reset place stands, mote place.motes m a fits.0, b.read, c.read) refl)
 
 any_image : (image version : ℕ) → IsNumber image → IsVersion image version → ranged_in fault.Image 0 most_image (decimal image) ≡ Ok image
@@ -152,8 +152,8 @@ inject_read place m i v d w stands few fits plays =
     let x = number i (omega (arith, fits.1.image)) in
     let y = number v fits.1.version_fits in
     let b = number d fits.2.dt in
-    let c = number w fits.2.word in
-    reads_words verb.Inject place (decimal m ∷ decimal i ∷ decimal v ∷ decimal d ∷ decimal w ∷ []) (Happens (Inject m i v d w)) (a.word, (x.word, (y.word, (b.word, (c.word, tt)))))
+    let c = number w fits.2.draw in
+    reads_words verb.Inject place (decimal m ∷ decimal i ∷ decimal v ∷ decimal d ∷ decimal w ∷ []) (EventLine (Inject m i v d w)) (a.word, (x.word, (y.word, (b.word, (c.word, tt)))))
     (omega (arith, a.short, x.short, y.short, b.short, c.short)) plays
     (rw (stood verb.Inject place stands, mote place.motes m a fits.0, any_image i v x fits.1, some_version v y fits.1.version, b.read, c.read) refl)
 
@@ -165,8 +165,8 @@ order_read place m k i v d w stands few fits plays =
     let x = number i (omega (arith, fits.2.image)) in
     let y = number v fits.2.version_fits in
     let b = number d fits.3.dt in
-    let c = number w fits.3.word in
-    reads_words verb.Order place (decimal m ∷ decimal k ∷ decimal i ∷ decimal v ∷ decimal d ∷ decimal w ∷ []) (Happens (Order m k i v d w)) (a.word, (n.word, (x.word, (y.word, (b.word, (c.word, tt))))))
+    let c = number w fits.3.draw in
+    reads_words verb.Order place (decimal m ∷ decimal k ∷ decimal i ∷ decimal v ∷ decimal d ∷ decimal w ∷ []) (EventLine (Order m k i v d w)) (a.word, (n.word, (x.word, (y.word, (b.word, (c.word, tt))))))
     (omega (arith, a.short, n.short, x.short, y.short, b.short, c.short)) plays
     (rw (stood verb.Order place stands, mote place.motes m a fits.0, some_version k n fits.1.counted, any_image i v x fits.2, some_version v y fits.2.version, b.read, c.read) refl)
 
@@ -175,9 +175,9 @@ unfolding frame_of
 frame_read place m d w bytes stands few fits plays =
     let a = number m (omega (arith, few.0)) in
     let b = number d fits.1.dt in
-    let c = number w fits.1.word in
+    let c = number w fits.1.draw in
     let f = content 0 longest_frame bytes fits.2.bytes (omega arith) fits.2.few in
-    reads_words verb.Frame place (decimal m ∷ decimal d ∷ decimal w ∷ content_text bytes ∷ []) (Happens (Frame m d w bytes)) (a.word, (b.word, (c.word, (f.word, tt))))
+    reads_words verb.Frame place (decimal m ∷ decimal d ∷ decimal w ∷ content_text bytes ∷ []) (EventLine (Frame m d w bytes)) (a.word, (b.word, (c.word, (f.word, tt))))
     (omega (arith, a.short, b.short, c.short, f.size, fits.2.few)) plays
     (rw (stood verb.Frame place stands, mote place.motes m a fits.0, b.read, c.read, f.read) refl)
 
@@ -201,6 +201,6 @@ line_reads place (Link a b) few short stands fits plays = link_read place a b st
 line_reads place (Narrow m) few short stands fits plays = narrow_read place m stands.0 stands.1 few fits plays
 line_reads place (Image image version called bytes) few short stands fits plays = image_read place image version called bytes stands few short plays
 line_reads place (Cut cut) few short stands fits plays = cut_read place cut stands few plays
-line_reads place (Happens event) few short stands fits plays = event_read place event stands few fits plays
+line_reads place (EventLine event) few short stands fits plays = event_read place event stands few fits plays
 line_reads place (Round a b) few short stands fits plays = round_read place a b stands few fits plays
 line_reads place (Sweeps n) few short stands fits plays = sweeps_read place n stands few.0 few.1 plays

@@ -12,7 +12,8 @@ use Rattle.dg_script.specs.Sizes.{most_motes, most_image, most_used, most_conten
 use Rattle.dg_script.specs.Verbs.{is_played, stands, follows}
 use Rattle.dg_script.specs.Places.{is_linked, is_narrow}
 use Rattle.dg_script.specs.declared.line.Line.{Line}
-use Rattle.dg_script.specs.declared.line.Line.TheVariants.{Nothing, Motes, Golden, Boards, Link, Narrow, Image, Cut, Happens}
+use Rattle.dg_script.specs.declared.line.Line.TheVariants.{Nothing, Motes, Golden, Boards, Link, Narrow, Image, Cut}
+use Rattle.dg_script.specs.declared.line.Line.TheVariants.{Event as EventLine}
 use Rattle.dg_script.specs.declared.line.Line.TheVariants.{Round, Sweeps}
 use Rattle.dg_script.specs.declared.place.Place.{Place}
 use Rattle.dg_script.specs.declared.verbs.Verb.{Verb}
@@ -47,7 +48,7 @@ pub record FitsCut (cut : CutOfPower) : Type 0 where
 -- what each event has besides its own numbers
 pub record IsTimed (d w : ℕ) : Type 0 where
   pub dt : d < 2 ^ 32
-  pub word : w < 2 ^ 32
+  pub draw : w < 2 ^ 32
 
 -- two different ones of so many motes
 pub record AreTwo (motes a b : ℕ) : Type 0 where
@@ -71,14 +72,14 @@ pub record IsFrame (content : List ℕ) : Type 0 where
 
 -- an event is at one of so many motes
 abbrev pub FitsEvent : ℕ → Event → Type 0
-FitsEvent motes (Tick mote dt word) = (mote < motes) × IsTimed dt word
-FitsEvent motes (Hear mote dt word frame) = (mote < motes) × IsTimed dt word × IsCounted frame
-FitsEvent motes (Last from to dt word) = AreTwo motes from to × IsTimed dt word
-FitsEvent motes (Reset mote dt word) = (mote < motes) × IsTimed dt word
-FitsEvent motes (Inject mote image version dt word) = (mote < motes) × IsVersion image version × IsTimed dt word
-FitsEvent motes (Order mote number image version dt word) = (mote < motes) × IsCounted number × IsVersion image version
-    × IsTimed dt word
-FitsEvent motes (Frame mote dt word bytes) = (mote < motes) × IsTimed dt word × IsFrame bytes
+FitsEvent motes (Tick mote dt draw) = (mote < motes) × IsTimed dt draw
+FitsEvent motes (Hear mote dt draw frame) = (mote < motes) × IsTimed dt draw × IsCounted frame
+FitsEvent motes (Last from to dt draw) = AreTwo motes from to × IsTimed dt draw
+FitsEvent motes (Reset mote dt draw) = (mote < motes) × IsTimed dt draw
+FitsEvent motes (Inject mote image version dt draw) = (mote < motes) × IsVersion image version × IsTimed dt draw
+FitsEvent motes (Order mote number image version dt draw) = (mote < motes) × IsCounted number × IsVersion image version
+    × IsTimed dt draw
+FitsEvent motes (Frame mote dt draw bytes) = (mote < motes) × IsTimed dt draw × IsFrame bytes
 
 -- the fields of a line are in their ranges, where there are so many motes
 abbrev pub FitsLine : ℕ → Line → Type 0
@@ -90,19 +91,19 @@ FitsLine motes (Link a b) = AreTwo motes a b
 FitsLine motes (Narrow mote) = mote < motes
 FitsLine motes (Image image version name content) = FitsImage image version name content
 FitsLine motes (Cut cut) = FitsCut cut
-FitsLine motes (Happens event) = FitsEvent motes event
+FitsLine motes (EventLine event) = FitsEvent motes event
 FitsLine motes (Round a b) = AreTwo motes a b
 FitsLine motes (Sweeps n) = (1 ≤ n) × (n ≤ most_sweeps)
 
 -- the verb of an event
 abbrev pub verb_of_event : Event → Verb
-verb_of_event (Tick mote dt word) = verb.Tick
-verb_of_event (Hear mote dt word frame) = verb.Hear
-verb_of_event (Last from to dt word) = verb.Last
-verb_of_event (Reset mote dt word) = verb.Reset
-verb_of_event (Inject mote image version dt word) = verb.Inject
-verb_of_event (Order mote number image version dt word) = verb.Order
-verb_of_event (Frame mote dt word bytes) = verb.Frame
+verb_of_event (Tick mote dt draw) = verb.Tick
+verb_of_event (Hear mote dt draw frame) = verb.Hear
+verb_of_event (Last from to dt draw) = verb.Last
+verb_of_event (Reset mote dt draw) = verb.Reset
+verb_of_event (Inject mote image version dt draw) = verb.Inject
+verb_of_event (Order mote number image version dt draw) = verb.Order
+verb_of_event (Frame mote dt draw bytes) = verb.Frame
 
 -- a line of this verb is played, and stands at its place
 pub record StandsBy (verb : Verb) (place : Place) : Type 0 where
@@ -118,7 +119,7 @@ StandsAt place (Link a b) = StandsBy verb.Link place × (is_linked place.links a
 StandsAt place (Narrow mote) = StandsBy verb.Narrow place × (is_narrow place.narrow mote ≡ false)
 StandsAt place (Image image version name content) = StandsBy verb.Image place
 StandsAt place (Cut cut) = StandsBy verb.Cut place
-StandsAt place (Happens event) = StandsBy (verb_of_event event) place
+StandsAt place (EventLine event) = StandsBy (verb_of_event event) place
 StandsAt place (Round a b) = StandsBy verb.Round place
 StandsAt place (Sweeps n) = StandsBy verb.Sweeps place
 
@@ -136,7 +137,7 @@ IsPlayed (Link a b) = IsTrue (is_played verb.Link)
 IsPlayed (Narrow mote) = IsTrue (is_played verb.Narrow)
 IsPlayed (Image image version name content) = IsTrue (is_played verb.Image)
 IsPlayed (Cut cut) = IsTrue (is_played verb.Cut)
-IsPlayed (Happens event) = IsPlayedEvent event
+IsPlayed (EventLine event) = IsPlayedEvent event
 IsPlayed (Round a b) = IsTrue (is_played verb.Round)
 IsPlayed (Sweeps n) = IsTrue (is_played verb.Sweeps)
 
@@ -150,7 +151,7 @@ UsesBoard (Link a b) = ⊥
 UsesBoard (Narrow mote) = ⊥
 UsesBoard (Image image version name content) = ⊥
 UsesBoard (Cut cut) = ⊥
-UsesBoard (Happens event) = Unit {0}
+UsesBoard (EventLine event) = Unit {0}
 UsesBoard (Round a b) = Unit {0}
 UsesBoard (Sweeps n) = Unit {0}
 

@@ -8,17 +8,17 @@ use Rattle.dg_script.specs.Fitting.{declared_row}
 use Rattle.dg_script.specs.Places.{first_place, place_after}
 use Rattle.dg_script.specs.declared.line.Line.{Line}
 use Rattle.dg_script.specs.declared.line.Line.TheVariants.{Nothing, Motes, Golden, Boards, Link, Narrow, Image, Cut}
-use Rattle.dg_script.specs.declared.line.Line.TheVariants.{Happens as HappensLine, Round, Sweeps}
+use Rattle.dg_script.specs.declared.line.Line.TheVariants.{Event as EventLine, Round, Sweeps}
 use Rattle.dg_script.specs.declared.place.Place.{Place}
 
 -- A row is declared, or an event happens. One that a round or a sweep gave is unreported: it tells of no frame that it sent.
 pub data Item : Type 0 where
   Declares : (row : Row) → Item
-  Happens : (step : Step) → (reported : Bool) → Item
+  Applies : (step : Step) → (reported : Bool) → Item
 
 -- the items of events that a round or a sweep gives
 abbrev pub unreported : List Event → List Item
-unreported events = map (λ e. Happens (record { event = e; cut = None }) false) events
+unreported events = map (λ e. Applies (record { event = e; cut = None }) false) events
 
 -- the items of a line at its place, where a cut may wait for its event
 abbrev pub item_by : Place → Line → List Item
@@ -30,7 +30,7 @@ item_by place (Link a b) = []
 item_by place (Narrow mote) = []
 item_by place (Image image version name content) = Declares (declared_row image version name content) ∷ []
 item_by place (Cut c) = []
-item_by place (HappensLine event) = Happens (record { event = event; cut = place.cut }) true ∷ []
+item_by place (EventLine event) = Applies (record { event = event; cut = place.cut }) true ∷ []
 item_by place (Round a b) = unreported (round a b)
 item_by place (Sweeps n) = unreported (times n (sweep place.links))
 

@@ -6,7 +6,8 @@ use Rattle.dg_script.specs.Sizes.{most_motes}
 use Rattle.dg_script.specs.declared.fault.LineFault.{LineFault}
 use Rattle.dg_script.specs.declared.fault.LineFault.TheVariants as fault
 use Rattle.dg_script.specs.declared.line.Line.{Line}
-use Rattle.dg_script.specs.declared.line.Line.TheVariants.{Nothing, Motes, Golden, Boards, Link, Narrow, Image, Cut, Happens}
+use Rattle.dg_script.specs.declared.line.Line.TheVariants.{Nothing, Motes, Golden, Boards, Link, Narrow, Image, Cut}
+use Rattle.dg_script.specs.declared.line.Line.TheVariants.{Event as EventLine}
 use Rattle.dg_script.specs.declared.line.Line.TheVariants.{Round, Sweeps}
 use Rattle.dg_script.specs.declared.place.Place.{Place}
 
@@ -28,7 +29,7 @@ place_after place (Link a b) = record place { links = place.links ++ (a, b) ∷ 
 place_after place (Narrow mote) = record place { narrow = slice_set place.narrow mote true }
 place_after place (Image image version name content) = place
 place_after place (Cut cut) = record place { cut = Some cut }
-place_after place (Happens event) = record place { events = true; cut = None }
+place_after place (EventLine event) = record place { events = true; cut = None }
 place_after place (Round a b) = record place { events = true }
 place_after place (Sweeps n) = record place { events = true }
 

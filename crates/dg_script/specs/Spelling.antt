@@ -9,7 +9,8 @@ use Rattle.dg_base.specs.declared.events.Event.TheVariants.{Tick, Hear, Last, Re
 use Rattle.dg_script.specs.Sizes.{most_written}
 use Rattle.dg_script.specs.Words.{spaced}
 use Rattle.dg_script.specs.declared.line.Line.{Line}
-use Rattle.dg_script.specs.declared.line.Line.TheVariants.{Nothing, Motes, Golden, Boards, Link, Narrow, Image, Cut, Happens}
+use Rattle.dg_script.specs.declared.line.Line.TheVariants.{Nothing, Motes, Golden, Boards, Link, Narrow, Image, Cut}
+use Rattle.dg_script.specs.declared.line.Line.TheVariants.{Event as EventLine}
 use Rattle.dg_script.specs.declared.line.Line.TheVariants.{Round, Sweeps}
 use Rattle.dg_script.specs.declared.spelling.Field.{Field}
 use Rattle.dg_script.specs.declared.spelling.Field.TheVariants as field
@@ -33,15 +34,15 @@ fields_text fields = flat_map (λ f. 32 ∷ field_text f) fields
 
 -- the words of an event's line
 abbrev pub event_words : Event → List (List ℕ)
-event_words (Tick mote dt word) = codes "tick" ∷ decimal mote ∷ decimal dt ∷ decimal word ∷ []
-event_words (Hear mote dt word frame) = codes "hear" ∷ decimal mote ∷ decimal dt ∷ decimal word ∷ decimal frame ∷ []
-event_words (Last from to dt word) = codes "last" ∷ decimal from ∷ decimal to ∷ decimal dt ∷ decimal word ∷ []
-event_words (Reset mote dt word) = codes "reset" ∷ decimal mote ∷ decimal dt ∷ decimal word ∷ []
-event_words (Inject mote image version dt word) =
-    codes "inject" ∷ decimal mote ∷ decimal image ∷ decimal version ∷ decimal dt ∷ decimal word ∷ []
-event_words (Order mote number image version dt word) =
-    codes "order" ∷ decimal mote ∷ decimal number ∷ decimal image ∷ decimal version ∷ decimal dt ∷ decimal word ∷ []
-event_words (Frame mote dt word bytes) = codes "frame" ∷ decimal mote ∷ decimal dt ∷ decimal word ∷ content_text bytes ∷ []
+event_words (Tick mote dt draw) = codes "tick" ∷ decimal mote ∷ decimal dt ∷ decimal draw ∷ []
+event_words (Hear mote dt draw frame) = codes "hear" ∷ decimal mote ∷ decimal dt ∷ decimal draw ∷ decimal frame ∷ []
+event_words (Last from to dt draw) = codes "last" ∷ decimal from ∷ decimal to ∷ decimal dt ∷ decimal draw ∷ []
+event_words (Reset mote dt draw) = codes "reset" ∷ decimal mote ∷ decimal dt ∷ decimal draw ∷ []
+event_words (Inject mote image version dt draw) =
+    codes "inject" ∷ decimal mote ∷ decimal image ∷ decimal version ∷ decimal dt ∷ decimal draw ∷ []
+event_words (Order mote number image version dt draw) =
+    codes "order" ∷ decimal mote ∷ decimal number ∷ decimal image ∷ decimal version ∷ decimal dt ∷ decimal draw ∷ []
+event_words (Frame mote dt draw bytes) = codes "frame" ∷ decimal mote ∷ decimal dt ∷ decimal draw ∷ content_text bytes ∷ []
 
 -- the words of a line
 abbrev pub line_words : Line → List (List ℕ)
@@ -53,7 +54,7 @@ line_words (Link a b) = codes "link" ∷ decimal a ∷ decimal b ∷ []
 line_words (Narrow mote) = codes "narrow" ∷ decimal mote ∷ []
 line_words (Image image version name content) = codes "image" ∷ decimal image ∷ decimal version ∷ name ∷ content_text content ∷ []
 line_words (Cut cut) = codes "cut" ∷ decimal cut.after ∷ hex_text cut.mask ∷ []
-line_words (Happens event) = event_words event
+line_words (EventLine event) = event_words event
 line_words (Round a b) = codes "round" ∷ decimal a ∷ decimal b ∷ []
 line_words (Sweeps n) = codes "sweeps" ∷ decimal n ∷ []
 
@@ -71,7 +72,7 @@ IsShort (Link a b) = Unit {0}
 IsShort (Narrow mote) = Unit {0}
 IsShort (Image image version name content) = length content ≤ most_written
 IsShort (Cut cut) = Unit {0}
-IsShort (Happens event) = Unit {0}
+IsShort (EventLine event) = Unit {0}
 IsShort (Round a b) = Unit {0}
 IsShort (Sweeps n) = Unit {0}
 

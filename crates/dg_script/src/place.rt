@@ -65,7 +65,7 @@ impl Place {
                 self.cut = Some(cut);
                 Ok(())
             }
-            Line::Happens(_) => {
+            Line::Event(_) => {
                 self.events = true;
                 self.cut = None;
                 Ok(())

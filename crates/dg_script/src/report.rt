@@ -89,7 +89,7 @@ pub enum Report {
         mote: u8,
         cause: Cause,
     },
-    /// An image was not declared, since its key has another name or content.
+    /// An image was not declared, since its version has another name or content.
     Taken {
         image: u8,
         version: u32,

@@ -17,16 +17,16 @@ use Rattle.dg_mote.specs.Model.{MoteState}
 use Rattle.dg_mote.specs.Effects.{tick_effect, frame_effect, reset_effect}
 use Rattle.dg_mote.specs.Agreement.{IsHonest}
 use Rattle.dg_mote.specs.Well.{StoreIsWell, IsWell, EffectIsWell}
-use Rattle.dg_serial_base.specs.Deeds.{Base, At, Deed, Hears, Ticks, moment_at, drawn_word_at, powered, power_effect, effect_of, after_deed, DeedsRun}
+use Rattle.dg_serial_base.specs.Deeds.{Base, At, Deed, Hears, Ticks, moment_at, draw_at, powered, power_effect, effect_of, after_deed, DeedsRun}
 use Rattle.dg_serial_base.specs.Based.{Outside, Came, FlashStopped, AtPower, Later, EndsBy, Based}
 use Rattle.dg_serial_base.specs.Agreeing.{HonestDeed, HonestLine, StandsWell, ChipAgrees}
 
 -- what is known of motes that agree
 pub record Laws : Type 0 where
   pub later : (table : List Row) (m : MoteState) (s : Store) (now then : ℕ) → now ≤ then → IsWell table m s now → IsWell table m s then
-  pub ticked : (table : List Row) (m : MoteState) (s : Store) (now word : ℕ) → IsTable table → IsWell table m s now → EffectIsWell table (tick_effect m s now word) now
-  pub heard : (table : List Row) (m : MoteState) (s : Store) (now word : ℕ) (bytes : List ℕ) → IsTable table → IsHonest table bytes → IsWell table m s now → EffectIsWell table (frame_effect m s now word bytes) now
-  pub reset : (table : List Row) (s : Store) (id now word : ℕ) (wide : Bool) → IsTable table → StoreIsWell table s → EffectIsWell table (reset_effect s id wide now word) now
+  pub ticked : (table : List Row) (m : MoteState) (s : Store) (now draw : ℕ) → IsTable table → IsWell table m s now → EffectIsWell table (tick_effect m s now draw) now
+  pub heard : (table : List Row) (m : MoteState) (s : Store) (now draw : ℕ) (bytes : List ℕ) → IsTable table → IsHonest table bytes → IsWell table m s now → EffectIsWell table (frame_effect m s now draw bytes) now
+  pub reset : (table : List Row) (s : Store) (id now draw : ℕ) (wide : Bool) → IsTable table → StoreIsWell table s → EffectIsWell table (reset_effect s id wide now draw) now
   pub stopped : (table : List Row) (t : Trail Store) (k : ℕ) (s : Store) → Through (StoreIsWell table) t → Leaves IsNear t k s → StoreIsWell table s
 
 pub some_well : (P : MoteState → Type 0) (o : Option MoteState) (m : MoteState) → o ≡ Some m → IsSomeAnd o P → P m
@@ -42,9 +42,9 @@ next_moment step events = let e = mul-suc step events in omega (arith, e)
 module _ (laws : Laws) (table : List Row) (is : IsTable table) (b : Base) where
   deed_well : (a : At) (m : MoteState) (d : Deed) → HonestDeed table d → IsWell table m a.store (b.step * a.events) → EffectIsWell table (effect_of b m a d) (moment_at b a.events)
   deed_well a m (Hears bytes) honest well =
-      laws.heard table m a.store (moment_at b a.events) (drawn_word_at b a.events) bytes is honest (laws.later table m a.store (b.step * a.events) (moment_at b a.events) (next_moment b.step a.events) well)
+      laws.heard table m a.store (moment_at b a.events) (draw_at b a.events) bytes is honest (laws.later table m a.store (b.step * a.events) (moment_at b a.events) (next_moment b.step a.events) well)
   deed_well a m Ticks honest well =
-      laws.ticked table m a.store (moment_at b a.events) (drawn_word_at b a.events) is (laws.later table m a.store (b.step * a.events) (moment_at b a.events) (next_moment b.step a.events) well)
+      laws.ticked table m a.store (moment_at b a.events) (draw_at b a.events) is (laws.later table m a.store (b.step * a.events) (moment_at b a.events) (next_moment b.step a.events) well)
 
   well_run : (ds : List Deed) → AllByRecursion (HonestDeed table) ds → (a z : At) → StandsWell table b a → DeedsRun b a ds z → StandsWell table b z
   unfolding DeedsRun
@@ -53,7 +53,7 @@ module _ (laws : Laws) (table : List Row) (is : IsTable table) (b : Base) where
       well_run ds honest.1 (after_deed b r.0 a d) z (deed_well a r.0 d honest.0 (some_well (λ m. IsWell table m a.store (b.step * a.events)) a.mote r.0 r.1 well)).mote r.2
 
   powered_well : (s : Store) → StoreIsWell table s → StandsWell table b (powered b s)
-  powered_well s well = (laws.reset table s b.id (moment_at b 0) (drawn_word_at b 0) true is well).mote
+  powered_well s well = (laws.reset table s b.id (moment_at b 0) (draw_at b 0) true is well).mote
 
   pub run_well : (s : Store) (done : List Deed) (there : At) → StoreIsWell table s → AllByRecursion (HonestDeed table) done → DeedsRun b (powered b s) done there → StandsWell table b there
   run_well s done there well honest r = well_run done honest (powered b s) there (powered_well s well) r
@@ -82,7 +82,7 @@ module _ (laws : Laws) (table : List Row) (is : IsTable table) (b : Base) where
 
     flash_agrees : (text : List ℕ) (old new : Device) → FlashStopped b s input text old new → ChipAgrees table new.image
     flash_agrees text old new (AtPower between none stands stops) =
-        stop_agrees (power_effect b s).trail between new (laws.reset table s b.id (moment_at b 0) (drawn_word_at b 0) true is well).way stops
+        stop_agrees (power_effect b s).trail between new (laws.reset table s b.id (moment_at b 0) (draw_at b 0) true is well).way stops
     flash_agrees text old new (Later c between m d more on rest same stands stops) =
         let h : AllByRecursion (HonestDeed table) (d ∷ more) = subst (λ (ds : List Deed). AllByRecursion (HonestDeed table) ds) rest (all_back c.done c.rest (parts_honest c)) in
         stop_agrees (effect_of b m c.there d).trail between new

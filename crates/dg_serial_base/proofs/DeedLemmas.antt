@@ -25,7 +25,7 @@ use Rattle.dg_mote.specs.declared.mote.Heard.{Heard}
 use Rattle.dg_mote.specs.declared.mote.Mote.{Mote}
 use Rattle.dg_serial.specs.Line.{line_of}
 use Rattle.dg_serial_base.specs.Based.{IsFront}
-use Rattle.dg_serial_base.specs.Deeds.{Base, At, Deed, Hears, Ticks, powered, moment_at, drawn_word_at, effect_of, after_deed, sent_too, said}
+use Rattle.dg_serial_base.specs.Deeds.{Base, At, Deed, Hears, Ticks, powered, moment_at, draw_at, effect_of, after_deed, sent_too, said}
 use Rattle.dg_serial_base.specs.Standing.{Outset, code_at, DeedLeft, deed_left, IsLeft, LeavesNone, StopsOn, FailedBy, EffectEnds, IsTime, Stood, IsStood, one_if, DoneOne, LacksIn, StopsInDeed, DeedFails, DeedEnds, SendFails, StoppedBy, DeedsHalted, WentOn}
 use Rattle.dg_serial_base.specs.declared.running.Running.{Running}
 use Rattle.dg_serial_base.specs.declared.stop.Stop.{Stop}
@@ -86,43 +86,43 @@ pub timely_next : ((m : MoteState) (now then : ℕ) → now ≤ then → Timely 
 timely_next law m moment step new now t p q = let le : moment ≤ now = omega (arith, p, q) in law m moment now le t
 
 -- a frame is heard
-module _ (b : Base) (s : Store) (done : List Deed) (before : At) (v : Running) (c : List ℕ) (stood : Stood b s done v c before) (bytes : List ℕ) (now word : ℕ)
-    (drawn : (now ≡ moment_at b before.events) × (word ≡ drawn_word_at b before.events)) where
-  frame_is : frame_effect stood.state before.store now word bytes ≡ effect_of b stood.state before (Hears bytes)
+module _ (b : Base) (s : Store) (done : List Deed) (before : At) (v : Running) (c : List ℕ) (stood : Stood b s done v c before) (bytes : List ℕ) (now draw : ℕ)
+    (drawn : (now ≡ moment_at b before.events) × (draw ≡ draw_at b before.events)) where
+  frame_is : frame_effect stood.state before.store now draw bytes ≡ effect_of b stood.state before (Hears bytes)
   frame_is =
-      ap (λ (x : ℕ). frame_effect stood.state before.store x word bytes) drawn.0
+      ap (λ (x : ℕ). frame_effect stood.state before.store x draw bytes) drawn.0
       ∙ ap (λ (x : ℕ). frame_effect stood.state before.store (moment_at b before.events) x bytes) drawn.1
 
-  pub hear_done : Timely stood.state now → ((m : MoteState) (s : Store) (now word : ℕ) (bytes : List ℕ) → Timely m now → Timely (heard_of m s now word bytes).mote now)
-      → (u : Running) (old new : Device) (d : Heard) → now ≡ u.timeline.moment → IsTime u.timeline b (suc before.events) → Done (heard_of stood.state before.store now word bytes) old new u.mote d
+  pub hear_done : Timely stood.state now → ((m : MoteState) (s : Store) (now draw : ℕ) (bytes : List ℕ) → Timely m now → Timely (heard_of m s now draw bytes).mote now)
+      → (u : Running) (old new : Device) (d : Heard) → now ≡ u.timeline.moment → IsTime u.timeline b (suc before.events) → Done (heard_of stood.state before.store now draw bytes) old new u.mote d
       → DoneOne b s done (Hears bytes) before (deed_left u new None)
   hear_done timely law u old new d at time x =
-      let left = hear_leaves stood.state before.store now word bytes old new u.mote d x (law stood.state before.store now word bytes timely) in
+      let left = hear_leaves stood.state before.store now draw bytes old new u.mote d x (law stood.state before.store now draw bytes timely) in
       one_done b s done (Hears bytes) before v c stood u new None time
-      (sym (ap (λ (e : Effect). option_map frame_of e.sent) (sym frame_is) ∙ ap (option_map frame_of) (hear_silent stood.state before.store now word bytes)))
+      (sym (ap (λ (e : Effect). option_map frame_of e.sent) (sym frame_is) ∙ ap (option_map frame_of) (hear_silent stood.state before.store now draw bytes)))
       (subst (λ (n : ℕ). IsLeft (effect_of b stood.state before (Hears bytes)) new.image u.mote n) at (subst (λ (e : Effect). IsLeft e new.image u.mote now) frame_is left))
 
-  pub hear_fails : (old new : Device) → Stands old.image before.store → Stops (heard_of stood.state before.store now word bytes).trail old new → StopsInDeed b (Hears bytes) before new
+  pub hear_fails : (old new : Device) → Stands old.image before.store → Stops (heard_of stood.state before.store now draw bytes).trail old new → StopsInDeed b (Hears bytes) before new
   hear_fails old new stands stops =
       record {
         state = stood.state;
         on = stood.on;
-        stops = subst (λ (e : Effect). StopsOn before.store e new) frame_is (hear_stops stood.state before.store now word bytes old new stands stops);
+        stops = subst (λ (e : Effect). StopsOn before.store e new) frame_is (hear_stops stood.state before.store now draw bytes old new stands stops);
       }
 
 -- the mote ticks
-abbrev SendsBy : {T : Type 0} → Result T Stop → (c : List ℕ) → Mote → (now word : ℕ) → Option (List ℕ) → Type 0
-SendsBy r c v now word frame = OnOk r ((m : MoteState) (s : Store) → IsMote c v m s → Timely m now → frame ≡ option_map frame_of (tick_effect m s now word).sent)
+abbrev SendsBy : {T : Type 0} → Result T Stop → (c : List ℕ) → Mote → (now draw : ℕ) → Option (List ℕ) → Type 0
+SendsBy r c v now draw frame = OnOk r ((m : MoteState) (s : Store) → IsMote c v m s → Timely m now → frame ≡ option_map frame_of (tick_effect m s now draw).sent)
 
-pub tick_done : (r : Result (Unit {0}) Stop) (b : Base) (s : Store) (done : List Deed) (before : At) (v : Running) (c : List ℕ) (stood : Stood b s done v c before) (now word : ℕ)
-    → (now ≡ moment_at b before.events) × (word ≡ drawn_word_at b before.events) → (u : Running) (new : Device) (frame : Option (List ℕ)) → now ≡ u.timeline.moment → IsTime u.timeline b (suc before.events)
-    → Timely stood.state now → SendsBy r c v.mote now word frame → EffectEnds r before.store (tick_effect stood.state before.store now word) now new u.mote → DeedEnds r b s done Ticks before (deed_left u new frame)
-tick_done r b s done before v c stood now word drawn u new frame at time timely sends ends =
+pub tick_done : (r : Result (Unit {0}) Stop) (b : Base) (s : Store) (done : List Deed) (before : At) (v : Running) (c : List ℕ) (stood : Stood b s done v c before) (now draw : ℕ)
+    → (now ≡ moment_at b before.events) × (draw ≡ draw_at b before.events) → (u : Running) (new : Device) (frame : Option (List ℕ)) → now ≡ u.timeline.moment → IsTime u.timeline b (suc before.events)
+    → Timely stood.state now → SendsBy r c v.mote now draw frame → EffectEnds r before.store (tick_effect stood.state before.store now draw) now new u.mote → DeedEnds r b s done Ticks before (deed_left u new frame)
+tick_done r b s done before v c stood now draw drawn u new frame at time timely sends ends =
     let e : Effect = effect_of b stood.state before Ticks in
-    let is : tick_effect stood.state before.store now word ≡ e =
-    ap (λ (x : ℕ). tick_effect stood.state before.store x word) drawn.0 ∙ ap (λ (x : ℕ). tick_effect stood.state before.store (moment_at b before.events) x) drawn.1 in
+    let is : tick_effect stood.state before.store now draw ≡ e =
+    ap (λ (x : ℕ). tick_effect stood.state before.store x draw) drawn.0 ∙ ap (λ (x : ℕ). tick_effect stood.state before.store (moment_at b before.events) x) drawn.1 in
     deed_ends b s done Ticks before v c stood r u new frame time
-    (λ x ok. IfOk-at_ok (λ _. (m : MoteState) (s : Store) → IsMote c v.mote m s → Timely m now → frame ≡ option_map frame_of (tick_effect m s now word).sent) ok sends stood.state before.store stood.mote timely
+    (λ x ok. IfOk-at_ok (λ _. (m : MoteState) (s : Store) → IsMote c v.mote m s → Timely m now → frame ≡ option_map frame_of (tick_effect m s now draw).sent) ok sends stood.state before.store stood.mote timely
     ∙ ap (λ (y : Effect). option_map frame_of y.sent) is)
     (subst (λ (n : ℕ). EffectEnds r before.store e n new u.mote) at (subst (λ (y : Effect). EffectEnds r before.store y now new u.mote) is ends))
 
@@ -153,11 +153,11 @@ frame_some : (o : Option Message) → IfSome (option_map frame_of o) (λ f. 1 �
 frame_some None = tt
 frame_some (Some m) = frame_long m
 
-pub ends_frame : {T : Type 0} {c : List ℕ} {v : Mote} (r : Result T Stop) (m : MoteState) (s : Store) (now word : ℕ) (frame : Option (List ℕ)) → IsMote c v m s → Timely m now → SendsBy r c v now word frame
+pub ends_frame : {T : Type 0} {c : List ℕ} {v : Mote} (r : Result T Stop) (m : MoteState) (s : Store) (now draw : ℕ) (frame : Option (List ℕ)) → IsMote c v m s → Timely m now → SendsBy r c v now draw frame
     → OnOk r (IfSome frame (λ f. 1 ≤ length f))
-ends_frame (Ok x) m s now word frame mote timely sends =
-    subst (λ (o : Option (List ℕ)). IfSome o (λ f. 1 ≤ length f)) (sym (sends m s mote timely)) (frame_some (tick_effect m s now word).sent)
-ends_frame (Err why) m s now word frame mote timely sends = tt
+ends_frame (Ok x) m s now draw frame mote timely sends =
+    subst (λ (o : Option (List ℕ)). IfSome o (λ f. 1 ≤ length f)) (sym (sends m s mote timely)) (frame_some (tick_effect m s now draw).sent)
+ends_frame (Err why) m s now draw frame mote timely sends = tt
 
 -- ---- and what is written
 

@@ -8,7 +8,7 @@ use Rattle.dg_frame.specs.Spelling.{frame_of}
 use Rattle.dg_frame.specs.declared.Message.{Message}
 use Rattle.dg_mote.specs.Model.{MoteState}
 use Rattle.dg_mote.specs.Effects.{Effect, reset_effect, frame_effect, tick_effect}
-use Rattle.dg_seed.specs.Words.{word_of}
+use Rattle.dg_seed.specs.Draws.{draw_of}
 use Rattle.dg_serial.specs.Line.{Item, Frame, Escape, Long, items, line_of}
 
 -- what happens to a mote that is on
@@ -28,7 +28,7 @@ deeds_of_items xs = flat_map deeds_of_item xs
 abbrev pub deeds_of : List ℕ → List Deed
 deeds_of stream = deeds_of_items (items stream)
 
--- who the mote is, how many milliseconds pass to each event, and what its words come from
+-- who the mote is, how many milliseconds pass to each event, and what its draws come from
 pub record Base : Type 0 where
   pub id : ℕ
   pub step : ℕ
@@ -41,12 +41,12 @@ pub record At : Type 0 where
   pub events : ℕ
   pub sent : List Message
 
--- the moment and the word of the event behind so many
+-- the moment and the draw of the event behind so many
 abbrev pub moment_at : Base → ℕ → ℕ
 moment_at b events = b.step * suc events
 
-abbrev pub drawn_word_at : Base → ℕ → ℕ
-drawn_word_at b events = word_of b.seed events
+abbrev pub draw_at : Base → ℕ → ℕ
+draw_at b events = draw_of b.seed events
 
 abbrev pub sent_too : List Message → Option Message → List Message
 sent_too sent None = sent
@@ -58,15 +58,15 @@ behind_event e events sent = record { mote = e.mote; store = last e.trail; event
 
 -- the power comes, in the first event
 abbrev pub power_effect : Base → Store → Effect
-power_effect b s = reset_effect s b.id true (moment_at b 0) (drawn_word_at b 0)
+power_effect b s = reset_effect s b.id true (moment_at b 0) (draw_at b 0)
 
 abbrev pub powered : Base → Store → At
 powered b s = behind_event (power_effect b s) 0 []
 
 -- what a deed does to a mote that stands there
 abbrev pub effect_of : Base → MoteState → At → Deed → Effect
-effect_of b m a (Hears bytes) = frame_effect m a.store (moment_at b a.events) (drawn_word_at b a.events) bytes
-effect_of b m a Ticks = tick_effect m a.store (moment_at b a.events) (drawn_word_at b a.events)
+effect_of b m a (Hears bytes) = frame_effect m a.store (moment_at b a.events) (draw_at b a.events) bytes
+effect_of b m a Ticks = tick_effect m a.store (moment_at b a.events) (draw_at b a.events)
 
 abbrev pub after_deed : Base → MoteState → At → Deed → At
 after_deed b m a d = behind_event (effect_of b m a d) a.events a.sent

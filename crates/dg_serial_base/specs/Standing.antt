@@ -16,7 +16,7 @@ use Rattle.dg_mote.specs.Effects.{Effect}
 use Rattle.dg_mote.specs.Motes.{IsMote}
 use Rattle.dg_mote.specs.Timely.{Timely}
 use Rattle.dg_mote.specs.declared.mote.Mote.{Mote}
-use Rattle.dg_seed.specs.Words.{generator_of, generator_after}
+use Rattle.dg_seed.specs.Draws.{generator_of, generator_after}
 use Rattle.dg_serial.specs.Reading.{Reading, reading_behind}
 use Rattle.dg_serial_base.specs.Deeds.{Base, At, Deed, deeds_of, powered, power_effect, effect_of, DeedsRun, said}
 use Rattle.dg_serial_base.specs.Based.{IsFront}
@@ -143,11 +143,11 @@ IsTimely c v now = (m : MoteState) × (s : Store) × IsMote c v m s × Timely m 
 
 -- ---- the mote behind its deeds
 
--- the time and the words of so many events
+-- the time and the draws of so many events
 pub record IsTime (t : Timeline) (b : Base) (events : ℕ) : Type 0 where
   pub step : t.step ≡ b.step
   pub moment : t.moment ≡ b.step * events
-  pub words : generator_of t.words ≡ generator_after b.seed events
+  pub draws : generator_of t.draws ≡ generator_after b.seed events
 
 -- These deeds were done, and the code's mote over a chip of these bytes is the mote then.
 pub record Stood (b : Base) (s : Store) (done : List Deed) (v : Running) (c : List ℕ) (there : At) : Type 0 where

@@ -13,7 +13,7 @@ ghost use Rattle.dg_serial_base.specs.Standing.{IsTimely, Counts, WriteCounts, R
 
 use crate::starting::start_mote;
 use crate::stop::Stop;
-use crate::timeline::{Draw, Timeline};
+use crate::timeline::{Timeline, Timing};
 use dg_boot::StartCause;
 use dg_mote::{Did, Mote, Outbox, a_mote_stays_timely, a_restart_is_for_the_order};
 use dg_nor::{Nor, Stopped};
@@ -31,15 +31,15 @@ fn restart<N: Nor>(
     nor: &mut N,
     id: u16,
     wide: bool,
-    draw: Draw,
+    timing: Timing,
 ) -> Result<(), Stop>
-    requires moment { draw.now < 2 ^ 62 }
+    requires moment { timing.now < 2 ^ 62 }
     ensures ends { (s : Store) → Stands (N.device nor.old).image s
-        → EffectEnds result s (boots StartCause.Order s id wide draw.now draw.word) draw.now (N.device nor.new) mote.new }
-    ensures timely { OnOk result (IsTimely (N.device nor.new).image mote.new draw.now) }
+        → EffectEnds result s (boots StartCause.Order s id wide timing.now timing.draw) timing.now (N.device nor.new) mote.new }
+    ensures timely { OnOk result (IsTimely (N.device nor.new).image mote.new timing.now) }
     ensures counts { Counts result (N.device nor.old) (N.device nor.new) }
 {
-    match start_mote(nor, StartCause::Order, id, wide, draw) {
+    match start_mote(nor, StartCause::Order, id, wide, timing) {
         Ok(started) => {
             *mote = started;
             Ok(())
@@ -52,22 +52,22 @@ fn restart<N: Nor>(
 fn tick_mote<N: Nor>(
     mote: &mut Mote,
     nor: &mut N,
-    draw: Draw,
+    timing: Timing,
     outbox: &mut Outbox,
 ) -> Result<(), Stop>
-    requires mote { IsTimely (N.device nor.old).image mote.old draw.now }
-    requires moment { draw.now < 2 ^ 62 }
+    requires mote { IsTimely (N.device nor.old).image mote.old timing.now }
+    requires moment { timing.now < 2 ^ 62 }
     requires empty { sent_in outbox.old ≡ None }
-    ensures ends { (m : MoteState) (s : Store) → IsMote (N.device nor.old).image mote.old m s → Timely m draw.now
-        → EffectEnds result s (tick_effect m s draw.now draw.word) draw.now (N.device nor.new) mote.new }
+    ensures ends { (m : MoteState) (s : Store) → IsMote (N.device nor.old).image mote.old m s → Timely m timing.now
+        → EffectEnds result s (tick_effect m s timing.now timing.draw) timing.now (N.device nor.new) mote.new }
     ensures sent { OnOk result ((m : MoteState) (s : Store) → IsMote (N.device nor.old).image mote.old m s
-        → Timely m draw.now → sent_in outbox.new ≡ option_map frame_of (tick_effect m s draw.now draw.word).sent) }
-    ensures timely { OnOk result (IsTimely (N.device nor.new).image mote.new draw.now) }
+        → Timely m timing.now → sent_in outbox.new ≡ option_map frame_of (tick_effect m s timing.now timing.draw).sent) }
+    ensures timely { OnOk result (IsTimely (N.device nor.new).image mote.new timing.now) }
     ensures counts { Counts result (N.device nor.old) (N.device nor.new) }
 {
     a_mote_stays_timely();
     a_restart_is_for_the_order();
-    let Ok(did) = mote.tick(nor, draw.now, draw.word, outbox) else {
+    let Ok(did) = mote.tick(nor, timing.now, timing.draw, outbox) else {
         return Err(Stop::Flash);
     };
     match did {
@@ -75,7 +75,7 @@ fn tick_mote<N: Nor>(
         Did::Restart => {
             let id = mote.id();
             let wide = mote.wide();
-            restart(mote, nor, id, wide, draw)
+            restart(mote, nor, id, wide, timing)
         }
     }
 }
@@ -95,8 +95,8 @@ impl Running {
         ensures step { IfOk result (λ v. v.timeline.step ≡ step) }
     {
         let mut timeline = Timeline::begin(step, seed);
-        let draw = timeline.next();
-        match start_mote(nor, StartCause::Power, id, true, draw) {
+        let timing = timeline.next();
+        match start_mote(nor, StartCause::Power, id, true, timing) {
             Ok(mote) => Ok(Running { mote, timeline }),
             Err(stop) => Err(stop),
         }
@@ -116,8 +116,8 @@ impl Running {
         ensures step { self.new.timeline.step ≡ self.old.timeline.step }
     {
         a_mote_stays_timely();
-        let draw = self.timeline.next();
-        match self.mote.hear(nor, draw.now, draw.word, bytes) {
+        let timing = self.timeline.next();
+        match self.mote.hear(nor, timing.now, timing.draw, bytes) {
             Ok(_) => Ok(()),
             Err(Stopped) => Err(Stop::Flash),
         }
@@ -139,7 +139,7 @@ impl Running {
         ensures step { self.new.timeline.step ≡ self.old.timeline.step }
     {
         a_mote_stays_timely();
-        let draw = self.timeline.next();
-        tick_mote(&mut self.mote, nor, draw, outbox)
+        let timing = self.timeline.next();
+        tick_mote(&mut self.mote, nor, timing, outbox)
     }
 }

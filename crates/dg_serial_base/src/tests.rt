@@ -7,7 +7,7 @@ use dg_volume::{FORM, Volume};
 use std::alloc::Global;
 use std::test::Fail;
 
-/// What a base mote with number 0 writes for this input, 500 milliseconds from event to event, and with the words of seed 0.
+/// What a base mote with number 0 writes for this input, 500 milliseconds from event to event, and with the draws of seed 0.
 fn written(alloc: Global, input: &[u8]) -> Result<Vec<u8>, Fail> {
     let mut board = Board::memory(alloc)?;
     Volume::format(&mut board, b"A", b"base", 0, FORM)?;

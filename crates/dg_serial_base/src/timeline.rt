@@ -1,24 +1,24 @@
-//! When events happen, and the words that they draw.
+//! When events happen, and what they draw.
 ghost use Rattle.std.specs.Prelude.{◌≡◌, ℕ, suc, ◌+◌, ◌^◌, ◌<◌, ◌≤◌};
-ghost use Rattle.dg_serial_base.specs.Deeds.{Base, moment_at, drawn_word_at};
+ghost use Rattle.dg_serial_base.specs.Deeds.{Base, moment_at, draw_at};
 ghost use Rattle.dg_serial_base.specs.Standing.{IsTime};
 
-use dg_seed::Words;
+use dg_seed::Draws;
 
-/// The moment of the last event, and the words to come.
+/// The moment of the last event, and the draws to come.
 #[derive(Drop)]
 pub(crate) struct Timeline {
     /// The milliseconds from each event to the next.
     pub(crate) step: u32,
     pub(crate) moment: u64,
-    pub(crate) words: Words,
+    pub(crate) draws: Draws,
 }
 
-/// What an event takes of time and chance: its moment, and a word.
+/// What an event takes of time and chance: its moment, and a draw.
 #[derive(Clone, Copy, Debug, PartialEq, Eq)]
-pub(crate) struct Draw {
+pub(crate) struct Timing {
     pub(crate) now: u64,
-    pub(crate) word: u32,
+    pub(crate) draw: u32,
 }
 
 impl Timeline {
@@ -31,26 +31,26 @@ impl Timeline {
         Timeline {
             step,
             moment: 0,
-            words: Words::of_seed(seed),
+            draws: Draws::of_seed(seed),
         }
     }
 
-    /// The moment and the word of the next event.
-    pub(crate) fn next(&mut self) -> Draw
+    /// The moment and the draw of the next event.
+    pub(crate) fn next(&mut self) -> Timing
         requires early { self.old.moment < 2 ^ 61 }
         requires little { self.old.step ≤ 60000 }
         ensures time { (b : Base) (n : ℕ) → IsTime self.old b n → IsTime self.new b (suc n) }
         ensures drawn { (b : Base) (n : ℕ) → IsTime self.old b n → (result.now ≡ moment_at b n)
-            × (result.word ≡ drawn_word_at b n) }
+            × (result.draw ≡ draw_at b n) }
         ensures now { result.now ≡ self.new.moment }
         ensures moment { self.new.moment ≡ self.old.moment + self.old.step }
         ensures step { self.new.step ≡ self.old.step }
     {
         self.moment += u64::from(self.step);
-        let word = self.words.next();
-        Draw {
+        let draw = self.draws.next();
+        Timing {
             now: self.moment,
-            word,
+            draw,
         }
     }
 }

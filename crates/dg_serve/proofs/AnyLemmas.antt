@@ -27,10 +27,10 @@ use Rattle.dg_rules.specs.Golden.{SiteKeepsGolden, WorldKeepsGolden, FindsImage}
 use Rattle.dg_rules.proofs.PlayLemmas.{plays, all_then}
 use Rattle.dg_rules.proofs.SoundLemmas.{At, declared_sites}
 use Rattle.dg_rules.proofs.StepLemmas.{step_count}
-use Rattle.dg_script.specs.Items.{Item, Declares, Happens, items_of, items_behind, place_behind}
+use Rattle.dg_script.specs.Items.{Item, Declares, Applies, items_of, items_behind, place_behind}
 use Rattle.dg_script.specs.Places.{first_place, none_narrow}
 use Rattle.dg_script.specs.declared.line.Line.{Line}
-use Rattle.dg_script.specs.declared.line.Line.TheVariants.{Link, Happens as HappensLine}
+use Rattle.dg_script.specs.declared.line.Line.TheVariants.{Link, Event as EventLine}
 use Rattle.dg_script.specs.declared.place.Place.{Place}
 use Rattle.dg_script.specs.declared.report.Report.{Report}
 use Rattle.dg_world.specs.Alone.{uncut}
@@ -69,7 +69,7 @@ module _ (table : List Row) (stores : List Store) (links : List (ℕ × ℕ)) wh
 -- the motes are as many behind each item
 item_count : (motes : ℕ) (item : Item) (w v : World) (reports : List Report) → length w.sites ≡ motes → ItemInRange motes item → ItemStep w item v reports → length v.sites ≡ motes
 item_count motes (Declares row) w v reports count range did = ap length (ap (λ (u : World). u.sites) did.world ∙ declared_sites (row_at w.declared row.image row.version) w row) ∙ count
-item_count motes (Happens x reported) w v reports count range did = step_count w x v did.0 (subst (λ (n : ℕ). StepInRange n x) (sym count) range) did.1 ∙ count
+item_count motes (Applies x reported) w v reports count range did = step_count w x v did.0 (subst (λ (n : ℕ). StepInRange n x) (sym count) range) did.1 ∙ count
 
 -- ---- stores stay consistent
 
@@ -91,11 +91,11 @@ record Has (golden : Row) (p : Played) : Type 0 where
 module _ (laws : AnyLaws) (golden : Row) (motes : ℕ) where
   item_consistent : (item : Item) (w v : World) (reports : List Report) → Holds golden motes w → ItemInRange motes item → ItemStep w item v reports → WorldConsistent golden v
   item_consistent (Declares row) w v reports h range did = laws.declared golden w v row reports h.world range did
-  item_consistent (Happens x reported) w v reports h range did = laws.stepped golden w v x did.0 h.world (subst (λ (n : ℕ). StepInRange n x) (sym h.count) range) did.1
+  item_consistent (Applies x reported) w v reports h range did = laws.stepped golden w v x did.0 h.world (subst (λ (n : ℕ). StepInRange n x) (sym h.count) range) did.1
 
   item_starts : (item : Item) (w : World) → Holds golden motes w → ItemInRange motes item → StartsSoundItem golden item w
   item_starts (Declares row) w h range = tt
-  item_starts (Happens x reported) w h range = laws.starts golden w x.event h.world (subst (λ (n : ℕ). StepInRange n x) (sym h.count) range).event
+  item_starts (Applies x reported) w h range = laws.starts golden w x.event h.world (subst (λ (n : ℕ). StepInRange n x) (sym h.count) range).event
 
   played_holds : (past : List Played) (p : Played) → Holds golden motes p.before → PlayedInRange motes p → ItemStep p.before p.item p.after p.reports → Holds golden motes p.after × Has golden p
   played_holds past p h range did =
@@ -129,7 +129,7 @@ module _ (laws : GoldenLaws) (motes : ℕ) where
   item_golden : (item : Item) (w v : World) (reports : List Report) → Keeps motes w → ItemInRange motes item → ItemStep w item v reports → WorldKeepsGolden v
   item_golden (Declares row) w v reports k range did =
       subst (At (λ m y. SiteKeepsGolden y)) (sym (ap (λ (u : World). u.sites) did.world ∙ declared_sites (row_at w.declared row.image row.version) w row)) k.golden
-  item_golden (Happens x reported) w v reports k range did = laws.stepped w v x did.0 k.golden (subst (λ (n : ℕ). StepInRange n x) (sym k.count) range) did.1
+  item_golden (Applies x reported) w v reports k range did = laws.stepped w v x did.0 k.golden (subst (λ (n : ℕ). StepInRange n x) (sym k.count) range) did.1
 
   played_keeps : (past : List Played) (p : Played) → Keeps motes p.before → PlayedInRange motes p → ItemStep p.before p.item p.after p.reports → Keeps motes p.after × LeavesGolden p
   played_keeps past p k range did =
@@ -155,16 +155,16 @@ keeps_behind laws motes table stores links played v count h run ranges =
     (plays (λ past w. Keeps motes w) (PlayedInRange motes) (λ past p. LeavesGolden p) (played_keeps laws motes) [] played (first_world table links none_narrow stores) v run ranges first).0.holds
 
 -- no part of a plan finds that there is no image
-part_finds : GoldenLaws → (motes : ℕ) (w : World) (part : Part) (dt word : ℕ) (bytes : List ℕ) (old new : List Device) → Keeps motes w → PartFits motes part → FindsNoImage w (event_of part dt word bytes) old new → ⊥
-part_finds laws motes w (Begins m) dt word bytes old new k fits none =
-    laws.goes_on w none.world (uncut (Reset m dt word)) k.golden (record { event = subst (λ (n : ℕ). m < n) (sym k.count) fits; cut = tt }) none.ends
-part_finds laws motes w (Looks m) dt word bytes old new k fits none = frame_runs w m dt word bytes none.ends.deed none.ends.goes none.ends.none
-part_finds laws motes w (Ticks m) dt word bytes old new k fits none =
-    laws.goes_on w none.world (uncut (Tick m dt word)) k.golden (record { event = subst (λ (n : ℕ). m < n) (sym k.count) fits; cut = tt }) none.ends
+part_finds : GoldenLaws → (motes : ℕ) (w : World) (part : Part) (dt draw : ℕ) (bytes : List ℕ) (old new : List Device) → Keeps motes w → PartFits motes part → FindsNoImage w (event_of part dt draw bytes) old new → ⊥
+part_finds laws motes w (Begins m) dt draw bytes old new k fits none =
+    laws.goes_on w none.world (uncut (Reset m dt draw)) k.golden (record { event = subst (λ (n : ℕ). m < n) (sym k.count) fits; cut = tt }) none.ends
+part_finds laws motes w (Looks m) dt draw bytes old new k fits none = frame_runs w m dt draw bytes none.ends.deed none.ends.goes none.ends.none
+part_finds laws motes w (Ticks m) dt draw bytes old new k fits none =
+    laws.goes_on w none.world (uncut (Tick m dt draw)) k.golden (record { event = subst (λ (n : ℕ). m < n) (sym k.count) fits; cut = tt }) none.ends
 
 next_finds : GoldenLaws → (motes : ℕ) (s : Moment) (left : List Part) (old new : List Device) → Keeps motes s.world → AllByRecursion (PartFits motes) left → EndsInNext stop.NoImage s left old new → ⊥
 next_finds laws motes s left old new k fits n =
-    part_finds laws motes s.world n.part n.dt n.word n.bytes old new k (subst (AllByRecursion (PartFits motes)) n.is fits).0 n.ends
+    part_finds laws motes s.world n.part n.dt n.draw n.bytes old new k (subst (AllByRecursion (PartFits motes)) n.is fits).0 n.ends
 
 -- a service ends so only where its last part did
 pub ends_found : (why : Option Stop) (answer : Status) (profile : NetProfile) (boards : ℕ) (s : Moment) (c : Course) (last : Moment) (first : List Device) (after : Outside) (text : List ℕ)
@@ -227,14 +227,14 @@ one_end (x ∷ xs) u v w (p ∷ ps) (q ∷ qs) e f h k =
 abbrev link_line : ℕ × ℕ → Line
 link_line = λ l. Link l.0 l.1
 
-events_items : (place : Place) (events : List Event) → place.cut ≡ None → items_behind place (map HappensLine events) ≡ map event_item events
+events_items : (place : Place) (events : List Event) → place.cut ≡ None → items_behind place (map EventLine events) ≡ map event_item events
 unfolding items_behind
 events_items place [] none = refl
 events_items place (e ∷ es) none =
-    ap (λ (o : Option CutOfPower). Happens (record { event = e; cut = o }) true ∷ items_behind (record place { events = true; cut = None }) (map HappensLine es)) none
+    ap (λ (o : Option CutOfPower). Applies (record { event = e; cut = o }) true ∷ items_behind (record place { events = true; cut = None }) (map EventLine es)) none
     ∙ ap (λ (l : List Item). event_item e ∷ l) (events_items (record place { events = true; cut = None }) es refl)
 
-links_items : (place : Place) (links : List (ℕ × ℕ)) (events : List Event) → place.cut ≡ None → items_behind place (map link_line links ++ map HappensLine events) ≡ map event_item events
+links_items : (place : Place) (links : List (ℕ × ℕ)) (events : List Event) → place.cut ≡ None → items_behind place (map link_line links ++ map EventLine events) ≡ map event_item events
 unfolding items_behind
 links_items place [] events none = events_items place events none
 links_items place (l ∷ ls) events none = links_items (record place { links = place.links ++ (l.0, l.1) ∷ [] }) ls events none
@@ -248,16 +248,16 @@ record IsAt (links : List (ℕ × ℕ)) (place : Place) : Type 0 where
   are : place.links ≡ links
   wide : place.narrow ≡ none_narrow
 
-events_at : (links : List (ℕ × ℕ)) (place : Place) (events : List Event) → IsAt links place → IsAt links (place_behind place (map HappensLine events))
+events_at : (links : List (ℕ × ℕ)) (place : Place) (events : List Event) → IsAt links place → IsAt links (place_behind place (map EventLine events))
 unfolding place_behind
 events_at links place [] at = at
 events_at links place (e ∷ es) at = events_at links (record place { events = true; cut = None }) es (record { are = at.are; wide = at.wide })
 
-links_at : (before links : List (ℕ × ℕ)) (place : Place) (events : List Event) → IsAt before place → IsAt (before ++ links) (place_behind place (map link_line links ++ map HappensLine events))
+links_at : (before links : List (ℕ × ℕ)) (place : Place) (events : List Event) → IsAt before place → IsAt (before ++ links) (place_behind place (map link_line links ++ map EventLine events))
 unfolding place_behind
 links_at before [] place events at = events_at (before ++ []) place events (record { are = at.are ∙ sym (append-nil before); wide = at.wide })
 links_at before (l ∷ ls) place events at =
-    subst (λ (xs : List (ℕ × ℕ)). IsAt xs (place_behind (record place { links = place.links ++ (l.0, l.1) ∷ [] }) (map link_line ls ++ map HappensLine events))) (append_assoc before (l ∷ []) ls)
+    subst (λ (xs : List (ℕ × ℕ)). IsAt xs (place_behind (record place { links = place.links ++ (l.0, l.1) ∷ [] }) (map link_line ls ++ map EventLine events))) (append_assoc before (l ∷ []) ls)
     (links_at (before ++ l ∷ []) ls (record place { links = place.links ++ (l.0, l.1) ∷ [] }) events (record { are = ap (λ (xs : List (ℕ × ℕ)). xs ++ l ∷ []) at.are; wide = at.wide }))
 
 trace_at : (profile : NetProfile) (events : List Event) → IsAt profile.links (place_behind first_place (trace_lines profile events))
@@ -279,7 +279,7 @@ replays_to profile events table stores v script run =
     record {
       lines = trace_lines profile events;
       script = script;
-      rest = map link_line profile.links ++ map HappensLine events;
+      rest = map link_line profile.links ++ map EventLine events;
       over_boards = refl;
       played = run.played;
       items = run.items ∙ sym items;

@@ -23,7 +23,7 @@ use Rattle.dg_world.specs.Stepped.{StepDone, station}
 use Rattle.dg_world.specs.Alone.{uncut}
 use Rattle.dg_world.specs.declared.world.RunningMote.{RunningMote}
 use Rattle.dg_world.proofs.PlaceLemmas.{is_or}
-use Rattle.dg_seed.specs.Words.{generator_of}
+use Rattle.dg_seed.specs.Draws.{generator_of}
 use Rattle.dg_serve.specs.Services.{Moment, Steps, new_frames, handed}
 use Rattle.dg_serve.specs.Endings.{BoardStands, BoardsStandBut, BoardsStand, StopsInEvent, FindsNoVolume, FindsNoImage}
 use Rattle.dg_serve.specs.Standings.{Standing, StandsFor, handed_by}
@@ -67,14 +67,14 @@ handed_told : (w : World) (links : List (ℕ × ℕ)) (motes mote : ℕ) (frame 
 handed_told w links motes mote frame None e = refl
 handed_told w links motes mote frame (Some boxes) e = ap Some (handed_same w links motes mote frame boxes e)
 
--- ---- an event that happened
+-- ---- an event that was applied
 
 -- the moment behind an event
 abbrev pub behind : (motes : ℕ) → Moment → World → Moment
 behind motes s w = record s { world = w; inboxes = option_map (handed w motes (new_frames s.world w)) s.inboxes }
 
 pub steps_on : (motes : ℕ) (s : Moment) (event : Event) (u : Option RunningMote) (frame : Option (List ℕ)) (b : Device) (told : List Report) → (d : StepDone s.world (uncut event) true frame [] (station b u told)) → Steps motes s event (behind motes s d.world)
-steps_on motes s event u frame b told d = record { reports = d.reports; step = d.step; same_reading = refl; same_clock = refl; same_words = refl; inboxes = refl }
+steps_on motes s event u frame b told d = record { reports = d.reports; step = d.step; same_reading = refl; same_clock = refl; same_draws = refl; inboxes = refl }
 
 -- its frame, as the world tells it
 pub frames_of : (s : Moment) (event : Event) (u : Option RunningMote) (frame : Option (List ℕ)) (b : Device) (told : List Report) → (d : StepDone s.world (uncut event) true frame [] (station b u told)) → new_frames s.world d.world ≡ sent_now (mote_of event) frame
@@ -170,7 +170,7 @@ module _ (links : List (ℕ × ℕ)) (motes begun on ahead : ℕ) (event : Event
     stands_then same_clock handed_on = record {
       moment = let e = ap (λ t. t.moment) h.timeline in let n = d.moment in omega (arith, e, n, moment);
       reading = ap (λ t. t.reading) h.timeline ∙ h.stands.reading;
-      words = ap (λ t. generator_of t.words) h.timeline ∙ h.stands.words;
+      draws = ap (λ t. generator_of t.draws) h.timeline ∙ h.stands.draws;
       clock = same_clock ∙ h.stands.clock;
       inboxes = handed_on
           ∙ ap (option_map (handed_by links motes (mote_of event) frame)) h.stands.inboxes

@@ -13,9 +13,9 @@ use Rattle.dg_link.specs.Inboxes.{Inboxes}
 use Rattle.dg_nor.specs.Device.{Device}
 use Rattle.dg_volume.specs.Stands.{IsVolume}
 use Rattle.dg_script.specs.Spelling.{line_text}
-use Rattle.dg_script.specs.declared.line.Line.TheVariants.{Happens}
+use Rattle.dg_script.specs.declared.line.Line.TheVariants.{Event as EventLine}
 use Rattle.dg_serve.specs.Services.{Part, Moment, PartDone, PartsDone}
-use Rattle.dg_serve.specs.Traces.{UntoldLast, event_lines}
+use Rattle.dg_serve.specs.Traces.{UnwrittenLast, event_lines}
 use Rattle.dg_serve.specs.Endings.{EndsInNext, BoardsLeft, FoundBy, PartlyHanded, LinkLeft}
 use Rattle.dg_serve.specs.Standings.{Standing, Ready, Went, CountsBy, PartsHalted, GoesOn, stretch}
 use Rattle.dg_serve.specs.declared.stop.Stop.{Stop}
@@ -47,7 +47,7 @@ unfolding PartsDone
 no_part motes s = (refl, refl)
 
 pub lines_then : (es fs : List Event) → event_lines (es ++ fs) ≡ event_lines es ++ event_lines fs
-lines_then es fs = ap (λ ls. flat_map (λ l. line_text l ++ 10 ∷ []) ls) (map-append Happens es fs) ∙ flat_map-append (λ l. line_text l ++ 10 ∷ []) (map Happens es) (map Happens fs)
+lines_then es fs = ap (λ ls. flat_map (λ l. line_text l ++ 10 ∷ []) ls) (map-append EventLine es fs) ∙ flat_map-append (λ l. line_text l ++ 10 ∷ []) (map EventLine es) (map EventLine fs)
 
 -- ---- parts that were done
 
@@ -106,7 +106,7 @@ next_more why s left more old new n = record {
   is = ap (λ l. l ++ more) n.is;
   bytes = n.bytes;
   dt = n.dt;
-  word = n.word;
+  draw = n.draw;
   after = n.after;
   reads = n.reads;
   ends = n.ends;
@@ -164,7 +164,7 @@ found_then motes s t u ps qs es fs found first n = record {
   events_are = ap (λ l. es ++ l) n.events_are ∙ sym (append_assoc es n.told (n.event ∷ []));
   before = n.before;
   serves = serves_then motes s t n.before ps n.earlier es n.told first n.serves;
-  happened = n.happened;
+  applied = n.applied;
   takes = n.takes;
 }
 
@@ -182,7 +182,7 @@ link_then stop.NotAVolume motes s t u ps qs es fs after first left = left
 link_then stop.NoImage motes s t u ps qs es fs after first left = left
 
 -- the lines of all events but the last were written, also where others came before
-untold_then : (es fs : List Event) (text : List ℕ) → UntoldLast [] fs text → UntoldLast [] (es ++ fs) (event_lines es ++ text)
+untold_then : (es fs : List Event) (text : List ℕ) → UnwrittenLast [] fs text → UnwrittenLast [] (es ++ fs) (event_lines es ++ text)
 untold_then es fs text u =
     let line = take u.n (event_lines (u.event ∷ [])) in
     record {

@@ -6,7 +6,7 @@ pub mod PlayLemmas
 pub mod PartLemmas
 pub mod PlayedLemmas
 pub mod HandLemmas
-pub mod HappenLemmas
+pub mod ApplyLemmas
 pub mod TurnLemmas
 pub mod LookLemmas
 pub mod HeadLemmas

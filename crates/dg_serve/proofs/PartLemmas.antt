@@ -8,42 +8,42 @@ use Rattle.dg_nor.specs.Device.{Device}
 use Rattle.dg_rules.specs.World.{site}
 use Rattle.dg_script.specs.Fitting.{IsTimed}
 use Rattle.dg_world.specs.Worlds.{SiteStands}
-use Rattle.dg_seed.specs.Words.{generator_of}
-use Rattle.dg_serve.specs.Services.{Moment, ReadsClock, Steps, Happened, later, at_reading}
+use Rattle.dg_seed.specs.Draws.{generator_of}
+use Rattle.dg_serve.specs.Services.{Moment, ReadsClock, Steps, EventApplied, later, at_reading}
 use Rattle.dg_serve.specs.Standings.{Standing, StandsFor}
 use Rattle.dg_serve.specs.declared.timeline.Timeline.{Timeline}
 
--- a draw: the clock was read, and a word drawn
-pub record Draws (old new : Timeline) (dt word : ℕ) (told told_then : Option Answers) : Type 0 where
+-- a timing: the clock was read, and a draw taken
+pub record Timed (old new : Timeline) (dt draw : ℕ) (told told_then : Option Answers) : Type 0 where
   pub dt_is : dt ≡ later old.reading new.reading
   pub rises : old.reading ≤ new.reading
   pub answered : Answered told told_then new.reading
-  pub word_is : (word, generator_of new.words) ≡ pcg32 (generator_of old.words)
-  pub fits : IsTimed dt word
+  pub draw_is : (draw, generator_of new.draws) ≡ pcg32 (generator_of old.draws)
+  pub fits : IsTimed dt draw
   pub moment : new.moment ≡ old.moment + dt
 
--- the moment between the draw and the event
+-- the moment between the timing and the event
 abbrev pub drawn : Moment → Timeline → Option Answers → Moment
-drawn s new told_then = at_reading s new.reading told_then (generator_of new.words)
+drawn s new told_then = at_reading s new.reading told_then (generator_of new.draws)
 
-pub reads_of : (s : Moment) (old new : Timeline) (dt word : ℕ) (told told_then : Option Answers) → old.reading ≡ s.reading → generator_of old.words ≡ s.words → told ≡ s.clock → Draws old new dt word told told_then → ReadsClock s dt word (drawn s new told_then)
-reads_of s old new dt word told told_then reading words clock d = record {
+pub reads_of : (s : Moment) (old new : Timeline) (dt draw : ℕ) (told told_then : Option Answers) → old.reading ≡ s.reading → generator_of old.draws ≡ s.draws → told ≡ s.clock → Timed old new dt draw told told_then → ReadsClock s dt draw (drawn s new told_then)
+reads_of s old new dt draw told told_then reading draws clock d = record {
   answer = new.reading;
   fits = d.fits;
   rises = omega (arith, reading, d.rises);
   told = subst (λ (c : Option Answers). Answered c told_then new.reading) clock d.answered;
   dt_is = d.dt_is ∙ ap (λ n. later n new.reading) reading;
-  word_is = d.word_is ∙ ap pcg32 words;
+  draw_is = d.draw_is ∙ ap pcg32 draws;
   same = refl;
 }
 
 -- the code stands for the moment between them, its time ahead by the event's
-pub stands_drawn : (motes begun : ℕ) (links : List (ℕ × ℕ)) (first : List Device) (s : Moment) (p q : Standing) (dt word : ℕ) → StandsFor motes begun links 0 first s p → Draws p.service.timeline q.service.timeline dt word p.clock q.clock → q.boards ≡ p.boards → q.service.motes.items ≡ p.service.motes.items → q.inboxes ≡ p.inboxes
+pub stands_drawn : (motes begun : ℕ) (links : List (ℕ × ℕ)) (first : List Device) (s : Moment) (p q : Standing) (dt draw : ℕ) → StandsFor motes begun links 0 first s p → Timed p.service.timeline q.service.timeline dt draw p.clock q.clock → q.boards ≡ p.boards → q.service.motes.items ≡ p.service.motes.items → q.inboxes ≡ p.inboxes
     → StandsFor motes begun links dt first (drawn s q.service.timeline q.clock) q
-stands_drawn motes begun links first s p q dt word st d boards motes_same inboxes = record {
+stands_drawn motes begun links first s p q dt draw st d boards motes_same inboxes = record {
   moment = omega (arith, d.moment, st.moment);
   reading = refl;
-  words = refl;
+  draws = refl;
   clock = refl;
   inboxes = inboxes ∙ st.inboxes;
   linked = st.linked;
@@ -57,6 +57,6 @@ stands_drawn motes begun links first s p q dt word st d boards motes_same inboxe
   off = λ m a b without within was now. st.off m a b without within was (sym (ap (λ xs. slice_get xs m) boards) ∙ now);
 }
 
--- an event that happened after a draw
-pub happened_of : (motes : ℕ) (s t : Moment) (new : Timeline) (told_then : Option Answers) (event : (dt word : ℕ) → Event) (dt word : ℕ) → ReadsClock s dt word (drawn s new told_then) → Steps motes (drawn s new told_then) (event dt word) t → Happened motes s event (event dt word ∷ []) t
-happened_of motes s t new told_then event dt word reads steps = record { dt = dt; word = word; between = drawn s new told_then; reads = reads; one = refl; steps = steps }
+-- an event that was applied after a timing
+pub applied_of : (motes : ℕ) (s t : Moment) (new : Timeline) (told_then : Option Answers) (event : (dt draw : ℕ) → Event) (dt draw : ℕ) → ReadsClock s dt draw (drawn s new told_then) → Steps motes (drawn s new told_then) (event dt draw) t → EventApplied motes s event (event dt draw ∷ []) t
+applied_of motes s t new told_then event dt draw reads steps = record { dt = dt; draw = draw; between = drawn s new told_then; reads = reads; one = refl; steps = steps }

@@ -9,7 +9,7 @@ use Rattle.dg_rules.specs.World.{World, site, wide_at}
 use Rattle.dg_rules.specs.Events.{mote_of, dt_of}
 use Rattle.dg_world.specs.Worlds.{SiteStands, MayRun}
 use Rattle.dg_world.specs.Alone.{IsReset, PlaysAlone, Powers}
-use Rattle.dg_world.specs.declared.telling.Fault.{Fault}
+use Rattle.dg_world.specs.declared.outcome.Fault.{Fault}
 use Rattle.dg_world.specs.declared.world.RunningMote.{RunningMote}
 use Rattle.dg_world.proofs.PlaceLemmas.{got_or}
 use Rattle.dg_serve.specs.Standings.{PlayedAt, at_mote}

@@ -10,18 +10,18 @@ use Rattle.dg_netcfg.specs.declared.profile.NetProfile.{NetProfile}
 use Rattle.dg_object.specs.Object.{Row}
 use Rattle.dg_volume.specs.Store.{Store}
 use Rattle.dg_rules.specs.World.{World, first_world}
-use Rattle.dg_rules.specs.Changes.{is_told}
+use Rattle.dg_rules.specs.Changes.{is_reported}
 use Rattle.dg_rules.specs.Steps.{WorldStep}
 use Rattle.dg_rules.specs.Runs.{Played, Plays}
 use Rattle.dg_rules.specs.Ranges.{EventInRange}
 use Rattle.dg_rules.specs.Begins.{AreShaped, PlaysBoards}
 use Rattle.dg_rules.specs.Premises.{PlayedInRange, LinkFits}
 use Rattle.dg_script.specs.Places.{none_narrow}
-use Rattle.dg_script.specs.Items.{Item, Happens}
+use Rattle.dg_script.specs.Items.{Item, Applies}
 use Rattle.dg_script.specs.declared.report.Report.{Report}
 use Rattle.dg_world.specs.Alone.{uncut}
 use Rattle.dg_serve.specs.Each.{each}
-use Rattle.dg_serve.specs.Services.{Part, Begins, Looks, Ticks, Moment, Happened, PartDone, PartsDone, plan, beginning, turn_of_all}
+use Rattle.dg_serve.specs.Services.{Part, Begins, Looks, Ticks, Moment, EventApplied, PartDone, PartsDone, plan, beginning, turn_of_all}
 use Rattle.dg_serve.specs.Promised.{event_item, item_played, RunOf}
 use Rattle.dg_serve.proofs.EachLemmas.{each_more, each_none}
 
@@ -73,7 +73,7 @@ unfolding Plays
 plays_none u v same = same
 
 plays_one : (u v : World) (event : Event) (reports : List Report) → WorldStep u (uncut event) v reports
-    → Plays u (record { item = Happens (uncut event) true; before = u; after = v; reports = filter (is_told true) reports } ∷ []) v
+    → Plays u (record { item = Applies (uncut event) true; before = u; after = v; reports = filter (is_reported true) reports } ∷ []) v
 unfolding Plays
 plays_one u v event reports step = (refl, (reports, step, refl), refl)
 
@@ -82,7 +82,7 @@ no_run motes u v same = record { played = []; items = refl; plays = plays_none u
 
 one_run : (motes : ℕ) (u v : World) (event : Event) (reports : List Report) → EventInRange motes event → WorldStep u (uncut event) v reports → RunOf motes u (event ∷ []) v
 one_run motes u v event reports fits step = record {
-  played = record { item = Happens (uncut event) true; before = u; after = v; reports = filter (is_told true) reports } ∷ [];
+  played = record { item = Applies (uncut event) true; before = u; after = v; reports = filter (is_reported true) reports } ∷ [];
   items = refl;
   plays = plays_one u v event reports step;
   ranges = (record { event = fits; cut = tt }, tt);
@@ -98,19 +98,19 @@ runs_both motes u v w es fs a b = record {
 
 -- ---- what the parts did
 
-happened_run : (motes : ℕ) (s : Moment) (event : (dt word : ℕ) → Event) (es : List Event) (t : Moment) → ((dt word : ℕ) → EventInRange motes (event dt word)) → Happened motes s event es t → RunOf motes s.world es t.world
-happened_run motes s event es t fits h =
+applied_run : (motes : ℕ) (s : Moment) (event : (dt draw : ℕ) → Event) (es : List Event) (t : Moment) → ((dt draw : ℕ) → EventInRange motes (event dt draw)) → EventApplied motes s event es t → RunOf motes s.world es t.world
+applied_run motes s event es t fits h =
     let same : h.between.world ≡ s.world = ap (λ (m : Moment). m.world) h.reads.same in
     subst (λ (l : List Event). RunOf motes s.world l t.world) (sym h.one)
-    (one_run motes s.world t.world (event h.dt h.word) h.steps.reports (fits h.dt h.word) (subst (λ (w : World). WorldStep w (uncut (event h.dt h.word)) t.world h.steps.reports) same h.steps.step))
+    (one_run motes s.world t.world (event h.dt h.draw) h.steps.reports (fits h.dt h.draw) (subst (λ (w : World). WorldStep w (uncut (event h.dt h.draw)) t.world h.steps.reports) same h.steps.step))
 
 part_run : (motes : ℕ) (part : Part) (s : Moment) (es : List Event) (t : Moment) → PartFits motes part → PartDone motes part s es t → RunOf motes s.world es t.world
-part_run motes (Begins m) s es t fits h = happened_run motes s (λ dt word. Reset m dt word) es t (λ dt word. fits) h
-part_run motes (Ticks m) s es t fits h = happened_run motes s (λ dt word. Tick m dt word) es t (λ dt word. fits) h
+part_run motes (Begins m) s es t fits h = applied_run motes s (λ dt draw. Reset m dt draw) es t (λ dt draw. fits) h
+part_run motes (Ticks m) s es t fits h = applied_run motes s (λ dt draw. Tick m dt draw) es t (λ dt draw. fits) h
 part_run motes (Looks m) s es t fits (inl h) =
     subst (λ (l : List Event). RunOf motes s.world l t.world) (sym h.nothing) (no_run motes s.world t.world (ap (λ (x : Moment). x.world) (sym h.same)))
 part_run motes (Looks m) s es t fits (inr h) =
-    happened_run motes (record s { inboxes = h.taken }) (λ dt word. Frame m dt word h.bytes) es t (λ dt word. (fits, h.fits.few, h.fits.bytes)) h.heard
+    applied_run motes (record s { inboxes = h.taken }) (λ dt draw. Frame m dt draw h.bytes) es t (λ dt draw. (fits, h.fits.few, h.fits.bytes)) h.heard
 
 pub serves_run : (motes : ℕ) (s : Moment) (parts : List Part) (es : List Event) (t : Moment) → AllByRecursion (PartFits motes) parts → PartsDone motes s parts es t → RunOf motes s.world es t.world
 unfolding PartsDone

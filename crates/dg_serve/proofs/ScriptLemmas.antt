@@ -27,12 +27,12 @@ use Rattle.dg_script.specs.Spelling.{content_text, line_text}
 use Rattle.dg_script.specs.Words.{behind_spaces}
 use Rattle.dg_script.specs.declared.fault.LineFault.{LineFault}
 use Rattle.dg_script.specs.declared.line.Line.{Line}
-use Rattle.dg_script.specs.declared.line.Line.TheVariants.{Nothing, Motes, Golden, Boards, Link, Image, Cut, Happens, Round, Sweeps, Narrow}
+use Rattle.dg_script.specs.declared.line.Line.TheVariants.{Nothing, Motes, Golden, Boards, Link, Image, Cut, Event as EventLine, Round, Sweeps, Narrow}
 use Rattle.dg_script.specs.declared.place.Place.{Place}
 use Rattle.dg_script.proofs.ReadsBackLemmas.{line_reads}
-use Rattle.dg_serve.specs.Services.{Part, Begins, Looks, Ticks, Moment, Happened, PartDone, PartsDone}
+use Rattle.dg_serve.specs.Services.{Part, Begins, Looks, Ticks, Moment, EventApplied, PartDone, PartsDone}
 use Rattle.dg_serve.specs.Traces.{head_lines, lines_text, trace, IsScript}
-use Rattle.dg_serve.proofs.HappenLemmas.{fits_more}
+use Rattle.dg_serve.proofs.ApplyLemmas.{fits_more}
 use Rattle.dg_serve.proofs.RunLemmas.{PartFits, all_both}
 
 -- ---- texts without line ends
@@ -91,41 +91,41 @@ plain_words w ws h hs = all_both Keeps w (behind_spaces ws) (plain_by w h) (plai
 
 -- ---- the lines of a trace
 
-abbrev ToldEvent : Event → Type 0
-ToldEvent (Tick m d w) = (m < 2 ^ 32) × IsTimed d w
-ToldEvent (Hear m d w k) = ⊥
-ToldEvent (Last a b d w) = ⊥
-ToldEvent (Reset m d w) = (m < 2 ^ 32) × IsTimed d w
-ToldEvent (Inject m i v d w) = ⊥
-ToldEvent (Order m k i v d w) = ⊥
-ToldEvent (Frame m d w bytes) = (m < 2 ^ 32) × IsTimed d w
+abbrev TracedEvent : Event → Type 0
+TracedEvent (Tick m d w) = (m < 2 ^ 32) × IsTimed d w
+TracedEvent (Hear m d w k) = ⊥
+TracedEvent (Last a b d w) = ⊥
+TracedEvent (Reset m d w) = (m < 2 ^ 32) × IsTimed d w
+TracedEvent (Inject m i v d w) = ⊥
+TracedEvent (Order m k i v d w) = ⊥
+TracedEvent (Frame m d w bytes) = (m < 2 ^ 32) × IsTimed d w
 
-abbrev Told : Line → Type 0
-Told Nothing = ⊥
-Told (Motes n) = n < 2 ^ 32
-Told (Golden name used content) = ⊥
-Told Boards = Unit {0}
-Told (Link a b) = (a < 2 ^ 32) × (b < 2 ^ 32)
-Told (Image image version name content) = ⊥
-Told (Cut cut) = ⊥
-Told (Happens event) = ToldEvent event
-Told (Round a b) = ⊥
-Told (Sweeps n) = ⊥
-Told (Narrow m) = ⊥
+abbrev Traced : Line → Type 0
+Traced Nothing = ⊥
+Traced (Motes n) = n < 2 ^ 32
+Traced (Golden name used content) = ⊥
+Traced Boards = Unit {0}
+Traced (Link a b) = (a < 2 ^ 32) × (b < 2 ^ 32)
+Traced (Image image version name content) = ⊥
+Traced (Cut cut) = ⊥
+Traced (EventLine event) = TracedEvent event
+Traced (Round a b) = ⊥
+Traced (Sweeps n) = ⊥
+Traced (Narrow m) = ⊥
 
-plain_event : (event : Event) → ToldEvent event → Plain (line_text (Happens event))
+plain_event : (event : Event) → TracedEvent event → Plain (line_text (EventLine event))
 unfolding line_text
-plain_event (Tick m d w) h = plain_words (codes "tick") (decimal m ∷ decimal d ∷ decimal w ∷ []) refl (plain_number m h.0, (plain_number d h.1.dt, (plain_number w h.1.word, tt)))
+plain_event (Tick m d w) h = plain_words (codes "tick") (decimal m ∷ decimal d ∷ decimal w ∷ []) refl (plain_number m h.0, (plain_number d h.1.dt, (plain_number w h.1.draw, tt)))
 plain_event (Hear m d w k) h = absurd h
 plain_event (Last a b d w) h = absurd h
-plain_event (Reset m d w) h = plain_words (codes "reset") (decimal m ∷ decimal d ∷ decimal w ∷ []) refl (plain_number m h.0, (plain_number d h.1.dt, (plain_number w h.1.word, tt)))
+plain_event (Reset m d w) h = plain_words (codes "reset") (decimal m ∷ decimal d ∷ decimal w ∷ []) refl (plain_number m h.0, (plain_number d h.1.dt, (plain_number w h.1.draw, tt)))
 plain_event (Inject m i v d w) h = absurd h
 plain_event (Order m k i v d w) h = absurd h
 plain_event (Frame m d w bytes) h =
     plain_words (codes "frame") (decimal m ∷ decimal d ∷ decimal w ∷ content_text bytes ∷ []) refl
-    (plain_number m h.0, (plain_number d h.1.dt, (plain_number w h.1.word, (all_both Keeps (codes "hex:") (hex_text bytes) (plain_by (codes "hex:") refl) (plain_hex bytes), tt))))
+    (plain_number m h.0, (plain_number d h.1.dt, (plain_number w h.1.draw, (all_both Keeps (codes "hex:") (hex_text bytes) (plain_by (codes "hex:") refl) (plain_hex bytes), tt))))
 
-plain_line : (line : Line) → Told line → Plain (line_text line)
+plain_line : (line : Line) → Traced line → Plain (line_text line)
 unfolding line_text
 plain_line Nothing h = absurd h
 plain_line (Motes n) h = plain_words (codes "motes") (decimal n ∷ []) refl (plain_number n h, tt)
@@ -134,7 +134,7 @@ plain_line Boards h = plain_words (codes "boards") [] refl tt
 plain_line (Link a b) h = plain_words (codes "link") (decimal a ∷ decimal b ∷ []) refl (plain_number a h.0, (plain_number b h.1, tt))
 plain_line (Image image version name content) h = absurd h
 plain_line (Cut cut) h = absurd h
-plain_line (Happens event) h = plain_event event h
+plain_line (EventLine event) h = plain_event event h
 plain_line (Round a b) h = absurd h
 plain_line (Sweeps n) h = absurd h
 plain_line (Narrow m) h = absurd h
@@ -163,7 +163,7 @@ lines_one : (t rest : List ℕ) → Plain t → lines (t ++ 10 ∷ rest) ≡ t �
 lines_one t rest h =
     ap lines_of_parts (split_plain t rest h) ∙ parts_cons t (slice_split feed rest) (omega (arith, length-slice_split feed rest)) ∙ ap (λ (x : List ℕ). x ∷ lines rest) (strip_plain t h)
 
-lines_written : (ls : List Line) → AllByRecursion Told ls → lines (lines_text ls) ≡ map line_text ls
+lines_written : (ls : List Line) → AllByRecursion Traced ls → lines (lines_text ls) ≡ map line_text ls
 lines_written [] h = refl
 lines_written (l ∷ ls) h =
     ap lines (append_assoc (line_text l) (10 ∷ []) (lines_text ls)) ∙ lines_one (line_text l) (lines_text ls) (plain_line l h.0) ∙ ap (λ (xs : List (List ℕ)). line_text l ∷ xs) (lines_written ls h.1)
@@ -192,13 +192,13 @@ IsServed motes (Inject m i v d w) = ⊥
 IsServed motes (Order m k i v d w) = ⊥
 IsServed motes (Frame m d w bytes) = FitsEvent motes (Frame m d w bytes)
 
-event_read : (motes : ℕ) (b : Bool) (links : List (ℕ × ℕ)) (event : Event) → 1 ≤ motes → motes ≤ most_motes → IsServed motes event → line_of (behind_head motes b links) (line_text (Happens event)) ≡ Ok (Happens event)
+event_read : (motes : ℕ) (b : Bool) (links : List (ℕ × ℕ)) (event : Event) → 1 ≤ motes → motes ≤ most_motes → IsServed motes event → line_of (behind_head motes b links) (line_text (EventLine event)) ≡ Ok (EventLine event)
 event_read motes b links (Tick m d w) some few h =
-    line_reads (behind_head motes b links) (Happens (Tick m d w)) (fits_more motes (Happens (Tick m d w)) few (Tick m d w, refl) h) tt (record { fits = and_from _ _ (some_motes motes some) refl; behind = refl }) h refl
+    line_reads (behind_head motes b links) (EventLine (Tick m d w)) (fits_more motes (EventLine (Tick m d w)) few (Tick m d w, refl) h) tt (record { fits = and_from _ _ (some_motes motes some) refl; behind = refl }) h refl
 event_read motes b links (Reset m d w) some few h =
-    line_reads (behind_head motes b links) (Happens (Reset m d w)) (fits_more motes (Happens (Reset m d w)) few (Reset m d w, refl) h) tt (record { fits = and_from _ _ (some_motes motes some) refl; behind = refl }) h refl
+    line_reads (behind_head motes b links) (EventLine (Reset m d w)) (fits_more motes (EventLine (Reset m d w)) few (Reset m d w, refl) h) tt (record { fits = and_from _ _ (some_motes motes some) refl; behind = refl }) h refl
 event_read motes b links (Frame m d w bytes) some few h =
-    line_reads (behind_head motes b links) (Happens (Frame m d w bytes)) (fits_more motes (Happens (Frame m d w bytes)) few (Frame m d w bytes, refl) h) tt (record { fits = and_from _ _ (some_motes motes some) refl; behind = refl }) h refl
+    line_reads (behind_head motes b links) (EventLine (Frame m d w bytes)) (fits_more motes (EventLine (Frame m d w bytes)) few (Frame m d w bytes, refl) h) tt (record { fits = and_from _ _ (some_motes motes some) refl; behind = refl }) h refl
 event_read motes b links (Hear m d w k) some few h = absurd h
 event_read motes b links (Last x y d w) some few h = absurd h
 event_read motes b links (Inject m i v d w) some few h = absurd h
@@ -209,10 +209,10 @@ unfolding script_from
 no_texts motes b links n = refl
 
 events_read : (motes : ℕ) (b : Bool) (links : List (ℕ × ℕ)) (n : ℕ) (events : List Event) → 1 ≤ motes → motes ≤ most_motes → AllByRecursion (IsServed motes) events
-    → script_from true (behind_head motes b links) n (map line_text (map Happens events)) ≡ record { lines = map Happens events; fault = None }
+    → script_from true (behind_head motes b links) n (map line_text (map EventLine events)) ≡ record { lines = map EventLine events; fault = None }
 events_read motes b links n [] some few h = no_texts motes b links n
 events_read motes b links n (e ∷ es) some few h =
-    script_next (behind_head motes b links) n (Happens e) (map line_text (map Happens es)) (record { lines = map Happens es; fault = None }) (event_read motes b links e some few h.0) (events_read motes true links (n + 1) es some few h.1)
+    script_next (behind_head motes b links) n (EventLine e) (map line_text (map EventLine es)) (record { lines = map EventLine es; fault = None }) (event_read motes b links e some few h.0) (events_read motes true links (n + 1) es some few h.1)
 
 -- ---- links
 
@@ -258,14 +258,14 @@ pairs_of [] h = tt
 pairs_of (l ∷ ls) h = (recursion_from_All (Apart l) ls (λ k d less. h 0 (suc k) d (omega arith) (omega (arith, less))), pairs_of ls (λ i j d before within. h (suc i) (suc j) d (omega (arith, before)) (omega (arith, within))))
 
 links_read : (motes : ℕ) (before ls : List (ℕ × ℕ)) (n : ℕ) (events : List Event) → 1 ≤ motes → motes ≤ most_motes → AllByRecursion (Joins motes) ls → AllByRecursion (IsNew before) ls → Pairs ls → AllByRecursion (IsServed motes) events
-    → script_from true (behind_head motes false before) n (map line_text (map link_line ls ++ map Happens events)) ≡ record { lines = map link_line ls ++ map Happens events; fault = None }
+    → script_from true (behind_head motes false before) n (map line_text (map link_line ls ++ map EventLine events)) ≡ record { lines = map link_line ls ++ map EventLine events; fault = None }
 unfolding Pairs
 links_read motes before [] n events some few joined new apart served = events_read motes false before n events some few served
 links_read motes before (l ∷ ls) n events some few joined new apart served =
     let two : AreTwo motes l.0 l.1 = record { first = joined.0.0; second = joined.0.1; other = λ e. joined.0.2 (sym e) } in
     let most : AreTwo most_motes l.0 l.1 = record { first = omega (arith, joined.0.0, few); second = omega (arith, joined.0.1, few); other = λ e. joined.0.2 (sym e) } in
     let place = behind_head motes false before in
-    script_next place n (Link l.0 l.1) (map line_text (map link_line ls ++ map Happens events)) (record { lines = map link_line ls ++ map Happens events; fault = None })
+    script_next place n (Link l.0 l.1) (map line_text (map link_line ls ++ map EventLine events)) (record { lines = map link_line ls ++ map EventLine events; fault = None })
     (line_reads place (Link l.0 l.1) most tt (record { fits = and_from _ _ (and_from _ _ (some_motes motes some) refl) refl; behind = refl }, new.0) two refl)
     (links_read motes (before ++ l ∷ []) ls (n + 1) events some few joined.1 (new_behind before l ls new.1 apart.0) apart.1 served)
 
@@ -279,54 +279,54 @@ abbrev motes_place : ℕ → Place
 motes_place motes = record { motes = motes; ready = false; events = false; cut = None; links = []; narrow = none_narrow }
 
 lines_read : (profile : NetProfile) (events : List Event) → IsAllowed profile → AllByRecursion (IsServed profile.motes) events
-    → script_from true first_place 1 (map line_text (head_lines profile ++ map Happens events)) ≡ record { lines = head_lines profile ++ map Happens events; fault = None }
+    → script_from true first_place 1 (map line_text (head_lines profile ++ map EventLine events)) ≡ record { lines = head_lines profile ++ map EventLine events; fault = None }
 lines_read profile events allowed served =
     let motes = profile.motes in
     let some = allowed.motes.0 in
     let few = allowed.motes.1 in
     let links = links_read motes [] profile.links 3 events some few (recursion_from_All (Joins motes) profile.links allowed.links) (all_new profile.links) (pairs_of profile.links allowed.once) served in
-    script_next first_place 1 (Motes motes) _ (record { lines = Boards ∷ map link_line profile.links ++ map Happens events; fault = None })
+    script_next first_place 1 (Motes motes) _ (record { lines = Boards ∷ map link_line profile.links ++ map EventLine events; fault = None })
     (line_reads first_place (Motes motes) (some, few) tt (record { fits = refl; behind = refl }) (some, few) refl)
-    (script_next (motes_place motes) 2 Boards _ (record { lines = map link_line profile.links ++ map Happens events; fault = None })
+    (script_next (motes_place motes) 2 Boards _ (record { lines = map link_line profile.links ++ map EventLine events; fault = None })
     (line_reads (motes_place motes) Boards tt tt (record { fits = and_from _ _ (some_motes motes some) refl; behind = refl }) tt refl) links)
 
 -- ---- all is told
 
-told_event : (motes : ℕ) (event : Event) → motes ≤ most_motes → IsServed motes event → ToldEvent event
-told_event motes (Tick m d w) few h = (omega (arith, few, h.0), h.1)
-told_event motes (Reset m d w) few h = (omega (arith, few, h.0), h.1)
-told_event motes (Frame m d w bytes) few h = (omega (arith, few, h.0), h.1)
-told_event motes (Hear m d w k) few h = absurd h
-told_event motes (Last x y d w) few h = absurd h
-told_event motes (Inject m i v d w) few h = absurd h
-told_event motes (Order m k i v d w) few h = absurd h
+line_event : (motes : ℕ) (event : Event) → motes ≤ most_motes → IsServed motes event → TracedEvent event
+line_event motes (Tick m d w) few h = (omega (arith, few, h.0), h.1)
+line_event motes (Reset m d w) few h = (omega (arith, few, h.0), h.1)
+line_event motes (Frame m d w bytes) few h = (omega (arith, few, h.0), h.1)
+line_event motes (Hear m d w k) few h = absurd h
+line_event motes (Last x y d w) few h = absurd h
+line_event motes (Inject m i v d w) few h = absurd h
+line_event motes (Order m k i v d w) few h = absurd h
 
-told_events : (motes : ℕ) (events : List Event) → motes ≤ most_motes → AllByRecursion (IsServed motes) events → AllByRecursion Told (map Happens events)
-told_events motes [] few h = tt
-told_events motes (e ∷ es) few h = (told_event motes e few h.0, told_events motes es few h.1)
+traced_events : (motes : ℕ) (events : List Event) → motes ≤ most_motes → AllByRecursion (IsServed motes) events → AllByRecursion Traced (map EventLine events)
+traced_events motes [] few h = tt
+traced_events motes (e ∷ es) few h = (line_event motes e few h.0, traced_events motes es few h.1)
 
-told_links : (motes : ℕ) (ls : List (ℕ × ℕ)) → motes ≤ most_motes → AllByRecursion (Joins motes) ls → AllByRecursion Told (map link_line ls)
-told_links motes [] few h = tt
-told_links motes (l ∷ ls) few h = ((omega (arith, few, h.0.0), omega (arith, few, h.0.1)), told_links motes ls few h.1)
+traced_links : (motes : ℕ) (ls : List (ℕ × ℕ)) → motes ≤ most_motes → AllByRecursion (Joins motes) ls → AllByRecursion Traced (map link_line ls)
+traced_links motes [] few h = tt
+traced_links motes (l ∷ ls) few h = ((omega (arith, few, h.0.0), omega (arith, few, h.0.1)), traced_links motes ls few h.1)
 
-pub is_script : (profile : NetProfile) (events : List Event) → IsAllowed profile → AllByRecursion (IsServed profile.motes) events → IsScript (trace profile events) (head_lines profile ++ map Happens events)
+pub is_script : (profile : NetProfile) (events : List Event) → IsAllowed profile → AllByRecursion (IsServed profile.motes) events → IsScript (trace profile events) (head_lines profile ++ map EventLine events)
 is_script profile events allowed served =
     let few = allowed.motes.1 in
-    let told : AllByRecursion Told (head_lines profile ++ map Happens events) =
-    (omega (arith, few), (tt, all_both Told (map link_line profile.links) (map Happens events) (told_links profile.motes profile.links few (recursion_from_All (Joins profile.motes) profile.links allowed.links)) (told_events profile.motes events few served))) in
-    let bytes : trace profile events ≡ lines_text (head_lines profile ++ map Happens events) = sym (flat_map-append (λ l. line_text l ++ 10 ∷ []) (head_lines profile) (map Happens events)) in
-    ap (λ (xs : List (List ℕ)). script_from true first_place 1 xs) (ap lines bytes ∙ lines_written (head_lines profile ++ map Happens events) told) ∙ lines_read profile events allowed served
+    let told : AllByRecursion Traced (head_lines profile ++ map EventLine events) =
+    (omega (arith, few), (tt, all_both Traced (map link_line profile.links) (map EventLine events) (traced_links profile.motes profile.links few (recursion_from_All (Joins profile.motes) profile.links allowed.links)) (traced_events profile.motes events few served))) in
+    let bytes : trace profile events ≡ lines_text (head_lines profile ++ map EventLine events) = sym (flat_map-append (λ l. line_text l ++ 10 ∷ []) (head_lines profile) (map EventLine events)) in
+    ap (λ (xs : List (List ℕ)). script_from true first_place 1 xs) (ap lines bytes ∙ lines_written (head_lines profile ++ map EventLine events) told) ∙ lines_read profile events allowed served
 
 -- ---- the events of a service
 
-happened_served : (motes : ℕ) (s : Moment) (event : (dt word : ℕ) → Event) (es : List Event) (t : Moment) → ((dt word : ℕ) → IsTimed dt word → IsServed motes (event dt word)) → Happened motes s event es t → AllByRecursion (IsServed motes) es
-happened_served motes s event es t fits h = subst (AllByRecursion (IsServed motes)) (sym h.one) (fits h.dt h.word h.reads.fits, tt)
+applied_served : (motes : ℕ) (s : Moment) (event : (dt draw : ℕ) → Event) (es : List Event) (t : Moment) → ((dt draw : ℕ) → IsTimed dt draw → IsServed motes (event dt draw)) → EventApplied motes s event es t → AllByRecursion (IsServed motes) es
+applied_served motes s event es t fits h = subst (AllByRecursion (IsServed motes)) (sym h.one) (fits h.dt h.draw h.reads.fits, tt)
 
 part_served : (motes : ℕ) (part : Part) (s : Moment) (es : List Event) (t : Moment) → PartFits motes part → PartDone motes part s es t → AllByRecursion (IsServed motes) es
-part_served motes (Begins m) s es t fits h = happened_served motes s (λ dt word. Reset m dt word) es t (λ dt word timed. (fits, timed)) h
-part_served motes (Ticks m) s es t fits h = happened_served motes s (λ dt word. Tick m dt word) es t (λ dt word timed. (fits, timed)) h
+part_served motes (Begins m) s es t fits h = applied_served motes s (λ dt draw. Reset m dt draw) es t (λ dt draw timed. (fits, timed)) h
+part_served motes (Ticks m) s es t fits h = applied_served motes s (λ dt draw. Tick m dt draw) es t (λ dt draw timed. (fits, timed)) h
 part_served motes (Looks m) s es t fits (inl h) = subst (AllByRecursion (IsServed motes)) (sym h.nothing) tt
-part_served motes (Looks m) s es t fits (inr h) = happened_served motes (record s { inboxes = h.taken }) (λ dt word. Frame m dt word h.bytes) es t (λ dt word timed. (fits, timed, h.fits)) h.heard
+part_served motes (Looks m) s es t fits (inr h) = applied_served motes (record s { inboxes = h.taken }) (λ dt draw. Frame m dt draw h.bytes) es t (λ dt draw timed. (fits, timed, h.fits)) h.heard
 
 pub all_served : (motes : ℕ) (s : Moment) (parts : List Part) (es : List Event) (t : Moment) → AllByRecursion (PartFits motes) parts → PartsDone motes s parts es t → AllByRecursion (IsServed motes) es
 unfolding PartsDone

@@ -14,10 +14,10 @@ use Rattle.dg_nor.specs.Device.{Device, Endures}
 use Rattle.dg_nor.specs.Fuse.{beneath_of}
 use Rattle.dg_object.specs.Object.{Row}
 use Rattle.dg_volume.specs.Store.{Store}
-use Rattle.dg_seed.specs.Words.{first_generator}
+use Rattle.dg_seed.specs.Draws.{first_generator}
 use Rattle.dg_serve.specs.Services.{Moment, Course, course, plan}
 use Rattle.dg_serve.specs.Endings.{StoresOf, begins}
-use Rattle.dg_serve.specs.Traces.{UntoldLast, trace, lines_text, head_lines, event_lines, last_line}
+use Rattle.dg_serve.specs.Traces.{UnwrittenLast, trace, lines_text, head_lines, event_lines, last_line}
 use Rattle.dg_serve.specs.Standings.{Standing, StandsFor, Ready, BoardEndures, BoardIsCalm, BoardsAreUsed, Went, PartsHalted, GoesOn, stretch}
 use Rattle.dg_serve.specs.Served.{Outside, LeftBy, Wrote, BoardsEndure, Causes, Began, Hindered, Served, TooFewBoards, outside}
 use Rattle.dg_serve.specs.Ran.{status_of, IsOpened, WroteBy, ServiceRan, RanTo, LineWritten, TellsStop, TellsTooFew}
@@ -47,7 +47,7 @@ boards_endure motes old new u = record { count = u.count; others = u.others; end
 
 -- ---- from the opening to where it ended
 
-wrote_by : (why : Stop) (head : List ℕ) (events : List Event) (text : List ℕ) → (why ≡ stop.Write → UntoldLast [] events text) → (why ≢ stop.Write → text ≡ event_lines events) → WroteBy (Some why) head events (head ++ text)
+wrote_by : (why : Stop) (head : List ℕ) (events : List Event) (text : List ℕ) → (why ≡ stop.Write → UnwrittenLast [] events text) → (why ≢ stop.Write → text ≡ event_lines events) → WroteBy (Some why) head events (head ++ text)
 wrote_by stop.Memory head events text front whole = ap (λ l. head ++ l) (whole (λ x. absurd cc))
 wrote_by stop.Write head events text front whole =
     let u = front refl in
@@ -59,7 +59,7 @@ wrote_by stop.NoImage head events text front whole = ap (λ l. head ++ l) (whole
 
 module _ (profile : NetProfile) (seed turns : ℕ) (b : Outside) (p q : Standing) (o : IsOpened profile seed (record b { boards = p.boards }) p.service p.addressees p.reached (outside_of p)) where
   stands_opened : (table : List Row) (stores : List Store) → StoresOf profile.motes p.boards stores → StandsFor profile.motes 0 profile.links 0 p.boards (begins table profile.links stores p.service.timeline.reading p.clock seed (option_map (emptied profile.motes) b.inboxes)) p
-  stands_opened table stores of = stands_first profile.motes profile.links table stores p.service.timeline.reading p.clock (first_generator seed) (option_map (emptied profile.motes) b.inboxes) p of o.moment refl o.words refl o.inboxes
+  stands_opened table stores of = stands_first profile.motes profile.links table stores p.service.timeline.reading p.clock (first_generator seed) (option_map (emptied profile.motes) b.inboxes) p of o.moment refl o.draws refl o.inboxes
 
   ran_all : Went profile.motes 0 profile.motes profile.links (plan profile.motes turns) p q → ServiceRan None profile seed turns (record b { boards = p.boards }) (outside_of q)
   ran_all w = record {

@@ -12,7 +12,7 @@ use Rattle.dg_volume.specs.Stands.{Stands, IsVolume, IsNoVolume}
 use Rattle.dg_mote.specs.Timely.{Timely}
 use Rattle.dg_script.specs.Places.{none_narrow}
 use Rattle.dg_rules.specs.World.{Site, first_world, off_site, no_site}
-use Rattle.dg_seed.specs.Words.{generator_of}
+use Rattle.dg_seed.specs.Draws.{generator_of}
 use Rattle.dg_serve.specs.Services.{Part, Moment}
 use Rattle.dg_serve.specs.Endings.{StoresOf}
 use Rattle.dg_serve.specs.Standings.{Standing, StandsFor, StandsForSome, Ready, Went}
@@ -26,14 +26,14 @@ site_off (s ∷ stores) (suc m) = site_off stores m
 
 -- the moment of a service that begins
 abbrev pub first_moment : List Row → List (ℕ × ℕ) → List Store → (reading : ℕ) → Option Answers → Lcg → Option Inboxes → Moment
-first_moment table links stores reading clock words inboxes = record { world = first_world table links none_narrow stores; reading = reading; clock = clock; words = words; inboxes = inboxes }
+first_moment table links stores reading clock draws inboxes = record { world = first_world table links none_narrow stores; reading = reading; clock = clock; draws = draws; inboxes = inboxes }
 
-pub stands_first : (motes : ℕ) (links : List (ℕ × ℕ)) (table : List Row) (stores : List Store) (reading : ℕ) (clock : Option Answers) (words : Lcg) (inboxes : Option Inboxes) (p : Standing) → StoresOf motes p.boards stores → p.service.timeline.moment ≡ 0 → p.service.timeline.reading ≡ reading → generator_of p.service.timeline.words ≡ words → p.clock ≡ clock → p.inboxes ≡ inboxes
-    → StandsFor motes 0 links 0 p.boards (first_moment table links stores reading clock words inboxes) p
-stands_first motes links table stores reading clock words inboxes p of moment read drew told waits = record {
+pub stands_first : (motes : ℕ) (links : List (ℕ × ℕ)) (table : List Row) (stores : List Store) (reading : ℕ) (clock : Option Answers) (draws : Lcg) (inboxes : Option Inboxes) (p : Standing) → StoresOf motes p.boards stores → p.service.timeline.moment ≡ 0 → p.service.timeline.reading ≡ reading → generator_of p.service.timeline.draws ≡ draws → p.clock ≡ clock → p.inboxes ≡ inboxes
+    → StandsFor motes 0 links 0 p.boards (first_moment table links stores reading clock draws inboxes) p
+stands_first motes links table stores reading clock draws inboxes p of moment read drew told waits = record {
   moment = omega (arith, moment);
   reading = read;
-  words = drew;
+  draws = drew;
   clock = told;
   inboxes = waits;
   linked = refl;
@@ -76,6 +76,6 @@ stores_of (suc n) (d ∷ ds) wide volumes =
 pub some_begun : (motes : ℕ) (links : List (ℕ × ℕ)) (parts : List Part) (p q : Standing) → Ready motes 0 p → p.service.timeline.moment ≡ 0 → Went motes 0 motes links parts p q → StandsForSome motes motes links q
 some_begun motes links parts p q ready moment went =
     let x = stores_of motes p.boards ready.boards (λ m a h was. went.volumes m a (omega arith) h was) in
-    let st = stands_first motes links [] x.0 p.service.timeline.reading p.clock (generator_of p.service.timeline.words) p.inboxes p x.1 moment refl refl refl refl in
-    let y = went.run p.boards (first_moment [] links x.0 p.service.timeline.reading p.clock (generator_of p.service.timeline.words) p.inboxes) st in
+    let st = stands_first motes links [] x.0 p.service.timeline.reading p.clock (generator_of p.service.timeline.draws) p.inboxes p x.1 moment refl refl refl refl in
+    let y = went.run p.boards (first_moment [] links x.0 p.service.timeline.reading p.clock (generator_of p.service.timeline.draws) p.inboxes) st in
     (p.boards, y.0, y.2)

@@ -1,4 +1,4 @@
--- How a part of a service ends, from the draw before its event, and from how that ended.
+-- How a part of a service ends, from the timing before its event, and from how that ended.
 use Rattle.std.proofs.Common.{◌≡◌, ◌≢◌, ◌⊎◌, ℕ, ◌+◌, ◌^◌, ◌<◌, ◌≤◌, List, [], ◌∷◌, length, append-nil, refl, ap, sym, ◌∙◌, subst, ⊎_elim, inl, inr, arith}
 use Rattle.std.specs.Prelude.{slice_get, slice_index_or, Option, Some, None, Result, Ok, Err, IfSome}
 use Rattle.dg_words.specs.Counts.{Rose}
@@ -19,16 +19,16 @@ use Rattle.dg_mote.proofs.TimelyLemmas.{timely_later}
 use Rattle.dg_world.specs.Alone.{IsReset}
 use Rattle.dg_world.specs.Worlds.{MayRun, MoteStands}
 use Rattle.dg_world.specs.declared.world.RunningMote.{RunningMote}
-use Rattle.dg_serve.specs.Services.{Part, Begins, Looks, Ticks, Moment, Steps, Happened, PartDone}
+use Rattle.dg_serve.specs.Services.{Part, Begins, Looks, Ticks, Moment, Steps, EventApplied, PartDone}
 use Rattle.dg_serve.specs.Traces.{event_lines}
 use Rattle.dg_serve.specs.Endings.{BoardsStand, FindsNoImage, FindsNoVolume, EventEnds, EndsInNext, BoardsLeft, TakesFor, FoundBy, HandedToFirst, PartlyHanded, LinkLeft, ClockLeft, OneTaken, event_of}
-use Rattle.dg_serve.specs.Standings.{Standing, StandsFor, StandsForSome, Ready, BoardsAreUsed, BoardsAreCalm, Went, PartsHalted, GoesOn, stretch, HappensAt, DoesNotHappen, HandedThen, HappensPartly, HappenEnds, begun_before, begun_behind}
+use Rattle.dg_serve.specs.Standings.{Standing, StandsFor, StandsForSome, Ready, BoardsAreUsed, BoardsAreCalm, Went, PartsHalted, GoesOn, stretch, AppliedAt, NotApplied, HandedThen, AppliedPartly, ApplyEnds, begun_before, begun_behind}
 use Rattle.dg_serve.specs.declared.stop.Stop.{Stop}
 use Rattle.dg_serve.specs.declared.stop.Stop.TheVariants as stop
 use Rattle.dg_serve.proofs.BoardLemmas.{got_within}
 use Rattle.dg_serve.proofs.EventLemmas.{got_some}
 use Rattle.dg_serve.proofs.GoLemmas.{one_part, no_part}
-use Rattle.dg_serve.proofs.PartLemmas.{Draws, drawn, reads_of, stands_drawn, happened_of}
+use Rattle.dg_serve.proofs.PartLemmas.{Timed, drawn, reads_of, stands_drawn, applied_of}
 
 pub puts_none : (o p : Option (List ℕ)) → p ≡ o → Puts o p []
 puts_none None p e = e
@@ -36,9 +36,9 @@ puts_none (Some w) p e = e ∙ ap Some (sym (append-nil w))
 
 -- ---- a part
 
--- A draw stands between what was before a part, and what is before its event. The link may have given a frame before it.
-pub record DrawnTo (p m : Standing) (dt word : ℕ) : Type 0 where
-  pub draws : Draws p.service.timeline m.service.timeline dt word p.clock m.clock
+-- A timing stands between what was before a part, and what is before its event. The link may have given a frame before it.
+pub record DrawnTo (p m : Standing) (dt draw : ℕ) : Type 0 where
+  pub timed : Timed p.service.timeline m.service.timeline dt draw p.clock m.clock
   pub boards : m.boards ≡ p.boards
   pub motes : m.service.motes.items ≡ p.service.motes.items
   pub written : m.written ≡ p.written
@@ -49,31 +49,31 @@ pub record DrawnTo (p m : Standing) (dt word : ℕ) : Type 0 where
   pub known : m.service.timeline.reading ≤ m.reached
   pub short : dt < 2 ^ 32
 
--- the moment between the looking at the link and the draw
+-- the moment between the looking at the link and the timing
 abbrev pub looked : Moment → Option Inboxes → Moment
 looked s boxes = record s { inboxes = boxes }
 
 -- how an event follows from a part
-pub record IsPart (motes begun on : ℕ) (part : Part) (event : (dt word : ℕ) → Event) (bytes : List ℕ) (before taken : Option Inboxes) : Type 0 where
-  pub dt_is : (dt word : ℕ) → dt_of (event dt word) ≡ dt
-  pub before_is : (dt word : ℕ) → begun_before motes (event dt word) ≡ begun
-  pub behind_is : (dt word : ℕ) → begun_behind motes (event dt word) ≡ on
-  pub event_is : (dt word : ℕ) → event dt word ≡ event_of part dt word bytes
+pub record IsPart (motes begun on : ℕ) (part : Part) (event : (dt draw : ℕ) → Event) (bytes : List ℕ) (before taken : Option Inboxes) : Type 0 where
+  pub dt_is : (dt draw : ℕ) → dt_of (event dt draw) ≡ dt
+  pub before_is : (dt draw : ℕ) → begun_before motes (event dt draw) ≡ begun
+  pub behind_is : (dt draw : ℕ) → begun_behind motes (event dt draw) ≡ on
+  pub event_is : (dt draw : ℕ) → event dt draw ≡ event_of part dt draw bytes
   pub within : on ≤ motes
   pub rises : begun ≤ on
-  pub done : (s t : Moment) (es : List Event) → s.inboxes ≡ before → Happened motes (looked s taken) event es t → PartDone motes part s es t
+  pub done : (s t : Moment) (es : List Event) → s.inboxes ≡ before → EventApplied motes (looked s taken) event es t → PartDone motes part s es t
   pub link : (taken ≡ before) ⊎ ((mote : ℕ) × TakesFrame mote bytes before taken)
-  pub takes_for : (dt word : ℕ) → TakesFor (event dt word) before taken
+  pub takes_for : (dt draw : ℕ) → TakesFor (event dt draw) before taken
   -- where a frame was taken, its mote had begun, and starts nothing
-  pub untaken : (dt word : ℕ) (w : World) (old new : List Device) → FindsNoVolume w (event dt word) old new ⊎ FindsNoImage w (event dt word) old new → ((m : ℕ) (a : Device) → mote_of (event dt word) ≡ m → m < begun → slice_get old m ≡ Some a → IsVolume a.image) → taken ≡ before
-  pub new_volumes : (dt word : ℕ) (boards : List Device) → ((a : Device) → IsReset (event dt word) → slice_get boards (mote_of (event dt word)) ≡ Some a → IsVolume a.image) → (m : ℕ) (a : Device) → begun ≤ m → m < on → slice_get boards m ≡ Some a → IsVolume a.image
+  pub untaken : (dt draw : ℕ) (w : World) (old new : List Device) → FindsNoVolume w (event dt draw) old new ⊎ FindsNoImage w (event dt draw) old new → ((m : ℕ) (a : Device) → mote_of (event dt draw) ≡ m → m < begun → slice_get old m ≡ Some a → IsVolume a.image) → taken ≡ before
+  pub new_volumes : (dt draw : ℕ) (boards : List Device) → ((a : Device) → IsReset (event dt draw) → slice_get boards (mote_of (event dt draw)) ≡ Some a → IsVolume a.image) → (m : ℕ) (a : Device) → begun ≤ m → m < on → slice_get boards m ≡ Some a → IsVolume a.image
 
 -- the link gave a frame, and nothing else changed
 stands_looked : (motes begun : ℕ) (links : List (ℕ × ℕ)) (boxes : Option Inboxes) (p : Standing) (first : List Device) (s : Moment) → StandsFor motes begun links 0 first s p → StandsFor motes begun links 0 first (looked s boxes) (record p { inboxes = boxes })
 stands_looked motes begun links boxes p first s st = record {
   moment = st.moment;
   reading = st.reading;
-  words = st.words;
+  draws = st.draws;
   clock = st.clock;
   inboxes = refl;
   linked = st.linked;
@@ -86,10 +86,10 @@ stands_looked motes begun links boxes p first s st = record {
 }
 
 -- the event that comes is ahead of some moment
-pub some_drawn : (motes begun : ℕ) (links : List (ℕ × ℕ)) (p m : Standing) (dt word : ℕ) → DrawnTo p m dt word → StandsForSome motes begun links p → (first : List Device) × (s : Moment) × StandsFor motes begun links dt first s m
-some_drawn motes begun links p m dt word d y =
+pub some_drawn : (motes begun : ℕ) (links : List (ℕ × ℕ)) (p m : Standing) (dt draw : ℕ) → DrawnTo p m dt draw → StandsForSome motes begun links p → (first : List Device) × (s : Moment) × StandsFor motes begun links dt first s m
+some_drawn motes begun links p m dt draw d y =
     let st = stands_looked motes begun links m.inboxes p y.0 y.1 y.2 in
-    (y.0, drawn (looked y.1 m.inboxes) m.service.timeline m.clock, stands_drawn motes begun links y.0 (looked y.1 m.inboxes) (record p { inboxes = m.inboxes }) m dt word st d.draws d.boards d.motes refl)
+    (y.0, drawn (looked y.1 m.inboxes) m.service.timeline m.clock, stands_drawn motes begun links y.0 (looked y.1 m.inboxes) (record p { inboxes = m.inboxes }) m dt draw st d.timed d.boards d.motes refl)
 
 -- its mote may run
 may_run : (c : List ℕ) (v : Option RunningMote) (s : Store) (o : Option Running) (moment now : ℕ) → moment ≤ now → MoteStands c v s o → IfSome o (λ r. Timely r.mote moment) → MayRun c now v
@@ -108,20 +108,20 @@ may_at motes ahead mote links m known y a was =
 pub may_begin : (v : Option RunningMote) (c : List ℕ) (now : ℕ) → v ≡ None → MayRun c now v
 may_begin v c now off = subst (λ o. MayRun c now o) (sym off) tt
 
-module _ (motes begun on : ℕ) (links : List (ℕ × ℕ)) (part : Part) (event : (dt word : ℕ) → Event) (bytes : List ℕ) (dt word : ℕ) (p m q : Standing) (d : DrawnTo p m dt word) (h : IsPart motes begun on part event bytes p.inboxes m.inboxes) where
+module _ (motes begun on : ℕ) (links : List (ℕ × ℕ)) (part : Part) (event : (dt draw : ℕ) → Event) (bytes : List ℕ) (dt draw : ℕ) (p m q : Standing) (d : DrawnTo p m dt draw) (h : IsPart motes begun on part event bytes p.inboxes m.inboxes) where
   looked_at : (first : List Device) (s : Moment) → StandsFor motes begun links 0 first s p → StandsFor motes begun links 0 first (looked s m.inboxes) (record p { inboxes = m.inboxes })
   looked_at first s st = stands_looked motes begun links m.inboxes p first s st
 
-  stands_before : (first : List Device) (s : Moment) → StandsFor motes begun links 0 first s p → StandsFor motes (begun_before motes (event dt word)) links (dt_of (event dt word)) first (drawn (looked s m.inboxes) m.service.timeline m.clock) m
+  stands_before : (first : List Device) (s : Moment) → StandsFor motes begun links 0 first s p → StandsFor motes (begun_before motes (event dt draw)) links (dt_of (event dt draw)) first (drawn (looked s m.inboxes) m.service.timeline m.clock) m
   stands_before first s st =
-      let x = stands_drawn motes begun links first (looked s m.inboxes) (record p { inboxes = m.inboxes }) m dt word (looked_at first s st) d.draws d.boards d.motes refl in
+      let x = stands_drawn motes begun links first (looked s m.inboxes) (record p { inboxes = m.inboxes }) m dt draw (looked_at first s st) d.timed d.boards d.motes refl in
       let P : ℕ → ℕ → Type 0 = λ b k. StandsFor motes b links k first (drawn (looked s m.inboxes) m.service.timeline m.clock) m in
-      subst (λ b. P b (dt_of (event dt word))) (sym (h.before_is dt word)) (subst (λ k. P begun k) (sym (h.dt_is dt word)) x)
+      subst (λ b. P b (dt_of (event dt draw))) (sym (h.before_is dt draw)) (subst (λ k. P begun k) (sym (h.dt_is dt draw)) x)
 
-  happened_at : (first : List Device) (s t : Moment) → StandsFor motes begun links 0 first s p → Steps motes (drawn (looked s m.inboxes) m.service.timeline m.clock) (event dt word) t → PartDone motes part s (event dt word ∷ []) t
-  happened_at first s t st steps =
-      h.done s t (event dt word ∷ []) (sym st.inboxes)
-      (happened_of motes (looked s m.inboxes) t m.service.timeline m.clock event dt word (reads_of (looked s m.inboxes) p.service.timeline m.service.timeline dt word p.clock m.clock st.reading st.words st.clock d.draws) steps)
+  applied_at : (first : List Device) (s t : Moment) → StandsFor motes begun links 0 first s p → Steps motes (drawn (looked s m.inboxes) m.service.timeline m.clock) (event dt draw) t → PartDone motes part s (event dt draw ∷ []) t
+  applied_at first s t st steps =
+      h.done s t (event dt draw ∷ []) (sym st.inboxes)
+      (applied_of motes (looked s m.inboxes) t m.service.timeline m.clock event dt draw (reads_of (looked s m.inboxes) p.service.timeline m.service.timeline dt draw p.clock m.clock st.reading st.draws st.clock d.timed) steps)
 
   ready_before : Ready motes begun p → Ready motes begun m
   ready_before ready = record {
@@ -133,39 +133,39 @@ module _ (motes begun on : ℕ) (links : List (ℕ × ℕ)) (part : Part) (event
   }
 
   -- it was done
-  pub part_went : Ready motes begun p → HappensAt motes links (event dt word) m q → q.reached ≡ m.reached → Went motes begun on links (part ∷ []) p q
+  pub part_went : Ready motes begun p → AppliedAt motes links (event dt draw) m q → q.reached ≡ m.reached → Went motes begun on links (part ∷ []) p q
   part_went ready e reached = record {
-    events = event dt word ∷ [];
-    put = subst (λ (o : Option (List ℕ)). Puts o q.written (event_lines (event dt word ∷ []))) d.written e.put;
+    events = event dt draw ∷ [];
+    put = subst (λ (o : Option (List ℕ)). Puts o q.written (event_lines (event dt draw ∷ []))) d.written e.put;
     run = λ first s st.
         let x = e.run first (drawn (looked s m.inboxes) m.service.timeline m.clock) (stands_before first s st) in
-        (x.0, one_part motes s x.0 part (event dt word ∷ []) (happened_at first s x.0 st x.1), subst (λ n. StandsFor motes n links 0 first x.0 q) (h.behind_is dt word) x.2);
-    ready = subst (λ n. Ready motes n q) (h.behind_is dt word) (e.ready (subst (λ n. Ready motes n m) (sym (h.before_is dt word)) (ready_before ready)));
-    volumes = subst (λ bs. (k : ℕ) (a : Device) → begun ≤ k → k < on → slice_get bs k ≡ Some a → IsVolume a.image) d.boards (h.new_volumes dt word m.boards e.volumes);
-    boards = subst (λ bs. BoardsAreUsed on bs q.boards) d.boards (subst (λ n. BoardsAreUsed n m.boards q.boards) (h.behind_is dt word) e.boards);
+        (x.0, one_part motes s x.0 part (event dt draw ∷ []) (applied_at first s x.0 st x.1), subst (λ n. StandsFor motes n links 0 first x.0 q) (h.behind_is dt draw) x.2);
+    ready = subst (λ n. Ready motes n q) (h.behind_is dt draw) (e.ready (subst (λ n. Ready motes n m) (sym (h.before_is dt draw)) (ready_before ready)));
+    volumes = subst (λ bs. (k : ℕ) (a : Device) → begun ≤ k → k < on → slice_get bs k ≡ Some a → IsVolume a.image) d.boards (h.new_volumes dt draw m.boards e.volumes);
+    boards = subst (λ bs. BoardsAreUsed on bs q.boards) d.boards (subst (λ n. BoardsAreUsed n m.boards q.boards) (h.behind_is dt draw) e.boards);
     calm = subst (λ bs. BoardsAreCalm bs q.boards) d.boards e.calm;
-    moved = let n = ap (λ t. t.moment) e.timeline in omega (arith, n, d.draws.moment, d.short);
+    moved = let n = ap (λ t. t.moment) e.timeline in omega (arith, n, d.timed.moment, d.short);
     failures = e.failures ∙ d.failures;
     faults = e.faults ∙ d.faults;
     reached = omega (arith, reached, d.reached);
   }
 
-  -- the event did not happen
-  next_ends : (why : Stop) (first : List Device) (s : Moment) → StandsFor motes begun links 0 first s p → EventEnds why s.world (event dt word) first q.boards → EndsInNext why s (part ∷ []) first q.boards
+  -- the event was not applied
+  next_ends : (why : Stop) (first : List Device) (s : Moment) → StandsFor motes begun links 0 first s p → EventEnds why s.world (event dt draw) first q.boards → EndsInNext why s (part ∷ []) first q.boards
   next_ends why first s st ends = record {
     part = part;
     rest = [];
     is = refl;
     bytes = bytes;
     dt = dt;
-    word = word;
+    draw = draw;
     after = drawn s m.service.timeline m.clock;
-    reads = reads_of s p.service.timeline m.service.timeline dt word p.clock m.clock st.reading st.words st.clock d.draws;
-    ends = subst (λ x. EventEnds why s.world x first q.boards) (h.event_is dt word) ends;
+    reads = reads_of s p.service.timeline m.service.timeline dt draw p.clock m.clock st.reading st.draws st.clock d.timed;
+    ends = subst (λ x. EventEnds why s.world x first q.boards) (h.event_is dt draw) ends;
   }
 
   clock_read : (first : List Device) (s : Moment) → StandsFor motes begun links 0 first s p → q.clock ≡ m.clock → ClockLeft s.clock q.clock
-  clock_read first s st same = inr (m.service.timeline.reading, subst (λ (o : Option Answers). Answered o q.clock m.service.timeline.reading) st.clock (subst (λ (o : Option Answers). Answered p.clock o m.service.timeline.reading) (sym same) d.draws.answered))
+  clock_read first s st same = inr (m.service.timeline.reading, subst (λ (o : Option Answers). Answered o q.clock m.service.timeline.reading) st.clock (subst (λ (o : Option Answers). Answered p.clock o m.service.timeline.reading) (sym same) d.timed.answered))
 
   taken_left : (first : List Device) (s : Moment) → StandsFor motes begun links 0 first s p → q.inboxes ≡ m.inboxes → (q.inboxes ≡ s.inboxes) ⊎ OneTaken s q.inboxes
   taken_left first s st same =
@@ -174,13 +174,13 @@ module _ (motes begun on : ℕ) (links : List (ℕ × ℕ)) (part : Part) (event
       (λ one. inr (one.0, bytes, subst (λ (o : Option Inboxes). TakesFrame one.0 bytes o q.inboxes) st.inboxes (subst (λ (o : Option Inboxes). TakesFrame one.0 bytes p.inboxes o) (sym same) one.1)))
       h.link
 
-  volumes_before : (first : List Device) (s : Moment) → StandsFor motes begun links 0 first s p → Ready motes begun p → (k : ℕ) (a : Device) → mote_of (event dt word) ≡ k → k < begun → slice_get first k ≡ Some a → IsVolume a.image
+  volumes_before : (first : List Device) (s : Moment) → StandsFor motes begun links 0 first s p → Ready motes begun p → (k : ℕ) (a : Device) → mote_of (event dt draw) ≡ k → k < begun → slice_get first k ≡ Some a → IsVolume a.image
   volumes_before first s st ready k a is within was =
       let wide : k < length p.boards = let n = ready.boards in let o = h.within in let r = h.rises in omega (arith, within, n, o, r) in
       let b = got_some p.boards k wide in
       (st.on k a b.0 within was b.1).0
 
-  untold_halts : (why : Stop) → Ready motes begun p → DoesNotHappen why motes links (event dt word) m q → (why ≢ stop.Write) → (why ≢ stop.Link) → q.reached ≡ m.reached → q.clock ≡ m.clock
+  untold_halts : (why : Stop) → Ready motes begun p → NotApplied why motes links (event dt draw) m q → (why ≢ stop.Write) → (why ≢ stop.Link) → q.reached ≡ m.reached → q.clock ≡ m.clock
       → ((first : List Device) (s : Moment) → StandsFor motes begun links 0 first s p → BoardsLeft why s (part ∷ []) first q.boards × LinkLeft why motes s [] [] s q.inboxes) → PartsHalted why motes begun links (part ∷ []) p q
   untold_halts why ready e writes sends reached clock left = record {
     events = [];
@@ -205,23 +205,23 @@ module _ (motes begun on : ℕ) (links : List (ℕ × ℕ)) (part : Part) (event
     };
   }
 
-  -- the event happened, and its line was not written, or what it sent not handed to all
-  partly_halts : (why : Stop) → HappensPartly why motes links (event dt word) m q → q.clock ≡ m.clock → ((s : Moment) (first : List Device) → BoardsStand s.world first q.boards → BoardsLeft why s [] first q.boards)
-      → ((first : List Device) (s t : Moment) → StandsFor motes begun links 0 first s p → PartDone motes part s (event dt word ∷ []) t → HandedThen why motes s.world t.world m.inboxes q.inboxes → LinkLeft why motes s (part ∷ []) (event dt word ∷ []) t q.inboxes)
+  -- the event was applied, and its line was not written, or what it sent not handed to all
+  partly_halts : (why : Stop) → AppliedPartly why motes links (event dt draw) m q → q.clock ≡ m.clock → ((s : Moment) (first : List Device) → BoardsStand s.world first q.boards → BoardsLeft why s [] first q.boards)
+      → ((first : List Device) (s t : Moment) → StandsFor motes begun links 0 first s p → PartDone motes part s (event dt draw ∷ []) t → HandedThen why motes s.world t.world m.inboxes q.inboxes → LinkLeft why motes s (part ∷ []) (event dt draw ∷ []) t q.inboxes)
       → PartsHalted why motes begun links (part ∷ []) p q
   partly_halts why e clock boards_left link_left = record {
-    events = event dt word ∷ [];
+    events = event dt draw ∷ [];
     done = part ∷ [];
     left = [];
     all = refl;
     text = e.text;
     put = subst (λ (o : Option (List ℕ)). Puts o q.written e.text) d.written e.put;
-    front = λ is. record { told = []; event = event dt word; events_are = refl; n = e.front.0; text_is = e.front.1 };
+    front = λ is. record { told = []; event = event dt draw; events_are = refl; n = e.front.0; text_is = e.front.1 };
     whole = e.whole;
     run = λ first s st.
         let x = e.run first (drawn (looked s m.inboxes) m.service.timeline m.clock) (stands_before first s st) in
-        let done = happened_at first s x.0 st x.1 in
-        (x.0, one_part motes s x.0 part (event dt word ∷ []) done, record { boards = boards_left x.0 first x.2; link = link_left first s x.0 st done x.3; clock = inl (clock ∙ sym x.1.same_clock) });
+        let done = applied_at first s x.0 st x.1 in
+        (x.0, one_part motes s x.0 part (event dt draw ∷ []) done, record { boards = boards_left x.0 first x.2; link = link_left first s x.0 st done x.3; clock = inl (clock ∙ sym x.1.same_clock) });
     boards = subst (λ bs. BoardsAreUsed motes bs q.boards) d.boards e.boards;
     calm = λ other. subst (λ bs. BoardsAreCalm bs q.boards) d.boards e.calm;
     counts = record {
@@ -236,35 +236,35 @@ module _ (motes begun on : ℕ) (links : List (ℕ × ℕ)) (part : Part) (event
   }
 
   -- what its event found
-  found_by : (first : List Device) (s t : Moment) (found : Option Inboxes) → StandsFor motes begun links 0 first s p → PartDone motes part s (event dt word ∷ []) t → found ≡ m.inboxes → FoundBy motes s (part ∷ []) (event dt word ∷ []) t found
-  found_by first s t found st happened same = record {
+  found_by : (first : List Device) (s t : Moment) (found : Option Inboxes) → StandsFor motes begun links 0 first s p → PartDone motes part s (event dt draw ∷ []) t → found ≡ m.inboxes → FoundBy motes s (part ∷ []) (event dt draw ∷ []) t found
+  found_by first s t found st applied same = record {
     earlier = [];
     part = part;
     parts_are = refl;
     told = [];
-    event = event dt word;
+    event = event dt draw;
     events_are = refl;
     before = s;
     serves = no_part motes s;
-    happened = happened;
-    takes = subst (λ (o : Option Inboxes). TakesFor (event dt word) s.inboxes o) (sym same) (subst (λ (o : Option Inboxes). TakesFor (event dt word) o m.inboxes) st.inboxes (h.takes_for dt word));
+    applied = applied;
+    takes = subst (λ (o : Option Inboxes). TakesFor (event dt draw) s.inboxes o) (sym same) (subst (λ (o : Option Inboxes). TakesFor (event dt draw) o m.inboxes) st.inboxes (h.takes_for dt draw));
   }
 
   -- its frame was not handed to all
-  partly_by : (first : List Device) (s t : Moment) → StandsFor motes begun links 0 first s p → PartDone motes part s (event dt word ∷ []) t → HandedToFirst motes s.world t.world m.inboxes q.inboxes → PartlyHanded motes s (part ∷ []) (event dt word ∷ []) t q.inboxes
+  partly_by : (first : List Device) (s t : Moment) → StandsFor motes begun links 0 first s p → PartDone motes part s (event dt draw ∷ []) t → HandedToFirst motes s.world t.world m.inboxes q.inboxes → PartlyHanded motes s (part ∷ []) (event dt draw ∷ []) t q.inboxes
   unfolding found_by
-  partly_by first s t st happened handed = record { found = m.inboxes; by = found_by first s t m.inboxes st happened refl; first = handed }
+  partly_by first s t st applied handed = record { found = m.inboxes; by = found_by first s t m.inboxes st applied refl; first = handed }
 
   -- ---- however the event ended
 
-  pub part_ends : (r : Result (Unit {0}) Stop) → Ready motes begun p → HappenEnds r motes links (event dt word) m q → q.reached ≡ m.reached → q.clock ≡ m.clock → GoesOn r motes links (stretch begun on (part ∷ [])) p q
+  pub part_ends : (r : Result (Unit {0}) Stop) → Ready motes begun p → ApplyEnds r motes links (event dt draw) m q → q.reached ≡ m.reached → q.clock ≡ m.clock → GoesOn r motes links (stretch begun on (part ∷ [])) p q
   part_ends (Ok u) ready e reached clock = part_went ready e reached
   part_ends (Err stop.Memory) ready e reached clock =
       untold_halts stop.Memory ready e (λ x. absurd cc) (λ x. absurd cc) reached clock
       (λ first s st. (e.run first (drawn (looked s m.inboxes) m.service.timeline m.clock) (stands_before first s st), taken_left first s st e.link))
-  part_ends (Err stop.Write) ready e reached clock = partly_halts stop.Write e clock (λ s first x. x) (λ first s t st happened same. found_by first s t q.inboxes st happened same)
+  part_ends (Err stop.Write) ready e reached clock = partly_halts stop.Write e clock (λ s first x. x) (λ first s t st applied same. found_by first s t q.inboxes st applied same)
   part_ends (Err stop.Link) ready e reached clock = partly_halts stop.Link e clock (λ s first x. x)
-      (λ first s t st happened handed. inr (partly_by first s t st happened handed))
+      (λ first s t st applied handed. inr (partly_by first s t st applied handed))
   part_ends (Err stop.Flash) ready e reached clock =
       untold_halts stop.Flash ready e (λ x. absurd cc) (λ x. absurd cc) reached clock
       (λ first s st. (next_ends stop.Flash first s st (e.run first (drawn (looked s m.inboxes) m.service.timeline m.clock) (stands_before first s st)), taken_left first s st e.link))
@@ -272,45 +272,45 @@ module _ (motes begun on : ℕ) (links : List (ℕ × ℕ)) (part : Part) (event
       untold_halts stop.NotAVolume ready e (λ x. absurd cc) (λ x. absurd cc) reached clock
       (λ first s st.
       let x = e.run first (drawn (looked s m.inboxes) m.service.timeline m.clock) (stands_before first s st) in
-      (next_ends stop.NotAVolume first s st x, e.link ∙ h.untaken dt word s.world first q.boards (inl x) (volumes_before first s st ready) ∙ st.inboxes))
+      (next_ends stop.NotAVolume first s st x, e.link ∙ h.untaken dt draw s.world first q.boards (inl x) (volumes_before first s st ready) ∙ st.inboxes))
   part_ends (Err stop.NoImage) ready e reached clock =
       untold_halts stop.NoImage ready e (λ x. absurd cc) (λ x. absurd cc) reached clock
       (λ first s st.
       let x = e.run first (drawn (looked s m.inboxes) m.service.timeline m.clock) (stands_before first s st) in
-      (next_ends stop.NoImage first s st x, e.link ∙ h.untaken dt word s.world first q.boards (inr x) (volumes_before first s st ready) ∙ st.inboxes))
+      (next_ends stop.NoImage first s st x, e.link ∙ h.untaken dt draw s.world first q.boards (inr x) (volumes_before first s st ready) ∙ st.inboxes))
 
 -- ---- the parts
 
-pub begins_part : (motes mote : ℕ) (boxes : Option Inboxes) → mote < motes → IsPart motes mote (mote + 1) (Begins mote) (λ dt word. Reset mote dt word) [] boxes boxes
+pub begins_part : (motes mote : ℕ) (boxes : Option Inboxes) → mote < motes → IsPart motes mote (mote + 1) (Begins mote) (λ dt draw. Reset mote dt draw) [] boxes boxes
 begins_part motes mote boxes known = record {
-  dt_is = λ dt word. refl;
-  before_is = λ dt word. refl;
-  behind_is = λ dt word. refl;
-  event_is = λ dt word. refl;
+  dt_is = λ dt draw. refl;
+  before_is = λ dt draw. refl;
+  behind_is = λ dt draw. refl;
+  event_is = λ dt draw. refl;
   within = omega arith;
   rises = omega arith;
-  done = λ s t es same x. subst (λ (o : Option Inboxes). Happened motes (looked s o) (λ dt word. Reset mote dt word) es t) (sym same) x;
+  done = λ s t es same x. subst (λ (o : Option Inboxes). EventApplied motes (looked s o) (λ dt draw. Reset mote dt draw) es t) (sym same) x;
   link = inl refl;
-  takes_for = λ dt word. refl;
-  untaken = λ dt word w old new ends volumes. refl;
-  new_volumes = λ dt word boards told m a low high was.
+  takes_for = λ dt draw. refl;
+  untaken = λ dt draw w old new ends volumes. refl;
+  new_volumes = λ dt draw boards told m a low high was.
       let same : m ≡ mote = omega arith in
       told a tt (ap (slice_get boards) (sym same) ∙ was);
 }
 
-pub ticks_part : (motes mote : ℕ) (boxes : Option Inboxes) → IsPart motes motes motes (Ticks mote) (λ dt word. Tick mote dt word) [] boxes boxes
+pub ticks_part : (motes mote : ℕ) (boxes : Option Inboxes) → IsPart motes motes motes (Ticks mote) (λ dt draw. Tick mote dt draw) [] boxes boxes
 ticks_part motes mote boxes = record {
-  dt_is = λ dt word. refl;
-  before_is = λ dt word. refl;
-  behind_is = λ dt word. refl;
-  event_is = λ dt word. refl;
+  dt_is = λ dt draw. refl;
+  before_is = λ dt draw. refl;
+  behind_is = λ dt draw. refl;
+  event_is = λ dt draw. refl;
   within = omega arith;
   rises = omega arith;
-  done = λ s t es same x. subst (λ (o : Option Inboxes). Happened motes (looked s o) (λ dt word. Tick mote dt word) es t) (sym same) x;
+  done = λ s t es same x. subst (λ (o : Option Inboxes). EventApplied motes (looked s o) (λ dt draw. Tick mote dt draw) es t) (sym same) x;
   link = inl refl;
-  takes_for = λ dt word. refl;
-  untaken = λ dt word w old new ends volumes. refl;
-  new_volumes = λ dt word boards told m a low high was. absurd (omega (arith, low, high));
+  takes_for = λ dt draw. refl;
+  untaken = λ dt draw w old new ends volumes. refl;
+  new_volumes = λ dt draw boards told m a low high was. absurd (omega (arith, low, high));
 }
 
 -- a frame that is heard leaves its mote on
@@ -321,30 +321,30 @@ runs_in (Goes deed) = deed.runs
 some_left : (o : Option (Option Running)) (x : Option Running) → Some x ≡ o → o ≡ None → ⊥
 some_left o x is none = absurd cc
 
-heard_runs : (w : World) (m dt word : ℕ) (bytes : List ℕ) (deed : Deed) (o : Option Running) → hear_by w (store_at w m) o (w.moment + dt) word bytes ≡ Goes deed → deed.runs ≡ None → ⊥
+heard_runs : (w : World) (m dt draw : ℕ) (bytes : List ℕ) (deed : Deed) (o : Option Running) → hear_by w (store_at w m) o (w.moment + dt) draw bytes ≡ Goes deed → deed.runs ≡ None → ⊥
 unfolding frame_effect runs_in
-heard_runs w m dt word bytes deed None e none = absurd cc
-heard_runs w m dt word bytes deed (Some r) e none = some_left deed.runs _ (ap runs_in e) none
+heard_runs w m dt draw bytes deed None e none = absurd cc
+heard_runs w m dt draw bytes deed (Some r) e none = some_left deed.runs _ (ap runs_in e) none
 
-pub frame_runs : (w : World) (m dt word : ℕ) (bytes : List ℕ) (deed : Deed) → does w (Frame m dt word bytes) ≡ Goes deed → deed.runs ≡ None → ⊥
+pub frame_runs : (w : World) (m dt draw : ℕ) (bytes : List ℕ) (deed : Deed) → does w (Frame m dt draw bytes) ≡ Goes deed → deed.runs ≡ None → ⊥
 unfolding does
-frame_runs w m dt word bytes deed e none = heard_runs w m dt word bytes deed (site w m).runs e none
+frame_runs w m dt draw bytes deed e none = heard_runs w m dt draw bytes deed (site w m).runs e none
 
-pub looks_part : (motes mote : ℕ) (bytes : List ℕ) (before taken : Option Inboxes) → mote < motes → TakesFrame mote bytes before taken → IsFrame bytes → IsPart motes motes motes (Looks mote) (λ dt word. Frame mote dt word bytes) bytes before taken
+pub looks_part : (motes mote : ℕ) (bytes : List ℕ) (before taken : Option Inboxes) → mote < motes → TakesFrame mote bytes before taken → IsFrame bytes → IsPart motes motes motes (Looks mote) (λ dt draw. Frame mote dt draw bytes) bytes before taken
 looks_part motes mote bytes before taken known takes fits = record {
-  dt_is = λ dt word. refl;
-  before_is = λ dt word. refl;
-  behind_is = λ dt word. refl;
-  event_is = λ dt word. refl;
+  dt_is = λ dt draw. refl;
+  before_is = λ dt draw. refl;
+  behind_is = λ dt draw. refl;
+  event_is = λ dt draw. refl;
   within = omega arith;
   rises = omega arith;
   done = λ s t es same x. inr (record { bytes = bytes; fits = fits; taken = taken; takes = subst (λ (o : Option Inboxes). TakesFrame mote bytes o taken) (sym same) takes; heard = x });
   link = inr (mote, takes);
-  takes_for = λ dt word. takes;
-  untaken = λ dt word w old new ends volumes.
+  takes_for = λ dt draw. takes;
+  untaken = λ dt draw w old new ends volumes.
       ⊎_elim
       (λ no_volume. let v = volumes mote no_volume.board refl known no_volume.was in absurd (no_volume.no_volume v.0 v.1))
-      (λ no_image. absurd (frame_runs w mote dt word bytes no_image.ends.deed no_image.ends.goes no_image.ends.none))
+      (λ no_image. absurd (frame_runs w mote dt draw bytes no_image.ends.deed no_image.ends.goes no_image.ends.none))
       ends;
-  new_volumes = λ dt word boards told m a low high was. absurd (omega (arith, low, high));
+  new_volumes = λ dt draw boards told m a low high was. absurd (omega (arith, low, high));
 }

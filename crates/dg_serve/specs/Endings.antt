@@ -15,7 +15,7 @@ use Rattle.dg_rules.specs.World.{World, Sent, first_world, store_at, no_site}
 use Rattle.dg_rules.specs.Events.{does, mote_of, trail_of}
 use Rattle.dg_rules.specs.Steps.{EndsRun}
 use Rattle.dg_world.specs.Alone.{uncut}
-use Rattle.dg_seed.specs.Words.{first_generator}
+use Rattle.dg_seed.specs.Draws.{first_generator}
 use Rattle.dg_serve.specs.Services.{Part, Begins, Looks, Ticks, Moment, ReadsClock, PartDone, PartsDone, new_frames, handed_to}
 use Rattle.dg_serve.specs.Services.{neighbours}
 use Rattle.dg_serve.specs.declared.stop.Stop.{Stop}
@@ -35,7 +35,7 @@ begins table links stores origin clock seed inboxes = record {
   world = first_world table links none_narrow stores;
   reading = origin;
   clock = clock;
-  words = first_generator seed;
+  draws = first_generator seed;
   inboxes = inboxes;
 }
 
@@ -80,7 +80,7 @@ pub record FindsNoImage (w : World) (event : Event) (old new : List Device) : Ty
   pub ends : EndsRun w (uncut event) world
   pub boards : BoardsStand world old new
 
--- how an event leaves the boards that did not happen
+-- how an event leaves the boards that was not applied
 abbrev pub EventEnds : Stop → World → Event → (old new : List Device) → Type 0
 EventEnds Memory w event old new = BoardsStand w old new
 EventEnds Write w event old new = ⊥
@@ -90,23 +90,23 @@ EventEnds NotAVolume w event old new = FindsNoVolume w event old new
 EventEnds NoImage w event old new = FindsNoImage w event old new
 
 -- the event of a part at these numbers, where a frame of these bytes came
-abbrev pub event_of : Part → (dt word : ℕ) → List ℕ → Event
-event_of (Begins m) dt word bytes = Reset m dt word
-event_of (Looks m) dt word bytes = Frame m dt word bytes
-event_of (Ticks m) dt word bytes = Tick m dt word
+abbrev pub event_of : Part → (dt draw : ℕ) → List ℕ → Event
+event_of (Begins m) dt draw bytes = Reset m dt draw
+event_of (Looks m) dt draw bytes = Frame m dt draw bytes
+event_of (Ticks m) dt draw bytes = Tick m dt draw
 
--- The event in which the service ended did not happen. It is that of the next part,
--- the clock was read and a word was drawn for it.
+-- The event in which the service ended was not applied. It is that of the next part,
+-- the clock was read and a draw was taken for it.
 pub record EndsInNext (stop : Stop) (s : Moment) (left : List Part) (old new : List Device) : Type 0 where
   pub part : Part
   pub rest : List Part
   pub is : left ≡ part ∷ rest
   pub bytes : List ℕ
   pub dt : ℕ
-  pub word : ℕ
+  pub draw : ℕ
   pub after : Moment
-  pub reads : ReadsClock s dt word after
-  pub ends : EventEnds stop s.world (event_of part dt word bytes) old new
+  pub reads : ReadsClock s dt draw after
+  pub ends : EventEnds stop s.world (event_of part dt draw bytes) old new
 
 -- how the boards are left
 abbrev pub BoardsLeft : Stop → Moment → List Part → (old new : List Device) → Type 0
@@ -119,13 +119,13 @@ BoardsLeft NoImage s left old new = EndsInNext NoImage s left old new
 
 -- ---- the link
 
--- A frame was taken for an event that did not happen.
+-- A frame was taken for an event that was not applied.
 abbrev pub OneTaken : Moment → Option Inboxes → Type 0
 OneTaken s after = (mote : ℕ) × (bytes : List ℕ) × TakesFrame mote bytes s.inboxes after
 
--- what an event takes from the link before it happens: the frame that is heard, and else nothing
+-- what an event takes from the link before it is applied: the frame that is heard, and else nothing
 abbrev pub TakesFor : Event → Option Inboxes → Option Inboxes → Type 0
-TakesFor (Frame mote dt word bytes) before after = TakesFrame mote bytes before after
+TakesFor (Frame mote dt draw bytes) before after = TakesFrame mote bytes before after
 TakesFor event before after = after ≡ before
 
 -- The last event found the link like this: all that the events before it sent was handed on,
@@ -140,7 +140,7 @@ pub record FoundBy (motes : ℕ) (s : Moment) (done : List Part) (events : List 
   pub events_are : events ≡ told ++ event ∷ []
   pub before : Moment
   pub serves : PartsDone motes s earlier told before
-  pub happened : PartDone motes part before (event ∷ []) last
+  pub applied : PartDone motes part before (event ∷ []) last
   pub takes : TakesFor event before.inboxes found
 
 -- The frame of the event between these worlds was handed to the first k neighbours alone.
@@ -169,6 +169,6 @@ LinkLeft NoImage motes s done events last after = after ≡ last.inboxes
 
 -- ---- the clock
 
--- It was read for the events that happened, and perhaps for one that did not.
+-- It was read for the events that were applied, and perhaps for one that was not.
 abbrev pub ClockLeft : Option Answers → Option Answers → Type 0
 ClockLeft told after = (after ≡ told) ⊎ ((answer : ℕ) × Answered told after answer)

@@ -15,7 +15,7 @@ use Rattle.dg_rules.specs.Consistency.{WorldConsistent, LeavesConsistent, Starts
 use Rattle.dg_rules.specs.Golden.{KeepsGoldenRow, WorldKeepsGolden, FindsImage}
 use Rattle.dg_mote.specs.Consistency.{StoreIsConsistent}
 use Rattle.dg_script.specs.Places.{first_place, none_narrow}
-use Rattle.dg_script.specs.Items.{Item, Happens, items_of, place_behind}
+use Rattle.dg_script.specs.Items.{Item, Applies, items_of, place_behind}
 use Rattle.dg_script.specs.declared.line.Line.{Line}
 use Rattle.dg_script.specs.declared.line.Line.TheVariants.{Motes, Boards}
 use Rattle.dg_world.specs.Alone.{uncut}
@@ -23,7 +23,7 @@ use Rattle.dg_serve.specs.Traces.{IsScript}
 
 -- an event of a service as an item of a run: no power is cut in it
 abbrev pub event_item : Event → Item
-event_item event = Happens (uncut event) true
+event_item event = Applies (uncut event) true
 
 abbrev pub item_played : Played → Item
 item_played p = p.item

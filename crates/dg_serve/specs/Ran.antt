@@ -12,11 +12,11 @@ use Rattle.dg_netcfg.specs.declared.profile.NetProfile.{NetProfile}
 use Rattle.dg_nor.specs.Device.{Device}
 use Rattle.dg_object.specs.Object.{Row}
 use Rattle.dg_volume.specs.Store.{Store}
-use Rattle.dg_seed.specs.Words.{first_generator, generator_of}
+use Rattle.dg_seed.specs.Draws.{first_generator, generator_of}
 use Rattle.dg_serve.specs.Services.{Part, course, plan}
 use Rattle.dg_serve.specs.Endings.{StoresOf, begins}
 use Rattle.dg_serve.specs.Served.{Outside, Came, BoardsEndure, Hindered}
-use Rattle.dg_serve.specs.Traces.{UntoldLast, lines_text, head_lines, event_lines, last_line}
+use Rattle.dg_serve.specs.Traces.{UnwrittenLast, lines_text, head_lines, event_lines, last_line}
 use Rattle.dg_serve.specs.declared.service.Service.{Service}
 use Rattle.dg_serve.specs.declared.stop.Stop.{Stop}
 use Rattle.dg_serve.specs.declared.stop.Stop.TheVariants as stop
@@ -36,7 +36,7 @@ pub record IsOpened (profile : NetProfile) (seed : ℕ) (before : Outside) (v : 
   pub motes : length v.motes.items ≡ profile.motes
   pub off : (m : ℕ) → slice_index_or v.motes.items m None ≡ None
   pub moment : v.timeline.moment ≡ 0
-  pub words : generator_of v.timeline.words ≡ first_generator seed
+  pub draws : generator_of v.timeline.draws ≡ first_generator seed
   pub told : Answered before.clock after.clock v.timeline.reading
   pub known : v.timeline.reading ≤ reached
   pub addressees_are : addressees ≡ profile.motes
@@ -55,7 +55,7 @@ ServiceOpens (Err why) profile seed before addressees reached after =
 abbrev pub WroteBy : Option Stop → (head : List ℕ) → List Event → (text : List ℕ) → Type 0
 WroteBy None head events text = text ≡ head ++ event_lines events
 WroteBy (Some stop.Memory) head events text = text ≡ head ++ event_lines events
-WroteBy (Some stop.Write) head events text = UntoldLast head events text
+WroteBy (Some stop.Write) head events text = UnwrittenLast head events text
 WroteBy (Some stop.Link) head events text = text ≡ head ++ event_lines events
 WroteBy (Some stop.Flash) head events text = text ≡ head ++ event_lines events
 WroteBy (Some stop.NotAVolume) head events text = text ≡ head ++ event_lines events

@@ -1,4 +1,4 @@
--- What a service did: the events that happened, what it wrote, and how it left the boards, the link and the clock.
+-- What a service did: the events that were applied, what it wrote, and how it left the boards, the link and the clock.
 use Rattle.std.specs.Prelude.{◌≡◌, ◌≢◌, ◌⊎◌, ℕ, ◌≤◌, List, [], ◌++◌, length, take, slice_get, Option, Some, None, option_map}
 use Rattle.dg_words.specs.Counts.{Rose}
 use Rattle.dg_base.specs.Clock.{Answers, Answered}
@@ -14,7 +14,7 @@ use Rattle.dg_object.specs.Object.{Row}
 use Rattle.dg_volume.specs.Store.{Store}
 use Rattle.dg_serve.specs.Services.{Part, Moment, PartsDone, Course, course, plan}
 use Rattle.dg_serve.specs.Endings.{StoresOf, begins, BoardsStand, BoardsLeft, LinkLeft, ClockLeft}
-use Rattle.dg_serve.specs.Traces.{UntoldLast, trace, lines_text, head_lines, last_line}
+use Rattle.dg_serve.specs.Traces.{UnwrittenLast, trace, lines_text, head_lines, last_line}
 use Rattle.dg_serve.specs.declared.stop.Stop.{Stop}
 use Rattle.dg_serve.specs.declared.stop.Stop.TheVariants as stop
 
@@ -64,7 +64,7 @@ abbrev pub Wrote : Option Stop → Status → NetProfile → (boards : ℕ) → 
 Wrote None answer profile boards events text = (answer ≡ status.Done) × (text ≡ trace profile events)
 Wrote (Some stop.Memory) answer profile boards events text = (answer ≡ status.Memory) × (text ≡ trace profile events)
 Wrote (Some stop.Write) answer profile boards events text =
-    (answer ≡ status.WriteFault) × UntoldLast (lines_text (head_lines profile)) events text
+    (answer ≡ status.WriteFault) × UnwrittenLast (lines_text (head_lines profile)) events text
 Wrote (Some stop.Link) answer profile boards events text = (answer ≡ status.LinkFault) × (text ≡ trace profile events)
 Wrote (Some stop.Flash) answer profile boards events text = (answer ≡ status.FlashFault) × (text ≡ trace profile events)
 Wrote (Some stop.NotAVolume) answer profile boards events text =
@@ -96,7 +96,7 @@ pub record Began (answer : Status) (profile : NetProfile) (seed turns : ℕ) (be
   pub clock : Option Answers
   pub first : Answered before.clock clock origin
   pub why : Option Stop
-  -- the events that happened, the parts that gave them, and those that are left
+  -- the events that were applied, the parts that gave them, and those that are left
   pub events : List Event
   pub done : List Part
   pub left : List Part

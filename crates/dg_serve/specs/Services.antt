@@ -1,4 +1,4 @@
--- A service by the rules: motes over a link, by a clock, with the words of a seed.
+-- A service by the rules: motes over a link, by a clock, with the draws of a seed.
 use Rattle.std.specs.Prelude.{◌≡◌, ◌⊎◌, ℕ, ◌-◌, ◌^◌, ◌≤◌, min, if◌then◌else◌, List, [], ◌∷◌, ◌++◌, length, drop, Option}
 use Rattle.std.specs.Prelude.{option_map}
 use Rattle.rand_pcg.specs.Lcg.{Lcg}
@@ -42,8 +42,8 @@ pub record Moment : Type 0 where
   -- what the clock told last, and what it will tell, where that is known
   pub reading : ℕ
   pub clock : Option Answers
-  -- the words to come
-  pub words : Lcg
+  -- the draws to come
+  pub draws : Lcg
   -- the frames that wait, where the link tells them
   pub inboxes : Option Inboxes
 
@@ -53,17 +53,17 @@ later before after = min (after - before) (2 ^ 32 - 1)
 
 -- the clock told this, which is not below what it told before
 abbrev pub at_reading : Moment → ℕ → Option Answers → Lcg → Moment
-at_reading s answer clock words = record s { reading = answer; clock = clock; words = words }
+at_reading s answer clock draws = record s { reading = answer; clock = clock; draws = draws }
 
--- Before an event the clock is read and a word is drawn. Nothing else changes.
-pub record ReadsClock (s : Moment) (dt word : ℕ) (t : Moment) : Type 0 where
+-- Before an event the clock is read and a draw is taken. Nothing else changes.
+pub record ReadsClock (s : Moment) (dt draw : ℕ) (t : Moment) : Type 0 where
   pub answer : ℕ
   pub rises : s.reading ≤ answer
   pub told : Answered s.clock t.clock answer
   pub dt_is : dt ≡ later s.reading answer
-  pub word_is : (word, t.words) ≡ pcg32 s.words
-  pub fits : IsTimed dt word
-  pub same : t ≡ at_reading s answer t.clock t.words
+  pub draw_is : (draw, t.draws) ≡ pcg32 s.draws
+  pub fits : IsTimed dt draw
+  pub same : t ≡ at_reading s answer t.clock t.draws
 
 -- ---- frames over the link
 
@@ -90,25 +90,25 @@ handed w motes (f ∷ fs) boxes = handed w motes fs (handed_to (neighbours w mot
 
 -- ---- one event
 
--- The event happened at this moment, and what it sent was handed on. Neither the clock was read nor a word drawn.
+-- The event was applied at this moment, and what it sent was handed on. Neither the clock was read nor a draw taken.
 pub record Steps (motes : ℕ) (s : Moment) (event : Event) (t : Moment) : Type 0 where
   pub reports : List Report
   pub step : WorldStep s.world (uncut event) t.world reports
   pub same_reading : t.reading ≡ s.reading
   pub same_clock : t.clock ≡ s.clock
-  pub same_words : t.words ≡ s.words
+  pub same_draws : t.draws ≡ s.draws
   pub inboxes : t.inboxes ≡ option_map (handed t.world motes (new_frames s.world t.world)) s.inboxes
 
--- The event of this time and word happened.
-pub record Happened (motes : ℕ) (s : Moment) (event : (dt word : ℕ) → Event) (done : List Event) (t : Moment) : Type 0 where
+-- The event of this time and draw happened.
+pub record EventApplied (motes : ℕ) (s : Moment) (event : (dt draw : ℕ) → Event) (done : List Event) (t : Moment) : Type 0 where
   pub dt : ℕ
-  pub word : ℕ
+  pub draw : ℕ
   pub between : Moment
-  pub reads : ReadsClock s dt word between
-  pub one : done ≡ event dt word ∷ []
-  pub steps : Steps motes between (event dt word) t
+  pub reads : ReadsClock s dt draw between
+  pub one : done ≡ event dt draw ∷ []
+  pub steps : Steps motes between (event dt draw) t
 
--- no frame had come: nothing happens, and neither the clock is read nor a word drawn
+-- no frame had come: nothing happens, and neither the clock is read nor a draw taken
 pub record NoneCame (mote : ℕ) (s : Moment) (done : List Event) (t : Moment) : Type 0 where
   pub none : IsEmptyAt mote s.inboxes
   pub nothing : done ≡ []
@@ -120,12 +120,12 @@ pub record OneCame (motes mote : ℕ) (s : Moment) (done : List Event) (t : Mome
   pub fits : IsFrame bytes
   pub taken : Option Inboxes
   pub takes : TakesFrame mote bytes s.inboxes taken
-  pub heard : Happened motes (record s { inboxes = taken }) (λ dt word. Frame mote dt word bytes) done t
+  pub heard : EventApplied motes (record s { inboxes = taken }) (λ dt draw. Frame mote dt draw bytes) done t
 
 abbrev pub PartDone : (motes : ℕ) → Part → Moment → List Event → Moment → Type 0
-PartDone motes (Begins m) s done t = Happened motes s (λ dt word. Reset m dt word) done t
+PartDone motes (Begins m) s done t = EventApplied motes s (λ dt draw. Reset m dt draw) done t
 PartDone motes (Looks m) s done t = NoneCame m s done t ⊎ OneCame motes m s done t
-PartDone motes (Ticks m) s done t = Happened motes s (λ dt word. Tick m dt word) done t
+PartDone motes (Ticks m) s done t = EventApplied motes s (λ dt draw. Tick m dt draw) done t
 
 -- these parts were done, one after the other, and gave these events
 unfoldable pub PartsDone : (motes : ℕ) → Moment → List Part → List Event → Moment → Type 0

@@ -18,12 +18,12 @@ use Rattle.dg_rules.specs.Events.{mote_of, dt_of}
 use Rattle.dg_rules.specs.Premises.{WorldTimely}
 use Rattle.dg_world.specs.Worlds.{SiteStands}
 use Rattle.dg_world.specs.Alone.{IsReset, PlaysAlone, Powers}
-use Rattle.dg_world.specs.declared.telling.Fault.{Fault}
-use Rattle.dg_world.specs.declared.telling.Fault.TheVariants as fault
+use Rattle.dg_world.specs.declared.outcome.Fault.{Fault}
+use Rattle.dg_world.specs.declared.outcome.Fault.TheVariants as fault
 use Rattle.dg_world.specs.declared.world.RunningMote.{RunningMote}
-use Rattle.dg_seed.specs.Words.{generator_of}
+use Rattle.dg_seed.specs.Draws.{generator_of}
 use Rattle.dg_serve.specs.Services.{Part, Moment, PartsDone, Course, course, Steps, handed_to, neighbours_by}
-use Rattle.dg_serve.specs.Traces.{UntoldLast, event_lines}
+use Rattle.dg_serve.specs.Traces.{UnwrittenLast, event_lines}
 use Rattle.dg_serve.specs.Endings.{BoardsStand, EventEnds, BoardsLeft, HandedToFirst, LinkLeft, ClockLeft}
 use Rattle.dg_serve.specs.Served.{Outside}
 use Rattle.dg_serve.specs.declared.service.Service.{Service}
@@ -62,7 +62,7 @@ pub record StandsFor (motes begun : ℕ) (links : List (ℕ × ℕ)) (ahead : �
     (p : Standing) : Type 0 where
   pub moment : p.service.timeline.moment ≡ s.world.moment + ahead
   pub reading : p.service.timeline.reading ≡ s.reading
-  pub words : generator_of p.service.timeline.words ≡ s.words
+  pub draws : generator_of p.service.timeline.draws ≡ s.draws
   pub clock : p.clock ≡ s.clock
   pub inboxes : p.inboxes ≡ s.inboxes
   pub linked : s.world.links ≡ links
@@ -148,7 +148,7 @@ pub record PartsHalted (why : Stop) (motes begun : ℕ) (links : List (ℕ × �
   pub all : done ++ left ≡ parts
   pub text : List ℕ
   pub put : Puts p.written q.written text
-  pub front : why ≡ stop.Write → UntoldLast [] events text
+  pub front : why ≡ stop.Write → UnwrittenLast [] events text
   pub whole : why ≢ stop.Write → text ≡ event_lines events
   pub run : (first : List Device) (s : Moment) → StandsFor motes begun links 0 first s p
       → (t : Moment) × PartsDone motes s done events t × StopLeaves why motes s (course done events left) t first q
@@ -178,22 +178,22 @@ StandsForSome motes begun links p = (first : List Device) × (s : Moment) × Sta
 
 -- how many motes' power came before an event and behind it, where it is a reset; else all motes' power came
 abbrev pub begun_before : ℕ → Event → ℕ
-begun_before motes (Tick mote dt word) = motes
-begun_before motes (Hear mote dt word frame) = motes
-begun_before motes (Last from to dt word) = motes
-begun_before motes (Reset mote dt word) = mote
-begun_before motes (Inject mote image version dt word) = motes
-begun_before motes (Order mote number image version dt word) = motes
-begun_before motes (Frame mote dt word bytes) = motes
+begun_before motes (Tick mote dt draw) = motes
+begun_before motes (Hear mote dt draw frame) = motes
+begun_before motes (Last from to dt draw) = motes
+begun_before motes (Reset mote dt draw) = mote
+begun_before motes (Inject mote image version dt draw) = motes
+begun_before motes (Order mote number image version dt draw) = motes
+begun_before motes (Frame mote dt draw bytes) = motes
 
 abbrev pub begun_behind : ℕ → Event → ℕ
-begun_behind motes (Tick mote dt word) = motes
-begun_behind motes (Hear mote dt word frame) = motes
-begun_behind motes (Last from to dt word) = motes
-begun_behind motes (Reset mote dt word) = mote + 1
-begun_behind motes (Inject mote image version dt word) = motes
-begun_behind motes (Order mote number image version dt word) = motes
-begun_behind motes (Frame mote dt word bytes) = motes
+begun_behind motes (Tick mote dt draw) = motes
+begun_behind motes (Hear mote dt draw frame) = motes
+begun_behind motes (Last from to dt draw) = motes
+begun_behind motes (Reset mote dt draw) = mote + 1
+begun_behind motes (Inject mote image version dt draw) = motes
+begun_behind motes (Order mote number image version dt draw) = motes
+begun_behind motes (Frame mote dt draw bytes) = motes
 
 -- what a mote runs, and the boards
 pub record AtMote : Type 0 where
@@ -213,8 +213,8 @@ pub record PlayedAt (r : Result Outbox Fault) (event : Event) (mote now : ℕ) (
       → wide_at w mote ≡ true → PlaysAlone r w event y.runs before after
   pub powers : IsReset event → Powers r before after
 
--- The event happened, was told and what it sent was handed on.
-pub record HappensAt (motes : ℕ) (links : List (ℕ × ℕ)) (event : Event) (p q : Standing) : Type 0 where
+-- The event was applied, its line was written, and what it sent was handed on.
+pub record AppliedAt (motes : ℕ) (links : List (ℕ × ℕ)) (event : Event) (p q : Standing) : Type 0 where
   pub put : Puts p.written q.written (event_lines (event ∷ []))
   pub run : (first : List Device) (s : Moment) → StandsFor motes (begun_before motes event) links (dt_of event) first s p
       → (t : Moment) × Steps motes s event t × StandsFor motes (begun_behind motes event) links 0 first t q
@@ -226,8 +226,8 @@ pub record HappensAt (motes : ℕ) (links : List (ℕ × ℕ)) (event : Event) (
   pub failures : q.failures ≡ p.failures
   pub faults : q.faults ≡ p.faults
 
--- The event did not happen.
-pub record DoesNotHappen (why : Stop) (motes : ℕ) (links : List (ℕ × ℕ)) (event : Event) (p q : Standing) : Type 0 where
+-- The event was not applied.
+pub record NotApplied (why : Stop) (motes : ℕ) (links : List (ℕ × ℕ)) (event : Event) (p q : Standing) : Type 0 where
   pub untold : q.written ≡ p.written
   pub link : q.inboxes ≡ p.inboxes
   pub run : (first : List Device) (s : Moment) → StandsFor motes (begun_before motes event) links (dt_of event) first s p
@@ -237,13 +237,13 @@ pub record DoesNotHappen (why : Stop) (motes : ℕ) (links : List (ℕ × ℕ)) 
   pub failures : q.failures ≡ p.failures
   pub faults : q.faults ≡ p.faults
 
--- what was handed on of an event that happened, by why the service stopped: nothing before its line is written
+-- what was handed on of an event that was applied, by why the service stopped: nothing before its line is written
 abbrev pub HandedThen : Stop → (motes : ℕ) → (w v : World) → (before after : Option Inboxes) → Type 0
 HandedThen stop.Link motes w v before after = HandedToFirst motes w v before after
 HandedThen why motes w v before after = after ≡ before
 
--- The event happened, but its line was not written, or what it sent not handed to all.
-pub record HappensPartly (why : Stop) (motes : ℕ) (links : List (ℕ × ℕ)) (event : Event) (p q : Standing) : Type 0 where
+-- The event was applied, but its line was not written, or what it sent not handed to all.
+pub record AppliedPartly (why : Stop) (motes : ℕ) (links : List (ℕ × ℕ)) (event : Event) (p q : Standing) : Type 0 where
   pub text : List ℕ
   pub put : Puts p.written q.written text
   pub front : (n : ℕ) × (text ≡ take n (event_lines (event ∷ [])))
@@ -255,14 +255,14 @@ pub record HappensPartly (why : Stop) (motes : ℕ) (links : List (ℕ × ℕ)) 
   pub calm : BoardsAreCalm p.boards q.boards
   pub counts : CountsBy why p q
 
-abbrev pub HappenEnds : Result (Unit {0}) Stop → (motes : ℕ) → List (ℕ × ℕ) → Event → Standing → Standing → Type 0
-HappenEnds (Ok u) motes links event p q = HappensAt motes links event p q
-HappenEnds (Err stop.Memory) motes links event p q = DoesNotHappen stop.Memory motes links event p q
-HappenEnds (Err stop.Write) motes links event p q = HappensPartly stop.Write motes links event p q
-HappenEnds (Err stop.Link) motes links event p q = HappensPartly stop.Link motes links event p q
-HappenEnds (Err stop.Flash) motes links event p q = DoesNotHappen stop.Flash motes links event p q
-HappenEnds (Err stop.NotAVolume) motes links event p q = DoesNotHappen stop.NotAVolume motes links event p q
-HappenEnds (Err stop.NoImage) motes links event p q = DoesNotHappen stop.NoImage motes links event p q
+abbrev pub ApplyEnds : Result (Unit {0}) Stop → (motes : ℕ) → List (ℕ × ℕ) → Event → Standing → Standing → Type 0
+ApplyEnds (Ok u) motes links event p q = AppliedAt motes links event p q
+ApplyEnds (Err stop.Memory) motes links event p q = NotApplied stop.Memory motes links event p q
+ApplyEnds (Err stop.Write) motes links event p q = AppliedPartly stop.Write motes links event p q
+ApplyEnds (Err stop.Link) motes links event p q = AppliedPartly stop.Link motes links event p q
+ApplyEnds (Err stop.Flash) motes links event p q = NotApplied stop.Flash motes links event p q
+ApplyEnds (Err stop.NotAVolume) motes links event p q = NotApplied stop.NotAVolume motes links event p q
+ApplyEnds (Err stop.NoImage) motes links event p q = NotApplied stop.NoImage motes links event p q
 
 -- ---- frames
 

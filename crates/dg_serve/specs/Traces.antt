@@ -10,7 +10,7 @@ use Rattle.dg_script.specs.Places.{first_place}
 use Rattle.dg_script.specs.Script.{script_from}
 use Rattle.dg_script.specs.Spelling.{line_text}
 use Rattle.dg_script.specs.declared.line.Line.{Line}
-use Rattle.dg_script.specs.declared.line.Line.TheVariants.{Motes, Boards, Link, Happens}
+use Rattle.dg_script.specs.declared.line.Line.TheVariants.{Motes, Boards, Link, Event as EventLine}
 use Rattle.dg_netcfg.specs.declared.profile.NetProfile.{NetProfile}
 
 -- the first lines
@@ -23,13 +23,13 @@ lines_text ls = flat_map (λ l. line_text l ++ 10 ∷ []) ls
 
 -- the lines of events
 abbrev pub event_lines : List Event → List ℕ
-event_lines events = lines_text (map Happens events)
+event_lines events = lines_text (map EventLine events)
 
 abbrev pub trace : NetProfile → List Event → List ℕ
 trace p events = lines_text (head_lines p) ++ event_lines events
 
 -- Behind this head the lines of all events but the last were written, and of its line a front.
-pub record UntoldLast (head : List ℕ) (events : List Event) (text : List ℕ) : Type 0 where
+pub record UnwrittenLast (head : List ℕ) (events : List Event) (text : List ℕ) : Type 0 where
   pub told : List Event
   pub event : Event
   pub events_are : events ≡ told ++ event ∷ []
@@ -45,11 +45,11 @@ last_line status motes boards = []
 
 -- the line of an event
 abbrev pub IsEventLine : Line → Type 0
-IsEventLine line = (event : Event) × (line ≡ Happens event)
+IsEventLine line = (event : Event) × (line ≡ EventLine event)
 
 -- the lines of the script that tells of events
 abbrev pub trace_lines : NetProfile → List Event → List Line
-trace_lines p events = head_lines p ++ map Happens events
+trace_lines p events = head_lines p ++ map EventLine events
 
 -- the bytes are a script of these lines, whole and without a fault
 abbrev pub IsScript : (bytes : List ℕ) → List Line → Type 0

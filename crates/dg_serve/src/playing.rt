@@ -3,7 +3,7 @@ ghost use Rattle.std.specs.Prelude.{◌≡◌, ◌^◌, ◌<◌, length, map, sl
 ghost use Rattle.dg_nor.specs.Device.{Device};
 ghost use Rattle.dg_rules.specs.Events.{mote_of};
 ghost use Rattle.dg_mote.specs.declared.outbox.Outbox.{Outbox};
-ghost use Rattle.dg_world.specs.declared.telling.Fault.{Fault};
+ghost use Rattle.dg_world.specs.declared.outcome.Fault.{Fault};
 ghost use Rattle.dg_world.specs.Alone.{IsAlone};
 ghost use Rattle.dg_world.specs.Worlds.{MayRun};
 ghost use Rattle.dg_serve.specs.Standings.{PlayedAt, at_mote, stop_by, stops_by};

@@ -8,19 +8,19 @@ ghost use Rattle.dg_rules.specs.Events.{mote_of, dt_of};
 ghost use Rattle.dg_rules.specs.Ranges.{EventInRange};
 ghost use Rattle.dg_script.specs.Fitting.{FitsLine};
 ghost use Rattle.dg_script.specs.Spelling.{IsShort};
-ghost use Rattle.dg_script.specs.declared.line.Line.TheVariants.{Happens};
+ghost use Rattle.dg_script.specs.declared.line.Line.TheVariants.{Event as EventLine};
 ghost use Rattle.dg_world.specs.Alone.{IsAlone, IsReset};
 ghost use Rattle.dg_world.specs.Worlds.{MayRun};
 ghost use Rattle.dg_serve.specs.Each.{each};
 ghost use Rattle.dg_serve.specs.Served.{outside};
 ghost use Rattle.dg_serve.specs.Services.{Begins, Looks, Ticks, Moment, beginning, turn_of_all, plan};
-ghost use Rattle.dg_serve.specs.Standings.{Ready, StandsFor, StandsForSome, GoesOn, HappenEnds, begun_before, stretch};
+ghost use Rattle.dg_serve.specs.Standings.{Ready, StandsFor, StandsForSome, GoesOn, ApplyEnds, begun_before, stretch};
 ghost use Rattle.dg_serve.specs.Standings.{service_standing};
 
 use crate::handing::{hand_on, receive};
 use crate::playing::play;
 use crate::stop::Stop;
-use crate::telling::{put, told_event, write_event};
+use crate::telling::{line_event, put, write_event};
 use crate::timeline::Timeline;
 use dg_base::{Clock, Event, Sink};
 use dg_link::Link;
@@ -41,9 +41,9 @@ pub(crate) struct Service {
 }
 
 impl Service {
-    /// An event happens: its line is written, and then what it sent is handed on. Where there is no memory for the line,
-    /// the event does not happen.
-    fn happen<K: Sink, N: Nor, L: Link>(
+    /// An event is applied: its line is written, and then what it sent is handed on. Where there is no memory for the line,
+    /// the event is not applied.
+    fn apply_event<K: Sink, N: Nor, L: Link>(
         &mut self,
         profile: &NetProfile,
         mote: u8,
@@ -53,8 +53,8 @@ impl Service {
         out: &mut K,
     ) -> Result<(), Stop>
         requires allowed { IsAllowed profile.now }
-        requires fits { FitsLine profile.now.motes (Happens event) }
-        requires short { IsShort (Happens event) }
+        requires fits { FitsLine profile.now.motes (EventLine event) }
+        requires short { IsShort (EventLine event) }
         requires ranges { EventInRange profile.now.motes event }
         requires alone { IsAlone event }
         requires at { mote_of event ≡ mote }
@@ -70,18 +70,18 @@ impl Service {
             × StandsFor profile.now.motes (begun_before profile.now.motes event) profile.now.links (dt_of event) first s
             (service_standing self.old (outside (K.written out.old) (K.faults out.old) told (L.inboxes link.old)
             (L.faults link.old) (map N.device boards.old)) (L.mote_count link.old) reached)) }
-        ensures ends { (told : Option Answers) (reached : ℕ) → HappenEnds result profile.now.motes profile.now.links event
+        ensures ends { (told : Option Answers) (reached : ℕ) → ApplyEnds result profile.now.motes profile.now.links event
             (service_standing self.old (outside (K.written out.old) (K.faults out.old) told (L.inboxes link.old)
             (L.faults link.old) (map N.device boards.old)) (L.mote_count link.old) reached)
             (service_standing self.new (outside (K.written out.new) (K.faults out.new) told (L.inboxes link.new)
             (L.faults link.new) (map N.device boards.new)) (L.mote_count link.new) reached) }
     {
         agreement_is_kept();
-        let line = Line::Happens(event);
+        let line = Line::Event(event);
         write_event(&line, &mut self.text)?;
-        let told = told_event(&line);
+        let borrowed = line_event(&line);
         let now = self.timeline.moment;
-        let sent = play(self.motes.as_mut_slice(), boards, mote, now, told)?;
+        let sent = play(self.motes.as_mut_slice(), boards, mote, now, borrowed)?;
         put(self.text.as_slice(), out)?;
         hand_on(profile, mote, &sent, link)?;
         Ok(())
@@ -109,13 +109,13 @@ impl Service {
             (service_standing self.new (outside (K.written out.new) (K.faults out.new) (C.told clock.new) (L.inboxes link.new)
             (L.faults link.new) (map N.device boards.new)) (L.mote_count link.new) (C.reached clock.new)) }
     {
-        let draw = self.timeline.draw(clock);
+        let timing = self.timeline.draw(clock);
         let event = Event::Reset {
             mote,
-            dt: draw.dt,
-            word: draw.word,
+            dt: timing.dt,
+            draw: timing.draw,
         };
-        self.happen(profile, mote, event, boards, link, out)
+        self.apply_event(profile, mote, event, boards, link, out)
     }
 
     /// A mote looks whether a frame came, and hears it.
@@ -146,14 +146,14 @@ impl Service {
     {
         match receive(self.alloc, link, mote)? {
             Some(bytes) => {
-                let draw = self.timeline.draw(clock);
+                let timing = self.timeline.draw(clock);
                 let event = Event::Frame {
                     mote,
-                    dt: draw.dt,
-                    word: draw.word,
+                    dt: timing.dt,
+                    draw: timing.draw,
                     bytes,
                 };
-                self.happen(profile, mote, event, boards, link, out)
+                self.apply_event(profile, mote, event, boards, link, out)
             }
             None => Ok(()),
         }
@@ -185,13 +185,13 @@ impl Service {
             (service_standing self.new (outside (K.written out.new) (K.faults out.new) (C.told clock.new) (L.inboxes link.new)
             (L.faults link.new) (map N.device boards.new)) (L.mote_count link.new) (C.reached clock.new)) }
     {
-        let draw = self.timeline.draw(clock);
+        let timing = self.timeline.draw(clock);
         let event = Event::Tick {
             mote,
-            dt: draw.dt,
-            word: draw.word,
+            dt: timing.dt,
+            draw: timing.draw,
         };
-        self.happen(profile, mote, event, boards, link, out)
+        self.apply_event(profile, mote, event, boards, link, out)
     }
 
     /// A mote has its part in a turn: it looks, and it ticks.

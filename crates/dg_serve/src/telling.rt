@@ -6,7 +6,7 @@ ghost use Rattle.dg_netcfg.specs.Readings.{IsAllowed};
 ghost use Rattle.dg_script.specs.Sizes.{most_motes};
 ghost use Rattle.dg_script.specs.Fitting.{FitsLine};
 ghost use Rattle.dg_script.specs.Spelling.{IsShort, line_text};
-ghost use Rattle.dg_script.specs.declared.line.Line.TheVariants.{Happens};
+ghost use Rattle.dg_script.specs.declared.line.Line.TheVariants.{Event as EventLine};
 ghost use Rattle.dg_serve.specs.Traces.{lines_text, head_lines, IsEventLine};
 
 use crate::stop::Stop;
@@ -54,12 +54,12 @@ pub(crate) fn write_event(line: &Line, text: &mut Vec<u8>) -> Result<(), AllocEr
 }
 
 /// The event that a line tells, which is the line of one.
-pub(crate) fn told_event(line: &Line) -> &Event
+pub(crate) fn line_event(line: &Line) -> &Event
     requires { IsEventLine line.now }
-    ensures { line.now ≡ Happens result.now }
+    ensures { line.now ≡ EventLine result.now }
 {
     match line {
-        Line::Happens(event) => event,
+        Line::Event(event) => event,
         _ => unreachable!(),
     }
 }

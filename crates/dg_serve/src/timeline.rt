@@ -1,34 +1,34 @@
-//! When events happen, and the words that they draw.
+//! When events are applied, and what they draw.
 ghost use Rattle.std.specs.Prelude.{◌≡◌, ◌+◌, ◌-◌, ◌^◌, ◌<◌, ◌≤◌, min};
 ghost use Rattle.rand_pcg.specs.Pcg.{pcg32};
 ghost use Rattle.dg_base.specs.Clock.{Answered};
-ghost use Rattle.dg_seed.specs.Words.{first_generator, generator_of};
+ghost use Rattle.dg_seed.specs.Draws.{first_generator, generator_of};
 ghost use Rattle.dg_serve.specs.Services.{later};
 
 use dg_base::Clock;
-use dg_seed::Words;
+use dg_seed::Draws;
 
-/// The moment of the last event, what the clock answered last, and the words to come.
+/// The moment of the last event, what the clock answered last, and the draws to come.
 #[derive(Drop)]
 pub(crate) struct Timeline {
     /// In milliseconds since the service began, as its events tell it.
     pub(crate) moment: u64,
     pub(crate) reading: u64,
-    pub(crate) words: Words,
+    pub(crate) draws: Draws,
 }
 
-/// What an event takes of time and chance: the milliseconds since the event before, and a word.
+/// What an event takes of time and chance: the milliseconds since the event before, and a draw.
 #[derive(Clone, Copy, Debug, PartialEq, Eq)]
-pub(crate) struct Draw {
+pub(crate) struct Timing {
     pub(crate) dt: u32,
-    pub(crate) word: u32,
+    pub(crate) draw: u32,
 }
 
 impl Timeline {
-    /// Reads the clock for the origin. The words are those of a seed.
+    /// Reads the clock for the origin. The draws are those of a seed.
     pub(crate) fn begin<C: Clock>(clock: &mut C, seed: u32) -> Timeline
         ensures moment { result.moment ≡ 0 }
-        ensures words { generator_of result.words ≡ first_generator seed }
+        ensures draws { generator_of result.draws ≡ first_generator seed }
         ensures told { Answered (C.told clock.old) (C.told clock.new) result.reading }
         ensures reached { result.reading ≤ C.reached clock.new }
         ensures rises { C.reached clock.old ≤ C.reached clock.new }
@@ -36,30 +36,30 @@ impl Timeline {
         Timeline {
             moment: 0,
             reading: clock.read(),
-            words: Words::of_seed(seed),
+            draws: Draws::of_seed(seed),
         }
     }
 
-    /// Before an event the clock is read and a word is drawn.
-    pub(crate) fn draw<C: Clock>(&mut self, clock: &mut C) -> Draw
+    /// Before an event the clock is read and a draw is taken.
+    pub(crate) fn draw<C: Clock>(&mut self, clock: &mut C) -> Timing
         requires known { self.old.reading ≤ C.reached clock.old }
         requires early { self.old.moment < 2 ^ 60 }
         ensures dt { result.dt ≡ later self.old.reading self.new.reading }
         ensures rises { self.old.reading ≤ self.new.reading }
         ensures told { Answered (C.told clock.old) (C.told clock.new) self.new.reading }
-        ensures word { (result.word, generator_of self.new.words) ≡ pcg32 (generator_of self.old.words) }
+        ensures draw { (result.draw, generator_of self.new.draws) ≡ pcg32 (generator_of self.old.draws) }
         ensures moment { self.new.moment ≡ self.old.moment + result.dt }
         ensures reached { self.new.reading ≤ C.reached clock.new }
         ensures goes_on { C.reached clock.old ≤ C.reached clock.new }
         ensures short { result.dt < 2 ^ 32 }
-        ensures drawn { result.word < 2 ^ 32 }
+        ensures drawn { result.draw < 2 ^ 32 }
     {
         let reading = clock.read();
         let dt = as_event_time(reading - self.reading);
         self.reading = reading;
         self.moment += u64::from(dt);
-        let word = self.words.next();
-        Draw { dt, word }
+        let draw = self.draws.next();
+        Timing { dt, draw }
     }
 }
 

@@ -14,7 +14,7 @@ use Rattle.dg_tool.specs.declared.stop.Stop.{Stop}
 use Rattle.dg_tool.specs.declared.stop.Stop.TheVariants as stops
 use Rattle.dg_tool.specs.Endings.{Ending, Ends, NoBoards, Over, FaultAt, Unfit, NoVolume, Refuses, Breaks, LacksImage, by_store, StandsAs}
 use Rattle.dg_tool.specs.Done.{verb_rule, LeftBy, CommandLeaves, NeedsBoard, Finds}
-use Rattle.dg_tool.specs.Stops.{told_status, told_text, stop_status, stop_text, Makes, Comes, IsStopped, StopsThere, MountFails, OfBoard, FailsOn, ReadsOn, OnStore, OnBoard}
+use Rattle.dg_tool.specs.Stops.{result_status, result_text, stop_status, stop_text, Makes, Comes, IsStopped, StopsThere, MountFails, OfBoard, FailsOn, ReadsOn, OnStore, OnBoard}
 
 pub from_err : {T E : Type 0} (r : Result T E) (x : E) → IsErrAnd r (λ e. e ≡ x) → r ≡ Err x
 from_err (Ok y) x h = absurd h
@@ -22,7 +22,7 @@ from_err (Err e) x h = ap Err h
 
 -- ---- what it comes to
 
-pub made_comes : {T : Type 0} (view : T → List ℕ) (r : Result T Stop) (text : List ℕ) (acted may : Device → Device → Type 0) (a b : Device) → Makes view r text → acted a b → OnStore (told_status r) (told_text view r) (Ends text) acted may a b
+pub made_comes : {T : Type 0} (view : T → List ℕ) (r : Result T Stop) (text : List ℕ) (acted may : Device → Device → Type 0) (a b : Device) → Makes view r text → acted a b → OnStore (result_status r) (result_text view r) (Ends text) acted may a b
 made_comes view (Ok x) text acted may a b m did = record { comes = record { caused = refl; wrote = m; board = did }; of_board = tt; stops = tt }
 made_comes view (Err stops.Memory) text acted may a b m did = record { comes = record { caused = tt; wrote = refl; board = inr did }; of_board = tt; stops = tt }
 made_comes view (Err stops.ReadFault) text acted may a b m did = absurd m
@@ -108,11 +108,11 @@ leaves_looked statuses.NoBoard ending acted acted2 may may2 a m b needs l f g h 
 leaves_looked statuses.NoImage ending acted acted2 may may2 a m b needs l f g h = left_looked ending acted acted2 a m b needs l f h
 
 pub looked_store : {T : Type 0} (view : T → List ℕ) (r : Result T Stop) (ending : Ending) (acted acted2 may may2 : Device → Device → Type 0) (a m b : Device)
-    → NeedsBoard ending → Looked a m → (acted m b → acted2 a b) → (may m b → may2 a b) → OnStore (told_status r) (told_text view r) ending acted may m b → OnStore (told_status r) (told_text view r) ending acted2 may2 a b
+    → NeedsBoard ending → Looked a m → (acted m b → acted2 a b) → (may m b → may2 a b) → OnStore (result_status r) (result_text view r) ending acted may m b → OnStore (result_status r) (result_text view r) ending acted2 may2 a b
 looked_store view r ending acted acted2 may may2 a m b needs l f g h = record {
-  comes = record { caused = h.comes.caused; wrote = h.comes.wrote; board = leaves_looked (told_status r) ending acted acted2 may may2 a m b needs l f g h.comes.board };
+  comes = record { caused = h.comes.caused; wrote = h.comes.wrote; board = leaves_looked (result_status r) ending acted acted2 may may2 a m b needs l f g h.comes.board };
   of_board = h.of_board;
-  stops = stops_there (told_status r) a m b l h.stops;
+  stops = stops_there (result_status r) a m b l h.stops;
 }
 
 -- ---- reads
@@ -184,15 +184,15 @@ finds statuses.NoBoard P p = tt
 finds statuses.NoImage P p = p
 
 pub on_volume : {T : Type 0} (view : T → List ℕ) (r : Result T Stop) (by : Store → Ending) (acted may : Option Store → Device → Device → Type 0) (a b : Device)
-    → ((s : Store) → Stands a.image s → OnStore (told_status r) (told_text view r) (by s) (acted (Some s)) (may (Some s)) a b) → IsVolume a.image → OnBoard (told_status r) (verb_rule (StandsAs a.image) (λ chip. by_store chip by) acted may) (told_text view r) a b
+    → ((s : Store) → Stands a.image s → OnStore (result_status r) (result_text view r) (by s) (acted (Some s)) (may (Some s)) a b) → IsVolume a.image → OnBoard (result_status r) (verb_rule (StandsAs a.image) (λ chip. by_store chip by) acted may) (result_text view r) a b
 on_volume view r by acted may a b h v = record {
   rules = rules;
-  found = finds (told_status r) ((chip : Option Store) × StandsAs a.image chip) (Some v.0, v.1);
+  found = finds (result_status r) ((chip : Option Store) × StandsAs a.image chip) (Some v.0, v.1);
   of_board = (h v.0 v.1).of_board;
   stops = (h v.0 v.1).stops;
 }
   where
-    rules : (chip : Option Store) → StandsAs a.image chip → Comes (told_status r) (by_store chip by) (acted chip) (may chip) (told_text view r) a b
+    rules : (chip : Option Store) → StandsAs a.image chip → Comes (result_status r) (by_store chip by) (acted chip) (may chip) (result_text view r) a b
     rules None none = absurd (none v.0 v.1)
     rules (Some s) stands = (h s stands).comes
 
@@ -222,6 +222,6 @@ unmounted (stops.Refused cause) by acted may a b needs held h = absurd h
 unmounted stops.NoImage by acted may a b needs held h = absurd h
 
 -- a verb that only reads, and came to its text
-pub reads_done : {T : Type 0} (view : T → List ℕ) (r : Result T Stop) (text : List ℕ) (acted : Device → Device → Type 0) (a b : Device) → (Looked a b → acted a b) → ReadsOn r a b → IfOk r (λ t. view t ≡ text) → OnStore (told_status r) (told_text view r) (Ends text) acted ReadStopped a b
+pub reads_done : {T : Type 0} (view : T → List ℕ) (r : Result T Stop) (text : List ℕ) (acted : Device → Device → Type 0) (a b : Device) → (Looked a b → acted a b) → ReadsOn r a b → IfOk r (λ t. view t ≡ text) → OnStore (result_status r) (result_text view r) (Ends text) acted ReadStopped a b
 reads_done view (Ok x) text acted a b f h is = record { comes = record { caused = refl; wrote = is; board = f h }; of_board = tt; stops = tt }
 reads_done view (Err e) text acted a b f h is = reads_fail view e (Ends text) acted a b tt h

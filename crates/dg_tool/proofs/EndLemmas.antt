@@ -10,7 +10,7 @@ use Rattle.dg_tool.specs.declared.stop.Stop.{Stop}
 use Rattle.dg_tool.specs.declared.stop.Stop.TheVariants as stops
 use Rattle.dg_tool.specs.Endings.{Ending, text_of}
 use Rattle.dg_tool.specs.Done.{VerbRule, ToolOutside, LeftBy, CommandLeaves, Wrote, FirstStopped, Faulted, ToolDone, InputRead, ReadBy, ReadEnough}
-use Rattle.dg_tool.specs.Stops.{stop_text, told_status, told_text, OnBoards, WritesLast, ClosesWith, InputFails}
+use Rattle.dg_tool.specs.Stops.{stop_text, result_status, result_text, OnBoards, WritesLast, ClosesWith, InputFails}
 
 -- ---- a verb that comes to its last line
 
@@ -192,8 +192,8 @@ module _ (rule : VerbRule) (reads_failed : Type 0) (before after : ToolOutside) 
   }
 
   -- a verb is ended that came to a text, or was stopped
-  pub ended : {T : Type 0} (view : T → List ℕ) (r : Result T Stop) (result : Status) → (told_status r ≡ statuses.ReadFault → reads_failed) → OnBoards (told_status r) rule (told_text view r) before.boards after.boards
-      → ClosesWith result (told_status r) (told_text view r) before.written after.written (Rose before.writes after.writes) (after.writes ≡ before.writes) → Ended result
+  pub ended : {T : Type 0} (view : T → List ℕ) (r : Result T Stop) (result : Status) → (result_status r ≡ statuses.ReadFault → reads_failed) → OnBoards (result_status r) rule (result_text view r) before.boards after.boards
+      → ClosesWith result (result_status r) (result_text view r) before.written after.written (Rose before.writes after.writes) (after.writes ≡ before.writes) → Ended result
   ended view (Ok x) result failed h closes = ended_line result statuses.Done (view x) tt h closes
   ended view (Err stops.Memory) result failed h closes = subst Ended (sym closes.0) (ended_memory [] h closes.1 closes.2)
   ended view (Err stops.ReadFault) result failed h closes = subst Ended (sym closes.0) (ended_read [] (failed refl) h closes.1 closes.2)
@@ -239,7 +239,7 @@ module _ (boards : ℕ) (input : List ℕ) (left_before left_after : Option (Lis
       closes
 
   -- the same of a verb that is ended
-  pub read_ended : {T : Type 0} (view : T → List ℕ) (r : Result T Stop) (result : Status) (before after : Option (List ℕ)) (failed calm : Type 0) → Read (told_status r) → ClosesWith result (told_status r) (told_text view r) before after failed calm → Read result
+  pub read_ended : {T : Type 0} (view : T → List ℕ) (r : Result T Stop) (result : Status) (before after : Option (List ℕ)) (failed calm : Type 0) → Read (result_status r) → ClosesWith result (result_status r) (result_text view r) before after failed calm → Read result
   read_ended view (Ok x) result before after failed calm h closes = read_line result statuses.Done (view x) before after failed calm tt h closes
   read_ended view (Err stops.Memory) result before after failed calm h closes = subst Read (sym closes.0) h
   read_ended view (Err stops.ReadFault) result before after failed calm h closes = subst Read (sym closes.0) h

@@ -18,9 +18,9 @@ use Rattle.dg_volume.specs.Start.{length_in}
 use Rattle.dg_tool.specs.Texts.{numbers, line}
 use Rattle.dg_tool.specs.Pages.{name_in, first_page, kept_bytes}
 use Rattle.dg_tool.specs.Endings.{Ending, Ends, Refuses}
-use Rattle.dg_tool.specs.Verbs.{dump_by, name_by, kept_line, golden_told}
+use Rattle.dg_tool.specs.Verbs.{dump_by, name_by, kept_line, golden_text}
 use Rattle.dg_tool.specs.Done.{NeedsBoard}
-use Rattle.dg_tool.specs.Stops.{or_memory, ReadsOn, OnStore, told_status, told_text}
+use Rattle.dg_tool.specs.Stops.{or_memory, ReadsOn, OnStore, result_status, result_text}
 
 -- ---- an image
 
@@ -100,7 +100,7 @@ dump_needs (Some h) = test_needs (length h.complete == h.pages) (Ends (written_f
 
 module _ {T : Type 0} (view : T → List ℕ) (r : Result T Stop) (a b : Device) where
   abbrev pub Dumped : Ending → Type 0
-  Dumped ending = OnStore (told_status r) (told_text view r) ending Looked ReadStopped a b
+  Dumped ending = OnStore (result_status r) (result_text view r) ending Looked ReadStopped a b
 
   pub dumped_whole : (h : Held) → length h.complete ≡ h.pages → Dumped (Ends (written_file (kept_bytes h))) → Dumped (dump_by (Some h))
   dumped_whole h e p = subst Dumped (sym (dump_whole_is h e)) p
@@ -142,6 +142,6 @@ name_some (p ∷ ps) e = refl
 pub line_at : (i : ℕ) (o p : Option Held) (before now : List ℕ) → o ≡ p → now ≡ before ++ kept_line i p → now ≡ before ++ kept_line i o
 line_at i o p before now e h = h ∙ ap (λ (x : Option Held). before ++ kept_line i x) (sym e)
 
-pub golden_line : (o : Option Held) (h : Held) (name : List ℕ) (size : ℕ) → o ≡ Some h → name ≡ name_in (first_page h) → size ≡ length_in (first_page h) → line (codes "golden " ++ name ++ numbers (size ∷ [])) ≡ golden_told o
+pub golden_line : (o : Option Held) (h : Held) (name : List ℕ) (size : ℕ) → o ≡ Some h → name ≡ name_in (first_page h) → size ≡ length_in (first_page h) → line (codes "golden " ++ name ++ numbers (size ∷ [])) ≡ golden_text o
 golden_line o h name size e f g =
-    ap (λ (x : List ℕ). line (codes "golden " ++ x ++ numbers (size ∷ []))) f ∙ ap (λ (x : ℕ). line (codes "golden " ++ name_in (first_page h) ++ numbers (x ∷ []))) g ∙ ap golden_told (sym e)
+    ap (λ (x : List ℕ). line (codes "golden " ++ x ++ numbers (size ∷ []))) f ∙ ap (λ (x : ℕ). line (codes "golden " ++ name_in (first_page h) ++ numbers (x ∷ []))) g ∙ ap golden_text (sym e)

@@ -15,37 +15,37 @@ use Rattle.dg_tool.specs.declared.refusal.Refusal.TheVariants as refusals
 use Rattle.dg_tool.specs.declared.stop.Stop.{Stop}
 use Rattle.dg_tool.specs.declared.stop.Stop.TheVariants as stops
 use Rattle.dg_tool.specs.Endings.{Ending, Ends, Refuses, FirstInForm}
-use Rattle.dg_tool.specs.Verbs.{form_told, migrate_by}
+use Rattle.dg_tool.specs.Verbs.{form_text, migrate_by}
 use Rattle.dg_tool.specs.Done.{Migrated, NeedsBoard}
-use Rattle.dg_tool.specs.Stops.{stop_status, Makes, OfBoard, MountFails, OnStore, told_status, told_text, stop_text}
+use Rattle.dg_tool.specs.Stops.{stop_status, Makes, OfBoard, MountFails, OnStore, result_status, result_text, stop_text}
 use Rattle.dg_tool.proofs.ComesLemmas.{made_comes, refused_comes, stopped_comes, halts_stopped}
 use Rattle.dg_tool.proofs.VerbLemmas.{looked_same, went, went_looked}
 
-fine_by : (form : ℕ) (s : Store) → (form ≡ old_form → s.room ≡ 0 → ⊥) → (b : Bool) → ((form == old_form) && (s.room == 0)) ≡ b → migrate_by form s ≡ Ends form_told
+fine_by : (form : ℕ) (s : Store) → (form ≡ old_form → s.room ≡ 0 → ⊥) → (b : Bool) → ((form == old_form) && (s.room == 0)) ≡ b → migrate_by form s ≡ Ends form_text
 fine_by form s fine true e =
     let parts = and_parts (form == old_form) (s.room == 0) e in
     absurd (fine (eqb-true form old_form parts.0) (eqb-true s.room 0 parts.1))
-fine_by form s fine false e = ap (λ (b : Bool). cond b (Refuses (refusals.Worn s.room)) (Ends form_told)) e
+fine_by form s fine false e = ap (λ (b : Bool). cond b (Refuses (refusals.Worn s.room)) (Ends form_text)) e
 
-migrate_fine : (form : ℕ) (s : Store) → (form ≡ old_form → s.room ≡ 0 → ⊥) → migrate_by form s ≡ Ends form_told
+migrate_fine : (form : ℕ) (s : Store) → (form ≡ old_form → s.room ≡ 0 → ⊥) → migrate_by form s ≡ Ends form_text
 migrate_fine form s fine = fine_by form s fine ((form == old_form) && (s.room == 0)) refl
 
 migrate_worn : (form : ℕ) (s : Store) → form ≡ old_form → s.room ≡ 0 → migrate_by form s ≡ Refuses (refusals.Worn 0)
 migrate_worn form s old none =
-    ap (λ (n : ℕ). cond ((n == old_form) && (s.room == 0)) (Refuses (refusals.Worn s.room)) (Ends form_told)) old
-    ∙ ap (λ (n : ℕ). cond (n == 0) (Refuses (refusals.Worn n)) (Ends form_told)) none
+    ap (λ (n : ℕ). cond ((n == old_form) && (s.room == 0)) (Refuses (refusals.Worn s.room)) (Ends form_text)) old
+    ∙ ap (λ (n : ℕ). cond (n == 0) (Refuses (refusals.Worn n)) (Ends form_text)) none
 
 pub migrate_needs : (form : ℕ) (s : Store) → NeedsBoard (migrate_by form s)
 migrate_needs form s = cond_both ((form == old_form) && (s.room == 0)) _ _ NeedsBoard (λ _. tt) (λ _. tt)
 
 module _ {T : Type 0} (view : T → List ℕ) (form : ℕ) (s : Store) (a b : Device) where
   abbrev pub MigrateDone : Result T Stop → Type 0
-  MigrateDone r = OnStore (told_status r) (told_text view r) (migrate_by form s) (Migrated form s) (Stops (migrate_trail form s)) a b
+  MigrateDone r = OnStore (result_status r) (result_text view r) (migrate_by form s) (Migrated form s) (Stops (migrate_trail form s)) a b
 
-  pub migrate_made : (r : Result T Stop) (v : Volume) → (form ≡ old_form → s.room ≡ 0 → ⊥) → Makes view r form_told → Acted (migrate_trail form s) a b v → HasForm b.image new_form → MigrateDone r
+  pub migrate_made : (r : Result T Stop) (v : Volume) → (form ≡ old_form → s.room ≡ 0 → ⊥) → Makes view r form_text → Acted (migrate_trail form s) a b v → HasForm b.image new_form → MigrateDone r
   migrate_made r v fine makes acted written =
-      subst (λ (e : Ending). OnStore (told_status r) (told_text view r) e (Migrated form s) (Stops (migrate_trail form s)) a b) (sym (migrate_fine form s fine))
-      (made_comes view r form_told (Migrated form s) (Stops (migrate_trail form s)) a b makes (record { went = went (migrate_trail form s) a b v acted; written = written }))
+      subst (λ (e : Ending). OnStore (result_status r) (result_text view r) e (Migrated form s) (Stops (migrate_trail form s)) a b) (sym (migrate_fine form s fine))
+      (made_comes view r form_text (Migrated form s) (Stops (migrate_trail form s)) a b makes (record { went = went (migrate_trail form s) a b v acted; written = written }))
 
   pub migrate_refused : form ≡ old_form → s.room ≡ 0 → b ≡ a → (room : ℕ) → room ≡ 0 → MigrateDone (Err (stops.Refused (refusals.Worn room)))
   migrate_refused old none same room zero =
@@ -77,5 +77,5 @@ fails_on_board (stops.Refused cause) a b h = tt
 fails_on_board stops.NoImage a b h = tt
 
 -- a form is the other by its number
-pub in_one_form : {T : Type 0} (view : T → List ℕ) (r : Result T Stop) (m n : ℕ) (s : Store) (a b : Device) → m ≡ n → OnStore (told_status r) (told_text view r) (migrate_by m s) (Migrated m s) (Stops (migrate_trail m s)) a b → OnStore (told_status r) (told_text view r) (migrate_by n s) (Migrated n s) (Stops (migrate_trail n s)) a b
-in_one_form view r m n s a b e h = subst (λ (k : ℕ). OnStore (told_status r) (told_text view r) (migrate_by k s) (Migrated k s) (Stops (migrate_trail k s)) a b) e h
+pub in_one_form : {T : Type 0} (view : T → List ℕ) (r : Result T Stop) (m n : ℕ) (s : Store) (a b : Device) → m ≡ n → OnStore (result_status r) (result_text view r) (migrate_by m s) (Migrated m s) (Stops (migrate_trail m s)) a b → OnStore (result_status r) (result_text view r) (migrate_by n s) (Migrated n s) (Stops (migrate_trail n s)) a b
+in_one_form view r m n s a b e h = subst (λ (k : ℕ). OnStore (result_status r) (result_text view r) (migrate_by k s) (Migrated k s) (Stops (migrate_trail k s)) a b) e h

@@ -33,10 +33,10 @@ use Rattle.dg_tool.specs.declared.stop.Stop.{Stop}
 use Rattle.dg_tool.specs.declared.stop.Stop.TheVariants as stops
 use Rattle.dg_tool.specs.Texts.{numbers, line}
 use Rattle.dg_tool.specs.Endings.{Ending, Ends, Unfit, NoVolume, by_store, StandsAs}
-use Rattle.dg_tool.specs.Verbs.{room_told, format_sized, order_told, order_by, order_cause, have_told, inject_ending_by, inject_cause, inject_into, start_told, power_boot, boot_by}
+use Rattle.dg_tool.specs.Verbs.{room_text, format_sized, order_text, order_by, order_cause, have_text, inject_ending_by, inject_cause, inject_into, start_text, power_boot, boot_by}
 use Rattle.dg_tool.specs.Started.{TellsStarted}
 use Rattle.dg_tool.specs.Done.{verb_rule, Went, StopsOn, Booted, BootedOn, NeedsBoard, NeedsInput}
-use Rattle.dg_tool.specs.Stops.{or_memory, told_status, told_text, Makes, Comes, IsStopped, OnStore, OnBoard, stop_status, stop_text}
+use Rattle.dg_tool.specs.Stops.{or_memory, result_status, result_text, Makes, Comes, IsStopped, OnStore, OnBoard, stop_status, stop_text}
 use Rattle.dg_tool.proofs.ComesLemmas.{made_comes, refused_comes, stopped_comes, image_comes, halts_stopped, finds}
 
 -- ---- answers
@@ -77,7 +77,7 @@ unfit_comes view cause acted may a b e = record { comes = record { caused = refl
 sized_empty : (used : ℕ) (golden : List ℕ) → length golden ≡ 0 → format_sized used golden ≡ Unfit refusals.Empty
 sized_empty used golden e =
     let test : (length golden == 0) ≡ true = grind (arith, nat_tests) in
-    ap (λ (b : Bool). cond b (Unfit refusals.Empty) (cond (nat_lt most_bytes (length golden)) (Unfit (refusals.TooLarge (length golden))) (Ends (room_told (most_room - used))))) test
+    ap (λ (b : Bool). cond b (Unfit refusals.Empty) (cond (nat_lt most_bytes (length golden)) (Unfit (refusals.TooLarge (length golden))) (Ends (room_text (most_room - used))))) test
 
 some_test : (n : ℕ) → (n ≡ 0 → ⊥) → (n == 0) ≡ false
 some_test n h = grind (arith, nat_tests)
@@ -88,25 +88,25 @@ large_test most n h = grind (arith, nat_tests)
 fits_test : (most n : ℕ) → (most < n → ⊥) → nat_lt most n ≡ false
 fits_test most n h = grind (arith, nat_tests)
 
-sized_some : (used : ℕ) (golden : List ℕ) → (length golden ≡ 0 → ⊥) → format_sized used golden ≡ cond (nat_lt most_bytes (length golden)) (Unfit (refusals.TooLarge (length golden))) (Ends (room_told (most_room - used)))
+sized_some : (used : ℕ) (golden : List ℕ) → (length golden ≡ 0 → ⊥) → format_sized used golden ≡ cond (nat_lt most_bytes (length golden)) (Unfit (refusals.TooLarge (length golden))) (Ends (room_text (most_room - used)))
 sized_some used golden some =
-    ap (λ (b : Bool). cond b (Unfit refusals.Empty) (cond (nat_lt most_bytes (length golden)) (Unfit (refusals.TooLarge (length golden))) (Ends (room_told (most_room - used))))) (some_test (length golden) some)
+    ap (λ (b : Bool). cond b (Unfit refusals.Empty) (cond (nat_lt most_bytes (length golden)) (Unfit (refusals.TooLarge (length golden))) (Ends (room_text (most_room - used))))) (some_test (length golden) some)
 
 sized_large : (used : ℕ) (golden : List ℕ) → (length golden ≡ 0 → ⊥) → most_bytes < length golden → format_sized used golden ≡ Unfit (refusals.TooLarge (length golden))
 sized_large used golden some large =
-    sized_some used golden some ∙ ap (λ (b : Bool). cond b (Unfit (refusals.TooLarge (length golden))) (Ends (room_told (most_room - used)))) (large_test most_bytes (length golden) large)
+    sized_some used golden some ∙ ap (λ (b : Bool). cond b (Unfit (refusals.TooLarge (length golden))) (Ends (room_text (most_room - used)))) (large_test most_bytes (length golden) large)
 
-pub sized_fits : (used : ℕ) (golden : List ℕ) → (length golden ≡ 0 → ⊥) → (most_bytes < length golden → ⊥) → format_sized used golden ≡ Ends (room_told (most_room - used))
+pub sized_fits : (used : ℕ) (golden : List ℕ) → (length golden ≡ 0 → ⊥) → (most_bytes < length golden → ⊥) → format_sized used golden ≡ Ends (room_text (most_room - used))
 sized_fits used golden some fits =
-    sized_some used golden some ∙ ap (λ (b : Bool). cond b (Unfit (refusals.TooLarge (length golden))) (Ends (room_told (most_room - used)))) (fits_test most_bytes (length golden) fits)
+    sized_some used golden some ∙ ap (λ (b : Bool). cond b (Unfit (refusals.TooLarge (length golden))) (Ends (room_text (most_room - used)))) (fits_test most_bytes (length golden) fits)
 
 -- a verb that any board may be given to
-pub any_board : {T : Type 0} (view : T → List ℕ) (r : Result T Stop) (ending : Ending) (acted may : Device → Device → Type 0) (a b : Device) → OnStore (told_status r) (told_text view r) ending acted may a b → OnBoard (told_status r) (verb_rule (λ chip. Unit {0}) (λ chip. ending) (λ chip. acted) (λ chip. may)) (told_text view r) a b
-any_board view r ending acted may a b h = record { rules = λ chip _. h.comes; found = finds (told_status r) ((chip : Option Store) × Unit {0}) (None, tt); of_board = h.of_board; stops = h.stops }
+pub any_board : {T : Type 0} (view : T → List ℕ) (r : Result T Stop) (ending : Ending) (acted may : Device → Device → Type 0) (a b : Device) → OnStore (result_status r) (result_text view r) ending acted may a b → OnBoard (result_status r) (verb_rule (λ chip. Unit {0}) (λ chip. ending) (λ chip. acted) (λ chip. may)) (result_text view r) a b
+any_board view r ending acted may a b h = record { rules = λ chip _. h.comes; found = finds (result_status r) ((chip : Option Store) × Unit {0}) (None, tt); of_board = h.of_board; stops = h.stops }
 
 module _ {T : Type 0} (view : T → List ℕ) (used : ℕ) (golden : List ℕ) (acted may : Device → Device → Type 0) (a b : Device) where
-  pub formatted : (r : Result T Stop) → (length golden ≡ 0 → ⊥) → (most_bytes < length golden → ⊥) → Makes view r (room_told (most_room - used)) → acted a b → OnStore (told_status r) (told_text view r) (format_sized used golden) acted may a b
-  formatted r some fits makes did = subst (λ (e : Ending). OnStore (told_status r) (told_text view r) e acted may a b) (sym (sized_fits used golden some fits)) (made_comes view r (room_told (most_room - used)) acted may a b makes did)
+  pub formatted : (r : Result T Stop) → (length golden ≡ 0 → ⊥) → (most_bytes < length golden → ⊥) → Makes view r (room_text (most_room - used)) → acted a b → OnStore (result_status r) (result_text view r) (format_sized used golden) acted may a b
+  formatted r some fits makes did = subst (λ (e : Ending). OnStore (result_status r) (result_text view r) e acted may a b) (sym (sized_fits used golden some fits)) (made_comes view r (room_text (most_room - used)) acted may a b makes did)
 
   pub format_stopped : (length golden ≡ 0 → ⊥) → (most_bytes < length golden → ⊥) → may a b → IsStopped a b → OnStore (stop_status stops.FlashFault) (stop_text stops.FlashFault) (format_sized used golden) acted may a b
   format_stopped some fits held stopped = stopped_comes view (format_sized used golden) acted may a b (subst NeedsBoard (sym (sized_fits used golden some fits)) tt) held stopped
@@ -137,19 +137,19 @@ trail_unmounted trail a b begins (Some s) stands h = read_stops s (trail s) a b 
 
 module _ {T : Type 0} (view : T → List ℕ) (s : Store) (o : Order) (a b : Device) where
   abbrev pub OrderDone : Result T Stop → Type 0
-  OrderDone r = OnStore (told_status r) (told_text view r) (order_by o (order_refusal s o)) (Went (order_trail s o)) (Stops (order_trail s o)) a b
+  OrderDone r = OnStore (result_status r) (result_text view r) (order_by o (order_refusal s o)) (Went (order_trail s o)) (Stops (order_trail s o)) a b
 
-  by_refusal : (r : Result T Stop) (refusal : Option OrderFault) → order_refusal s o ≡ refusal → OnStore (told_status r) (told_text view r) (order_by o refusal) (Went (order_trail s o)) (Stops (order_trail s o)) a b → OrderDone r
-  by_refusal r refusal e h = subst (λ (x : Option OrderFault). OnStore (told_status r) (told_text view r) (order_by o x) (Went (order_trail s o)) (Stops (order_trail s o)) a b) (sym e) h
+  by_refusal : (r : Result T Stop) (refusal : Option OrderFault) → order_refusal s o ≡ refusal → OnStore (result_status r) (result_text view r) (order_by o refusal) (Went (order_trail s o)) (Stops (order_trail s o)) a b → OrderDone r
+  by_refusal r refusal e h = subst (λ (x : Option OrderFault). OnStore (result_status r) (result_text view r) (order_by o x) (Went (order_trail s o)) (Stops (order_trail s o)) a b) (sym e) h
 
-  pub order_kept : (r : Result T Stop) (v : Volume) → order_refusal s o ≡ None → Makes view r (order_told o) → Acted (order_trail s o) a b v → OrderDone r
-  order_kept r v none makes acted = by_refusal r None none (made_comes view r (order_told o) (Went (order_trail s o)) (Stops (order_trail s o)) a b makes (went (order_trail s o) a b v acted))
+  pub order_kept : (r : Result T Stop) (v : Volume) → order_refusal s o ≡ None → Makes view r (order_text o) → Acted (order_trail s o) a b v → OrderDone r
+  order_kept r v none makes acted = by_refusal r None none (made_comes view r (order_text o) (Went (order_trail s o)) (Stops (order_trail s o)) a b makes (went (order_trail s o) a b v acted))
 
   pub order_refused : (fault : OrderFault) → order_refusal s o ≡ Some fault → b ≡ a → OrderDone (Err (stops.Refused (order_cause fault)))
   order_refused fault e same = by_refusal (Err (stops.Refused (order_cause fault))) (Some fault) e (refused_comes view (order_cause fault) (Went (order_trail s o)) (Stops (order_trail s o)) a b (looked_same a b same))
 
   pub order_stopped : order_refusal s o ≡ None → Stops (order_trail s o) a b → OrderDone (Err stops.FlashFault)
-  order_stopped none h = by_refusal (Err stops.FlashFault) None none (stopped_comes view (Ends (order_told o)) (Went (order_trail s o)) (Stops (order_trail s o)) a b tt h (halts_stopped h.halts))
+  order_stopped none h = by_refusal (Err stops.FlashFault) None none (stopped_comes view (Ends (order_text o)) (Went (order_trail s o)) (Stops (order_trail s o)) a b tt h (halts_stopped h.halts))
 
 -- it was refused, or stopped
 pub order_fails : {T : Type 0} (U : Type 0) (view : T → List ℕ) (s : Store) (o : Order) (a b : Device) (fault : OrderFault) (stop : Stop) → UnlessOrderRefused {T = U} (Err fault) (order_refusal s o) → (fault ≢ order_fault.Stopped → order_refusal s o ≡ Some fault)
@@ -167,13 +167,13 @@ order_needs o (Some fault) = tt
 
 module _ {T : Type 0} (view : T → List ℕ) (s : Store) (row : Row) (a b : Device) where
   abbrev pub InjectDone : Result T Stop → Type 0
-  InjectDone r = OnStore (told_status r) (told_text view r) (inject_ending_by row (inject_refusal s row)) (Went (inject_trail s row)) (Stops (inject_trail s row)) a b
+  InjectDone r = OnStore (result_status r) (result_text view r) (inject_ending_by row (inject_refusal s row)) (Went (inject_trail s row)) (Stops (inject_trail s row)) a b
 
-  by_fault : (r : Result T Stop) (refusal : Option InjectFault) → inject_refusal s row ≡ refusal → OnStore (told_status r) (told_text view r) (inject_ending_by row refusal) (Went (inject_trail s row)) (Stops (inject_trail s row)) a b → InjectDone r
-  by_fault r refusal e h = subst (λ (x : Option InjectFault). OnStore (told_status r) (told_text view r) (inject_ending_by row x) (Went (inject_trail s row)) (Stops (inject_trail s row)) a b) (sym e) h
+  by_fault : (r : Result T Stop) (refusal : Option InjectFault) → inject_refusal s row ≡ refusal → OnStore (result_status r) (result_text view r) (inject_ending_by row refusal) (Went (inject_trail s row)) (Stops (inject_trail s row)) a b → InjectDone r
+  by_fault r refusal e h = subst (λ (x : Option InjectFault). OnStore (result_status r) (result_text view r) (inject_ending_by row x) (Went (inject_trail s row)) (Stops (inject_trail s row)) a b) (sym e) h
 
-  pub inject_kept : (r : Result T Stop) (v : Volume) → inject_refusal s row ≡ None → Makes view r (have_told row) → Acted (inject_trail s row) a b v → InjectDone r
-  inject_kept r v none makes acted = by_fault r None none (made_comes view r (have_told row) (Went (inject_trail s row)) (Stops (inject_trail s row)) a b makes (went (inject_trail s row) a b v acted))
+  pub inject_kept : (r : Result T Stop) (v : Volume) → inject_refusal s row ≡ None → Makes view r (have_text row) → Acted (inject_trail s row) a b v → InjectDone r
+  inject_kept r v none makes acted = by_fault r None none (made_comes view r (have_text row) (Went (inject_trail s row)) (Stops (inject_trail s row)) a b makes (went (inject_trail s row) a b v acted))
 
   pub inject_refused : (fault : InjectFault) → inject_refusal s row ≡ Some fault → Looked a b → InjectDone (Err (stops.Refused (inject_cause row fault)))
   inject_refused fault e looked = by_fault (Err (stops.Refused (inject_cause row fault))) (Some fault) e (refused_comes view (inject_cause row fault) (Went (inject_trail s row)) (Stops (inject_trail s row)) a b looked)
@@ -197,11 +197,11 @@ booted t a b told h = record {
   memory = subst (λ (x : Option Runs). IfSome x (λ r. program b.image (length r.pages) ≡ r.pages)) (sym h.chosen) (subst (λ (n : ℕ). program b.image n ≡ h.runs.pages) h.pages h.memory);
 }
 
-pub boot_started : {T : Type 0} (view : T → List ℕ) (r : Result T Stop) (s : Store) (a b : Device) (told : Started) → ((x : Runs) → TellsStarted told x → Makes view r (start_told x)) → Starts (power_boot s) a b told
-    → OnStore (told_status r) (told_text view r) (boot_by (power_boot s).runs) (Booted (power_boot s)) (Stops (power_boot s).trail) a b
+pub boot_started : {T : Type 0} (view : T → List ℕ) (r : Result T Stop) (s : Store) (a b : Device) (told : Started) → ((x : Runs) → TellsStarted told x → Makes view r (start_text x)) → Starts (power_boot s) a b told
+    → OnStore (result_status r) (result_text view r) (boot_by (power_boot s).runs) (Booted (power_boot s)) (Stops (power_boot s).trail) a b
 boot_started view r s a b told makes h =
-    subst (λ (x : Option Runs). OnStore (told_status r) (told_text view r) (boot_by x) (Booted (power_boot s)) (Stops (power_boot s).trail) a b) (sym h.chosen)
-    (made_comes view r (start_told h.runs) (Booted (power_boot s)) (Stops (power_boot s).trail) a b (makes h.runs (record { image = h.image; version = h.version; length = h.length; crc = h.crc })) (booted (power_boot s) a b told h))
+    subst (λ (x : Option Runs). OnStore (result_status r) (result_text view r) (boot_by x) (Booted (power_boot s)) (Stops (power_boot s).trail) a b) (sym h.chosen)
+    (made_comes view r (start_text h.runs) (Booted (power_boot s)) (Stops (power_boot s).trail) a b (makes h.runs (record { image = h.image; version = h.version; length = h.length; crc = h.crc })) (booted (power_boot s) a b told h))
 
 pub boot_lacks : {T : Type 0} (view : T → List ℕ) (s : Store) (a b : Device) → Lacks (power_boot s) a b → OnStore (stop_status stops.NoImage) (stop_text stops.NoImage) (boot_by (power_boot s).runs) (Booted (power_boot s)) (Stops (power_boot s).trail) a b
 boot_lacks {T} view s a b h =
@@ -240,7 +240,7 @@ two_needs false true x y z p q r = q
 two_needs false false x y z p q r = r
 
 pub sized_needs : (used : ℕ) (golden : List ℕ) → NeedsInput (format_sized used golden)
-sized_needs used golden = two_needs (length golden == 0) (nat_lt most_bytes (length golden)) (Unfit refusals.Empty) (Unfit (refusals.TooLarge (length golden))) (Ends (room_told (most_room - used))) tt tt tt
+sized_needs used golden = two_needs (length golden == 0) (nat_lt most_bytes (length golden)) (Unfit refusals.Empty) (Unfit (refusals.TooLarge (length golden))) (Ends (room_text (most_room - used))) tt tt tt
 
 by_needs : (row : Row) (refusal : Option InjectFault) → NeedsInput (inject_ending_by row refusal)
 by_needs row None = tt
@@ -257,7 +257,7 @@ volume_before a m v looked h = (h.0, subst (λ (x : List ℕ). Stands x h.0) loo
 
 -- ---- an injection into a board that is mounted
 
-have_same : (row : Row) (pages : ℕ) → pages ≡ pages_for (length row.bytes) → line (codes "have" ++ numbers (0 ∷ row.image ∷ row.version ∷ pages ∷ [])) ≡ have_told row
+have_same : (row : Row) (pages : ℕ) → pages ≡ pages_for (length row.bytes) → line (codes "have" ++ numbers (0 ∷ row.image ∷ row.version ∷ pages ∷ [])) ≡ have_text row
 have_same row pages e = ap (λ (n : ℕ). line (codes "have" ++ numbers (0 ∷ row.image ∷ row.version ∷ n ∷ []))) e
 
 pub inject_ok : {T : Type 0} (view : T → List ℕ) (s : Store) (row : Row) (a b : Device) (r : Result T Stop) (pages : ℕ) (v : Volume) → inject_refusal s row ≡ None → pages ≡ pages_for (length row.bytes) → Makes view r (line (codes "have" ++ numbers (0 ∷ row.image ∷ row.version ∷ pages ∷ []))) → Acted (inject_trail s row) a b v → InjectDone view s row a b r

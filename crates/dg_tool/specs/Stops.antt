@@ -37,13 +37,13 @@ stop_text stops.NotAVolume = text_of NoVolume
 stop_text (stops.Refused cause) = text_of (Refuses cause)
 stop_text stops.NoImage = text_of LacksImage
 
-abbrev pub told_status : {T : Type 0} → Result T Stop → Status
-told_status (Ok text) = statuses.Done
-told_status (Err stop) = stop_status stop
+abbrev pub result_status : {T : Type 0} → Result T Stop → Status
+result_status (Ok text) = statuses.Done
+result_status (Err stop) = stop_status stop
 
-abbrev pub told_text : {T : Type 0} → (T → List ℕ) → Result T Stop → List ℕ
-told_text view (Ok text) = view text
-told_text view (Err stop) = stop_text stop
+abbrev pub result_text : {T : Type 0} → (T → List ℕ) → Result T Stop → List ℕ
+result_text view (Ok text) = view text
+result_text view (Err stop) = stop_text stop
 
 -- what was made, unless memory ran out
 abbrev pub or_memory : {T E : Type 0} → Result T E → Result T Stop

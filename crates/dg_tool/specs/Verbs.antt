@@ -11,7 +11,7 @@ use Rattle.dg_volume.specs.Sizes.{images, most_room, old_form, new_form}
 use Rattle.dg_volume.specs.Store.{Store, App, held}
 use Rattle.dg_volume.specs.Start.{Boot, Runs, boot, length_in, runs_length, runs_crc}
 use Rattle.dg_volume.specs.Changes.{inject_refusal, order_refusal}
-use Rattle.dg_volume.specs.declared.volume.StartCause.TheVariants as kind
+use Rattle.dg_volume.specs.declared.volume.StartCause.TheVariants as cause
 use Rattle.dg_volume.specs.declared.volume.InjectFault.{InjectFault}
 use Rattle.dg_volume.specs.declared.volume.InjectFault.TheVariants as inject
 use Rattle.dg_volume.specs.declared.volume.OrderFault.{OrderFault}
@@ -25,14 +25,14 @@ use Rattle.dg_tool.specs.Endings.{Ending, Ends, Unfit, Refuses, LacksImage, by_b
 
 -- ---- format
 
-abbrev pub room_told : ℕ → List ℕ
-room_told room = line (codes "room" ++ numbers (room ∷ []))
+abbrev pub room_text : ℕ → List ℕ
+room_text room = line (codes "room" ++ numbers (room ∷ []))
 
 abbrev pub format_sized : (used : ℕ) → (golden : List ℕ) → Ending
 format_sized used golden =
     if length golden == 0 then Unfit refusals.Empty
     else if nat_lt most_bytes (length golden) then Unfit (refusals.TooLarge (length golden))
-    else Ends (room_told (most_room - used))
+    else Ends (room_text (most_room - used))
 
 -- any board is formatted
 abbrev pub format_ending : (boards used : ℕ) → (input : List ℕ) → Option Store → Ending
@@ -51,11 +51,11 @@ inject_cause row (inject.Worn room) = refusals.Worn room
 inject_cause row inject.Taken = refusals.Taken
 
 -- all pages of the image, the descriptor too
-abbrev pub have_told : Row → List ℕ
-have_told row = line (codes "have" ++ numbers (0 ∷ row.image ∷ row.version ∷ pages_for (length row.bytes) ∷ []))
+abbrev pub have_text : Row → List ℕ
+have_text row = line (codes "have" ++ numbers (0 ∷ row.image ∷ row.version ∷ pages_for (length row.bytes) ∷ []))
 
 abbrev pub inject_ending_by : Row → Option InjectFault → Ending
-inject_ending_by row None = Ends (have_told row)
+inject_ending_by row None = Ends (have_text row)
 inject_ending_by row (Some fault) = Refuses (inject_cause row fault)
 
 abbrev pub inject_into : Row → Option Store → Ending
@@ -72,11 +72,11 @@ order_cause order_fault.Stopped = refusals.Empty
 order_cause (order_fault.Worn room) = refusals.Worn room
 order_cause (order_fault.OldOrder kept) = refusals.OldOrder kept
 
-abbrev pub order_told : Order → List ℕ
-order_told o = line (codes "order" ++ numbers (0 ∷ o.number ∷ o.image ∷ o.version ∷ []))
+abbrev pub order_text : Order → List ℕ
+order_text o = line (codes "order" ++ numbers (0 ∷ o.number ∷ o.image ∷ o.version ∷ []))
 
 abbrev pub order_by : Order → Option OrderFault → Ending
-order_by o None = Ends (order_told o)
+order_by o None = Ends (order_text o)
 order_by o (Some fault) = Refuses (order_cause fault)
 
 abbrev pub order_on : Order → Option Store → Ending
@@ -89,18 +89,18 @@ order_ending boards o chip = by_boards boards (order_on o chip)
 
 -- a start by power
 abbrev pub power_boot : Store → Boot
-power_boot s = boot kind.Power s
+power_boot s = boot cause.Power s
 
 -- two bytes as four digits
 abbrev pub two_bytes : ℕ → List ℕ
 two_bytes n = hex_text (n / 256 ∷ n % 256 ∷ [])
 
-abbrev pub start_told : Runs → List ℕ
-start_told r = line (codes "start" ++ numbers (0 ∷ r.image ∷ r.version ∷ runs_length r ∷ []) ++ 32 ∷ two_bytes (runs_crc r))
+abbrev pub start_text : Runs → List ℕ
+start_text r = line (codes "start" ++ numbers (0 ∷ r.image ∷ r.version ∷ runs_length r ∷ []) ++ 32 ∷ two_bytes (runs_crc r))
 
 abbrev pub boot_by : Option Runs → Ending
 boot_by None = LacksImage
-boot_by (Some r) = Ends (start_told r)
+boot_by (Some r) = Ends (start_text r)
 
 abbrev pub boot_on : Option Store → Ending
 boot_on chip = by_store chip (λ s. boot_by (power_boot s).runs)
@@ -110,12 +110,12 @@ boot_ending boards chip = by_boards boards (boot_on chip)
 
 -- ---- migrate
 
-abbrev pub form_told : List ℕ
-form_told = line (codes "form" ++ numbers (new_form ∷ []))
+abbrev pub form_text : List ℕ
+form_text = line (codes "form" ++ numbers (new_form ∷ []))
 
 -- a chip of the older form takes one commit
 abbrev pub migrate_by : (form : ℕ) → Store → Ending
-migrate_by form s = if (form == old_form) && (s.room == 0) then Refuses (refusals.Worn s.room) else Ends form_told
+migrate_by form s = if (form == old_form) && (s.room == 0) then Refuses (refusals.Worn s.room) else Ends form_text
 
 abbrev pub migrate_on : (form : ℕ) → Option Store → Ending
 migrate_on form chip = by_store chip (migrate_by form)
@@ -125,9 +125,9 @@ migrate_ending boards form chip = by_boards boards (migrate_on form chip)
 
 -- ---- ping
 
-abbrev pub golden_told : Option Held → List ℕ
-golden_told None = []
-golden_told (Some h) = line (codes "golden " ++ name_in (first_page h) ++ numbers (length_in (first_page h) ∷ []))
+abbrev pub golden_text : Option Held → List ℕ
+golden_text None = []
+golden_text (Some h) = line (codes "golden " ++ name_in (first_page h) ++ numbers (length_in (first_page h) ∷ []))
 
 abbrev pub program_line : Option App → List ℕ
 program_line None = line (codes "program blank")
@@ -152,8 +152,8 @@ kept_line i None = []
 kept_line i (Some h) =
     line (codes "kept" ++ numbers (i ∷ h.version ∷ length h.complete ∷ h.pages ∷ []) ++ 32 ∷ name_by h.complete)
 
-abbrev pub commits_told : Store → List ℕ
-commits_told s =
+abbrev pub commits_text : Store → List ℕ
+commits_text s =
     program_line s.app ++ order_line s.order s.waived ++ line (codes "gesture" ++ numbers (s.gesture ∷ []))
     ++ line (codes "room" ++ numbers (s.room ∷ []))
 
@@ -161,11 +161,11 @@ commits_told s =
 abbrev pub kept_lines : Store → List ℕ
 kept_lines s = flat_map (λ i. kept_line i (held s i)) (range_with_len 1 (images - 1))
 
-abbrev pub ping_told : Store → List ℕ
-ping_told s = golden_told (held s 0) ++ commits_told s ++ kept_lines s
+abbrev pub ping_text : Store → List ℕ
+ping_text s = golden_text (held s 0) ++ commits_text s ++ kept_lines s
 
 abbrev pub ping_on : Option Store → Ending
-ping_on chip = by_store chip (λ s. Ends (ping_told s))
+ping_on chip = by_store chip (λ s. Ends (ping_text s))
 
 abbrev pub ping_ending : (boards : ℕ) → Option Store → Ending
 ping_ending boards chip = by_boards boards (ping_on chip)

@@ -13,7 +13,7 @@ ghost use Rattle.dg_tool.specs.Pages.{kept_bytes};
 ghost use Rattle.dg_tool.specs.Endings.{StandsAs, FirstAs, Ends};
 ghost use Rattle.dg_tool.specs.Verbs.{dump_by, dump_on, dump_ending};
 ghost use Rattle.dg_tool.specs.Done.{verb_rule};
-ghost use Rattle.dg_tool.specs.Stops.{Makes, OnStore, OnBoard, OnBoards, told_status, told_text};
+ghost use Rattle.dg_tool.specs.Stops.{Makes, OnStore, OnBoard, OnBoards, result_status, result_text};
 
 use crate::Refusal;
 use crate::board::mount;
@@ -39,7 +39,7 @@ fn dump_whole<N: Nor>(alloc: Global, nor: &mut N, image: u8, pages: u8) -> Resul
     requires known_image { image < slots }
     requires whole { (h : Held) × KeepsImage (N.device nor.old).image image h × (length h.complete ≡ pages) × (h.pages ≡ pages) }
     ensures done { (h : Held) → KeepsImage (N.device nor.old).image image h → length h.complete ≡ pages → h.pages ≡ pages
-        → OnStore (told_status result) (told_text (λ text. text.items) result)
+        → OnStore (result_status result) (result_text (λ text. text.items) result)
         (Ends (written_file (kept_bytes h))) Looked ReadStopped (N.device nor.old)
         (N.device nor.new) }
     ensures unchanged { (N.device nor.new).image ≡ (N.device nor.old).image }
@@ -60,7 +60,7 @@ fn dump_mounted<N: Nor>(
     requires known_image { image < images }
     requires mounted { IsMounted (N.device nor.old).image volume.now }
     ensures done { (s : Store) → Mounted (N.device nor.old).image volume.now s
-        → OnStore (told_status result) (told_text (λ text. text.items) result)
+        → OnStore (result_status result) (result_text (λ text. text.items) result)
         (dump_by (held s image)) Looked ReadStopped (N.device nor.old) (N.device nor.new) }
     ensures unchanged { (N.device nor.new).image ≡ (N.device nor.old).image }
 {
@@ -75,7 +75,7 @@ fn dump_kept<N: Nor>(alloc: Global, image: u8, nor: &mut N, kept: &Kept) -> Resu
     requires known_image { image < images }
     requires keeps { (h : Held) × KeepsImage (N.device nor.old).image image h × (kept.now ≡ told_held h) }
     ensures done { (h : Held) → KeepsImage (N.device nor.old).image image h → kept.now ≡ told_held h
-        → OnStore (told_status result) (told_text (λ text. text.items) result)
+        → OnStore (result_status result) (result_text (λ text. text.items) result)
         (dump_by (Some h)) Looked ReadStopped (N.device nor.old) (N.device nor.new) }
     ensures unchanged { (N.device nor.new).image ≡ (N.device nor.old).image }
 {
@@ -90,9 +90,9 @@ fn dump_kept<N: Nor>(alloc: Global, image: u8, nor: &mut N, kept: &Kept) -> Resu
 /// The HEX file of an image on a board.
 fn dump_on<N: Nor>(alloc: Global, image: u8, nor: &mut N) -> Result<Vec<u8>, Stop>
     requires known_image { image < images }
-    ensures done { OnBoard (told_status result)
+    ensures done { OnBoard (result_status result)
         (verb_rule (StandsAs (N.device nor.old).image) (dump_on image) (λ chip. Looked) (λ chip. ReadStopped))
-        (told_text (λ text. text.items) result) (N.device nor.old) (N.device nor.new) }
+        (result_text (λ text. text.items) result) (N.device nor.old) (N.device nor.new) }
     ensures unchanged { (N.device nor.new).image ≡ (N.device nor.old).image }
 {
     match mount(nor) {
@@ -104,12 +104,12 @@ fn dump_on<N: Nor>(alloc: Global, image: u8, nor: &mut N) -> Result<Vec<u8>, Sto
 /// The HEX file of an image on the first of the boards.
 fn dump_first<N: Nor>(alloc: Global, image: u8, boards: &mut [N]) -> Result<Vec<u8>, Stop>
     requires known_image { image < images }
-    ensures done { OnBoards (told_status result)
+    ensures done { OnBoards (result_status result)
         (verb_rule (FirstAs (map N.device boards.old)) (dump_ending (length boards.old) image)
         (λ chip. Looked) (λ chip. ReadStopped))
-        (told_text (λ text. text.items) result) (map N.device boards.old) (map N.device boards.new) }
+        (result_text (λ text. text.items) result) (map N.device boards.old) (map N.device boards.new) }
     ensures unchanged { map (λ board. (N.device board).image) boards.new ≡ map (λ board. (N.device board).image) boards.old }
-    ensures unread { told_status result ≢ Status.ReadFault }
+    ensures unread { result_status result ≢ Status.ReadFault }
 {
     if boards.is_empty() {
         return Err(Stop::NoBoard);
@@ -124,13 +124,13 @@ pub(crate) fn dump_boards<N: Nor>(
     boards: &mut Vec<N>,
 ) -> Result<Vec<u8>, Stop>
     requires known_image { image < images }
-    ensures done { OnBoards (told_status result)
+    ensures done { OnBoards (result_status result)
         (verb_rule (FirstAs (map N.device boards.old.items)) (dump_ending (length boards.old.items) image)
         (λ chip. Looked) (λ chip. ReadStopped))
-        (told_text (λ text. text.items) result) (map N.device boards.old.items) (map N.device boards.new.items) }
+        (result_text (λ text. text.items) result) (map N.device boards.old.items) (map N.device boards.new.items) }
     ensures unchanged { map (λ board. (N.device board).image) boards.new.items
         ≡ map (λ board. (N.device board).image) boards.old.items }
-    ensures unread { told_status result ≢ Status.ReadFault }
+    ensures unread { result_status result ≢ Status.ReadFault }
 {
     dump_first(alloc, image, boards.as_mut_slice())
 }

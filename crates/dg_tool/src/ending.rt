@@ -3,7 +3,7 @@ ghost use Rattle.std.specs.Prelude.{◌≡◌, ◌≤◌, ◌++◌, ℕ, List, O
 ghost use Rattle.dg_words.specs.Counts.{Rose};
 ghost use Rattle.dg_tool.specs.Endings.{fault_line, refused_line, refusal_text};
 ghost use Rattle.dg_tool.specs.declared.refusal.Refusal.TheVariants as refusals;
-ghost use Rattle.dg_tool.specs.Stops.{WritesLast, ClosesWith, stop_status, stop_text, told_status, told_text};
+ghost use Rattle.dg_tool.specs.Stops.{WritesLast, ClosesWith, stop_status, stop_text, result_status, result_text};
 
 use crate::Refusal;
 use crate::stop::Stop;
@@ -130,12 +130,12 @@ fn end_at_stop<K: Sink>(alloc: Global, out: &mut K, stop: Stop) -> Status
 }
 
 /// Ends a verb that came to its text, or was stopped: one write at most.
-pub fn end<K: Sink>(alloc: Global, out: &mut K, told: Result<Vec<u8>, Stop>) -> Status
-    ensures ends { ClosesWith result (told_status told) (told_text (λ text. text.items) told) (K.written out.old)
+pub fn end<K: Sink>(alloc: Global, out: &mut K, report: Result<Vec<u8>, Stop>) -> Status
+    ensures ends { ClosesWith result (result_status report) (result_text (λ text. text.items) report) (K.written out.old)
         (K.written out.new) (Rose (K.faults out.old) (K.faults out.new)) (K.faults out.new ≡ K.faults out.old) }
     ensures counts { K.faults out.old ≤ K.faults out.new }
 {
-    match told {
+    match report {
         Ok(text) => end_with(out, &text, Status::Done),
         Err(stop) => end_at_stop(alloc, out, stop),
     }

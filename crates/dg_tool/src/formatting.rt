@@ -5,7 +5,7 @@ ghost use Rattle.dg_volume.specs.Sizes.{most_room, old_form, new_form};
 ghost use Rattle.dg_tool.specs.Endings.{content_in};
 ghost use Rattle.dg_tool.specs.Verbs.{format_sized, format_ending};
 ghost use Rattle.dg_tool.specs.Done.{verb_rule, InputRead, IsFormatted, FormatStops};
-ghost use Rattle.dg_tool.specs.Stops.{InputFails, OnBoard, OnBoards, told_status, told_text};
+ghost use Rattle.dg_tool.specs.Stops.{InputFails, OnBoard, OnBoards, result_status, result_text};
 
 use crate::Refusal;
 use crate::input::read_image;
@@ -29,10 +29,10 @@ fn format_on<N: Nor>(
     requires named { IsTrue (spells_name name.now) }
     requires few { used ≤ most_room }
     requires known_form { (form ≡ old_form) ⊎ (form ≡ new_form) }
-    ensures { OnBoard (told_status result)
+    ensures { OnBoard (result_status result)
         (verb_rule (λ chip. Unit {0}) (λ chip. format_sized used golden.now)
         (λ chip. IsFormatted name.now golden.now used form) (λ chip. FormatStops name.now golden.now used))
-        (told_text (λ text. text.items) result) (N.device nor.old) (N.device nor.new) }
+        (result_text (λ text. text.items) result) (N.device nor.old) (N.device nor.new) }
 {
     match Volume::format(nor, golden, name, used, form) {
         Ok(()) => or_memory(line_of(alloc, b"room", &[MOST_ROOM - used])),
@@ -56,13 +56,13 @@ fn format_first<S: Source, N: Nor>(
     requires named { IsTrue (spells_name name.now) }
     requires few { used ≤ most_room }
     requires known_form { (form ≡ old_form) ⊎ (form ≡ new_form) }
-    ensures done { (bytes : List ℕ) × InputRead (told_status result) (length boards.old) bytes (S.left input.old)
+    ensures done { (bytes : List ℕ) × InputRead (result_status result) (length boards.old) bytes (S.left input.old)
         (S.left input.new) (S.faults input.old) (S.faults input.new)
-        × InputFails (told_status result) (S.faults input.old) (S.faults input.new)
-        × OnBoards (told_status result)
+        × InputFails (result_status result) (S.faults input.old) (S.faults input.new)
+        × OnBoards (result_status result)
         (verb_rule (λ chip. Unit {0}) (format_ending (length boards.old) used bytes)
         (λ chip. IsFormatted name.now (content_in bytes) used form) (λ chip. FormatStops name.now (content_in bytes) used))
-        (told_text (λ text. text.items) result) (map N.device boards.old) (map N.device boards.new) }
+        (result_text (λ text. text.items) result) (map N.device boards.old) (map N.device boards.new) }
     ensures reads { S.faults input.old ≤ S.faults input.new }
 {
     if boards.is_empty() {
@@ -86,13 +86,13 @@ pub(crate) fn format_boards<S: Source, N: Nor>(
     requires named { IsTrue (spells_name name.now) }
     requires few { used ≤ most_room }
     requires known_form { (form ≡ old_form) ⊎ (form ≡ new_form) }
-    ensures done { (bytes : List ℕ) × InputRead (told_status result) (length boards.old.items) bytes (S.left input.old)
+    ensures done { (bytes : List ℕ) × InputRead (result_status result) (length boards.old.items) bytes (S.left input.old)
         (S.left input.new) (S.faults input.old) (S.faults input.new)
-        × InputFails (told_status result) (S.faults input.old) (S.faults input.new)
-        × OnBoards (told_status result)
+        × InputFails (result_status result) (S.faults input.old) (S.faults input.new)
+        × OnBoards (result_status result)
         (verb_rule (λ chip. Unit {0}) (format_ending (length boards.old.items) used bytes)
         (λ chip. IsFormatted name.now (content_in bytes) used form) (λ chip. FormatStops name.now (content_in bytes) used))
-        (told_text (λ text. text.items) result) (map N.device boards.old.items) (map N.device boards.new.items) }
+        (result_text (λ text. text.items) result) (map N.device boards.old.items) (map N.device boards.new.items) }
     ensures reads { S.faults input.old ≤ S.faults input.new }
 {
     format_first(alloc, name, used, form, input, boards.as_mut_slice())

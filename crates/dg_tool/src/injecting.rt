@@ -12,7 +12,7 @@ ghost use Rattle.dg_tool.specs.Texts.{numbers, line};
 ghost use Rattle.dg_tool.specs.Endings.{StandsAs, FirstAs, content_in};
 ghost use Rattle.dg_tool.specs.Verbs.{inject_cause, inject_ending_by, inject_into, inject_ending};
 ghost use Rattle.dg_tool.specs.Done.{verb_rule, InputRead, Went, WentOn, StopsOn};
-ghost use Rattle.dg_tool.specs.Stops.{InputFails, Makes, OnStore, OnBoard, OnBoards, told_status, told_text};
+ghost use Rattle.dg_tool.specs.Stops.{InputFails, Makes, OnStore, OnBoard, OnBoards, result_status, result_text};
 ghost use Rattle.dg_tool.specs.declared.stop.Stop.TheVariants as stops;
 
 use crate::Refusal;
@@ -67,7 +67,7 @@ fn inject_mounted<N: Nor>(
     requires version { 1 ≤ version }
     requires named { IsTrue (spells_name name.now) }
     ensures { (s : Store) → Mounted (N.device nor.old).image volume.old s
-        → OnStore (told_status result) (told_text (λ text. text.items) result)
+        → OnStore (result_status result) (result_text (λ text. text.items) result)
         (inject_ending_by (row_of image version name.now bytes.now)
         (inject_refusal s (row_of image version name.now bytes.now)))
         (Went (inject_trail s (row_of image version name.now bytes.now)))
@@ -91,11 +91,11 @@ fn inject_on<N: Nor>(
     requires image { image < images }
     requires version { 1 ≤ version }
     requires named { IsTrue (spells_name name.now) }
-    ensures { OnBoard (told_status result)
+    ensures { OnBoard (result_status result)
         (verb_rule (StandsAs (N.device nor.old).image) (inject_into (row_of image version name.now bytes.now))
         (WentOn (λ s. inject_trail s (row_of image version name.now bytes.now)))
         (StopsOn (λ s. inject_trail s (row_of image version name.now bytes.now))))
-        (told_text (λ text. text.items) result) (N.device nor.old) (N.device nor.new) }
+        (result_text (λ text. text.items) result) (N.device nor.old) (N.device nor.new) }
 {
     match mount(nor) {
         Ok(mut volume) => inject_mounted(alloc, image, version, name, bytes, nor, &mut volume),
@@ -115,14 +115,14 @@ fn inject_first<S: Source, N: Nor>(
     requires image { image < images }
     requires version { 1 ≤ version }
     requires named { IsTrue (spells_name name.now) }
-    ensures done { (bytes : List ℕ) × InputRead (told_status result) (length boards.old) bytes (S.left input.old)
+    ensures done { (bytes : List ℕ) × InputRead (result_status result) (length boards.old) bytes (S.left input.old)
         (S.left input.new) (S.faults input.old) (S.faults input.new)
-        × InputFails (told_status result) (S.faults input.old) (S.faults input.new)
-        × OnBoards (told_status result)
+        × InputFails (result_status result) (S.faults input.old) (S.faults input.new)
+        × OnBoards (result_status result)
         (verb_rule (FirstAs (map N.device boards.old)) (inject_ending (length boards.old) (row_of image version name.now) bytes)
         (WentOn (λ s. inject_trail s (row_of image version name.now (content_in bytes))))
         (StopsOn (λ s. inject_trail s (row_of image version name.now (content_in bytes)))))
-        (told_text (λ text. text.items) result) (map N.device boards.old) (map N.device boards.new) }
+        (result_text (λ text. text.items) result) (map N.device boards.old) (map N.device boards.new) }
     ensures reads { S.faults input.old ≤ S.faults input.new }
 {
     if boards.is_empty() {
@@ -146,15 +146,15 @@ pub(crate) fn inject_boards<S: Source, N: Nor>(
     requires image { image < images }
     requires version { 1 ≤ version }
     requires named { IsTrue (spells_name name.now) }
-    ensures done { (bytes : List ℕ) × InputRead (told_status result) (length boards.old.items) bytes (S.left input.old)
+    ensures done { (bytes : List ℕ) × InputRead (result_status result) (length boards.old.items) bytes (S.left input.old)
         (S.left input.new) (S.faults input.old) (S.faults input.new)
-        × InputFails (told_status result) (S.faults input.old) (S.faults input.new)
-        × OnBoards (told_status result)
+        × InputFails (result_status result) (S.faults input.old) (S.faults input.new)
+        × OnBoards (result_status result)
         (verb_rule (FirstAs (map N.device boards.old.items))
         (inject_ending (length boards.old.items) (row_of image version name.now) bytes)
         (WentOn (λ s. inject_trail s (row_of image version name.now (content_in bytes))))
         (StopsOn (λ s. inject_trail s (row_of image version name.now (content_in bytes)))))
-        (told_text (λ text. text.items) result) (map N.device boards.old.items) (map N.device boards.new.items) }
+        (result_text (λ text. text.items) result) (map N.device boards.old.items) (map N.device boards.new.items) }
     ensures reads { S.faults input.old ≤ S.faults input.new }
 {
     inject_first(alloc, image, version, name, input, boards.as_mut_slice())

@@ -8,7 +8,7 @@ ghost use Rattle.dg_volume.specs.Trails.{migrate_trail};
 ghost use Rattle.dg_tool.specs.Endings.{StandsAs, FirstAs, FirstInForm};
 ghost use Rattle.dg_tool.specs.Verbs.{migrate_by, migrate_on, migrate_ending};
 ghost use Rattle.dg_tool.specs.Done.{verb_rule, Migrated, MigratedOn, StopsOn};
-ghost use Rattle.dg_tool.specs.Stops.{OnStore, OfBoard, OnBoard, OnBoards, told_status, told_text};
+ghost use Rattle.dg_tool.specs.Stops.{OnStore, OfBoard, OnBoard, OnBoards, result_status, result_text};
 
 use crate::Refusal;
 use crate::board::mount;
@@ -25,7 +25,7 @@ fn migrate_mounted<N: Nor>(alloc: Global, nor: &mut N, volume: &mut Volume) -> R
     requires mounted { IsMounted (N.device nor.old).image volume.old }
     requires free { NothingLent volume.old }
     ensures { (s : Store) → Mounted (N.device nor.old).image volume.old s
-        → OnStore (told_status result) (told_text (λ text. text.items) result)
+        → OnStore (result_status result) (result_text (λ text. text.items) result)
         (migrate_by (form_of volume.old) s) (Migrated (form_of volume.old) s)
         (Stops (migrate_trail (form_of volume.old) s)) (N.device nor.old) (N.device nor.new) }
 {
@@ -42,10 +42,10 @@ fn migrate_mounted<N: Nor>(alloc: Global, nor: &mut N, volume: &mut Volume) -> R
 /// Migrates a board.
 fn migrate_board<N: Nor>(alloc: Global, nor: &mut N) -> Result<Vec<u8>, Stop>
     ensures done { (form : ℕ) → (IsVolume (N.device nor.old).image → HasForm (N.device nor.old).image form)
-        → OnBoard (told_status result)
+        → OnBoard (result_status result)
         (verb_rule (StandsAs (N.device nor.old).image) (migrate_on form) (MigratedOn form) (StopsOn (migrate_trail form)))
-        (told_text (λ text. text.items) result) (N.device nor.old) (N.device nor.new) }
-    ensures of_board { OfBoard (told_status result) }
+        (result_text (λ text. text.items) result) (N.device nor.old) (N.device nor.new) }
+    ensures of_board { OfBoard (result_status result) }
 {
     a_volume_has_one_form();
     match mount(nor) {
@@ -57,11 +57,11 @@ fn migrate_board<N: Nor>(alloc: Global, nor: &mut N) -> Result<Vec<u8>, Stop>
 /// Migrates the first of the boards.
 fn migrate_first<N: Nor>(alloc: Global, boards: &mut [N]) -> Result<Vec<u8>, Stop>
     ensures done { (form : ℕ) → FirstInForm form (map N.device boards.old)
-        → OnBoards (told_status result)
+        → OnBoards (result_status result)
         (verb_rule (FirstAs (map N.device boards.old)) (migrate_ending (length boards.old) form)
         (MigratedOn form) (StopsOn (migrate_trail form)))
-        (told_text (λ text. text.items) result) (map N.device boards.old) (map N.device boards.new) }
-    ensures unread { told_status result ≢ Status.ReadFault }
+        (result_text (λ text. text.items) result) (map N.device boards.old) (map N.device boards.new) }
+    ensures unread { result_status result ≢ Status.ReadFault }
 {
     if boards.is_empty() {
         return Err(Stop::NoBoard);
@@ -72,11 +72,11 @@ fn migrate_first<N: Nor>(alloc: Global, boards: &mut [N]) -> Result<Vec<u8>, Sto
 /// Migrates the first board.
 pub(crate) fn migrate_boards<N: Nor>(alloc: Global, boards: &mut Vec<N>) -> Result<Vec<u8>, Stop>
     ensures done { (form : ℕ) → FirstInForm form (map N.device boards.old.items)
-        → OnBoards (told_status result)
+        → OnBoards (result_status result)
         (verb_rule (FirstAs (map N.device boards.old.items)) (migrate_ending (length boards.old.items) form)
         (MigratedOn form) (StopsOn (migrate_trail form)))
-        (told_text (λ text. text.items) result) (map N.device boards.old.items) (map N.device boards.new.items) }
-    ensures unread { told_status result ≢ Status.ReadFault }
+        (result_text (λ text. text.items) result) (map N.device boards.old.items) (map N.device boards.new.items) }
+    ensures unread { result_status result ≢ Status.ReadFault }
 {
     migrate_first(alloc, boards.as_mut_slice())
 }

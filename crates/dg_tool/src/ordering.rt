@@ -7,9 +7,9 @@ ghost use Rattle.dg_volume.specs.Acts.{Stops};
 ghost use Rattle.dg_volume.specs.Changes.{order_refusal};
 ghost use Rattle.dg_volume.specs.Trails.{order_trail};
 ghost use Rattle.dg_tool.specs.Endings.{StandsAs, FirstAs};
-ghost use Rattle.dg_tool.specs.Verbs.{order_cause, order_told, order_by, order_on, order_ending};
+ghost use Rattle.dg_tool.specs.Verbs.{order_cause, order_text, order_by, order_on, order_ending};
 ghost use Rattle.dg_tool.specs.Done.{verb_rule, Went, WentOn, StopsOn};
-ghost use Rattle.dg_tool.specs.Stops.{Makes, OnStore, OnBoard, OnBoards, told_status, told_text};
+ghost use Rattle.dg_tool.specs.Stops.{Makes, OnStore, OnBoard, OnBoards, result_status, result_text};
 ghost use Rattle.dg_tool.specs.declared.stop.Stop.TheVariants as stops;
 
 use crate::Refusal;
@@ -35,7 +35,7 @@ fn stop_at(fault: OrderFault) -> Stop
 
 /// The line that tells of an order that is kept.
 fn order_line(alloc: Global, order: &Order) -> Result<Vec<u8>, Stop>
-    ensures { Makes (λ text. text.items) result (order_told order.now) }
+    ensures { Makes (λ text. text.items) result (order_text order.now) }
 {
     let image = u32::from(order.image);
     or_memory(line_of(alloc, b"order", &[0, order.number, image, order.version]))
@@ -53,7 +53,7 @@ fn order_mounted<N: Nor>(
     requires image { order.now.image < images }
     requires version { 1 ≤ order.now.version }
     ensures { (s : Store) → Mounted (N.device nor.old).image volume.old s
-        → OnStore (told_status result) (told_text (λ text. text.items) result)
+        → OnStore (result_status result) (result_text (λ text. text.items) result)
         (order_by order.now (order_refusal s order.now))
         (Went (order_trail s order.now)) (Stops (order_trail s order.now)) (N.device nor.old) (N.device nor.new) }
 {
@@ -68,10 +68,10 @@ fn order_on<N: Nor>(alloc: Global, order: &Order, nor: &mut N) -> Result<Vec<u8>
     requires number { 1 ≤ order.now.number }
     requires image { order.now.image < images }
     requires version { 1 ≤ order.now.version }
-    ensures { OnBoard (told_status result)
+    ensures { OnBoard (result_status result)
         (verb_rule (StandsAs (N.device nor.old).image) (order_on order.now)
         (WentOn (λ s. order_trail s order.now)) (StopsOn (λ s. order_trail s order.now)))
-        (told_text (λ text. text.items) result) (N.device nor.old) (N.device nor.new) }
+        (result_text (λ text. text.items) result) (N.device nor.old) (N.device nor.new) }
 {
     match mount(nor) {
         Ok(mut volume) => order_mounted(alloc, order, nor, &mut volume),
@@ -84,11 +84,11 @@ fn order_first<N: Nor>(alloc: Global, order: &Order, boards: &mut [N]) -> Result
     requires number { 1 ≤ order.now.number }
     requires image { order.now.image < images }
     requires version { 1 ≤ order.now.version }
-    ensures done { OnBoards (told_status result)
+    ensures done { OnBoards (result_status result)
         (verb_rule (FirstAs (map N.device boards.old)) (order_ending (length boards.old) order.now)
         (WentOn (λ s. order_trail s order.now)) (StopsOn (λ s. order_trail s order.now)))
-        (told_text (λ text. text.items) result) (map N.device boards.old) (map N.device boards.new) }
-    ensures unread { told_status result ≢ Status.ReadFault }
+        (result_text (λ text. text.items) result) (map N.device boards.old) (map N.device boards.new) }
+    ensures unread { result_status result ≢ Status.ReadFault }
 {
     if boards.is_empty() {
         return Err(Stop::NoBoard);
@@ -105,11 +105,11 @@ pub(crate) fn order_boards<N: Nor>(
     requires number { 1 ≤ order.now.number }
     requires image { order.now.image < images }
     requires version { 1 ≤ order.now.version }
-    ensures done { OnBoards (told_status result)
+    ensures done { OnBoards (result_status result)
         (verb_rule (FirstAs (map N.device boards.old.items)) (order_ending (length boards.old.items) order.now)
         (WentOn (λ s. order_trail s order.now)) (StopsOn (λ s. order_trail s order.now)))
-        (told_text (λ text. text.items) result) (map N.device boards.old.items) (map N.device boards.new.items) }
-    ensures unread { told_status result ≢ Status.ReadFault }
+        (result_text (λ text. text.items) result) (map N.device boards.old.items) (map N.device boards.new.items) }
+    ensures unread { result_status result ≢ Status.ReadFault }
 {
     order_first(alloc, order, boards.as_mut_slice())
 }

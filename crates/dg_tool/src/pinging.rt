@@ -10,10 +10,10 @@ ghost use Rattle.dg_volume.specs.Stands.{Mounted, IsMounted, Tells};
 ghost use Rattle.dg_volume.specs.Told.{told_held, program_told};
 ghost use Rattle.dg_tool.specs.Texts.{numbers, line};
 ghost use Rattle.dg_tool.specs.Endings.{StandsAs, FirstAs, Ends};
-ghost use Rattle.dg_tool.specs.Verbs.{program_line, order_line, waived_word, commits_told, kept_line, kept_lines, ping_told};
+ghost use Rattle.dg_tool.specs.Verbs.{program_line, order_line, waived_word, commits_text, kept_line, kept_lines, ping_text};
 ghost use Rattle.dg_tool.specs.Verbs.{ping_on, ping_ending};
 ghost use Rattle.dg_tool.specs.Done.{verb_rule};
-ghost use Rattle.dg_tool.specs.Stops.{ReadsOn, OnStore, OnBoard, OnBoards, told_status, told_text};
+ghost use Rattle.dg_tool.specs.Stops.{ReadsOn, OnStore, OnBoard, OnBoards, result_status, result_text};
 
 use crate::board::mount;
 use crate::pages::read_first;
@@ -81,7 +81,7 @@ fn push_waived(text: &mut Vec<u8>, waived: bool) -> Result<(), AllocError>
 
 /// Appends the lines of what a volume commits.
 fn push_commits(text: &mut Vec<u8>, volume: &Volume) -> Result<(), AllocError>
-    ensures { OnOk result ((s : Store) → Tells volume.now s → text.new.items ≡ text.old.items ++ commits_told s) }
+    ensures { OnOk result ((s : Store) → Tells volume.now s → text.new.items ≡ text.old.items ++ commits_text s) }
 {
     let now = volume.snapshot();
     push_program(text, now.program)?;
@@ -161,7 +161,7 @@ fn push_images<N: Nor>(text: &mut Vec<u8>, nor: &mut N, volume: &Volume) -> Resu
 /// Tells what a board keeps that is mounted.
 fn ping_mounted<N: Nor>(alloc: Global, nor: &mut N, volume: &Volume) -> Result<Vec<u8>, Stop>
     requires mounted { IsMounted (N.device nor.old).image volume.now }
-    ensures told { IfOk result (λ text. (s : Store) → Mounted (N.device nor.old).image volume.now s → text.items ≡ ping_told s) }
+    ensures told { IfOk result (λ text. (s : Store) → Mounted (N.device nor.old).image volume.now s → text.items ≡ ping_text s) }
     ensures ends { ReadsOn result (N.device nor.old) (N.device nor.new) }
 {
     let mut text = Vec::new(alloc);
@@ -174,9 +174,9 @@ fn ping_mounted<N: Nor>(alloc: Global, nor: &mut N, volume: &Volume) -> Result<V
 
 /// Tells what a board keeps.
 fn ping_on<N: Nor>(alloc: Global, nor: &mut N) -> Result<Vec<u8>, Stop>
-    ensures done { OnBoard (told_status result)
+    ensures done { OnBoard (result_status result)
         (verb_rule (StandsAs (N.device nor.old).image) ping_on (λ chip. Looked) (λ chip. ReadStopped))
-        (told_text (λ text. text.items) result) (N.device nor.old) (N.device nor.new) }
+        (result_text (λ text. text.items) result) (N.device nor.old) (N.device nor.new) }
     ensures unchanged { (N.device nor.new).image ≡ (N.device nor.old).image }
 {
     match mount(nor) {
@@ -187,11 +187,11 @@ fn ping_on<N: Nor>(alloc: Global, nor: &mut N) -> Result<Vec<u8>, Stop>
 
 /// Tells what the first of the boards keeps.
 fn ping_first<N: Nor>(alloc: Global, boards: &mut [N]) -> Result<Vec<u8>, Stop>
-    ensures done { OnBoards (told_status result)
+    ensures done { OnBoards (result_status result)
         (verb_rule (FirstAs (map N.device boards.old)) (ping_ending (length boards.old)) (λ chip. Looked) (λ chip. ReadStopped))
-        (told_text (λ text. text.items) result) (map N.device boards.old) (map N.device boards.new) }
+        (result_text (λ text. text.items) result) (map N.device boards.old) (map N.device boards.new) }
     ensures unchanged { map (λ board. (N.device board).image) boards.new ≡ map (λ board. (N.device board).image) boards.old }
-    ensures unread { told_status result ≢ Status.ReadFault }
+    ensures unread { result_status result ≢ Status.ReadFault }
 {
     if boards.is_empty() {
         return Err(Stop::NoBoard);
@@ -201,13 +201,13 @@ fn ping_first<N: Nor>(alloc: Global, boards: &mut [N]) -> Result<Vec<u8>, Stop>
 
 /// Tells what the first board keeps.
 pub(crate) fn ping_boards<N: Nor>(alloc: Global, boards: &mut Vec<N>) -> Result<Vec<u8>, Stop>
-    ensures done { OnBoards (told_status result)
+    ensures done { OnBoards (result_status result)
         (verb_rule (FirstAs (map N.device boards.old.items)) (ping_ending (length boards.old.items))
         (λ chip. Looked) (λ chip. ReadStopped))
-        (told_text (λ text. text.items) result) (map N.device boards.old.items) (map N.device boards.new.items) }
+        (result_text (λ text. text.items) result) (map N.device boards.old.items) (map N.device boards.new.items) }
     ensures unchanged { map (λ board. (N.device board).image) boards.new.items
         ≡ map (λ board. (N.device board).image) boards.old.items }
-    ensures unread { told_status result ≢ Status.ReadFault }
+    ensures unread { result_status result ≢ Status.ReadFault }
 {
     ping_first(alloc, boards.as_mut_slice())
 }

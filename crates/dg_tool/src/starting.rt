@@ -3,9 +3,9 @@ ghost use Rattle.std.specs.Prelude.{◌≡◌, ◌≢◌, map, length, IfOk};
 ghost use Rattle.dg_volume.specs.Start.{Runs};
 ghost use Rattle.dg_tool.specs.Started.{TellsStarted};
 ghost use Rattle.dg_tool.specs.Endings.{StandsAs, FirstAs};
-ghost use Rattle.dg_tool.specs.Verbs.{start_told, power_boot, boot_on, boot_ending};
+ghost use Rattle.dg_tool.specs.Verbs.{start_text, power_boot, boot_on, boot_ending};
 ghost use Rattle.dg_tool.specs.Done.{verb_rule, BootedOn, StopsOn};
-ghost use Rattle.dg_tool.specs.Stops.{OnBoard, OnBoards, told_status, told_text};
+ghost use Rattle.dg_tool.specs.Stops.{OnBoard, OnBoards, result_status, result_text};
 
 use crate::stop::{Stop, or_memory};
 use crate::text::push_words;
@@ -16,7 +16,7 @@ use std::alloc::{AllocError, Global};
 
 /// The line that tells of a start.
 fn start_line(alloc: Global, started: &Started) -> Result<Vec<u8>, AllocError>
-    ensures { IfOk result (λ text. (r : Runs) → TellsStarted started.now r → text.items ≡ start_told r) }
+    ensures { IfOk result (λ text. (r : Runs) → TellsStarted started.now r → text.items ≡ start_text r) }
 {
     let mut text = Vec::new(alloc);
     push_words(
@@ -32,9 +32,9 @@ fn start_line(alloc: Global, started: &Started) -> Result<Vec<u8>, AllocError>
 
 /// Starts a board by power.
 fn boot_on<N: Nor>(alloc: Global, nor: &mut N) -> Result<Vec<u8>, Stop>
-    ensures { OnBoard (told_status result)
+    ensures { OnBoard (result_status result)
         (verb_rule (StandsAs (N.device nor.old).image) boot_on (BootedOn power_boot) (StopsOn (λ s. (power_boot s).trail)))
-        (told_text (λ text. text.items) result) (N.device nor.old) (N.device nor.new) }
+        (result_text (λ text. text.items) result) (N.device nor.old) (N.device nor.new) }
 {
     match start(nor, StartCause::Power) {
         Ok(started) => or_memory(start_line(alloc, &started)),
@@ -46,11 +46,11 @@ fn boot_on<N: Nor>(alloc: Global, nor: &mut N) -> Result<Vec<u8>, Stop>
 
 /// Starts the first of the boards by power.
 fn boot_first<N: Nor>(alloc: Global, boards: &mut [N]) -> Result<Vec<u8>, Stop>
-    ensures done { OnBoards (told_status result)
+    ensures done { OnBoards (result_status result)
         (verb_rule (FirstAs (map N.device boards.old)) (boot_ending (length boards.old))
         (BootedOn power_boot) (StopsOn (λ s. (power_boot s).trail)))
-        (told_text (λ text. text.items) result) (map N.device boards.old) (map N.device boards.new) }
-    ensures unread { told_status result ≢ Status.ReadFault }
+        (result_text (λ text. text.items) result) (map N.device boards.old) (map N.device boards.new) }
+    ensures unread { result_status result ≢ Status.ReadFault }
 {
     if boards.is_empty() {
         return Err(Stop::NoBoard);
@@ -60,11 +60,11 @@ fn boot_first<N: Nor>(alloc: Global, boards: &mut [N]) -> Result<Vec<u8>, Stop>
 
 /// Starts the first board by power.
 pub(crate) fn boot_boards<N: Nor>(alloc: Global, boards: &mut Vec<N>) -> Result<Vec<u8>, Stop>
-    ensures done { OnBoards (told_status result)
+    ensures done { OnBoards (result_status result)
         (verb_rule (FirstAs (map N.device boards.old.items)) (boot_ending (length boards.old.items))
         (BootedOn power_boot) (StopsOn (λ s. (power_boot s).trail)))
-        (told_text (λ text. text.items) result) (map N.device boards.old.items) (map N.device boards.new.items) }
-    ensures unread { told_status result ≢ Status.ReadFault }
+        (result_text (λ text. text.items) result) (map N.device boards.old.items) (map N.device boards.new.items) }
+    ensures unread { result_status result ≢ Status.ReadFault }
 {
     boot_first(alloc, boards.as_mut_slice())
 }

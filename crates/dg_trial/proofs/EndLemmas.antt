@@ -10,7 +10,7 @@ use Rattle.dg_nor.specs.Device.{Device}
 use Rattle.dg_trial.specs.Schedule.{sweep_count}
 use Rattle.dg_rules.specs.Sizes.{most_motes}
 use Rattle.dg_trial.specs.AroundTrial.{around_trial}
-use Rattle.dg_trial.specs.Trials.{summary_line, no_board_line, told_of, WholeLaw, LineEnds, TellsWhole, TrialComplete, TrialEnds, TrialOutcome, TrialPlayed, TellsTrial, Unplayed}
+use Rattle.dg_trial.specs.Trials.{summary_line, no_board_line, trial_text, WholeLaw, LineEnds, TellsWhole, TrialComplete, TrialEnds, TrialOutcome, TrialPlayed, TellsTrial, Unplayed}
 use Rattle.dg_trial.proofs.TrialLemmas.{read_unread}
 use Rattle.dg_trial.specs.declared.summary.Summary.{Summary}
 
@@ -37,10 +37,10 @@ boards_missing r motes pages seed before after fb fa n old count few h =
     ⊎_elim (λ a. subst E (sym a.0) (record { missing = low; same = refl }, a.1))
     (λ x. ⊎_elim (λ b. subst E (sym b.0) (inr (record { missing = low; same = refl }, b.1))) (λ c. subst E (sym c.0) (inl refl, c.1)) x) at
 
-told_is : (motes pages seed : ℕ) (old new : List Device) (s : Summary) (t : TrialPlayed motes pages seed old new) → TellsTrial motes pages seed t.last s → summary_line s.motes s.pages s.sweeps s.events s.whole ≡ told_of motes pages seed t.last
+told_is : (motes pages seed : ℕ) (old new : List Device) (s : Summary) (t : TrialPlayed motes pages seed old new) → TellsTrial motes pages seed t.last s → summary_line s.motes s.pages s.sweeps s.events s.whole ≡ trial_text motes pages seed t.last
 told_is motes pages seed old new s t h =
-    ap (λ (n : ℕ). summary_line n s.pages s.sweeps s.events s.whole) h.motes_told ∙ ap (λ (n : ℕ). summary_line motes n s.sweeps s.events s.whole) h.pages_told ∙ ap (λ (n : ℕ). summary_line motes pages n s.events s.whole) h.sweeps_told
-    ∙ ap (λ (n : ℕ). summary_line motes pages (sweep_count motes pages) n s.whole) h.events_told ∙ ap (λ (n : ℕ). summary_line motes pages (sweep_count motes pages) t.last.events n) h.whole_told
+    ap (λ (n : ℕ). summary_line n s.pages s.sweeps s.events s.whole) h.motes_reported ∙ ap (λ (n : ℕ). summary_line motes n s.sweeps s.events s.whole) h.pages_reported ∙ ap (λ (n : ℕ). summary_line motes pages n s.events s.whole) h.sweeps_reported
+    ∙ ap (λ (n : ℕ). summary_line motes pages (sweep_count motes pages) n s.whole) h.events_reported ∙ ap (λ (n : ℕ). summary_line motes pages (sweep_count motes pages) t.last.events n) h.whole_reported
 
 unread : (motes pages seed : ℕ) (old new : List Device) → TrialPlayed motes pages seed old new → Unplayed motes pages seed old new
 unread motes pages seed old new t = read_unread motes pages seed t.last old new t.run t.boards

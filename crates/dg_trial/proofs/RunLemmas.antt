@@ -54,13 +54,13 @@ unfolding WorldStep
 step_counts w v x reports step = does_counts (does w x.event) w x v reports step
 
 pub event_within : (n : ℕ) (event : Event) → EventInRange n event → mote_of event < n
-event_within n (Tick mote dt word) h = h
-event_within n (Hear mote dt word frame) h = h.0
-event_within n (Last from to dt word) h = h.1
-event_within n (Reset mote dt word) h = h
-event_within n (Inject mote image version dt word) h = h.0
-event_within n (Order mote number image version dt word) h = h.0
-event_within n (Frame mote dt word bytes) h = h.0
+event_within n (Tick mote dt draw) h = h
+event_within n (Hear mote dt draw frame) h = h.0
+event_within n (Last from to dt draw) h = h.1
+event_within n (Reset mote dt draw) h = h
+event_within n (Inject mote image version dt draw) h = h.0
+event_within n (Order mote number image version dt draw) h = h.0
+event_within n (Frame mote dt draw bytes) h = h.0
 
 -- ---- runs
 

@@ -79,7 +79,7 @@ drawn_more (suc k) g =
     let e : suc k + 1 ≡ suc (k + 1) = omega arith in
     ap (λ (m : ℕ). drawn m g) e ∙ drawn_more k (pcg32 (pcg32 (pcg32 g).1).1).1
 
--- the next three words
+-- the next three draws
 pub one_disturbance : (motes : ℕ) (g g1 g2 g3 : Lcg) (w1 w2 w3 : ℕ) → (w1, g1) ≡ pcg32 g → (w2, g2) ≡ pcg32 g1 → (w3, g3) ≡ pcg32 g2 → (disturbances motes 1 g ≡ disturbance motes w1 w2 w3 ∷ []) × (drawn 1 g ≡ g3)
 unfolding disturbances drawn
 one_disturbance motes g g1 g2 g3 w1 w2 w3 a b c =

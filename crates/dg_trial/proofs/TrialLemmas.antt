@@ -24,7 +24,7 @@ use Rattle.dg_rules.specs.Changes.{final_lines}
 use Rattle.dg_trial.specs.Lines.{tells_whole}
 use Rattle.dg_trial.specs.Trials.{keeps_all, wholes}
 use Rattle.dg_trial.proofs.SummaryLemmas.{world_told, page_count_is}
-use Rattle.dg_seed.specs.Words.{first_generator}
+use Rattle.dg_seed.specs.Draws.{first_generator}
 use Rattle.dg_trial.specs.Schedule.{Part, always, line, resets, opening, disturbances, row_by, row_of_seed, schedule, sweep_count}
 use Rattle.dg_trial.specs.Playing.{golden, chip, first, LeadsTo, MayPlay, WorldStands, PartsPlay, PartsBegun, StopsInPart, MayPlayOver}
 use Rattle.dg_trial.specs.Trials.{begins, Formatted, FormatEnds, Front, SchedulePlayed, ScheduleEnds, TrialOutcome, TrialRun, StopsReading, Unplayed}
@@ -44,9 +44,9 @@ pub parts_are : (motes pages seed s : ℕ) (g : Lcg) (links : List (ℕ × ℕ))
 parts_are motes pages seed s g links a b c =
     ap (λ (ls : List (ℕ × ℕ)). parts_by motes s g ls) a ∙ ap (λ (n : ℕ). parts_by motes n g (line motes)) b ∙ ap (λ (x : Lcg). parts_by motes (sweep_count motes pages) x (line motes)) c
 
-pub row_drawn : (pages seed word : ℕ) (g start : Lcg) → (word, g) ≡ pcg32 start → start ≡ first_generator seed → (row_by pages seed word ≡ row_of_seed pages seed) × (g ≡ (pcg32 (first_generator seed)).1)
-row_drawn pages seed word g start e at =
-    let h : (word, g) ≡ pcg32 (first_generator seed) = e ∙ ap pcg32 at in
+pub row_drawn : (pages seed draw : ℕ) (g start : Lcg) → (draw, g) ≡ pcg32 start → start ≡ first_generator seed → (row_by pages seed draw ≡ row_of_seed pages seed) × (g ≡ (pcg32 (first_generator seed)).1)
+row_drawn pages seed draw g start e at =
+    let h : (draw, g) ≡ pcg32 (first_generator seed) = e ∙ ap pcg32 at in
     (ap (λ (x : ℕ × Lcg). row_by pages seed x.0) h, ap (λ (x : ℕ × Lcg). x.1) h)
 
 -- the schedule may be played behind the beginning

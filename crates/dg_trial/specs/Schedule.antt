@@ -14,7 +14,7 @@ use Rattle.dg_object.specs.Object.{Row, row_of}
 use Rattle.dg_object.specs.Sizes.{page_size}
 use Rattle.dg_rounds.specs.Rounds.{times, sweep}
 use Rattle.dg_script.specs.Contents.{generated}
-use Rattle.dg_seed.specs.Words.{first_generator}
+use Rattle.dg_seed.specs.Draws.{first_generator}
 use Rattle.dg_world.specs.Alone.{uncut}
 
 -- a step, where so many frames were sent before it
@@ -46,21 +46,21 @@ resets (suc n) = resets n ++ Reset n 0 0 ∷ []
 abbrev pub sweep_count : (motes pages : ℕ) → ℕ
 sweep_count motes pages = pages + motes - 2
 
--- ---- what the words of the seed choose
+-- ---- what the draws of the seed choose
 
--- how many bytes the image has: some word makes the last page shorter
-abbrev pub size_by : (pages word : ℕ) → ℕ
-size_by pages word = (pages - 1) * page_size - word % page_size
+-- how many bytes the image has: some draw makes the last page shorter
+abbrev pub size_by : (pages draw : ℕ) → ℕ
+size_by pages draw = (pages - 1) * page_size - draw % page_size
 
 -- the image
-abbrev pub row_by : (pages seed word : ℕ) → Row
-row_by pages seed word = row_of 1 1 (codes "trial") (generated (size_by pages word) seed)
+abbrev pub row_by : (pages seed draw : ℕ) → Row
+row_by pages seed draw = row_of 1 1 (codes "trial") (generated (size_by pages draw) seed)
 
 -- the next mote on the line, or the one before the last
 abbrev pub beside : (motes a : ℕ) → ℕ
 beside motes a = if a + 1 == motes then a - 1 else a + 1
 
--- the cut in the operation that one word chooses, with the mask that the other one chooses
+-- the cut in the operation that one draw chooses, with the mask that the other one chooses
 abbrev pub drawn_cut : (w2 w3 : ℕ) → Cut
 drawn_cut w2 w3 =
     record { after = 1 + w2 % 64; mask = (w3 % 256) ∷ []; numbered = le-add_right 1 (w2 % 64); some = lit≤ tt; within = lit≤ tt }
@@ -78,11 +78,11 @@ disturbed_at motes mote kind w2 w3 sent =
     else if kind == 6 then uncut (Hear mote 1 w3 (1 + w2 % (sent + 1)))
     else cut_reset mote w2 w3
 
--- the disturbance that three words choose: the mote, the kind, and what else there is to choose
+-- the disturbance that three draws choose: the mote, the kind, and what else there is to choose
 abbrev pub disturbance : (motes w1 w2 w3 : ℕ) → Part
 disturbance motes w1 w2 w3 = λ sent. disturbed_at motes (w1 % motes) (w1 / 65536 % 8) w2 w3 sent
 
--- so many disturbances, each by the next three words of a generator
+-- so many disturbances, each by the next three draws of a generator
 unfoldable pub disturbances : (motes n : ℕ) → Lcg → List Part
 disturbances motes zero g = []
 disturbances motes (suc n) g =
@@ -91,14 +91,14 @@ disturbances motes (suc n) g =
     let c = pcg32 b.1 in
     disturbance motes a.0 b.0 c.0 ∷ disturbances motes n c.1
 
--- the generator behind the words of so many disturbances
+-- the generator behind the draws of so many disturbances
 unfoldable pub drawn : ℕ → Lcg → Lcg
 drawn zero g = g
 drawn (suc n) g = drawn n (pcg32 (pcg32 (pcg32 g).1).1).1
 
 -- ---- the whole schedule
 
--- the image that the first word of the seed chooses
+-- the image that the first draw of the seed chooses
 abbrev pub row_of_seed : (pages seed : ℕ) → Row
 row_of_seed pages seed = row_by pages seed (pcg32 (first_generator seed)).0
 

@@ -61,8 +61,8 @@ summary_line motes pages sweeps events whole =
     ++ codes " events " ++ decimal events ++ codes " whole " ++ decimal whole ++ 10 ∷ []
 
 -- of a trial that leads to world v
-abbrev pub told_of : (motes pages seed : ℕ) → World → List ℕ
-told_of motes pages seed v = summary_line motes pages (sweep_count motes pages) v.events (wholes (row_of_seed pages seed) v)
+abbrev pub trial_text : (motes pages seed : ℕ) → World → List ℕ
+trial_text motes pages seed v = summary_line motes pages (sweep_count motes pages) v.events (wholes (row_of_seed pages seed) v)
 
 -- there are fewer boards than motes
 abbrev pub no_board_line : (motes boards : ℕ) → List ℕ
@@ -121,11 +121,11 @@ pub record StopsReading (motes pages seed : ℕ) (old new : List Device) : Type 
 
 -- what the numbers of a trial tell that was played
 pub record TellsTrial (motes pages seed : ℕ) (last : World) (s : Summary) : Type 0 where
-  pub motes_told : s.motes ≡ motes
-  pub pages_told : s.pages ≡ pages
-  pub sweeps_told : s.sweeps ≡ sweep_count motes pages
-  pub events_told : s.events ≡ last.events
-  pub whole_told : s.whole ≡ wholes (row_of_seed pages seed) last
+  pub motes_reported : s.motes ≡ motes
+  pub pages_reported : s.pages ≡ pages
+  pub sweeps_reported : s.sweeps ≡ sweep_count motes pages
+  pub events_reported : s.events ≡ last.events
+  pub whole_reported : s.whole ≡ wholes (row_of_seed pages seed) last
 
 -- where a trial stands that was stopped: a front of its schedule was played, or none of it
 abbrev pub Unplayed : (motes pages seed : ℕ) → (old new : List Device) → Type 0
@@ -155,13 +155,13 @@ pub record TrialComplete (motes pages seed : ℕ) (a b : AroundTrial) : Type 0 w
   pub played : TrialPlayed motes pages seed a.boards b.boards
   pub kept : AllKeep motes (row_of_seed pages seed) played.last
   pub whole : wholes (row_of_seed pages seed) played.last ≡ motes
-  pub told : Puts a.written b.written (told_of motes pages seed played.last)
+  pub told : Puts a.written b.written (trial_text motes pages seed played.last)
 
 -- It was played, and its line was written in part.
 pub record TrialCut (motes pages seed : ℕ) (a b : AroundTrial) : Type 0 where
   pub enough : motes ≤ length a.boards
   pub played : TrialPlayed motes pages seed a.boards b.boards
-  pub told : PutsFront a.written b.written (told_of motes pages seed played.last)
+  pub told : PutsFront a.written b.written (trial_text motes pages seed played.last)
 
 -- the line of a trial in which every mote keeps the image whole
 abbrev pub TellsWhole : (motes pages : ℕ) → (before after : Option (List ℕ)) → Type 0

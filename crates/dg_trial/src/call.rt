@@ -19,7 +19,7 @@ use crate::playing::{Stop, play};
 use crate::summary::{Summary, count_events, count_whole, push_no_board, push_summary};
 use dg_base::{Sink, Status, WriteFailed};
 use dg_nor::Nor;
-use dg_seed::Words;
+use dg_seed::Draws;
 use dg_world::{FinishFault, World};
 use std::alloc::{AllocError, Global};
 
@@ -46,8 +46,8 @@ fn play_schedule<N: Nor>(
     requires boards { motes ≤ length boards.old.items }
     ensures { ScheduleEnds result motes pages seed (map N.device boards.old.items) (map N.device boards.new.items) }
 {
-    let mut words = Words::of_seed(seed);
-    let word = words.next();
+    let mut draws = Draws::of_seed(seed);
+    let draw = draws.next();
     let Ok(links) = line(alloc, motes) else {
         return Err(Stop::Memory);
     };
@@ -55,7 +55,7 @@ fn play_schedule<N: Nor>(
         return Err(Stop::Memory);
     };
     format(boards, motes)?;
-    let Ok(()) = declare(alloc, &mut world, pages, seed, word) else {
+    let Ok(()) = declare(alloc, &mut world, pages, seed, draw) else {
         return Err(Stop::Memory);
     };
     play(
@@ -64,7 +64,7 @@ fn play_schedule<N: Nor>(
         motes,
         &links,
         sweeps_of(motes, pages),
-        &mut words,
+        &mut draws,
         boards,
     )?;
     Ok(world)

@@ -1,4 +1,4 @@
-//! Disturbances: what words choose to happen.
+//! Disturbances: what draws choose to happen.
 ghost use Rattle.std.specs.Prelude.{◌≡◌, ◌+◌, ◌%◌, ◌<◌, ◌≤◌, ◌∷◌, [], IfOk};
 ghost use Rattle.dg_rules.specs.Sizes.{most_events, most_motes};
 ghost use Rattle.dg_trial.specs.Schedule.{beside, drawn_cut, cut_reset, disturbance};
@@ -26,15 +26,15 @@ fn beside(motes: u8, mote: u8) -> u8
     }
 }
 
-/// The number of a frame that a word chooses of those that were sent, or one more.
-fn chosen_frame(word: u32, sent: usize) -> u32
+/// The number of a frame that a draw chooses of those that were sent, or one more.
+fn chosen_frame(draw: u32, sent: usize) -> u32
     requires { sent ≤ most_events }
-    ensures { result ≡ 1 + word % (sent + 1) }
+    ensures { result ≡ 1 + draw % (sent + 1) }
 {
-    1 + (u64::from(word) % (sent as u64 + 1)) as u32
+    1 + (u64::from(draw) % (sent as u64 + 1)) as u32
 }
 
-/// The cut that words choose.
+/// The cut that draws choose.
 fn chosen_cut(alloc: Global, second: u32, third: u32) -> Result<Cut, AllocError>
     ensures { IfOk result (λ cut. cut ≡ drawn_cut second third) }
 {
@@ -46,7 +46,7 @@ fn chosen_cut(alloc: Global, second: u32, third: u32) -> Result<Cut, AllocError>
     })
 }
 
-/// What happens at a mote that three words choose, where so many frames were sent before.
+/// What happens at a mote that three draws choose, where so many frames were sent before.
 pub fn disturbance(
     alloc: Global,
     motes: u8,
@@ -66,18 +66,18 @@ pub fn disturbance(
         0..=3 => Event::Tick {
             mote,
             dt,
-            word: third,
+            draw: third,
         },
         4 | 5 => Event::Last {
             from: beside(motes, mote),
             to: mote,
             dt,
-            word: third,
+            draw: third,
         },
         6 => Event::Hear {
             mote,
             dt: 1,
-            word: third,
+            draw: third,
             frame: chosen_frame(second, sent),
         },
         _ => return cut_reset(alloc, mote, second, third),
@@ -93,7 +93,7 @@ fn cut_reset(alloc: Global, mote: u8, second: u32, third: u32) -> Result<Step, A
     let event = Event::Reset {
         mote,
         dt: 0,
-        word: third,
+        draw: third,
     };
     Ok(Step {
         event,

@@ -1,7 +1,7 @@
 //! Plays the parts of a schedule.
 ghost use Rattle.std.specs.Prelude.{◌≡◌, ◌+◌, ◌*◌, ◌<◌, ◌≤◌, ◌∷◌, ◌++◌, [], ℕ, map, length, option_copied};
 ghost use Rattle.dg_rounds.specs.Rounds.{times, sweep};
-ghost use Rattle.dg_seed.specs.Words.{generator_of};
+ghost use Rattle.dg_seed.specs.Draws.{generator_of};
 ghost use Rattle.dg_trial.specs.Schedule.{Part, always, only, resets, opening, disturbances, drawn};
 ghost use Rattle.dg_trial.specs.Playing.{PartsPlay, MayPlayOver};
 ghost use Rattle.dg_rules.specs.Sizes.{most_motes};
@@ -15,7 +15,7 @@ use dg_base::{Cut, Event};
 use dg_nor::Nor;
 use dg_rounds::sweep;
 use dg_rules::{Report, golden_is_found};
-use dg_seed::Words;
+use dg_seed::Draws;
 use dg_world::{World, WorldFault};
 use std::alloc::{AllocError, Global};
 
@@ -36,7 +36,7 @@ fn play_step<N: Nor>(
     event: &Event,
     cut: Option<&Cut>,
     boards: &mut Vec<N>,
-    told: &mut Vec<Report>,
+    reports: &mut Vec<Report>,
 ) -> Result<(), Stop>
     requires { (motes : ℕ)
         × MayPlayOver motes world.old (map N.device boards.old.items) (only (step_of event.now (option_copied cut))) }
@@ -47,8 +47,8 @@ fn play_step<N: Nor>(
         → PartsPlay result (part ∷ []) world.old world.new (map N.device boards.old.items) (map N.device boards.new.items) }
 {
     golden_is_found();
-    told.clear();
-    match world.apply(boards, event, cut, false, told) {
+    reports.clear();
+    match world.apply(boards, event, cut, false, reports) {
         Ok(()) => Ok(()),
         Err(WorldFault::Memory) => Err(Stop::Memory),
         Err(WorldFault::Flash { .. }) => Err(Stop::Flash),
@@ -63,13 +63,13 @@ fn play_event<N: Nor>(
     world: &mut World,
     event: Event,
     boards: &mut Vec<N>,
-    told: &mut Vec<Report>,
+    reports: &mut Vec<Report>,
 ) -> Result<(), Stop>
     requires { (motes : ℕ) × MayPlayOver motes world.old (map N.device boards.old.items) (always event ∷ []) }
     ensures { PartsPlay result (always event ∷ []) world.old world.new (map N.device boards.old.items)
         (map N.device boards.new.items) }
 {
-    play_step(world, &event, None, boards, told)
+    play_step(world, &event, None, boards, reports)
 }
 
 /// Resets each mote, in their order.
@@ -77,7 +77,7 @@ fn play_resets<N: Nor>(
     world: &mut World,
     motes: u8,
     boards: &mut Vec<N>,
-    told: &mut Vec<Report>,
+    reports: &mut Vec<Report>,
 ) -> Result<(), Stop>
     requires { MayPlayOver motes world.old (map N.device boards.old.items) (map always (resets motes)) }
     ensures { PartsPlay result (map always (resets motes)) world.old world.new (map N.device boards.old.items)
@@ -88,9 +88,9 @@ fn play_resets<N: Nor>(
         let event = Event::Reset {
             mote,
             dt: 0,
-            word: 0,
+            draw: 0,
         };
-        play_event(world, event, boards, told)?;
+        play_event(world, event, boards, reports)?;
     }
     Ok(())
 }
@@ -99,7 +99,7 @@ fn play_resets<N: Nor>(
 fn play_injection<N: Nor>(
     world: &mut World,
     boards: &mut Vec<N>,
-    told: &mut Vec<Report>,
+    reports: &mut Vec<Report>,
 ) -> Result<(), Stop>
     requires { (motes : ℕ) × MayPlayOver motes world.old (map N.device boards.old.items) (always (Event.Inject 0 1 1 0 0) ∷ []) }
     ensures { PartsPlay result (always (Event.Inject 0 1 1 0 0) ∷ []) world.old world.new (map N.device boards.old.items)
@@ -110,33 +110,33 @@ fn play_injection<N: Nor>(
         image: 1,
         version: 1,
         dt: 0,
-        word: 0,
+        draw: 0,
     };
-    play_event(world, event, boards, told)
+    play_event(world, event, boards, reports)
 }
 
-/// Plays the disturbance that the next three words choose.
+/// Plays the disturbance that the next three draws choose.
 fn play_disturbance<N: Nor>(
     alloc: Global,
     world: &mut World,
     motes: u8,
-    words: &mut Words,
+    draws: &mut Draws,
     boards: &mut Vec<N>,
-    told: &mut Vec<Report>,
+    reports: &mut Vec<Report>,
 ) -> Result<(), Stop>
-    requires may { MayPlayOver motes world.old (map N.device boards.old.items) (disturbances motes 1 (generator_of words.old)) }
+    requires may { MayPlayOver motes world.old (map N.device boards.old.items) (disturbances motes 1 (generator_of draws.old)) }
     requires some { 2 ≤ motes }
     requires few { motes ≤ most_motes }
-    ensures played { PartsPlay result (disturbances motes 1 (generator_of words.old)) world.old world.new
+    ensures played { PartsPlay result (disturbances motes 1 (generator_of draws.old)) world.old world.new
         (map N.device boards.old.items) (map N.device boards.new.items) }
-    ensures drawn { generator_of words.new ≡ drawn 1 (generator_of words.old) }
+    ensures drawn { generator_of draws.new ≡ drawn 1 (generator_of draws.old) }
 {
-    let first = words.next();
-    let second = words.next();
-    let third = words.next();
+    let first = draws.next();
+    let second = draws.next();
+    let third = draws.next();
     let sent = world.frames_sent();
     match disturbance(alloc, motes, sent, first, second, third) {
-        Ok(step) => play_step(world, &step.event, step.cut.as_ref(), boards, told),
+        Ok(step) => play_step(world, &step.event, step.cut.as_ref(), boards, reports),
         Err(AllocError) => Err(Stop::Memory),
     }
 }
@@ -146,20 +146,20 @@ fn play_disturbances<N: Nor>(
     alloc: Global,
     world: &mut World,
     motes: u8,
-    words: &mut Words,
+    draws: &mut Draws,
     boards: &mut Vec<N>,
-    told: &mut Vec<Report>,
+    reports: &mut Vec<Report>,
 ) -> Result<(), Stop>
     requires may { MayPlayOver motes world.old (map N.device boards.old.items)
-        (disturbances motes (100 * motes) (generator_of words.old)) }
+        (disturbances motes (100 * motes) (generator_of draws.old)) }
     requires some { 2 ≤ motes }
     requires few { motes ≤ most_motes }
-    ensures { PartsPlay result (disturbances motes (100 * motes) (generator_of words.old)) world.old world.new
+    ensures { PartsPlay result (disturbances motes (100 * motes) (generator_of draws.old)) world.old world.new
         (map N.device boards.old.items) (map N.device boards.new.items) }
 {
     what_is_left_may_be_played();
     for _ in 0..DISTURBANCES * u32::from(motes) {
-        play_disturbance(alloc, world, motes, words, boards, told)?;
+        play_disturbance(alloc, world, motes, draws, boards, reports)?;
     }
     Ok(())
 }
@@ -169,7 +169,7 @@ fn play_sweep<N: Nor>(
     world: &mut World,
     links: &[(u8, u8)],
     boards: &mut Vec<N>,
-    told: &mut Vec<Report>,
+    reports: &mut Vec<Report>,
 ) -> Result<(), Stop>
     requires { (motes : ℕ) × MayPlayOver motes world.old (map N.device boards.old.items) (map always (sweep links.now)) }
     ensures { PartsPlay result (map always (sweep links.now)) world.old world.new (map N.device boards.old.items)
@@ -177,7 +177,7 @@ fn play_sweep<N: Nor>(
 {
     what_is_left_may_be_played();
     for event in sweep(links) {
-        play_event(world, event, boards, told)?;
+        play_event(world, event, boards, reports)?;
     }
     Ok(())
 }
@@ -188,7 +188,7 @@ fn play_sweeps<N: Nor>(
     links: &[(u8, u8)],
     sweeps: u32,
     boards: &mut Vec<N>,
-    told: &mut Vec<Report>,
+    reports: &mut Vec<Report>,
 ) -> Result<(), Stop>
     requires { (motes : ℕ) × MayPlayOver motes world.old (map N.device boards.old.items)
         (map always (times sweeps (sweep links.now))) }
@@ -197,7 +197,7 @@ fn play_sweeps<N: Nor>(
 {
     what_is_left_may_be_played();
     for _ in 0..sweeps {
-        play_sweep(world, links, boards, told)?;
+        play_sweep(world, links, boards, reports)?;
     }
     Ok(())
 }
@@ -209,24 +209,24 @@ pub fn play<N: Nor>(
     motes: u8,
     links: &[(u8, u8)],
     sweeps: u32,
-    words: &mut Words,
+    draws: &mut Draws,
     boards: &mut Vec<N>,
 ) -> Result<(), Stop>
     requires may { MayPlayOver motes world.old (map N.device boards.old.items)
-        (opening motes ++ (disturbances motes (100 * motes) (generator_of words.old)
+        (opening motes ++ (disturbances motes (100 * motes) (generator_of draws.old)
         ++ map always (resets motes ++ times sweeps (sweep links.now)))) }
     requires some { 2 ≤ motes }
     requires few { motes ≤ most_motes }
-    ensures { PartsPlay result (opening motes ++ (disturbances motes (100 * motes) (generator_of words.old)
+    ensures { PartsPlay result (opening motes ++ (disturbances motes (100 * motes) (generator_of draws.old)
         ++ map always (resets motes ++ times sweeps (sweep links.now)))) world.old world.new (map N.device boards.old.items)
         (map N.device boards.new.items) }
 {
     what_is_left_may_be_played();
-    let mut told = Vec::new(alloc);
-    play_resets(world, motes, boards, &mut told)?;
-    play_injection(world, boards, &mut told)?;
-    play_disturbances(alloc, world, motes, words, boards, &mut told)?;
-    play_resets(world, motes, boards, &mut told)?;
-    play_sweeps(world, links, sweeps, boards, &mut told)?;
+    let mut reports = Vec::new(alloc);
+    play_resets(world, motes, boards, &mut reports)?;
+    play_injection(world, boards, &mut reports)?;
+    play_disturbances(alloc, world, motes, draws, boards, &mut reports)?;
+    play_resets(world, motes, boards, &mut reports)?;
+    play_sweeps(world, links, sweeps, boards, &mut reports)?;
     Ok(())
 }

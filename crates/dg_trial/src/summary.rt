@@ -1,4 +1,4 @@
-//! What is told of a trial.
+//! What is reported of a trial.
 ghost use Rattle.std.specs.Prelude.{◌≡◌, ◌++◌, ◌∷◌, [], ℕ, List, count_by, codes, OnOk};
 ghost use Rattle.std.specs.Fmt.{decimal};
 ghost use Rattle.dg_trial.specs.Trials.{summary_line, no_board_line};

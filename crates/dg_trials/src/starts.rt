@@ -48,8 +48,8 @@ const FIRST_START: u32 = COMMIT + COPY + COMMIT;
 /// The operations of an ordered start: program memory is told as blank before the copy.
 const ORDERED_START: u32 = COMMIT + COMMIT + COPY + COMMIT;
 
-fn begin<N: Nor>(nor: &mut N, kind: StartCause) -> Result<Running, BootFault> {
-    let started = start(nor, kind)?;
+fn begin<N: Nor>(nor: &mut N, cause: StartCause) -> Result<Running, BootFault> {
+    let started = start(nor, cause)?;
     Ok(Running {
         image: started.image,
         version: started.version,

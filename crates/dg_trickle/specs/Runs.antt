@@ -6,21 +6,21 @@ use Rattle.dg_trickle.specs.Times.{shortest_interval}
 use Rattle.dg_trickle.specs.Timer.{Timer}
 use Rattle.dg_trickle.specs.Steps.{started, after_same, after_other, after_tick, act_of}
 
--- what is asked of a timer after it was started, with the moment and the word
+-- what is asked of a timer after it was started, with the moment and the draw
 pub data Call : Type 0 where
   Same : Call
-  Other : (moment word : ℕ) → Call
-  Tick : (moment word : ℕ) → Call
+  Other : (moment draw : ℕ) → Call
+  Tick : (moment draw : ℕ) → Call
 
 abbrev pub after : Timer → Call → Timer
 after s Same = after_same s
-after s (Other moment word) = after_other s moment word
-after s (Tick moment word) = after_tick s moment word
+after s (Other moment draw) = after_other s moment draw
+after s (Tick moment draw) = after_tick s moment draw
 
 -- the timer after a history, the newest call first
 abbrev pub timer : ℕ → ℕ → List Call → Timer
-timer start word [] = started start word
-timer start word (call ∷ earlier) = after (timer start word earlier) call
+timer start draw [] = started start draw
+timer start draw (call ∷ earlier) = after (timer start draw earlier) call
 
 -- what can happen within an interval: something equal is heard, and at t the timer sends or keeps quiet
 pub data Mark : Type 0 where
@@ -36,13 +36,13 @@ noted_of Nothing marks = marks
 
 abbrev pub noted : Timer → Call → List Mark → List Mark
 noted s Same marks = Heard ∷ marks
-noted s (Other moment word) marks = if nat_lt shortest_interval s.interval then [] else marks
-noted s (Tick moment word) marks = noted_of (act_of s moment) marks
+noted s (Other moment draw) marks = if nat_lt shortest_interval s.interval then [] else marks
+noted s (Tick moment draw) marks = noted_of (act_of s moment) marks
 
 -- what has happened since the current interval began, the newest first
 abbrev pub current : ℕ → ℕ → List Call → List Mark
-current start word [] = []
-current start word (call ∷ earlier) = noted (timer start word earlier) call (current start word earlier)
+current start draw [] = []
+current start draw (call ∷ earlier) = noted (timer start draw earlier) call (current start draw earlier)
 
 -- how often the timer sent
 abbrev pub sends : List Mark → ℕ

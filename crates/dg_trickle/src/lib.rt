@@ -1,6 +1,6 @@
 //! The Trickle timer of RFC 6206: when to send, when to keep quiet, and when to begin anew.
 //!
-//! Moments are milliseconds, and a word stands for a random draw. Section 4.1 of the RFC leaves
+//! Moments are milliseconds, and a draw stands for a random number. Section 4.1 of the RFC leaves
 //! three parameters open: here Imin is 500 ms, Imax is Imin doubled seven times, and k is 1.
 #![tactic(auto)]
 
@@ -79,12 +79,12 @@ impl Model for Trickle {
 
 impl Trickle {
     /// Starts a timer: the shortest interval begins at `now`.
-    pub fn new(now: u64, word: u32) -> Self
+    pub fn new(now: u64, draw: u32) -> Self
         requires { now < 2 ^ 62 }
-        ensures value { result ≡ started now word }
+        ensures value { result ≡ started now draw }
         ensures running { IsRunning result }
     {
-        Self::begin(SHORTEST_INTERVAL, now, word)
+        Self::begin(SHORTEST_INTERVAL, now, draw)
     }
 
     /// Notes that something equal was heard.
@@ -96,21 +96,21 @@ impl Trickle {
     }
 
     /// Notes that something other was heard: the shortest interval begins, unless it runs.
-    pub fn heard_other(&mut self, now: u64, word: u32)
+    pub fn heard_other(&mut self, now: u64, draw: u32)
         requires { now < 2 ^ 62 }
-        ensures value { self.new ≡ after_other self.old now word }
+        ensures value { self.new ≡ after_other self.old now draw }
         ensures running { IsRunning self.new }
     {
         if self.interval > SHORTEST_INTERVAL {
-            *self = Self::begin(SHORTEST_INTERVAL, now, word);
+            *self = Self::begin(SHORTEST_INTERVAL, now, draw);
         }
     }
 
     /// Looks at the clock.
-    pub fn tick(&mut self, now: u64, word: u32) -> Act
+    pub fn tick(&mut self, now: u64, draw: u32) -> Act
         requires { now < 2 ^ 62 }
         ensures act { result ≡ act_of self.old now }
-        ensures value { self.new ≡ after_tick self.old now word }
+        ensures value { self.new ≡ after_tick self.old now draw }
         ensures running { IsRunning self.new }
     {
         if !self.fired {
@@ -128,23 +128,23 @@ impl Trickle {
             return Act::Nothing;
         }
         let longer = (2 * self.interval).min(LONGEST_INTERVAL);
-        *self = Self::begin(longer, now, word);
+        *self = Self::begin(longer, now, draw);
         Act::Expired
     }
 
     // An interval begins. The moment from which on it may fire is drawn from its second half.
-    fn begin(interval: u32, now: u64, word: u32) -> Self
+    fn begin(interval: u32, now: u64, draw: u32) -> Self
         requires shortest { shortest_interval ≤ interval }
         requires longest { interval ≤ longest_interval }
         requires moment { now < 2 ^ 62 }
-        ensures value { result ≡ begun interval now word }
+        ensures value { result ≡ begun interval now draw }
         ensures running { IsRunning result }
     {
         let half = interval / 2;
         Self {
             interval,
             begin: now,
-            fires_after: half + word % half,
+            fires_after: half + draw % half,
             heard: 0,
             fired: false,
         }
@@ -162,10 +162,10 @@ pub fn the_parameters_are_these()
 /// interval is the shortest one doubled up to seven times, it only doubles or falls back to the
 /// shortest, and t lies in its second half.
 pub fn interval_bounds()
-    ensures running { (start word : ℕ) (calls : List Call) → IsRunning (timer start word calls) }
-    ensures sizes { (start word : ℕ) (calls : List Call) → IsDoubled (timer start word calls) }
-    ensures changes { (start word : ℕ) (earlier : List Call) (call : Call)
-        → DoublesOrFalls (timer start word earlier) (timer start word (call ∷ earlier)) }
+    ensures running { (start draw : ℕ) (calls : List Call) → IsRunning (timer start draw calls) }
+    ensures sizes { (start draw : ℕ) (calls : List Call) → IsDoubled (timer start draw calls) }
+    ensures changes { (start draw : ℕ) (earlier : List Call) (call : Call)
+        → DoublesOrFalls (timer start draw earlier) (timer start draw (call ∷ earlier)) }
     ensures step { (s : Timer) (call : Call) → IsRunning s → IsRunning (after s call) }
 {}
 
@@ -173,12 +173,12 @@ pub fn interval_bounds()
 /// the interval began, keeps quiet only where something equal was heard, and so sends at most once
 /// an interval.
 pub fn suppression()
-    ensures untouched { (start word : ℕ) (earlier : List Call) (moment : ℕ)
-        → act_of (timer start word earlier) moment ≡ Act.Send → current start word earlier ≡ [] }
-    ensures heard { (start word : ℕ) (earlier : List Call) (moment : ℕ)
-        → act_of (timer start word earlier) moment ≡ Act.Quiet
-        → Contains (current start word earlier) Heard }
-    ensures once { (start word : ℕ) (calls : List Call) → sends (current start word calls) ≤ 1 }
+    ensures untouched { (start draw : ℕ) (earlier : List Call) (moment : ℕ)
+        → act_of (timer start draw earlier) moment ≡ Act.Send → current start draw earlier ≡ [] }
+    ensures heard { (start draw : ℕ) (earlier : List Call) (moment : ℕ)
+        → act_of (timer start draw earlier) moment ≡ Act.Quiet
+        → Contains (current start draw earlier) Heard }
+    ensures once { (start draw : ℕ) (calls : List Call) → sends (current start draw calls) ≤ 1 }
 {}
 
 #[cfg(test)]

@@ -150,7 +150,7 @@ pub fn trails_begin()
     ensures take { (s : Store) (p : Outline) → BeginsAt s (take_trail s p) }
     ensures fill { (s : Store) (image : ℕ) (pages : List (List ℕ)) → BeginsAt s (fill_trail s image pages) }
     ensures inject { (s : Store) (row : Row) → BeginsAt s (inject_trail s row) }
-    ensures boot { (kind : StartCause) (s : Store) → BeginsAt s (boot kind s).trail }
+    ensures boot { (cause : StartCause) (s : Store) → BeginsAt s (boot cause s).trail }
 {}
 
 /// The trails of acts on a store that agrees with a table go through stores that agree, where what is taken or injected
@@ -164,8 +164,8 @@ pub fn trails_keep_agreement()
         → row_at table row.image row.version ≡ Some row → Agrees table s → Through (Agrees table) (take_trail s (profile row)) }
     ensures inject { (table : List Row) (s : Store) (row : Row) → row.image < length s.kept
         → row_at table row.image row.version ≡ Some row → Agrees table s → Through (Agrees table) (inject_trail s row) }
-    ensures boot { (table : List Row) (kind : StartCause) (s : Store) → Agrees table s
-        → Through (Agrees table) (boot kind s).trail }
+    ensures boot { (table : List Row) (cause : StartCause) (s : Store) → Agrees table s
+        → Through (Agrees table) (boot cause s).trail }
     // one page more of what is kept of a row, after n operations
     ensures page { (table : List Row) (s : Store) (row : Row) (h : Held) (n : ℕ) → 1 ≤ row.image → row.image < length s.kept
         → row_at table row.image row.version ≡ Some row → held s row.image ≡ Some h → h.version ≡ row.version
@@ -192,10 +192,10 @@ pub fn trails_keep_consistency()
         → Through (Consistent golden) (take_trail s p) }
     ensures inject { (golden : Row) (s : Store) (row : Row) → IsRow row → row.image < length s.kept → Consistent golden s
         → Through (Consistent golden) (inject_trail s row) }
-    ensures boot { (golden : Row) (kind : StartCause) (s : Store) → Consistent golden s
-        → Through (Consistent golden) (boot kind s).trail }
-    ensures starts { (golden : Row) (kind : StartCause) (s : Store) → Consistent golden s
-        → IfSome (boot kind s).runs (λ r. IsSoundApp golden (app_of r)) }
+    ensures boot { (golden : Row) (cause : StartCause) (s : Store) → Consistent golden s
+        → Through (Consistent golden) (boot cause s).trail }
+    ensures starts { (golden : Row) (cause : StartCause) (s : Store) → Consistent golden s
+        → IfSome (boot cause s).runs (λ r. IsSoundApp golden (app_of r)) }
     // one page more that may be sealed, after n operations
     ensures page { (golden : Row) (s : Store) (image : ℕ) (h : Held) (page : List ℕ) (n : ℕ) → 1 ≤ image
         → image < length s.kept → held s image ≡ Some h → may_seal image h page ≡ true
@@ -245,10 +245,10 @@ pub fn acts_end()
 /// Where a start ends, and what it starts. First it is counted, where it counts. Then it is golden by the gesture, the
 /// ordered image where an order waits, and else what is in program memory, or golden where that is blank.
 pub fn starts_end()
-    ensures count { (kind : StartCause) (s : Store) → last (count_trail kind s) ≡ if counts kind s
+    ensures count { (cause : StartCause) (s : Store) → last (count_trail cause s) ≡ if counts cause s
         then record (spent s) { gesture = s.gesture + 1 } else s }
-    ensures counted { (kind : StartCause) (s : Store) → ((boot kind s).runs ≡ (boot_counted (last (count_trail kind s))).runs)
-        × (last (boot kind s).trail ≡ last (boot_counted (last (count_trail kind s))).trail) }
+    ensures counted { (cause : StartCause) (s : Store) → ((boot cause s).runs ≡ (boot_counted (last (count_trail cause s))).runs)
+        × (last (boot cause s).trail ≡ last (boot_counted (last (count_trail cause s))).trail) }
     ensures by_gesture { (s : Store) → by_gesture s ≡ true → boot_counted s ≡ golden_boot s true }
     ensures order { (s : Store) → by_gesture s ≡ false → order_waits s ≡ true → sound s s.order.image ≡ true
         → BootEnds (boot_counted s) (ordered_runs s) (order_started s) }
@@ -268,7 +268,7 @@ pub fn starts_end()
 /// A start leaves kept images and the order as they are, runs golden, what program memory was Set to or the ordered
 /// image, and ends with program memory Set to what runs, or blank where that is golden.
 pub fn a_start_ends()
-    ensures { (kind : StartCause) (s : Store) → Boots s (boot kind s) }
+    ensures { (cause : StartCause) (s : Store) → Boots s (boot cause s) }
 {}
 
 /// The next page of an image of which the first pages are kept may be sealed, and so may all that are missing, one

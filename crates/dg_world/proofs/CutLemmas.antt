@@ -19,7 +19,7 @@ use Rattle.dg_base.specs.declared.events.Cut.{Cut as PowerCut}
 use Rattle.dg_world.specs.Turns.{TellsDeed, DeedWent, StoppedOn, TurnEnds}
 use Rattle.dg_world.specs.Cuts.{ended, EventIsWhole, EventIsCut, IsStopped, EventPlayed}
 use Rattle.dg_world.specs.Hosts.{host}
-use Rattle.dg_world.specs.declared.shown.Shown.{Shown}
+use Rattle.dg_world.specs.declared.chip_report.ChipReport.{ChipReport}
 use Rattle.dg_world.specs.declared.world.RunningMote.{RunningMote}
 use Rattle.dg_world.specs.Turn.{EventTurn, Refused, Rests, Sends, Changes, Starts, TurnEnded, Halt, Stopped, NotAVolume, NoImage}
 
@@ -85,7 +85,7 @@ fused_whole cut w m does u a b x y turn f g = record {
 }
 
 -- a refused event makes no operation, so that no cut blows in it
-blown_deed : (cut : PowerCut) (w : RuleWorld) (m : ℕ) (does : Does) (a b x y : Device) (before : Option Shown) → IsFused cut a b x y → y.blown ≡ true → StoppedOn does (store_at w m) x y before → EventIsCut w m does (Some cut) b.image before
+blown_deed : (cut : PowerCut) (w : RuleWorld) (m : ℕ) (does : Does) (a b x y : Device) (before : Option ChipReport) → IsFused cut a b x y → y.blown ≡ true → StoppedOn does (store_at w m) x y before → EventIsCut w m does (Some cut) b.image before
 blown_deed cut w m (Refuses why) a b x y before f blown s =
     let h = left_blown (cut.after - 1) s.stops f.whole blown f.left in
     absurd (omega (arith, h.0, operations-resting (store_at w m) 0))
@@ -96,7 +96,7 @@ blown_deed cut w m (Goes d) a b x y before f blown s =
       goes = refl;
       blown = le-leb cut.after (operations d.trail) (omega (arith, h.0));
       leaves = subst (λ c. MayLeave Stands IsNear d.trail (cut.after - 1) c) f.image_then h.1;
-      shows = s.shows f.whole blown;
+      is_report = s.is_report f.whole blown;
     }
 
 -- no more is made than is left
@@ -105,7 +105,7 @@ made_within n k None h = cc
 made_within n k (Some m) h = let e : k ≡ m + n = same_Some k (m + n) h in omega (arith, e)
 
 -- the board itself stopped, whether the cut blew or not
-stopped_itself : (cut : PowerCut) (w : RuleWorld) (m : ℕ) (does : Does) (a b x y : Device) (before : Option Shown) → b.stopped ≡ true → IsFused cut a b x y → StoppedOn does (store_at w m) x y before → IsStopped w m does (Some cut) b
+stopped_itself : (cut : PowerCut) (w : RuleWorld) (m : ℕ) (does : Does) (a b x y : Device) (before : Option ChipReport) → b.stopped ≡ true → IsFused cut a b x y → StoppedOn does (store_at w m) x y before → IsStopped w m does (Some cut) b
 stopped_itself cut w m does a b x y before stopped f s = record {
   stopped = stopped;
   done = s.stops.done;
@@ -114,7 +114,7 @@ stopped_itself cut w m does a b x y before stopped f s = record {
   leaves = subst (λ c. MayLeave Stands IsNear (trail_of does (store_at w m)) s.stops.done c) f.image_then s.stops.leaves;
 }
 
-fused_stopped : (cut : PowerCut) (w : RuleWorld) (m : ℕ) (does : Does) (v u : Option RunningMote) (a b x y : Device) (before : Option Shown) (blown stopped : Bool) → y.blown ≡ blown → b.stopped ≡ stopped → IsFused cut a b x y → StoppedOn does (store_at w m) x y before
+fused_stopped : (cut : PowerCut) (w : RuleWorld) (m : ℕ) (does : Does) (v u : Option RunningMote) (a b x y : Device) (before : Option ChipReport) (blown stopped : Bool) → y.blown ≡ blown → b.stopped ≡ stopped → IsFused cut a b x y → StoppedOn does (store_at w m) x y before
     → EventPlayed (ended (blown && not stopped) (Err (Stopped before))) w m does (Some cut) (host a v) (host b u)
 fused_stopped cut w m does v u a b x y before true false blew awake f s =
     let endures = fused_halts cut a b x y f s.stops.halts in

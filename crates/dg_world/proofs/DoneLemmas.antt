@@ -18,7 +18,7 @@ use Rattle.dg_frame.specs.Spelling.{frame_of}
 use Rattle.dg_rules.specs.World.{World as RuleWorld, Site, no_site, site, store_at, counted, with_site}
 use Rattle.dg_rules.specs.Events.{Deed, Does, Refuses, Goes, trail_of, does, mote_of, dt_of}
 use Rattle.dg_rules.specs.Steps.{blows, before_cut, and_sent, done_world, cut_world, done_reports, Ended, StepDoes, WorldStep}
-use Rattle.dg_rules.specs.Changes.{changes, is_told}
+use Rattle.dg_rules.specs.Changes.{changes, is_reported}
 use Rattle.dg_rules.specs.Ranges.{EventInRange}
 use Rattle.dg_base.specs.declared.events.Cut.{Cut as PowerCut}
 use Rattle.dg_base.specs.declared.events.Event.{Event}
@@ -33,13 +33,13 @@ use Rattle.dg_world.specs.Turns.{turn_frame, turn_lines}
 use Rattle.dg_world.specs.Cuts.{EventIsWhole, EventIsCut, EventPlayed}
 use Rattle.dg_world.specs.Hosts.{host}
 use Rattle.dg_world.specs.Stepped.{CutChangesAre, StepDone, Stepped, station}
-use Rattle.dg_world.specs.declared.shown.Shown.{Shown}
+use Rattle.dg_world.specs.declared.chip_report.ChipReport.{ChipReport}
 use Rattle.dg_world.specs.declared.world.RunningMote.{RunningMote}
-use Rattle.dg_world.specs.declared.telling.Telling.{Telling}
-use Rattle.dg_world.specs.declared.telling.Fault.{Fault}
-use Rattle.dg_world.specs.declared.telling.Fault.TheVariants as fault
-use Rattle.dg_world.specs.Tellings.{halt_of, stepped}
-use Rattle.dg_world.proofs.ShownLemmas.{cut_told}
+use Rattle.dg_world.specs.declared.outcome.Outcome.{Outcome}
+use Rattle.dg_world.specs.declared.outcome.Fault.{Fault}
+use Rattle.dg_world.specs.declared.outcome.Fault.TheVariants as fault
+use Rattle.dg_world.specs.Outcomes.{halt_of, stepped}
+use Rattle.dg_world.proofs.ChipReportLemmas.{cut_told}
 use Rattle.dg_world.proofs.StepLemmas.{ReadAndTold}
 use Rattle.dg_world.specs.Turn.{EventTurn, Refused, Rests, Sends, Changes, Starts, Whole, Cut, Halt, Stopped, NotAVolume, NoImage}
 
@@ -95,7 +95,7 @@ none_sent w m (Some frame) e = absurd cc
 -- ---- what ended the event
 
 pub refused_done : (w : RuleWorld) (x : Step) (reported : Bool) (v u : Option RunningMote) (frame : Option (List ℕ)) (why : Cause) (a b : Device) (start end : List Report) → mote_of x.event < length w.sites
-    → SiteStands a v (site w (mote_of x.event)) → does w x.event ≡ Refuses why → b.image ≡ a.image → u ≡ v → frame ≡ turn_frame (Refused why) → end ≡ start ++ filter (is_told reported) (turn_lines (mote_of x.event) (Refused why))
+    → SiteStands a v (site w (mote_of x.event)) → does w x.event ≡ Refuses why → b.image ≡ a.image → u ≡ v → frame ≡ turn_frame (Refused why) → end ≡ start ++ filter (is_reported reported) (turn_lines (mote_of x.event) (Refused why))
     → StepDone w x reported frame start (station b u end)
 refused_done w x reported v u frame why a b start end known stands is same at none told =
     let here = site w (mote_of x.event) in
@@ -104,7 +104,7 @@ refused_done w x reported v u frame why a b start end known stands is same at no
       world = counted w (dt_of x.event);
       reports = RefusedLine (mote_of x.event) why ∷ [];
       step = refused_step w x why is;
-      told_now = told;
+      report_now = told;
       here = here;
       moment = refl;
       events = refl;
@@ -119,7 +119,7 @@ refused_done w x reported v u frame why a b start end known stands is same at no
     }
 
 pub whole_done : (w : RuleWorld) (x : Step) (reported : Bool) (u : Option RunningMote) (frame : Option (List ℕ)) (turn : EventTurn) (b : Device) (start end : List Report)
-    → EventIsWhole w (mote_of x.event) (does w x.event) x.cut u b.image turn → frame ≡ turn_frame turn → end ≡ start ++ filter (is_told reported) (turn_lines (mote_of x.event) turn) → StepDone w x reported frame start (station b u end)
+    → EventIsWhole w (mote_of x.event) (does w x.event) x.cut u b.image turn → frame ≡ turn_frame turn → end ≡ start ++ filter (is_reported reported) (turn_lines (mote_of x.event) turn) → StepDone w x reported frame start (station b u end)
 whole_done w x reported u frame turn b start end is sends told =
     let m = mote_of x.event in
     let d = is.deed in
@@ -130,7 +130,7 @@ whole_done w x reported u frame turn b start end is sends told =
       world = done_world w m (dt_of x.event) d is.tells.runs;
       reports = done_reports w m d;
       step = world_step w x d false _ _ is.goes is.whole (is.tells.runs, is.tells.runs_then, refl, refl);
-      told_now = told ∙ ap (λ (l : List Report). start ++ filter (is_told reported) l) is.tells.lines;
+      report_now = told ∙ ap (λ (l : List Report). start ++ filter (is_reported reported) l) is.tells.lines;
       here = here;
       moment = same.moment;
       events = same.events;
@@ -146,18 +146,18 @@ whole_done w x reported u frame turn b start end is sends told =
           subst P (ap (λ (y : Deed). y.started) (same_deed d e (sym is.goes ∙ goes)) ∙ some) is.tells.memory;
     }
 
-pub cut_done : (w : RuleWorld) (x : Step) (reported : Bool) (before : Option Shown) (b c : Device) (start mid end : List Report) → (is : EventIsCut w (mote_of x.event) (does w x.event) x.cut b.image before)
+pub cut_done : (w : RuleWorld) (x : Step) (reported : Bool) (before : Option ChipReport) (b c : Device) (start mid end : List Report) → (is : EventIsCut w (mote_of x.event) (does w x.event) x.cut b.image before)
     → CutChangesAre (mote_of x.event) before is.leaves.store start mid → end ≡ mid ++ Off (mote_of x.event) ∷ [] → c.image ≡ b.image → StepDone w x reported None start (station c None end)
 cut_done w x reported before b c start mid end is lines off same =
     let m = mote_of x.event in
     let d = is.deed in
     let s = is.leaves.store in
-    let told = lines.tells (before_cut x.cut) (store_at w m) d.trail is.leaves.allowed is.shows in
+    let told = lines.tells (before_cut x.cut) (store_at w m) d.trail is.leaves.allowed is.is_report in
     record {
       world = cut_world w m (dt_of x.event) d s;
       reports = changes m (store_at w m) s ++ Off m ∷ [];
       step = world_step w x d true _ _ is.goes is.blown (record { store = s; allowed = is.leaves.allowed; world = refl; report = refl });
-      told_now = off ∙ ap (λ (l : List Report). l ++ Off m ∷ []) lines.told_now ∙ append_assoc start lines.lines (Off m ∷ []) ∙ ap (λ (l : List Report). start ++ (l ++ Off m ∷ [])) told ∙ ap (λ (l : List Report). start ++ l) (sym (cut_told reported m (store_at w m) s));
+      report_now = off ∙ ap (λ (l : List Report). l ++ Off m ∷ []) lines.report_now ∙ append_assoc start lines.lines (Off m ∷ []) ∙ ap (λ (l : List Report). start ++ (l ++ Off m ∷ [])) told ∙ ap (λ (l : List Report). start ++ l) (sym (cut_told reported m (store_at w m) s));
       here = record { store = s; runs = None };
       moment = refl;
       events = refl;
@@ -174,7 +174,7 @@ cut_done w x reported before b c start mid end is lines off same =
 -- ---- what the step ends with
 
 pub step_turn : (w : RuleWorld) (x : Step) (reported : Bool) (v u : Option RunningMote) (frame : Option (List ℕ)) (turn : EventTurn) (a b : Device) (start end : List Report) → mote_of x.event < length w.sites → SiteStands a v (site w (mote_of x.event))
-    → EventPlayed (Ok (Whole turn)) w (mote_of x.event) (does w x.event) x.cut (host a v) (host b u) → frame ≡ turn_frame turn → end ≡ start ++ filter (is_told reported) (turn_lines (mote_of x.event) turn)
+    → EventPlayed (Ok (Whole turn)) w (mote_of x.event) (does w x.event) x.cut (host a v) (host b u) → frame ≡ turn_frame turn → end ≡ start ++ filter (is_reported reported) (turn_lines (mote_of x.event) turn)
     → Stepped (Ok frame) w x reported (station a v start) (station b u end)
 step_turn w x reported v u frame (Refused why) a b start end known stands p sends told =
     record { ends = refused_done w x reported v u frame why a b start end known stands p.ends.0 p.ends.1 p.ends.2 sends told; endures = p.endures; count = p.count }
@@ -198,7 +198,7 @@ cut_itself : (cut : Option PowerCut) → IfSome cut (λ c. before_cut cut ≤ c.
 cut_itself None = tt
 cut_itself (Some c) = omega arith
 
-pub step_cut : {T : Type 0} (w : RuleWorld) (x : Step) (reported : Bool) (v u : Option RunningMote) (before : Option Shown) (q : Result T Fault) (y : T) (a b c : Device) (start mid end : List Report) → (p : EventPlayed (Ok (Cut before)) w (mote_of x.event) (does w x.event) x.cut (host a v) (host b u))
+pub step_cut : {T : Type 0} (w : RuleWorld) (x : Step) (reported : Bool) (v u : Option RunningMote) (before : Option ChipReport) (q : Result T Fault) (y : T) (a b c : Device) (start mid end : List Report) → (p : EventPlayed (Ok (Cut before)) w (mote_of x.event) (does w x.event) x.cut (host a v) (host b u))
     → q ≡ Ok y → ReadAndTold q (mote_of x.event) before p.ends.leaves.store b c start mid → end ≡ mid ++ Off (mote_of x.event) ∷ [] → Stepped (Ok None) w x reported (station a v start) (station c None end)
 step_cut {T} w x reported v u before q y a b c start mid end p is told off =
     let l : ReadAndTold (Ok y) (mote_of x.event) before p.ends.leaves.store b c start mid = subst (λ (z : Result T Fault). ReadAndTold z (mote_of x.event) before p.ends.leaves.store b c start mid) is told in
@@ -208,7 +208,7 @@ step_cut {T} w x reported v u before q y a b c start mid end p is told off =
       count = l.1.1 ∙ p.count;
     }
 
-cut_halts : (T : Type 0) (f : Fault) (w : RuleWorld) (x : Step) (reported : Bool) (v u o : Option RunningMote) (before k : Option Shown) (a b c : Device) (start end : List Report) → (p : EventPlayed (Ok (Cut before)) w (mote_of x.event) (does w x.event) x.cut (host a v) (host b u))
+cut_halts : (T : Type 0) (f : Fault) (w : RuleWorld) (x : Step) (reported : Bool) (v u o : Option RunningMote) (before k : Option ChipReport) (a b c : Device) (start end : List Report) → (p : EventPlayed (Ok (Cut before)) w (mote_of x.event) (does w x.event) x.cut (host a v) (host b u))
     → ReadAndTold {T = T} (Err f) (mote_of x.event) before p.ends.leaves.store b c start end → Stepped (Err (halt_of f k)) w x reported (station a v start) (station c o end)
 cut_halts T fault.Stopped w x reported v u o before k a b c start end p lines = record {
   ends = (
@@ -228,7 +228,7 @@ cut_halts T fault.Stopped w x reported v u o before k a b c start end p lines = 
 cut_halts T fault.NotAVolume w x reported v u o before k a b c start end p lines = absurd lines.0
 cut_halts T fault.NoImage w x reported v u o before k a b c start end p lines = absurd lines.0
 
-pub step_cut_halts : {T : Type 0} (r : Result (Unit {0}) Fault) (q : Result T Fault) (t : Telling) (f : Fault) (w : RuleWorld) (x : Step) (reported : Bool) (v u o : Option RunningMote) (before : Option Shown) (a b c : Device) (start end : List Report) → IsErrAnd r (λ e. e ≡ f) → q ≡ Err f
+pub step_cut_halts : {T : Type 0} (r : Result (Unit {0}) Fault) (q : Result T Fault) (t : Outcome) (f : Fault) (w : RuleWorld) (x : Step) (reported : Bool) (v u o : Option RunningMote) (before : Option ChipReport) (a b c : Device) (start end : List Report) → IsErrAnd r (λ e. e ≡ f) → q ≡ Err f
     → (p : EventPlayed (Ok (Cut before)) w (mote_of x.event) (does w x.event) x.cut (host a v) (host b u)) → ReadAndTold q (mote_of x.event) before p.ends.leaves.store b c start end → Stepped (stepped r t) w x reported (station a v start) (station c o end)
 step_cut_halts {T} (Ok y) q t f w x reported v u o before a b c start end is e p lines = absurd is
 step_cut_halts {T} (Err y) q t f w x reported v u o before a b c start end is e p lines =
@@ -240,7 +240,7 @@ step_halts (Stopped k) w x reported v u a b told p = record { ends = (p.ends, re
 step_halts NotAVolume w x reported v u a b told p = absurd p.ends
 step_halts NoImage w x reported v u a b told p = record { ends = (p.ends, refl); endures = p.endures; count = p.count }
 
-pub step_fails : (r : Result (Unit {0}) Fault) (f : Fault) (t : Telling) (w : RuleWorld) (x : Step) (reported : Bool) (v u : Option RunningMote) (a b : Device) (told : List Report) → IsErrAnd r (λ e. e ≡ f)
+pub step_fails : (r : Result (Unit {0}) Fault) (f : Fault) (t : Outcome) (w : RuleWorld) (x : Step) (reported : Bool) (v u : Option RunningMote) (a b : Device) (told : List Report) → IsErrAnd r (λ e. e ≡ f)
     → EventPlayed (Err (halt_of f t.before)) w (mote_of x.event) (does w x.event) x.cut (host a v) (host b u) → Stepped (stepped r t) w x reported (station a v told) (station b u told)
 step_fails (Ok y) f t w x reported v u a b told is p = absurd is
 step_fails (Err e) f t w x reported v u a b told is p =
@@ -249,13 +249,13 @@ step_fails (Err e) f t w x reported v u a b told is p =
 
 -- the mote of a step that fits is one of the world
 pub event_mote : (motes : ℕ) (event : Event) → EventInRange motes event → mote_of event < motes
-event_mote motes (Tick m dt word) fits = fits
-event_mote motes (Hear m dt word frame) fits = fits.0
-event_mote motes (Last from to dt word) fits = fits.1
-event_mote motes (Frame m dt word bytes) fits = fits.0
-event_mote motes (Reset m dt word) fits = fits
-event_mote motes (Inject m image version dt word) fits = fits.0
-event_mote motes (OrderEvent m number image version dt word) fits = fits.0
+event_mote motes (Tick m dt draw) fits = fits
+event_mote motes (Hear m dt draw frame) fits = fits.0
+event_mote motes (Last from to dt draw) fits = fits.1
+event_mote motes (Frame m dt draw bytes) fits = fits.0
+event_mote motes (Reset m dt draw) fits = fits
+event_mote motes (Inject m image version dt draw) fits = fits.0
+event_mote motes (OrderEvent m number image version dt draw) fits = fits.0
 
-pub told_at : {T : Type 0} (r : Result T Fault) (m n : ℕ) (before : Option Shown) (s : Store) (a b : Device) (start end : List Report) → m ≡ n → ReadAndTold r m before s a b start end → ReadAndTold r n before s a b start end
+pub told_at : {T : Type 0} (r : Result T Fault) (m n : ℕ) (before : Option ChipReport) (s : Store) (a b : Device) (start end : List Report) → m ≡ n → ReadAndTold r m before s a b start end → ReadAndTold r n before s a b start end
 told_at r m n before s a b start end e told = subst (λ (k : ℕ). ReadAndTold r k before s a b start end) e told

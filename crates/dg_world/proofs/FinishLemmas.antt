@@ -23,27 +23,27 @@ use Rattle.dg_base.specs.declared.events.ImageVersion.{ImageVersion}
 use Rattle.dg_script.specs.declared.report.Report.{Report}
 use Rattle.dg_script.specs.declared.report.Report.TheVariants.{MoteOn}
 use Rattle.dg_world.specs.Applied.{SameBoards, ReadFlash}
-use Rattle.dg_world.specs.Finished.{mote_shown, kept_shown, keeps_shown}
+use Rattle.dg_world.specs.Finished.{mote_report, kept_report, kept_reports}
 use Rattle.dg_world.specs.Formatted.{FirstBoards}
-use Rattle.dg_world.specs.Shown.{Shows}
+use Rattle.dg_world.specs.ChipReports.{IsReportOf}
 use Rattle.dg_world.specs.Worlds.{MoteStands, SiteStands, IsWorld}
 use Rattle.dg_world.specs.declared.finish.BoardStopped.{BoardStopped}
-use Rattle.dg_world.specs.declared.shown.Shown.{Shown}
+use Rattle.dg_world.specs.declared.chip_report.ChipReport.{ChipReport}
 use Rattle.dg_world.specs.declared.world.RunningMote.{RunningMote}
 use Rattle.dg_world.specs.declared.world.World.{World}
 use Rattle.dg_world.proofs.BoardLemmas.{Used, same_some}
 use Rattle.dg_world.proofs.FormatLemmas.{same_err, first_none, first_more, unused, is_now, is_other}
-use Rattle.dg_world.proofs.ShownLemmas.{range_more, same_over}
+use Rattle.dg_world.proofs.ChipReportLemmas.{range_more, same_over}
 
 -- ---- the lines of one mote
 
-mote_is : (m : ℕ) (c : List ℕ) (v : Option RunningMote) (s : Store) (r : Option Running) → MoteStands c v s r → mote_shown m v ≡ mote_line m r
+mote_is : (m : ℕ) (c : List ℕ) (v : Option RunningMote) (s : Store) (r : Option Running) → MoteStands c v s r → mote_report m v ≡ mote_line m r
 mote_is m c None s None stands = refl
 mote_is m c (Some v) s (Some r) stands = ap (λ (k : ImageVersion). MoteOn m k.image k.version) stands.0
 mote_is m c None s (Some r) stands = absurd stands
 mote_is m c (Some v) s None stands = absurd stands
 
-kept_is : (m i : ℕ) (h : Option Held) → kept_shown m i (told h) ≡ kept_line m i h
+kept_is : (m i : ℕ) (h : Option Held) → kept_report m i (told h) ≡ kept_line m i h
 kept_is m i None = refl
 kept_is m i (Some h) = refl
 
@@ -52,26 +52,26 @@ single None = refl
 single (Some x) = refl
 
 -- one image more
-pub keeps_more : (m : ℕ) (x : Shown) (n : ℕ) → keeps_shown m x (n + 1) ≡ keeps_shown m x n ++ option_to_list (kept_shown m (1 + n) (slice_index_or x.kept (1 + n) None))
+pub keeps_more : (m : ℕ) (x : ChipReport) (n : ℕ) → kept_reports m x (n + 1) ≡ kept_reports m x n ++ option_to_list (kept_report m (1 + n) (slice_index_or x.kept (1 + n) None))
 keeps_more m x n =
-    let f : ℕ → Option Report = λ i. kept_shown m i (slice_index_or x.kept i None) in
+    let f : ℕ → Option Report = λ i. kept_report m i (slice_index_or x.kept i None) in
     ap (filter_map f) (range_more 1 n) ∙ filter_map-append f (range_with_len 1 n) ((1 + n) ∷ [])
     ∙ ap (λ (xs : List Report). filter_map f (range_with_len 1 n) ++ xs) (single (f (1 + n)))
 
 -- the same, where the image's number is told
-pub keeps_with : (m : ℕ) (x : Shown) (i : ℕ) → 1 ≤ i → keeps_shown m x ((i + 1) - 1) ≡ keeps_shown m x (i - 1) ++ option_to_list (kept_shown m i (slice_index_or x.kept i None))
+pub keeps_with : (m : ℕ) (x : ChipReport) (i : ℕ) → 1 ≤ i → kept_reports m x ((i + 1) - 1) ≡ kept_reports m x (i - 1) ++ option_to_list (kept_report m i (slice_index_or x.kept i None))
 keeps_with m x i some =
     let e : (i + 1) - 1 ≡ (i - 1) + 1 = omega (arith, some) in
     let g : 1 + (i - 1) ≡ i = omega (arith, some) in
-    ap (keeps_shown m x) e ∙ keeps_more m x (i - 1)
-    ∙ ap (λ (k : ℕ). keeps_shown m x (i - 1) ++ option_to_list (kept_shown m k (slice_index_or x.kept k None))) g
+    ap (kept_reports m x) e ∙ keeps_more m x (i - 1)
+    ∙ ap (λ (k : ℕ). kept_reports m x (i - 1) ++ option_to_list (kept_report m k (slice_index_or x.kept k None))) g
 
-pub site_told : (m : ℕ) (d : Device) (v : Option RunningMote) (x : Shown) (s : Site) → SiteStands d v s → Shows x s.store → mote_shown m v ∷ keeps_shown m x (images - 1) ≡ site_lines m s
-site_told m d v x s stands shows =
-    let f : ℕ → Option Report = λ i. kept_shown m i (slice_index_or x.kept i None) in
+pub site_told : (m : ℕ) (d : Device) (v : Option RunningMote) (x : ChipReport) (s : Site) → SiteStands d v s → IsReportOf x s.store → mote_report m v ∷ kept_reports m x (images - 1) ≡ site_lines m s
+site_told m d v x s stands is_report =
+    let f : ℕ → Option Report = λ i. kept_report m i (slice_index_or x.kept i None) in
     let g : ℕ → Option Report = λ i. kept_line m i (held s.store i) in
-    let same : (i : ℕ) → i < images → f i ≡ g i = λ i h. ap (kept_shown m i) (shows.kept i h) ∙ kept_is m i (held s.store i) in
-    ap (λ (r : Report). r ∷ keeps_shown m x (images - 1)) (mote_is m d.image v s.store s.runs stands.mote)
+    let same : (i : ℕ) → i < images → f i ≡ g i = λ i h. ap (kept_report m i) (is_report.kept i h) ∙ kept_is m i (held s.store i) in
+    ap (λ (r : Report). r ∷ kept_reports m x (images - 1)) (mote_is m d.image v s.store s.runs stands.mote)
     ∙ ap (λ (xs : List Report). mote_line m s.runs ∷ xs) (same_over f g 1 (images - 1) same (omega arith))
 
 pub told_behind : {A : Type 0} (start mid end lines all : List A) (x : A) → mid ≡ start ++ x ∷ [] → end ≡ mid ++ lines → x ∷ lines ≡ all → end ≡ start ++ all

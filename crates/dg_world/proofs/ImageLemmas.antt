@@ -45,12 +45,12 @@ behind_other None row = refl
 behind_other (Some kept) row = refl
 
 -- what is found under a key where an image was added whose key was not there
-put_at : (b : Bool) (key q : ImageVersion) (image : Image) (r : Option Image) (s : Option Row) → option_map (row_of_image q) r ≡ s → (b ≡ true → s ≡ None) → (b ≡ true → q ≡ key)
-    → option_map (row_of_image q) (cond b (Some image) r) ≡ behind s b (row_of_image key image)
+put_at : (b : Bool) (image_version q : ImageVersion) (image : Image) (r : Option Image) (s : Option Row) → option_map (row_of_image q) r ≡ s → (b ≡ true → s ≡ None) → (b ≡ true → q ≡ image_version)
+    → option_map (row_of_image q) (cond b (Some image) r) ≡ behind s b (row_of_image image_version image)
 unfolding behind
-put_at true key q image r s e none same =
-    ap (λ (k : ImageVersion). Some (row_of_image k image)) (same refl) ∙ sym (ap (λ (o : Option Row). behind o true (row_of_image key image)) (none refl))
-put_at false key q image r s e none same = e ∙ sym (behind_other s (row_of_image key image))
+put_at true image_version q image r s e none same =
+    ap (λ (k : ImageVersion). Some (row_of_image k image)) (same refl) ∙ sym (ap (λ (o : Option Row). behind o true (row_of_image image_version image)) (none refl))
+put_at false image_version q image r s e none same = e ∙ sym (behind_other s (row_of_image image_version image))
 
 and-left : (a b : Bool) → (a && b) ≡ true → a ≡ true
 and-left true b e = refl
@@ -68,20 +68,20 @@ same_key_is k i v is =
     ap (λ (a : ℕ). P a v) e ∙ ap (P k.image) f
 
 -- an image that is added is declared behind the others
-pub added : (old new : Images) (key : ImageVersion) (image : Image) (rows : List Row)
-    → ((q : ImageVersion) → get key_cmp new.by_key q ≡ cond (is_at (key_cmp key) q) (Some image) (get key_cmp old.by_key q))
-    → found old key ≡ None → Declares old rows → Declares new (rows ++ row_of_image key image ∷ [])
-added old new key image rows put fresh declares =
-    let at : (q : ImageVersion) → found new q ≡ cond (is_key key q) (Some image) (found old q) =
-    λ q. sym (same_found q new.by_key.entries) ∙ put q ∙ ap (λ (b : Bool). cond b (Some image) (get key_cmp old.by_key q)) (same_test key q)
-    ∙ ap (λ (r : Option Image). cond (is_key key q) (Some image) r) (same_found q old.by_key.entries) in
+pub added : (old new : Images) (image_version : ImageVersion) (image : Image) (rows : List Row)
+    → ((q : ImageVersion) → get key_cmp new.by_key q ≡ cond (is_at (key_cmp image_version) q) (Some image) (get key_cmp old.by_key q))
+    → found old image_version ≡ None → Declares old rows → Declares new (rows ++ row_of_image image_version image ∷ [])
+added old new image_version image rows put fresh declares =
+    let at : (q : ImageVersion) → found new q ≡ cond (is_key image_version q) (Some image) (found old q) =
+    λ q. sym (same_found q new.by_key.entries) ∙ put q ∙ ap (λ (b : Bool). cond b (Some image) (get key_cmp old.by_key q)) (same_test image_version q)
+    ∙ ap (λ (r : Option Image). cond (is_key image_version q) (Some image) r) (same_found q old.by_key.entries) in
     record {
       each = λ i v. let q : ImageVersion = record { image = i; version = v } in
           ap (option_map (row_of_image q)) (at q)
-          ∙ put_at (is_key key q) key q image (found old q) (row_at rows i v) (declares.each i v)
-          (λ is. sym (declares.each i v) ∙ ap (option_map (row_of_image q)) (ap (found old) (same_key_is key i v is) ∙ fresh))
-          (λ is. same_key_is key i v is)
-          ∙ sym (row_behind rows (row_of_image key image) i v);
+          ∙ put_at (is_key image_version q) image_version q image (found old q) (row_at rows i v) (declares.each i v)
+          (λ is. sym (declares.each i v) ∙ ap (option_map (row_of_image q)) (ap (found old) (same_key_is image_version i v is) ∙ fresh))
+          (λ is. same_key_is image_version i v is)
+          ∙ sym (row_behind rows (row_of_image image_version image) i v);
     }
 
 same_entries : (old new : Images) → new.by_key.entries ≡ old.by_key.entries → (q : ImageVersion) → found new q ≡ found old q
@@ -93,17 +93,17 @@ still_declared old new rows same declares = record { each = λ i v. let q : Imag
 
 -- ---- what is found
 
-pub unknown_row : (images : Images) (rows : List Row) (key : ImageVersion) → Declares images rows → None ≡ found images key → row_at rows key.image key.version ≡ None
-unknown_row images rows key declares none = sym (declares.each key.image key.version) ∙ ap (option_map (row_of_image key)) (sym none)
+pub unknown_row : (images : Images) (rows : List Row) (image_version : ImageVersion) → Declares images rows → None ≡ found images image_version → row_at rows image_version.image image_version.version ≡ None
+unknown_row images rows image_version declares none = sym (declares.each image_version.image image_version.version) ∙ ap (option_map (row_of_image image_version)) (sym none)
 
-pub known_row : (images : Images) (rows : List Row) (key : ImageVersion) (image : Image) → Declares images rows → Some image ≡ found images key → row_at rows key.image key.version ≡ Some (row_of_image key image)
-known_row images rows key image declares here = sym (declares.each key.image key.version) ∙ ap (option_map (row_of_image key)) (sym here)
+pub known_row : (images : Images) (rows : List Row) (image_version : ImageVersion) (image : Image) → Declares images rows → Some image ≡ found images image_version → row_at rows image_version.image image_version.version ≡ Some (row_of_image image_version image)
+known_row images rows image_version image declares here = sym (declares.each image_version.image image_version.version) ∙ ap (option_map (row_of_image image_version)) (sym here)
 
 -- images of which none is declared
 pub declares_none : (images : Images) → NothingDeclared images → Declares images []
 declares_none images none = record { each = λ i v. let q : ImageVersion = record { image = i; version = v } in ap (option_map (row_of_image q)) (none q) }
 
 -- whether a row is taken where its key was declared
-pub taken_by : (images : Images) (rows : List Row) (key : ImageVersion) (kept : Image) (row : Row) → Declares images rows → Some kept ≡ found images key
-    → is_taken (row_at rows key.image key.version) row ≡ not (same_row (row_of_image key kept) row)
-taken_by images rows key kept row declares here = ap (λ o. is_taken o row) (known_row images rows key kept declares here)
+pub taken_by : (images : Images) (rows : List Row) (image_version : ImageVersion) (kept : Image) (row : Row) → Declares images rows → Some kept ≡ found images image_version
+    → is_taken (row_at rows image_version.image image_version.version) row ≡ not (same_row (row_of_image image_version kept) row)
+taken_by images rows image_version kept row declares here = ap (λ o. is_taken o row) (known_row images rows image_version kept declares here)

@@ -26,11 +26,11 @@ use Rattle.dg_world.specs.Turn.{EventTurn, Refused, Rests, Sends, Changes, Start
 use Rattle.dg_world.specs.Turns.{TurnEnds}
 use Rattle.dg_world.specs.Cuts.{PlayEnds, ended}
 use Rattle.dg_world.specs.Hosts.{host}
-use Rattle.dg_world.specs.Tellings.{turn_by, turn_of, halt_of, turned, ended_as}
-use Rattle.dg_world.specs.declared.shown.Shown.{Shown}
-use Rattle.dg_world.specs.declared.telling.StartLine.{StartLine}
-use Rattle.dg_world.specs.declared.telling.Power.{Power}
-use Rattle.dg_world.specs.declared.telling.Power.TheVariants as power
+use Rattle.dg_world.specs.Outcomes.{turn_by, turn_of, halt_of, turned, ended_as}
+use Rattle.dg_world.specs.declared.chip_report.ChipReport.{ChipReport}
+use Rattle.dg_world.specs.declared.outcome.StartLine.{StartLine}
+use Rattle.dg_world.specs.declared.outcome.Power.{Power}
+use Rattle.dg_world.specs.declared.outcome.Power.TheVariants as power
 use Rattle.dg_script.specs.declared.report.Cause.{Cause}
 use Rattle.dg_script.specs.declared.report.Cause.TheVariants as cause
 use Rattle.dg_volume.specs.declared.volume.OrderFault.{OrderFault}
@@ -38,10 +38,10 @@ use Rattle.dg_volume.specs.declared.volume.OrderFault.TheVariants as order_fault
 use Rattle.dg_world.proofs.InjectLemmas.{order_is_stopped}
 use Rattle.dg_world.specs.Known.{IsKnownChip, SeesOrder, InjectReads, OrderReads, beyond, EventSees, EventReads, StepSees, SeesCut, SeesInjected, IsUndeclared, IsLookedInto, MakesKnown, KnownAfter, IsInject, IsOrder, OrderTakes, InjectTakes}
 use Rattle.dg_base.specs.declared.events.Event.{Event}
-use Rattle.dg_world.specs.declared.telling.Telling.{Telling}
+use Rattle.dg_world.specs.declared.outcome.Outcome.{Outcome}
 use Rattle.dg_world.specs.declared.world.RunningMote.{RunningMote}
-use Rattle.dg_world.specs.declared.telling.Fault.{Fault}
-use Rattle.dg_world.specs.declared.telling.Fault.TheVariants as fault
+use Rattle.dg_world.specs.declared.outcome.Fault.{Fault}
+use Rattle.dg_world.specs.declared.outcome.Fault.TheVariants as fault
 
 -- ---- the order of a chip that was only read
 
@@ -132,7 +132,7 @@ inject_reads e row known found a m b told took same taken = λ is n why remount 
 
 -- ---- each event
 
-pub sees_at : {T : Type 0} (r : Result T Fault) (t : Telling) (u : Option RunningMote) (c d : List ℕ) (e f : Event) → e ≡ f → OnOk r (EventSees f t u c d) → OnOk r (EventSees e t u c d)
+pub sees_at : {T : Type 0} (r : Result T Fault) (t : Outcome) (u : Option RunningMote) (c d : List ℕ) (e f : Event) → e ≡ f → OnOk r (EventSees f t u c d) → OnOk r (EventSees e t u c d)
 sees_at r t u c d e f is sees = subst (λ (x : Event). OnOk r (EventSees x t u c d)) (sym is) sees
 
 pub reads_at : (known : Bool) (done : Type 0) (o : Option Cause) (a b : Device) (e f : Event) → e ≡ f → EventReads f known done o a b → EventReads e known done o a b
@@ -162,22 +162,22 @@ undeclared (Changes old new) D x refused made = x
 undeclared (Starts line) D x refused made = x
 
 module _ (w : RuleWorld) (known : Bool) (u : Option RunningMote) (c d : List ℕ) where
-  inject_sees : (m image version dt word : ℕ) (o : Option Bool) (turn : EventTurn) → SeesInjected o turn c d → ((why : Cause) → turn ≡ Refused why → does w (Inject m image version dt word) ≡ Refuses why) → StepSees w (Inject m image version dt word) known o u c d
-  inject_sees m image version dt word (Some o) turn x refused = x
-  inject_sees m image version dt word None turn x refused = λ off. (λ is. x.0, λ made. undeclared turn (does w (Inject m image version dt word)) x.1 refused made)
+  inject_sees : (m image version dt draw : ℕ) (o : Option Bool) (turn : EventTurn) → SeesInjected o turn c d → ((why : Cause) → turn ≡ Refused why → does w (Inject m image version dt draw) ≡ Refuses why) → StepSees w (Inject m image version dt draw) known o u c d
+  inject_sees m image version dt draw (Some o) turn x refused = x
+  inject_sees m image version dt draw None turn x refused = λ off. (λ is. x.0, λ made. undeclared turn (does w (Inject m image version dt draw)) x.1 refused made)
 
-  order_sees : (m number image version dt word : ℕ) (o : Option Bool) (turn : EventTurn) → SeesInjected o turn c d → ((why : Cause) → turn ≡ Refused why → does w (OrderEvent m number image version dt word) ≡ Refuses why) → StepSees w (OrderEvent m number image version dt word) known o u c d
-  order_sees m number image version dt word (Some o) turn x refused = x
-  order_sees m number image version dt word None turn x refused = λ off. (λ is. x.0, λ made. undeclared turn (does w (OrderEvent m number image version dt word)) x.1 refused made)
+  order_sees : (m number image version dt draw : ℕ) (o : Option Bool) (turn : EventTurn) → SeesInjected o turn c d → ((why : Cause) → turn ≡ Refused why → does w (OrderEvent m number image version dt draw) ≡ Refuses why) → StepSees w (OrderEvent m number image version dt draw) known o u c d
+  order_sees m number image version dt draw (Some o) turn x refused = x
+  order_sees m number image version dt draw None turn x refused = λ off. (λ is. x.0, λ made. undeclared turn (does w (OrderEvent m number image version dt draw)) x.1 refused made)
 
-  pub step_sees : (e : Event) (t : Telling) → EventSees e t u c d → ((why : Cause) → turn_of t ≡ Refused why → does w e ≡ Refuses why) → StepSees w e known t.orderly u c d
-  step_sees (Tick m dt word) t x refused = subst (λ (o : Option Bool). StepSees w (Tick m dt word) known o u c d) (sym x.untold) (λ off. (λ is. x.off off, λ made. made))
-  step_sees (Hear m dt word frame) t x refused = subst (λ (o : Option Bool). StepSees w (Hear m dt word frame) known o u c d) (sym x.untold) (λ off. (λ is. x.off off, λ made. made))
-  step_sees (Last from to dt word) t x refused = subst (λ (o : Option Bool). StepSees w (Last from to dt word) known o u c d) (sym x.untold) (λ off. (λ is. x.off off, λ made. made))
-  step_sees (Frame m dt word bytes) t x refused = subst (λ (o : Option Bool). StepSees w (Frame m dt word bytes) known o u c d) (sym x.untold) (λ off. (λ is. x.off off, λ made. made))
-  step_sees (Reset m dt word) t x refused = subst (λ (o : Option Bool). StepSees w (Reset m dt word) known o u c d) (sym x.untold) (λ off. absurd (x.on off))
-  step_sees (Inject m image version dt word) t x refused = inject_sees m image version dt word t.orderly (turn_of t) x refused
-  step_sees (OrderEvent m number image version dt word) t x refused = order_sees m number image version dt word t.orderly (turn_of t) x refused
+  pub step_sees : (e : Event) (t : Outcome) → EventSees e t u c d → ((why : Cause) → turn_of t ≡ Refused why → does w e ≡ Refuses why) → StepSees w e known t.orderly u c d
+  step_sees (Tick m dt draw) t x refused = subst (λ (o : Option Bool). StepSees w (Tick m dt draw) known o u c d) (sym x.untold) (λ off. (λ is. x.off off, λ made. made))
+  step_sees (Hear m dt draw frame) t x refused = subst (λ (o : Option Bool). StepSees w (Hear m dt draw frame) known o u c d) (sym x.untold) (λ off. (λ is. x.off off, λ made. made))
+  step_sees (Last from to dt draw) t x refused = subst (λ (o : Option Bool). StepSees w (Last from to dt draw) known o u c d) (sym x.untold) (λ off. (λ is. x.off off, λ made. made))
+  step_sees (Frame m dt draw bytes) t x refused = subst (λ (o : Option Bool). StepSees w (Frame m dt draw bytes) known o u c d) (sym x.untold) (λ off. (λ is. x.off off, λ made. made))
+  step_sees (Reset m dt draw) t x refused = subst (λ (o : Option Bool). StepSees w (Reset m dt draw) known o u c d) (sym x.untold) (λ off. absurd (x.on off))
+  step_sees (Inject m image version dt draw) t x refused = inject_sees m image version dt draw t.orderly (turn_of t) x refused
+  step_sees (OrderEvent m number image version dt draw) t x refused = order_sees m number image version dt draw t.orderly (turn_of t) x refused
 
   -- behind a cut that blew: the board was looked at, or was neither known nor made so
   pub cut_sees : (e : Event) (o : Option Bool) → SeesCut w e known o d → StepSees w e known o u c d
@@ -211,7 +211,7 @@ refused_play w m D cut v u a b (Sends bytes) ends why is = refuses_goes _ D why 
 refused_play w m D cut v u a b (Changes p q) ends why is = refuses_goes _ D why ends.deed ends.goes is
 refused_play w m D cut v u a b (Starts x) ends why is = refuses_goes _ D why ends.deed ends.goes is
 
-told_by : (o : Option (List ℕ)) (r : Option Cause) (x : Option StartLine) (a b : Option Shown) (why : Cause) → turn_by o r x a b ≡ Refused why → r ≡ Some why
+told_by : (o : Option (List ℕ)) (r : Option Cause) (x : Option StartLine) (a b : Option ChipReport) (why : Cause) → turn_by o r x a b ≡ Refused why → r ≡ Some why
 told_by (Some bytes) r x a b why e = absurd cc
 told_by None (Some y) x a b why e = cc
 told_by None None (Some x) a b why e = absurd cc
@@ -219,28 +219,28 @@ told_by None None None (Some p) (Some q) why e = absurd cc
 told_by None None None (Some p) None why e = absurd cc
 told_by None None None None b why e = absurd cc
 
-pub refused_told : (t : Telling) (why : Cause) → turn_of t ≡ Refused why → t.refused ≡ Some why
+pub refused_told : (t : Outcome) (why : Cause) → turn_of t ≡ Refused why → t.refused ≡ Some why
 refused_told t why e = told_by (sent_in t.outbox) t.refused t.started t.before t.after why e
 
 -- ---- what a step reads
 
 reads_inject : (e : Event) (known : Bool) (done : Type 0) (o : Option Cause) (a b : Device) → IsInject e → EventReads e known done o a b → done → InjectReads known o a b
-reads_inject (Tick m dt word) known done o a b is x d = absurd is
-reads_inject (Hear m dt word frame) known done o a b is x d = absurd is
-reads_inject (Last from to dt word) known done o a b is x d = absurd is
-reads_inject (Frame m dt word bytes) known done o a b is x d = absurd is
-reads_inject (Reset m dt word) known done o a b is x d = absurd is
-reads_inject (Inject m image version dt word) known done o a b is x d = x d
-reads_inject (OrderEvent m number image version dt word) known done o a b is x d = absurd is
+reads_inject (Tick m dt draw) known done o a b is x d = absurd is
+reads_inject (Hear m dt draw frame) known done o a b is x d = absurd is
+reads_inject (Last from to dt draw) known done o a b is x d = absurd is
+reads_inject (Frame m dt draw bytes) known done o a b is x d = absurd is
+reads_inject (Reset m dt draw) known done o a b is x d = absurd is
+reads_inject (Inject m image version dt draw) known done o a b is x d = x d
+reads_inject (OrderEvent m number image version dt draw) known done o a b is x d = absurd is
 
 pub reads_order : (e : Event) (known : Bool) (done : Type 0) (o : Option Cause) (a b : Device) → IsOrder e → EventReads e known done o a b → OrderReads known a b
-reads_order (Tick m dt word) known done o a b is x = absurd is
-reads_order (Hear m dt word frame) known done o a b is x = absurd is
-reads_order (Last from to dt word) known done o a b is x = absurd is
-reads_order (Frame m dt word bytes) known done o a b is x = absurd is
-reads_order (Reset m dt word) known done o a b is x = absurd is
-reads_order (Inject m image version dt word) known done o a b is x = absurd is
-reads_order (OrderEvent m number image version dt word) known done o a b is x = x
+reads_order (Tick m dt draw) known done o a b is x = absurd is
+reads_order (Hear m dt draw frame) known done o a b is x = absurd is
+reads_order (Last from to dt draw) known done o a b is x = absurd is
+reads_order (Frame m dt draw bytes) known done o a b is x = absurd is
+reads_order (Reset m dt draw) known done o a b is x = absurd is
+reads_order (Inject m image version dt draw) known done o a b is x = absurd is
+reads_order (OrderEvent m number image version dt draw) known done o a b is x = x
 
 pub inject_takes : (w : RuleWorld) (e : Event) (known : Bool) (done : Type 0) (o : Option Cause) (a b : Device) → known ≡ true → done → EventReads e known done o a b → ((why : Cause) → does w e ≡ Refuses why → o ≡ Some why) → InjectTakes w e a b
 inject_takes w e known done o a b is d x told = record { took = λ inject n why refuses remount. reads_inject e known done o a b inject x d is n why remount (told why refuses) }
@@ -263,27 +263,27 @@ took_over : (n : ℕ) (x y a b : Device) → x.taken ≡ a.taken → y.taken ≡
 took_over n x y a b e f t = record { rise = subst (λ (p : Option ℕ). RisesAtMost n p b.taken) e (subst (λ (p : Option ℕ). RisesAtMost n x.taken p) f t.rise) }
 
 pub reads_over : (e : Event) (known : Bool) (p q : Type 0) (o : Option Cause) (x y a b : Device) → (q → p) → x.image ≡ a.image → y.image ≡ b.image → x.taken ≡ a.taken → y.taken ≡ b.taken → EventReads e known p o x y → EventReads e known q o a b
-reads_over (Tick m dt word) known p q o x y a b done is js e f r = tt
-reads_over (Hear m dt word frame) known p q o x y a b done is js e f r = tt
-reads_over (Last from to dt word) known p q o x y a b done is js e f r = tt
-reads_over (Frame m dt word bytes) known p q o x y a b done is js e f r = tt
-reads_over (Reset m dt word) known p q o x y a b done is js e f r = tt
-reads_over (Inject m image version dt word) known p q o x y a b done is js e f r =
+reads_over (Tick m dt draw) known p q o x y a b done is js e f r = tt
+reads_over (Hear m dt draw frame) known p q o x y a b done is js e f r = tt
+reads_over (Last from to dt draw) known p q o x y a b done is js e f r = tt
+reads_over (Frame m dt draw bytes) known p q o x y a b done is js e f r = tt
+reads_over (Reset m dt draw) known p q o x y a b done is js e f r = tt
+reads_over (Inject m image version dt draw) known p q o x y a b done is js e f r =
     λ d k n why remount some. took_over (n + beyond why) x y a b e f (r (done d) k n why (subst (λ (c : List ℕ). RemountBytes c n) (sym is) remount) some)
-reads_over (OrderEvent m number image version dt word) known p q o x y a b done is js e f r = record {
+reads_over (OrderEvent m number image version dt draw) known p q o x y a b done is js e f r = record {
   took = λ k n remount. took_over n x y a b e f (r.took k n (subst (λ (c : List ℕ). RemountBytes c n) (sym is) remount));
   stays = λ chip. subst (λ (c : List ℕ). IsKnownChip c) js (r.stays (subst (λ (c : List ℕ). IsKnownChip c) (sym is) chip));
   bytes = λ n k here after. r.bytes n k (subst (λ (c : List ℕ). RemountBytes c n) (sym is) here) (subst (λ (c : List ℕ). RemountBytes c k) (sym js) after);
 }
 
-stays_by : (f : Fault) (b : Bool) (before : Option Shown) (turn : EventTurn) → Ok (Whole turn) ≡ ended b (Err (halt_of f before)) → ⊥
+stays_by : (f : Fault) (b : Bool) (before : Option ChipReport) (turn : EventTurn) → Ok (Whole turn) ≡ ended b (Err (halt_of f before)) → ⊥
 stays_by fault.Stopped true before turn e = cc
 stays_by fault.Stopped false before turn e = cc
 stays_by fault.NotAVolume b before turn e = cc
 stays_by fault.NoImage b before turn e = cc
 
 -- where the power stays on, the event was done
-pub stays_done : (r : Result Power Fault) (done : Result (Unit {0}) Fault) (b : Bool) (t : Telling) → ended_as r t ≡ ended b (turned done t) → r ≡ Ok power.Stays → OnErr done ⊥
+pub stays_done : (r : Result Power Fault) (done : Result (Unit {0}) Fault) (b : Bool) (t : Outcome) → ended_as r t ≡ ended b (turned done t) → r ≡ Ok power.Stays → OnErr done ⊥
 stays_done r (Ok y) b t e is = tt
 stays_done r (Err f) b t e is = stays_by f b t.before (turn_of t) (sym (ap (λ (q : Result Power Fault). ended_as q t) is) ∙ e)
 

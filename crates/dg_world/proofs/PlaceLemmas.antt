@@ -192,7 +192,7 @@ module _ (v u : World) (bs : List Device) (w : RuleWorld) (x : Step) (reported :
         reports = s.reports;
         step = s.step;
         stood = world_then few short timely;
-        told_now = s.told_now;
+        report_now = s.report_now;
         boards = subst (λ (j : ℕ). OneBoard j bs (set bs i b)) at (one_board bs i a b wide here endures);
         calm = calm_board bs i a b wide here stays;
         memory = λ d r e goes whole some there.

@@ -1,4 +1,4 @@
--- What is told of a step, and where it leaves its board.
+-- What is reported of a step, and where it leaves its board.
 use Rattle.std.proofs.Common.{◌≡◌, ℕ, List, [], ◌++◌, refl, sym, subst}
 use Rattle.std.specs.Prelude.{Option, Some, None, Result, Ok, Err, IsErrAnd}
 use Rattle.std.proofs.lemmas.List.{append-nil}
@@ -9,12 +9,12 @@ use Rattle.dg_nor.proofs.DeviceLemmas.{Endures-same}
 use Rattle.dg_nor.proofs.MaskLemmas.{Endures_ran, Endures_halts}
 use Rattle.dg_volume.specs.Store.{Store}
 use Rattle.dg_script.specs.declared.report.Report.{Report}
-use Rattle.dg_world.specs.Shown.{Shows, changes_shown}
-use Rattle.dg_world.specs.Stepped.{BoardOnlyRead, CutChangesAre, CutTold, CutRead}
-use Rattle.dg_world.specs.declared.shown.Shown.{Shown}
-use Rattle.dg_world.proofs.ShownLemmas.{changes_same, changes_told}
-use Rattle.dg_world.specs.declared.telling.Fault.{Fault}
-use Rattle.dg_world.specs.declared.telling.Fault.TheVariants as fault
+use Rattle.dg_world.specs.ChipReports.{IsReportOf, change_lines}
+use Rattle.dg_world.specs.Stepped.{BoardOnlyRead, CutChangesAre, CutReported, CutRead}
+use Rattle.dg_world.specs.declared.chip_report.ChipReport.{ChipReport}
+use Rattle.dg_world.proofs.ChipReportLemmas.{changes_same, changes_are_reported}
+use Rattle.dg_world.specs.declared.outcome.Fault.{Fault}
+use Rattle.dg_world.specs.declared.outcome.Fault.TheVariants as fault
 
 -- ---- readings
 
@@ -29,51 +29,51 @@ same_read a = record { same_image = refl; endures = Endures-same (beneath_of a) 
 
 -- ---- what a cut changed
 
-pub changes_appended : (m : ℕ) (before after : Shown) (t : Store) (start end : List Report) → Shows after t → end ≡ start ++ changes_shown m before after → CutChangesAre m (Some before) t start end
-changes_appended m before after t start end shows told = record { lines = changes_shown m before after; tells = λ k s trail leaves was. changes_told m before after s t was shows; told_now = told }
+pub changes_appended : (m : ℕ) (before after : ChipReport) (t : Store) (start end : List Report) → IsReportOf after t → end ≡ start ++ change_lines m before after → CutChangesAre m (Some before) t start end
+changes_appended m before after t start end is_report told = record { lines = change_lines m before after; tells = λ k s trail leaves was. changes_are_reported m before after s t was is_report; report_now = told }
 
 -- nothing is reported that may have changed
-pub nothing_changed : (m : ℕ) (before : Option Shown) (t : Store) (told : List Report) → before ≡ None → CutChangesAre m before t told told
+pub nothing_changed : (m : ℕ) (before : Option ChipReport) (t : Store) (told : List Report) → before ≡ None → CutChangesAre m before t told told
 nothing_changed m before t told none =
-    subst (λ (o : Option Shown). CutChangesAre m o t told told) (sym none)
-    (record { lines = []; tells = λ k s trail leaves same. sym (changes_same m s t (same k t leaves)); told_now = sym (append-nil told) })
+    subst (λ (o : Option ChipReport). CutChangesAre m o t told told) (sym none)
+    (record { lines = []; tells = λ k s trail leaves same. sym (changes_same m s t (same k t leaves)); report_now = sym (append-nil told) })
 
-pub something_changed : (m : ℕ) (before : Option Shown) (x : Shown) (t : Store) (start end : List Report) → before ≡ Some x → CutChangesAre m (Some x) t start end → CutChangesAre m before t start end
-something_changed m before x t start end some told = subst (λ (o : Option Shown). CutChangesAre m o t start end) (sym some) told
+pub something_changed : (m : ℕ) (before : Option ChipReport) (x : ChipReport) (t : Store) (start end : List Report) → before ≡ Some x → CutChangesAre m (Some x) t start end → CutChangesAre m before t start end
+something_changed m before x t start end some told = subst (λ (o : Option ChipReport). CutChangesAre m o t start end) (sym some) told
 
 -- they were found in a reading
-abbrev pub ReadAndTold : {T : Type 0} → Result T Fault → ℕ → Option Shown → Store → Device → Device → List Report → List Report → Type 0
-ReadAndTold r m before t a b start end = CutTold r m before t start end × CutRead r a b
+abbrev pub ReadAndTold : {T : Type 0} → Result T Fault → ℕ → Option ChipReport → Store → Device → Device → List Report → List Report → Type 0
+ReadAndTold r m before t a b start end = CutReported r m before t start end × CutRead r a b
 
-pub read_told : {T : Type 0} (y : T) (m : ℕ) (before : Option Shown) (t : Store) (a b : Device) (start end : List Report) → CutChangesAre m before t start end → Looked a b → ReadAndTold {T = T} (Ok y) m before t a b start end
+pub read_told : {T : Type 0} (y : T) (m : ℕ) (before : Option ChipReport) (t : Store) (a b : Device) (start end : List Report) → CutChangesAre m before t start end → Looked a b → ReadAndTold {T = T} (Ok y) m before t a b start end
 read_told y m before t a b start end changes looked = (changes, (looked_read a b looked, looked.ran.faults))
 
-pub unread_told : {T : Type 0} (y : T) (m : ℕ) (before : Option Shown) (t : Store) (a : Device) (told : List Report) → before ≡ None → ReadAndTold {T = T} (Ok y) m before t a a told told
+pub unread_told : {T : Type 0} (y : T) (m : ℕ) (before : Option ChipReport) (t : Store) (a : Device) (told : List Report) → before ≡ None → ReadAndTold {T = T} (Ok y) m before t a a told told
 unread_told y m before t a told none = (nothing_changed m before t told none, (same_read a, refl))
 
-stopped_told : (T : Type 0) (f : Fault) (m : ℕ) (before : Option Shown) (t : Store) (a b : Device) (told : List Report) → (f ≡ fault.Stopped) × ReadStopped a b → ReadAndTold {T = T} (Err f) m before t a b told told
+stopped_told : (T : Type 0) (f : Fault) (m : ℕ) (before : Option ChipReport) (t : Store) (a b : Device) (told : List Report) → (f ≡ fault.Stopped) × ReadStopped a b → ReadAndTold {T = T} (Err f) m before t a b told told
 stopped_told T f m before t a b told x =
     let P : Fault → Type 0 = λ y. ReadAndTold {T = T} (Err y) m before t a b told told in
     subst P (sym x.0) (refl, (x.1.halts.stopped, stopped_read a b x.1))
 
-pub reading_stopped : {T : Type 0} (r : Result T Fault) (f : Fault) (m : ℕ) (before : Option Shown) (t : Store) (a b : Device) (told : List Report) → IsErrAnd r (λ e. e ≡ f) → (f ≡ fault.Stopped) × ReadStopped a b → ReadAndTold r m before t a b told told
+pub reading_stopped : {T : Type 0} (r : Result T Fault) (f : Fault) (m : ℕ) (before : Option ChipReport) (t : Store) (a b : Device) (told : List Report) → IsErrAnd r (λ e. e ≡ f) → (f ≡ fault.Stopped) × ReadStopped a b → ReadAndTold r m before t a b told told
 reading_stopped (Ok u) f m before t a b told is x = absurd is
 reading_stopped {T} (Err e) f m before t a b told is x =
     let P : Fault → Type 0 = λ y. ReadAndTold {T = T} (Err y) m before t a b told told in
     subst P (sym is) (stopped_told T f m before t a b told x)
 
 -- a reading that was handed on
-pub as_read : {T U : Type 0} (r : Result T Fault) (q : Result U Fault) (x : T) (y : U) (m : ℕ) (before : Option Shown) (t : Store) (a b : Device) (start end : List Report) → r ≡ Ok x → q ≡ Ok y → ReadAndTold r m before t a b start end → ReadAndTold q m before t a b start end
+pub as_read : {T U : Type 0} (r : Result T Fault) (q : Result U Fault) (x : T) (y : U) (m : ℕ) (before : Option ChipReport) (t : Store) (a b : Device) (start end : List Report) → r ≡ Ok x → q ≡ Ok y → ReadAndTold r m before t a b start end → ReadAndTold q m before t a b start end
 as_read {T} {U} r q x y m before t a b start end is then told =
     let here : ReadAndTold {T = T} (Ok x) m before t a b start end = subst (λ (z : Result T Fault). ReadAndTold z m before t a b start end) is told in
     subst (λ (z : Result U Fault). ReadAndTold z m before t a b start end) (sym then) here
 
-failed_by : (T U : Type 0) (f : Fault) (m : ℕ) (before : Option Shown) (t : Store) (a b : Device) (start end : List Report) → ReadAndTold {T = T} (Err f) m before t a b start end → ReadAndTold {T = U} (Err f) m before t a b start end
+failed_by : (T U : Type 0) (f : Fault) (m : ℕ) (before : Option ChipReport) (t : Store) (a b : Device) (start end : List Report) → ReadAndTold {T = T} (Err f) m before t a b start end → ReadAndTold {T = U} (Err f) m before t a b start end
 failed_by T U fault.Stopped m before t a b start end told = told
 failed_by T U fault.NotAVolume m before t a b start end told = absurd told.0
 failed_by T U fault.NoImage m before t a b start end told = absurd told.0
 
-pub as_failed : {T U : Type 0} (r : Result T Fault) (q : Result U Fault) (f : Fault) (m : ℕ) (before : Option Shown) (t : Store) (a b : Device) (start end : List Report) → r ≡ Err f → IsErrAnd q (λ e. e ≡ f) → ReadAndTold r m before t a b start end → ReadAndTold q m before t a b start end
+pub as_failed : {T U : Type 0} (r : Result T Fault) (q : Result U Fault) (f : Fault) (m : ℕ) (before : Option ChipReport) (t : Store) (a b : Device) (start end : List Report) → r ≡ Err f → IsErrAnd q (λ e. e ≡ f) → ReadAndTold r m before t a b start end → ReadAndTold q m before t a b start end
 as_failed r (Ok y) f m before t a b start end is same told = absurd same
 as_failed {T} {U} r (Err e) f m before t a b start end is same told =
     let here : ReadAndTold {T = T} (Err f) m before t a b start end = subst (λ (z : Result T Fault). ReadAndTold z m before t a b start end) is told in

@@ -13,11 +13,11 @@ use Rattle.dg_rules.specs.World.{World as RuleWorld, store_at}
 use Rattle.dg_rules.specs.Events.{Does, trail_of}
 use Rattle.dg_world.specs.Turns.{DeedWent, TurnEnds}
 use Rattle.dg_world.specs.Hosts.{host}
-use Rattle.dg_world.specs.declared.telling.StartLine.{StartLine}
+use Rattle.dg_world.specs.declared.outcome.StartLine.{StartLine}
 use Rattle.dg_world.specs.declared.world.RunningMote.{RunningMote}
-use Rattle.dg_world.specs.declared.telling.Fault.{Fault}
-use Rattle.dg_world.specs.declared.telling.Fault.TheVariants as fault
-use Rattle.dg_world.specs.Tellings.{halt_of}
+use Rattle.dg_world.specs.declared.outcome.Fault.{Fault}
+use Rattle.dg_world.specs.declared.outcome.Fault.TheVariants as fault
+use Rattle.dg_world.specs.Outcomes.{halt_of}
 use Rattle.dg_world.specs.Turn.{EventTurn, Refused, Rests, Sends, Changes, Starts, Halt, Stopped, NotAVolume, NoImage}
 
 -- ---- before the first operation
@@ -51,7 +51,7 @@ read_whole a b r whole blown = ⊎_elim (λ was. both_ways a.blown whole was) (�
 pub read_stopped : (w : RuleWorld) (m : ℕ) (does : Does) (v u : Option RunningMote) (a b : Device) → BeginsAt (store_at w m) (trail_of does (store_at w m)) → Stands a.image (store_at w m) → ReadStopped a b
     → TurnEnds (Err (Stopped None)) w m does (host a v) (host b u)
 read_stopped w m does v u a b begins stands r =
-    record { stops = read_stops (store_at w m) (trail_of does (store_at w m)) a b begins stands r; shows = λ whole blown. absurd (read_whole a b r whole blown) }
+    record { stops = read_stops (store_at w m) (trail_of does (store_at w m)) a b begins stands r; is_report = λ whole blown. absurd (read_whole a b r whole blown) }
 
 -- ---- an act behind a reading
 
@@ -74,7 +74,7 @@ pub start_after : (w : RuleWorld) (m : ℕ) (does : Does) (u : Option RunningMot
 start_after w m does u a b c x l went = went_after w m does u a b c (Starts x) l went
 
 pub halt_after : (h : Halt) (w : RuleWorld) (m : ℕ) (does : Does) (v u : Option RunningMote) (a b c : Device) → Ran 0 a b → TurnEnds (Err h) w m does (host b v) (host c u) → TurnEnds (Err h) w m does (host a v) (host c u)
-halt_after (Stopped before) w m does v u a b c l x = record { stops = stops_after (trail_of does (store_at w m)) a b c l x.stops; shows = λ whole blown. x.shows (l.blown ∙ whole) blown }
+halt_after (Stopped before) w m does v u a b c l x = record { stops = stops_after (trail_of does (store_at w m)) a b c l x.stops; is_report = λ whole blown. x.is_report (l.blown ∙ whole) blown }
 halt_after NoImage w m does v u a b c l x = record { deed = x.deed; goes = x.goes; none = x.none; ran = ran_after (operations x.deed.trail) a b c l x.ran; stands = x.stands }
 halt_after NotAVolume w m does v u a b c l x = x
 

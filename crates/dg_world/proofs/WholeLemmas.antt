@@ -3,31 +3,31 @@ use Rattle.std.proofs.Common.{◌≡◌, ◌++◌, false, refl, ap, sym, ◌∙�
 use Rattle.std.specs.Prelude.{Option, None, Result, Ok, Err, OnOk, OnErr, IsErrAnd}
 use Rattle.std.specs.List.{filter}
 use Rattle.dg_rules.specs.World.{World as RuleWorld}
-use Rattle.dg_rules.specs.Changes.{is_told}
+use Rattle.dg_rules.specs.Changes.{is_reported}
 use Rattle.dg_rules.specs.Events.{does, mote_of}
 use Rattle.dg_base.specs.declared.events.Cut.{Cut as PowerCut}
 use Rattle.dg_base.specs.declared.events.Event.{Event}
 use Rattle.dg_world.specs.Cuts.{ended}
 use Rattle.dg_world.specs.Known.{EventSees, EventReads}
-use Rattle.dg_world.specs.Occasions.{HappensIn, step_of}
+use Rattle.dg_world.specs.Occasions.{AppliesIn, step_of}
 use Rattle.dg_world.specs.Stepped.{StepDid, Station, station}
-use Rattle.dg_world.specs.Tellings.{turn_of, halt_of, turned}
+use Rattle.dg_world.specs.Outcomes.{turn_of, halt_of, turned}
 use Rattle.dg_world.specs.Turn.{Whole}
 use Rattle.dg_world.specs.Turns.{turn_lines, TurnEnds}
 use Rattle.dg_world.specs.Hosts.{host}
 use Rattle.dg_world.specs.Unseen.{RefusesUnseen}
 use Rattle.dg_world.specs.declared.occasion.Occasion.{Occasion}
-use Rattle.dg_world.specs.declared.telling.Fault.{Fault}
-use Rattle.dg_world.specs.declared.telling.Telling.{Telling}
+use Rattle.dg_world.specs.declared.outcome.Fault.{Fault}
+use Rattle.dg_world.specs.declared.outcome.Outcome.{Outcome}
 use Rattle.dg_world.proofs.CutLemmas.{uncut, halted, played_as}
 use Rattle.dg_world.proofs.DoneLemmas.{step_turn, step_fails, event_mote}
 use Rattle.dg_world.proofs.KnownLemmas.{step_sees, turn_refused, refused_turn, refused_told, inject_takes, order_takes}
-use Rattle.dg_world.proofs.TellingLemmas.{frame_told}
+use Rattle.dg_world.proofs.OutcomeLemmas.{frame_told}
 
--- what the clauses of `happen` say
-pub record HappenedSo (r : Result (Unit {0}) Fault) (o : Occasion) (event : Event) (t : Telling) (a b : Station) : Type 0 where
-  pub ends : (w : RuleWorld) → HappensIn o w event a.board a.runs → TurnEnds (turned r t) w (mote_of event) (does w event) (host a.board a.runs) (host b.board b.runs)
-  pub unseen : (w : RuleWorld) → HappensIn o w event a.board a.runs → RefusesUnseen (does w event) → (b.board ≡ a.board) × OnErr r ⊥
+-- what the clauses of `apply_event` say
+pub record AppliedSo (r : Result (Unit {0}) Fault) (o : Occasion) (event : Event) (t : Outcome) (a b : Station) : Type 0 where
+  pub ends : (w : RuleWorld) → AppliesIn o w event a.board a.runs → TurnEnds (turned r t) w (mote_of event) (does w event) (host a.board a.runs) (host b.board b.runs)
+  pub unseen : (w : RuleWorld) → AppliesIn o w event a.board a.runs → RefusesUnseen (does w event) → (b.board ≡ a.board) × OnErr r ⊥
   pub sees : OnOk r (EventSees event t b.runs a.board.image b.board.image)
   pub reads : EventReads event o.known (OnErr r ⊥) t.refused a.board b.board
 
@@ -37,9 +37,9 @@ done = Ok tt
 abbrev failed : Fault → Result (Unit {0}) Fault
 failed f = Err f
 
-module _ (o : Occasion) (event : Event) (t : Telling) (a b : Station) (cut : Option PowerCut) (none : cut ≡ None) where
+module _ (o : Occasion) (event : Event) (t : Outcome) (a b : Station) (cut : Option PowerCut) (none : cut ≡ None) where
   -- its lines were told
-  pub whole_did : HappenedSo done o event t a b → o.mote ≡ mote_of event → b.told ≡ a.told ++ filter (is_told o.reported) (turn_lines o.mote (turn_of t)) → StepDid done o (step_of event cut) t a b
+  pub whole_did : AppliedSo done o event t a b → o.mote ≡ mote_of event → b.told ≡ a.told ++ filter (is_reported o.reported) (turn_lines o.mote (turn_of t)) → StepDid done o (step_of event cut) t a b
   whole_did h here told =
       let x = step_of event cut in
       let m = mote_of event in
@@ -48,7 +48,7 @@ module _ (o : Occasion) (event : Event) (t : Telling) (a b : Station) (cut : Opt
             let p = played_as (Ok (Whole (turn_of t))) (ended false (turned done t)) cut None w m (does w event) a.runs b.runs a.board b.board refl none
             (uncut (turned done t) w m (does w event) a.runs b.runs a.board b.board (h.ends w on)) in
             step_turn w x o.reported _ _ _ (turn_of t) _ _ a.told b.told (event_mote _ event fits.event) on.stands p (frame_told t)
-            (told ∙ ap (λ k. a.told ++ filter (is_told o.reported) (turn_lines k (turn_of t))) here);
+            (told ∙ ap (λ k. a.told ++ filter (is_reported o.reported) (turn_lines k (turn_of t))) here);
         sees = λ w on. step_sees w o.known b.runs a.board.image b.board.image event t h.sees (turn_refused w m (does w event) _ _ a.board b.board (turn_of t) (h.ends w on));
         order_reads = λ known. order_takes event o.known _ t.refused _ _ known h.reads;
         inject_reads = λ known w on.
@@ -58,7 +58,7 @@ module _ (o : Occasion) (event : Event) (t : Telling) (a b : Station) (cut : Opt
       }
 
   -- its fault is handed on, and nothing is told
-  pub whole_failed : (r : Result (Unit {0}) Fault) (f : Fault) → IsErrAnd r (λ e. e ≡ f) → HappenedSo (failed f) o event t a b → StepDid r o (step_of event cut) t a (station b.board b.runs a.told)
+  pub whole_failed : (r : Result (Unit {0}) Fault) (f : Fault) → IsErrAnd r (λ e. e ≡ f) → AppliedSo (failed f) o event t a b → StepDid r o (step_of event cut) t a (station b.board b.runs a.told)
   whole_failed (Ok u) f is h = absurd is
   whole_failed (Err e) f is h =
       let x = step_of event cut in

@@ -14,29 +14,29 @@ use Rattle.dg_base.specs.declared.events.Step.{Step}
 use Rattle.dg_script.specs.declared.report.Report.{Report}
 use Rattle.dg_world.specs.Cuts.{IsStopped, IsLacking}
 use Rattle.dg_world.specs.Stepped.{StepDone, station}
-use Rattle.dg_world.specs.declared.telling.Fault.{Fault}
-use Rattle.dg_world.specs.declared.telling.Fault.TheVariants as fault
+use Rattle.dg_world.specs.declared.outcome.Fault.{Fault}
+use Rattle.dg_world.specs.declared.outcome.Fault.TheVariants as fault
 use Rattle.dg_world.specs.declared.world.RunningMote.{RunningMote}
 
 -- the event asks nothing of other motes, and nothing of what was sent or declared
 abbrev pub IsAlone : Event → Type 0
-IsAlone (Tick mote dt word) = Unit {0}
-IsAlone (Hear mote dt word frame) = ⊥
-IsAlone (Last from to dt word) = ⊥
-IsAlone (Reset mote dt word) = Unit {0}
-IsAlone (Inject mote image version dt word) = ⊥
-IsAlone (OrderEvent mote number image version dt word) = ⊥
-IsAlone (Frame mote dt word bytes) = Unit {0}
+IsAlone (Tick mote dt draw) = Unit {0}
+IsAlone (Hear mote dt draw frame) = ⊥
+IsAlone (Last from to dt draw) = ⊥
+IsAlone (Reset mote dt draw) = Unit {0}
+IsAlone (Inject mote image version dt draw) = ⊥
+IsAlone (OrderEvent mote number image version dt draw) = ⊥
+IsAlone (Frame mote dt draw bytes) = Unit {0}
 
 -- the power of a mote comes
 abbrev pub IsReset : Event → Type 0
-IsReset (Tick mote dt word) = ⊥
-IsReset (Hear mote dt word frame) = ⊥
-IsReset (Last from to dt word) = ⊥
-IsReset (Reset mote dt word) = Unit {0}
-IsReset (Inject mote image version dt word) = ⊥
-IsReset (OrderEvent mote number image version dt word) = ⊥
-IsReset (Frame mote dt word bytes) = ⊥
+IsReset (Tick mote dt draw) = ⊥
+IsReset (Hear mote dt draw frame) = ⊥
+IsReset (Last from to dt draw) = ⊥
+IsReset (Reset mote dt draw) = Unit {0}
+IsReset (Inject mote image version dt draw) = ⊥
+IsReset (OrderEvent mote number image version dt draw) = ⊥
+IsReset (Frame mote dt draw bytes) = ⊥
 
 -- nothing cuts the event
 abbrev pub uncut : Event → Step

@@ -14,7 +14,7 @@ use Rattle.dg_volume.specs.Stands.{Stands}
 use Rattle.dg_volume.specs.Start.{Runs}
 use Rattle.dg_rules.specs.World.{World as RuleWorld, store_at}
 use Rattle.dg_rules.specs.Events.{Deed, Goes, trail_of, does, mote_of}
-use Rattle.dg_rules.specs.Changes.{is_told}
+use Rattle.dg_rules.specs.Changes.{is_reported}
 use Rattle.dg_rules.specs.Steps.{WorldStep, EndsRun, blows}
 use Rattle.dg_base.specs.declared.events.Step.{Step}
 use Rattle.dg_script.specs.declared.report.Report.{Report}
@@ -35,14 +35,14 @@ pub record OneBoard (board : ℕ) (old new : List Device) : Type 0 where
   pub endures : (m : ℕ) (a b : Device) → slice_get old m ≡ Some a → slice_get new m ≡ Some b
       → Endures (beneath_of a) (beneath_of b)
 
--- A step was applied to a, which is b then: what the rules allow, told as it should be. No board's count rose, also where a cut
--- blew. Where something was started, its pages stand in program memory.
+-- A step was applied to a, which is b then: what the rules allow, reported as it should be. No board's count rose, also where a
+-- cut blew. Where something was started, its pages stand in program memory.
 pub record Applied (w : RuleWorld) (x : Step) (reported : Bool) (a b : Deployment) : Type 0 where
   pub world : RuleWorld
   pub reports : List Report
   pub step : WorldStep w x world reports
   pub stood : IsWorld b.world b.boards world
-  pub told_now : b.told ≡ a.told ++ filter (is_told reported) reports
+  pub report_now : b.told ≡ a.told ++ filter (is_reported reported) reports
   pub boards : OneBoard (mote_of x.event) a.boards b.boards
   pub calm : NoneRose a.boards b.boards
   pub memory : (d : Deed) (r : Runs) (c : Device) → does w x.event ≡ Goes d → blows x.cut d.trail ≡ false → d.started ≡ Some r

@@ -9,10 +9,10 @@ use Rattle.dg_rules.specs.World.{World as RuleWorld, store_at}
 use Rattle.dg_rules.specs.Events.{Deed, Does, Refuses, Goes, trail_of}
 use Rattle.dg_rules.specs.Steps.{blows, before_cut}
 use Rattle.dg_base.specs.declared.events.Cut.{Cut as PowerCut}
-use Rattle.dg_world.specs.Turns.{TellsDeed, BeforeShows}
+use Rattle.dg_world.specs.Turns.{TellsDeed, BeforeReports}
 use Rattle.dg_world.specs.Counts.{CountStays}
 use Rattle.dg_world.specs.Hosts.{Host}
-use Rattle.dg_world.specs.declared.shown.Shown.{Shown}
+use Rattle.dg_world.specs.declared.chip_report.ChipReport.{ChipReport}
 use Rattle.dg_world.specs.declared.world.RunningMote.{RunningMote}
 use Rattle.dg_world.specs.Turn.{EventTurn, Refused, Rests, Sends, Changes, Starts, Halt, Stopped, NotAVolume, NoImage, TurnEnded}
 use Rattle.dg_world.specs.Turn.{Whole, Cut}
@@ -35,12 +35,12 @@ pub record EventIsWhole (w : RuleWorld) (m : ℕ) (does : Does) (cut : Option Po
 
 -- the cut blew in the operation with its number
 pub record EventIsCut (w : RuleWorld) (m : ℕ) (does : Does) (cut : Option PowerCut) (image : List ℕ)
-    (before : Option Shown) : Type 0 where
+    (before : Option ChipReport) : Type 0 where
   pub deed : Deed
   pub goes : does ≡ Goes deed
   pub blown : blows cut deed.trail ≡ true
   pub leaves : MayLeave Stands IsNear deed.trail (before_cut cut) image
-  pub shows : BeforeShows before deed.trail (store_at w m)
+  pub is_report : BeforeReports before deed.trail (store_at w m)
 
 -- the board stopped on its own, and the cut did not come before
 pub record IsStopped (w : RuleWorld) (m : ℕ) (does : Does) (cut : Option PowerCut) (new : Device) : Type 0 where

@@ -1,14 +1,14 @@
--- Worlds with their boards, and what was told so far.
+-- Worlds with their boards, and what was reported so far.
 use Rattle.std.specs.Prelude.{List}
 use Rattle.dg_nor.specs.Device.{Device}
 use Rattle.dg_script.specs.declared.report.Report.{Report}
 use Rattle.dg_world.specs.declared.world.World.{World}
 
--- a world with its boards, and what was told so far
+-- a world with its boards, and what was reported so far
 pub record Deployment : Type 0 where
   pub world : World
   pub boards : List Device
   pub told : List Report
 
 abbrev pub deployed : World → List Device → List Report → Deployment
-deployed world boards told = record { world = world; boards = boards; told = told }
+deployed world boards report = record { world = world; boards = boards; told = report }

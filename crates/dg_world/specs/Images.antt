@@ -13,9 +13,9 @@ row_of_image k i = row_of k.image k.version i.name i.content
 abbrev pub is_key : ImageVersion → ImageVersion → Bool
 is_key a b = (a.image == b.image) && (a.version == b.version)
 
--- the image that was declared with a key
+-- the image that was declared with an image version
 abbrev pub found : Images → ImageVersion → Option Image
-found images key = lookup (is_key key) images.by_key.entries
+found images image_version = lookup (is_key image_version) images.by_key.entries
 
 -- the images are the declared rows
 pub record Declares (images : Images) (rows : List Row) : Type 0 where
@@ -23,4 +23,4 @@ pub record Declares (images : Images) (rows : List Row) : Type 0 where
       (found images (record { image = image; version = version })) ≡ row_at rows image version
 
 abbrev pub NothingDeclared : Images → Type 0
-NothingDeclared images = (key : ImageVersion) → found images key ≡ None
+NothingDeclared images = (image_version : ImageVersion) → found images image_version ≡ None

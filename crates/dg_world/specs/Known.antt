@@ -16,8 +16,8 @@ use Rattle.dg_base.specs.declared.events.Event.TheVariants.{Tick, Hear, Last, Re
 use Rattle.dg_script.specs.declared.report.Cause.{Cause}
 use Rattle.dg_script.specs.declared.report.Cause.TheVariants as cause
 use Rattle.dg_world.specs.Turn.{EventTurn, Refused, Rests, Sends, Changes, Starts}
-use Rattle.dg_world.specs.Tellings.{turn_of}
-use Rattle.dg_world.specs.declared.telling.Telling.{Telling}
+use Rattle.dg_world.specs.Outcomes.{turn_of}
+use Rattle.dg_world.specs.declared.outcome.Outcome.{Outcome}
 use Rattle.dg_world.specs.declared.world.RunningMote.{RunningMote}
 use Rattle.dg_world.specs.declared.world.World.{World}
 
@@ -38,13 +38,13 @@ pub record IsLookedInto (deed : Does) : Type 0 where
 -- The event makes the board of its mote known, where that is orderly then: a reset,
 -- and an injection or an order that looks at the chip.
 abbrev pub MakesKnown : RuleWorld → Event → Type 0
-MakesKnown w (Tick mote dt word) = ⊥
-MakesKnown w (Hear mote dt word frame) = ⊥
-MakesKnown w (Last from to dt word) = ⊥
-MakesKnown w (Frame mote dt word bytes) = ⊥
-MakesKnown w (Reset mote dt word) = Unit {0}
-MakesKnown w (Inject mote image version dt word) = IsLookedInto (does w (Inject mote image version dt word))
-MakesKnown w (OrderEvent mote number image version dt word) = IsLookedInto (does w (OrderEvent mote number image version dt word))
+MakesKnown w (Tick mote dt draw) = ⊥
+MakesKnown w (Hear mote dt draw frame) = ⊥
+MakesKnown w (Last from to dt draw) = ⊥
+MakesKnown w (Frame mote dt draw bytes) = ⊥
+MakesKnown w (Reset mote dt draw) = Unit {0}
+MakesKnown w (Inject mote image version dt draw) = IsLookedInto (does w (Inject mote image version dt draw))
+MakesKnown w (OrderEvent mote number image version dt draw) = IsLookedInto (does w (OrderEvent mote number image version dt draw))
 
 -- ---- what an event sees of it
 
@@ -76,22 +76,22 @@ SeesInjected (Some orderly) turn c d = SeesOrder orderly d
 SeesInjected None turn c d = (d ≡ c) × IsUndeclared turn
 
 -- what a mote does by itself is told by the mote: one that is off does nothing
-pub record SeesMote (t : Telling) (u : Option RunningMote) (c d : List ℕ) : Type 0 where
+pub record SeesMote (t : Outcome) (u : Option RunningMote) (c d : List ℕ) : Type 0 where
   pub untold : t.orderly ≡ None
   pub off : u ≡ None → d ≡ c
 
-pub record SeesStart (t : Telling) (u : Option RunningMote) : Type 0 where
+pub record SeesStart (t : Outcome) (u : Option RunningMote) : Type 0 where
   pub untold : t.orderly ≡ None
   pub on : u ≢ None
 
-abbrev pub EventSees : Event → Telling → Option RunningMote → List ℕ → List ℕ → Type 0
-EventSees (Tick mote dt word) t u c d = SeesMote t u c d
-EventSees (Hear mote dt word frame) t u c d = SeesMote t u c d
-EventSees (Last from to dt word) t u c d = SeesMote t u c d
-EventSees (Frame mote dt word bytes) t u c d = SeesMote t u c d
-EventSees (Reset mote dt word) t u c d = SeesStart t u
-EventSees (Inject mote image version dt word) t u c d = SeesInjected t.orderly (turn_of t) c d
-EventSees (OrderEvent mote number image version dt word) t u c d = SeesInjected t.orderly (turn_of t) c d
+abbrev pub EventSees : Event → Outcome → Option RunningMote → List ℕ → List ℕ → Type 0
+EventSees (Tick mote dt draw) t u c d = SeesMote t u c d
+EventSees (Hear mote dt draw frame) t u c d = SeesMote t u c d
+EventSees (Last from to dt draw) t u c d = SeesMote t u c d
+EventSees (Frame mote dt draw bytes) t u c d = SeesMote t u c d
+EventSees (Reset mote dt draw) t u c d = SeesStart t u
+EventSees (Inject mote image version dt draw) t u c d = SeesInjected t.orderly (turn_of t) c d
+EventSees (OrderEvent mote number image version dt draw) t u c d = SeesInjected t.orderly (turn_of t) c d
 
 -- A step tells whether the chip is orderly, or a mote is off after it whose board is as it was where it was known,
 -- and was not made known.
@@ -140,31 +140,31 @@ pub record OrderReads (known : Bool) (a b : Device) : Type 0 where
   pub bytes : (m n : ℕ) → RemountBytes a.image m → RemountBytes b.image n → n ≤ m + place_size
 
 abbrev pub EventReads : Event → Bool → (done : Type 0) → Option Cause → Device → Device → Type 0
-EventReads (Tick mote dt word) known done refused a b = Unit {0}
-EventReads (Hear mote dt word frame) known done refused a b = Unit {0}
-EventReads (Last from to dt word) known done refused a b = Unit {0}
-EventReads (Frame mote dt word bytes) known done refused a b = Unit {0}
-EventReads (Reset mote dt word) known done refused a b = Unit {0}
-EventReads (Inject mote image version dt word) known done refused a b = done → InjectReads known refused a b
-EventReads (OrderEvent mote number image version dt word) known done refused a b = OrderReads known a b
+EventReads (Tick mote dt draw) known done refused a b = Unit {0}
+EventReads (Hear mote dt draw frame) known done refused a b = Unit {0}
+EventReads (Last from to dt draw) known done refused a b = Unit {0}
+EventReads (Frame mote dt draw bytes) known done refused a b = Unit {0}
+EventReads (Reset mote dt draw) known done refused a b = Unit {0}
+EventReads (Inject mote image version dt draw) known done refused a b = done → InjectReads known refused a b
+EventReads (OrderEvent mote number image version dt draw) known done refused a b = OrderReads known a b
 
 abbrev pub IsInject : Event → Type 0
-IsInject (Tick mote dt word) = ⊥
-IsInject (Hear mote dt word frame) = ⊥
-IsInject (Last from to dt word) = ⊥
-IsInject (Frame mote dt word bytes) = ⊥
-IsInject (Reset mote dt word) = ⊥
-IsInject (Inject mote image version dt word) = Unit {0}
-IsInject (OrderEvent mote number image version dt word) = ⊥
+IsInject (Tick mote dt draw) = ⊥
+IsInject (Hear mote dt draw frame) = ⊥
+IsInject (Last from to dt draw) = ⊥
+IsInject (Frame mote dt draw bytes) = ⊥
+IsInject (Reset mote dt draw) = ⊥
+IsInject (Inject mote image version dt draw) = Unit {0}
+IsInject (OrderEvent mote number image version dt draw) = ⊥
 
 abbrev pub IsOrder : Event → Type 0
-IsOrder (Tick mote dt word) = ⊥
-IsOrder (Hear mote dt word frame) = ⊥
-IsOrder (Last from to dt word) = ⊥
-IsOrder (Frame mote dt word bytes) = ⊥
-IsOrder (Reset mote dt word) = ⊥
-IsOrder (Inject mote image version dt word) = ⊥
-IsOrder (OrderEvent mote number image version dt word) = Unit {0}
+IsOrder (Tick mote dt draw) = ⊥
+IsOrder (Hear mote dt draw frame) = ⊥
+IsOrder (Last from to dt draw) = ⊥
+IsOrder (Frame mote dt draw bytes) = ⊥
+IsOrder (Reset mote dt draw) = ⊥
+IsOrder (Inject mote image version dt draw) = ⊥
+IsOrder (OrderEvent mote number image version dt draw) = Unit {0}
 
 -- What an event reads of a known board, which is mounted again by n bytes: an order as many twice and 64 more,
 -- since a cut that blew mounts once more; an injection that is refused once.

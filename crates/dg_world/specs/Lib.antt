@@ -11,10 +11,10 @@ pub mod Counts
 pub mod Applied
 pub mod Applying
 pub mod Formatted
-pub mod Shown
+pub mod ChipReports
 pub mod Turn
 pub mod Turns
-pub mod Tellings
+pub mod Outcomes
 pub mod Known
 pub mod Cuts
 pub mod Stepped

@@ -16,15 +16,15 @@ use Rattle.dg_world.specs.declared.world.RunningMote.{RunningMote}
 abbrev pub step_of : Event → Option PowerCut → Step
 step_of event cut = record { event = event; cut = cut }
 
--- The event may happen so: the mote is its own, what runs there is in time, and a board that is known is one that may be mounted
--- again by halving.
-pub record MayHappen (o : Occasion) (event : Event) (board : Device) (runs : Option RunningMote) : Type 0 where
+-- The event may be applied so: the mote is its own, what runs there is in time, and a board that is known is one that may be
+-- mounted again by halving.
+pub record MayApply (o : Occasion) (event : Event) (board : Device) (runs : Option RunningMote) : Type 0 where
   pub here : o.mote ≡ mote_of event
   pub mote : MayRun board.image o.moment runs
   pub known : IsTrue o.known → IsKnownChip board.image
 
--- it happens so in world w
-pub record HappensIn (o : Occasion) (w : RuleWorld) (event : Event) (board : Device) (runs : Option RunningMote) : Type 0 where
+-- it is applied so in world w
+pub record AppliesIn (o : Occasion) (w : RuleWorld) (event : Event) (board : Device) (runs : Option RunningMote) : Type 0 where
   pub shared : IsShared o.shared.now w
   pub stands : SiteStands board runs (site w (mote_of event))
   pub moment : o.moment ≡ w.moment + dt_of event

@@ -1,4 +1,4 @@
--- What is told of a step, and where it leaves the board.
+-- What is reported of a step, and where it leaves the board.
 use Rattle.std.specs.Prelude.{◌≡◌, ℕ, ◌+◌, Bool, true, false, slice_set, length, List, ◌++◌, Option, Some, Result, Ok, Err, OnOk}
 use Rattle.std.specs.Prelude.{OnErr, IsTrue}
 use Rattle.std.specs.List.{filter}
@@ -13,25 +13,25 @@ use Rattle.dg_rules.specs.World.{World as RuleWorld, Site}
 use Rattle.dg_rules.specs.Events.{Deed, Goes, does, mote_of, dt_of}
 use Rattle.dg_rules.specs.Steps.{WorldStep, blows}
 use Rattle.dg_base.specs.declared.events.Step.{Step}
-use Rattle.dg_rules.specs.Changes.{changes, is_told}
+use Rattle.dg_rules.specs.Changes.{changes, is_reported}
 use Rattle.dg_script.specs.declared.report.Report.{Report}
 use Rattle.dg_rules.specs.Ranges.{StepInRange}
 use Rattle.dg_world.specs.Airs.{sent_now}
 use Rattle.dg_world.specs.Known.{StepSees, OrderTakes, InjectTakes}
-use Rattle.dg_world.specs.Occasions.{HappensIn}
-use Rattle.dg_world.specs.Tellings.{stepped}
+use Rattle.dg_world.specs.Occasions.{AppliesIn}
+use Rattle.dg_world.specs.Outcomes.{stepped}
 use Rattle.dg_world.specs.Unseen.{RefusesUnseen}
 use Rattle.dg_world.specs.Worlds.{MoteStands}
 use Rattle.dg_world.specs.Counts.{CountStays}
 use Rattle.dg_world.specs.Cuts.{IsStopped, IsLacking}
-use Rattle.dg_world.specs.Turns.{BeforeShows}
+use Rattle.dg_world.specs.Turns.{BeforeReports}
 use Rattle.dg_world.specs.declared.occasion.Occasion.{Occasion}
-use Rattle.dg_world.specs.declared.shown.Shown.{Shown}
-use Rattle.dg_world.specs.declared.telling.Telling.{Telling}
+use Rattle.dg_world.specs.declared.chip_report.ChipReport.{ChipReport}
+use Rattle.dg_world.specs.declared.outcome.Outcome.{Outcome}
 use Rattle.dg_world.specs.declared.world.RunningMote.{RunningMote}
 use Rattle.dg_world.specs.Turn.{Halt, Stopped, NotAVolume, NoImage}
-use Rattle.dg_world.specs.declared.telling.Fault.{Fault}
-use Rattle.dg_world.specs.declared.telling.Fault.TheVariants as fault
+use Rattle.dg_world.specs.declared.outcome.Fault.{Fault}
+use Rattle.dg_world.specs.declared.outcome.Fault.TheVariants as fault
 
 -- the board was only read
 pub record BoardOnlyRead (old new : Device) : Type 0 where
@@ -39,18 +39,19 @@ pub record BoardOnlyRead (old new : Device) : Type 0 where
   pub endures : Endures (beneath_of old) (beneath_of new)
 
 -- the lines of what a cut changed were appended
-pub record CutChangesAre (m : ℕ) (before : Option Shown) (t : Store) (told_before told : List Report) : Type 0 where
+pub record CutChangesAre (m : ℕ) (before : Option ChipReport) (t : Store) (report_before report : List Report) : Type 0 where
   pub lines : List Report
-  pub tells : (k : ℕ) (s : Store) (trail : Trail Store) → Leaves IsNear trail k t → BeforeShows before trail s
+  pub tells : (k : ℕ) (s : Store) (trail : Trail Store) → Leaves IsNear trail k t → BeforeReports before trail s
       → lines ≡ changes m s t
-  pub told_now : told ≡ told_before ++ lines
+  pub report_now : report ≡ report_before ++ lines
 
 -- what a look at the board tells, which stands for t: the lines of what the cut changed, or nothing where the board stopped
-abbrev pub CutTold : {T : Type 0} → Result T Fault → (m : ℕ) → Option Shown → Store → (told_before told : List Report) → Type 0
-CutTold (Ok u) m before t told_before told = CutChangesAre m before t told_before told
-CutTold (Err fault.Stopped) m before t told_before told = told ≡ told_before
-CutTold (Err fault.NotAVolume) m before t told_before told = ⊥
-CutTold (Err fault.NoImage) m before t told_before told = ⊥
+abbrev pub CutReported : {T : Type 0} → Result T Fault → (m : ℕ) → Option ChipReport → Store
+    → (report_before report : List Report) → Type 0
+CutReported (Ok u) m before t report_before report = CutChangesAre m before t report_before report
+CutReported (Err fault.Stopped) m before t report_before report = report ≡ report_before
+CutReported (Err fault.NotAVolume) m before t report_before report = ⊥
+CutReported (Err fault.NoImage) m before t report_before report = ⊥
 
 -- and how it leaves the board, which is only read
 abbrev pub CutRead : {T : Type 0} → Result T Fault → Device → Device → Type 0
@@ -59,23 +60,23 @@ CutRead (Err fault.Stopped) old new = (new.stopped ≡ true) × BoardOnlyRead ol
 CutRead (Err fault.NotAVolume) old new = ⊥
 CutRead (Err fault.NoImage) old new = ⊥
 
--- a board with what the mote there runs, and what was told so far
+-- a board with what the mote there runs, and what was reported so far
 pub record Station : Type 0 where
   pub board : Device
   pub runs : Option RunningMote
   pub told : List Report
 
 abbrev pub station : Device → Option RunningMote → List Report → Station
-station board runs told = record { board = board; runs = runs; told = told }
+station board runs report = record { board = board; runs = runs; told = report }
 
 -- A step was done at its board, which stood for the mote's store: what the rules allow, where the mote and the board are then,
--- what was told, and what was sent. The station of the mote is b.
-pub record StepDone (w : RuleWorld) (x : Step) (reported : Bool) (frame : Option (List ℕ)) (told_before : List Report)
+-- what was reported, and what was sent. The station of the mote is b.
+pub record StepDone (w : RuleWorld) (x : Step) (reported : Bool) (frame : Option (List ℕ)) (report_before : List Report)
     (b : Station) : Type 0 where
   pub world : RuleWorld
   pub reports : List Report
   pub step : WorldStep w x world reports
-  pub told_now : b.told ≡ told_before ++ filter (is_told reported) reports
+  pub report_now : b.told ≡ report_before ++ filter (is_reported reported) reports
   pub here : Site
   pub moment : world.moment ≡ w.moment + dt_of x.event
   pub events : world.events ≡ w.events + 1
@@ -89,13 +90,14 @@ pub record StepDone (w : RuleWorld) (x : Step) (reported : Bool) (frame : Option
   pub memory : (d : Deed) (r : Runs) → does w x.event ≡ Goes d → blows x.cut d.trail ≡ false → d.started ≡ Some r
       → program b.board.image (length r.pages) ≡ r.pages
 
-abbrev pub StepEnds : Result (Option (List ℕ)) Halt → RuleWorld → Step → (reported : Bool) → (told_before : List Report) → Station
+abbrev pub StepEnds : Result (Option (List ℕ)) Halt → RuleWorld → Step → (reported : Bool) → (report_before : List Report)
+    → Station
     → Type 0
-StepEnds (Ok frame) w x reported told_before b = StepDone w x reported frame told_before b
-StepEnds (Err (Stopped before)) w x reported told_before b = IsStopped w (mote_of x.event) (does w x.event) x.cut b.board
-    × (b.told ≡ told_before)
-StepEnds (Err NoImage) w x reported told_before b = IsLacking (does w x.event) x.cut b.board.image × (b.told ≡ told_before)
-StepEnds (Err NotAVolume) w x reported told_before b = ⊥
+StepEnds (Ok frame) w x reported report_before b = StepDone w x reported frame report_before b
+StepEnds (Err (Stopped before)) w x reported report_before b = IsStopped w (mote_of x.event) (does w x.event) x.cut b.board
+    × (b.told ≡ report_before)
+StepEnds (Err NoImage) w x reported report_before b = IsLacking (does w x.event) x.cut b.board.image × (b.told ≡ report_before)
+StepEnds (Err NotAVolume) w x reported report_before b = ⊥
 
 -- The step ended so at its board, whose count did not fall, and stays unless the board stopped. The station of its mote was a
 -- and is b.
@@ -104,15 +106,15 @@ pub record Stepped (r : Result (Option (List ℕ)) Halt) (w : RuleWorld) (x : St
   pub endures : Endures (beneath_of a.board) (beneath_of b.board)
   pub count : CountStays r a.board b.board
 
--- What a step did at the station of its mote that answers r and has this to tell.
-pub record StepDid (r : Result (Unit {0}) Fault) (o : Occasion) (x : Step) (t : Telling) (a b : Station) : Type 0 where
-  pub steps : (w : RuleWorld) → StepInRange (length w.sites) x → HappensIn o w x.event a.board a.runs
+-- What a step did at the station of its mote that answers r and has this outcome.
+pub record StepDid (r : Result (Unit {0}) Fault) (o : Occasion) (x : Step) (t : Outcome) (a b : Station) : Type 0 where
+  pub steps : (w : RuleWorld) → StepInRange (length w.sites) x → AppliesIn o w x.event a.board a.runs
       → Stepped (stepped r t) w x o.reported a b
-  pub sees : OnOk r ((w : RuleWorld) → HappensIn o w x.event a.board a.runs
+  pub sees : OnOk r ((w : RuleWorld) → AppliesIn o w x.event a.board a.runs
       → StepSees w x.event o.known t.orderly b.runs a.board.image b.board.image)
   pub order_reads : IsTrue o.known → OrderTakes x.event a.board b.board
-  pub inject_reads : OnOk r (IsTrue o.known → (w : RuleWorld) → HappensIn o w x.event a.board a.runs
+  pub inject_reads : OnOk r (IsTrue o.known → (w : RuleWorld) → AppliesIn o w x.event a.board a.runs
       → InjectTakes w x.event a.board b.board)
   -- an event that is refused without a look at the chip uses no board
-  pub unseen : (w : RuleWorld) → HappensIn o w x.event a.board a.runs → RefusesUnseen (does w x.event) → (b.board ≡ a.board)
+  pub unseen : (w : RuleWorld) → AppliesIn o w x.event a.board a.runs → RefusesUnseen (does w x.event) → (b.board ≡ a.board)
       × OnErr r ⊥

@@ -1,8 +1,8 @@
--- What an event did, as it is told.
+-- What an event did, as it is reported.
 use Rattle.std.specs.Prelude.{ℕ, List, Option}
 use Rattle.dg_script.specs.declared.report.Cause.{Cause}
-use Rattle.dg_world.specs.declared.shown.Shown.{Shown}
-use Rattle.dg_world.specs.declared.telling.StartLine.{StartLine}
+use Rattle.dg_world.specs.declared.chip_report.ChipReport.{ChipReport}
+use Rattle.dg_world.specs.declared.outcome.StartLine.{StartLine}
 
 pub data EventTurn : Type 0 where
   Refused : (why : Cause) → EventTurn
@@ -11,13 +11,13 @@ pub data EventTurn : Type 0 where
   -- a frame of these bytes is sent, and the chip stays as it is
   Sends : (bytes : List ℕ) → EventTurn
   -- what is reported of the chip may be something else
-  Changes : (before after : Shown) → EventTurn
+  Changes : (before after : ChipReport) → EventTurn
   Starts : (line : StartLine) → EventTurn
 
 -- why an event was not done
 pub data Halt : Type 0 where
   -- The board is stopped. What is reported of the chip was this before, and is the same after a stop where this is None.
-  Stopped : (before : Option Shown) → Halt
+  Stopped : (before : Option ChipReport) → Halt
   NotAVolume : Halt
   NoImage : Halt
 
@@ -25,4 +25,4 @@ pub data Halt : Type 0 where
 pub data TurnEnded : Type 0 where
   Whole : (turn : EventTurn) → TurnEnded
   -- The cut blew. What is reported of the chip was this before, and is the same after it where this is None.
-  Cut : (before : Option Shown) → TurnEnded
+  Cut : (before : Option ChipReport) → TurnEnded

@@ -22,12 +22,12 @@ use Rattle.dg_rules.specs.Events.{Deed, Does, Refuses, Goes, trail_of}
 use Rattle.dg_rules.specs.Steps.{done_reports}
 use Rattle.dg_script.specs.declared.report.Report.{Report}
 use Rattle.dg_script.specs.declared.report.Report.TheVariants.{Start, Refused as RefusedLine}
-use Rattle.dg_world.specs.Shown.{Shows, changes_shown}
+use Rattle.dg_world.specs.ChipReports.{IsReportOf, change_lines}
 use Rattle.dg_world.specs.Worlds.{MoteStands}
 use Rattle.dg_world.specs.Hosts.{Host}
 use Rattle.dg_world.specs.declared.starting.Begun.{Begun}
 use Rattle.dg_world.specs.declared.world.RunningMote.{RunningMote}
-use Rattle.dg_world.specs.declared.shown.Shown.{Shown}
+use Rattle.dg_world.specs.declared.chip_report.ChipReport.{ChipReport}
 use Rattle.dg_world.specs.Turn.{EventTurn, Refused, Rests, Sends, Changes, Starts, Halt, Stopped, NotAVolume, NoImage}
 
 -- the frame of a turn, and the turn of what a tick sent, if anything
@@ -43,24 +43,24 @@ turn_sent None = Rests
 turn_sent (Some bytes) = Sends bytes
 
 -- the line on a frame, which a wide reader reads
-abbrev pub sent_shown : ℕ → Result Message FrameFault → List Report
-sent_shown m (Err fault) = []
-sent_shown m (Ok message) = sent_line m (Some message)
+abbrev pub frame_lines : ℕ → Result Message FrameFault → List Report
+frame_lines m (Err fault) = []
+frame_lines m (Ok message) = sent_line m (Some message)
 
 abbrev pub turn_lines : ℕ → EventTurn → List Report
 turn_lines m (Refused why) = RefusedLine m why ∷ []
 turn_lines m Rests = []
-turn_lines m (Sends bytes) = sent_shown m (message_of bytes true)
-turn_lines m (Changes old new) = changes_shown m old new
-turn_lines m (Starts x) = Start m x.key.image x.key.version x.length x.crc ∷ []
+turn_lines m (Sends bytes) = frame_lines m (message_of bytes true)
+turn_lines m (Changes old new) = change_lines m old new
+turn_lines m (Starts x) = Start m x.image_version.image x.image_version.version x.length x.crc ∷ []
 
 -- a mote that was started over the volume of its chip, and the line of that
-pub record BeginsOver (started : Started) (id : ℕ) (wide : Bool) (now word : ℕ) (b : Begun) : Type 0 where
-  pub key : b.running.key ≡ b.line.key
-  pub line_key : b.line.key ≡ record { image = started.image; version = started.version }
+pub record BeginsOver (started : Started) (id : ℕ) (wide : Bool) (now draw : ℕ) (b : Begun) : Type 0 where
+  pub image_version : b.running.image_version ≡ b.line.image_version
+  pub line_key : b.line.image_version ≡ record { image = started.image; version = started.version }
   pub length : b.line.length ≡ started.length
   pub crc : b.line.crc ≡ started.crc
-  pub mote : (c : List ℕ) (s : Store) → Mounted c started.volume s → IsMote c b.running.mote (begun_mote id wide now word) s
+  pub mote : (c : List ℕ) (s : Store) → Mounted c started.volume s → IsMote c b.running.mote (begun_mote id wide now draw) s
 
 -- The turn is the deed: the mote, the report and what is sent are the rules', the chip stands for the last store,
 -- and what was started stands in program memory.
@@ -83,25 +83,25 @@ pub record DeedWent (w : RuleWorld) (m : ℕ) (does : Does) (u : Option RunningM
   pub tells : TellsDeed w m deed turn u new.image
 
 -- neither the order nor what is kept is another
-pub record SameShown (s t : Store) : Type 0 where
+pub record SameReport (s t : Store) : Type 0 where
   pub kept : t.kept ≡ s.kept
   pub order : t.order ≡ s.order
 
 -- an answer to a frame with which neither is another: an order may be kept with the others, and a slot taken, or a page sealed
-abbrev pub IsQuiet : Heard → Type 0
-IsQuiet Other = ⊥
-IsQuiet (Asks image page) = ⊥
-IsQuiet (Sealed image page) = ⊥
-IsQuiet answer = Unit {0}
+abbrev pub LeavesChip : Heard → Type 0
+LeavesChip Other = ⊥
+LeavesChip (Asks image page) = ⊥
+LeavesChip (Sealed image page) = ⊥
+LeavesChip answer = Unit {0}
 
 -- What is reported of a chip that stood for s is this, or it is the same wherever a stop leaves the trail.
-abbrev pub BeforeShows : Option Shown → Trail Store → Store → Type 0
-BeforeShows None t s = (k : ℕ) (u : Store) → Leaves IsNear t k u → SameShown s u
-BeforeShows (Some x) t s = Shows x s
+abbrev pub BeforeReports : Option ChipReport → Trail Store → Store → Type 0
+BeforeReports None t s = (k : ℕ) (u : Store) → Leaves IsNear t k u → SameReport s u
+BeforeReports (Some x) t s = IsReportOf x s
 
-pub record StoppedOn (does : Does) (s : Store) (old new : Device) (before : Option Shown) : Type 0 where
+pub record StoppedOn (does : Does) (s : Store) (old new : Device) (before : Option ChipReport) : Type 0 where
   pub stops : StopsIn Stands IsNear (trail_of does s) old new
-  pub shows : old.blown ≡ false → new.blown ≡ true → BeforeShows before (trail_of does s) s
+  pub is_report : old.blown ≡ false → new.blown ≡ true → BeforeReports before (trail_of does s) s
 
 -- a start found no image
 pub record Lacked (does : Does) (old new : Device) : Type 0 where

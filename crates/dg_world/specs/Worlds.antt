@@ -21,7 +21,7 @@ use Rattle.dg_world.specs.declared.world.RunningMote.{RunningMote}
 -- what the code keeps of a mote over these bytes is what the mote is
 abbrev pub MoteStands : List ℕ → Option RunningMote → Store → Option Running → Type 0
 MoteStands c None s None = Unit {0}
-MoteStands c (Some v) s (Some r) = (v.key ≡ r.key) × IsMote c v.mote r.mote s
+MoteStands c (Some v) s (Some r) = (v.image_version ≡ r.image_version) × IsMote c v.mote r.mote s
 MoteStands c None s (Some r) = ⊥
 MoteStands c (Some v) s None = ⊥
 

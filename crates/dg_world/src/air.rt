@@ -30,10 +30,10 @@ impl Air {
         }
     }
 
-    /// Makes room for one frame more.
+    /// Makes capacity for one frame more.
     pub(crate) fn reserve(&mut self) -> Result<(), AllocError>
         ensures same { (sent : List Sent) → Carries self.old sent → Carries self.new sent }
-        ensures room { OnOk result (vec_len self.new.frames + 1 ≤ vec_capacity self.new.frames) }
+        ensures capacity { OnOk result (vec_len self.new.frames + 1 ≤ vec_capacity self.new.frames) }
     {
         match self.frames.reserve(1) {
             Ok(()) => Ok(()),
@@ -41,10 +41,10 @@ impl Air {
         }
     }
 
-    /// A mote sends the frame of its outbox, if there is one, which gets the next number. There is room for it.
+    /// A mote sends the frame of its outbox, if there is one, which gets the next number. There is capacity for it.
     pub(crate) fn send(&mut self, by: u8, outbox: &mut Outbox)
         requires known { by < most_motes }
-        requires room { vec_len self.old.frames + 1 ≤ vec_capacity self.old.frames }
+        requires capacity { vec_len self.old.frames + 1 ≤ vec_capacity self.old.frames }
         ensures { (before : List Sent) → Carries self.old before → Carries self.new (before ++ sent_now by (sent_in outbox.old)) }
     {
         if let Some(frame) = outbox.take() {
@@ -52,10 +52,10 @@ impl Air {
         }
     }
 
-    /// A mote sends a frame. There is room for it.
+    /// A mote sends a frame. There is capacity for it.
     fn push(&mut self, by: u8, frame: Frame)
         requires known { by < most_motes }
-        requires room { vec_len self.old.frames + 1 ≤ vec_capacity self.old.frames }
+        requires capacity { vec_len self.old.frames + 1 ≤ vec_capacity self.old.frames }
         ensures { (before : List Sent) → Carries self.old before → Carries self.new (before ++ sent_now by (Some frame.items)) }
     {
         self.frames.push_reserved(SentFrame { by, frame });

@@ -3,14 +3,14 @@ ghost use Rattle.std.specs.Prelude.{◌≡◌, ◌+◌, ◌^◌, ◌<◌, true, 
 ghost use Rattle.dg_rules.specs.World.{World as RuleWorld, site, wide_at};
 ghost use Rattle.dg_rules.specs.Events.{does, mote_of, dt_of};
 ghost use Rattle.dg_world.specs.Alone.{IsAlone, IsReset, PlaysAlone, Powers};
-ghost use Rattle.dg_world.specs.Tellings.{IsNothing, turned};
+ghost use Rattle.dg_world.specs.Outcomes.{IsNothing, turned};
 ghost use Rattle.dg_world.specs.Turns.{TurnEnds};
 ghost use Rattle.dg_world.specs.Hosts.{host};
 ghost use Rattle.dg_world.specs.Worlds.{SiteStands, MayRun};
 
 use crate::hearing::hear;
+use crate::outcome::{Fault, Outcome};
 use crate::starting::reset;
-use crate::telling::{Fault, Telling};
 use crate::ticking::tick;
 use crate::world::RunningMote;
 use dg_mote::Outbox;
@@ -36,49 +36,49 @@ pub fn play_alone<N: Nor>(
     // a start tells a board that is a volume from one that is none, which keeps its bytes
     ensures powers { IsReset event.now → Powers result (N.device board.old) (N.device board.new) }
 {
-    let mut telling = Telling::new();
-    match happen_alone(runs, now, event, board, &mut telling) {
-        Ok(()) => Ok(telling.outbox),
+    let mut outcome = Outcome::new();
+    match apply_alone(runs, now, event, board, &mut outcome) {
+        Ok(()) => Ok(outcome.outbox),
         Err(fault) => Err(fault),
     }
 }
 
-/// The same, where nothing is told yet.
-fn happen_alone<N: Nor>(
+/// The same, where nothing came of it yet.
+fn apply_alone<N: Nor>(
     runs: &mut Option<RunningMote>,
     now: u64,
     event: &Event,
     board: &mut N,
-    telling: &mut Telling,
+    outcome: &mut Outcome,
 ) -> Result<(), Fault>
     requires alone { IsAlone event.now }
     requires mote { MayRun (N.device board.old).image now runs.old }
     requires moment { now < 2 ^ 62 }
-    requires nothing { IsNothing telling.old }
+    requires nothing { IsNothing outcome.old }
     ensures ends { (w : RuleWorld) → SiteStands (N.device board.old) runs.old (site w (mote_of event.now))
         → now ≡ w.moment + dt_of event.now
-        → wide_at w (mote_of event.now) ≡ true → TurnEnds (turned result telling.new) w (mote_of event.now)
+        → wide_at w (mote_of event.now) ≡ true → TurnEnds (turned result outcome.new) w (mote_of event.now)
         (does w event.now) (host (N.device board.old) runs.old) (host (N.device board.new) runs.new) }
     ensures powers { IsReset event.now → Powers result (N.device board.old) (N.device board.new) }
 {
     match event {
-        Event::Tick { word, .. } => tick(runs, now, *word, board, telling),
-        Event::Reset { mote, word, .. } => reset(
+        Event::Tick { draw, .. } => tick(runs, now, *draw, board, outcome),
+        Event::Reset { mote, draw, .. } => reset(
             runs,
             u16::from(*mote),
             true,
             now,
-            *word,
+            *draw,
             board,
-            telling,
+            outcome,
         ),
-        Event::Frame { word, bytes, .. } => hear(
+        Event::Frame { draw, bytes, .. } => hear(
             runs,
             now,
-            *word,
+            *draw,
             bytes.as_slice(),
             board,
-            telling,
+            outcome,
         ),
         Event::Hear { .. } | Event::Last { .. } | Event::Inject { .. } | Event::Order { .. } => {
             unreachable!()

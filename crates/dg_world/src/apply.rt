@@ -7,14 +7,14 @@ ghost use Rattle.dg_world.specs.Occasions.{step_of};
 ghost use Rattle.dg_world.specs.Applied.{fault_of};
 ghost use Rattle.dg_world.specs.Applying.{ApplyDone};
 ghost use Rattle.dg_world.specs.Deployments.{deployed};
-ghost use Rattle.dg_world.specs.Tellings.{halt_of};
-ghost use Rattle.dg_world.specs.declared.shown.Shown.{Shown};
+ghost use Rattle.dg_world.specs.Outcomes.{halt_of};
+ghost use Rattle.dg_world.specs.declared.chip_report.ChipReport.{ChipReport};
 
 use crate::events::{dt_at, mote_at};
 use crate::knowing::{is_watched, known_after, makes_known, note};
 use crate::occasion::Occasion;
+use crate::outcome::{Fault, Outcome};
 use crate::stepping::{MOST_LINES, step_at};
-use crate::telling::{Fault, Telling};
 use crate::world::{World, WorldFault};
 use dg_nor::Nor;
 use dg_rules::{Cut, Event, Report, agreement_is_kept, consistency_is_kept};
@@ -41,8 +41,8 @@ impl World {
     {
         consistency_is_kept();
         agreement_is_kept();
-        // made before any return, so that its place is filled once
-        let mut telling = Telling::new();
+        // made before any return, so that its memory is filled once
+        let mut outcome = Outcome::new();
         if self.events >= MOST_EVENTS {
             return Err(WorldFault::TooMany);
         }
@@ -66,12 +66,12 @@ impl World {
             known,
             reported,
         };
-        match step_at(&occasion, runs, event, cut, board, &mut telling, out) {
+        match step_at(&occasion, runs, event, cut, board, &mut outcome, out) {
             Ok(()) => {
                 self.moment = moment;
                 self.events += 1;
-                self.shared.air.send(mote, &mut telling.outbox);
-                let orderly = known_after(runs, telling.orderly, is_watched(known, makes));
+                self.shared.air.send(mote, &mut outcome.outbox);
+                let orderly = known_after(runs, outcome.orderly, is_watched(known, makes));
                 note(&mut self.known, mote, orderly);
                 Ok(())
             }
@@ -82,7 +82,7 @@ impl World {
 
 /// Why an event was not applied at this mote.
 fn fault_at(fault: Fault, mote: u8) -> WorldFault
-    ensures { (before : Option Shown) → result ≡ fault_of (halt_of fault before) mote }
+    ensures { (before : Option ChipReport) → result ≡ fault_of (halt_of fault before) mote }
 {
     match fault {
         Fault::Stopped => WorldFault::Flash { board: mote },

@@ -5,23 +5,23 @@ ghost use Rattle.dg_rules.specs.Sizes.{most_motes};
 ghost use Rattle.dg_rules.specs.World.{World as RuleWorld};
 ghost use Rattle.dg_rules.specs.Events.{does, mote_of};
 ghost use Rattle.dg_rules.specs.Ranges.{EventInRange, CutInRange};
-ghost use Rattle.dg_world.specs.Occasions.{MayHappen, HappensIn};
+ghost use Rattle.dg_world.specs.Occasions.{MayApply, AppliesIn};
 ghost use Rattle.dg_world.specs.Cuts.{ended, EventPlayed};
 ghost use Rattle.dg_world.specs.Hosts.{host};
-ghost use Rattle.dg_world.specs.Tellings.{IsNothing, turned, ended_as};
+ghost use Rattle.dg_world.specs.Outcomes.{IsNothing, turned, ended_as};
 ghost use Rattle.dg_world.specs.Unseen.{RefusesUnseen};
 ghost use Rattle.dg_world.specs.Known.{EventReads, EventSees};
 
-use crate::happening::happen;
+use crate::dispatch::apply_event;
 use crate::occasion::Occasion;
-use crate::telling::{Fault, Power, Telling};
+use crate::outcome::{Fault, Outcome, Power};
 use crate::world::RunningMote;
 use dg_nor::{Fused, Nor};
 use dg_rules::{Cut, Event};
 
 /// How an event ended whose cut blew or not, at a board that is stopped itself or not.
 fn end_turn(blown: bool, stopped: bool, done: Result<(), Fault>) -> Result<Power, Fault>
-    ensures { (t : Telling) → ended_as result t ≡ ended (blown && not stopped) (turned done t) }
+    ensures { (t : Outcome) → ended_as result t ≡ ended (blown && not stopped) (turned done t) }
 {
     match done {
         Ok(()) => Ok(Power::Stays),
@@ -58,24 +58,24 @@ pub(crate) fn play_cut<N: Nor>(
     event: &Event,
     cut: &Cut,
     board: &mut N,
-    telling: &mut Telling,
+    outcome: &mut Outcome,
 ) -> Result<Power, Fault>
     requires fits { (motes : ℕ) × EventInRange motes event.now × (motes ≤ most_motes) }
     requires cut { CutInRange cut.now }
-    requires may { MayHappen occasion.now event.now (N.device board.old) runs.old }
-    requires nothing { IsNothing telling.old }
-    ensures played { (w : RuleWorld) → HappensIn occasion.now w event.now (N.device board.old) runs.old
-        → EventPlayed (ended_as result telling.new) w (mote_of event.now) (does w event.now) (Some cut.now)
+    requires may { MayApply occasion.now event.now (N.device board.old) runs.old }
+    requires nothing { IsNothing outcome.old }
+    ensures played { (w : RuleWorld) → AppliesIn occasion.now w event.now (N.device board.old) runs.old
+        → EventPlayed (ended_as result outcome.new) w (mote_of event.now) (does w event.now) (Some cut.now)
         (host (N.device board.old) runs.old) (host (N.device board.new) runs.new) }
-    ensures unseen { (w : RuleWorld) → HappensIn occasion.now w event.now (N.device board.old) runs.old
+    ensures unseen { (w : RuleWorld) → AppliesIn occasion.now w event.now (N.device board.old) runs.old
         → RefusesUnseen (does w event.now) → (board.new ≡ board.old) × (result ≡ Ok Power.Stays) }
-    ensures reads { EventReads event.now occasion.now.known (result ≡ Ok Power.Stays) telling.new.refused (N.device board.old)
+    ensures reads { EventReads event.now occasion.now.known (result ≡ Ok Power.Stays) outcome.new.refused (N.device board.old)
         (N.device board.new) }
-    ensures sees { result ≡ Ok Power.Stays → EventSees event.now telling.new runs.new (N.device board.old).image
+    ensures sees { result ≡ Ok Power.Stays → EventSees event.now outcome.new runs.new (N.device board.old).image
         (N.device board.new).image }
 {
     let mut fused = fuse_of(cut, board);
-    let done = happen(occasion, runs, event, &mut fused, telling);
+    let done = apply_event(occasion, runs, event, &mut fused, outcome);
     let blown = fused.blown();
     let stopped = board.is_stopped();
     end_turn(blown, stopped, done)

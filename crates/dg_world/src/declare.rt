@@ -90,7 +90,7 @@ impl World {
         mark(&mut self.shared.narrow, usize::from(mote));
     }
 
-    /// Declares an image, unless its key has another name or content.
+    /// Declares an image, unless this version of it has another name or content.
     pub fn declare(
         &mut self,
         image: u8,
@@ -112,14 +112,18 @@ impl World {
         ensures unchanged { OnErr result ((boards : List Device) (w : RuleWorld) → IsWorld self.old boards w
             → IsWorld self.new boards w) }
     {
-        let key = ImageVersion { image, version };
-        if let Some(kept) = self.shared.images.get(key) {
+        let image_version = ImageVersion { image, version };
+        if let Some(kept) = self.shared.images.get(image_version) {
             if is_same(kept, &name, &content) {
                 return Ok(());
             }
             return Err(DeclareFault::Taken);
         }
-        match self.shared.images.add(key, Image { name, content }) {
+        match self
+            .shared
+            .images
+            .add(image_version, Image { name, content })
+        {
             Ok(()) => Ok(()),
             Err(AllocError) => Err(DeclareFault::Memory),
         }
@@ -139,8 +143,9 @@ fn all_off(alloc: Global, motes: u8) -> Result<Vec<Option<RunningMote>>, AllocEr
 
 /// Whether an image has this name and these bytes.
 fn is_same(kept: &Image, name: &Bytes, content: &Bytes) -> bool
-    ensures { (key : ImageVersion)
-        → result ≡ same_row (row_of_image key kept.now) (row_of key.image key.version name.now content.now) }
+    ensures { (image_version : ImageVersion)
+        → result ≡ same_row (row_of_image image_version kept.now)
+        (row_of image_version.image image_version.version name.now content.now) }
 {
     kept.name.as_slice() == name.as_slice() && kept.content.as_slice() == content.as_slice()
 }

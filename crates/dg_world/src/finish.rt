@@ -11,9 +11,9 @@ ghost use Rattle.dg_rules.specs.Changes.{site_lines, final_lines};
 ghost use Rattle.dg_world.specs.Worlds.{IsWorld, SiteStands};
 ghost use Rattle.dg_world.specs.Counts.{NoneRose};
 ghost use Rattle.dg_world.specs.Applied.{SameBoards, ReadFlash};
-ghost use Rattle.dg_world.specs.Finished.{mote_shown, kept_shown, keeps_shown};
+ghost use Rattle.dg_world.specs.Finished.{mote_report, kept_report, kept_reports};
 
-use crate::shown::{Shown, push_line, show};
+use crate::chip_report::{ChipReport, push_line, report_chip};
 use crate::world::{RunningMote, World};
 use dg_control::IMAGES;
 use dg_nor::{Nor, Stopped};
@@ -23,7 +23,7 @@ use dg_volume::{Kept, MountFault, Volume};
 /// The most last lines of a mote: what it runs, and what is kept of each image but golden.
 const MOST_SITE_LINES: usize = IMAGES;
 
-/// Why the last state of a world is not told.
+/// Why the last state of a world is not reported.
 #[derive(Clone, Copy, Debug, PartialEq, Eq)]
 pub enum FinishFault {
     /// There was no memory.
@@ -33,7 +33,7 @@ pub enum FinishFault {
 }
 
 impl World {
-    /// The last state, read from the boards. After `Flash` and `Memory` nothing is told of it.
+    /// The last state, read from the boards. After `Flash` and `Memory` nothing is reported of it.
     pub fn finish<N: Nor>(
         &self,
         boards: &mut Vec<N>,
@@ -59,7 +59,7 @@ impl World {
         ensures known_board { (board : ℕ) → result ≡ Err (FinishFault.Flash board) → (w : RuleWorld)
             → IsWorld self.now (map N.device boards.old.items) w → board < length w.sites }
     {
-        let told = out.len();
+        let start = out.len();
         match out.reserve(1 + MOST_SITE_LINES * self.motes.len()) {
             Ok(()) => {}
             Err(_) => return Err(FinishFault::Memory),
@@ -70,23 +70,23 @@ impl World {
         match self.push_sites(boards, out) {
             Ok(()) => Ok(()),
             Err(BoardStopped { board }) => {
-                out.truncate(told);
+                out.truncate(start);
                 Err(FinishFault::Flash { board })
             }
         }
     }
 
-    /// Appends the last lines of all motes, in their order. There is room for them.
+    /// Appends the last lines of all motes, in their order. There is capacity for them.
     fn push_sites<N: Nor>(
         &self,
         boards: &mut [N],
         out: &mut Vec<Report>,
     ) -> Result<(), BoardStopped>
         requires world { (w : RuleWorld) × IsWorld self.now (map N.device boards.old) w }
-        requires room { vec_len out.old + MOST_SITE_LINES * length self.now.motes.items ≤ vec_capacity out.old }
+        requires capacity { vec_len out.old + MOST_SITE_LINES * length self.now.motes.items ≤ vec_capacity out.old }
         ensures told { OnOk result ((w : RuleWorld) → IsWorld self.now (map N.device boards.old) w
             → out.new.items ≡ out.old.items ++ flat_map (λ m. site_lines m (site w m)) (range_with_len 0 (length w.sites))) }
-        ensures begun { (told : List Report) × (out.new.items ≡ out.old.items ++ told) }
+        ensures begun { (lines : List Report) × (out.new.items ≡ out.old.items ++ lines) }
         ensures boards { SameBoards (map N.device boards.old) (map N.device boards.new) }
         ensures calm { OnOk result (NoneRose (map N.device boards.old) (map N.device boards.new)) }
         // only the boards of motes are read
@@ -117,7 +117,7 @@ struct BoardStopped {
     board: u8,
 }
 
-/// Reads a board that is a volume, and appends the last lines of its mote. There is room for them.
+/// Reads a board that is a volume, and appends the last lines of its mote. There is capacity for them.
 fn push_site<N: Nor>(
     nor: &mut N,
     mote: u8,
@@ -125,20 +125,20 @@ fn push_site<N: Nor>(
     out: &mut Vec<Report>,
 ) -> Result<(), Stopped>
     requires volume { IsVolume (N.device nor.old).image }
-    requires room { vec_len out.old + MOST_SITE_LINES ≤ vec_capacity out.old }
+    requires capacity { vec_len out.old + MOST_SITE_LINES ≤ vec_capacity out.old }
     ensures told { OnOk result ((x : Site) → SiteStands (N.device nor.old) runs.now x
         → out.new.items ≡ out.old.items ++ site_lines mote x) }
-    ensures begun { (told : List Report) × (out.new.items ≡ out.old.items ++ told) }
+    ensures begun { (lines : List Report) × (out.new.items ≡ out.old.items ++ lines) }
     ensures looked { OnOk result (Looked (N.device nor.old) (N.device nor.new)) }
     ensures stopped { OnErr result (ReadStopped (N.device nor.old) (N.device nor.new)) }
     ensures untold { OnErr result (out.new.items ≡ out.old.items) }
-    ensures room { vec_capacity out.new ≡ vec_capacity out.old }
+    ensures capacity { vec_capacity out.new ≡ vec_capacity out.old }
     ensures few { vec_len out.new ≤ vec_len out.old + MOST_SITE_LINES }
 {
     match Volume::mount(nor) {
         Ok(volume) => {
             out.push_reserved(mote_line(mote, runs));
-            push_keeps(mote, &show(&volume), out);
+            push_keeps(mote, &report_chip(&volume), out);
             Ok(())
         }
         Err(MountFault::Stopped) => Err(Stopped),
@@ -148,21 +148,21 @@ fn push_site<N: Nor>(
 
 /// The line on what a mote runs at the end.
 fn mote_line(mote: u8, runs: &Option<RunningMote>) -> Report
-    ensures { result ≡ mote_shown mote runs.now }
+    ensures { result ≡ mote_report mote runs.now }
 {
     match runs {
         None => Report::MoteOff { mote },
         Some(running) => Report::MoteOn {
             mote,
-            image: running.key.image,
-            version: running.key.version,
+            image: running.image_version.image,
+            version: running.image_version.version,
         },
     }
 }
 
 /// The line on what a mote keeps of an image at the end.
 fn kept_line(mote: u8, image: u8, kept: Option<Kept>) -> Option<Report>
-    ensures { result ≡ kept_shown mote image kept }
+    ensures { result ≡ kept_report mote image kept }
 {
     match kept {
         None => None,
@@ -175,15 +175,15 @@ fn kept_line(mote: u8, image: u8, kept: Option<Kept>) -> Option<Report>
     }
 }
 
-/// Appends the lines on what a mote keeps of each image but golden. There is room for them.
-fn push_keeps(mote: u8, shown: &Shown, out: &mut Vec<Report>)
-    requires room { vec_len out.old + (IMAGES - 1) ≤ vec_capacity out.old }
-    ensures told { out.new.items ≡ out.old.items ++ keeps_shown mote shown.now (images - 1) }
-    ensures room { vec_capacity out.new ≡ vec_capacity out.old }
+/// Appends the lines on what a mote keeps of each image but golden. There is capacity for them.
+fn push_keeps(mote: u8, chip_report: &ChipReport, out: &mut Vec<Report>)
+    requires capacity { vec_len out.old + (IMAGES - 1) ≤ vec_capacity out.old }
+    ensures told { out.new.items ≡ out.old.items ++ kept_reports mote chip_report.now (images - 1) }
+    ensures capacity { vec_capacity out.new ≡ vec_capacity out.old }
     ensures few { vec_len out.new ≤ vec_len out.old + (IMAGES - 1) }
 {
     for image in 1..IMAGES {
-        let line = kept_line(mote, image as u8, shown.kept[image]);
+        let line = kept_line(mote, image as u8, chip_report.kept[image]);
         push_line(line, out);
     }
 }

@@ -5,23 +5,23 @@ ghost use Rattle.dg_rules.specs.Events.{Refuses, hear_by, heard_sent, heard_last
 ghost use Rattle.dg_rules.specs.Sizes.{most_motes};
 ghost use Rattle.dg_world.specs.Shareds.{IsShared};
 ghost use Rattle.dg_world.specs.Worlds.{SiteStands, MayRun};
-ghost use Rattle.dg_world.specs.Turns.{IsQuiet, TurnEnds};
+ghost use Rattle.dg_world.specs.Turns.{LeavesChip, TurnEnds};
 ghost use Rattle.dg_world.specs.Hosts.{host};
 ghost use Rattle.dg_world.specs.Unseen.{RefusesUnseen};
-ghost use Rattle.dg_world.specs.Tellings.{IsNothing, turned};
+ghost use Rattle.dg_world.specs.Outcomes.{IsNothing, turned};
 ghost use Rattle.dg_world.specs.Known.{SeesMote};
 
+use crate::chip_report::report_chip;
 use crate::occasion::Occasion;
-use crate::shown::show;
-use crate::telling::{Fault, Telling};
+use crate::outcome::{Fault, Outcome};
 use crate::world::RunningMote;
 use dg_mote::Heard;
 use dg_nor::{Nor, Stopped};
 use dg_rules::Cause;
 
 /// Whether what a chip keeps, and its order, are surely as they were before such an answer.
-fn is_quiet(heard: Heard) -> bool
-    ensures { IsTrue result → IsQuiet heard }
+fn leaves_chip(heard: Heard) -> bool
+    ensures { IsTrue result → LeavesChip heard }
 {
     match heard {
         Heard::Refused(_)
@@ -40,34 +40,34 @@ fn is_quiet(heard: Heard) -> bool
 pub(crate) fn hear<N: Nor>(
     runs: &mut Option<RunningMote>,
     now: u64,
-    word: u32,
+    draw: u32,
     bytes: &[u8],
     board: &mut N,
-    telling: &mut Telling,
+    outcome: &mut Outcome,
 ) -> Result<(), Fault>
     requires mote { MayRun (N.device board.old).image now runs.old }
     requires moment { now < 2 ^ 62 }
-    requires nothing { IsNothing telling.old }
+    requires nothing { IsNothing outcome.old }
     ensures ends { (w : RuleWorld) (m : ℕ) → SiteStands (N.device board.old) runs.old (site w m)
-        → TurnEnds (turned result telling.new) w m (hear_by w (store_at w m)
-        (site w m).runs now word bytes.now) (host (N.device board.old) runs.old) (host (N.device board.new) runs.new) }
+        → TurnEnds (turned result outcome.new) w m (hear_by w (store_at w m)
+        (site w m).runs now draw bytes.now) (host (N.device board.old) runs.old) (host (N.device board.new) runs.new) }
     ensures unseen { (w : RuleWorld) (m : ℕ) → SiteStands (N.device board.old) runs.old (site w m)
-        → RefusesUnseen (hear_by w (store_at w m) (site w m).runs now word bytes.now)
+        → RefusesUnseen (hear_by w (store_at w m) (site w m).runs now draw bytes.now)
         → (board.new ≡ board.old) × OnErr result ⊥ }
-    ensures sees { OnOk result (SeesMote telling.new runs.new (N.device board.old).image (N.device board.new).image) }
+    ensures sees { OnOk result (SeesMote outcome.new runs.new (N.device board.old).image (N.device board.new).image) }
     ensures same_reference { (N.device board.new).references ≡ (N.device board.old).references }
 {
     let Some(running) = runs else {
-        telling.refused = Some(Cause::Off);
+        outcome.refused = Some(Cause::Off);
         return Ok(());
     };
-    telling.before = Some(show(running.mote.volume()));
-    match running.mote.hear(board, now, word, bytes) {
+    outcome.before = Some(report_chip(running.mote.volume()));
+    match running.mote.hear(board, now, draw, bytes) {
         Ok(heard) => {
-            if is_quiet(heard) {
+            if leaves_chip(heard) {
                 return Ok(());
             }
-            telling.after = Some(show(running.mote.volume()));
+            outcome.after = Some(report_chip(running.mote.volume()));
             Ok(())
         }
         Err(Stopped) => Err(Fault::Stopped),
@@ -79,33 +79,33 @@ pub(crate) fn hear_numbered<N: Nor>(
     occasion: &Occasion<'_>,
     runs: &mut Option<RunningMote>,
     number: u32,
-    word: u32,
+    draw: u32,
     board: &mut N,
-    telling: &mut Telling,
+    outcome: &mut Outcome,
 ) -> Result<(), Fault>
     requires mote { MayRun (N.device board.old).image occasion.now.moment runs.old }
-    requires nothing { IsNothing telling.old }
+    requires nothing { IsNothing outcome.old }
     ensures ends { (w : RuleWorld) → IsShared occasion.now.shared.now w
         → SiteStands (N.device board.old) runs.old (site w occasion.now.mote)
-        → TurnEnds (turned result telling.new) w occasion.now.mote
-        (unless_off (site w occasion.now.mote).runs (heard_sent w occasion.now.mote occasion.now.moment word
+        → TurnEnds (turned result outcome.new) w occasion.now.mote
+        (unless_off (site w occasion.now.mote).runs (heard_sent w occasion.now.mote occasion.now.moment draw
         (frame_at w number)))
         (host (N.device board.old) runs.old) (host (N.device board.new) runs.new) }
     ensures unseen { (w : RuleWorld) → IsShared occasion.now.shared.now w
         → SiteStands (N.device board.old) runs.old (site w occasion.now.mote)
-        → RefusesUnseen (unless_off (site w occasion.now.mote).runs (heard_sent w occasion.now.mote occasion.now.moment word
+        → RefusesUnseen (unless_off (site w occasion.now.mote).runs (heard_sent w occasion.now.mote occasion.now.moment draw
         (frame_at w number)))
         → (board.new ≡ board.old) × OnErr result ⊥ }
-    ensures sees { OnOk result (SeesMote telling.new runs.new (N.device board.old).image (N.device board.new).image) }
+    ensures sees { OnOk result (SeesMote outcome.new runs.new (N.device board.old).image (N.device board.new).image) }
     ensures same_reference { (N.device board.new).references ≡ (N.device board.old).references }
 {
     if runs.is_none() {
-        telling.refused = Some(Cause::Off);
+        outcome.refused = Some(Cause::Off);
         return Ok(());
     }
     match occasion.shared.air.get(number as usize) {
         None => {
-            telling.refused = Some(Cause::Frame);
+            outcome.refused = Some(Cause::Frame);
             Ok(())
         }
         Some(sent) => {
@@ -113,13 +113,13 @@ pub(crate) fn hear_numbered<N: Nor>(
                 hear(
                     runs,
                     occasion.moment,
-                    word,
+                    draw,
                     sent.frame.as_slice(),
                     board,
-                    telling,
+                    outcome,
                 )
             } else {
-                telling.refused = Some(Cause::Link);
+                outcome.refused = Some(Cause::Link);
                 Ok(())
             }
         }
@@ -131,47 +131,47 @@ pub(crate) fn hear_last<N: Nor>(
     occasion: &Occasion<'_>,
     runs: &mut Option<RunningMote>,
     from: u8,
-    word: u32,
+    draw: u32,
     board: &mut N,
-    telling: &mut Telling,
+    outcome: &mut Outcome,
 ) -> Result<(), Fault>
     requires sender { from < most_motes }
     requires mote { MayRun (N.device board.old).image occasion.now.moment runs.old }
-    requires nothing { IsNothing telling.old }
+    requires nothing { IsNothing outcome.old }
     ensures ends { (w : RuleWorld) → IsShared occasion.now.shared.now w
         → SiteStands (N.device board.old) runs.old (site w occasion.now.mote)
-        → TurnEnds (turned result telling.new) w occasion.now.mote
+        → TurnEnds (turned result outcome.new) w occasion.now.mote
         (unless_off (site w occasion.now.mote).runs (if linked w from occasion.now.mote
-        then heard_last w from occasion.now.mote occasion.now.moment word (last_frame w from) else Refuses Cause.Link))
+        then heard_last w from occasion.now.mote occasion.now.moment draw (last_frame w from) else Refuses Cause.Link))
         (host (N.device board.old) runs.old) (host (N.device board.new) runs.new) }
     ensures unseen { (w : RuleWorld) → IsShared occasion.now.shared.now w
         → SiteStands (N.device board.old) runs.old (site w occasion.now.mote)
         → RefusesUnseen (unless_off (site w occasion.now.mote).runs (if linked w from occasion.now.mote
-        then heard_last w from occasion.now.mote occasion.now.moment word (last_frame w from) else Refuses Cause.Link))
+        then heard_last w from occasion.now.mote occasion.now.moment draw (last_frame w from) else Refuses Cause.Link))
         → (board.new ≡ board.old) × OnErr result ⊥ }
-    ensures sees { OnOk result (SeesMote telling.new runs.new (N.device board.old).image (N.device board.new).image) }
+    ensures sees { OnOk result (SeesMote outcome.new runs.new (N.device board.old).image (N.device board.new).image) }
     ensures same_reference { (N.device board.new).references ≡ (N.device board.old).references }
 {
     if runs.is_none() {
-        telling.refused = Some(Cause::Off);
+        outcome.refused = Some(Cause::Off);
         return Ok(());
     }
     if !occasion.shared.links.are_joined(from, occasion.mote) {
-        telling.refused = Some(Cause::Link);
+        outcome.refused = Some(Cause::Link);
         return Ok(());
     }
     match occasion.shared.air.last_of(from) {
         None => {
-            telling.refused = Some(Cause::Frame);
+            outcome.refused = Some(Cause::Frame);
             Ok(())
         }
         Some(sent) => hear(
             runs,
             occasion.moment,
-            word,
+            draw,
             sent.frame.as_slice(),
             board,
-            telling,
+            outcome,
         ),
     }
 }

@@ -17,7 +17,7 @@ pub struct Image {
     ghost few: { length content ≤ most_content },
 }
 
-/// The images, by their keys.
+/// The images, by their image versions.
 #[derive(Drop)]
 pub struct Images {
     pub(crate) by_key: BTreeMap<ImageVersion, Image>,
@@ -36,21 +36,25 @@ impl Images {
         }
     }
 
-    /// The image that was declared with this key.
-    pub(crate) fn get(&self, key: ImageVersion) -> Option<&Image>
-        ensures { option_map (λ i. i.now) result ≡ found self.now key }
+    /// The image that was declared with this image version.
+    pub(crate) fn get(&self, image_version: ImageVersion) -> Option<&Image>
+        ensures { option_map (λ i. i.now) result ≡ found self.now image_version }
     {
-        self.by_key.get(&key)
+        self.by_key.get(&image_version)
     }
 
-    /// Declares an image whose key was not declared. Without memory nothing is declared.
-    pub(crate) fn add(&mut self, key: ImageVersion, image: Image) -> Result<(), AllocError>
-        requires { found self.old key ≡ None }
+    /// Declares an image whose version was not declared. Without memory nothing is declared.
+    pub(crate) fn add(
+        &mut self,
+        image_version: ImageVersion,
+        image: Image,
+    ) -> Result<(), AllocError>
+        requires { found self.old image_version ≡ None }
         ensures added { OnOk result ((rows : List Row) → Declares self.old rows
-            → Declares self.new (rows ++ row_of_image key image ∷ [])) }
+            → Declares self.new (rows ++ row_of_image image_version image ∷ [])) }
         ensures unchanged { OnErr result ((rows : List Row) → Declares self.old rows → Declares self.new rows) }
     {
-        match self.by_key.insert(key, image) {
+        match self.by_key.insert(image_version, image) {
             Ok(_) => Ok(()),
             Err(_failed) => Err(AllocError),
         }

@@ -14,14 +14,14 @@ ghost use Rattle.dg_world.specs.Worlds.{MoteStands, SiteStands, MayRun};
 ghost use Rattle.dg_world.specs.Turns.{TurnEnds};
 ghost use Rattle.dg_world.specs.Hosts.{host};
 ghost use Rattle.dg_world.specs.Unseen.{RefusesUnseen};
-ghost use Rattle.dg_world.specs.Tellings.{IsNothing, turned, turn_of};
+ghost use Rattle.dg_world.specs.Outcomes.{IsNothing, turned, turn_of};
 ghost use Rattle.dg_world.specs.Known.{IsKnownChip, SeesOrder, SeesInjected, InjectReads};
 
+use crate::chip_report::report_chip;
 use crate::images::Image;
 use crate::mounting::mount_known;
 use crate::occasion::Occasion;
-use crate::shown::show;
-use crate::telling::{Fault, Telling};
+use crate::outcome::{Fault, Outcome};
 use crate::world::RunningMote;
 use dg_frame::NARROW_IMAGES;
 use dg_nor::Nor;
@@ -29,15 +29,15 @@ use dg_rules::{Cause, ImageVersion};
 use dg_volume::{InjectFault, Volume};
 
 /// A mote that is on goes on with its chip's new volume.
-pub(crate) fn reload(runs: &mut Option<RunningMote>, volume: Volume, now: u64, word: u32)
+pub(crate) fn reload(runs: &mut Option<RunningMote>, volume: Volume, now: u64, draw: u32)
     requires mote { (c : List ℕ) × MayRun c now runs.old }
     requires free { NothingLent volume }
     requires moment { now < 2 ^ 62 }
     ensures { (c d : List ℕ) (s t : Store) (r : Option Running) → MoteStands c runs.old s r → Mounted d volume t
-        → MoteStands d runs.new t (reloaded r now word) }
+        → MoteStands d runs.new t (reloaded r now draw) }
 {
     if let Some(running) = runs {
-        running.mote.reload(volume, now, word);
+        running.mote.reload(volume, now, draw);
     }
 }
 
@@ -45,38 +45,45 @@ pub(crate) fn reload(runs: &mut Option<RunningMote>, volume: Volume, now: u64, w
 fn inject_image<N: Nor>(
     occasion: &Occasion<'_>,
     runs: &mut Option<RunningMote>,
-    key: ImageVersion,
+    image_version: ImageVersion,
     image: &Image,
-    word: u32,
+    draw: u32,
     board: &mut N,
-    telling: &mut Telling,
+    outcome: &mut Outcome,
 ) -> Result<(), Fault>
-    requires known_image { key.image < images }
-    requires some_version { 1 ≤ key.version }
+    requires known_image { image_version.image < images }
+    requires some_version { 1 ≤ image_version.version }
     requires mote { MayRun (N.device board.old).image occasion.now.moment runs.old }
     requires known_chip { IsTrue occasion.now.known → IsKnownChip (N.device board.old).image }
-    requires nothing { IsNothing telling.old }
+    requires nothing { IsNothing outcome.old }
     ensures ends { (w : RuleWorld) (m : ℕ) → SiteStands (N.device board.old) runs.old (site w m)
-        → TurnEnds (turned result telling.new) w m (inject_row w m (Some (row_of_image key image.now)) occasion.now.moment word)
+        → TurnEnds (turned result outcome.new) w m
+        (inject_row w m (Some (row_of_image image_version image.now)) occasion.now.moment draw)
         (host (N.device board.old) runs.old) (host (N.device board.new) runs.new) }
-    ensures sees { OnOk result (IsSomeAnd telling.new.orderly (λ orderly. SeesOrder orderly (N.device board.new).image)) }
-    ensures reads { OnOk result (InjectReads occasion.now.known telling.new.refused (N.device board.old) (N.device board.new)) }
+    ensures sees { OnOk result (IsSomeAnd outcome.new.orderly (λ orderly. SeesOrder orderly (N.device board.new).image)) }
+    ensures reads { OnOk result (InjectReads occasion.now.known outcome.new.refused (N.device board.old) (N.device board.new)) }
     ensures same_reference { (N.device board.new).references ≡ (N.device board.old).references }
 {
     let mut volume = mount_known(board, occasion.known)?;
-    telling.before = Some(show(&volume));
+    outcome.before = Some(report_chip(&volume));
     let name = image.name.as_slice();
     let content = image.content.as_slice();
-    match volume.inject(board, key.image, key.version, name, content) {
+    match volume.inject(
+        board,
+        image_version.image,
+        image_version.version,
+        name,
+        content,
+    ) {
         Ok(_) => {
-            telling.after = Some(show(&volume));
-            telling.orderly = Some(volume.orderly());
-            reload(runs, volume, occasion.moment, word);
+            outcome.after = Some(report_chip(&volume));
+            outcome.orderly = Some(volume.orderly());
+            reload(runs, volume, occasion.moment, draw);
             Ok(())
         }
         Err(fault) => {
-            telling.refused = Some(inject_fault(fault, content.len())?);
-            telling.orderly = Some(volume.orderly());
+            outcome.refused = Some(inject_fault(fault, content.len())?);
+            outcome.orderly = Some(volume.orderly());
             Ok(())
         }
     }
@@ -102,46 +109,46 @@ fn inject_fault(fault: InjectFault, bytes: usize) -> Result<Cause, Fault>
     }
 }
 
-/// Injects the image with this key, if it was declared.
+/// Injects this version of an image, if it was declared.
 fn inject<N: Nor>(
     occasion: &Occasion<'_>,
     runs: &mut Option<RunningMote>,
-    key: ImageVersion,
-    word: u32,
+    image_version: ImageVersion,
+    draw: u32,
     board: &mut N,
-    telling: &mut Telling,
+    outcome: &mut Outcome,
 ) -> Result<(), Fault>
-    requires known_image { key.image < images }
-    requires some_version { 1 ≤ key.version }
+    requires known_image { image_version.image < images }
+    requires some_version { 1 ≤ image_version.version }
     requires mote { MayRun (N.device board.old).image occasion.now.moment runs.old }
     requires known_chip { IsTrue occasion.now.known → IsKnownChip (N.device board.old).image }
-    requires nothing { IsNothing telling.old }
+    requires nothing { IsNothing outcome.old }
     ensures ends { (w : RuleWorld) (m : ℕ) → Declares occasion.now.shared.now.images w.declared
         → SiteStands (N.device board.old) runs.old (site w m)
-        → TurnEnds (turned result telling.new) w m
-        (if key.image == 0 then Refuses Cause.Reserved else inject_row w m
-        (row_at w.declared key.image key.version) occasion.now.moment word)
+        → TurnEnds (turned result outcome.new) w m
+        (if image_version.image == 0 then Refuses Cause.Reserved else inject_row w m
+        (row_at w.declared image_version.image image_version.version) occasion.now.moment draw)
         (host (N.device board.old) runs.old) (host (N.device board.new) runs.new) }
     ensures unseen { (w : RuleWorld) (m : ℕ) → Declares occasion.now.shared.now.images w.declared
         → RefusesUnseen
-        (if key.image == 0 then Refuses Cause.Reserved else inject_row w m
-        (row_at w.declared key.image key.version) occasion.now.moment word)
+        (if image_version.image == 0 then Refuses Cause.Reserved else inject_row w m
+        (row_at w.declared image_version.image image_version.version) occasion.now.moment draw)
         → (board.new ≡ board.old) × OnErr result ⊥ }
-    ensures sees { OnOk result (SeesInjected telling.new.orderly (turn_of telling.new) (N.device board.old).image
+    ensures sees { OnOk result (SeesInjected outcome.new.orderly (turn_of outcome.new) (N.device board.old).image
         (N.device board.new).image) }
-    ensures reads { OnOk result (InjectReads occasion.now.known telling.new.refused (N.device board.old) (N.device board.new)) }
+    ensures reads { OnOk result (InjectReads occasion.now.known outcome.new.refused (N.device board.old) (N.device board.new)) }
     ensures same_reference { (N.device board.new).references ≡ (N.device board.old).references }
 {
-    if key.image == 0 {
-        telling.refused = Some(Cause::Reserved);
+    if image_version.image == 0 {
+        outcome.refused = Some(Cause::Reserved);
         return Ok(());
     }
-    match occasion.shared.images.get(key) {
+    match occasion.shared.images.get(image_version) {
         None => {
-            telling.refused = Some(Cause::Image);
+            outcome.refused = Some(Cause::Image);
             Ok(())
         }
-        Some(image) => inject_image(occasion, runs, key, image, word, board, telling),
+        Some(image) => inject_image(occasion, runs, image_version, image, draw, board, outcome),
     }
 }
 
@@ -152,37 +159,39 @@ pub(crate) fn knows(wide: bool, image: u8) -> bool
     wide || usize::from(image) <= NARROW_IMAGES
 }
 
-/// Injects the image with this key, if the mote knows its number and it was declared.
+/// Injects this version of an image, if the mote knows the image and it was declared.
 pub(crate) fn inject_known<N: Nor>(
     occasion: &Occasion<'_>,
     runs: &mut Option<RunningMote>,
-    key: ImageVersion,
-    word: u32,
+    image_version: ImageVersion,
+    draw: u32,
     board: &mut N,
-    telling: &mut Telling,
+    outcome: &mut Outcome,
 ) -> Result<(), Fault>
-    requires known_image { key.image < images }
-    requires some_version { 1 ≤ key.version }
+    requires known_image { image_version.image < images }
+    requires some_version { 1 ≤ image_version.version }
     requires mote { MayRun (N.device board.old).image occasion.now.moment runs.old }
     requires known_chip { IsTrue occasion.now.known → IsKnownChip (N.device board.old).image }
-    requires nothing { IsNothing telling.old }
+    requires nothing { IsNothing outcome.old }
     ensures ends { (w : RuleWorld) → IsShared occasion.now.shared.now w
         → SiteStands (N.device board.old) runs.old (site w occasion.now.mote)
-        → TurnEnds (turned result telling.new) w occasion.now.mote (if knows (wide_at w occasion.now.mote) key.image
-        then injects w occasion.now.mote key.image key.version occasion.now.moment word else Refuses Cause.Image)
+        → TurnEnds (turned result outcome.new) w occasion.now.mote (if knows (wide_at w occasion.now.mote) image_version.image
+        then injects w occasion.now.mote image_version.image image_version.version occasion.now.moment draw
+        else Refuses Cause.Image)
         (host (N.device board.old) runs.old) (host (N.device board.new) runs.new) }
     ensures unseen { (w : RuleWorld) → IsShared occasion.now.shared.now w
-        → RefusesUnseen (if knows (wide_at w occasion.now.mote) key.image
-        then injects w occasion.now.mote key.image key.version occasion.now.moment word else Refuses Cause.Image)
+        → RefusesUnseen (if knows (wide_at w occasion.now.mote) image_version.image
+        then injects w occasion.now.mote image_version.image image_version.version occasion.now.moment draw
+        else Refuses Cause.Image)
         → (board.new ≡ board.old) × OnErr result ⊥ }
-    ensures sees { OnOk result (SeesInjected telling.new.orderly (turn_of telling.new) (N.device board.old).image
+    ensures sees { OnOk result (SeesInjected outcome.new.orderly (turn_of outcome.new) (N.device board.old).image
         (N.device board.new).image) }
-    ensures reads { OnOk result (InjectReads occasion.now.known telling.new.refused (N.device board.old) (N.device board.new)) }
+    ensures reads { OnOk result (InjectReads occasion.now.known outcome.new.refused (N.device board.old) (N.device board.new)) }
     ensures same_reference { (N.device board.new).references ≡ (N.device board.old).references }
 {
-    if !knows(occasion.shared.is_wide(occasion.mote), key.image) {
-        telling.refused = Some(Cause::Image);
+    if !knows(occasion.shared.is_wide(occasion.mote), image_version.image) {
+        outcome.refused = Some(Cause::Image);
         return Ok(());
     }
-    inject(occasion, runs, key, word, board, telling)
+    inject(occasion, runs, image_version, draw, board, outcome)
 }

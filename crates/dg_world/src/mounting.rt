@@ -10,11 +10,11 @@ ghost use Rattle.dg_rules.specs.World.{World as RuleWorld, store_at};
 ghost use Rattle.dg_rules.specs.Events.{Does, trail_of};
 ghost use Rattle.dg_world.specs.Turns.{TurnEnds};
 ghost use Rattle.dg_world.specs.Hosts.{host};
-ghost use Rattle.dg_world.specs.Tellings.{halt_of};
+ghost use Rattle.dg_world.specs.Outcomes.{halt_of};
 ghost use Rattle.dg_world.specs.Known.{IsKnownChip};
 ghost use Rattle.dg_world.specs.declared.world.RunningMote.{RunningMote};
 
-use crate::telling::Fault;
+use crate::outcome::Fault;
 use dg_nor::{Nor, Stopped};
 use dg_volume::{MountFault, Volume};
 

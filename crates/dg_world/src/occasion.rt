@@ -4,7 +4,7 @@ ghost use Rattle.dg_rules.specs.Sizes.{most_motes};
 
 use crate::shared::Shared;
 
-/// Where and when an event happens: what it has at hand beside its board and what the mote there runs.
+/// Where and when an event is applied: what it has at hand beside its board and what the mote there runs.
 #[derive(Drop)]
 pub(crate) struct Occasion<'a> {
     /// What the motes of the world share.
@@ -15,7 +15,7 @@ pub(crate) struct Occasion<'a> {
     pub(crate) moment: u64,
     /// Whether the board is known: it may be mounted again by halving.
     pub(crate) known: bool,
-    /// Whether a frame that is sent is told.
+    /// Whether a frame that is sent is reported.
     pub(crate) reported: bool,
     ghost in_world: { mote < most_motes },
     ghost early: { moment < 2 ^ 62 },

@@ -9,14 +9,14 @@ ghost use Rattle.dg_world.specs.Worlds.{SiteStands, MayRun};
 ghost use Rattle.dg_world.specs.Turns.{TurnEnds};
 ghost use Rattle.dg_world.specs.Hosts.{host};
 ghost use Rattle.dg_world.specs.Unseen.{RefusesUnseen};
-ghost use Rattle.dg_world.specs.Tellings.{IsNothing, turned, turn_of};
+ghost use Rattle.dg_world.specs.Outcomes.{IsNothing, turned, turn_of};
 ghost use Rattle.dg_world.specs.Known.{IsKnownChip, SeesOrder, SeesInjected, OrderReads};
 
+use crate::chip_report::report_chip;
 use crate::injecting::{knows, reload};
 use crate::mounting::mount_known;
 use crate::occasion::Occasion;
-use crate::shown::show;
-use crate::telling::{Fault, Telling};
+use crate::outcome::{Fault, Outcome};
 use crate::world::RunningMote;
 use dg_nor::Nor;
 use dg_rules::{Cause, ImageVersion};
@@ -27,39 +27,40 @@ fn order<N: Nor>(
     occasion: &Occasion<'_>,
     runs: &mut Option<RunningMote>,
     number: u32,
-    key: ImageVersion,
-    word: u32,
+    image_version: ImageVersion,
+    draw: u32,
     board: &mut N,
-    telling: &mut Telling,
+    outcome: &mut Outcome,
 ) -> Result<(), Fault>
     requires some_number { 1 ≤ number }
-    requires known_image { key.image < images }
-    requires some_version { 1 ≤ key.version }
+    requires known_image { image_version.image < images }
+    requires some_version { 1 ≤ image_version.version }
     requires mote { MayRun (N.device board.old).image occasion.now.moment runs.old }
     requires known_chip { IsTrue occasion.now.known → IsKnownChip (N.device board.old).image }
-    requires nothing { IsNothing telling.old }
+    requires nothing { IsNothing outcome.old }
     ensures ends { (w : RuleWorld) (m : ℕ) → SiteStands (N.device board.old) runs.old (site w m)
-        → TurnEnds (turned result telling.new) w m
-        (order_unless (order_refusal (store_at w m) (record { number = number; image = key.image; version = key.version })) w m
-        (record { number = number; image = key.image; version = key.version }) occasion.now.moment word)
+        → TurnEnds (turned result outcome.new) w m
+        (order_unless (order_refusal (store_at w m)
+        (record { number = number; image = image_version.image; version = image_version.version })) w m
+        (record { number = number; image = image_version.image; version = image_version.version }) occasion.now.moment draw)
         (host (N.device board.old) runs.old) (host (N.device board.new) runs.new) }
-    ensures sees { OnOk result (IsSomeAnd telling.new.orderly (λ orderly. SeesOrder orderly (N.device board.new).image)) }
+    ensures sees { OnOk result (IsSomeAnd outcome.new.orderly (λ orderly. SeesOrder orderly (N.device board.new).image)) }
     ensures reads { OrderReads occasion.now.known (N.device board.old) (N.device board.new) }
     ensures same_reference { (N.device board.new).references ≡ (N.device board.old).references }
 {
     a_volume_bounds_a_remount();
     let mut volume = mount_known(board, occasion.known)?;
-    telling.before = Some(show(&volume));
-    match volume.order(board, number, key.image, key.version) {
+    outcome.before = Some(report_chip(&volume));
+    match volume.order(board, number, image_version.image, image_version.version) {
         Ok(()) => {
-            telling.after = Some(show(&volume));
-            telling.orderly = Some(volume.orderly());
-            reload(runs, volume, occasion.moment, word);
+            outcome.after = Some(report_chip(&volume));
+            outcome.orderly = Some(volume.orderly());
+            reload(runs, volume, occasion.moment, draw);
             Ok(())
         }
         Err(fault) => {
-            telling.refused = Some(order_fault(fault)?);
-            telling.orderly = Some(volume.orderly());
+            outcome.refused = Some(order_fault(fault)?);
+            outcome.orderly = Some(volume.orderly());
             Ok(())
         }
     }
@@ -70,41 +71,41 @@ pub(crate) fn order_known<N: Nor>(
     occasion: &Occasion<'_>,
     runs: &mut Option<RunningMote>,
     number: u32,
-    key: ImageVersion,
-    word: u32,
+    image_version: ImageVersion,
+    draw: u32,
     board: &mut N,
-    telling: &mut Telling,
+    outcome: &mut Outcome,
 ) -> Result<(), Fault>
     requires some_number { 1 ≤ number }
-    requires known_image { key.image < images }
-    requires some_version { 1 ≤ key.version }
+    requires known_image { image_version.image < images }
+    requires some_version { 1 ≤ image_version.version }
     requires mote { MayRun (N.device board.old).image occasion.now.moment runs.old }
     requires known_chip { IsTrue occasion.now.known → IsKnownChip (N.device board.old).image }
-    requires nothing { IsNothing telling.old }
+    requires nothing { IsNothing outcome.old }
     ensures ends { (w : RuleWorld) → IsShared occasion.now.shared.now w
         → SiteStands (N.device board.old) runs.old (site w occasion.now.mote)
-        → TurnEnds (turned result telling.new) w occasion.now.mote (if knows (wide_at w occasion.now.mote) key.image
+        → TurnEnds (turned result outcome.new) w occasion.now.mote (if knows (wide_at w occasion.now.mote) image_version.image
         then orders w occasion.now.mote
-        (record { number = number; image = key.image; version = key.version }) occasion.now.moment word
+        (record { number = number; image = image_version.image; version = image_version.version }) occasion.now.moment draw
         else Refuses Cause.Image)
         (host (N.device board.old) runs.old) (host (N.device board.new) runs.new) }
     ensures unseen { (w : RuleWorld) → IsShared occasion.now.shared.now w
-        → RefusesUnseen (if knows (wide_at w occasion.now.mote) key.image
+        → RefusesUnseen (if knows (wide_at w occasion.now.mote) image_version.image
         then orders w occasion.now.mote
-        (record { number = number; image = key.image; version = key.version }) occasion.now.moment word
+        (record { number = number; image = image_version.image; version = image_version.version }) occasion.now.moment draw
         else Refuses Cause.Image)
         → (board.new ≡ board.old) × OnErr result ⊥ }
-    ensures sees { OnOk result (SeesInjected telling.new.orderly (turn_of telling.new) (N.device board.old).image
+    ensures sees { OnOk result (SeesInjected outcome.new.orderly (turn_of outcome.new) (N.device board.old).image
         (N.device board.new).image) }
     ensures reads { OrderReads occasion.now.known (N.device board.old) (N.device board.new) }
     ensures same_reference { (N.device board.new).references ≡ (N.device board.old).references }
 {
     a_volume_bounds_a_remount();
-    if !knows(occasion.shared.is_wide(occasion.mote), key.image) {
-        telling.refused = Some(Cause::Image);
+    if !knows(occasion.shared.is_wide(occasion.mote), image_version.image) {
+        outcome.refused = Some(Cause::Image);
         return Ok(());
     }
-    order(occasion, runs, number, key, word, board, telling)
+    order(occasion, runs, number, image_version, draw, board, outcome)
 }
 
 /// Why an order is refused that was not kept, unless the board stopped.

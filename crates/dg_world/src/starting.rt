@@ -10,18 +10,18 @@ ghost use Rattle.dg_world.specs.Turn.{Starts};
 ghost use Rattle.dg_world.specs.Turns.{BeginsOver, TurnEnds};
 ghost use Rattle.dg_world.specs.Hosts.{host};
 ghost use Rattle.dg_world.specs.Alone.{Powers};
-ghost use Rattle.dg_world.specs.Tellings.{IsNothing, halt_of, turned};
+ghost use Rattle.dg_world.specs.Outcomes.{IsNothing, halt_of, turned};
 ghost use Rattle.dg_world.specs.Known.{SeesStart};
 
 use crate::occasion::Occasion;
-use crate::telling::{Fault, StartLine, Telling};
+use crate::outcome::{Fault, Outcome, StartLine};
 use crate::world::RunningMote;
 use dg_boot::{BootFault, StartCause, Started, start};
 use dg_mote::Mote;
 use dg_nor::Nor;
 use dg_rules::ImageVersion;
 
-/// A mote that was started, and what is told of that.
+/// A mote that was started, and what is reported of that.
 #[derive(Drop)]
 struct Begun {
     running: RunningMote,
@@ -30,27 +30,27 @@ struct Begun {
 
 /// A board starts, and its mote is made anew.
 fn begin<N: Nor>(
-    kind: StartCause,
+    cause: StartCause,
     id: u16,
     wide: bool,
     now: u64,
-    word: u32,
+    draw: u32,
     board: &mut N,
 ) -> Result<Begun, Fault>
     requires moment { now < 2 ^ 62 }
     ensures begun { IfOk result (λ b. (w : RuleWorld) (m : ℕ) (old : Option KeyValue) (v : Option RunningMote)
         → Stands (N.device board.old).image (store_at w m)
-        → TurnEnds (Ok (Starts b.line)) w m (of_effect w (boots kind (store_at w m) id wide now word) old)
+        → TurnEnds (Ok (Starts b.line)) w m (of_effect w (boots cause (store_at w m) id wide now draw) old)
         (host (N.device board.old) v) (host (N.device board.new) (Some b.running))) }
     ensures halts { (f : Fault) → result ≡ Err f → (w : RuleWorld) (m : ℕ) (old : Option KeyValue) (v u : Option RunningMote)
         → Stands (N.device board.old).image (store_at w m)
-        → TurnEnds (Err (halt_of f None)) w m (of_effect w (boots kind (store_at w m) id wide now word) old)
+        → TurnEnds (Err (halt_of f None)) w m (of_effect w (boots cause (store_at w m) id wide now draw) old)
         (host (N.device board.old) v) (host (N.device board.new) u) }
     ensures powers { Powers result (N.device board.old) (N.device board.new) }
     ensures same_reference { (N.device board.new).references ≡ (N.device board.old).references }
 {
-    match start(board, kind) {
-        Ok(started) => Ok(mote_of_start(started, id, wide, now, word)),
+    match start(board, cause) {
+        Ok(started) => Ok(mote_of_start(started, id, wide, now, draw)),
         Err(BootFault::Stopped) => Err(Fault::Stopped),
         Err(BootFault::NotAVolume) => Err(Fault::NotAVolume),
         Err(BootFault::NoImage) => Err(Fault::NoImage),
@@ -58,28 +58,28 @@ fn begin<N: Nor>(
 }
 
 /// The mote of a board that was started.
-fn mote_of_start(started: Started, id: u16, wide: bool, now: u64, word: u32) -> Begun
+fn mote_of_start(started: Started, id: u16, wide: bool, now: u64, draw: u32) -> Begun
     requires moment { now < 2 ^ 62 }
     requires free { NothingLent started.volume }
-    ensures { BeginsOver started id wide now word result }
+    ensures { BeginsOver started id wide now draw result }
 {
     let line = start_line(&started);
     Begun {
         running: RunningMote {
-            key: line.key,
-            mote: Mote::new(started.volume, id, wide, now, word),
+            image_version: line.image_version,
+            mote: Mote::new(started.volume, id, wide, now, draw),
         },
         line,
     }
 }
 
 fn start_line(started: &Started) -> StartLine
-    ensures key { result.key ≡ record { image = started.now.image; version = started.now.version } }
+    ensures image_version { result.image_version ≡ record { image = started.now.image; version = started.now.version } }
     ensures length { result.length ≡ started.now.length }
     ensures crc { result.crc ≡ started.now.crc }
 {
     StartLine {
-        key: ImageVersion {
+        image_version: ImageVersion {
             image: started.image,
             version: started.version,
         },
@@ -94,41 +94,41 @@ pub(crate) fn reset<N: Nor>(
     id: u16,
     wide: bool,
     now: u64,
-    word: u32,
+    draw: u32,
     board: &mut N,
-    telling: &mut Telling,
+    outcome: &mut Outcome,
 ) -> Result<(), Fault>
     requires moment { now < 2 ^ 62 }
-    requires nothing { IsNothing telling.old }
+    requires nothing { IsNothing outcome.old }
     ensures ends { (w : RuleWorld) (m : ℕ) → m ≡ id → Stands (N.device board.old).image (store_at w m)
-        → TurnEnds (turned result telling.new) w m (of_effect w (reset_effect
-        (store_at w m) m wide now word) None) (host (N.device board.old) runs.old) (host (N.device board.new) runs.new) }
+        → TurnEnds (turned result outcome.new) w m (of_effect w (reset_effect
+        (store_at w m) m wide now draw) None) (host (N.device board.old) runs.old) (host (N.device board.new) runs.new) }
     ensures powers { Powers result (N.device board.old) (N.device board.new) }
-    ensures sees { OnOk result (SeesStart telling.new runs.new) }
+    ensures sees { OnOk result (SeesStart outcome.new runs.new) }
     ensures same_reference { (N.device board.new).references ≡ (N.device board.old).references }
 {
-    let begun = begin(StartCause::Power, id, wide, now, word, board)?;
+    let begun = begin(StartCause::Power, id, wide, now, draw, board)?;
     *runs = Some(begun.running);
-    telling.started = Some(begun.line);
+    outcome.started = Some(begun.line);
     Ok(())
 }
 
-/// The board of the mote starts by power, where the event happens.
+/// The board of the mote starts by power, where the event is applied.
 pub(crate) fn reset_here<N: Nor>(
     occasion: &Occasion<'_>,
     runs: &mut Option<RunningMote>,
-    word: u32,
+    draw: u32,
     board: &mut N,
-    telling: &mut Telling,
+    outcome: &mut Outcome,
 ) -> Result<(), Fault>
-    requires nothing { IsNothing telling.old }
+    requires nothing { IsNothing outcome.old }
     ensures ends { (w : RuleWorld) → IsShared occasion.now.shared.now w
         → Stands (N.device board.old).image (store_at w occasion.now.mote)
-        → TurnEnds (turned result telling.new) w occasion.now.mote (of_effect w
+        → TurnEnds (turned result outcome.new) w occasion.now.mote (of_effect w
         (reset_effect (store_at w occasion.now.mote) occasion.now.mote
-        (wide_at w occasion.now.mote) occasion.now.moment word) None)
+        (wide_at w occasion.now.mote) occasion.now.moment draw) None)
         (host (N.device board.old) runs.old) (host (N.device board.new) runs.new) }
-    ensures sees { OnOk result (SeesStart telling.new runs.new) }
+    ensures sees { OnOk result (SeesStart outcome.new runs.new) }
     ensures same_reference { (N.device board.new).references ≡ (N.device board.old).references }
 {
     let wide = occasion.shared.is_wide(occasion.mote);
@@ -137,9 +137,9 @@ pub(crate) fn reset_here<N: Nor>(
         u16::from(occasion.mote),
         wide,
         occasion.moment,
-        word,
+        draw,
         board,
-        telling,
+        outcome,
     )
 }
 
@@ -149,21 +149,21 @@ pub(crate) fn restart<N: Nor>(
     id: u16,
     wide: bool,
     now: u64,
-    word: u32,
+    draw: u32,
     board: &mut N,
 ) -> Result<StartLine, Fault>
     requires moment { now < 2 ^ 62 }
     ensures begun { IfOk result (λ line. (w : RuleWorld) (m : ℕ) (old : Option KeyValue) (v : Option RunningMote)
         → Stands (N.device board.old).image (store_at w m)
-        → TurnEnds (Ok (Starts line)) w m (of_effect w (boots StartCause.Order (store_at w m) id wide now word) old)
+        → TurnEnds (Ok (Starts line)) w m (of_effect w (boots StartCause.Order (store_at w m) id wide now draw) old)
         (host (N.device board.old) v) (host (N.device board.new) (Some running.new))) }
     ensures halts { (f : Fault) → result ≡ Err f → (w : RuleWorld) (m : ℕ) (old : Option KeyValue) (v u : Option RunningMote)
         → Stands (N.device board.old).image (store_at w m)
-        → TurnEnds (Err (halt_of f None)) w m (of_effect w (boots StartCause.Order (store_at w m) id wide now word) old)
+        → TurnEnds (Err (halt_of f None)) w m (of_effect w (boots StartCause.Order (store_at w m) id wide now draw) old)
         (host (N.device board.old) v) (host (N.device board.new) u) }
     ensures same_reference { (N.device board.new).references ≡ (N.device board.old).references }
 {
-    match begin(StartCause::Order, id, wide, now, word, board) {
+    match begin(StartCause::Order, id, wide, now, draw, board) {
         Ok(begun) => {
             *running = begun.running;
             Ok(begun.line)

@@ -1,4 +1,4 @@
-//! A step at the board of its mote, and what is told of it.
+//! A step at the board of its mote, and what is reported of it.
 ghost use Rattle.std.specs.Prelude.{◌≡◌, ◌+◌, ◌<◌, ◌≤◌, ◌∷◌, ◌++◌, ℕ, [], None, Some, length, vec_len, option_to_list};
 ghost use Rattle.std.specs.Prelude.{option_copied, IfOk, IsTrue, true, false};
 ghost use Rattle.std.specs.List.{filter};
@@ -10,21 +10,21 @@ ghost use Rattle.dg_volume.specs.Stands.{Stands, Tells};
 ghost use Rattle.dg_frame.specs.Grammar.{message_of};
 ghost use Rattle.dg_rules.specs.Sizes.{most_motes};
 ghost use Rattle.dg_rules.specs.World.{World as RuleWorld};
-ghost use Rattle.dg_rules.specs.Changes.{sent_line, is_told};
+ghost use Rattle.dg_rules.specs.Changes.{sent_line, is_reported};
 ghost use Rattle.dg_rules.specs.Ranges.{StepInRange};
-ghost use Rattle.dg_world.specs.Occasions.{step_of, MayHappen};
+ghost use Rattle.dg_world.specs.Occasions.{step_of, MayApply};
 ghost use Rattle.dg_world.specs.Turn.{Refused, Starts};
-ghost use Rattle.dg_world.specs.Turns.{turn_lines, sent_shown};
-ghost use Rattle.dg_world.specs.Tellings.{IsNothing, turn_of};
-ghost use Rattle.dg_world.specs.Stepped.{CutChangesAre, CutTold, CutRead, StepDid, station};
+ghost use Rattle.dg_world.specs.Turns.{turn_lines, frame_lines};
+ghost use Rattle.dg_world.specs.Outcomes.{IsNothing, turn_of};
+ghost use Rattle.dg_world.specs.Stepped.{CutChangesAre, CutReported, CutRead, StepDid, station};
 ghost use Rattle.dg_world.specs.Known.{IsKnownChip, IsOrder, MakesKnown, SeesOrder, SeesCut};
 
+use crate::chip_report::{ChipReport, MOST_CHANGES, push_changes, push_line, report_chip};
 use crate::cutting::play_cut;
-use crate::happening::happen;
+use crate::dispatch::apply_event;
 use crate::mounting::mount_known;
 use crate::occasion::Occasion;
-use crate::shown::{MOST_CHANGES, Shown, push_changes, push_line, show};
-use crate::telling::{Fault, Power, StartLine, Telling};
+use crate::outcome::{Fault, Outcome, Power, StartLine};
 use crate::world::RunningMote;
 use dg_frame::{Frame, Message, read};
 use dg_mote::Outbox;
@@ -32,31 +32,31 @@ use dg_nor::Nor;
 use dg_rules::{Cause, Cut, Event, Report};
 use dg_volume::{Volume, a_volume_bounds_a_remount};
 
-/// The most lines that are told of a step.
+/// The most lines that are reported of a step.
 pub(crate) const MOST_LINES: usize = MOST_CHANGES + 1;
 
-/// Appends the lines of what is told. There is room for them.
-fn push_told(mote: u8, telling: &Telling, reported: bool, out: &mut Vec<Report>)
-    requires room { vec_len out.old + MOST_CHANGES ≤ vec_capacity out.old }
-    ensures { out.new.items ≡ out.old.items ++ filter (is_told reported) (turn_lines mote (turn_of telling.now)) }
+/// Appends the lines of what is reported. There is capacity for them.
+fn push_outcome(mote: u8, outcome: &Outcome, reported: bool, out: &mut Vec<Report>)
+    requires capacity { vec_len out.old + MOST_CHANGES ≤ vec_capacity out.old }
+    ensures { out.new.items ≡ out.old.items ++ filter (is_reported reported) (turn_lines mote (turn_of outcome.now)) }
 {
-    if let Some(frame) = telling.outbox.frame() {
+    if let Some(frame) = outcome.outbox.frame() {
         push_sent(mote, frame, reported, out);
-    } else if let Some(cause) = telling.refused {
+    } else if let Some(cause) = outcome.refused {
         push_refused(mote, cause, out);
-    } else if let Some(line) = telling.started {
+    } else if let Some(line) = outcome.started {
         push_start(mote, line, out);
-    } else if let (Some(before), Some(after)) = (&telling.before, &telling.after) {
+    } else if let (Some(before), Some(after)) = (&outcome.before, &outcome.after) {
         push_changes(mote, before, after, out);
     }
 }
 
 /// Appends the line on a frame where it is wanted.
 fn push_sent(mote: u8, frame: &Frame, reported: bool, out: &mut Vec<Report>)
-    requires room { vec_len out.old + 1 ≤ vec_capacity out.old }
+    requires capacity { vec_len out.old + 1 ≤ vec_capacity out.old }
     ensures told { out.new.items
-        ≡ out.old.items ++ filter (is_told reported) (sent_shown mote (message_of frame.now.items true)) }
-    ensures room { vec_capacity out.new ≡ vec_capacity out.old }
+        ≡ out.old.items ++ filter (is_reported reported) (frame_lines mote (message_of frame.now.items true)) }
+    ensures capacity { vec_capacity out.new ≡ vec_capacity out.old }
     ensures few { vec_len out.new ≤ vec_len out.old + 1 }
 {
     if reported {
@@ -66,7 +66,7 @@ fn push_sent(mote: u8, frame: &Frame, reported: bool, out: &mut Vec<Report>)
 
 /// The line on a frame.
 fn sent_line(mote: u8, frame: &Frame) -> Option<Report>
-    ensures { option_to_list result ≡ sent_shown mote (message_of frame.now.items true) }
+    ensures { option_to_list result ≡ frame_lines mote (message_of frame.now.items true) }
 {
     match read(frame.as_slice(), true) {
         Ok(message) => Some(message_line(mote, &message)),
@@ -111,24 +111,24 @@ fn message_line(mote: u8, message: &Message) -> Report
 }
 
 fn push_refused(mote: u8, cause: Cause, out: &mut Vec<Report>)
-    requires room { vec_len out.old + 1 ≤ vec_capacity out.old }
+    requires capacity { vec_len out.old + 1 ≤ vec_capacity out.old }
     ensures told { out.new.items ≡ out.old.items ++ turn_lines mote (Refused cause) }
-    ensures room { vec_capacity out.new ≡ vec_capacity out.old }
+    ensures capacity { vec_capacity out.new ≡ vec_capacity out.old }
     ensures few { vec_len out.new ≤ vec_len out.old + 1 }
 {
     out.push_reserved(Report::Refused { mote, cause });
 }
 
 fn push_start(mote: u8, line: StartLine, out: &mut Vec<Report>)
-    requires room { vec_len out.old + 1 ≤ vec_capacity out.old }
+    requires capacity { vec_len out.old + 1 ≤ vec_capacity out.old }
     ensures told { out.new.items ≡ out.old.items ++ turn_lines mote (Starts line) }
-    ensures room { vec_capacity out.new ≡ vec_capacity out.old }
+    ensures capacity { vec_capacity out.new ≡ vec_capacity out.old }
     ensures few { vec_len out.new ≤ vec_len out.old + 1 }
 {
     out.push_reserved(Report::Start {
         mote,
-        image: line.key.image,
-        version: line.key.version,
+        image: line.image_version.image,
+        version: line.image_version.version,
         length: line.length,
         crc: line.crc,
     });
@@ -145,40 +145,40 @@ fn is_look(event: &Event) -> bool
 }
 
 /// Appends the lines of what a cut changed of what is reported, which is read from the board, and answers whether its chip
-/// is orderly. A known board is mounted by halving. There is room for the lines.
+/// is orderly. A known board is mounted by halving. There is capacity for the lines.
 fn look_again<N: Nor>(
     mote: u8,
-    before: &Option<Shown>,
+    before: &Option<ChipReport>,
     known: bool,
     board: &mut N,
     out: &mut Vec<Report>,
 ) -> Result<bool, Fault>
     requires known_chip { IsTrue known → IsKnownChip (N.device board.old).image }
-    requires room { vec_len out.old + MOST_CHANGES ≤ vec_capacity out.old }
+    requires capacity { vec_len out.old + MOST_CHANGES ≤ vec_capacity out.old }
     ensures told { (s : Store) → Stands (N.device board.old).image s
-        → CutTold result mote before.now s out.old.items out.new.items
+        → CutReported result mote before.now s out.old.items out.new.items
         × CutRead result (N.device board.old) (N.device board.new) }
     ensures sees { IfOk result (λ orderly. SeesOrder orderly (N.device board.new).image) }
     ensures took { IsTrue known → (n : ℕ) → RemountBytes (N.device board.old).image n
         → Took n (N.device board.old) (N.device board.new) }
-    ensures room { vec_capacity out.new ≡ vec_capacity out.old }
+    ensures capacity { vec_capacity out.new ≡ vec_capacity out.old }
     ensures few { vec_len out.new ≤ vec_len out.old + MOST_CHANGES }
 {
     let volume = mount_known(board, known)?;
-    tell_changes(mote, before, &volume, out);
+    report_changes(mote, before, &volume, out);
     Ok(volume.orderly())
 }
 
 /// Appends the lines of what is reported of a volume now, where this was reported of it before.
-fn tell_changes(mote: u8, before: &Option<Shown>, volume: &Volume, out: &mut Vec<Report>)
-    requires room { vec_len out.old + MOST_CHANGES ≤ vec_capacity out.old }
+fn report_changes(mote: u8, before: &Option<ChipReport>, volume: &Volume, out: &mut Vec<Report>)
+    requires capacity { vec_len out.old + MOST_CHANGES ≤ vec_capacity out.old }
     ensures told { (s : Store) → Tells volume.now s → CutChangesAre mote before.now s out.old.items out.new.items }
-    ensures room { vec_capacity out.new ≡ vec_capacity out.old }
+    ensures capacity { vec_capacity out.new ≡ vec_capacity out.old }
     ensures few { vec_len out.new ≤ vec_len out.old + MOST_CHANGES }
 {
     match before {
         None => {}
-        Some(before) => push_changes(mote, before, &show(volume), out),
+        Some(before) => push_changes(mote, before, &report_chip(volume), out),
     }
 }
 
@@ -203,20 +203,20 @@ fn is_kept_known(known: bool, event: &Event) -> bool
 fn look_after_cut<N: Nor>(
     mote: u8,
     event: &Event,
-    before: &Option<Shown>,
+    before: &Option<ChipReport>,
     known: bool,
     board: &mut N,
     out: &mut Vec<Report>,
 ) -> Result<Option<bool>, Fault>
     requires known_chip { (known ≡ true) → IsOrder event.now → IsKnownChip (N.device board.old).image }
-    requires room { vec_len out.old + MOST_CHANGES ≤ vec_capacity out.old }
+    requires capacity { vec_len out.old + MOST_CHANGES ≤ vec_capacity out.old }
     ensures told { (s : Store) → Stands (N.device board.old).image s
-        → CutTold result mote before.now s out.old.items out.new.items
+        → CutReported result mote before.now s out.old.items out.new.items
         × CutRead result (N.device board.old) (N.device board.new) }
     ensures sees { IfOk result (λ seen. (w : RuleWorld) → SeesCut w event.now known seen (N.device board.new).image) }
     ensures took { (known ≡ true) → IsOrder event.now → (n : ℕ) → RemountBytes (N.device board.old).image n
         → Took n (N.device board.old) (N.device board.new) }
-    ensures room { vec_capacity out.new ≡ vec_capacity out.old }
+    ensures capacity { vec_capacity out.new ≡ vec_capacity out.old }
     ensures few { vec_len out.new ≤ vec_len out.old + MOST_CHANGES }
 {
     if before.is_none() && !known && !is_look(event) {
@@ -227,61 +227,63 @@ fn look_after_cut<N: Nor>(
     Ok(Some(orderly))
 }
 
-/// A step with this cut at the board of its mote, which is off after it where it blew. There is room for what is told of it.
+/// A step with this cut at the board of its mote, which is off after it where it blew. There is capacity for what is
+/// reported.
 fn step_cut<N: Nor>(
     occasion: &Occasion<'_>,
     runs: &mut Option<RunningMote>,
     event: &Event,
     cut: &Cut,
     board: &mut N,
-    telling: &mut Telling,
+    outcome: &mut Outcome,
     out: &mut Vec<Report>,
 ) -> Result<(), Fault>
-    requires room { vec_len out.old + MOST_LINES ≤ vec_capacity out.old }
+    requires capacity { vec_len out.old + MOST_LINES ≤ vec_capacity out.old }
     requires fits { (motes : ℕ) × StepInRange motes (step_of event.now (Some cut.now)) × (motes ≤ most_motes) }
-    requires may { MayHappen occasion.now event.now (N.device board.old) runs.old }
-    requires nothing { IsNothing telling.old }
-    ensures { StepDid result occasion.now (step_of event.now (Some cut.now)) telling.new
+    requires may { MayApply occasion.now event.now (N.device board.old) runs.old }
+    requires nothing { IsNothing outcome.old }
+    ensures { StepDid result occasion.now (step_of event.now (Some cut.now)) outcome.new
         (station (N.device board.old) runs.old out.old.items) (station (N.device board.new) runs.new out.new.items) }
 {
     let mote = occasion.mote;
-    match play_cut(occasion, runs, event, cut, board, telling)? {
-        Power::Stays => push_told(mote, telling, occasion.reported, out),
+    match play_cut(occasion, runs, event, cut, board, outcome)? {
+        Power::Stays => push_outcome(mote, outcome, occasion.reported, out),
         Power::Cut => {
             a_volume_bounds_a_remount();
-            let orderly = look_after_cut(mote, event, &telling.before, occasion.known, board, out)?;
-            telling.orderly = orderly;
+            let orderly = look_after_cut(mote, event, &outcome.before, occasion.known, board, out)?;
+            outcome.orderly = orderly;
             out.push_reserved(Report::Off { mote });
             *runs = None;
-            telling.outbox = Outbox::new();
+            outcome.outbox = Outbox::new();
         }
     }
     Ok(())
 }
 
-/// A step at the board of its mote, which runs `runs`. Its frame is left in the outbox. There is room for what is told of it.
+/// A step at the board of its mote, which runs `runs`. Its frame is left in the outbox. There is capacity for what is
+/// reported.
 pub(crate) fn step_at<N: Nor>(
     occasion: &Occasion<'_>,
     runs: &mut Option<RunningMote>,
     event: &Event,
     cut: Option<&Cut>,
     board: &mut N,
-    telling: &mut Telling,
+    outcome: &mut Outcome,
     out: &mut Vec<Report>,
 ) -> Result<(), Fault>
-    requires room { vec_len out.old + MOST_LINES ≤ vec_capacity out.old }
+    requires capacity { vec_len out.old + MOST_LINES ≤ vec_capacity out.old }
     requires fits { (motes : ℕ) × StepInRange motes (step_of event.now (option_copied cut)) × (motes ≤ most_motes) }
-    requires may { MayHappen occasion.now event.now (N.device board.old) runs.old }
-    requires nothing { IsNothing telling.old }
-    ensures { StepDid result occasion.now (step_of event.now (option_copied cut.entry)) telling.new
+    requires may { MayApply occasion.now event.now (N.device board.old) runs.old }
+    requires nothing { IsNothing outcome.old }
+    ensures { StepDid result occasion.now (step_of event.now (option_copied cut.entry)) outcome.new
         (station (N.device board.old) runs.old out.old.items) (station (N.device board.new) runs.new out.new.items) }
 {
     match cut {
         None => {
-            happen(occasion, runs, event, board, telling)?;
-            push_told(occasion.mote, telling, occasion.reported, out);
+            apply_event(occasion, runs, event, board, outcome)?;
+            push_outcome(occasion.mote, outcome, occasion.reported, out);
             Ok(())
         }
-        Some(cut) => step_cut(occasion, runs, event, cut, board, telling, out),
+        Some(cut) => step_cut(occasion, runs, event, cut, board, outcome, out),
     }
 }

@@ -8,11 +8,11 @@ ghost use Rattle.dg_world.specs.Worlds.{MoteStands, SiteStands, IsTimelyMote, Ma
 ghost use Rattle.dg_world.specs.Turns.{TurnEnds};
 ghost use Rattle.dg_world.specs.Hosts.{host};
 ghost use Rattle.dg_world.specs.Unseen.{RefusesUnseen};
-ghost use Rattle.dg_world.specs.Tellings.{IsNothing, turned};
+ghost use Rattle.dg_world.specs.Outcomes.{IsNothing, turned};
 ghost use Rattle.dg_world.specs.Known.{SeesMote};
 
+use crate::outcome::{Fault, Outcome};
 use crate::starting::restart;
-use crate::telling::{Fault, Telling};
 use crate::world::RunningMote;
 use dg_frame::one_reading;
 use dg_mote::{Did, a_restart_is_for_the_order};
@@ -23,23 +23,24 @@ use dg_rules::Cause;
 fn tick_on<N: Nor>(
     running: &mut RunningMote,
     now: u64,
-    word: u32,
+    draw: u32,
     board: &mut N,
-    telling: &mut Telling,
+    outcome: &mut Outcome,
 ) -> Result<(), Fault>
     requires mote { IsTimelyMote (N.device board.old).image now running.old }
     requires moment { now < 2 ^ 62 }
-    requires nothing { IsNothing telling.old }
+    requires nothing { IsNothing outcome.old }
     ensures ends { (w : RuleWorld) (m : ℕ) (r : Running) → Stands (N.device board.old).image (store_at w m)
         → MoteStands (N.device board.old).image (Some running.old) (store_at w m) (Some r)
-        → TurnEnds (turned result telling.new) w m (of_effect w (tick_effect r.mote (store_at w m) now word) (Some r.key))
+        → TurnEnds (turned result outcome.new) w m
+        (of_effect w (tick_effect r.mote (store_at w m) now draw) (Some r.image_version))
         (host (N.device board.old) (Some running.old)) (host (N.device board.new) (Some running.new)) }
-    ensures sees { OnOk result (telling.new.orderly ≡ None) }
+    ensures sees { OnOk result (outcome.new.orderly ≡ None) }
     ensures same_reference { (N.device board.new).references ≡ (N.device board.old).references }
 {
     a_restart_is_for_the_order();
     one_reading();
-    let Ok(did) = running.mote.tick(board, now, word, &mut telling.outbox) else {
+    let Ok(did) = running.mote.tick(board, now, draw, &mut outcome.outbox) else {
         return Err(Fault::Stopped);
     };
     match did {
@@ -47,8 +48,8 @@ fn tick_on<N: Nor>(
         Did::Restart => {
             let id = running.mote.id();
             let wide = running.mote.wide();
-            let line = restart(running, id, wide, now, word, board)?;
-            telling.started = Some(line);
+            let line = restart(running, id, wide, now, draw, board)?;
+            outcome.started = Some(line);
             Ok(())
         }
     }
@@ -58,27 +59,27 @@ fn tick_on<N: Nor>(
 pub(crate) fn tick<N: Nor>(
     runs: &mut Option<RunningMote>,
     now: u64,
-    word: u32,
+    draw: u32,
     board: &mut N,
-    telling: &mut Telling,
+    outcome: &mut Outcome,
 ) -> Result<(), Fault>
     requires mote { MayRun (N.device board.old).image now runs.old }
     requires moment { now < 2 ^ 62 }
-    requires nothing { IsNothing telling.old }
+    requires nothing { IsNothing outcome.old }
     ensures ends { (w : RuleWorld) (m : ℕ) → SiteStands (N.device board.old) runs.old (site w m)
-        → TurnEnds (turned result telling.new) w m (tick_does w (store_at w m) (site w m).runs now word)
+        → TurnEnds (turned result outcome.new) w m (tick_does w (store_at w m) (site w m).runs now draw)
         (host (N.device board.old) runs.old) (host (N.device board.new) runs.new) }
     ensures unseen { (w : RuleWorld) (m : ℕ) → SiteStands (N.device board.old) runs.old (site w m)
-        → RefusesUnseen (tick_does w (store_at w m) (site w m).runs now word)
+        → RefusesUnseen (tick_does w (store_at w m) (site w m).runs now draw)
         → (board.new ≡ board.old) × OnErr result ⊥ }
-    ensures sees { OnOk result (SeesMote telling.new runs.new (N.device board.old).image (N.device board.new).image) }
+    ensures sees { OnOk result (SeesMote outcome.new runs.new (N.device board.old).image (N.device board.new).image) }
     ensures same_reference { (N.device board.new).references ≡ (N.device board.old).references }
 {
     match runs {
         None => {
-            telling.refused = Some(Cause::Off);
+            outcome.refused = Some(Cause::Off);
             Ok(())
         }
-        Some(running) => tick_on(running, now, word, board, telling),
+        Some(running) => tick_on(running, now, draw, board, outcome),
     }
 }

@@ -8,7 +8,7 @@ use dg_rules::ImageVersion;
 /// A mote that is on, and the image that it runs.
 #[derive(Drop)]
 pub struct RunningMote {
-    pub(crate) key: ImageVersion,
+    pub(crate) image_version: ImageVersion,
     pub(crate) mote: Mote,
 }
 
@@ -30,7 +30,7 @@ pub struct World {
 #[derive(Clone, Copy, Debug, PartialEq, Eq)]
 pub enum DeclareFault {
     Memory,
-    /// Its key was declared with another name or content.
+    /// Its version was declared with another name or content.
     Taken,
 }
 

@@ -3,7 +3,7 @@ use Rattle.std.proofs.lemmas.Nat.Bits.{bit_at_set_same, bit_at_set_other}
 use Rattle.dg_bits.proofs.with_bit.Goals as goal
 
 pub returns-clause-set : goal.returns-clause-set
-returns-clause-set c = bit_at_set_same w8 c.args.byte c.args.place c.requires
+returns-clause-set c = bit_at_set_same w8 c.args.byte c.args.position c.requires
 
 pub returns-clause-others : goal.returns-clause-others
-returns-clause-others c = λ i _ other. bit_at_set_other w8 c.args.byte c.args.place c.requires i other
+returns-clause-others c = λ i _ other. bit_at_set_other w8 c.args.byte c.args.position c.requires i other

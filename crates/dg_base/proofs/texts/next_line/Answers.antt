@@ -17,4 +17,4 @@ returns-in-Some-clause-text c =
 
 pub returns-in-Some-clause-ended : goal.returns-in-Some-clause-ended
 returns-in-Some-clause-ended c _ =
-    ended c.args.bytes.now c.args.from c.in-Some.at c.text_end.result c.requires (first_at _ _ c.in-Some.ensures) c.text_end.ensures.start c.text_end.ensures.end c.text_end.ensures.cut
+    ended c.args.bytes.now c.args.from c.in-Some.at c.text_end.result c.requires (first_at _ _ c.in-Some.ensures) c.text_end.ensures.start c.text_end.ensures.end c.text_end.ensures.carriage_return

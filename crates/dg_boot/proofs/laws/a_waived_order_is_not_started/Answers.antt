@@ -2,4 +2,4 @@ use Rattle.dg_boot.proofs.LawLemmas.{waived_unordered}
 use Rattle.dg_boot.proofs.laws.a_waived_order_is_not_started.Goals as goal
 
 pub returns : goal.returns
-returns c kind s waived = waived_unordered kind s waived
+returns c cause s waived = waived_unordered cause s waived

@@ -2,7 +2,7 @@ use Rattle.dg_boot.proofs.LawLemmas.{sound_has, set_has}
 use Rattle.dg_boot.proofs.laws.golden_can_be_started.Goals as goal
 
 pub returns-clause-sound : goal.returns-clause-sound
-returns-clause-sound c kind s sound = sound_has kind s sound
+returns-clause-sound c cause s sound = sound_has cause s sound
 
 pub returns-clause-set : goal.returns-clause-set
-returns-clause-set c kind s set = set_has kind s set
+returns-clause-set c cause s set = set_has cause s set

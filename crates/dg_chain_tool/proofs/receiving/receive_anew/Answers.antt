@@ -10,7 +10,7 @@ use Rattle.dg_volume.specs.Trails.{take_trail}
 use Rattle.dg_volume.specs.Acts.{Stops}
 use Rattle.dg_volume.proofs.InjectLemmas.{older_told, begun_anew, anew_fits}
 use Rattle.dg_volume.proofs.StoreLemmas.{one_store}
-use Rattle.dg_tool.specs.Verbs.{have_told}
+use Rattle.dg_tool.specs.Verbs.{have_text}
 use Rattle.dg_chain_tool.specs.Filling.{received_row, fill_to}
 use Rattle.dg_chain_tool.specs.Receiving.{first_foreign}
 use Rattle.dg_chain_tool.proofs.FillLemmas.{to_first}
@@ -71,7 +71,7 @@ returns-in-Ok g c = record {
       let t = take_trail s (profile row) in
       let u = fill_to found 0 (last t) row.image (object row) in
       let none = take_free s row is c.requires.not_golden older (subst (λ (p : Outline). take_refusal s p ≡ None) c.profile.ensures (c.in-Ok.ensures.allowed s mounted)) in
-      received_filled (λ u. have_told row) root s row _ _ c.receive_rest.result found _ c.receive_rest.new.volume (λ u. refl) none (ap (first_foreign root (object row)) (sym (anew_done s row older))) (anew_fill root s row none older)
+      received_filled (λ u. have_text row) root s row _ _ c.receive_rest.result found _ c.receive_rest.new.volume (λ u. refl) none (ap (first_foreign root (object row)) (sym (anew_done s row older))) (anew_fill root s row none older)
       (ends_then c.receive_rest.result found t u _ _ _ c.take.new.self c.receive_rest.new.volume (sym (to_first found 0 (last t) row.image (object row))) begun.acted (c.receive_rest.ensures.ends (last t) begun.mounted));
 }
 
@@ -83,7 +83,7 @@ returns-in-Err g c = record {
       let x = c.in-Err in
       let older = older_told c.args.volume.now s row c.requires.known_image mounted.tells c.requires.older in
       let same = c.profile.ensures in
-      take_fails (λ (u : ℕ). have_told row) c.args.root.now s row (g.N.Nor.device c.args.nor.now) (g.N.Nor.device c.take.new.nor) x.fault c.take_stop.result is c.requires.not_golden older c.take_stop.ensures
+      take_fails (λ (u : ℕ). have_text row) c.args.root.now s row (g.N.Nor.device c.args.nor.now) (g.N.Nor.device c.take.new.nor) x.fault c.take_stop.result is c.requires.not_golden older c.take_stop.ensures
       (subst (λ (p : Outline). UnlessTakeRefused {T = ℕ} (Err x.fault) (take_refusal s p)) same (x.ensures.allowed s mounted))
       (λ other. subst (λ (p : Outline). take_refusal s p ≡ Some x.fault) same (x.ensures.refused x.fault refl other s mounted))
       (λ other. (x.ensures.unchanged x.fault refl other).0)

@@ -9,7 +9,7 @@ use Rattle.dg_volume.proofs.LendingLemmas.{keeps_told}
 use Rattle.dg_volume.proofs.PartLemmas.{part_of}
 use Rattle.dg_volume.proofs.InjectLemmas.{kept_free, kept_taken}
 use Rattle.dg_tool.specs.declared.refusal.Refusal.TheVariants as refusals
-use Rattle.dg_tool.specs.Verbs.{have_told}
+use Rattle.dg_tool.specs.Verbs.{have_text}
 use Rattle.dg_chain_tool.specs.Filling.{received_row, fill_to}
 use Rattle.dg_chain_tool.specs.Receiving.{first_foreign, receive_trail}
 use Rattle.dg_chain_tool.proofs.ReceiveLemmas.{received_refused, received_filled, received_stops, receive_begins, kept_done, kept_is, ends_looked}
@@ -24,7 +24,7 @@ returns-then-other g c = record {
       let h = keeps.kept in
       let same = ap (λ (k : Kept). k.version) keeps.told ∙ c.requires.same_version in
       let other : is_other h row ≡ true = sym (c.in-Ok.ensures.other h keeps.stands keeps.told) ∙ c.if-other.true in
-      received_refused (λ (u : ℕ). have_told row) c.args.root.now s row _ _ inject.Taken refusals.Taken (kept_taken s row h is c.requires.not_golden keeps.here same other) refl c.in-Ok.ensures.ends;
+      received_refused (λ (u : ℕ). have_text row) c.args.root.now s row _ _ inject.Taken refusals.Taken (kept_taken s row h is c.requires.not_golden keeps.here same other) refl c.in-Ok.ensures.ends;
 }
 
 pub receive_rest-requires-clause-mounted : goal.receive_rest-requires-clause-mounted
@@ -80,7 +80,7 @@ returns-else-other g c = record {
       let none = kept_free s row h is c.requires.not_golden keeps.here same free in
       let here = subst (λ (x : List ℕ). Mounted x c.args.volume.now s) (sym looked.same_image) mounted in
       let t = fill_to found n s row.image (drop n (object row)) in
-      received_filled (λ u. have_told row) c.args.root.now s row _ _ c.receive_rest.result found t c.receive_rest.new.volume (λ u. refl) none (ap (first_foreign c.args.root.now (object row)) (sym (kept_done s row h n keeps.here same count))) (kept_is c.args.root.now s row h n none keeps.here same count)
+      received_filled (λ u. have_text row) c.args.root.now s row _ _ c.receive_rest.result found t c.receive_rest.new.volume (λ u. refl) none (ap (first_foreign c.args.root.now (object row)) (sym (kept_done s row h n keeps.here same count))) (kept_is c.args.root.now s row h n none keeps.here same count)
       (ends_looked c.receive_rest.result found t _ _ _ c.receive_rest.new.volume looked (c.receive_rest.ensures.ends s here));
 }
 
@@ -88,5 +88,5 @@ pub returns-in-Err : goal.returns-in-Err
 returns-in-Err g c = record {
   ends = λ s mounted.
       let row = received_row c.args.new.now in
-      received_stops (λ (u : ℕ). have_told row) c.args.root.now s row _ _ (read_stops s (receive_trail c.args.root.now s row) _ _ (receive_begins c.args.root.now s row) mounted.stands c.in-Err.ensures.ends);
+      received_stops (λ (u : ℕ). have_text row) c.args.root.now s row _ _ (read_stops s (receive_trail c.args.root.now s row) _ _ (receive_begins c.args.root.now s row) mounted.stands c.in-Err.ensures.ends);
 }

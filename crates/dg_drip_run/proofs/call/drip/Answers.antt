@@ -1,4 +1,4 @@
-use Rattle.dg_drip_run.specs.Outcome.{played}
+use Rattle.dg_drip_run.specs.Dripped.{played}
 use Rattle.dg_drip_run.proofs.call.drip.Goals as goal
 
 pub returns-clause-spread : goal.returns-clause-spread

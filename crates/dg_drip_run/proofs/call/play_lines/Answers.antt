@@ -1,6 +1,6 @@
 use Rattle.std.proofs.Common.{◌≡◌, ◌++◌, true, false, refl, sym, ◌∙◌, arith}
 use Rattle.dg_drip_run.specs.AroundDrip.{around_drip}
-use Rattle.dg_drip_run.specs.Outcome.{drip_stage}
+use Rattle.dg_drip_run.specs.Dripped.{drip_stage}
 use Rattle.dg_drip_run.proofs.ReadLemmas.{lines_first, lines_halt, lines_last, lines_next, lines_end, passes, true_of, false_of}
 use Rattle.dg_drip_run.proofs.call.play_lines.Goals as goal
 

@@ -1,7 +1,7 @@
 use Rattle.std.proofs.Common.{◌≡◌, ◌-◌}
 use Rattle.dg_script.specs.Sizes.{most_used_bytes}
 use Rattle.dg_drip_run.specs.AroundDrip.{around_drip}
-use Rattle.dg_drip_run.specs.Outcome.{LinesPlayed, drip_stage}
+use Rattle.dg_drip_run.specs.Dripped.{LinesPlayed, drip_stage}
 use Rattle.dg_drip_run.proofs.call.play_lines.Given as goal
 
 -- some lines that end in LF were read, played and told

@@ -1,7 +1,7 @@
 use Rattle.std.proofs.Common.{ℕ, refl, subst}
 use Rattle.dg_words.specs.Counts.{Rose}
 use Rattle.dg_drip_run.specs.AroundDrip.{around_drip}
-use Rattle.dg_drip_run.specs.Outcome.{drip_stage}
+use Rattle.dg_drip_run.specs.Dripped.{drip_stage}
 use Rattle.dg_drip_run.proofs.ReadLemmas.{dripped_none, script_ended}
 use Rattle.dg_drip_run.proofs.call.read_and_play.Goals as goal
 

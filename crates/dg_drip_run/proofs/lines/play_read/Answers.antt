@@ -8,15 +8,15 @@ pub play_line-requires-clause-playing : goal.play_line-requires-clause-playing
 play_line-requires-clause-playing g c =
     cleared_playing c.args.player.now (record { network = c.args.player.now.network; standing = c.args.player.now.standing; events = c.args.player.now.events; text = c.clear.new.self }) c.requires.playing refl refl refl c.clear.ensures.items
 
-pub returns-in-Ok-put_told-clause-answer : goal.returns-in-Ok-put_told-clause-answer
-returns-in-Ok-put_told-clause-answer g c = λ s before h.
+pub returns-in-Ok-put_text-clause-answer : goal.returns-in-Ok-put_text-clause-answer
+returns-in-Ok-put_text-clause-answer g c = λ s before h.
     let k = cleared_plays c.args.player.now (record { network = c.args.player.now.network; standing = c.args.player.now.standing; events = c.args.player.now.events; text = c.clear.new.self }) s before h refl refl refl c.clear.ensures.items in
-    line_ok c.play_line.new.self s (with_drip_line s c.args.line.now) c.deref.result.now (g.K.Sink.written c.args.out.now) (g.K.Sink.written c.put_told.new.out) (c.in-Ok.ensures s (report_of s) k) c.deref.ensures.value c.in-Ok-put_told.ensures.ok
+    line_ok c.play_line.new.self s (with_drip_line s c.args.line.now) c.deref.result.now (g.K.Sink.written c.args.out.now) (g.K.Sink.written c.put_text.new.out) (c.in-Ok.ensures s (report_of s) k) c.deref.ensures.value c.in-Ok-put_text.ensures.ok
 
 pub returns-in-Err-clause-answer : goal.returns-in-Err-clause-answer
 returns-in-Err-clause-answer g c = λ s before h.
     let k = cleared_plays c.args.player.now (record { network = c.args.player.now.network; standing = c.args.player.now.standing; events = c.args.player.now.events; text = c.clear.new.self }) s before h refl refl refl c.clear.ensures.items in
-    line_cut c.play_line.new.self s (with_drip_line s c.args.line.now) c.deref.result.now (g.K.Sink.written c.args.out.now) (g.K.Sink.written c.put_told.new.out) (Rose (g.K.Sink.faults c.args.out.now) (g.K.Sink.faults c.put_told.new.out))
+    line_cut c.play_line.new.self s (with_drip_line s c.args.line.now) c.deref.result.now (g.K.Sink.written c.args.out.now) (g.K.Sink.written c.put_text.new.out) (Rose (g.K.Sink.faults c.args.out.now) (g.K.Sink.faults c.put_text.new.out))
     (c.in-Ok.ensures s (report_of s) k) c.deref.ensures.value c.in-Err.ensures.failed c.in-Err.ensures.err
 
 pub returns-in-Err-TooMany-clause-answer : goal.returns-in-Err-TooMany-clause-answer

@@ -1,6 +1,6 @@
 use Rattle.std.proofs.Common.{Option, ◌++◌, ap, ◌∙◌}
 use Rattle.dg_picture.specs.Picture.{kept_text}
-use Rattle.dg_picture.specs.declared.told.Pages.{Pages}
+use Rattle.dg_picture.specs.declared.reports.Pages.{Pages}
 use Rattle.dg_picture.proofs.EachLemmas.{begun, grown}
 use Rattle.dg_picture.proofs.bars.push_all_kept.Goals as goal
 

@@ -1,7 +1,7 @@
 use Rattle.std.proofs.Common.{◌≡◌, ℕ, Option, OnOk, ◌++◌, rules, sym, subst}
 use Rattle.dg_picture.specs.Layout.{lane_bottom}
 use Rattle.dg_picture.specs.Picture.{kept_line_text, kept_text}
-use Rattle.dg_picture.specs.declared.told.Pages.{Pages}
+use Rattle.dg_picture.specs.declared.reports.Pages.{Pages}
 use Rattle.dg_picture.proofs.bars.push_kept.Goals as goal
 
 pub returns-in-Some : goal.returns-in-Some

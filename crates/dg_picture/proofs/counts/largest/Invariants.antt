@@ -1,6 +1,6 @@
 use Rattle.std.proofs.Common.{◌≡◌, ℕ, take}
 use Rattle.dg_picture.specs.Counts.{held}
-use Rattle.dg_picture.specs.Told.{largest}
+use Rattle.dg_picture.specs.Reports.{largest}
 use Rattle.dg_picture.proofs.counts.largest.Given as goal
 
 -- the counts of the lines so far

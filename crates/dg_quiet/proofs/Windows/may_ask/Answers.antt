@@ -8,8 +8,8 @@ pub returns-clause-value : goal.returns-clause-value
 returns-clause-value c =
     c.are_over.ensures
     ∙ (λ i.
-    is_past (get_or c.self.inside.requests (c.place-k.ensures i) None) request_window c.args.now
-    && is_past (get_or c.self.inside.packets (c.place-k.ensures i) None) packet_window c.args.now)
+    is_past (get_or c.self.inside.requests (c.window_of-k.ensures i) None) request_window c.args.now
+    && is_past (get_or c.self.inside.packets (c.window_of-k.ensures i) None) packet_window c.args.now)
     ∙ (λ i.
     is_past (sym (get-moments_of c.self.inside.requests c.args.image c.requires.low) i) request_window c.args.now
     && is_past (sym (get-moments_of c.self.inside.packets c.args.image c.requires.low) i) packet_window c.args.now)

@@ -6,7 +6,7 @@ use Rattle.dg_quiet.proofs.Windows.note_request.Goals as goal
 
 pub returns : goal.returns
 returns c =
-    let noted = ap (λ k. moments_of (put c.self.inside.requests k (Some c.args.now))) c.place-k.ensures
+    let noted = ap (λ k. moments_of (put c.self.inside.requests k (Some c.args.now))) c.window_of-k.ensures
     ∙ moments_of-put c.self.inside.requests c.args.image c.args.now c.requires.low (omega (arith, c.requires.high, c.self.invariant.0)) in
     (λ i. record { requests = noted i; packets = moments_of c.self.inside.packets })
     ∙ ap (λ n. with_request n c.args.now c.args.image) c.self.view_is

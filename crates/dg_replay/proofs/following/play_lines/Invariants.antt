@@ -4,12 +4,12 @@ use Rattle.dg_replay.proofs.LinesReadLemmas.{LinesRead}
 use Rattle.dg_replay.proofs.following.play_lines.Given as goal
 
 -- some whole lines were read, played and reported
-abbrev pub invariant-loop-told : goal.invariant-loop-told
-invariant-loop-told g l =
+abbrev pub invariant-loop-line_report : goal.invariant-loop-line_report
+invariant-loop-line_report g l =
     LinesRead (g.S.Source.left l.fn.input) (g.S.Source.left l.input) l.reader l.number l.player (map g.N.Nor.device l.fn.boards.items) (map g.N.Nor.device l.boards.items) (g.K.Sink.written l.fn.out) (g.K.Sink.written l.out)
     × (g.S.Source.faults l.input ≡ g.S.Source.faults l.fn.input)
     × (g.K.Sink.faults l.out ≡ g.K.Sink.faults l.fn.out)
 
 -- each line takes some of the bytes that are used
-abbrev pub decreases-loop-told : goal.decreases-loop-told
-decreases-loop-told g l = most_used_bytes - l.reader.passed
+abbrev pub decreases-loop-line_report : goal.decreases-loop-line_report
+decreases-loop-line_report g l = most_used_bytes - l.reader.passed

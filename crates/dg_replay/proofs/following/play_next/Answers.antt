@@ -33,8 +33,8 @@ returns-in-Err-next_line-clause-answer g c =
     c.in-Ok-Some.field-0-is c.text.ensures c.in-Ok-Some.ensures.answer
     (text_unread c.in-Err-next_line.stop text number p was before failed c.in-Err-next_line.ensures)
 
-pub returns-in-Ok-write_told-clause-answer : goal.returns-in-Ok-write_told-clause-answer
-returns-in-Ok-write_told-clause-answer g c =
+pub returns-in-Ok-write_text-clause-answer : goal.returns-in-Ok-write_text-clause-answer
+returns-in-Ok-write_text-clause-answer g c =
     let left = g.S.Source.left in
     let faults = g.S.Source.faults in
     let writes = g.K.Sink.faults in
@@ -43,17 +43,17 @@ returns-in-Ok-write_told-clause-answer g c =
     let p = c.args.player.now in
     let q : Player = record c.play_line.new.player { place = c.pass.new.self } in
     let before = g.K.Sink.written c.args.out.now in
-    let after = g.K.Sink.written c.write_told.new.out in
-    let failed = Rose (writes c.args.out.now) (writes c.write_told.new.out) in
+    let after = g.K.Sink.written c.write_text.new.out in
+    let failed = Rose (writes c.args.out.now) (writes c.write_text.new.out) in
     let text = c.text.result.now in
     let number = c.in-Ok-Some.number in
     given_answer (Ok true) c.in-Ok-Some.field-0 number text c.args.reader.now c.next.new.self (AtEnd (left c.next.new.input)) (Rose (faults c.args.input.now) (faults c.next.new.input)) (λ more. Takes (left c.args.input.now) (left c.next.new.input) more) p q was now before after failed
     c.in-Ok-Some.field-0-is c.text.ensures c.in-Ok-Some.ensures.answer
-    (text_played (Ok tt) text number p c.play_line.new.player c.pass.new.self was now c.in-Ok.line c.play_line.new.line c.clear.new.self.items c.play_line.new.told.text.items c.deref.result.now before after failed c.in-Ok.ensures.spelled c.clear.ensures.items c.deref.ensures.value
-    c.in-Ok-play_line.ensures.played c.in-Ok-play_line.ensures.behind c.in-Ok-pass.ensures.ok c.in-Ok-write_told.ensures.ok tt tt)
+    (text_played (Ok tt) text number p c.play_line.new.player c.pass.new.self was now c.in-Ok.line c.play_line.new.line c.clear.new.self.items c.play_line.new.line_report.text.items c.deref.result.now before after failed c.in-Ok.ensures.spelled c.clear.ensures.items c.deref.ensures.value
+    c.in-Ok-play_line.ensures.played c.in-Ok-play_line.ensures.behind c.in-Ok-pass.ensures.ok c.in-Ok-write_text.ensures.ok tt tt)
 
-pub returns-in-Err-write_told-clause-answer : goal.returns-in-Err-write_told-clause-answer
-returns-in-Err-write_told-clause-answer g c =
+pub returns-in-Err-write_text-clause-answer : goal.returns-in-Err-write_text-clause-answer
+returns-in-Err-write_text-clause-answer g c =
     let left = g.S.Source.left in
     let faults = g.S.Source.faults in
     let writes = g.K.Sink.faults in
@@ -62,14 +62,14 @@ returns-in-Err-write_told-clause-answer g c =
     let p = c.args.player.now in
     let q : Player = record c.play_line.new.player { place = c.pass.new.self } in
     let before = g.K.Sink.written c.args.out.now in
-    let after = g.K.Sink.written c.write_told.new.out in
-    let failed = Rose (writes c.args.out.now) (writes c.write_told.new.out) in
+    let after = g.K.Sink.written c.write_text.new.out in
+    let failed = Rose (writes c.args.out.now) (writes c.write_text.new.out) in
     let text = c.text.result.now in
     let number = c.in-Ok-Some.number in
-    given_answer (Err (Stopped c.in-Err-write_told.stop)) c.in-Ok-Some.field-0 number text c.args.reader.now c.next.new.self (AtEnd (left c.next.new.input)) (Rose (faults c.args.input.now) (faults c.next.new.input)) (λ more. Takes (left c.args.input.now) (left c.next.new.input) more) p q was now before after failed
+    given_answer (Err (Stopped c.in-Err-write_text.stop)) c.in-Ok-Some.field-0 number text c.args.reader.now c.next.new.self (AtEnd (left c.next.new.input)) (Rose (faults c.args.input.now) (faults c.next.new.input)) (λ more. Takes (left c.args.input.now) (left c.next.new.input) more) p q was now before after failed
     c.in-Ok-Some.field-0-is c.text.ensures c.in-Ok-Some.ensures.answer
-    (text_played (Err c.in-Err-write_told.stop) text number p c.play_line.new.player c.pass.new.self was now c.in-Ok.line c.play_line.new.line c.clear.new.self.items c.play_line.new.told.text.items c.deref.result.now before after failed c.in-Ok.ensures.spelled c.clear.ensures.items c.deref.ensures.value
-    c.in-Ok-play_line.ensures.played c.in-Ok-play_line.ensures.behind c.in-Ok-pass.ensures.ok tt c.in-Err-write_told.ensures.cut c.in-Err-write_told.ensures.cause)
+    (text_played (Err c.in-Err-write_text.stop) text number p c.play_line.new.player c.pass.new.self was now c.in-Ok.line c.play_line.new.line c.clear.new.self.items c.play_line.new.line_report.text.items c.deref.result.now before after failed c.in-Ok.ensures.spelled c.clear.ensures.items c.deref.ensures.value
+    c.in-Ok-play_line.ensures.played c.in-Ok-play_line.ensures.behind c.in-Ok-pass.ensures.ok tt c.in-Err-write_text.ensures.front c.in-Err-write_text.ensures.cause)
 
 pub returns-in-Err-pass-clause-answer : goal.returns-in-Err-pass-clause-answer
 returns-in-Err-pass-clause-answer g c =
@@ -106,7 +106,7 @@ returns-in-Err-play_line-clause-answer g c =
     let number = c.in-Ok-Some.number in
     given_answer (Err (Stopped c.write_begun.result)) c.in-Ok-Some.field-0 number text c.args.reader.now c.next.new.self (AtEnd (left c.next.new.input)) (Rose (faults c.args.input.now) (faults c.next.new.input)) (λ more. Takes (left c.args.input.now) (left c.next.new.input) more) p q was now before after failed
     c.in-Ok-Some.field-0-is c.text.ensures c.in-Ok-Some.ensures.answer
-    (text_begun c.in-Err-play_line.stop c.write_begun.result text number p q (gone_on q c.play_line.new.line) was now c.in-Ok.line c.clear.new.self.items c.play_line.new.told.text.items c.deref-in-Err-play_line.result.now before after failed c.in-Ok.ensures.spelled c.clear.ensures.items c.deref-in-Err-play_line.ensures.value
+    (text_begun c.in-Err-play_line.stop c.write_begun.result text number p q (gone_on q c.play_line.new.line) was now c.in-Ok.line c.clear.new.self.items c.play_line.new.line_report.text.items c.deref-in-Err-play_line.result.now before after failed c.in-Ok.ensures.spelled c.clear.ensures.items c.deref-in-Err-play_line.ensures.value
     c.in-Err-play_line.ensures.played c.write_begun.ensures.written)
 
 pub returns-in-Err-clause-answer : goal.returns-in-Err-clause-answer

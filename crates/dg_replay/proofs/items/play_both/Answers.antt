@@ -11,8 +11,8 @@ returns-in_err-play_round-clause-played g c =
     let p = err_from_is_err_and c.from_residual.result c.from_residual.ensures.1 in
     let boards = map g.N.Nor.device c.args.boards.now.items in
     rw (p.1, p.2)
-    (so_far_stop c.in_err-play_round.field-0.0 [] (round c.args.a c.args.b) (round c.args.b c.args.a) _ c.args.world.now c.args.world.now c.play_round.new.world boards boards _ c.args.told.now.text.items c.args.told.now.text.items c.play_round.new.told.text.items
-    (so_far_none c.args.world.now boards c.args.told.now.text.items) c.in_err-play_round.ensures.played refl)
+    (so_far_stop c.in_err-play_round.field-0.0 [] (round c.args.a c.args.b) (round c.args.b c.args.a) _ c.args.world.now c.args.world.now c.play_round.new.world boards boards _ c.args.line_report.now.text.items c.args.line_report.now.text.items c.play_round.new.line_report.text.items
+    (so_far_none c.args.world.now boards c.args.line_report.now.text.items) c.in_err-play_round.ensures.played refl)
 
 pub returns-in_err-play_round-2-clause-played : goal.returns-in_err-play_round-2-clause-played
 returns-in_err-play_round-2-clause-played g c =
@@ -20,18 +20,18 @@ returns-in_err-play_round-2-clause-played g c =
     let there = round c.args.a c.args.b in
     let back = round c.args.b c.args.a in
     rw (p.1, p.2)
-    (so_far_stop c.in_err-play_round-2.field-0.0 there back [] (there ++ back) c.args.world.now c.play_round.new.world c.play_round-2.new.world _ _ _ c.args.told.now.text.items c.play_round.new.told.text.items c.play_round-2.new.told.text.items
-    (so_far_one (unreported there) c.args.world.now c.play_round.new.world _ _ c.args.told.now.text.items c.play_round.new.told.text.items c.in_ok-play_round.ensures.goes_on c.in_ok-play_round.ensures.played)
+    (so_far_stop c.in_err-play_round-2.field-0.0 there back [] (there ++ back) c.args.world.now c.play_round.new.world c.play_round-2.new.world _ _ _ c.args.line_report.now.text.items c.play_round.new.line_report.text.items c.play_round-2.new.line_report.text.items
+    (so_far_one (unreported there) c.args.world.now c.play_round.new.world _ _ c.args.line_report.now.text.items c.play_round.new.line_report.text.items c.in_ok-play_round.ensures.goes_on c.in_ok-play_round.ensures.played)
     c.in_err-play_round-2.ensures.played (ap (λ (xs : List Event). there ++ xs) (append-nil back)))
 
 pub returns-clause-played : goal.returns-clause-played
 returns-clause-played g c =
-    (so_far_then (round c.args.a c.args.b) (round c.args.b c.args.a) c.args.world.now c.play_round.new.world c.play_round-2.new.world _ _ _ c.args.told.now.text.items c.play_round.new.told.text.items c.play_round-2.new.told.text.items
-    (so_far_one (unreported (round c.args.a c.args.b)) c.args.world.now c.play_round.new.world _ _ c.args.told.now.text.items c.play_round.new.told.text.items c.in_ok-play_round.ensures.goes_on c.in_ok-play_round.ensures.played)
+    (so_far_then (round c.args.a c.args.b) (round c.args.b c.args.a) c.args.world.now c.play_round.new.world c.play_round-2.new.world _ _ _ c.args.line_report.now.text.items c.play_round.new.line_report.text.items c.play_round-2.new.line_report.text.items
+    (so_far_one (unreported (round c.args.a c.args.b)) c.args.world.now c.play_round.new.world _ _ c.args.line_report.now.text.items c.play_round.new.line_report.text.items c.in_ok-play_round.ensures.goes_on c.in_ok-play_round.ensures.played)
     c.in_ok-play_round-2.ensures.goes_on c.in_ok-play_round-2.ensures.played).played
 
 pub returns-clause-goes_on : goal.returns-clause-goes_on
 returns-clause-goes_on g c =
-    (so_far_then (round c.args.a c.args.b) (round c.args.b c.args.a) c.args.world.now c.play_round.new.world c.play_round-2.new.world _ _ _ c.args.told.now.text.items c.play_round.new.told.text.items c.play_round-2.new.told.text.items
-    (so_far_one (unreported (round c.args.a c.args.b)) c.args.world.now c.play_round.new.world _ _ c.args.told.now.text.items c.play_round.new.told.text.items c.in_ok-play_round.ensures.goes_on c.in_ok-play_round.ensures.played)
+    (so_far_then (round c.args.a c.args.b) (round c.args.b c.args.a) c.args.world.now c.play_round.new.world c.play_round-2.new.world _ _ _ c.args.line_report.now.text.items c.play_round.new.line_report.text.items c.play_round-2.new.line_report.text.items
+    (so_far_one (unreported (round c.args.a c.args.b)) c.args.world.now c.play_round.new.world _ _ c.args.line_report.now.text.items c.play_round.new.line_report.text.items c.in_ok-play_round.ensures.goes_on c.in_ok-play_round.ensures.played)
     c.in_ok-play_round-2.ensures.goes_on c.in_ok-play_round-2.ensures.played).goes

@@ -5,12 +5,12 @@ use Rattle.dg_replay.proofs.items.play_event.Goals as goal
 
 pub returns-in-Ok-clause-played : goal.returns-in-Ok-clause-played
 returns-in-Ok-clause-played g c = λ w initial is stands.
-    told_as c.tell.result w (step_of c.args.event.now (option_copied c.args.cut)) c.args.reported c.args.world.now c.apply.new.self initial _ _ c.clear.new.self.items c.apply.new.out.items c.args.told.now.text.items c.tell.new.told.text.items
-    c.clear.ensures.items c.requires (c.in-Ok.ensures.applied w is) c.tell.ensures.told c.tell.ensures.memory is stands
+    told_as c.append_text.result w (step_of c.args.event.now (option_copied c.args.cut)) c.args.reported c.args.world.now c.apply.new.self initial _ _ c.clear.new.self.items c.apply.new.out.items c.args.line_report.now.text.items c.append_text.new.line_report.text.items
+    c.clear.ensures.items c.requires (c.in-Ok.ensures.applied w is) c.append_text.ensures.told c.append_text.ensures.memory is stands
 
 pub returns-in-Ok-clause-goes_on : goal.returns-in-Ok-clause-goes_on
 returns-in-Ok-clause-goes_on g c =
-    goes_on c.tell.result c.args.world.now c.apply.new.self _ _
+    goes_on c.append_text.result c.args.world.now c.apply.new.self _ _
     (λ w is. applied_goes w (step_of c.args.event.now (option_copied c.args.cut)) c.args.reported c.args.world.now c.apply.new.self _ _ c.clear.new.self.items c.apply.new.out.items (c.in-Ok.ensures.applied w is))
 
 pub returns-in-Err-Memory-clause-played : goal.returns-in-Err-Memory-clause-played
@@ -19,17 +19,17 @@ returns-in-Err-Memory-clause-played g c = λ w initial is stands.
 
 pub returns-in-Err-Flash-clause-played : goal.returns-in-Err-Flash-clause-played
 returns-in-Err-Flash-clause-played g c = λ w initial is stands.
-    stopped_in w (step_of c.args.event.now (option_copied c.args.cut)) c.args.reported c.args.world.now c.in-Err-Flash.field-0-0 initial _ _ c.args.told.now.text.items c.args.told.now.text.items
+    stopped_in w (step_of c.args.event.now (option_copied c.args.cut)) c.args.reported c.args.world.now c.in-Err-Flash.field-0-0 initial _ _ c.args.line_report.now.text.items c.args.line_report.now.text.items
     c.requires is (not_full _ _ w.events (ap Err c.in-Err-Flash.field-0-is) is.few_events (λ e. inl (c.in-Err-Flash.ensures.full w is e))) (c.in-Err-Flash.ensures.flash c.in-Err-Flash.field-0-0 (ap Err c.in-Err-Flash.field-0-is) w is) refl stands
 
 pub returns-in-Err-TooMany-clause-played : goal.returns-in-Err-TooMany-clause-played
 returns-in-Err-TooMany-clause-played g c = λ w initial is stands.
-    not_applied w (step_of c.args.event.now (option_copied c.args.cut)) c.args.reported c.args.world.now initial _ _ c.args.told.now.text.items c.args.told.now.text.items
+    not_applied w (step_of c.args.event.now (option_copied c.args.cut)) c.args.reported c.args.world.now initial _ _ c.args.line_report.now.text.items c.args.line_report.now.text.items
     is (c.in-Err-TooMany.ensures.too_many (ap Err c.in-Err-TooMany.field-0-is) w is) (c.in-Err-TooMany.ensures.unchanged (inl (ap Err c.in-Err-TooMany.field-0-is))).1 refl stands
 
 pub returns-in-Err-NoImage-clause-played : goal.returns-in-Err-NoImage-clause-played
 returns-in-Err-NoImage-clause-played g c = λ w initial is stands.
-    ended_in w (step_of c.args.event.now (option_copied c.args.cut)) c.args.reported c.args.world.now initial _ _ c.args.told.now.text.items c.requires is (c.in-Err-NoImage.ensures.no_image (ap Err c.in-Err-NoImage.field-0-is) w is) stands
+    ended_in w (step_of c.args.event.now (option_copied c.args.cut)) c.args.reported c.args.world.now initial _ _ c.args.line_report.now.text.items c.requires is (c.in-Err-NoImage.ensures.no_image (ap Err c.in-Err-NoImage.field-0-is) w is) stands
 
 pub returns-in-Err-NotAVolume-clause-played : goal.returns-in-Err-NotAVolume-clause-played
 returns-in-Err-NotAVolume-clause-played g c = λ w initial is stands. c.in-Err-NotAVolume.ensures.a_volume (ap Err c.in-Err-NotAVolume.field-0-is)

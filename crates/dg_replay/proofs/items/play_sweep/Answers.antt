@@ -8,7 +8,7 @@ use Rattle.dg_replay.proofs.items.play_sweep.Goals as goal
 pub loop-link-init : goal.loop-link-init
 loop-link-init g c =
     let boards = map g.N.Nor.device c.args.boards.now.items in
-    let told = c.args.told.now.text.items in
+    let told = c.args.line_report.now.text.items in
     subst (λ (xs : List Item). PlayedSoFar xs c.args.world.now c.args.world.now boards boards told told) (sym sweep_none) (so_far_none c.args.world.now boards told)
 
 pub play_both-requires : goal.play_both-requires
@@ -22,10 +22,10 @@ returns-in_err-play_both-clause-played g c =
     let links = c.args.links.now in
     let i = c.loop-link.link-index in
     rw (p.1, p.2)
-    (so_far_stop c.in_err-play_both.field-0.0 (sweep (take i links)) _ (sweep (drop (i + 1) links)) (sweep links) c.args.world.now c.loop-link.world c.play_both.new.world _ _ _ c.args.told.now.text.items c.loop-link.told.text.items c.play_both.new.told.text.items
+    (so_far_stop c.in_err-play_both.field-0.0 (sweep (take i links)) _ (sweep (drop (i + 1) links)) (sweep links) c.args.world.now c.loop-link.world c.play_both.new.world _ _ _ c.args.line_report.now.text.items c.loop-link.line_report.text.items c.play_both.new.line_report.text.items
     c.loop-link.invariant c.in_err-play_both.ensures.played (sweep_at links i _ c.loop-link-test.true))
 
 pub loop-link-preserved : goal.loop-link-preserved
 loop-link-preserved g c =
-    sweep_goes_on c.args.links.now c.loop-link.link-index _ c.args.world.now c.loop-link.world c.play_both.new.world _ _ _ c.args.told.now.text.items c.loop-link.told.text.items c.play_both.new.told.text.items
+    sweep_goes_on c.args.links.now c.loop-link.link-index _ c.args.world.now c.loop-link.world c.play_both.new.world _ _ _ c.args.line_report.now.text.items c.loop-link.line_report.text.items c.play_both.new.line_report.text.items
     c.loop-link-test.true c.loop-link.invariant c.in_ok-play_both.ensures.goes_on c.in_ok-play_both.ensures.played

@@ -7,4 +7,4 @@ use Rattle.dg_replay.proofs.items.play_sweep.Given as goal
 -- the rounds over so many links are played
 abbrev pub invariant-loop-link : goal.invariant-loop-link
 invariant-loop-link g l =
-    PlayedSoFar (unreported (sweep (take l.link-index l.links))) l.fn.world l.world (map g.N.Nor.device l.fn.boards.items) (map g.N.Nor.device l.boards.items) l.fn.told.text.items l.told.text.items
+    PlayedSoFar (unreported (sweep (take l.link-index l.links))) l.fn.world l.world (map g.N.Nor.device l.fn.boards.items) (map g.N.Nor.device l.boards.items) l.fn.line_report.text.items l.line_report.text.items

@@ -7,4 +7,4 @@ use Rattle.dg_replay.proofs.items.play_sweeps.Given as goal
 -- so many sweeps are played
 abbrev pub invariant-loop : goal.invariant-loop
 invariant-loop g l =
-    PlayedSoFar (unreported (times l.counter (sweep l.links))) l.fn.world l.world (map g.N.Nor.device l.fn.boards.items) (map g.N.Nor.device l.boards.items) l.fn.told.text.items l.told.text.items
+    PlayedSoFar (unreported (times l.counter (sweep l.links))) l.fn.world l.world (map g.N.Nor.device l.fn.boards.items) (map g.N.Nor.device l.boards.items) l.fn.line_report.text.items l.line_report.text.items

@@ -60,9 +60,9 @@ returns-in-Narrow-clause-played g c = λ basis behind stood.
     let at = narrow_at p.place e.mote (rw e.is at m.stands) in
     rw e.is (narrow_played p _ behind.lines behind.world e.mote _ basis.boards _ (rw e.is at m.stands) (rw e.is at m.fits) at.0.0 at.1 refl c.narrow.ensures stood)
 
-pub returns-in-Happens-clause-played : goal.returns-in-Happens-clause-played
-returns-in-Happens-clause-played g c = λ basis behind stood.
-    let e = c.in-Happens in
+pub returns-in-Event-clause-played : goal.returns-in-Event-clause-played
+returns-in-Event-clause-played g c = λ basis behind stood.
+    let e = c.in-Event in
     let m = c.requires.may in
     let p = c.args.player.now in
     let cut = c.as_ref-cut in
@@ -89,7 +89,7 @@ returns-in-Sweeps-clause-played g c = λ basis behind stood.
 pub play_event-requires : goal.play_event-requires
 play_event-requires g c =
     let m = c.requires.may in
-    let e = c.in-Happens in
+    let e = c.in-Event in
     let p = c.args.player.now in
     let cut = c.as_ref-cut in
     step_asked p _ e.event (option_copied cut.result) m.ready (rw e.is at m.stands) (rw e.is at m.fits) (rw e.is at m.played) cut.ensures.value

@@ -3,7 +3,7 @@ use Rattle.dg_base.specs.Outside.{Puts, PutsFront}
 use Rattle.dg_serve.specs.Served.{Outside, outside}
 use Rattle.dg_serve.specs.Traces.{lines_text, head_lines}
 use Rattle.dg_serve.specs.declared.stop.Stop.TheVariants as stop
-use Rattle.dg_serve.proofs.HappenLemmas.{err_is}
+use Rattle.dg_serve.proofs.ApplyLemmas.{err_is}
 use Rattle.dg_serve.proofs.OpenLemmas.{none_at, none_many, opens_err, open_hindered, nothing_put, head_is}
 use Rattle.dg_serve.proofs.serving.open_service.Goals as goal
 
@@ -51,7 +51,7 @@ returns g c = record {
     motes = none_many c.in_ok-motes.motes.items c.args.profile.now.motes c.in_ok-motes.ensures;
     off = λ m. none_at c.in_ok-motes.motes.items c.args.profile.now.motes m c.in_ok-motes.ensures;
     moment = c.begin-timeline.ensures.moment;
-    words = c.begin-timeline.ensures.words;
+    draws = c.begin-timeline.ensures.draws;
     told = c.begin-timeline.ensures.told;
     known = c.begin-timeline.ensures.reached;
     addressees_are = c.in_ok-open.ensures.opens.2;

@@ -1,7 +1,7 @@
 use Rattle.std.proofs.Common.{◌≡◌, ℕ, List, [], ◌++◌, ap, ◌∙◌, rules}
 use Rattle.dg_volume.specs.Store.{held}
 use Rattle.dg_boot.proofs.BootLemmas.{mounted_looked}
-use Rattle.dg_tool.specs.Verbs.{commits_told, kept_lines}
+use Rattle.dg_tool.specs.Verbs.{commits_text, kept_lines}
 use Rattle.dg_tool.proofs.ComesLemmas.{reads_err}
 use Rattle.dg_tool.proofs.TextLemmas.{behind_none}
 use Rattle.dg_tool.proofs.KeptLemmas.{golden_here, golden_line, made_ok}
@@ -19,4 +19,4 @@ returns-clause-told g c = λ s mounted.
     let empty : c.new-text.result.items ≡ [] = search rules in
     let third = c.in_ok-push_images.ensures.told s (mounted_looked s _ _ c.args.volume.now c.in_ok-golden.ensures.ends mounted) in
     third
-    ∙ ap (λ (t : List ℕ). t ++ kept_lines s) (second ∙ ap (λ (t : List ℕ). t ++ commits_told s) (behind_none _ _ _ _ empty first (golden_line (held s 0) x.kept _ _ x.here told.0 told.1)))
+    ∙ ap (λ (t : List ℕ). t ++ kept_lines s) (second ∙ ap (λ (t : List ℕ). t ++ commits_text s) (behind_none _ _ _ _ empty first (golden_line (held s 0) x.kept _ _ x.here told.0 told.1)))

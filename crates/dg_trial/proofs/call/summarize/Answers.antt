@@ -27,11 +27,11 @@ returns-in-Ok g c = λ seed initial w run count is stands.
     let read2 = (c.deref-in-Ok.ensures.value ∙ c.in-Ok.ensures.finished w is ∙ ap (λ (xs : List Report). xs ++ final_lines w) c.new-reports.ensures.items) in (
       record { last = w; run = run; count = count; boards = stands_read w initial _ _ c.finish.ensures.boards c.in-Ok.ensures.calm (c.finish.ensures.others w is) stands },
       record {
-        motes_told = refl;
-        pages_told = refl;
-        sweeps_told = c.sweeps_of.ensures;
-        events_told = c.count_events.ensures w.events _ read;
-        whole_told = c.count_whole.ensures ∙ whole_read c.args.pages seed w _ c.requires.some_pages read2;
+        motes_reported = refl;
+        pages_reported = refl;
+        sweeps_reported = c.sweeps_of.ensures;
+        events_reported = c.count_events.ensures w.events _ read;
+        whole_reported = c.count_whole.ensures ∙ whole_read c.args.pages seed w _ c.requires.some_pages read2;
       },
     )
 

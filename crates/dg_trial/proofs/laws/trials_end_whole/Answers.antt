@@ -8,7 +8,7 @@ returns c =
       boots = c.a_start_ends.ensures;
       agrees = c.agreement_is_kept.ensures.stepped;
       free = c.a_free_event_keeps_a_good_world.ensures;
-      spend = c.a_free_event_happens.ensures.spends;
+      spend = c.a_free_event_can_be_applied.ensures.spends;
     } in
     let laws : WholeLaws = record {
       moving = moving;

@@ -1,6 +1,6 @@
 use Rattle.std.proofs.Common.{Option, List, ◌∷◌, [], map, refl, sym, ap, subst, ◌∙◌, arith}
 use Rattle.dg_base.specs.declared.events.Cut.{Cut as PowerCut}
-use Rattle.dg_seed.specs.Words.{generator_of}
+use Rattle.dg_seed.specs.Draws.{generator_of}
 use Rattle.dg_world.specs.Occasions.{step_of}
 use Rattle.dg_trial.specs.Schedule.{Part, only, disturbance}
 use Rattle.dg_trial.specs.Playing.{MayPlayOver, PartsPlay}
@@ -20,7 +20,7 @@ pub play_step-requires : goal.play_step-requires
 play_step-requires g c =
     let motes = c.args.motes in
     let part : Part = disturbance motes c.next-first.result c.next-second.result c.next-third.result in
-    let one = one_disturbance motes (generator_of c.args.words.now) _ _ _ c.next-first.result c.next-second.result c.next-third.result c.next-first.ensures.step c.next-second.ensures.step c.next-third.ensures.step in
+    let one = one_disturbance motes (generator_of c.args.draws.now) _ _ _ c.next-first.result c.next-second.result c.next-third.result c.next-first.ensures.step c.next-second.ensures.step c.next-third.ensures.step in
     let may : MayPlayOver motes c.args.world.now (map g.N.Nor.device c.args.boards.now.items) (part ∷ []) = subst (λ (ps : List Part). MayPlayOver motes c.args.world.now (map g.N.Nor.device c.args.boards.now.items) ps) one.0 c.requires.may in
     let step = c.in-Ok.step in
     let only_it = may_only motes _ _ step part may (sym (c.in-Ok.ensures ∙ ap part (c.frames_sent-sent.ensures _ may.world may.is))) in
@@ -31,17 +31,17 @@ pub returns-in-Ok-clause-played : goal.returns-in-Ok-clause-played
 returns-in-Ok-clause-played g c =
     let motes = c.args.motes in
     let part : Part = disturbance motes c.next-first.result c.next-second.result c.next-third.result in
-    let one = one_disturbance motes (generator_of c.args.words.now) _ _ _ c.next-first.result c.next-second.result c.next-third.result c.next-first.ensures.step c.next-second.ensures.step c.next-third.ensures.step in
+    let one = one_disturbance motes (generator_of c.args.draws.now) _ _ _ c.next-first.result c.next-second.result c.next-third.result c.next-first.ensures.step c.next-second.ensures.step c.next-third.ensures.step in
     subst (λ (ps : List Part). PartsPlay c.play_step.result ps c.args.world.now c.play_step.new.world (map g.N.Nor.device c.args.boards.now.items) (map g.N.Nor.device c.play_step.new.boards.items)) (sym one.0)
     (c.play_step.ensures part (λ w is. sym (c.in-Ok.ensures ∙ ap part (c.frames_sent-sent.ensures _ w is)) ∙ ap (step_of c.in-Ok.step.event) (sym c.as_ref.ensures.value)))
 
 pub returns-in-Ok-clause-drawn : goal.returns-in-Ok-clause-drawn
 returns-in-Ok-clause-drawn g c =
-    sym (one_disturbance c.args.motes (generator_of c.args.words.now) _ _ _ c.next-first.result c.next-second.result c.next-third.result c.next-first.ensures.step c.next-second.ensures.step c.next-third.ensures.step).1
+    sym (one_disturbance c.args.motes (generator_of c.args.draws.now) _ _ _ c.next-first.result c.next-second.result c.next-third.result c.next-first.ensures.step c.next-second.ensures.step c.next-third.ensures.step).1
 
 pub returns-in-Err-clause-played : goal.returns-in-Err-clause-played
 returns-in-Err-clause-played g c = λ w initial is stands. nothing_played w _ initial _ _ refl stands
 
 pub returns-in-Err-clause-drawn : goal.returns-in-Err-clause-drawn
 returns-in-Err-clause-drawn g c =
-    sym (one_disturbance c.args.motes (generator_of c.args.words.now) _ _ _ c.next-first.result c.next-second.result c.next-third.result c.next-first.ensures.step c.next-second.ensures.step c.next-third.ensures.step).1
+    sym (one_disturbance c.args.motes (generator_of c.args.draws.now) _ _ _ c.next-first.result c.next-second.result c.next-third.result c.next-first.ensures.step c.next-second.ensures.step c.next-third.ensures.step).1

@@ -1,13 +1,13 @@
 use Rattle.std.proofs.Common.{◌≡◌, map}
-use Rattle.dg_seed.specs.Words.{generator_of}
+use Rattle.dg_seed.specs.Draws.{generator_of}
 use Rattle.dg_trial.specs.Schedule.{drawn}
 use Rattle.dg_trial.proofs.PartLemmas.{SoFar}
 use Rattle.dg_trial.proofs.LoopLemmas.{disturbed_front}
 use Rattle.dg_trial.proofs.playing.play_disturbances.Given as goal
 
--- so many disturbances are played, and three words were drawn for each
+-- so many disturbances are played, and three draws were taken for each
 abbrev pub invariant-loop : goal.invariant-loop
 invariant-loop g l = record {
-  words : generator_of l.words ≡ drawn l.counter (generator_of l.fn.words);
-  played : SoFar (disturbed_front l.motes (generator_of l.fn.words) l.counter) l.fn.world l.world (map g.N.Nor.device l.fn.boards.items) (map g.N.Nor.device l.boards.items);
+  draws : generator_of l.draws ≡ drawn l.counter (generator_of l.fn.draws);
+  played : SoFar (disturbed_front l.motes (generator_of l.fn.draws) l.counter) l.fn.world l.world (map g.N.Nor.device l.fn.boards.items) (map g.N.Nor.device l.boards.items);
 }

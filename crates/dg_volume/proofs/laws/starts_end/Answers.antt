@@ -2,10 +2,10 @@ use Rattle.dg_volume.proofs.StartEndLemmas.{count_last, counted_ends, golden_is,
 use Rattle.dg_volume.proofs.laws.starts_end.Goals as goal
 
 pub returns-clause-count : goal.returns-clause-count
-returns-clause-count c kind s = count_last kind s
+returns-clause-count c cause s = count_last cause s
 
 pub returns-clause-counted : goal.returns-clause-counted
-returns-clause-counted c kind s = counted_ends kind s
+returns-clause-counted c cause s = counted_ends cause s
 
 pub returns-clause-order : goal.returns-clause-order
 returns-clause-order c s golden waits fine = order_ends s golden waits fine

@@ -10,12 +10,12 @@ use Rattle.dg_world.specs.Worlds.{MoteStands, SiteStands, MayRun}
 use Rattle.dg_world.specs.declared.world.RunningMote.{RunningMote}
 use Rattle.dg_world.specs.Cuts.{ended, EventPlayed}
 use Rattle.dg_world.specs.Hosts.{host}
-use Rattle.dg_world.specs.Tellings.{turned, ended_as}
+use Rattle.dg_world.specs.Outcomes.{turned, ended_as}
 use Rattle.dg_world.proofs.CutLemmas.{is_fused, fused, played_as}
 use Rattle.dg_world.proofs.UnseenLemmas.{ended_on}
 use Rattle.std.proofs.Common.{Ok}
 use Rattle.dg_world.specs.Known.{IsKnownChip, EventSees, EventReads}
-use Rattle.dg_world.specs.declared.telling.Power.TheVariants as power
+use Rattle.dg_world.specs.declared.outcome.Power.TheVariants as power
 use Rattle.dg_world.proofs.KnownLemmas.{reads_over, stays_done, when_ok}
 use Rattle.dg_world.proofs.cutting.play_cut.Goals as goal
 
@@ -26,8 +26,8 @@ begun a d v x same stands = record {
   mote = subst (λ (c : List ℕ). MoteStands c v x.store x.runs) (sym same) stands.mote;
 }
 
-pub happen-done-requires-clause-may : goal.happen-done-requires-clause-may
-happen-done-requires-clause-may g c =
+pub apply_event-done-requires-clause-may : goal.apply_event-done-requires-clause-may
+apply_event-done-requires-clause-may g c =
     let made = ap (λ (d : Device). d.image) c.fuse_of-fused.ensures.device in
     let o = c.args.occasion.now in
     let may = c.requires.may in
@@ -44,17 +44,17 @@ returns-clause-played g c = λ w on.
     let cut = c.args.cut.now in
     let made = c.fuse_of-fused.ensures.device in
     let v = c.args.runs.now in
-    let u = c.happen-done.new.runs in
-    let t = c.happen-done.new.telling in
-    let name = sym (same_reference device c.fuse_of-fused.result c.happen-done.new.board c.happen-done.ensures.same_reference ∙ c.fuse_of-fused.ensures.same_reference) in
+    let u = c.apply_event-done.new.runs in
+    let t = c.apply_event-done.new.outcome in
+    let name = sym (same_reference device c.fuse_of-fused.result c.apply_event-done.new.board c.apply_event-done.ensures.same_reference ∙ c.fuse_of-fused.ensures.same_reference) in
     let last = c.board-1.given.1 name in
     let here = begun (device c.args.board.now) _ v (site w m) (ap (λ (d : Device). d.image) made) on.stands in
-    let f = is_fused device cut (device c.args.board.now) c.fuse_of-fused.result c.happen-done.new.board _ c.requires.cut.counted made in
-    let p = fused (turned c.happen-done.result t) cut w m (does w c.args.event.now) v u _ _ _ _ f (c.happen-done.ensures.ends w (record { shared = on.shared; stands = here; moment = on.moment })) in
+    let f = is_fused device cut (device c.args.board.now) c.fuse_of-fused.result c.apply_event-done.new.board _ c.requires.cut.counted made in
+    let p = fused (turned c.apply_event-done.result t) cut w m (does w c.args.event.now) v u _ _ _ _ f (c.apply_event-done.ensures.ends w (record { shared = on.shared; stands = here; moment = on.moment })) in
     let awake = c.is_stopped-stopped.ensures ∙ ap (λ (x : g.row.N.Denot). (device x).stopped) last in
     let e = c.end_turn.ensures t
-    ∙ ap (λ b. ended (b && not c.is_stopped-stopped.result) (turned c.happen-done.result t)) c.blown-blown.ensures
-    ∙ ap (λ b. ended (c.happen-done.new.board.blown && not b) (turned c.happen-done.result t)) awake in
+    ∙ ap (λ b. ended (b && not c.is_stopped-stopped.result) (turned c.apply_event-done.result t)) c.blown-blown.ensures
+    ∙ ap (λ b. ended (c.apply_event-done.new.board.blown && not b) (turned c.apply_event-done.result t)) awake in
     let P : g.row.N.Denot → Type 0 = λ x. EventPlayed (ended_as c.end_turn.result t) w m (does w c.args.event.now) (Some cut) (host (device c.args.board.now) v) (host (device x) u) in
     subst P (sym last) (played_as (ended_as c.end_turn.result t) _ (Some cut) (Some cut) w m (does w c.args.event.now) v u _ _ e refl p)
 
@@ -62,34 +62,34 @@ pub returns-clause-unseen : goal.returns-clause-unseen
 returns-clause-unseen g c = λ w on unseen.
     let device = g.N.Nor.device in
     let made = c.fuse_of-fused.ensures.device in
-    let name = sym (same_reference device c.fuse_of-fused.result c.happen-done.new.board c.happen-done.ensures.same_reference ∙ c.fuse_of-fused.ensures.same_reference) in
+    let name = sym (same_reference device c.fuse_of-fused.result c.apply_event-done.new.board c.apply_event-done.ensures.same_reference ∙ c.fuse_of-fused.ensures.same_reference) in
     let last = c.board-1.given.1 name in
     let here = begun (device c.args.board.now) _ c.args.runs.now (site w (mote_of c.args.event.now)) (ap (λ (d : Device). d.image) made) on.stands in
-    let stays = c.happen-done.ensures.unseen w (record { shared = on.shared; stands = here; moment = on.moment }) unseen in
-    (last ∙ ap inner_of stays.0 ∙ c.fuse_of-fused.ensures.inner, ended_on c.end_turn.result c.happen-done.result _ c.happen-done.new.telling (c.end_turn.ensures c.happen-done.new.telling) stays.1)
+    let stays = c.apply_event-done.ensures.unseen w (record { shared = on.shared; stands = here; moment = on.moment }) unseen in
+    (last ∙ ap inner_of stays.0 ∙ c.fuse_of-fused.ensures.inner, ended_on c.end_turn.result c.apply_event-done.result _ c.apply_event-done.new.outcome (c.end_turn.ensures c.apply_event-done.new.outcome) stays.1)
 
 pub returns-clause-reads : goal.returns-clause-reads
 returns-clause-reads g c =
     let device = g.N.Nor.device in
     let made = c.fuse_of-fused.ensures.device in
-    let t = c.happen-done.new.telling in
-    let name = sym (same_reference device c.fuse_of-fused.result c.happen-done.new.board c.happen-done.ensures.same_reference ∙ c.fuse_of-fused.ensures.same_reference) in
+    let t = c.apply_event-done.new.outcome in
+    let name = sym (same_reference device c.fuse_of-fused.result c.apply_event-done.new.board c.apply_event-done.ensures.same_reference ∙ c.fuse_of-fused.ensures.same_reference) in
     let last = c.board-1.given.1 name in
-    let y = c.happen-done.new.board in
+    let y = c.apply_event-done.new.board in
     let P : g.row.N.Denot → Type 0 = λ x. EventReads c.args.event.now c.args.occasion.now.known (c.end_turn.result ≡ Ok power.Stays) t.refused (device c.args.board.now) (device x) in
     subst P (sym last)
-    (reads_over c.args.event.now c.args.occasion.now.known _ (c.end_turn.result ≡ Ok power.Stays) t.refused _ (fused_device device y) (device c.args.board.now) (device (inner_of y)) (λ is. stays_done c.end_turn.result c.happen-done.result _ t (c.end_turn.ensures t) is)
-    (ap (λ (d : Device). d.image) made) refl (ap (λ (d : Device). d.taken) made) refl c.happen-done.ensures.reads)
+    (reads_over c.args.event.now c.args.occasion.now.known _ (c.end_turn.result ≡ Ok power.Stays) t.refused _ (fused_device device y) (device c.args.board.now) (device (inner_of y)) (λ is. stays_done c.end_turn.result c.apply_event-done.result _ t (c.end_turn.ensures t) is)
+    (ap (λ (d : Device). d.image) made) refl (ap (λ (d : Device). d.taken) made) refl c.apply_event-done.ensures.reads)
 
 pub returns-clause-sees : goal.returns-clause-sees
 returns-clause-sees g c = λ is.
     let device = g.N.Nor.device in
     let made = c.fuse_of-fused.ensures.device in
-    let t = c.happen-done.new.telling in
-    let name = sym (same_reference device c.fuse_of-fused.result c.happen-done.new.board c.happen-done.ensures.same_reference ∙ c.fuse_of-fused.ensures.same_reference) in
+    let t = c.apply_event-done.new.outcome in
+    let name = sym (same_reference device c.fuse_of-fused.result c.apply_event-done.new.board c.apply_event-done.ensures.same_reference ∙ c.fuse_of-fused.ensures.same_reference) in
     let last = c.board-1.given.1 name in
-    let y = c.happen-done.new.board in
-    let u = c.happen-done.new.runs in
+    let y = c.apply_event-done.new.board in
+    let u = c.apply_event-done.new.runs in
     let P : g.row.N.Denot → Type 0 = λ x. EventSees c.args.event.now t u (device c.args.board.now).image (device x).image in
-    let sees = when_ok c.happen-done.result c.happen-done.ensures.sees (stays_done c.end_turn.result c.happen-done.result _ t (c.end_turn.ensures t) is) in
+    let sees = when_ok c.apply_event-done.result c.apply_event-done.ensures.sees (stays_done c.end_turn.result c.apply_event-done.result _ t (c.end_turn.ensures t) is) in
     subst P (sym last) (subst (λ (i : List ℕ). EventSees c.args.event.now t u i (device (inner_of y)).image) (ap (λ (d : Device). d.image) made) sees)

@@ -2,8 +2,8 @@ use Rattle.std.proofs.Common.{◌≡◌, ℕ, List, ◌-◌, ◌++◌, ap, sym, 
 use Rattle.std.specs.Prelude.{option_to_list}
 use Rattle.dg_volume.specs.Sizes.{images}
 use Rattle.dg_script.specs.declared.report.Report.{Report}
-use Rattle.dg_world.specs.Finished.{keeps_shown}
-use Rattle.dg_world.proofs.ShownLemmas.{told_then}
+use Rattle.dg_world.specs.Finished.{kept_reports}
+use Rattle.dg_world.proofs.ChipReportLemmas.{told_then}
 use Rattle.dg_world.proofs.FinishLemmas.{keeps_with}
 use Rattle.dg_world.proofs.finish.push_keeps.Goals as goal
 
@@ -13,8 +13,8 @@ loop-image-preserved c =
     let line = ap option_to_list c.kept_line-line.ensures in
     record {
       told = told_then c.args.out.now.items c.loop-image.out.items c.push_line.new.out.items _ _ _ i.told c.push_line.ensures.told
-          (ap (λ (l : List Report). keeps_shown c.args.mote c.args.shown.now (c.loop-image.image - 1) ++ l) line ∙ sym (keeps_with c.args.mote c.args.shown.now c.loop-image.image i.some));
-      room = c.push_line.ensures.room ∙ i.room;
+          (ap (λ (l : List Report). kept_reports c.args.mote c.args.chip_report.now (c.loop-image.image - 1) ++ l) line ∙ sym (keeps_with c.args.mote c.args.chip_report.now c.loop-image.image i.some));
+      room = c.push_line.ensures.capacity ∙ i.room;
       few = omega (arith, i.few, c.push_line.ensures.few);
       some = omega (arith, i.some);
     }
@@ -22,4 +22,4 @@ loop-image-preserved c =
 pub returns-clause-told : goal.returns-clause-told
 returns-clause-told c =
     let e : c.loop-image.image - 1 ≡ images - 1 = omega (arith, c.loop-image.auto.image-end, c.loop-image-test.false) in
-    c.loop-image.invariant.told ∙ ap (λ (n : ℕ). c.args.out.now.items ++ keeps_shown c.args.mote c.args.shown.now n) e
+    c.loop-image.invariant.told ∙ ap (λ (n : ℕ). c.args.out.now.items ++ kept_reports c.args.mote c.args.chip_report.now n) e

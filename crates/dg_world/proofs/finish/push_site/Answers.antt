@@ -1,7 +1,7 @@
 use Rattle.std.proofs.Common.{◌∷◌, ◌-◌, ap, ◌∙◌, Err}
 use Rattle.dg_volume.specs.Sizes.{images}
 use Rattle.dg_script.specs.declared.report.Report.{Report}
-use Rattle.dg_world.specs.Finished.{keeps_shown}
+use Rattle.dg_world.specs.Finished.{kept_reports}
 use Rattle.dg_world.proofs.FinishLemmas.{site_told, told_behind}
 use Rattle.dg_world.proofs.finish.push_site.Goals as goal
 
@@ -10,6 +10,6 @@ unreachable-requires g c = c.in-Err-NotAVolume.ensures.not_a_volume (ap (λ e. E
 
 pub returns-in-Ok-clause-told : goal.returns-in-Ok-clause-told
 returns-in-Ok-clause-told g c = λ x stands.
-    let shows = c.show.ensures x.store (c.in-Ok.ensures.mounted x.store stands.stands).tells in
+    let is_report = c.report_chip.ensures x.store (c.in-Ok.ensures.mounted x.store stands.stands).tells in
     told_behind _ _ _ _ _ _ c.push_reserved.ensures.items c.push_keeps.ensures.told
-    (ap (λ (r : Report). r ∷ keeps_shown c.args.mote c.show.result (images - 1)) c.mote_line.ensures ∙ site_told _ _ _ _ x stands shows)
+    (ap (λ (r : Report). r ∷ kept_reports c.args.mote c.report_chip.result (images - 1)) c.mote_line.ensures ∙ site_told _ _ _ _ x stands is_report)

@@ -1,5 +1,5 @@
 use Rattle.dg_rules.specs.World.{wide_at}
-use Rattle.dg_world.proofs.HappenLemmas.{knows_by}
+use Rattle.dg_world.proofs.DispatchLemmas.{knows_by}
 use Rattle.dg_world.proofs.knowing.is_known_to.Goals as goal
 
 pub returns : goal.returns

@@ -10,11 +10,11 @@ mote_of_start-requires-clause-free g c = let v = c.in-Ok.ensures.volume in (c.in
 
 pub returns-in-Ok-clause-begun : goal.returns-in-Ok-clause-begun
 returns-in-Ok-clause-begun g c = λ w m old v stands.
-    started w m c.args.kind c.args.id c.args.wide c.args.now c.args.word old v _ _ c.in-Ok.started c.mote_of_start.result c.mote_of_start.ensures (c.in-Ok.ensures.started (store_at w m) stands)
+    started w m c.args.cause c.args.id c.args.wide c.args.now c.args.draw old v _ _ c.in-Ok.started c.mote_of_start.result c.mote_of_start.ensures (c.in-Ok.ensures.started (store_at w m) stands)
 
 pub returns-in-Err-Stopped-clause-halts : goal.returns-in-Err-Stopped-clause-halts
 returns-in-Err-Stopped-clause-halts g c = λ h is w m old v u stands.
-    begin_stopped w m c.args.kind c.args.id c.args.wide c.args.now c.args.word old _ h v u _ _ is (c.in-Err-Stopped.ensures.stopped (ap (λ e. Err e) c.in-Err-Stopped.field-0-is) (store_at w m) stands)
+    begin_stopped w m c.args.cause c.args.id c.args.wide c.args.now c.args.draw old _ h v u _ _ is (c.in-Err-Stopped.ensures.stopped (ap (λ e. Err e) c.in-Err-Stopped.field-0-is) (store_at w m) stands)
 
 pub returns-in-Err-NotAVolume-clause-halts : goal.returns-in-Err-NotAVolume-clause-halts
 returns-in-Err-NotAVolume-clause-halts g c = λ h is w m old v u stands.
@@ -22,7 +22,7 @@ returns-in-Err-NotAVolume-clause-halts g c = λ h is w m old v u stands.
 
 pub returns-in-Err-NoImage-clause-halts : goal.returns-in-Err-NoImage-clause-halts
 returns-in-Err-NoImage-clause-halts g c = λ h is w m old v u stands.
-    begin_lacks w m c.args.kind c.args.id c.args.wide c.args.now c.args.word old _ h v u _ _ is (c.in-Err-NoImage.ensures.no_image (ap (λ e. Err e) c.in-Err-NoImage.field-0-is) (store_at w m) stands)
+    begin_lacks w m c.args.cause c.args.id c.args.wide c.args.now c.args.draw old _ h v u _ _ is (c.in-Err-NoImage.ensures.no_image (ap (λ e. Err e) c.in-Err-NoImage.field-0-is) (store_at w m) stands)
 
 pub returns-in-Ok-clause-powers : goal.returns-in-Ok-clause-powers
 returns-in-Ok-clause-powers g c =

@@ -1,6 +1,6 @@
 use Rattle.std.proofs.Common.{ap, ◌∙◌}
 use Rattle.std.specs.Prelude.{Result, Ok, Err}
-use Rattle.dg_world.specs.declared.telling.Fault.{Fault}
+use Rattle.dg_world.specs.declared.outcome.Fault.{Fault}
 use Rattle.dg_world.proofs.starting.restart.Goals as goal
 
 -- why a result failed, or else this

@@ -1,4 +1,4 @@
-use Rattle.dg_world.proofs.HappenLemmas.{none_told}
+use Rattle.dg_world.proofs.DispatchLemmas.{none_told}
 use Rattle.dg_world.proofs.KnownLemmas.{no_value}
 use Rattle.dg_world.proofs.StepLemmas.{unread_told, as_failed}
 use Rattle.std.proofs.Common.{true, None, Option, Bool}

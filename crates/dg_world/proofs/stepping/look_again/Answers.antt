@@ -8,7 +8,7 @@ returns-in_err-volume-clause-told g c = λ s stands.
 
 pub returns-clause-told : goal.returns-clause-told
 returns-clause-told g c = λ s stands.
-    read_told c.orderly.result c.args.mote c.args.before.now s _ _ c.args.out.now.items _ (c.tell_changes.ensures.told s (c.in_ok-volume.ensures.mounted s stands).tells) c.in_ok-volume.ensures.looked
+    read_told c.orderly.result c.args.mote c.args.before.now s _ _ c.args.out.now.items _ (c.report_changes.ensures.told s (c.in_ok-volume.ensures.mounted s stands).tells) c.in_ok-volume.ensures.looked
 
 pub returns-clause-sees : goal.returns-clause-sees
 returns-clause-sees g c = let v = c.in_ok-volume.ensures.volume in c.orderly.ensures (g.N.Nor.device c.mount_known.new.board).image v.1.control

@@ -1,15 +1,15 @@
 use Rattle.std.proofs.Common.{refl, ap, sym, ◌∙◌, ◌++◌, ◌∷◌, [], Ok, Some, None, Option, List, ℕ, subst, rules}
 use Rattle.std.specs.List.{filter}
-use Rattle.dg_rules.specs.Changes.{is_told}
+use Rattle.dg_rules.specs.Changes.{is_reported}
 use Rattle.dg_rules.specs.Events.{does, mote_of}
 use Rattle.dg_script.specs.declared.report.Report.TheVariants.{Off}
 use Rattle.dg_world.specs.Occasions.{step_of}
 use Rattle.dg_world.specs.Turns.{turn_lines}
-use Rattle.dg_world.specs.Tellings.{turn_of, ended_as}
+use Rattle.dg_world.specs.Outcomes.{turn_of, ended_as}
 use Rattle.dg_world.specs.Stepped.{Stepped, station}
-use Rattle.dg_world.specs.declared.telling.Power.{Power}
+use Rattle.dg_world.specs.declared.outcome.Power.{Power}
 use Rattle.dg_world.proofs.CutLemmas.{played_as}
-use Rattle.dg_world.proofs.TellingLemmas.{frame_told}
+use Rattle.dg_world.proofs.OutcomeLemmas.{frame_told}
 use Rattle.dg_world.proofs.DoneLemmas.{step_turn, step_cut, step_cut_halts, step_fails, event_mote, told_at}
 use Rattle.dg_world.proofs.UnseenLemmas.{not_stays, not_cut}
 use Rattle.dg_world.proofs.KnownLemmas.{step_sees, cut_sees, play_refused, refused_play, refused_told, refuses_goes, inject_takes, order_takes, order_again, reads_order}
@@ -20,7 +20,7 @@ play_cut-requires-clause-fits g c = let x = c.requires.fits in (x.0, x.1.event, 
 
 pub look_after_cut-requires-clause-known_chip : goal.look_after_cut-requires-clause-known_chip
 look_after_cut-requires-clause-known_chip g c = λ known order.
-    (reads_order c.args.event.now c.args.occasion.now.known _ c.play_cut.new.telling.refused _ _ order c.play_cut.ensures.reads).stays (c.requires.may.known known)
+    (reads_order c.args.event.now c.args.occasion.now.known _ c.play_cut.new.outcome.refused _ _ order c.play_cut.ensures.reads).stays (c.requires.may.known known)
 
 pub returns-in_err-play_cut : goal.returns-in_err-play_cut
 returns-in_err-play_cut g c =
@@ -28,7 +28,7 @@ returns-in_err-play_cut g c =
     let event = c.args.event.now in
     let x = step_of event (Some c.args.cut.now) in
     let m = mote_of event in
-    let t = c.play_cut.new.telling in
+    let t = c.play_cut.new.outcome in
     record {
       steps = λ w fits on.
           let p = played_as _ (ended_as c.play_cut.result t) x.cut (Some c.args.cut.now) w m (does w event) _ _ _ _ (sym (ap (λ r. ended_as r t) c.in_err-play_cut.was)) refl (c.play_cut.ensures.played w on) in
@@ -45,7 +45,7 @@ returns-in-Stays g c =
     let event = c.args.event.now in
     let x = step_of event (Some c.args.cut.now) in
     let m = mote_of event in
-    let t = c.play_cut.new.telling in
+    let t = c.play_cut.new.outcome in
     let a = g.N.Nor.device c.args.board.now in
     let b = g.N.Nor.device c.play_cut.new.board in
     let told = c.args.out.now.items in
@@ -53,8 +53,8 @@ returns-in-Stays g c =
     record {
       steps = λ w fits on.
           let p = played_as _ (ended_as c.play_cut.result t) x.cut (Some c.args.cut.now) w m (does w event) _ _ a b (sym (ap (λ r. ended_as r t) was)) refl (c.play_cut.ensures.played w on) in
-          step_turn w x o.reported _ _ _ (turn_of t) _ _ told c.push_told.new.out.items (event_mote _ event fits.event) on.stands p (frame_told t)
-          (c.push_told.ensures ∙ ap (λ m. told ++ filter (is_told o.reported) (turn_lines m (turn_of t))) c.requires.may.here);
+          step_turn w x o.reported _ _ _ (turn_of t) _ _ told c.push_outcome.new.out.items (event_mote _ event fits.event) on.stands p (frame_told t)
+          (c.push_outcome.ensures ∙ ap (λ m. told ++ filter (is_reported o.reported) (turn_lines m (turn_of t))) c.requires.may.here);
       sees = λ w on.
           let p = played_as _ (ended_as c.play_cut.result t) x.cut (Some c.args.cut.now) w m (does w event) _ _ a b (sym (ap (λ r. ended_as r t) was)) refl (c.play_cut.ensures.played w on) in
           step_sees w o.known c.play_cut.new.runs a.image b.image event t (c.play_cut.ensures.sees was) (play_refused w m (does w event) x.cut _ _ a b (turn_of t) p.ends);
@@ -71,7 +71,7 @@ returns-in_ok-orderly-in-Cut g c =
     let event = c.args.event.now in
     let x = step_of event (Some c.args.cut.now) in
     let m = mote_of event in
-    let t = c.play_cut.new.telling in
+    let t = c.play_cut.new.outcome in
     let a = g.N.Nor.device c.args.board.now in
     let b = g.N.Nor.device c.play_cut.new.board in
     let told = c.args.out.now.items in
@@ -81,7 +81,7 @@ returns-in_ok-orderly-in-Cut g c =
       steps = λ w fits on.
           let p = played_as _ (ended_as c.play_cut.result t) x.cut (Some c.args.cut.now) w m (does w event) _ _ _ _ (sym (ap (λ r. ended_as r t) was)) refl (c.play_cut.ensures.played w on) in
           let P : Option (List ℕ) → Type 0 = λ sent. Stepped (Ok sent) w x o.reported (station a c.args.runs.now told) (station (g.N.Nor.device c.look_after_cut.new.board) None c.push_reserved.new.self.items) in
-          subst P (sym c.new-telling.ensures)
+          subst P (sym c.new-outcome.ensures)
           (step_cut w x o.reported _ _ t.before c.look_after_cut.result _ _ _ _ told c.look_after_cut.new.out.items c.push_reserved.new.self.items p c.in_ok-orderly-in-Cut.was
           (told_at c.look_after_cut.result o.mote m t.before p.ends.leaves.store _ _ _ _ same (c.look_after_cut.ensures.told p.ends.leaves.store p.ends.leaves.stands_for))
           (c.push_reserved.ensures.items ∙ ap (λ m. c.look_after_cut.new.out.items ++ Off m ∷ []) same));
@@ -100,7 +100,7 @@ returns-in_err-orderly-in-Cut g c =
     let event = c.args.event.now in
     let x = step_of event (Some c.args.cut.now) in
     let m = mote_of event in
-    let t = c.play_cut.new.telling in
+    let t = c.play_cut.new.outcome in
     let was = c.in_ok-play_cut.was ∙ ap (λ (y : Power). Ok y) c.in-Cut.is in
     record {
       steps = λ w fits on.

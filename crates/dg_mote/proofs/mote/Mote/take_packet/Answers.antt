@@ -47,7 +47,7 @@ returns-then-not-is_wanted-clause-done g c m s r is mode =
     let n = c.args.name in
     let this = asks_this a.image v m s r x.version x.server x.asking x.job is mode x.is in
     let e = sym (c.is_wanted.ensures.value a.image this.receives.kept r this.receives.stands this.receives.image this.of_version this.receives.next) ∙ c.if-not-is_wanted.true in
-    let full = takes m r s c.args.now c.args.word c.args.packet c.args.bytes.now in
+    let full = takes m r s c.args.now c.args.draw c.args.packet c.args.bytes.now in
     let turn : Turn Heard = cond (is_wanted r n.image n.version n.page c.args.packet) full (dropped m s) in
     subst (λ (y : ModeValue). Done turn a a (record v { mode = y }) heard.Dropped) x.is
     (subst (λ (t : Turn Heard). Done t a a v heard.Dropped) (sym (passed (is_wanted r n.image n.version n.page c.args.packet) full (dropped m s) e)) (dropped_done a v m s is))
@@ -63,8 +63,8 @@ returns-in_err-put-clause-stopped g c = OnErr_from c.from_residual.result (λ m 
     let e = sym (c.is_wanted.ensures.value a.image this.receives.kept r this.receives.stands this.receives.image this.of_version this.receives.next) ∙ c.if-not-is_wanted.false in
     let inside = in_slot c.what_stands_behind_the_commits.ensures.same a.image b.image v.volume s x.job r this.receives is.mounted c.put.ensures.touches (λ h o. c.put.ensures.kept h o) in
     let stops = put_stops c.a_lent_slot_is_filled.ensures.filling_stopped a b v.volume s x.job r this.receives is.mounted inside c.in_err-put.ensures.stopped in
-    subst (λ (t : Turn Heard). Stops t.trail a b) (sym (chosen (is_wanted r n.image n.version n.page c.args.packet) (takes m r s c.args.now c.args.word c.args.packet c.args.bytes.now) (dropped m s) e))
-    (takes_stopped m r this.receives.kept s c.args.now c.args.word c.args.packet c.args.bytes.now a b this.receives.held_here stops))
+    subst (λ (t : Turn Heard). Stops t.trail a b) (sym (chosen (is_wanted r n.image n.version n.page c.args.packet) (takes m r s c.args.now c.args.draw c.args.packet c.args.bytes.now) (dropped m s) e))
+    (takes_stopped m r this.receives.kept s c.args.now c.args.draw c.args.packet c.args.bytes.now a b this.receives.held_here stops))
 
 pub returns-then-from-lt-PACKETS-clause-done : goal.returns-then-from-lt-PACKETS-clause-done
 returns-then-from-lt-PACKETS-clause-done g c m s r is mode =
@@ -84,10 +84,10 @@ returns-then-from-lt-PACKETS-clause-done g c m s r is mode =
     let count : c.count.result ≡ set.len new.got = c.count.ensures.value ∙ ap set.len c.got.ensures.value in
     let less : set.len new.got < packets = omega (arith, count, c.from.ensures, c.if-from-lt-PACKETS.true) in
     let done = took_done a b v m s r x.version x.server c.args.now q x.asking new x.job c.put.new.job bytes known (subst (NamesKnown m.wide) mode is.known) is this inside missing c.in_ok-put.ensures.asking c.put.ensures.same_slot (λ h ps j. c.in_ok-put.ensures.put h ps j) c.in_ok-put.ensures.ran less in
-    let full = takes m r s c.args.now c.args.word q bytes in
+    let full = takes m r s c.args.now c.args.draw q bytes in
     let after : Mote = record v { mode = value.Receive x.version x.server new c.put.new.job } in
     subst (λ (t : Turn Heard). Done t a b after (heard.Took q)) (sym (chosen (is_wanted r n.image n.version n.page q) full (dropped m s) e))
-    (subst (λ (t : Turn Heard). Done t a b after (heard.Took q)) (sym (takes_part m r s c.args.now c.args.word q bytes done.few)) done.done)
+    (subst (λ (t : Turn Heard). Done t a b after (heard.Took q)) (sym (takes_part m r s c.args.now c.args.draw q bytes done.few)) done.done)
 
 pub end_page-requires-clause-whole : goal.end_page-requires-clause-whole
 end_page-requires-clause-whole g c =
@@ -133,11 +133,11 @@ returns-clause-done g c = if_ok c.end_page.result c.end_page.ensures.done (λ an
     let h = this.receives.kept in
     let ps = put_packet r.packets q bytes in
     let page = page_from ps in
-    let full = takes m r s c.args.now c.args.word q bytes in
-    let ends = page_ends m r h s c.args.now c.args.word page in
-    let turn = chosen (is_wanted r n.image n.version n.page q) full (dropped m s) e ∙ takes_whole m r h s c.args.now c.args.word q bytes made.held_here made.all in
+    let full = takes m r s c.args.now c.args.draw q bytes in
+    let ends = page_ends m r h s c.args.now c.args.draw page in
+    let turn = chosen (is_wanted r n.image n.version n.page q) full (dropped m s) e ∙ takes_whole m r h s c.args.now c.args.draw q bytes made.held_here made.all in
     let ran = subst (λ (k : ℕ). Ran k a b) (sym (operations-resting s 1)) c.in_ok-put.ensures.ran in
-    let same = last-resting s 1 ∙ sym (ends_begin m r h s c.args.now c.args.word page).first in
+    let same = last-resting s 1 ∙ sym (ends_begin m r h s c.args.now c.args.draw page).first in
     subst (λ (t : Turn Heard). Done t a d c.end_page.new.self answer) (sym turn)
     (done_behind (resting s 1) ends a b d c.end_page.new.self answer same ran (done m s r h ps made.whole)))
 
@@ -163,11 +163,11 @@ returns-clause-stopped g c = on_err c.end_page.result c.end_page.ensures.stopped
     let h = this.receives.kept in
     let ps = put_packet r.packets q bytes in
     let page = page_from ps in
-    let full = takes m r s c.args.now c.args.word q bytes in
-    let ends = page_ends m r h s c.args.now c.args.word page in
-    let turn = chosen (is_wanted r n.image n.version n.page q) full (dropped m s) e ∙ takes_whole m r h s c.args.now c.args.word q bytes made.held_here made.all in
+    let full = takes m r s c.args.now c.args.draw q bytes in
+    let ends = page_ends m r h s c.args.now c.args.draw page in
+    let turn = chosen (is_wanted r n.image n.version n.page q) full (dropped m s) e ∙ takes_whole m r h s c.args.now c.args.draw q bytes made.held_here made.all in
     let ran = subst (λ (k : ℕ). Ran k a b) (sym (operations-resting s 1)) c.in_ok-put.ensures.ran in
-    let same = last-resting s 1 ∙ sym (ends_begin m r h s c.args.now c.args.word page).first in
+    let same = last-resting s 1 ∙ sym (ends_begin m r h s c.args.now c.args.draw page).first in
     subst (λ (t : Turn Heard). Stops t.trail a d) (sym turn)
     (stops_behind (resting s 1) ends a b d same ran (stopped m s r h ps made.whole)))
 

@@ -11,7 +11,7 @@ use Rattle.dg_script.specs.declared.report.Report.{Report}
 use Rattle.dg_world.specs.Deployments.{deployed}
 use Rattle.dg_world.specs.Known.{known_of, KnownAfter, OrderTakes, InjectTakes}
 use Rattle.dg_world.specs.Occasions.{step_of}
-use Rattle.dg_world.specs.Tellings.{halt_of}
+use Rattle.dg_world.specs.Outcomes.{halt_of}
 use Rattle.dg_world.specs.Worlds.{IsWorld}
 use Rattle.dg_world.specs.declared.world.World.{World}
 use Rattle.dg_world.proofs.ApplyLemmas.{ApplyMade, full_done, lacking_done, made_done}
@@ -96,7 +96,7 @@ returns-in-Ok g c =
     let in_world = event_mote (length asked.0.sites) event asked.2.event in
     let a = device c.index_mut-board.result.now in
     let b = device c.step_at.new.board in
-    let t = c.step_at.new.telling in
+    let t = c.step_at.new.outcome in
     let within : (w : RuleWorld) → IsWorld v bs w → i < length w.sites = λ w is. omega (arith, at, in_world, is_roomy.motes, is.motes) in
     let wide : i < length boards = omega (arith, within asked.0 is_roomy, is_roomy.boards_enough, length-map boards device) in
     let here : slice_get bs i ≡ Some a = got_or device boards i c.index_mut-board.result.now wide ∙ ap (λ (y : g.row.N.Denot). Some (device y)) (sym c.index_mut-board.ensures.value) in
@@ -165,7 +165,7 @@ returns-in-Err g c =
     let in_world = event_mote (length asked.0.sites) event asked.2.event in
     let a = device c.index_mut-board.result.now in
     let b = device c.step_at.new.board in
-    let t = c.step_at.new.telling in
+    let t = c.step_at.new.outcome in
     let within : (w : RuleWorld) → IsWorld v bs w → i < length w.sites = λ w is. omega (arith, at, in_world, is_roomy.motes, is.motes) in
     let wide : i < length boards = omega (arith, within asked.0 is_roomy, is_roomy.boards_enough, length-map boards device) in
     let here : slice_get bs i ≡ Some a = got_or device boards i c.index_mut-board.result.now wide ∙ ap (λ (y : g.row.N.Denot). Some (device y)) (sym c.index_mut-board.ensures.value) in

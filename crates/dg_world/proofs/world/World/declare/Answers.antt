@@ -22,8 +22,8 @@ pub returns-in-Ok-clause-declared : goal.returns-in-Ok-clause-declared
 returns-in-Ok-clause-declared c = λ boards w is.
     let v = c.args.self.now in
     let row = row_of c.args.image c.args.version c.args.name c.args.content in
-    let key : ImageVersion = record { image = c.args.image; version = c.args.version } in
+    let image_version : ImageVersion = record { image = c.args.image; version = c.args.version } in
     let s : Shared = record { images = c.add.new.self; links = v.shared.links; narrow = v.shared.narrow; air = v.shared.air } in
     let u : World = record v { shared = s } in
-    subst (λ (o : Option Row). IsWorld u boards (declared_as o w row)) (sym (unknown_row v.shared.images w.declared key is.shared.declared c.in_default.ensures))
+    subst (λ (o : Option Row). IsWorld u boards (declared_as o w row)) (sym (unknown_row v.shared.images w.declared image_version is.shared.declared c.in_default.ensures))
     (shares v s boards w (w.declared ++ row ∷ []) w.links is (record { declared = c.in-Ok.ensures.added w.declared is.shared.declared; links = is.shared.links; narrow = is.shared.narrow; sent = is.shared.sent }))

@@ -1,0 +1,298 @@
+-- What a replay did: the items that it played, what it wrote, and how it left the boards.
+use Rattle.std.specs.Prelude.{◌≡◌, ◌≢◌, ◌⊎◌, ℕ, ◌+◌, ◌<◌, ◌≤◌, false, List, [], ◌∷◌, ◌++◌, length, map, take, codes, slice_get}
+use Rattle.std.specs.Prelude.{Option, Some, None}
+use Rattle.std.specs.Str.Lines.{lines}
+use Rattle.std.specs.List.{flat_map}
+use Rattle.dg_words.specs.Counts.{Rose}
+use Rattle.dg_base.specs.Outside.{Takes, Puts, AtEnd}
+use Rattle.dg_base.specs.declared.answers.Status.{Status}
+use Rattle.dg_base.specs.declared.answers.Status.TheVariants.{Done, Memory, BadInput, ReadFault, WriteFault, FlashFault}
+use Rattle.dg_base.specs.declared.answers.Status.TheVariants.{NotAVolume, TooLong, TooMany, NoBoard, NoImage}
+use Rattle.dg_nor.specs.Device.{Device}
+use Rattle.dg_script.specs.Report.{report_text}
+use Rattle.dg_script.specs.Fitting.{UsesBoard}
+use Rattle.dg_script.specs.Sizes.{most_used_bytes}
+use Rattle.dg_script.specs.Places.{first_place}
+use Rattle.dg_script.specs.Script.{Script, script_from}
+use Rattle.dg_script.specs.declared.line.Line.{Line}
+use Rattle.dg_script.specs.declared.line.Line.TheVariants.{Motes, Boards}
+use Rattle.dg_object.specs.Object.{Row}
+use Rattle.dg_rules.specs.Sizes.{most_events}
+use Rattle.dg_rules.specs.World.{World}
+use Rattle.dg_rules.specs.Changes.{final_lines}
+use Rattle.dg_rules.specs.Runs.{Played, Plays}
+use Rattle.dg_rules.specs.Begins.{AreShaped}
+use Rattle.dg_script.specs.Items.{Item, items_of}
+use Rattle.dg_replay.specs.Near.{FewBytesBehind}
+use Rattle.dg_volume.specs.Stands.{IsVolume}
+use Rattle.dg_world.specs.Mounted.{StandFor}
+use Rattle.dg_replay.specs.Boards.{BoardsStand, BoardStopped, StoppedIn, EventNext, InSome, NoVolumeIn, LacksImage}
+use Rattle.dg_replay.specs.Items.{Ground, UsesBoards, beginning_of, motes_in, next_items, events_among}
+use Rattle.dg_replay.specs.Around.{Around}
+use Rattle.dg_replay.specs.Stages.{BytesTaken, bytes_taken}
+use Rattle.dg_replay.specs.Ending.{Ending, Ends, NoBoards, TooManyEvents, FaultAt, Over, InBounds, whole_lines, ending_of}
+use Rattle.dg_replay.specs.Ending.{ending_line, status_of, script_of}
+
+abbrev pub item_played : Played → Item
+item_played p = p.item
+
+-- the report lines of what was played
+abbrev pub played_text : List Played → List ℕ
+played_text ps = flat_map (λ p. report_text p.reports) ps
+
+-- a run of the rules from where it begins, which is nowhere before the boards are formatted
+abbrev pub RunsTo : Option World → List Played → Option World → Type 0
+RunsTo None played last = (played ≡ []) × (last ≡ None)
+RunsTo (Some w) played last = (v : World) × (last ≡ Some v) × Plays w played v
+
+-- what the boards of so many motes stand for where they are used as they are, held against this table: a store for each,
+-- in its shape
+pub record IsGround (g : Ground) (table : List Row) (motes : ℕ) : Type 0 where
+  pub held : g.table ≡ table
+  pub count : length g.stores ≡ motes
+  pub shaped : AreShaped g.stores
+
+-- How far a replay came in a script, all of which is held against a table where it uses the boards as they are.
+pub record Progress (table : List Row) (script : Script) : Type 0 where
+  -- what the script does not say, which counts where the boards are used as they are
+  pub ground : Ground
+  -- the lines that were done, and those behind them
+  pub done : List Line
+  pub rest : List Line
+  -- of the items of the next line those that were played, where the replay stopped within it, and the others
+  pub begun : List Item
+  pub left : List Item
+  -- a run of the rules over all that was played, and the world that it leads to, None before the boards are formatted
+  pub played : List Played
+  pub last : Option World
+  pub lines : done ++ rest ≡ script.lines
+  pub parts : next_items done rest ≡ begun ++ left
+  -- nothing is begun of a line of which nothing is left
+  pub within : left ≡ [] → begun ≡ []
+  pub items : map item_played played ≡ items_of done ++ begun
+  pub run : RunsTo (beginning_of ground done).world played last
+  pub grounded : UsesBoards done → IsGround ground table (motes_in done)
+
+-- the end of a report
+abbrev pub closing : Ending → Option World → List ℕ
+closing Ends (Some w) = report_text (final_lines w)
+closing Ends None = []
+closing (NoBoards motes boards) w = ending_line (NoBoards motes boards)
+closing TooManyEvents w = ending_line TooManyEvents
+closing (FaultAt line fault) w = ending_line (FaultAt line fault)
+closing Over w = ending_line Over
+
+-- a million events were played, and the next item is an event
+pub record AtTooMany (left : List Item) (played : List Played) : Type 0 where
+  pub events : events_among (map item_played played) ≡ most_events
+  pub next : EventNext left
+
+-- What comes before the ending was played: everything, up to the `motes` line where boards are missing,
+-- and a million events where there are more.
+abbrev pub ReachesEnding : {table : List Row} {script : Script} → Ending → Progress table script → Type 0
+ReachesEnding (NoBoards motes boards) c = (more : List Line) × (c.rest ≡ Motes motes ∷ more)
+ReachesEnding TooManyEvents c = AtTooMany c.left c.played
+ReachesEnding Ends c = c.rest ≡ []
+ReachesEnding (FaultAt line fault) c = c.rest ≡ []
+ReachesEnding Over c = c.rest ≡ []
+
+-- the report of the script, up to its end
+pub record IsWholeReport {table : List Row} {script : Script} (ending : Ending) (c : Progress table script)
+    (text : List ℕ) : Type 0 where
+  pub all : ReachesEnding ending c
+  pub told : text ≡ played_text c.played ++ closing ending c.last
+
+-- a front of the lines that are reported before the end
+pub record IsFrontOfLines (played : List Played) (text : List ℕ) : Type 0 where
+  pub more : List ℕ
+  pub front : text ++ more ≡ played_text played
+
+-- the last lines that no ending has: the boards end the replay
+abbrev pub no_volume_line : List ℕ
+no_volume_line = codes "notavolume" ++ 10 ∷ []
+
+abbrev pub no_image_line : List ℕ
+no_image_line = codes "noimage" ++ 10 ∷ []
+
+-- Boards that are used as they are end the replay there with this line: the next line uses them,
+-- or the next item is an event behind such a line.
+abbrev pub BoardsEndIt : {table : List Row} {script : Script} → Progress table script → List ℕ → Type 0
+BoardsEndIt c line = ((more : List Line) × (c.rest ≡ Boards ∷ more) × (line ≡ no_volume_line))
+    ⊎ (UsesBoards c.done × EventNext c.left × (line ≡ no_image_line))
+
+-- a front of the report, whose end may have begun
+pub record IsFrontOfReport {table : List Row} {script : Script} (ending : Ending) (c : Progress table script)
+    (text : List ℕ) : Type 0 where
+  pub more : List ℕ
+  pub front : ((text ++ more) ≡ played_text c.played)
+      ⊎ (IsWholeReport ending c (text ++ more) ⊎ ((line : List ℕ) × BoardsEndIt c line
+      × ((text ++ more) ≡ played_text c.played ++ line)))
+
+-- A board is used by the next line, or in reading what the end of the report tells.
+abbrev pub StopsAt : Ending → List Line → Type 0
+StopsAt ending [] = ending ≡ Ends
+StopsAt ending (line ∷ rest) = UsesBoard line
+
+-- what was written, by the status
+abbrev pub Wrote : {table : List Row} {script : Script} → Status → Ending → Progress table script → List ℕ → Type 0
+Wrote Done ending c text = IsWholeReport ending c text
+Wrote BadInput ending c text = IsWholeReport ending c text
+Wrote TooLong ending c text = IsWholeReport ending c text
+Wrote TooMany ending c text = IsWholeReport ending c text
+Wrote NoBoard ending c text = IsWholeReport ending c text
+Wrote Memory ending c text = IsFrontOfLines c.played text
+Wrote WriteFault ending c text = IsFrontOfReport ending c text
+Wrote FlashFault ending c text = (text ≡ played_text c.played) × StopsAt ending c.rest
+Wrote ReadFault ending c text = (text ≡ played_text c.played) × (c.begun ≡ [])
+Wrote NotAVolume ending c text = text ≡ played_text c.played ++ no_volume_line
+Wrote NoImage ending c text = text ≡ played_text c.played ++ no_image_line
+Wrote _ ending c text = ⊥
+
+-- a board is stopped where the replay came to
+abbrev pub BoardStoppedThere : {table : List Row} {script : Script} → Progress table script → (old new : List Device) → Type 0
+BoardStoppedThere c old new = StoppedIn (motes_in c.done) c.rest c.left c.last old new
+
+-- The next line uses the boards as they are, and one of them is no volume.
+pub record NoVolumeThere {table : List Row} {script : Script} (c : Progress table script) (old new : List Device) : Type 0 where
+  pub more : List Line
+  pub next : c.rest ≡ Boards ∷ more
+  pub there : NoVolumeIn (motes_in c.done) old new
+
+-- The next item is an event, which finds no image to start.
+abbrev pub NoImageThere : {table : List Row} {script : Script} → Progress table script → (old new : List Device) → Type 0
+NoImageThere c old new = InSome c.last (λ w. LacksImage w c.left old new)
+
+-- How the boards are left. Where a board stops within a round or sweeps, what is reported of the events before it may fail to be
+-- written, and so may the last line where boards that are used as they are end the replay.
+abbrev pub BoardsLeft : {table : List Row} {script : Script} → Status → Progress table script → (old new : List Device) → Type 0
+BoardsLeft FlashFault c old new = BoardStoppedThere c old new
+BoardsLeft WriteFault c old new = BoardsStand c.last old new
+    ⊎ (((c.begun ≢ []) × BoardStoppedThere c old new) ⊎ (NoVolumeThere c old new ⊎ (UsesBoards c.done × NoImageThere c old new)))
+BoardsLeft NotAVolume c old new = NoVolumeThere c old new
+BoardsLeft NoImage c old new = NoImageThere c old new
+BoardsLeft _ c old new = BoardsStand c.last old new
+
+-- The status is the one that the rules give to the input. Memory alone is free, and a fault of the outside has risen its count.
+abbrev pub IsCaused : Status → Ending → (reads_failed writes_failed board_stopped no_volume no_image : Type 0) → Type 0
+IsCaused Memory ending r w b n i = Unit {0}
+IsCaused ReadFault ending r w b n i = r
+IsCaused WriteFault ending r w b n i = w
+IsCaused FlashFault ending r w b n i = b
+IsCaused NotAVolume ending r w b n i = n
+IsCaused NoImage ending r w b n i = i
+IsCaused status ending r w b n i = status ≡ status_of ending
+
+-- what a replay of a script in its limits answers, whose boards do not stop: it is done, or memory ran out,
+-- or boards that are used as they are lack an image
+abbrev pub IsComplete : (uses : Type 0) → Status → Type 0
+IsComplete uses status = (status ≡ Done) ⊎ ((status ≡ Memory) ⊎ ((status ≡ NoImage) × uses))
+
+-- the boards of so many motes are volumes
+abbrev pub AreVolumes : ℕ → List Device → Type 0
+AreVolumes motes boards = (m : ℕ) (d : Device) → m < motes → slice_get boards m ≡ Some d → IsVolume d.image
+
+-- The ending of these bytes is that of every input that begins with them.
+abbrev pub IsSettled : ℕ → List ℕ → Type 0
+IsSettled boards input = (more : List ℕ) → ending_of boards (input ++ more) ≡ ending_of boards input
+
+-- Every input that begins with these bytes begins with these lines, so that each ends within the bytes.
+abbrev pub AreWhole : List ℕ → List Line → Type 0
+AreWhole input done = (more : List ℕ) → (rest : List Line) × (done ++ rest ≡ (script_of (input ++ more)).lines)
+
+-- and so does the next one
+abbrev pub NextIsWhole : List ℕ → (done rest : List Line) → Type 0
+NextIsWhole input done [] = ⊥
+NextIsWhole input done (line ∷ rest) = AreWhole input (done ++ line ∷ [])
+
+-- so does each line of which something was done
+abbrev pub DoneIsWhole : List ℕ → (done rest : List Line) → (begun : List Item) → Type 0
+DoneIsWhole input done rest [] = AreWhole input done
+DoneIsWhole input done rest (item ∷ begun) = NextIsWhole input done rest
+
+-- These are the lines of these texts, each of which spells one.
+pub record AllRead (texts : List (List ℕ)) (done : List Line) : Type 0 where
+  pub lines : done ≡ (script_from false first_place 1 texts).lines
+  pub fault : (script_from false first_place 1 texts).fault ≡ None
+
+-- These are the lines of all whole lines among the bytes.
+abbrev pub AllWhole : List ℕ → List Line → Type 0
+AllWhole input done = AllRead (lines (whole_lines input)) done
+
+-- What was taken of the input is enough for what was done.
+-- A status of the rules is that of every input that begins with these bytes, or the input is at its end.
+-- A read that failed leaves all whole lines done. Another fault and want of memory leave only whole lines done and begun, or the
+-- input is at its end; the line in which a board stopped is whole too.
+abbrev pub ReadEnough : {table : List Row} {script : Script} → Status → (boards : ℕ) → BytesTaken → Progress table script
+    → (text : List ℕ) → Type 0
+ReadEnough Memory boards taken c text = taken.at_end ⊎ DoneIsWhole taken.bytes c.done c.rest c.begun
+ReadEnough ReadFault boards taken c text = AreWhole taken.bytes c.done × AllWhole taken.bytes c.done
+ReadEnough WriteFault boards taken c text = taken.at_end ⊎ (IsSettled boards taken.bytes
+    ⊎ ((DoneIsWhole taken.bytes c.done c.rest c.begun × IsFrontOfLines c.played text)
+    ⊎ ((line : List ℕ) × BoardsEndIt c line × NextIsWhole taken.bytes c.done c.rest)))
+ReadEnough FlashFault boards taken c text = taken.at_end ⊎ NextIsWhole taken.bytes c.done c.rest
+ReadEnough NotAVolume boards taken c text = taken.at_end ⊎ NextIsWhole taken.bytes c.done c.rest
+ReadEnough NoImage boards taken c text = taken.at_end ⊎ NextIsWhole taken.bytes c.done c.rest
+ReadEnough status boards taken c text = taken.at_end ⊎ IsSettled boards taken.bytes
+
+-- what is reported of so many lines, the first of those that were done
+abbrev pub report_of_lines : {table : List Row} {script : Script} → ℕ → Progress table script → List ℕ
+report_of_lines n c = played_text (take (length (items_of (take n c.done))) c.played)
+
+-- All that is reported of some first lines was written, and what was taken of the input ends near the line behind them.
+pub record ReportedAndNear {table : List Row} {script : Script} (input : List ℕ) (c : Progress table script)
+    (text : List ℕ) : Type 0 where
+  pub lines : ℕ
+  pub within : lines ≤ length c.done
+  pub more : List ℕ
+  pub told : text ≡ report_of_lines lines c ++ more
+  pub near : FewBytesBehind (lines + 1) input
+
+-- what was taken ends near the line whose fault is the ending
+abbrev pub EndsNear : Ending → (input : List ℕ) → Type 0
+EndsNear (FaultAt line fault) input = FewBytesBehind line input
+EndsNear ending input = Unit {0}
+
+-- All of the report before its end was written, and the end was begun.
+pub record EndBegun {table : List Row} {script : Script} (ending : Ending) (input : List ℕ) (c : Progress table script)
+    (text : List ℕ) : Type 0 where
+  pub all : ReachesEnding ending c
+  pub more : List ℕ
+  pub told : text ≡ played_text c.played ++ more
+  pub near : EndsNear ending input
+
+-- Not much more was taken than the lines that were needed: no more than 300,002 bytes behind a line with a fault,
+-- and behind the first line whose report was not wholly written.
+abbrev pub ReadsNear : {table : List Row} {script : Script} → Status → Ending → (input : List ℕ) → Progress table script
+    → (text : List ℕ) → Type 0
+ReadsNear BadInput (FaultAt line fault) input c text = FewBytesBehind line input
+ReadsNear WriteFault ending input c text = ReportedAndNear input c text ⊎ EndBegun ending input c text
+ReadsNear _ ending input c text = Unit {0}
+
+-- What a replay did. Some bytes were taken from the source: the bytes left before it and after it, where they are told,
+-- say which. What was written is told in the same way.
+pub record Replayed (table : List Row) (status : Status) (a b : Around) : Type 0 where
+  -- what was taken of the input, whatever comes of it: no more than one byte past those that are used
+  pub input : List ℕ
+  pub taken : Takes a.left b.left input
+  pub few_bytes : length input ≤ most_used_bytes + 1
+  -- how far its script was played
+  pub came : Progress table (script_of input)
+  -- what was written is the report of that run, or a front of it
+  pub text : List ℕ
+  pub written : Puts a.written b.written text
+  pub report : Wrote status (ending_of (length a.boards) input) came text
+  pub enough : ReadEnough status (length a.boards) (bytes_taken input (AtEnd b.left)) came text
+  pub near : ReadsNear status (ending_of (length a.boards) input) input came text
+  -- nothing behind the ending was done
+  pub limits : InBounds (length a.boards) came.done (map item_played came.played)
+  -- where the boards were used as they are, they stood for the stores from which the run begins
+  pub stood : UsesBoards came.done → StandFor (motes_in came.done) came.ground.stores a.boards
+  -- the boards of the motes stand for that world's stores, but for one that is stopped, and the others are as before
+  pub boards : BoardsLeft status came a.boards b.boards
+  -- the status is the one that the rules give to the input, but for want of memory and faults of the outside
+  pub caused : IsCaused status (ending_of (length a.boards) input) (Rose a.reads b.reads) (Rose a.writes b.writes)
+      (BoardStopped (motes_in came.done) a.boards b.boards) (NoVolumeThere came a.boards b.boards) (UsesBoards came.done
+      × NoImageThere came a.boards b.boards)
+  -- a read or a write that fails is always told: its count rises with its own answer alone
+  pub read_faults : status ≢ ReadFault → b.reads ≡ a.reads
+  pub write_faults : status ≢ WriteFault → b.writes ≡ a.writes
