@@ -11,8 +11,9 @@ ghost use Rattle.dg_drip_run.specs.Playing.{Plays, IsPlaying, GoesOn, DripItemsP
 
 use dg_drip::{DripEvent, KEYS};
 use dg_drip_replay::{DripNetwork, DripReport};
-use dg_drip_script::{DripLine, MOST_EVENTS, Standing, push_report};
+use dg_drip_script::{DripLine, Standing, push_report};
 use dg_rounds::PACE;
+use dg_script::MOST_EVENTS;
 use std::alloc::{AllocError, Global};
 
 /// Why playing stops.

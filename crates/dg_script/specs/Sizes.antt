@@ -14,6 +14,10 @@ most_image = slots - 1
 abbrev pub most_used : ℕ
 most_used = most_room
 
+-- the events of a run
+abbrev pub most_events : ℕ
+most_events = 1000000
+
 -- the sweeps of one line
 abbrev pub most_sweeps : ℕ
 most_sweeps = 1000

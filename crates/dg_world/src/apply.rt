@@ -18,9 +18,7 @@ use crate::stepping::{MOST_LINES, step_at};
 use crate::world::{World, WorldFault};
 use dg_nor::Nor;
 use dg_rules::{Cut, Event, Report, agreement_is_kept, consistency_is_kept};
-
-/// The most events of a run.
-const MOST_EVENTS: u32 = 1_000_000;
+use dg_script::MOST_EVENTS;
 
 impl World {
     /// One step: an event, and the cut that waits for it. What it tells is appended, its `sent` line only where `reported` is
