@@ -22,7 +22,7 @@ use Rattle.dg_rules.specs.World.{World, Running, Site, Sent, site, wide_at, stor
 use Rattle.dg_rules.specs.Events.{Deed, Does, Refuses, Goes, does, mote_of, dt_of, key_of, tick_does, heard_sent, heard_last, unless_off}
 use Rattle.dg_rules.specs.Steps.{WorldStep, StepDoes, and_sent}
 use Rattle.dg_rules.specs.Premises.{WorldAgrees, SentIsWell, TrueEvent}
-use Rattle.dg_rules.specs.Ranges.{EventInRange, StepInRange}
+use Rattle.dg_script.specs.Ranges.{EventInRange, StepInRange}
 use Rattle.dg_rules.proofs.EventLemmas.{RestartLaws, does_cases, running_by}
 use Rattle.dg_rules.proofs.AgreementLemmas.{same_running}
 use Rattle.dg_rules.proofs.AgreementSteps.{step_within}
@@ -85,7 +85,7 @@ ranged w (Hear m dt draw number) good free = elim (cases_lt m (length w.sites)) 
   ]
 ]
 ranged w (Last from m dt draw) good free = elim (cases_Bool (linked w from m)) [
-  | inl link ↦ let ends = link_ends w from m good link in inl (ends.0, ends.1, ends.2)
+  | inl link ↦ let ends = link_ends w from m good link in inl (record { first = ends.0; second = ends.1; two = ends.2 })
   | inr none ↦
       let known = unless_refused (site w m).runs cause.Link in
       inr (known.0, ap (λ b. unless_off (site w m).runs (cond b (heard_last w from m (w.moment + dt) draw (last_frame w from)) (Refuses cause.Link))) none ∙ known.1)

@@ -5,7 +5,7 @@ use Rattle.dg_script.specs.Items.{Item}
 use Rattle.dg_rules.specs.World.{World}
 use Rattle.dg_rules.specs.Changes.{is_reported}
 use Rattle.dg_rules.specs.Runs.{Played, Plays}
-use Rattle.dg_rules.specs.Ranges.{EventInRange}
+use Rattle.dg_script.specs.Ranges.{EventInRange}
 use Rattle.dg_rules.specs.Premises.{WorldAgrees, PlayedInRange, IsTrueThen, LeavesAgreement}
 use Rattle.dg_rules.specs.Begins.{PlaysFrom}
 use Rattle.dg_rounds.specs.Rounds.{times, rounds_of}

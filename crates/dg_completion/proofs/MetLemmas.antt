@@ -14,7 +14,7 @@ use Rattle.dg_rules.specs.World.{World, Running, Site, site, store_at, with_site
 use Rattle.dg_rules.specs.Events.{Deed, Does, Refuses, Goes, does, mote_of, dt_of}
 use Rattle.dg_rules.specs.Steps.{WorldStep, StepDoes, done_world, done_reports}
 use Rattle.dg_rules.specs.Premises.{WorldAgrees, SentIsWell}
-use Rattle.dg_rules.specs.Ranges.{EventInRange}
+use Rattle.dg_script.specs.Ranges.{EventInRange}
 use Rattle.dg_rules.proofs.BootLemmas.{boot_start}
 use Rattle.dg_rules.proofs.EventLemmas.{does_cases, running_by}
 use Rattle.dg_rules.proofs.AgreementSteps.{step_within}

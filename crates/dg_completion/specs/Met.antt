@@ -8,7 +8,7 @@ use Rattle.dg_rules.specs.World.{World, store_at}
 use Rattle.dg_rules.specs.Events.{mote_of}
 use Rattle.dg_rules.specs.Steps.{WorldStep}
 use Rattle.dg_rules.specs.Runs.{Played}
-use Rattle.dg_rules.specs.Ranges.{EventInRange}
+use Rattle.dg_script.specs.Ranges.{EventInRange}
 use Rattle.dg_rules.specs.Premises.{WorldAgrees, OneWidth}
 use Rattle.dg_rules.specs.Begins.{PlaysFrom}
 use Rattle.dg_mote.specs.Drained.{spare_room}

@@ -14,7 +14,7 @@ use Rattle.dg_script.specs.declared.place.Place.{Place}
 use Rattle.dg_script.specs.declared.line.Line.{Line}
 use Rattle.dg_script.specs.declared.line.Line.TheVariants.{Image, Event as EventLine, Round, Sweeps}
 use Rattle.dg_rules.specs.Premises.{LinkFits}
-use Rattle.dg_rules.specs.Ranges.{EventInRange, StepInRange}
+use Rattle.dg_script.specs.Ranges.{EventInRange, StepInRange}
 use Rattle.dg_rules.specs.World.{World}
 use Rattle.dg_world.specs.Worlds.{IsWorld}
 use Rattle.dg_replay.specs.Boards.{WorldStands, StoppedIn, ItemStops, LineStops}
@@ -26,7 +26,7 @@ use Rattle.dg_replay.specs.Stages.{based_on, done_so_far, boards_reported}
 use Rattle.dg_replay.specs.declared.stop.Stop.TheVariants.{Memory, BadInput, WriteFault, FlashFault, TooMany, NoBoard, NoImage, NotAVolume}
 use Rattle.dg_replay.proofs.ItemLemmas.{items_run_counts}
 use Rattle.dg_replay.proofs.PlayLemmas.{false_not, event_at, round_at, sweeps_at, seated_as}
-use Rattle.dg_replay.proofs.LineRanges.{event_fits, cut_fits_too}
+use Rattle.dg_replay.proofs.LineRanges.{cut_in_range}
 use Rattle.dg_replay.proofs.StandLemmas.{joined_next, stood_next, busy_runs, line_begun}
 
 -- A line behind others has these items. It changes nothing of where the run begins, and needs no more boards.
@@ -193,15 +193,15 @@ step_asked p boards event cut r stands fits played waits =
       k.0,
       k.1,
       record {
-        event = subst (λ (n : ℕ). EventInRange n event) (sym k.2) (event_fits p.place.motes event fits played);
-        cut = cut_fits_too cut (subst (λ (o : Option CutOfPower). IfSome o FitsCut) (sym waits) r.cut_fits);
+        event = subst (λ (n : ℕ). EventInRange n event) (sym k.2) fits.0;
+        cut = cut_in_range cut (subst (λ (o : Option CutOfPower). IfSome o FitsCut) (sym waits) r.cut_fits);
       },
     )
 
 pub round_asked : (p : Player) (boards : List Device) (a b : ℕ) → Ready p boards → StandsAt p.place (Round a b) → FitsLine p.place.motes (Round a b) → (u : World) × IsWorld p.world boards u × LinkFits (length u.sites) (a, b)
 round_asked p boards a b r stands fits =
     let k = kept_for p boards r (round_at p.place a b stands).0 in
-    (k.0, k.1, subst (λ (n : ℕ). LinkFits n (a, b)) (sym k.2) (record { first = fits.first; second = fits.second; two = λ same. fits.other (sym same) }))
+    (k.0, k.1, subst (λ (n : ℕ). LinkFits n (a, b)) (sym k.2) fits)
 
 pub sweeps_asked : (p : Player) (boards : List Device) (n : ℕ) (links : List (ℕ × ℕ)) → Ready p boards → StandsAt p.place (Sweeps n) → links ≡ p.place.links → (u : World) × IsWorld p.world boards u × AllByRecursion (LinkFits (length u.sites)) links
 sweeps_asked p boards n links r stands known =

@@ -7,7 +7,7 @@ use Rattle.dg_volume.specs.Store.{golden_row}
 use Rattle.dg_base.specs.declared.events.Event.{Event}
 use Rattle.dg_script.specs.Items.{Item, Applies}
 use Rattle.dg_rules.specs.World.{World}
-use Rattle.dg_rules.specs.Ranges.{EventInRange}
+use Rattle.dg_script.specs.Ranges.{EventInRange}
 use Rattle.dg_rules.specs.Premises.{ItemInRange}
 use Rattle.dg_rules.specs.Runs.{Played}
 use Rattle.dg_rules.specs.Golden.{GoldenNetwork, network_row, PlaysGolden}

@@ -15,7 +15,7 @@ use Rattle.dg_script.specs.declared.place.Place.{Place}
 use Rattle.dg_script.specs.declared.line.Line.{Line}
 use Rattle.dg_script.specs.declared.line.Line.TheVariants.{Nothing, Motes, Golden, Boards, Link, Narrow, Image, Cut, Event as EventLine, Round, Sweeps}
 use Rattle.dg_rules.specs.World.{World, first_world}
-use Rattle.dg_rules.specs.Ranges.{EventInRange}
+use Rattle.dg_script.specs.Ranges.{EventInRange}
 use Rattle.dg_rounds.specs.Rounds.{round, sweep, times}
 use Rattle.dg_rules.specs.Premises.{ItemInRange, HonestEvent, HonestItem, IsHonestThen}
 use Rattle.dg_rules.specs.Runs.{Played}

@@ -22,7 +22,7 @@ use Rattle.dg_completion.proofs.GrowLemmas.{all_append}
 use Rattle.dg_replay.specs.Replayed.{RunsTo, item_played}
 use Rattle.dg_replay.proofs.ItemLemmas.{some_is}
 use Rattle.dg_replay.proofs.PlayLemmas.{false_not, later_at, second_at, link_at, narrow_at, event_at}
-use Rattle.dg_replay.proofs.LineRanges.{LinesFit, first_fits, IsBehind, not_first, not_second, not_boards, one_more, link_fits, IsKept, kept_behind, line_in_range, in_range}
+use Rattle.dg_replay.proofs.LineRanges.{LinesFit, first_fits, IsBehind, not_first, not_second, not_boards, one_more, IsKept, kept_behind, line_in_range, in_range}
 
 -- the image with which the boards are formatted
 pub record Formatted : Type 0 where
@@ -64,7 +64,7 @@ module _ (motes : ℕ) (table : List Row) (stores : List Store) (g : Ground) whe
   carries b place (Link x y ∷ lines) behind count h k =
       carries (begin_by g b (Link x y)) (place_after place (Link x y)) lines (record { ready = behind.ready; some = behind.some }) count h.3 (record {
         links = k.links ++ (x, y) ∷ [];
-        fit = one_more (LinkFits motes) k.links (x, y) k.fit (subst (λ (n : ℕ). LinkFits n (x, y)) count (link_fits place.motes x y h.1));
+        fit = one_more (LinkFits motes) k.links (x, y) k.fit (subst (λ (n : ℕ). LinkFits n (x, y)) count h.1);
         narrow = k.narrow;
         world = ap (option_map (with_link (x, y))) k.world;
         count = k.count;

@@ -12,7 +12,7 @@ use Rattle.dg_nor.specs.Fuse.{beneath_of}
 use Rattle.dg_script.specs.Items.{Item, Declares, Applies}
 use Rattle.dg_script.specs.Report.{report_text}
 use Rattle.dg_script.specs.declared.report.Report.{Report}
-use Rattle.dg_rules.specs.Ranges.{EventInRange, StepInRange}
+use Rattle.dg_script.specs.Ranges.{EventInRange, StepInRange}
 use Rattle.dg_rules.specs.Steps.{DeclareStep, declared_as}
 use Rattle.dg_script.specs.declared.report.Report.TheVariants as report
 use Rattle.dg_volume.specs.Table.{row_at}
@@ -118,7 +118,7 @@ sites_same k boards w z a b = a.motes ∙ sym b.motes
 event_within : (n : ℕ) (event : Event) → EventInRange n event → mote_of event < n
 event_within n (Tick mote dt draw) h = h
 event_within n (Hear mote dt draw frame) h = h.0
-event_within n (Last from to dt draw) h = h.1
+event_within n (Last from to dt draw) h = h.second
 event_within n (Reset mote dt draw) h = h
 event_within n (Inject mote image version dt draw) h = h.0
 event_within n (Order mote number image version dt draw) h = h.0

@@ -3,10 +3,8 @@ use Rattle.std.proofs.Common.{◌≡◌, ℕ, ◌+◌, ◌<◌, Bool, true, fals
 use Rattle.std.specs.Prelude.{Option, Some, None, IfSome, Result, Ok, Err}
 use Rattle.std.specs.List.{AllByRecursion}
 use Rattle.dg_base.specs.declared.events.Event.{Event}
-use Rattle.dg_base.specs.declared.events.Event.TheVariants.{Tick, Hear, Last, Reset, Inject, Order, Frame}
 use Rattle.dg_base.specs.declared.events.Cut.{Cut as CutOfPower}
-use Rattle.dg_script.specs.Fitting.{StandsAt, FitsLine, FitsEvent, FitsCut, AreTwo, IsPlayed, IsPlayedEvent, declared_row}
-use Rattle.dg_script.specs.Fitting as script
+use Rattle.dg_script.specs.Fitting.{StandsAt, FitsLine, FitsCut, IsPlayed}
 use Rattle.dg_script.specs.Lines.{line_of}
 use Rattle.dg_script.specs.Places.{place_after}
 use Rattle.dg_script.specs.Script.{script_from, with_line}
@@ -15,9 +13,9 @@ use Rattle.dg_script.specs.declared.fault.LineFault.{LineFault}
 use Rattle.dg_script.specs.declared.place.Place.{Place}
 use Rattle.dg_script.specs.declared.line.Line.{Line}
 use Rattle.dg_script.specs.declared.line.Line.TheVariants.{Nothing, Motes, Golden, Boards, Link, Narrow, Image, Cut, Event as EventLine, Round, Sweeps}
-use Rattle.dg_rules.specs.Ranges.{EventInRange, CutInRange}
+use Rattle.dg_script.specs.Ranges.{EventInRange, CutInRange}
 use Rattle.dg_rounds.specs.Rounds.{round, sweep, times, paced, passed}
-use Rattle.dg_rules.specs.Premises.{IsDeclared, ItemInRange, LinkFits}
+use Rattle.dg_rules.specs.Premises.{ItemInRange, LinkFits}
 use Rattle.dg_script.specs.Items.{Item, Applies, unreported, item_by, place_behind, items_behind}
 use Rattle.dg_completion.proofs.GrowLemmas.{all_append, all_replicate, all_times, all_map}
 use Rattle.dg_replay.proofs.PlayLemmas.{false_not, second_at}
@@ -75,31 +73,13 @@ not_boards place ready h = false_not place.ready ready (second_at place h.fits).
 
 -- ---- items in their ranges
 
-pub event_fits : (motes : ℕ) (event : Event) → FitsEvent motes event → IsPlayedEvent event → EventInRange motes event
-event_fits motes (Tick mote dt draw) h played = h.0
-event_fits motes (Hear mote dt draw frame) h played = (h.0, h.2.counted)
-event_fits motes (Last from to dt draw) h played = (h.0.first, h.0.second, λ same. h.0.other (sym same))
-event_fits motes (Reset mote dt draw) h played = h.0
-event_fits motes (Inject mote image version dt draw) h played = (h.0, omega (arith, h.1.image), h.1.version)
-event_fits motes (Order mote number image version dt draw) h played = (h.0, h.1.counted, h.1.fits, omega (arith, h.2.image), h.2.version, h.2.version_fits)
-event_fits motes (Frame mote dt draw bytes) h played = (h.0, h.2.few, h.2.bytes)
-
-cut_fits : (cut : CutOfPower) → FitsCut cut → CutInRange cut
-cut_fits cut h = record { counted = h.counted; some = omega (arith, h.some); few = omega (arith, h.few) }
-
-pub cut_fits_too : (cut : Option CutOfPower) → IfSome cut FitsCut → IfSome cut CutInRange
-cut_fits_too None h = tt
-cut_fits_too (Some cut) h = cut_fits cut h
-
-row_fits : (image version : ℕ) (name content : List ℕ) → script.FitsImage image version name content → IsDeclared (declared_row image version name content)
-row_fits image version name content h =
-    record { not_golden = h.image; image = omega (arith, h.image_fits); version = h.version; version_fits = h.version_fits; name = h.name; fits = omega (arith, h.fits); bytes = h.bytes }
+-- a cut that waits is in its range
+pub cut_in_range : (cut : Option CutOfPower) → IfSome cut FitsCut → IfSome cut CutInRange
+cut_in_range None h = tt
+cut_in_range (Some cut) h = h.range
 
 pub one_more : {A : Type 0} (P : A → Type 0) (xs : List A) (x : A) → AllByRecursion P xs → P x → AllByRecursion P (xs ++ x ∷ [])
 one_more P xs x h k = all_append P xs (x ∷ []) h (k, tt)
-
-pub link_fits : (motes a b : ℕ) → AreTwo motes a b → LinkFits motes (a, b)
-link_fits motes a b two = record { first = two.first; second = two.second; two = λ same. two.other (sym same) }
 
 -- ---- the events of rounds
 
@@ -143,8 +123,8 @@ quiet_fits motes l h =
     record {
       near = record { event = h.first; cut = tt };
       far = record { event = h.second; cut = tt };
-      there = record { event = (h.first, h.second, h.two); cut = tt };
-      back = record { event = (h.second, h.first, λ same. h.two (sym same)); cut = tt };
+      there = record { event = h; cut = tt };
+      back = record { event = record { first = h.second; second = h.first; two = λ same. h.two (sym same) }; cut = tt };
     }
 
 -- ---- lines behind golden
@@ -166,7 +146,7 @@ kept_next motes place (Link a b) k h =
       behind = record { ready = k.behind.ready; some = k.behind.some };
       count = k.count;
       waits = k.waits;
-      links = one_more (LinkFits motes) place.links (a, b) k.links (subst (λ (n : ℕ). LinkFits n (a, b)) k.count (link_fits place.motes a b h.fits));
+      links = one_more (LinkFits motes) place.links (a, b) k.links (subst (λ (n : ℕ). LinkFits n (a, b)) k.count h.fits);
     }
 kept_next motes place (Narrow m) k h = record { behind = record { ready = k.behind.ready; some = k.behind.some }; count = k.count; waits = k.waits; links = k.links }
 kept_next motes place (Image image version name content) k h = k
@@ -187,11 +167,11 @@ line_in_range motes place (Golden name used content) k h = tt
 line_in_range motes place Boards k h = tt
 line_in_range motes place (Link a b) k h = tt
 line_in_range motes place (Narrow m) k h = tt
-line_in_range motes place (Image image version name content) k h = (row_fits image version name content h.fits, tt)
+line_in_range motes place (Image image version name content) k h = (h.fits, tt)
 line_in_range motes place (Cut c) k h = tt
-line_in_range motes place (EventLine event) k h = (record { event = subst (λ (n : ℕ). EventInRange n event) k.count (event_fits place.motes event h.fits h.played); cut = cut_fits_too place.cut k.waits }, tt)
+line_in_range motes place (EventLine event) k h = (record { event = subst (λ (n : ℕ). EventInRange n event) k.count h.fits.0; cut = cut_in_range place.cut k.waits }, tt)
 line_in_range motes place (Round a b) k h =
-    let link : LinkFits motes (a, b) = subst (λ (n : ℕ). LinkFits n (a, b)) k.count (link_fits place.motes a b h.fits) in
+    let link : LinkFits motes (a, b) = subst (λ (n : ℕ). LinkFits n (a, b)) k.count h.fits in
     quiet_all (ItemInRange motes) (round a b) (round_all (QuietFits motes) (a, b) (quiet_fits motes (a, b) link))
 line_in_range motes place (Sweeps n) k h =
     quiet_all (ItemInRange motes) (times n (sweep place.links))

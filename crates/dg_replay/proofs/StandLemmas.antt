@@ -79,8 +79,7 @@ joined_next place Nothing stands fits all = all
 joined_next place (Motes n) stands fits all = none_joined n place.links (subst (λ (m : ℕ). AllByRecursion (LinkFits m) place.links) (eqb-true place.motes 0 stands.fits) all)
 joined_next place (Golden name used content) stands fits all = all
 joined_next place Boards stands fits all = all
-joined_next place (Link a b) stands fits all =
-    all_more (LinkFits place.motes) place.links ((a, b) ∷ []) all (record { first = fits.first; second = fits.second; two = λ same. fits.other (sym same) }, tt)
+joined_next place (Link a b) stands fits all = all_more (LinkFits place.motes) place.links ((a, b) ∷ []) all (fits, tt)
 joined_next place (Narrow m) stands fits all = all
 joined_next place (Image image version name content) stands fits all = all
 joined_next place (Cut cut) stands fits all = all

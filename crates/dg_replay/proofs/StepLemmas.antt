@@ -8,7 +8,7 @@ use Rattle.dg_rounds.specs.Rounds.{times, round, sweep, paced, passed}
 use Rattle.dg_nor.specs.Device.{Device}
 use Rattle.dg_script.specs.Items.{Item, Applies, unreported}
 use Rattle.dg_rules.specs.Premises.{LinkFits}
-use Rattle.dg_rules.specs.Ranges.{EventInRange}
+use Rattle.dg_script.specs.Ranges.{EventInRange}
 use Rattle.dg_rules.specs.World.{World}
 use Rattle.dg_world.specs.Worlds.{IsWorld}
 use Rattle.dg_world.specs.declared.world.World.{World as KeptWorld}
@@ -75,9 +75,8 @@ round_fits n a b l =
     let P : Event → Type 0 = EventInRange n in
     let pages : List Event = times 48 (paced a ∷ passed a b ∷ []) in
     let asks : List Event = passed a b ∷ paced b ∷ passed b a ∷ pages in
-    let there : P (passed a b) = (l.first, l.second, l.two) in
-    let back : P (passed b a) = (l.second, l.first, λ e. l.two (sym e)) in
-    let asked : AllByRecursion P asks = (there, (l.second, (back, all_times P 48 (paced a ∷ passed a b ∷ []) (l.first, (there, tt))))) in
+    let back : P (passed b a) = record { first = l.second; second = l.first; two = λ e. l.two (sym e) } in
+    let asked : AllByRecursion P asks = (l, (l.second, (back, all_times P 48 (paced a ∷ passed a b ∷ []) (l.first, (l, tt))))) in
     let told : AllByRecursion P (replicate 3 (paced a) ++ asks) = all_append P (replicate 3 (paced a)) asks (all_replicate P 3 (paced a) l.first) asked in
     let rested : AllByRecursion P (replicate 50 (paced b) ++ (replicate 3 (paced a) ++ asks)) = all_append P (replicate 50 (paced b)) (replicate 3 (paced a) ++ asks) (all_replicate P 50 (paced b) l.second) told in
     all_append P (replicate 50 (paced a)) (replicate 50 (paced b) ++ (replicate 3 (paced a) ++ asks)) (all_replicate P 50 (paced a) l.first) rested

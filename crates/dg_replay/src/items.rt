@@ -4,13 +4,12 @@ ghost use Rattle.std.specs.List.{AllByRecursion};
 ghost use Rattle.dg_nor.specs.Device.{Device};
 ghost use Rattle.dg_object.specs.Object.{row_of};
 ghost use Rattle.dg_rounds.specs.Rounds.{times, round, sweep};
-ghost use Rattle.dg_script.specs.Fitting.{FitsImage};
 ghost use Rattle.dg_script.specs.Items.{Declares, Applies, unreported};
 ghost use Rattle.dg_script.specs.Report.{report_text};
 ghost use Rattle.dg_rules.specs.Sizes.{most_events};
 ghost use Rattle.dg_rules.specs.World.{World as RuleWorld};
 ghost use Rattle.dg_rules.specs.Premises.{LinkFits};
-ghost use Rattle.dg_rules.specs.Ranges.{StepInRange};
+ghost use Rattle.dg_script.specs.Ranges.{IsDeclared, StepInRange};
 ghost use Rattle.dg_world.specs.Worlds.{IsWorld};
 ghost use Rattle.dg_world.specs.Occasions.{step_of};
 ghost use Rattle.dg_replay.specs.Boards.{WorldStands};
@@ -68,7 +67,7 @@ pub fn play_image(
     content: Bytes,
     line_report: &mut LineReport,
 ) -> Result<(), Stop>
-    requires fits { FitsImage image_version.image image_version.version name content }
+    requires fits { IsDeclared (row_of image_version.image image_version.version name content) }
     ensures { (boards initial : List Device) (w : RuleWorld) → IsWorld world.old boards w → WorldStands w initial boards
         → ItemsPlayedAs result w (Declares (row_of image_version.image image_version.version name content) ∷ []) world.new initial
         line_report.old.text.items (boards_reported boards line_report.new.text.items) }

@@ -37,8 +37,8 @@ use Rattle.dg_mote.specs.Well.{StoreIsWell, IsWell, TurnIsWell, SendsHonest}
 use Rattle.dg_mote.specs.Speaking.{OrderFits, Speaks, TurnSpeaks, IsSaid}
 use Rattle.dg_rules.specs.World.{World, Running, Sent, site, store_at, wide_at}
 use Rattle.dg_rules.specs.Events.{Deed, Does, Refuses, Goes, does, mote_of, dt_of, key_of, reloaded}
-use Rattle.dg_rules.specs.Ranges.{EventInRange}
-use Rattle.dg_rules.specs.Premises.{IsDeclared, RunsWell, SentIsWell, WorldAgrees, TrueEvent}
+use Rattle.dg_script.specs.Ranges.{IsDeclared, IsVersion, EventInRange}
+use Rattle.dg_rules.specs.Premises.{RunsWell, SentIsWell, WorldAgrees, TrueEvent}
 use Rattle.dg_base.specs.declared.events.Event.{Event}
 use Rattle.dg_rules.proofs.ThroughLemmas.{Through-map, Through-both}
 use Rattle.dg_rules.proofs.TableLemmas.{row_at-key, row_at-each, row_at-with_row, row_at-added, IsTable-with_row}
@@ -305,9 +305,9 @@ module _ (laws : Laws) (w : World) (agrees : WorldAgrees w) where
             speaks = record { id = known.speaks.id; server = tt; known = tt; order = g.order };
           }
 
-  order_fits : (number image version : ℕ) → 1 ≤ number → number < 2 ^ 32 → image < images → 1 ≤ version → version < 2 ^ 32 → OrderFits (order_of number image version)
-  order_fits number image version some small known first fits = record {
-    in_range = inr (record { number = some; image = omega (arith, known); version = first });
+  order_fits : (number image version : ℕ) → 1 ≤ number → number < 2 ^ 32 → IsVersion image version → version < 2 ^ 32 → OrderFits (order_of number image version)
+  order_fits number image version some small named fits = record {
+    in_range = inr (record { number = some; image = omega (arith, named.image); version = named.version });
     number = small;
     version = fits;
   }
@@ -363,7 +363,7 @@ module _ (laws : Laws) (w : World) (agrees : WorldAgrees w) where
       (λ m dt draw r is waits fits honest. start_agrees cause.Order m dt r.mote.id r.mote.wide draw fits (runs_here m r fits is).id (runs_here m r fits is).wide_is)
       (λ m dt draw fits honest. start_agrees cause.Power m dt m (wide_at w m) draw fits refl refl)
       (λ m dt draw number f r is at q fits honest. hear_agrees m dt draw f.bytes r is fits.0 (sent_honest f q) (sent_fits r.mote.wide f q))
-      (λ from m dt draw f r is at q fits honest. hear_agrees m dt draw f.bytes r is fits.1 (sent_honest f q) (sent_fits r.mote.wide f q))
-      (λ m dt draw bytes r is fits honest. hear_agrees m dt draw bytes r is fits.0 honest (bytes_fit r.mote.wide bytes fits.2 (message_of bytes r.mote.wide) refl))
+      (λ from m dt draw f r is at q fits honest. hear_agrees m dt draw f.bytes r is fits.second (sent_honest f q) (sent_fits r.mote.wide f q))
+      (λ m dt draw bytes r is fits honest. hear_agrees m dt draw bytes r is fits.0 honest (bytes_fit r.mote.wide bytes fits.1.bytes (message_of bytes r.mote.wide) refl))
       (λ m image version dt draw row known none fits honest. inject_agrees m image version dt draw row fits.0 known (λ kept e. honest row kept known e) none)
-      (λ m number image version dt draw none fits honest. order_agrees m number image version dt draw fits.0 (order_fits number image version fits.1 fits.2 fits.3 fits.4 fits.5))
+      (λ m number image version dt draw none fits honest. order_agrees m number image version dt draw fits.0 (order_fits number image version fits.3 fits.4 fits.1 fits.2))

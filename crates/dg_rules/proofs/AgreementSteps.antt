@@ -14,8 +14,8 @@ use Rattle.dg_rules.specs.Sizes.{most_motes}
 use Rattle.dg_rules.specs.World.{World, Site, site, store_at, wide_at, counted, off_site}
 use Rattle.dg_rules.specs.Events.{Deed, Does, Refuses, Goes, trail_of, does, mote_of, dt_of}
 use Rattle.dg_rules.specs.Steps.{blows, and_sent, StepDoes, WorldStep, DeclareStep, declared_as}
-use Rattle.dg_rules.specs.Ranges.{EventInRange, StepInRange}
-use Rattle.dg_rules.specs.Premises.{IsDeclared, LinkFits, SiteIsWell, SentIsWell, WorldAgrees, TrueEvent}
+use Rattle.dg_script.specs.Ranges.{IsDeclared, EventInRange, StepInRange}
+use Rattle.dg_rules.specs.Premises.{LinkFits, SiteIsWell, SentIsWell, WorldAgrees, TrueEvent}
 use Rattle.dg_rules.specs.Promises.{table_of, StopsAgree}
 use Rattle.dg_base.specs.declared.events.Event.{Event}
 use Rattle.dg_base.specs.declared.events.Event.TheVariants.{Tick, Hear, Last, Reset, Inject, Order as OrderEvent, Frame}
@@ -32,7 +32,7 @@ use Rattle.dg_rules.proofs.AgreementLemmas.{Laws, IsGood, good_room, AgreesDeed,
 pub mote_within : (n : ℕ) (e : Event) → EventInRange n e → mote_of e < n
 mote_within n (Tick m dt draw) fits = fits
 mote_within n (Hear m dt draw number) fits = fits.0
-mote_within n (Last from m dt draw) fits = fits.1
+mote_within n (Last from m dt draw) fits = fits.second
 mote_within n (Reset m dt draw) fits = fits
 mote_within n (Inject m image version dt draw) fits = fits.0
 mote_within n (OrderEvent m number image version dt draw) fits = fits.0

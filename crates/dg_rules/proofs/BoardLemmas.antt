@@ -16,7 +16,7 @@ use Rattle.dg_rules.specs.World.{World, Site, site, is_wide_mote, off_site, firs
 use Rattle.dg_rules.specs.Premises.{LinkFits, SiteIsWell, WorldAgrees, AllOff, PlayedInRange, IsTrueThen}
 use Rattle.dg_rules.specs.Begins.{PlaysFrom, store_of, StoresAgree, AreShaped, PlaysBoards}
 use Rattle.dg_rules.specs.Runs.{Played}
-use Rattle.dg_rules.specs.Ranges.{EventInRange}
+use Rattle.dg_script.specs.Ranges.{EventInRange}
 use Rattle.dg_base.specs.declared.events.Event.{Event}
 use Rattle.std.proofs.lemmas.Bool.{cases_Bool}
 

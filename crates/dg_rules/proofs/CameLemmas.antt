@@ -12,7 +12,7 @@ use Rattle.dg_mote.specs.Changes.{IfReceives, Brings, IsBegun, Continues}
 use Rattle.dg_rules.specs.World.{World, Site, Running, Sent, site, store_at, wide_at, counted}
 use Rattle.dg_rules.specs.Events.{Deed, Does, Refuses, Goes, does, mote_of, dt_of, key_of, reloaded}
 use Rattle.dg_rules.specs.Steps.{blows, StepDoes, WorldStep}
-use Rattle.dg_rules.specs.Ranges.{EventInRange, StepInRange}
+use Rattle.dg_script.specs.Ranges.{EventInRange, StepInRange}
 use Rattle.dg_rules.specs.Premises.{RunsWell, WorldAgrees}
 use Rattle.dg_rules.specs.Legal.{Past, Came, Started, CameTo}
 use Rattle.dg_rules.specs.Past.{brought, came_then, started_then, started_unless, past_by}
@@ -151,7 +151,7 @@ module _ (restarts : RestartLaws) (changes : ChangeLaws) (past : Past) (w : Worl
       (λ m dt draw r on waits fits runs e. start_came _ m (boot cause.Order (store_at w m)).runs r.mote.id r.mote.wide (w.moment + dt) draw runs e)
       (λ m dt draw fits runs e. start_came _ m (boot cause.Power (store_at w m)).runs m (wide_at w m) (w.moment + dt) draw runs e)
       (λ m dt draw number f r on at q fits runs e. subst (λ (o : Option (List ℕ)). At (came_then o m past) m runs) (sym (ap (option_map (λ (g : Sent). g.bytes)) at)) (hear_came m (w.moment + dt) draw f.bytes r runs on fits.0 e))
-      (λ from m dt draw f r on at q fits runs e. subst (λ (o : Option (List ℕ)). At (came_then o m past) m runs) (sym (ap (option_map (λ (g : Sent). g.bytes)) at)) (hear_came m (w.moment + dt) draw f.bytes r runs on fits.1 e))
+      (λ from m dt draw f r on at q fits runs e. subst (λ (o : Option (List ℕ)). At (came_then o m past) m runs) (sym (ap (option_map (λ (g : Sent). g.bytes)) at)) (hear_came m (w.moment + dt) draw f.bytes r runs on fits.second e))
       (λ m dt draw bytes r on fits runs e. hear_came m (w.moment + dt) draw bytes r runs on fits.0 e)
       (λ m image version dt draw row known none fits runs e. reload_came past m (site w m).runs runs (w.moment + dt) draw e)
       (λ m number image version dt draw none fits runs e. reload_came past m (site w m).runs runs (w.moment + dt) draw e)

@@ -26,8 +26,7 @@ use Rattle.dg_mote.proofs.ConsistentLemmas.{consistent_room}
 use Rattle.dg_rules.specs.World.{World, Running, Site, site, store_at, wide_at, off_site}
 use Rattle.dg_rules.specs.Events.{Deed, Does, Refuses, Goes, trail_of, does, mote_of, key_of, reloaded}
 use Rattle.dg_rules.specs.Steps.{WorldStep, DeclareStep, declared_as}
-use Rattle.dg_rules.specs.Ranges.{EventInRange, StepInRange}
-use Rattle.dg_rules.specs.Premises.{IsDeclared}
+use Rattle.dg_script.specs.Ranges.{IsDeclared, EventInRange, StepInRange}
 use Rattle.dg_rules.specs.Consistency.{SiteConsistent, WorldConsistent, StartsSoundDoes, StopsConsistent}
 use Rattle.dg_base.specs.declared.events.Event.{Event}
 use Rattle.dg_base.specs.declared.events.Step.{Step}
@@ -142,7 +141,7 @@ module _ (golden : Row) where
           (λ m dt draw r is waits fits. start_lands cause.Order m r.mote.id r.mote.wide (w.moment + dt) draw fits)
           (λ m dt draw fits. start_lands cause.Power m m (wide_at w m) (w.moment + dt) draw fits)
           (λ m dt draw number f r is at q fits. hear_lands m (w.moment + dt) draw f.bytes r fits.0 is)
-          (λ from m dt draw f r is at q fits. hear_lands m (w.moment + dt) draw f.bytes r fits.1 is)
+          (λ from m dt draw f r is at q fits. hear_lands m (w.moment + dt) draw f.bytes r fits.second is)
           (λ m dt draw bytes r is fits. hear_lands m (w.moment + dt) draw bytes r fits.0 is)
           (λ m image version dt draw row known none fits.
           lands _ (inject_way (store_at w m) row (row_at-each IsDeclared w.declared image version row here.rows known) none (store_here m fits.0)) (λ runs e. reload_asks (site w m).runs runs (w.moment + dt) draw e))

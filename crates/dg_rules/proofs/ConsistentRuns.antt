@@ -8,8 +8,8 @@ use Rattle.dg_volume.specs.Table.{row_at}
 use Rattle.dg_rules.specs.World.{World}
 use Rattle.dg_rules.specs.Events.{does}
 use Rattle.dg_rules.specs.Steps.{WorldStep, DeclareStep}
-use Rattle.dg_rules.specs.Ranges.{EventInRange, StepInRange}
-use Rattle.dg_rules.specs.Premises.{IsDeclared, ItemInRange, PlayedInRange}
+use Rattle.dg_script.specs.Ranges.{IsDeclared, EventInRange, StepInRange}
+use Rattle.dg_rules.specs.Premises.{ItemInRange, PlayedInRange}
 use Rattle.dg_rules.specs.Golden.{GoldenNetwork, network_row, network_world, PlaysGolden}
 use Rattle.dg_rules.specs.Consistency.{SiteConsistent, WorldConsistent, LeavesConsistent, StartsSoundDoes, StartsSoundItem, StartsSound, StopsConsistent}
 use Rattle.dg_script.specs.Items.{Item, Declares, Applies}

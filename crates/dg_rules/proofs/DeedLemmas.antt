@@ -29,7 +29,7 @@ use Rattle.dg_rules.specs.World.{World, Site, Running, Sent, site, store_at, is_
 use Rattle.dg_rules.specs.Small.{Holding, SmallMote, holding, app_key, running_key, small_mote, Small, small, holds, whole}
 use Rattle.dg_rules.specs.Events.{Deed, Does, Refuses, Goes, does, mote_of, dt_of, key_of, reloaded, acts}
 use Rattle.dg_rules.specs.Steps.{blows, and_sent, StepDoes, WorldStep}
-use Rattle.dg_rules.specs.Ranges.{EventInRange, StepInRange}
+use Rattle.dg_script.specs.Ranges.{EventInRange, StepInRange}
 use Rattle.dg_rules.specs.Premises.{RunsWell, WorldAgrees, TrueEvent}
 use Rattle.dg_rules.specs.Legal.{Past, Came, MayInject, CutHolding, LegalInject, SmallIsOn, MayStart, OrdersWholeRow, CutStart, LegalFrame, LegalMessage, LegalAt, LegalStep, taking, off_after, step_facts}
 use Rattle.dg_rules.specs.Past.{brought}
@@ -345,7 +345,7 @@ module _ (laws : StepLaws) (past : Past) (w : World) (agrees : WorldAgrees w) (s
       (λ m dt draw r on waits fits honest. start_tick_legal m dt draw r on waits fits)
       (λ m dt draw fits honest. reset_legal m dt draw fits)
       (λ m dt draw number f r on at q fits honest. hear_legal m dt draw number f r on at fits.0)
-      (λ from m dt draw f r on at q fits honest. last_legal from m dt draw f r on at fits.1)
+      (λ from m dt draw f r on at q fits honest. last_legal from m dt draw f r on at fits.second)
       (λ m dt draw bytes r on fits honest. frame_legal m dt draw bytes r on fits.0)
       (λ m image version dt draw row known none fits honest. inject_legal m image version dt draw row known none fits.0 (λ kept e. honest row kept known e))
       (λ m number image version dt draw none fits honest. order_legal m number image version dt draw none fits.0)

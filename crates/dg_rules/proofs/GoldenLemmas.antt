@@ -19,7 +19,7 @@ use Rattle.dg_mote.specs.Hears.{heard_of}
 use Rattle.dg_rules.specs.World.{World, Running, Site, site, store_at, wide_at, off_site}
 use Rattle.dg_rules.specs.Events.{Deed, does, key_of, reloaded}
 use Rattle.dg_rules.specs.Steps.{WorldStep, EndsRun}
-use Rattle.dg_rules.specs.Ranges.{EventInRange, StepInRange}
+use Rattle.dg_script.specs.Ranges.{EventInRange, StepInRange}
 use Rattle.dg_rules.specs.Golden.{KeepsGoldenRow, AsksForOthers, SiteKeepsGolden, WorldKeepsGolden, FindsImage}
 use Rattle.dg_base.specs.declared.events.Event.{Event}
 use Rattle.dg_base.specs.declared.events.Step.{Step}
@@ -109,7 +109,7 @@ module _ (laws : StepLaws) (w : World) (golden : WorldKeepsGolden w) where
       (λ m dt draw r is waits fits. start_lands cause.Order m r.mote.id r.mote.wide (w.moment + dt) draw fits)
       (λ m dt draw fits. start_lands cause.Power m m (wide_at w m) (w.moment + dt) draw fits)
       (λ m dt draw number f r is at q fits. hear_lands m (w.moment + dt) draw f.bytes r fits.0 is)
-      (λ from m dt draw f r is at q fits. hear_lands m (w.moment + dt) draw f.bytes r fits.1 is)
+      (λ from m dt draw f r is at q fits. hear_lands m (w.moment + dt) draw f.bytes r fits.second is)
       (λ m dt draw bytes r is fits. hear_lands m (w.moment + dt) draw bytes r fits.0 is)
       (λ m image version dt draw row known none fits. lands _ (golden_inject row (refused_not (store_at w m) row none).0 (store_at w m) (golden m fits.0).kept) (λ runs e. reload_asks (site w m).runs runs (w.moment + dt) draw e))
       (λ m number image version dt draw none fits. lands _ (golden_order (store_at w m) number image version (golden m fits.0).kept) (λ runs e. reload_asks (site w m).runs runs (w.moment + dt) draw e))

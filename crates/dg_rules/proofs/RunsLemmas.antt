@@ -12,7 +12,7 @@ use Rattle.dg_volume.specs.declared.volume.StartCause.{StartCause}
 use Rattle.dg_volume.specs.declared.volume.StartCause.TheVariants as cause
 use Rattle.dg_rules.specs.World.{World, store_at}
 use Rattle.dg_rules.specs.Events.{does}
-use Rattle.dg_rules.specs.Ranges.{EventInRange}
+use Rattle.dg_script.specs.Ranges.{EventInRange}
 use Rattle.dg_rules.specs.Premises.{WorldAgrees}
 use Rattle.dg_rules.specs.Promises.{RunsRow, StartsDoes}
 use Rattle.dg_base.specs.declared.events.Event.{Event}

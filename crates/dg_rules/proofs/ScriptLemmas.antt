@@ -15,8 +15,8 @@ use Rattle.dg_rules.specs.Sizes.{most_motes}
 use Rattle.dg_rules.specs.World.{World, Site, site, is_wide_mote, counted, off_site, first_world}
 use Rattle.dg_rules.specs.Events.{Does, Refuses, Goes, does, mote_of, dt_of}
 use Rattle.dg_rules.specs.Steps.{blows, and_sent, StepDoes, WorldStep, declared_as}
-use Rattle.dg_rules.specs.Ranges.{EventInRange, StepInRange}
-use Rattle.dg_rules.specs.Premises.{IsDeclared, LinkFits, SiteIsWell, WorldAgrees, ItemInRange, PlayedInRange, HonestEvent, HonestItem, IsHonestThen, TrueEvent, TrueItem, IsTrueThen, AllOff}
+use Rattle.dg_script.specs.Ranges.{IsDeclared, EventInRange, StepInRange}
+use Rattle.dg_rules.specs.Premises.{LinkFits, SiteIsWell, WorldAgrees, ItemInRange, PlayedInRange, HonestEvent, HonestItem, IsHonestThen, TrueEvent, TrueItem, IsTrueThen, AllOff}
 use Rattle.dg_rules.specs.Begins.{PlaysFrom}
 use Rattle.dg_rules.specs.Golden.{SiteKeepsGolden, WorldKeepsGolden, FindsImage, GoldenNetwork, network_world, PlaysGolden}
 use Rattle.dg_script.specs.Items.{Item, Declares, Applies}

@@ -8,12 +8,12 @@ use Rattle.dg_rules.specs.World.{World, Site, Running, store_at, is_wide_mote, w
 use Rattle.dg_rules.specs.Small.{small}
 use Rattle.dg_rules.specs.Events.{does}
 use Rattle.dg_rules.specs.Steps.{WorldStep, DeclareStep, declared_as}
-use Rattle.dg_rules.specs.Ranges.{EventInRange, StepInRange}
+use Rattle.dg_script.specs.Ranges.{IsDeclared, EventInRange, StepInRange}
 use Rattle.dg_base.specs.declared.events.Event.{Event}
 use Rattle.dg_base.specs.declared.events.Step.{Step}
 use Rattle.dg_rules.specs.Legal.{Past}
 use Rattle.dg_rules.specs.Past.{past_item, past_of}
-use Rattle.dg_rules.specs.Premises.{IsDeclared, WorldAgrees, TrueEvent, ItemFits, PlayedFits, LeavesAgreement, AllOff}
+use Rattle.dg_rules.specs.Premises.{WorldAgrees, TrueEvent, ItemFits, PlayedFits, LeavesAgreement, AllOff}
 use Rattle.dg_rules.specs.Promises.{IsLegal, LegalItem, KeepsAll, StartsDoes, StartsRow, StartsItem}
 use Rattle.dg_script.specs.Items.{Item, Declares, Applies}
 use Rattle.dg_rules.specs.Runs.{Played, ItemStep, Plays, EachAfter}

@@ -7,7 +7,7 @@ use Rattle.dg_frame.specs.declared.Message.{Message}
 use Rattle.dg_rules.specs.World.{World, Site, Running, site, counted, off_site}
 use Rattle.dg_rules.specs.Events.{Deed, Does, Refuses, Goes, does, mote_of, dt_of}
 use Rattle.dg_rules.specs.Steps.{blows, and_sent, Ended, StepDoes, WorldStep}
-use Rattle.dg_rules.specs.Ranges.{StepInRange}
+use Rattle.dg_script.specs.Ranges.{StepInRange}
 use Rattle.dg_base.specs.declared.events.Step.{Step}
 use Rattle.dg_script.specs.declared.report.Report.{Report}
 use Rattle.dg_rules.proofs.SiteLemmas.{each_site, site_count}

@@ -10,7 +10,7 @@ use Rattle.dg_mote.specs.Timely.{Timely}
 use Rattle.dg_rules.specs.World.{World, Site, Running, site, store_at, wide_at}
 use Rattle.dg_rules.specs.Events.{Deed, does, dt_of, key_of, reloaded}
 use Rattle.dg_rules.specs.Steps.{WorldStep}
-use Rattle.dg_rules.specs.Ranges.{EventInRange, StepInRange}
+use Rattle.dg_script.specs.Ranges.{EventInRange, StepInRange}
 use Rattle.dg_rules.specs.Premises.{WorldTimely}
 use Rattle.dg_base.specs.declared.events.Event.{Event}
 use Rattle.dg_base.specs.declared.events.Step.{Step}
@@ -73,7 +73,7 @@ module _ (restarts : RestartLaws) (laws : TimeLaws) (w : World) (timely : WorldT
       (λ m dt draw r is waits fits. lands dt _ (λ runs e. start_timely (boot _ (store_at w m)).runs r.mote.id r.mote.wide dt draw runs e))
       (λ m dt draw fits. lands dt _ (λ runs e. start_timely (boot _ (store_at w m)).runs m (wide_at w m) dt draw runs e))
       (λ m dt draw number f r is at q fits. lands dt _ (λ runs e. hear_timely m dt draw f.bytes r runs is fits.0 e))
-      (λ from m dt draw f r is at q fits. lands dt _ (λ runs e. hear_timely m dt draw f.bytes r runs is fits.1 e))
+      (λ from m dt draw f r is at q fits. lands dt _ (λ runs e. hear_timely m dt draw f.bytes r runs is fits.second e))
       (λ m dt draw bytes r is fits. lands dt _ (λ runs e. hear_timely m dt draw bytes r runs is fits.0 e))
       (λ m image version dt draw row known none fits. lands dt _ (λ runs e. reload_timely m dt draw runs fits.0 e))
       (λ m number image version dt draw none fits. lands dt _ (λ runs e. reload_timely m dt draw runs fits.0 e))

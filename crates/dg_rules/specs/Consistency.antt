@@ -9,7 +9,7 @@ use Rattle.dg_volume.specs.Consistent.{IsSoundApp, Consistent}
 use Rattle.dg_mote.specs.Consistency.{AsksForKnown, StoreIsConsistent}
 use Rattle.dg_base.specs.declared.events.Event.{Event}
 use Rattle.dg_rules.specs.Events.{Does, Refuses, Goes, mote_of, trail_of, does}
-use Rattle.dg_rules.specs.Premises.{IsDeclared}
+use Rattle.dg_script.specs.Ranges.{IsDeclared}
 use Rattle.dg_script.specs.Items.{Item, Declares, Applies}
 use Rattle.dg_rules.specs.Runs.{Played}
 use Rattle.dg_rules.specs.World.{World, Site, site, store_at}

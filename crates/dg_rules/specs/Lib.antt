@@ -8,7 +8,6 @@ pub mod Legal
 pub mod Runs
 pub mod Past
 pub mod Promises
-pub mod Ranges
 pub mod Premises
 pub mod Golden
 pub mod Consistency

@@ -1,10 +1,7 @@
 -- Worlds that agree with their table, and runs over honest frames and true injections.
-use Rattle.std.specs.Prelude.{◌≡◌, ◌≢◌, ℕ, ◌<◌, ◌≤◌, ◌^◌, ◌⊎◌, IsTrue, Bool, true, false, List, length, Some, None, IfSome, Ok}
+use Rattle.std.specs.Prelude.{◌≡◌, ℕ, ◌<◌, ◌≤◌, ◌⊎◌, Bool, true, false, List, length, Some, None, IfSome, Ok}
 use Rattle.std.specs.List.{AllByRecursion}
-use Rattle.dg_words.specs.Cells.{AreBytes}
-use Rattle.dg_base.specs.Texts.{spells_name}
 use Rattle.dg_object.specs.Object.{Row}
-use Rattle.dg_volume.specs.Sizes.{images}
 use Rattle.dg_volume.specs.Table.{row_at, IsTable}
 use Rattle.dg_volume.specs.Store.{Store}
 use Rattle.dg_frame.specs.Sizes.{narrow_images}
@@ -16,23 +13,13 @@ use Rattle.dg_mote.specs.Agreement.{IsHonest, HonestMessage}
 use Rattle.dg_mote.specs.Well.{StoreIsWell, IsWell}
 use Rattle.dg_mote.specs.Speaking.{OrderFits, Speaks}
 use Rattle.dg_mote.specs.Timely.{Timely}
-use Rattle.dg_rules.specs.Sizes.{most_motes, most_content}
+use Rattle.dg_rules.specs.Sizes.{most_motes}
 use Rattle.dg_rules.specs.World.{World, Running, Site, Sent, site, wide_at}
-use Rattle.dg_rules.specs.Ranges.{StepInRange}
+use Rattle.dg_script.specs.Ranges.{IsDeclared, AreTwo, StepInRange}
 use Rattle.dg_script.specs.Items.{Item, Declares, Applies}
 use Rattle.dg_rules.specs.Runs.{Played}
 use Rattle.dg_base.specs.declared.events.Event.{Event}
 use Rattle.dg_base.specs.declared.events.Event.TheVariants.{Tick, Hear, Last, Reset, Inject, Order as OrderEvent, Frame}
-
--- What the script language lets be declared. Only what is injected has 1 to 70,656 bytes
-pub record IsDeclared (row : Row) : Type 0 where
-  pub not_golden : 1 ≤ row.image
-  pub image : row.image < images
-  pub version : 1 ≤ row.version
-  pub version_fits : row.version < 2 ^ 32
-  pub name : IsTrue (spells_name row.name)
-  pub fits : length row.bytes ≤ most_content
-  pub bytes : AreBytes row.bytes
 
 -- a mote that is on has the number of its site as its id, and its width, agrees, is in time, and can say what it says
 pub record RunsWell (table : List Row) (m : ℕ) (wide : Bool) (now : ℕ) (s : Store) (r : Running) : Type 0 where
@@ -56,10 +43,8 @@ pub record SentIsWell (table : List Row) (f : Sent) : Type 0 where
   pub honest : HonestMessage table (Ok message)
 
 -- two motes are neighbours
-pub record LinkFits (motes : ℕ) (l : ℕ × ℕ) : Type 0 where
-  pub first : l.0 < motes
-  pub second : l.1 < motes
-  pub two : l.0 ≢ l.1
+abbrev pub LinkFits : ℕ → ℕ × ℕ → Type 0
+LinkFits motes l = AreTwo motes l.0 l.1
 
 -- Every chip, every mote that is on and every frame that was sent agrees with the table, and what is declared may be injected.
 pub record WorldAgrees (w : World) : Type 0 where

@@ -1,5 +1,5 @@
 -- What is known of lines that were read.
-use Rattle.std.proofs.Common.{◌≡◌, ℕ, not, true, List, Result, Ok, Err, IfOk, refl, sym, subst, arith}
+use Rattle.std.proofs.Common.{◌≡◌, ℕ, ◌<◌, ◌≤◌, ◌^◌, not, true, List, Result, Ok, Err, IfOk, refl, sym, subst, arith}
 use Rattle.std.proofs.lemmas.Bool.{not-true}
 use Rattle.dg_words.specs.Cells.{AreBytes}
 use Rattle.dg_base.specs.Sizes.{longest_frame}
@@ -13,7 +13,8 @@ use Rattle.dg_script.specs.Verbs.{is_played, stands, follows, standing, verb_of}
 use Rattle.dg_script.specs.Places.{is_linked, is_narrow}
 use Rattle.dg_script.specs.Fields.{number_in, mote_count_in, mote_in, other_in, image_in, any_image_in, version_in, counted_in, used_in, sweeps_in}
 use Rattle.dg_script.specs.Lines.{motes_of, golden_of, none_of, boards_of, link_of, narrow_of, image_of, tick_of, hear_of, last_line_of, reset_of, inject_of, order_of, frame_of, cut_with, cut_of, round_of, sweeps_of, fields_of, played_verb}
-use Rattle.dg_script.specs.Fitting.{StandsBy, StandsAt, FitsLine, IsTimed, IsCounted, IsVersion, AreTwo, IsPlayed}
+use Rattle.dg_script.specs.Ranges.{AreTwo, IsVersion}
+use Rattle.dg_script.specs.Fitting.{StandsBy, StandsAt, FitsLine, IsTimed, IsPlayed}
 use Rattle.dg_script.specs.Reading.{Reads}
 use Rattle.dg_script.specs.declared.fault.LineFault.{LineFault}
 use Rattle.dg_script.specs.declared.fault.LineFault.TheVariants as fault
@@ -44,20 +45,17 @@ standing-by v place u h =
 timed : (dt draw : List ℕ) (d w : ℕ) → number_in dt ≡ Ok d → number_in draw ≡ Ok w → IsTimed d w
 timed dt draw d w e f = record { dt = number_in-fits dt d e; draw = number_in-fits draw w f }
 
-counted : (word : List ℕ) (n : ℕ) → counted_in word ≡ Ok n → IsCounted n
-counted word n h = let here = ranged_in-within fault.Number 1 most_number word n h in record { counted = here.0; fits = omega (arith, here.1) }
+counted : (word : List ℕ) (n : ℕ) → counted_in word ≡ Ok n → (1 ≤ n) × (n < 2 ^ 32)
+counted word n h = let here = ranged_in-within fault.Number 1 most_number word n h in (here.0, omega (arith, here.1))
 
-numbered : (word : List ℕ) (n : ℕ) → version_in word ≡ Ok n → IsCounted n
-numbered word n h = let here = ranged_in-within fault.Version 1 most_number word n h in record { counted = here.0; fits = omega (arith, here.1) }
+numbered : (word : List ℕ) (n : ℕ) → version_in word ≡ Ok n → (1 ≤ n) × (n < 2 ^ 32)
+numbered word n h = let here = ranged_in-within fault.Version 1 most_number word n h in (here.0, omega (arith, here.1))
 
 version_known : (image word : List ℕ) (i v : ℕ) → any_image_in image ≡ Ok i → version_in word ≡ Ok v → IsVersion i v
-version_known image word i v e f =
-    let here = ranged_in-within fault.Image 0 most_image image i e in
-    let there = ranged_in-within fault.Version 1 most_number word v f in
-    record { image = omega (arith, here.1); version = there.0; version_fits = omega (arith, there.1) }
+version_known image word i v e f = record { image = (ranged_in-within fault.Image 0 most_image image i e).1; version = (numbered word v f).0 }
 
 two : (motes : ℕ) (first second : List ℕ) (a b : ℕ) → mote_in motes first ≡ Ok a → other_in motes a second ≡ Ok b → AreTwo motes a b
-two motes first second a b e f = let other = other_in-other motes a second b f in record { first = mote_in-below motes first a e; second = other.0; other = other.1 }
+two motes first second a b e f = let other = other_in-other motes a second b f in record { first = mote_in-below motes first a e; second = other.0; two = λ same. other.1 (sym same) }
 
 motes_known : (place : Place) (fields : List (List ℕ)) (line : Line) → motes_of place fields ≡ Ok line → Known verb.Motes place line
 unfolding motes_of
@@ -142,8 +140,8 @@ image_known place fields line h =
     subst P here (record {
       stood = standing-by verb.Image place u.0 u.1;
       fitting = record {
-        image = number.0;
-        image_fits = omega (arith, number.1);
+        not_golden = number.0;
+        image = number.1;
         version = some.0;
         version_fits = omega (arith, some.1);
         name = name_of-name t.0.2 name.0 name.1;
@@ -182,7 +180,7 @@ hear_known place fields line h =
     let P : Line → Type 0 = λ l. Known verb.Hear place l in
     subst P here (record {
       stood = standing-by verb.Hear place u.0 u.1;
-      fitting = (mote_in-below place.motes t.0.0 mote.0 mote.1, timed t.0.1 t.0.2 dt.0 draw.0 dt.1 draw.1, counted t.0.3 frame.0 frame.1);
+      fitting = let count = counted t.0.3 frame.0 frame.1 in ((mote_in-below place.motes t.0.0 mote.0 mote.1, count.0), (timed t.0.1 t.0.2 dt.0 draw.0 dt.1 draw.1, count.1));
       playing = λ p. p;
     })
 
@@ -233,7 +231,10 @@ inject_known place fields line h =
     let P : Line → Type 0 = λ l. Known verb.Inject place l in
     subst P here (record {
       stood = standing-by verb.Inject place u.0 u.1;
-      fitting = (mote_in-below place.motes t.0.0 mote.0 mote.1, version_known t.0.1 t.0.2 image.0 version.0 image.1 version.1, timed t.0.3 t.0.4 dt.0 draw.0 dt.1 draw.1);
+      fitting = (
+        (mote_in-below place.motes t.0.0 mote.0 mote.1, version_known t.0.1 t.0.2 image.0 version.0 image.1 version.1),
+        (timed t.0.3 t.0.4 dt.0 draw.0 dt.1 draw.1, (numbered t.0.2 version.0 version.1).1),
+      );
       playing = λ p. p;
     })
 
@@ -248,12 +249,16 @@ order_known place fields line h =
     let version = bound (version_in t.0.3) _ line image.2 in
     let dt = bound (number_in t.0.4) _ line version.2 in
     let draw = bound (number_in t.0.5) _ line dt.2 in
+    let count = numbered t.0.1 number.0 number.1 in
     let order : Line = EventLine (Order mote.0 number.0 image.0 version.0 dt.0 draw.0) in
     let here : order ≡ line = same_of_ok order line _ _ refl refl draw.2 in
     let P : Line → Type 0 = λ l. Known verb.Order place l in
     subst P here (record {
       stood = standing-by verb.Order place u.0 u.1;
-      fitting = (mote_in-below place.motes t.0.0 mote.0 mote.1, numbered t.0.1 number.0 number.1, version_known t.0.2 t.0.3 image.0 version.0 image.1 version.1, timed t.0.4 t.0.5 dt.0 draw.0 dt.1 draw.1);
+      fitting = (
+        (mote_in-below place.motes t.0.0 mote.0 mote.1, version_known t.0.2 t.0.3 image.0 version.0 image.1 version.1, (numbered t.0.3 version.0 version.1).1, count.0, count.1),
+        timed t.0.4 t.0.5 dt.0 draw.0 dt.1 draw.1,
+      );
       playing = λ p. p;
     })
 
@@ -271,7 +276,7 @@ frame_known place fields line h =
     let P : Line → Type 0 = λ l. Known verb.Frame place l in
     subst P here (record {
       stood = standing-by verb.Frame place u.0 u.1;
-      fitting = (mote_in-below place.motes t.0.0 mote.0 mote.1, timed t.0.1 t.0.2 dt.0 draw.0 dt.1 draw.1, record { few = size.high; bytes = size.bytes });
+      fitting = ((mote_in-below place.motes t.0.0 mote.0 mote.1, record { few = size.high; bytes = size.bytes }), timed t.0.1 t.0.2 dt.0 draw.0 dt.1 draw.1);
       playing = λ p. p;
     })
 
@@ -290,10 +295,8 @@ cut_known place fields line h =
     subst P here (record {
       stood = standing-by verb.Cut place u.0 u.1;
       fitting = record {
-        counted = cut.0.numbered;
-        fits = omega (arith, is.0, count.fits);
-        some = cut.0.some;
-        few = cut.0.within;
+        range = record { counted = cut.0.numbered; some = cut.0.some; few = cut.0.within };
+        fits = omega (arith, is.0, count.1);
         bytes = subst AreBytes (sym is.1) (mask_of-bytes t.0.1 mask.0 mask.1);
       };
       playing = λ p. p;

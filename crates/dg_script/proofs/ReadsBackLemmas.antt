@@ -1,5 +1,5 @@
 -- A line that is written is read as the same.
-use Rattle.std.proofs.Common.{◌≡◌, ℕ, ◌<◌, ◌≤◌, true, false, List, [], ◌∷◌, ◌++◌, length, Ok, decimal, refl, arith}
+use Rattle.std.proofs.Common.{◌≡◌, ℕ, ◌<◌, ◌≤◌, true, false, List, [], ◌∷◌, ◌++◌, length, Ok, decimal, refl, sym, arith}
 use Rattle.dg_base.specs.Hexadecimal.{hex_text}
 use Rattle.dg_base.specs.Sizes.{longest_frame}
 use Rattle.dg_base.specs.declared.events.Event.{Event}
@@ -12,7 +12,8 @@ use Rattle.dg_script.specs.Verbs.{word_of, is_played}
 use Rattle.dg_script.specs.Places.{is_linked, is_narrow}
 use Rattle.dg_script.specs.Fields.{ranged_in}
 use Rattle.dg_script.specs.Lines.{motes_of, golden_of, boards_of, link_of, narrow_of, image_of, tick_of, hear_of, last_line_of, reset_of, inject_of, order_of, frame_of, cut_of, round_of, sweeps_of, line_of}
-use Rattle.dg_script.specs.Fitting.{StandsBy, StandsAt, FitsLine, FitsEvent, IsVersion, AreTwo, IsPlayed, verb_of_event}
+use Rattle.dg_script.specs.Ranges.{AreTwo, IsVersion}
+use Rattle.dg_script.specs.Fitting.{StandsBy, StandsAt, FitsLine, FitsEvent, IsPlayed, verb_of_event}
 use Rattle.dg_script.specs.Spelling.{content_text, event_words, line_text, IsShort}
 use Rattle.dg_script.specs.declared.fault.LineFault.TheVariants as fault
 use Rattle.dg_script.specs.declared.line.Line.{Line}
@@ -51,7 +52,7 @@ link_read place a b stands new few fits plays =
     let x = number a (omega (arith, few.first)) in
     let y = number b (omega (arith, few.second)) in
     reads_words verb.Link place (decimal a ∷ decimal b ∷ []) (Link a b) (x.word, (y.word, tt)) (omega (arith, x.short, y.short)) plays
-    (rw (stood verb.Link place stands, mote place.motes a x fits.first, other_mote place.motes a b y fits.second fits.other, new) refl)
+    (rw (stood verb.Link place stands, mote place.motes a x fits.first, other_mote place.motes a b y fits.second (λ same. fits.two (sym same)), new) refl)
 
 narrow_read : (place : Place) (m : ℕ) → StandsBy verb.Narrow place → is_narrow place.narrow m ≡ false → m < most_motes → m < place.motes → is_played verb.Narrow ≡ true
     → line_of place (word_of verb.Narrow ++ behind_spaces (decimal m ∷ [])) ≡ Ok (Narrow m)
@@ -65,22 +66,22 @@ image_read : (place : Place) (image version : ℕ) (called bytes : List ℕ) →
     → line_of place (word_of verb.Image ++ behind_spaces (decimal image ∷ decimal version ∷ called ∷ content_text bytes ∷ [])) ≡ Ok (Image image version called bytes)
 unfolding image_of
 image_read place image version called bytes stands fits short plays =
-    let i = number image (omega (arith, fits.image_fits)) in
+    let i = number image (omega (arith, fits.image)) in
     let v = number version fits.version_fits in
     let a = name called fits.name in
     let c = content 0 most_content bytes fits.bytes (omega arith) fits.fits in
     reads_words verb.Image place (decimal image ∷ decimal version ∷ called ∷ content_text bytes ∷ []) (Image image version called bytes) (i.word, (v.word, (a.word, (c.word, tt))))
     (omega (arith, i.short, v.short, a.short, c.size, short)) plays
-    (rw (stood verb.Image place stands, ranged fault.Image 1 image most_image i fits.image (omega (arith, fits.image_fits)), ranged fault.Version 1 version most_number v fits.version (omega (arith, fits.version_fits)), a.read, c.read) refl)
+    (rw (stood verb.Image place stands, ranged fault.Image 1 image most_image i fits.not_golden fits.image, ranged fault.Version 1 version most_number v fits.version (omega (arith, fits.version_fits)), a.read, c.read) refl)
 
 cut_read : (place : Place) (cut : CutOfPower) → StandsBy verb.Cut place → FitsLine most_motes (Cut cut) → is_played verb.Cut ≡ true
     → line_of place (word_of verb.Cut ++ behind_spaces (decimal cut.after ∷ hex_text cut.mask ∷ [])) ≡ Ok (Cut cut)
 unfolding cut_of
 cut_read place cut stands fits plays =
     let a = number cut.after fits.fits in
-    let m = mask cut.mask fits.bytes fits.some fits.few in
-    reads_words verb.Cut place (decimal cut.after ∷ hex_text cut.mask ∷ []) (Cut cut) (a.word, (m.word, tt)) (omega (arith, a.short, m.size, fits.few)) plays
-    (rw (stood verb.Cut place stands, ranged fault.Number 1 cut.after most_number a fits.counted (omega (arith, fits.fits)), m.read, cut_with-ok cut) refl)
+    let m = mask cut.mask fits.bytes fits.range.some fits.range.few in
+    reads_words verb.Cut place (decimal cut.after ∷ hex_text cut.mask ∷ []) (Cut cut) (a.word, (m.word, tt)) (omega (arith, a.short, m.size, fits.range.few)) plays
+    (rw (stood verb.Cut place stands, ranged fault.Number 1 cut.after most_number a fits.range.counted (omega (arith, fits.fits)), m.read, cut_with-ok cut) refl)
 
 round_read : (place : Place) (a b : ℕ) → StandsBy verb.Round place → AreTwo most_motes a b → AreTwo place.motes a b → is_played verb.Round ≡ true
     → line_of place (word_of verb.Round ++ behind_spaces (decimal a ∷ decimal b ∷ [])) ≡ Ok (Round a b)
@@ -89,7 +90,7 @@ round_read place a b stands few fits plays =
     let x = number a (omega (arith, few.first)) in
     let y = number b (omega (arith, few.second)) in
     reads_words verb.Round place (decimal a ∷ decimal b ∷ []) (Round a b) (x.word, (y.word, tt)) (omega (arith, x.short, y.short)) plays
-    (rw (stood verb.Round place stands, mote place.motes a x fits.first, other_mote place.motes a b y fits.second fits.other) refl)
+    (rw (stood verb.Round place stands, mote place.motes a x fits.first, other_mote place.motes a b y fits.second (λ same. fits.two (sym same))) refl)
 
 sweeps_read : (place : Place) (n : ℕ) → StandsBy verb.Sweeps place → 1 ≤ n → n ≤ most_sweeps → is_played verb.Sweeps ≡ true → line_of place (word_of verb.Sweeps ++ behind_spaces (decimal n ∷ [])) ≡ Ok (Sweeps n)
 unfolding sweeps_of
@@ -113,12 +114,12 @@ tick_read place m d w stands few fits plays =
 hear_read : (place : Place) (m d w k : ℕ) → EventReads place (Hear m d w k)
 unfolding hear_of
 hear_read place m d w k stands few fits plays =
-    let a = number m (omega (arith, few.0)) in
-    let b = number d fits.1.dt in
-    let c = number w fits.1.draw in
-    let e = number k fits.2.fits in
+    let a = number m (omega (arith, few.0.0)) in
+    let b = number d fits.1.0.dt in
+    let c = number w fits.1.0.draw in
+    let e = number k fits.1.1 in
     reads_words verb.Hear place (decimal m ∷ decimal d ∷ decimal w ∷ decimal k ∷ []) (EventLine (Hear m d w k)) (a.word, (b.word, (c.word, (e.word, tt)))) (omega (arith, a.short, b.short, c.short, e.short)) plays
-    (rw (stood verb.Hear place stands, mote place.motes m a fits.0, b.read, c.read, ranged fault.Number 1 k most_number e fits.2.counted (omega (arith, fits.2.fits))) refl)
+    (rw (stood verb.Hear place stands, mote place.motes m a fits.0.0, b.read, c.read, ranged fault.Number 1 k most_number e fits.0.1 (omega (arith, fits.1.1))) refl)
 
 last_read : (place : Place) (a b d w : ℕ) → EventReads place (Last a b d w)
 unfolding last_line_of
@@ -128,7 +129,7 @@ last_read place a b d w stands few fits plays =
     let p = number d fits.1.dt in
     let q = number w fits.1.draw in
     reads_words verb.Last place (decimal a ∷ decimal b ∷ decimal d ∷ decimal w ∷ []) (EventLine (Last a b d w)) (x.word, (y.word, (p.word, (q.word, tt)))) (omega (arith, x.short, y.short, p.short, q.short)) plays
-    (rw (stood verb.Last place stands, mote place.motes a x fits.0.first, other_mote place.motes a b y fits.0.second fits.0.other, p.read, q.read) refl)
+    (rw (stood verb.Last place stands, mote place.motes a x fits.0.first, other_mote place.motes a b y fits.0.second (λ same. fits.0.two (sym same)), p.read, q.read) refl)
 
 reset_read : (place : Place) (m d w : ℕ) → EventReads place (Reset m d w)
 unfolding reset_of
@@ -140,7 +141,7 @@ reset_read place m d w stands few fits plays =
     (rw (stood verb.Reset place stands, mote place.motes m a fits.0, b.read, c.read) refl)
 
 any_image : (image version : ℕ) → IsNumber image → IsVersion image version → ranged_in fault.Image 0 most_image (decimal image) ≡ Ok image
-any_image image version is fits = ranged fault.Image 0 image most_image is (omega arith) (omega (arith, fits.image))
+any_image image version is fits = ranged fault.Image 0 image most_image is (omega arith) fits.image
 
 some_version : (version : ℕ) → IsNumber version → 1 ≤ version → ranged_in fault.Version 1 most_number (decimal version) ≡ Ok version
 some_version version is low = ranged fault.Version 1 version most_number is low (omega (arith, is.small))
@@ -148,38 +149,38 @@ some_version version is low = ranged fault.Version 1 version most_number is low 
 inject_read : (place : Place) (m i v d w : ℕ) → EventReads place (Inject m i v d w)
 unfolding inject_of
 inject_read place m i v d w stands few fits plays =
-    let a = number m (omega (arith, few.0)) in
-    let x = number i (omega (arith, fits.1.image)) in
-    let y = number v fits.1.version_fits in
-    let b = number d fits.2.dt in
-    let c = number w fits.2.draw in
+    let a = number m (omega (arith, few.0.0)) in
+    let x = number i (omega (arith, fits.0.1.image)) in
+    let y = number v fits.1.1 in
+    let b = number d fits.1.0.dt in
+    let c = number w fits.1.0.draw in
     reads_words verb.Inject place (decimal m ∷ decimal i ∷ decimal v ∷ decimal d ∷ decimal w ∷ []) (EventLine (Inject m i v d w)) (a.word, (x.word, (y.word, (b.word, (c.word, tt)))))
     (omega (arith, a.short, x.short, y.short, b.short, c.short)) plays
-    (rw (stood verb.Inject place stands, mote place.motes m a fits.0, any_image i v x fits.1, some_version v y fits.1.version, b.read, c.read) refl)
+    (rw (stood verb.Inject place stands, mote place.motes m a fits.0.0, any_image i v x fits.0.1, some_version v y fits.0.1.version, b.read, c.read) refl)
 
 order_read : (place : Place) (m k i v d w : ℕ) → EventReads place (Order m k i v d w)
 unfolding order_of
 order_read place m k i v d w stands few fits plays =
-    let a = number m (omega (arith, few.0)) in
-    let n = number k fits.1.fits in
-    let x = number i (omega (arith, fits.2.image)) in
-    let y = number v fits.2.version_fits in
-    let b = number d fits.3.dt in
-    let c = number w fits.3.draw in
+    let a = number m (omega (arith, few.0.0)) in
+    let n = number k fits.0.4 in
+    let x = number i (omega (arith, fits.0.1.image)) in
+    let y = number v fits.0.2 in
+    let b = number d fits.1.dt in
+    let c = number w fits.1.draw in
     reads_words verb.Order place (decimal m ∷ decimal k ∷ decimal i ∷ decimal v ∷ decimal d ∷ decimal w ∷ []) (EventLine (Order m k i v d w)) (a.word, (n.word, (x.word, (y.word, (b.word, (c.word, tt))))))
     (omega (arith, a.short, n.short, x.short, y.short, b.short, c.short)) plays
-    (rw (stood verb.Order place stands, mote place.motes m a fits.0, some_version k n fits.1.counted, any_image i v x fits.2, some_version v y fits.2.version, b.read, c.read) refl)
+    (rw (stood verb.Order place stands, mote place.motes m a fits.0.0, some_version k n fits.0.3, any_image i v x fits.0.1, some_version v y fits.0.1.version, b.read, c.read) refl)
 
 frame_read : (place : Place) (m d w : ℕ) (bytes : List ℕ) → EventReads place (Frame m d w bytes)
 unfolding frame_of
 frame_read place m d w bytes stands few fits plays =
-    let a = number m (omega (arith, few.0)) in
+    let a = number m (omega (arith, few.0.0)) in
     let b = number d fits.1.dt in
     let c = number w fits.1.draw in
-    let f = content 0 longest_frame bytes fits.2.bytes (omega arith) fits.2.few in
+    let f = content 0 longest_frame bytes fits.0.1.bytes (omega arith) fits.0.1.few in
     reads_words verb.Frame place (decimal m ∷ decimal d ∷ decimal w ∷ content_text bytes ∷ []) (EventLine (Frame m d w bytes)) (a.word, (b.word, (c.word, (f.word, tt))))
-    (omega (arith, a.short, b.short, c.short, f.size, fits.2.few)) plays
-    (rw (stood verb.Frame place stands, mote place.motes m a fits.0, b.read, c.read, f.read) refl)
+    (omega (arith, a.short, b.short, c.short, f.size, fits.0.1.few)) plays
+    (rw (stood verb.Frame place stands, mote place.motes m a fits.0.0, b.read, c.read, f.read) refl)
 
 event_read : (place : Place) (event : Event) → EventReads place event
 event_read place (Tick m d w) = tick_read place m d w

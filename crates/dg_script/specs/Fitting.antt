@@ -1,14 +1,14 @@
 -- What is known of lines that were read, and where they may stand.
-use Rattle.std.specs.Prelude.{◌≡◌, ◌≢◌, ℕ, ◌<◌, ◌≤◌, ◌^◌, IsTrue, true, false, length, List}
+use Rattle.std.specs.Prelude.{◌≡◌, ℕ, ◌<◌, ◌≤◌, ◌^◌, IsTrue, true, false, length, List}
 use Rattle.dg_words.specs.Cells.{AreBytes}
 use Rattle.dg_base.specs.Texts.{spells_name}
-use Rattle.dg_base.specs.Sizes.{longest_frame, longest_mask}
 use Rattle.dg_base.specs.declared.events.Event.{Event}
 use Rattle.dg_base.specs.declared.events.Event.TheVariants.{Tick, Hear, Last, Reset, Inject, Order, Frame}
 use Rattle.dg_base.specs.declared.events.Cut.{Cut as CutOfPower}
 use Rattle.dg_object.specs.Sizes.{most_bytes}
 use Rattle.dg_object.specs.Object.{Row, row_of}
-use Rattle.dg_script.specs.Sizes.{most_motes, most_image, most_used, most_content, most_sweeps}
+use Rattle.dg_script.specs.Sizes.{most_motes, most_used, most_sweeps}
+use Rattle.dg_script.specs.Ranges.{IsDeclared, AreTwo, EventInRange, CutInRange}
 use Rattle.dg_script.specs.Verbs.{is_played, stands, follows}
 use Rattle.dg_script.specs.Places.{is_linked, is_narrow}
 use Rattle.dg_script.specs.declared.line.Line.{Line}
@@ -27,59 +27,34 @@ pub record IsGolden (called : List ℕ) (spent : ℕ) (content : List ℕ) : Typ
   pub fits : length content ≤ most_bytes
   pub bytes : AreBytes content
 
--- an image that is declared has a number from 1 to 6, a version and a name
-pub record FitsImage (i v : ℕ) (called content : List ℕ) : Type 0 where
-  pub image : 1 ≤ i
-  pub image_fits : i ≤ most_image
-  pub version : 1 ≤ v
-  pub version_fits : v < 2 ^ 32
-  pub name : IsTrue (spells_name called)
-  pub fits : length content ≤ most_content
-  pub bytes : AreBytes content
-
--- a cut is in a numbered operation, and leaves 1 to 2,048 bytes
+-- a cut is in its range, its operation has a number of 32 bits, and it leaves bytes
 pub record FitsCut (cut : CutOfPower) : Type 0 where
-  pub counted : 1 ≤ cut.after
+  pub range : CutInRange cut
   pub fits : cut.after < 2 ^ 32
-  pub some : 1 ≤ length cut.mask
-  pub few : length cut.mask ≤ longest_mask
   pub bytes : AreBytes cut.mask
 
--- what each event has besides its own numbers
+-- the step of time and the word of each event are of 32 bits
 pub record IsTimed (d w : ℕ) : Type 0 where
   pub dt : d < 2 ^ 32
   pub draw : w < 2 ^ 32
 
--- two different ones of so many motes
-pub record AreTwo (motes a b : ℕ) : Type 0 where
-  pub first : a < motes
-  pub second : b < motes
-  pub other : b ≢ a
+-- the numbers of an event that its range does not bound from above are of 32 bits
+abbrev pub AreNumbers : Event → Type 0
+AreNumbers (Tick mote dt draw) = IsTimed dt draw
+AreNumbers (Hear mote dt draw frame) = IsTimed dt draw × (frame < 2 ^ 32)
+AreNumbers (Last from to dt draw) = IsTimed dt draw
+AreNumbers (Reset mote dt draw) = IsTimed dt draw
+AreNumbers (Inject mote image version dt draw) = IsTimed dt draw × (version < 2 ^ 32)
+AreNumbers (Order mote number image version dt draw) = IsTimed dt draw
+AreNumbers (Frame mote dt draw bytes) = IsTimed dt draw
 
--- an image, from 0 to 6, and a version of it
-pub record IsVersion (i v : ℕ) : Type 0 where
-  pub image : i ≤ most_image
-  pub version : 1 ≤ v
-  pub version_fits : v < 2 ^ 32
-
-pub record IsCounted (n : ℕ) : Type 0 where
-  pub counted : 1 ≤ n
-  pub fits : n < 2 ^ 32
-
-pub record IsFrame (content : List ℕ) : Type 0 where
-  pub few : length content ≤ longest_frame
-  pub bytes : AreBytes content
-
--- an event is at one of so many motes
+-- an event at one of so many motes is in its range, and its numbers are of 32 bits
 abbrev pub FitsEvent : ℕ → Event → Type 0
-FitsEvent motes (Tick mote dt draw) = (mote < motes) × IsTimed dt draw
-FitsEvent motes (Hear mote dt draw frame) = (mote < motes) × IsTimed dt draw × IsCounted frame
-FitsEvent motes (Last from to dt draw) = AreTwo motes from to × IsTimed dt draw
-FitsEvent motes (Reset mote dt draw) = (mote < motes) × IsTimed dt draw
-FitsEvent motes (Inject mote image version dt draw) = (mote < motes) × IsVersion image version × IsTimed dt draw
-FitsEvent motes (Order mote number image version dt draw) = (mote < motes) × IsCounted number × IsVersion image version
-    × IsTimed dt draw
-FitsEvent motes (Frame mote dt draw bytes) = (mote < motes) × IsTimed dt draw × IsFrame bytes
+FitsEvent motes event = EventInRange motes event × AreNumbers event
+
+-- the row that an `image` line declares
+abbrev pub declared_row : (image version : ℕ) (name content : List ℕ) → Row
+declared_row image version name content = row_of image version name content
 
 -- the fields of a line are in their ranges, where there are so many motes
 abbrev pub FitsLine : ℕ → Line → Type 0
@@ -89,7 +64,7 @@ FitsLine motes (Golden name used content) = IsGolden name used content
 FitsLine motes Boards = Unit {0}
 FitsLine motes (Link a b) = AreTwo motes a b
 FitsLine motes (Narrow mote) = mote < motes
-FitsLine motes (Image image version name content) = FitsImage image version name content
+FitsLine motes (Image image version name content) = IsDeclared (declared_row image version name content)
 FitsLine motes (Cut cut) = FitsCut cut
 FitsLine motes (EventLine event) = FitsEvent motes event
 FitsLine motes (Round a b) = AreTwo motes a b
@@ -154,7 +129,3 @@ UsesBoard (Cut cut) = ⊥
 UsesBoard (EventLine event) = Unit {0}
 UsesBoard (Round a b) = Unit {0}
 UsesBoard (Sweeps n) = Unit {0}
-
--- the row that an `image` line declares
-abbrev pub declared_row : (image version : ℕ) (name content : List ℕ) → Row
-declared_row image version name content = row_of image version name content

@@ -19,9 +19,9 @@ use Rattle.dg_rules.specs.World.{World, Running, site, off_site, first_world}
 use Rattle.dg_rules.specs.Events.{Does, Refuses, Goes, does, mote_of, dt_of}
 use Rattle.dg_rules.specs.Steps.{WorldStep, StepDoes, DeclareStep, EndsRun, done_world}
 use Rattle.dg_rules.specs.Runs.{Played, ItemStep, Plays}
-use Rattle.dg_rules.specs.Ranges.{EventInRange, StepInRange}
+use Rattle.dg_script.specs.Ranges.{IsDeclared, EventInRange, StepInRange}
 use Rattle.dg_rules.specs.Begins.{store_of}
-use Rattle.dg_rules.specs.Premises.{IsDeclared, ItemInRange, PlayedInRange}
+use Rattle.dg_rules.specs.Premises.{ItemInRange, PlayedInRange}
 use Rattle.dg_rules.specs.Consistency.{SiteConsistent, WorldConsistent, LeavesConsistent, StartsSoundDoes, StartsSoundItem, StartsSound, StopsConsistent}
 use Rattle.dg_rules.specs.Golden.{SiteKeepsGolden, WorldKeepsGolden, FindsImage}
 use Rattle.dg_rules.proofs.PlayLemmas.{plays, all_then}

@@ -16,7 +16,7 @@ use Rattle.dg_nor.specs.Device.{Device, Endures}
 use Rattle.dg_nor.specs.Fuse.{beneath_of}
 use Rattle.dg_volume.specs.Stands.{IsVolume}
 use Rattle.dg_rules.specs.Events.{mote_of, dt_of}
-use Rattle.dg_rules.specs.Ranges.{EventInRange}
+use Rattle.dg_script.specs.Ranges.{EventInRange}
 use Rattle.dg_script.specs.Sizes.{most_motes}
 use Rattle.dg_script.specs.Fitting.{FitsEvent, FitsLine}
 use Rattle.dg_script.specs.Spelling.{line_text}
@@ -287,12 +287,12 @@ link_counts why old new is counts = subst (λ (w : Stop). FailuresBy {T = Unit {
 -- the line of an event fits where there may be more motes
 fits_event : (motes : ℕ) (event : Event) → motes ≤ most_motes → FitsEvent motes event → FitsEvent most_motes event
 fits_event motes (Tick m dt draw) few h = (omega (arith, few, h.0), h.1)
-fits_event motes (Hear m dt draw frame) few h = (omega (arith, few, h.0), h.1, h.2)
-fits_event motes (Last from to dt draw) few h = (record { first = omega (arith, few, h.0.first); second = omega (arith, few, h.0.second); other = h.0.other }, h.1)
+fits_event motes (Hear m dt draw frame) few h = ((omega (arith, few, h.0.0), h.0.1), h.1)
+fits_event motes (Last from to dt draw) few h = (record { first = omega (arith, few, h.0.first); second = omega (arith, few, h.0.second); two = h.0.two }, h.1)
 fits_event motes (Reset m dt draw) few h = (omega (arith, few, h.0), h.1)
-fits_event motes (Inject m image version dt draw) few h = (omega (arith, few, h.0), h.1, h.2)
-fits_event motes (Order m number image version dt draw) few h = (omega (arith, few, h.0), h.1, h.2, h.3)
-fits_event motes (Frame m dt draw bytes) few h = (omega (arith, few, h.0), h.1, h.2)
+fits_event motes (Inject m image version dt draw) few h = ((omega (arith, few, h.0.0), h.0.1), h.1)
+fits_event motes (Order m number image version dt draw) few h = ((omega (arith, few, h.0.0), h.0.1, h.0.2, h.0.3, h.0.4), h.1)
+fits_event motes (Frame m dt draw bytes) few h = ((omega (arith, few, h.0.0), h.0.1), h.1)
 
 pub fits_more : (motes : ℕ) (line : Line) → motes ≤ most_motes → IsEventLine line → FitsLine motes line → FitsLine most_motes line
 fits_more motes line few told fits =

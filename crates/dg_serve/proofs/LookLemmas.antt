@@ -3,7 +3,7 @@ use Rattle.std.proofs.Common.{◌≡◌, ◌≢◌, ℕ, ◌≤◌, List, [], �
 use Rattle.std.specs.Prelude.{Option, Some, None, Result, Ok, Err, IsErrAnd}
 use Rattle.dg_words.specs.Counts.{Rose}
 use Rattle.dg_link.specs.Inboxes.{Inboxes, TakesFrame, IsEmptyAt}
-use Rattle.dg_script.specs.Fitting.{IsFrame}
+use Rattle.dg_script.specs.Ranges.{IsFrame}
 use Rattle.dg_nor.specs.Device.{Device}
 use Rattle.dg_serve.specs.Services.{Looks, Moment}
 use Rattle.dg_serve.specs.Endings.{BoardsStand, BoardsLeft, LinkLeft}

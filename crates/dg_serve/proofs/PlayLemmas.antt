@@ -11,7 +11,7 @@ use Rattle.dg_volume.specs.Stands.{Stands, IsVolume, IsNoVolume}
 use Rattle.dg_script.specs.Places.{none_narrow}
 use Rattle.dg_rules.specs.World.{World, Running, site, is_wide_mote, wide_at, store_at}
 use Rattle.dg_rules.specs.Premises.{WorldTimely}
-use Rattle.dg_rules.specs.Ranges.{EventInRange, StepInRange}
+use Rattle.dg_script.specs.Ranges.{EventInRange, StepInRange}
 use Rattle.dg_rules.specs.Events.{mote_of, dt_of}
 use Rattle.dg_rules.specs.Steps.{WorldStep}
 use Rattle.dg_base.specs.declared.events.Step.{Step}

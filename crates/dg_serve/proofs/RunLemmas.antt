@@ -13,7 +13,7 @@ use Rattle.dg_rules.specs.World.{World, first_world}
 use Rattle.dg_rules.specs.Changes.{is_reported}
 use Rattle.dg_rules.specs.Steps.{WorldStep}
 use Rattle.dg_rules.specs.Runs.{Played, Plays}
-use Rattle.dg_rules.specs.Ranges.{EventInRange}
+use Rattle.dg_script.specs.Ranges.{EventInRange}
 use Rattle.dg_rules.specs.Begins.{AreShaped, PlaysBoards}
 use Rattle.dg_rules.specs.Premises.{PlayedInRange, LinkFits}
 use Rattle.dg_script.specs.Places.{none_narrow}
@@ -110,7 +110,7 @@ part_run motes (Ticks m) s es t fits h = applied_run motes s (λ dt draw. Tick m
 part_run motes (Looks m) s es t fits (inl h) =
     subst (λ (l : List Event). RunOf motes s.world l t.world) (sym h.nothing) (no_run motes s.world t.world (ap (λ (x : Moment). x.world) (sym h.same)))
 part_run motes (Looks m) s es t fits (inr h) =
-    applied_run motes (record s { inboxes = h.taken }) (λ dt draw. Frame m dt draw h.bytes) es t (λ dt draw. (fits, h.fits.few, h.fits.bytes)) h.heard
+    applied_run motes (record s { inboxes = h.taken }) (λ dt draw. Frame m dt draw h.bytes) es t (λ dt draw. (fits, h.fits)) h.heard
 
 pub serves_run : (motes : ℕ) (s : Moment) (parts : List Part) (es : List Event) (t : Moment) → AllByRecursion (PartFits motes) parts → PartsDone motes s parts es t → RunOf motes s.world es t.world
 unfolding PartsDone

@@ -18,7 +18,8 @@ use Rattle.dg_base.specs.declared.events.Event.{Event}
 use Rattle.dg_base.specs.declared.events.Event.TheVariants.{Tick, Hear, Last, Reset, Inject, Order, Frame}
 use Rattle.dg_netcfg.specs.Readings.{IsAllowed, IsSameLink}
 use Rattle.dg_netcfg.specs.declared.profile.NetProfile.{NetProfile}
-use Rattle.dg_script.specs.Fitting.{FitsEvent, IsTimed, AreTwo}
+use Rattle.dg_script.specs.Ranges.{AreTwo}
+use Rattle.dg_script.specs.Fitting.{FitsEvent, IsTimed}
 use Rattle.dg_script.specs.Lines.{line_of}
 use Rattle.dg_script.specs.Places.{first_place, place_after, joins, is_linked, none_narrow}
 use Rattle.dg_script.specs.Script.{Script, script_from, with_line}
@@ -262,8 +263,8 @@ links_read : (motes : ℕ) (before ls : List (ℕ × ℕ)) (n : ℕ) (events : L
 unfolding Pairs
 links_read motes before [] n events some few joined new apart served = events_read motes false before n events some few served
 links_read motes before (l ∷ ls) n events some few joined new apart served =
-    let two : AreTwo motes l.0 l.1 = record { first = joined.0.0; second = joined.0.1; other = λ e. joined.0.2 (sym e) } in
-    let most : AreTwo most_motes l.0 l.1 = record { first = omega (arith, joined.0.0, few); second = omega (arith, joined.0.1, few); other = λ e. joined.0.2 (sym e) } in
+    let two : AreTwo motes l.0 l.1 = record { first = joined.0.0; second = joined.0.1; two = joined.0.2 } in
+    let most : AreTwo most_motes l.0 l.1 = record { first = omega (arith, joined.0.0, few); second = omega (arith, joined.0.1, few); two = joined.0.2 } in
     let place = behind_head motes false before in
     script_next place n (Link l.0 l.1) (map line_text (map link_line ls ++ map EventLine events)) (record { lines = map link_line ls ++ map EventLine events; fault = None })
     (line_reads place (Link l.0 l.1) most tt (record { fits = and_from _ _ (and_from _ _ (some_motes motes some) refl) refl; behind = refl }, new.0) two refl)
@@ -295,7 +296,7 @@ lines_read profile events allowed served =
 line_event : (motes : ℕ) (event : Event) → motes ≤ most_motes → IsServed motes event → TracedEvent event
 line_event motes (Tick m d w) few h = (omega (arith, few, h.0), h.1)
 line_event motes (Reset m d w) few h = (omega (arith, few, h.0), h.1)
-line_event motes (Frame m d w bytes) few h = (omega (arith, few, h.0), h.1)
+line_event motes (Frame m d w bytes) few h = (omega (arith, few, h.0.0), h.1)
 line_event motes (Hear m d w k) few h = absurd h
 line_event motes (Last x y d w) few h = absurd h
 line_event motes (Inject m i v d w) few h = absurd h
@@ -326,7 +327,7 @@ part_served : (motes : ℕ) (part : Part) (s : Moment) (es : List Event) (t : Mo
 part_served motes (Begins m) s es t fits h = applied_served motes s (λ dt draw. Reset m dt draw) es t (λ dt draw timed. (fits, timed)) h
 part_served motes (Ticks m) s es t fits h = applied_served motes s (λ dt draw. Tick m dt draw) es t (λ dt draw timed. (fits, timed)) h
 part_served motes (Looks m) s es t fits (inl h) = subst (AllByRecursion (IsServed motes)) (sym h.nothing) tt
-part_served motes (Looks m) s es t fits (inr h) = applied_served motes (record s { inboxes = h.taken }) (λ dt draw. Frame m dt draw h.bytes) es t (λ dt draw timed. (fits, timed, h.fits)) h.heard
+part_served motes (Looks m) s es t fits (inr h) = applied_served motes (record s { inboxes = h.taken }) (λ dt draw. Frame m dt draw h.bytes) es t (λ dt draw timed. ((fits, h.fits), timed)) h.heard
 
 pub all_served : (motes : ℕ) (s : Moment) (parts : List Part) (es : List Event) (t : Moment) → AllByRecursion (PartFits motes) parts → PartsDone motes s parts es t → AllByRecursion (IsServed motes) es
 unfolding PartsDone

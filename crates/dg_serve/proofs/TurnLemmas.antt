@@ -7,7 +7,7 @@ use Rattle.dg_base.specs.Outside.{Puts}
 use Rattle.dg_base.specs.declared.events.Event.{Event}
 use Rattle.dg_base.specs.declared.events.Event.TheVariants.{Tick, Reset, Frame}
 use Rattle.dg_link.specs.Inboxes.{Inboxes, TakesFrame}
-use Rattle.dg_script.specs.Fitting.{IsFrame}
+use Rattle.dg_script.specs.Ranges.{IsFrame}
 use Rattle.dg_nor.specs.Device.{Device}
 use Rattle.dg_volume.specs.Stands.{IsVolume}
 use Rattle.dg_rules.specs.World.{World, Running, site, store_at}

@@ -6,7 +6,7 @@ use Rattle.dg_object.specs.Object.{Row}
 use Rattle.dg_volume.specs.Store.{Store}
 use Rattle.dg_rules.specs.World.{World, first_world}
 use Rattle.dg_rules.specs.Runs.{Played, Plays, EachAfter}
-use Rattle.dg_rules.specs.Ranges.{EventInRange}
+use Rattle.dg_script.specs.Ranges.{EventInRange}
 use Rattle.dg_rules.specs.Begins.{store_of, StoresAgree, HoldsTo, HoldsToThen}
 use Rattle.dg_rules.specs.Premises.{PlayedInRange, LeavesAgreement, WorldAgrees}
 use Rattle.dg_rules.specs.Promises.{IsLegal, KeepsAll, StartsRow, StopsAgree}

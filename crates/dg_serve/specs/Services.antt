@@ -9,7 +9,8 @@ use Rattle.dg_base.specs.declared.events.Event.TheVariants.{Tick, Reset, Frame}
 use Rattle.dg_link.specs.Inboxes.{Inboxes, TakesFrame, IsEmptyAt, delivered}
 use Rattle.dg_rules.specs.World.{World, Sent}
 use Rattle.dg_rules.specs.Steps.{WorldStep}
-use Rattle.dg_script.specs.Fitting.{IsFrame, IsTimed}
+use Rattle.dg_script.specs.Ranges.{IsFrame}
+use Rattle.dg_script.specs.Fitting.{IsTimed}
 use Rattle.dg_script.specs.Places.{is_linked}
 use Rattle.dg_script.specs.declared.report.Report.{Report}
 use Rattle.dg_world.specs.Alone.{uncut}

@@ -11,7 +11,7 @@ use Rattle.dg_nor.specs.Device.{Device, Endures}
 use Rattle.dg_nor.specs.Fuse.{beneath_of}
 use Rattle.dg_volume.specs.Stands.{Stands, IsVolume, IsNoVolume}
 use Rattle.dg_mote.specs.declared.outbox.Outbox.{Outbox}
-use Rattle.dg_script.specs.Fitting.{IsFrame}
+use Rattle.dg_script.specs.Ranges.{IsFrame}
 use Rattle.dg_script.specs.Places.{none_narrow}
 use Rattle.dg_rules.specs.World.{World, site, wide_at, store_at}
 use Rattle.dg_rules.specs.Events.{mote_of, dt_of}

@@ -2,7 +2,7 @@
 ghost use Rattle.std.specs.Prelude.{◌≡◌, ◌<◌, ◌≤◌, ◌∷◌, [], if◌then◌else◌, length, option_map, Some, IfErr, OnOk, OnErr};
 ghost use Rattle.std.specs.Prelude.{MatchResult};
 ghost use Rattle.dg_base.specs.Sizes.{longest_frame};
-ghost use Rattle.dg_script.specs.Fitting.{IsFrame};
+ghost use Rattle.dg_script.specs.Ranges.{IsFrame};
 ghost use Rattle.dg_script.specs.Places.{is_linked, joins};
 ghost use Rattle.dg_mote.specs.Motes.{sent_in};
 ghost use Rattle.dg_serve.specs.Services.{handed_to, neighbours_by};

@@ -5,7 +5,7 @@ ghost use Rattle.dg_base.specs.Clock.{Answers};
 ghost use Rattle.dg_netcfg.specs.Readings.{IsAllowed};
 ghost use Rattle.dg_nor.specs.Device.{Device};
 ghost use Rattle.dg_rules.specs.Events.{mote_of, dt_of};
-ghost use Rattle.dg_rules.specs.Ranges.{EventInRange};
+ghost use Rattle.dg_script.specs.Ranges.{EventInRange};
 ghost use Rattle.dg_script.specs.Fitting.{FitsLine};
 ghost use Rattle.dg_script.specs.Spelling.{IsShort};
 ghost use Rattle.dg_script.specs.declared.line.Line.TheVariants.{Event as EventLine};

@@ -9,7 +9,7 @@ use Rattle.rand_pcg.specs.Pcg.{pcg32}
 use Rattle.dg_base.specs.declared.events.Event.{Event}
 use Rattle.dg_base.specs.declared.events.Event.TheVariants.{Tick, Hear, Last, Reset, Inject}
 use Rattle.dg_rounds.specs.Rounds.{times, sweep, round, paced, passed}
-use Rattle.dg_rules.specs.Ranges.{EventInRange, StepInRange}
+use Rattle.dg_script.specs.Ranges.{AreTwo, EventInRange, StepInRange}
 use Rattle.dg_rules.specs.Premises.{LinkFits}
 use Rattle.dg_completion.proofs.GrowLemmas.{all_append, all_replicate, all_times}
 use Rattle.dg_trial.specs.Schedule.{Part, always, line, resets, beside, cut_reset, disturbed_at, disturbances, opening}
@@ -50,7 +50,7 @@ cut_fits motes a w2 w3 low = record { event = low; cut = record { counted = omeg
 disturbed_by : (ticks lasts hears : Bool) (motes a w2 w3 sent : ℕ) → 2 ≤ motes → a < motes
     → StepInRange motes (if ticks then uncut (Tick a (w2 % 1024) w3) else if lasts then uncut (Last (beside motes a) a (w2 % 1024) w3) else if hears then uncut (Hear a 1 w3 (1 + w2 % (sent + 1))) else cut_reset a w2 w3)
 disturbed_by true lasts hears motes a w2 w3 sent some low = uncut_fits motes (Tick a (w2 % 1024) w3) low
-disturbed_by false true hears motes a w2 w3 sent some low = let b = beside_fits motes a some low in uncut_fits motes (Last (beside motes a) a (w2 % 1024) w3) (b.0, low, b.1)
+disturbed_by false true hears motes a w2 w3 sent some low = let b = beside_fits motes a some low in uncut_fits motes (Last (beside motes a) a (w2 % 1024) w3) (record { first = b.0; second = low; two = b.1 })
 disturbed_by false false true motes a w2 w3 sent some low = hears_fit motes a w3 (w2 % (sent + 1)) low
 disturbed_by false false false motes a w2 w3 sent some low = cut_fits motes a w2 w3 low
 
@@ -76,12 +76,17 @@ line_fits motes zero h = tt
 line_fits motes (suc zero) h = tt
 line_fits motes (suc (suc n)) h = (record { first = omega arith; second = omega arith; two = λ e. let x : n ≡ n + 1 = e in omega (arith, x) }, line_fits motes (suc n) (omega arith))
 
-round_fits : (motes a b : ℕ) → a < motes → b < motes → a ≢ b → AllByRecursion (EventInRange motes) (round a b)
+turned : (motes a b : ℕ) → AreTwo motes a b → AreTwo motes b a
+turned motes a b l = record { first = l.second; second = l.first; two = λ same. l.two (sym same) }
+
+round_fits : (motes a b : ℕ) → AreTwo motes a b → AllByRecursion (EventInRange motes) (round a b)
 unfolding round
-round_fits motes a b first second two =
+round_fits motes a b l =
     let P : Event → Type 0 = EventInRange motes in
-    let there : EventInRange motes (passed a b) = (first, second, two) in
-    let back : EventInRange motes (passed b a) = (second, first, λ e. two (sym e)) in
+    let first : a < motes = l.first in
+    let second : b < motes = l.second in
+    let there : EventInRange motes (passed a b) = l in
+    let back : EventInRange motes (passed b a) = turned motes a b l in
     let tail : List Event = passed a b ∷ paced b ∷ passed b a ∷ times 48 (paced a ∷ passed a b ∷ []) in
     let three : AllByRecursion P (replicate 3 (paced a) ++ tail) =
     all_append P (replicate 3 (paced a)) tail (all_replicate P 3 (paced a) first) (there, (second, (back, all_times P 48 (paced a ∷ passed a b ∷ []) (first, (there, tt))))) in
@@ -93,8 +98,8 @@ unfolding sweep
 sweep_fits motes [] a = tt
 sweep_fits motes (l ∷ links) a =
     let P : Event → Type 0 = EventInRange motes in
-    all_append P (round l.0 l.1) (round l.1 l.0 ++ sweep links) (round_fits motes l.0 l.1 a.0.first a.0.second a.0.two)
-    (all_append P (round l.1 l.0) (sweep links) (round_fits motes l.1 l.0 a.0.second a.0.first (λ e. a.0.two (sym e))) (sweep_fits motes links a.1))
+    all_append P (round l.0 l.1) (round l.1 l.0 ++ sweep links) (round_fits motes l.0 l.1 a.0)
+    (all_append P (round l.1 l.0) (sweep links) (round_fits motes l.1 l.0 (turned motes l.0 l.1 a.0)) (sweep_fits motes links a.1))
 
 pub schedule_fits : (motes n sweeps : ℕ) (g : Lcg) → 2 ≤ motes → AllByRecursion (PartFits motes) (opening motes ++ (disturbances motes n g ++ map always (resets motes ++ times sweeps (sweep (line motes)))))
 schedule_fits motes n sweeps g some =
@@ -103,7 +108,7 @@ schedule_fits motes n sweeps g some =
     let all : motes ≤ motes = omega arith in
     let rest : List Event = resets motes ++ times sweeps (sweep (line motes)) in
     all_append P (opening motes) (disturbances motes n g ++ map always rest)
-    (all_append P (map always (resets motes)) (always (Inject 0 1 1 0 0) ∷ []) (always_fit motes (resets motes) (resets_fit motes motes all)) (λ sent. uncut_fits motes (Inject 0 1 1 0 0) (first, omega arith, omega arith), tt))
+    (all_append P (map always (resets motes)) (always (Inject 0 1 1 0 0) ∷ []) (always_fit motes (resets motes) (resets_fit motes motes all)) (λ sent. uncut_fits motes (Inject 0 1 1 0 0) (first, record { image = omega arith; version = omega arith }), tt))
     (all_append P (disturbances motes n g) (map always rest) (disturbances_fit motes n g some)
     (always_fit motes rest (all_append (EventInRange motes) (resets motes) (times sweeps (sweep (line motes))) (resets_fit motes motes all) (all_times (EventInRange motes) sweeps (sweep (line motes)) (sweep_fits motes (line motes) (line_fits motes motes all))))))
 

@@ -30,7 +30,8 @@ use Rattle.dg_rules.specs.Steps.{WorldStep, StepDoes}
 use Rattle.dg_rules.specs.Golden.{GoldenNetwork, network_world, PlaysGolden}
 use Rattle.dg_rules.specs.Runs.{Played, Plays}
 use Rattle.dg_rules.specs.Begins.{PlaysFrom}
-use Rattle.dg_rules.specs.Premises.{WorldAgrees, IsDeclared, IsHonestThen, TrueEvent}
+use Rattle.dg_script.specs.Ranges.{IsDeclared}
+use Rattle.dg_rules.specs.Premises.{WorldAgrees, IsHonestThen, TrueEvent}
 use Rattle.dg_rules.proofs.SiteLemmas.{site_there, site_other, site_count}
 use Rattle.dg_completion.specs.Completion.{page_count, pages_of}
 use Rattle.dg_trial.specs.Schedule.{line, size_by, row_by}
@@ -72,7 +73,7 @@ wider n h = omega (arith, h)
 pub trial_declared : (pages seed draw : ℕ) → pages ≤ 65 → IsDeclared (row_by pages seed draw)
 trial_declared pages seed draw few = record {
   not_golden = lit≤ tt;
-  image = lit< tt;
+  image = lit≤ tt;
   version = lit≤ tt;
   version_fits = lit< tt;
   name = refl;

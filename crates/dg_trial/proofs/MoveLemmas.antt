@@ -16,7 +16,7 @@ use Rattle.dg_base.specs.declared.events.Step.{Step}
 use Rattle.dg_script.specs.declared.report.Report.{Report}
 use Rattle.dg_rules.specs.World.{World, Site, Running, site, store_at, with_site, counted}
 use Rattle.dg_rules.specs.Steps.{WorldStep}
-use Rattle.dg_rules.specs.Ranges.{StepInRange, EventInRange}
+use Rattle.dg_script.specs.Ranges.{StepInRange, EventInRange}
 use Rattle.dg_rules.specs.Premises.{WorldAgrees, TrueEvent}
 use Rattle.dg_rules.proofs.SiteLemmas.{site_there, site_other, site_count}
 use Rattle.dg_completion.specs.Rests.{IsFree}

@@ -7,7 +7,7 @@ use Rattle.dg_nor.specs.Fuse.{beneath_of}
 use Rattle.dg_rules.specs.Sizes.{most_events}
 use Rattle.dg_rules.specs.World.{World}
 use Rattle.dg_rules.specs.Events.{mote_of}
-use Rattle.dg_rules.specs.Ranges.{StepInRange}
+use Rattle.dg_script.specs.Ranges.{StepInRange}
 use Rattle.dg_rules.specs.Golden.{WorldKeepsGolden}
 use Rattle.dg_rules.specs.Steps.{WorldStep, EndsRun}
 use Rattle.dg_script.specs.declared.report.Report.{Report}

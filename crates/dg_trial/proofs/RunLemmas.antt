@@ -9,7 +9,7 @@ use Rattle.dg_frame.specs.declared.Message.{Message}
 use Rattle.dg_script.specs.declared.report.Report.{Report}
 use Rattle.dg_rules.specs.World.{World, counted, Sent}
 use Rattle.dg_rules.specs.Events.{Does, Refuses, Goes, Deed, does, mote_of, dt_of}
-use Rattle.dg_rules.specs.Ranges.{EventInRange, StepInRange}
+use Rattle.dg_script.specs.Ranges.{EventInRange, StepInRange}
 use Rattle.dg_rules.specs.Golden.{WorldKeepsGolden}
 use Rattle.dg_rules.specs.Steps.{WorldStep, StepDoes, Ended, blows, and_sent}
 use Rattle.dg_rules.proofs.SiteLemmas.{site_count}
@@ -56,7 +56,7 @@ step_counts w v x reports step = does_counts (does w x.event) w x v reports step
 pub event_within : (n : ℕ) (event : Event) → EventInRange n event → mote_of event < n
 event_within n (Tick mote dt draw) h = h
 event_within n (Hear mote dt draw frame) h = h.0
-event_within n (Last from to dt draw) h = h.1
+event_within n (Last from to dt draw) h = h.second
 event_within n (Reset mote dt draw) h = h
 event_within n (Inject mote image version dt draw) h = h.0
 event_within n (Order mote number image version dt draw) h = h.0

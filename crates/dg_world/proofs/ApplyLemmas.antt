@@ -9,7 +9,7 @@ use Rattle.dg_rules.specs.Sizes.{most_events}
 use Rattle.dg_rules.specs.World.{World as RuleWorld, Sent}
 use Rattle.dg_rules.specs.Events.{does, mote_of}
 use Rattle.dg_rules.specs.Steps.{WorldStep}
-use Rattle.dg_rules.specs.Ranges.{StepInRange, EventInRange}
+use Rattle.dg_script.specs.Ranges.{StepInRange, EventInRange}
 use Rattle.dg_rules.specs.Consistency.{WorldConsistent, StopsConsistent}
 use Rattle.dg_world.specs.Airs.{Carries}
 use Rattle.dg_world.specs.Deployments.{Deployment}

@@ -19,7 +19,7 @@ use Rattle.dg_rules.specs.World.{World as RuleWorld, Site, no_site, site, store_
 use Rattle.dg_rules.specs.Events.{Deed, Does, Refuses, Goes, trail_of, does, mote_of, dt_of}
 use Rattle.dg_rules.specs.Steps.{blows, before_cut, and_sent, done_world, cut_world, done_reports, Ended, StepDoes, WorldStep}
 use Rattle.dg_rules.specs.Changes.{changes, is_reported}
-use Rattle.dg_rules.specs.Ranges.{EventInRange}
+use Rattle.dg_script.specs.Ranges.{EventInRange}
 use Rattle.dg_base.specs.declared.events.Cut.{Cut as PowerCut}
 use Rattle.dg_base.specs.declared.events.Event.{Event}
 use Rattle.dg_base.specs.declared.events.Event.TheVariants.{Tick, Hear, Last, Reset, Inject, Order as OrderEvent, Frame}
@@ -251,7 +251,7 @@ step_fails (Err e) f t w x reported v u a b told is p =
 pub event_mote : (motes : ℕ) (event : Event) → EventInRange motes event → mote_of event < motes
 event_mote motes (Tick m dt draw) fits = fits
 event_mote motes (Hear m dt draw frame) fits = fits.0
-event_mote motes (Last from to dt draw) fits = fits.1
+event_mote motes (Last from to dt draw) fits = fits.second
 event_mote motes (Frame m dt draw bytes) fits = fits.0
 event_mote motes (Reset m dt draw) fits = fits
 event_mote motes (Inject m image version dt draw) fits = fits.0

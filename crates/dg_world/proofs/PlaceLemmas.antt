@@ -23,7 +23,7 @@ use Rattle.dg_rules.specs.World.{World as RuleWorld, Running, Site, Sent, no_sit
 use Rattle.dg_rules.specs.Premises.{WorldTimely}
 use Rattle.dg_rules.specs.Events.{does, mote_of, dt_of}
 use Rattle.dg_rules.specs.Steps.{cut_world, WorldStep}
-use Rattle.dg_rules.specs.Ranges.{StepInRange}
+use Rattle.dg_script.specs.Ranges.{StepInRange}
 use Rattle.dg_base.specs.declared.events.Step.{Step}
 use Rattle.dg_script.specs.declared.report.Report.{Report}
 use Rattle.dg_object.specs.Object.{Row}

@@ -5,7 +5,7 @@ use Rattle.dg_nor.specs.Device.{Device}
 use Rattle.dg_object.specs.Object.{Row}
 use Rattle.dg_rules.specs.World.{World as RuleWorld}
 use Rattle.dg_rules.specs.Steps.{WorldStep}
-use Rattle.dg_rules.specs.Ranges.{StepInRange, EventInRange}
+use Rattle.dg_script.specs.Ranges.{StepInRange, EventInRange}
 use Rattle.dg_rules.specs.Consistency.{WorldConsistent, StopsConsistent}
 use Rattle.dg_base.specs.declared.events.Step.{Step}
 use Rattle.dg_script.specs.declared.report.Report.{Report}

@@ -15,7 +15,7 @@ use Rattle.dg_rules.specs.Steps.{WorldStep, blows}
 use Rattle.dg_base.specs.declared.events.Step.{Step}
 use Rattle.dg_rules.specs.Changes.{changes, is_reported}
 use Rattle.dg_script.specs.declared.report.Report.{Report}
-use Rattle.dg_rules.specs.Ranges.{StepInRange}
+use Rattle.dg_script.specs.Ranges.{StepInRange}
 use Rattle.dg_world.specs.Airs.{sent_now}
 use Rattle.dg_world.specs.Known.{StepSees, OrderTakes, InjectTakes}
 use Rattle.dg_world.specs.Occasions.{AppliesIn}

@@ -1,7 +1,7 @@
 //! The steps of a world.
 ghost use Rattle.std.specs.Prelude.{◌≡◌, Option, map, length, option_copied};
 ghost use Rattle.dg_rules.specs.World.{World as RuleWorld};
-ghost use Rattle.dg_rules.specs.Ranges.{StepInRange};
+ghost use Rattle.dg_script.specs.Ranges.{StepInRange};
 ghost use Rattle.dg_world.specs.Worlds.{IsWorld};
 ghost use Rattle.dg_world.specs.Occasions.{step_of};
 ghost use Rattle.dg_world.specs.Applied.{fault_of};

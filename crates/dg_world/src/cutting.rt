@@ -4,7 +4,7 @@ ghost use Rattle.dg_nor.specs.Fuse.{inner_of, name_of, mask_of, fused_device, be
 ghost use Rattle.dg_rules.specs.Sizes.{most_motes};
 ghost use Rattle.dg_rules.specs.World.{World as RuleWorld};
 ghost use Rattle.dg_rules.specs.Events.{does, mote_of};
-ghost use Rattle.dg_rules.specs.Ranges.{EventInRange, CutInRange};
+ghost use Rattle.dg_script.specs.Ranges.{EventInRange, CutInRange};
 ghost use Rattle.dg_world.specs.Occasions.{MayApply, AppliesIn};
 ghost use Rattle.dg_world.specs.Cuts.{ended, EventPlayed};
 ghost use Rattle.dg_world.specs.Hosts.{host};

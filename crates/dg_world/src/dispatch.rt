@@ -2,7 +2,7 @@
 ghost use Rattle.std.specs.Prelude.{◌≡◌, ◌≤◌, ℕ, Option, OnOk, OnErr};
 ghost use Rattle.dg_rules.specs.World.{World as RuleWorld};
 ghost use Rattle.dg_rules.specs.Events.{does, mote_of};
-ghost use Rattle.dg_rules.specs.Ranges.{EventInRange};
+ghost use Rattle.dg_script.specs.Ranges.{EventInRange};
 ghost use Rattle.dg_rules.specs.Sizes.{most_motes};
 ghost use Rattle.dg_world.specs.Turns.{TurnEnds};
 ghost use Rattle.dg_world.specs.Hosts.{host};

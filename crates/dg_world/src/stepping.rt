@@ -11,7 +11,7 @@ ghost use Rattle.dg_frame.specs.Grammar.{message_of};
 ghost use Rattle.dg_rules.specs.Sizes.{most_motes};
 ghost use Rattle.dg_rules.specs.World.{World as RuleWorld};
 ghost use Rattle.dg_rules.specs.Changes.{sent_line, is_reported};
-ghost use Rattle.dg_rules.specs.Ranges.{StepInRange};
+ghost use Rattle.dg_script.specs.Ranges.{StepInRange};
 ghost use Rattle.dg_world.specs.Occasions.{step_of, MayApply};
 ghost use Rattle.dg_world.specs.Turn.{Refused, Starts};
 ghost use Rattle.dg_world.specs.Turns.{turn_lines, frame_lines};

@@ -1,5 +1,5 @@
 use Rattle.std.proofs.Common.{subst, sym, []}
-use Rattle.dg_rules.specs.Ranges.{EventInRange}
+use Rattle.dg_script.specs.Ranges.{EventInRange}
 use Rattle.dg_script.specs.Places.{none_narrow}
 use Rattle.dg_serve.proofs.RunLemmas.{done_fits, serves_run, plays_boards}
 use Rattle.dg_serve.proofs.ScriptLemmas.{is_script, all_served}

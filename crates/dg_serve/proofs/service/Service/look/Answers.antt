@@ -28,10 +28,10 @@ pub apply_event-requires-clause-allowed : goal.apply_event-requires-clause-allow
 apply_event-requires-clause-allowed g c = c.requires.allowed
 
 pub apply_event-requires-clause-fits : goal.apply_event-requires-clause-fits
-apply_event-requires-clause-fits g c = let x = (came_is c.in_ok-bytes.field-0 c.in-Some.bytes c.args.mote _ _ c.in-Some.is c.in_ok-bytes.ensures.received) in (c.requires.known, record { dt = c.draw-timing.ensures.short; draw = c.draw-timing.ensures.drawn }, x.1)
+apply_event-requires-clause-fits g c = let x = (came_is c.in_ok-bytes.field-0 c.in-Some.bytes c.args.mote _ _ c.in-Some.is c.in_ok-bytes.ensures.received) in ((c.requires.known, x.1), record { dt = c.draw-timing.ensures.short; draw = c.draw-timing.ensures.drawn })
 
 pub apply_event-requires-clause-ranges : goal.apply_event-requires-clause-ranges
-apply_event-requires-clause-ranges g c = let x = (came_is c.in_ok-bytes.field-0 c.in-Some.bytes c.args.mote _ _ c.in-Some.is c.in_ok-bytes.ensures.received) in (c.requires.known, x.1.few, x.1.bytes)
+apply_event-requires-clause-ranges g c = let x = (came_is c.in_ok-bytes.field-0 c.in-Some.bytes c.args.mote _ _ c.in-Some.is c.in_ok-bytes.ensures.received) in (c.requires.known, x.1)
 
 pub apply_event-requires-clause-at : goal.apply_event-requires-clause-at
 apply_event-requires-clause-at g c = refl
