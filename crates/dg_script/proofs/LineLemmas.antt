@@ -42,6 +42,11 @@ standing-by v place u h =
     let behind = guarded_ok (follows v place) fault.Cut (tt {0}) u stood.2 in
     record { fits = fits.0; behind = behind.0 }
 
+known_line : (v : Verb) (place : Place) (u : Unit {0}) (found line : Line) → standing v place ≡ Ok u → found ≡ line → (StandsBy v place → StandsAt place found) → FitsLine place.motes found → (is_played v ≡ true → IsPlayed found) → Known v place line
+known_line v place u found line stood here at fitting playing =
+    let P : Line → Type 0 = λ l. Known v place l in
+    subst P here (record { stood = at (standing-by v place u stood); fitting = fitting; playing = playing })
+
 timed : (dt draw : List ℕ) (d w : ℕ) → number_in dt ≡ Ok d → number_in draw ≡ Ok w → IsTimed d w
 timed dt draw d w e f = record { dt = number_in-fits dt d e; draw = number_in-fits draw w f }
 
@@ -63,9 +68,7 @@ motes_known place fields line h =
     let t = bound (one_of fields) _ line h in
     let u = bound (standing verb.Motes place) _ line t.2 in
     let n = bound (mote_count_in t.0) _ line u.2 in
-    let here : Motes n.0 ≡ line = cc in
-    let P : Line → Type 0 = λ l. Known verb.Motes place l in
-    subst P here (record { stood = standing-by verb.Motes place u.0 u.1; fitting = ranged_in-within fault.Mote 1 most_motes t.0 n.0 n.1; playing = λ p. p })
+    known_line verb.Motes place u.0 (Motes n.0) line u.1 (cc) (λ s. s) (ranged_in-within fault.Mote 1 most_motes t.0 n.0 n.1) (λ p. p)
 
 golden_known : (place : Place) (fields : List (List ℕ)) (line : Line) → golden_of place fields ≡ Ok line → Known verb.Golden place line
 unfolding golden_of
@@ -77,22 +80,14 @@ golden_known place fields line h =
     let content = bound (sized_content 1 most_bytes t.0.2) _ line used.2 in
     let size = sized_content-is 1 most_bytes t.0.2 content.0 content.1 in
     let spent = ranged_in-within fault.Number 0 most_used t.0.1 used.0 used.1 in
-    let here : Golden name.0 used.0 content.0 ≡ line = cc in
-    let P : Line → Type 0 = λ l. Known verb.Golden place l in
-    subst P here (record {
-      stood = standing-by verb.Golden place u.0 u.1;
-      fitting = record { name = name_of-name t.0.0 name.0 name.1; used = spent.1; some = size.low; fits = size.high; bytes = size.bytes };
-      playing = λ p. p;
-    })
+    known_line verb.Golden place u.0 (Golden name.0 used.0 content.0) line u.1 (cc) (λ s. s) (record { name = name_of-name t.0.0 name.0 name.1; used = spent.1; some = size.low; fits = size.high; bytes = size.bytes }) (λ p. p)
 
 boards_known : (place : Place) (fields : List (List ℕ)) (line : Line) → boards_of place fields ≡ Ok line → Known verb.Boards place line
 unfolding boards_of
 boards_known place fields line h =
     let t = bound (none_of fields) _ line h in
     let u = bound (standing verb.Boards place) _ line t.2 in
-    let here : Boards ≡ line = cc in
-    let P : Line → Type 0 = λ l. Known verb.Boards place l in
-    subst P here (record { stood = standing-by verb.Boards place u.0 u.1; fitting = tt; playing = λ p. p })
+    known_line verb.Boards place u.0 Boards line u.1 (cc) (λ s. s) tt (λ p. p)
 
 link_known : (place : Place) (fields : List (List ℕ)) (line : Line) → link_of place fields ≡ Ok line → Known verb.Link place line
 unfolding link_of
@@ -102,12 +97,7 @@ link_known place fields line h =
     let a = bound (mote_in place.motes t.0.0) _ line u.2 in
     let b = bound (other_in place.motes a.0 t.0.1) _ line a.2 in
     let new = guarded_ok (not (is_linked place.links a.0 b.0)) fault.Place (Link a.0 b.0) line b.2 in
-    let P : Line → Type 0 = λ l. Known verb.Link place l in
-    subst P new.1 (record {
-      stood = (standing-by verb.Link place u.0 u.1, not-true _ new.0);
-      fitting = two place.motes t.0.0 t.0.1 a.0 b.0 a.1 b.1;
-      playing = λ p. p;
-    })
+    known_line verb.Link place u.0 (Link a.0 b.0) line u.1 new.1 (λ s. (s, not-true _ new.0)) (two place.motes t.0.0 t.0.1 a.0 b.0 a.1 b.1) (λ p. p)
 
 narrow_known : (place : Place) (fields : List (List ℕ)) (line : Line) → narrow_of place fields ≡ Ok line → Known verb.Narrow place line
 unfolding narrow_of
@@ -116,12 +106,7 @@ narrow_known place fields line h =
     let u = bound (standing verb.Narrow place) _ line t.2 in
     let m = bound (mote_in place.motes t.0) _ line u.2 in
     let new = guarded_ok (not (is_narrow place.narrow m.0)) fault.Place (Narrow m.0) line m.2 in
-    let P : Line → Type 0 = λ l. Known verb.Narrow place l in
-    subst P new.1 (record {
-      stood = (standing-by verb.Narrow place u.0 u.1, not-true _ new.0);
-      fitting = mote_in-below place.motes t.0 m.0 m.1;
-      playing = λ p. p;
-    })
+    known_line verb.Narrow place u.0 (Narrow m.0) line u.1 new.1 (λ s. (s, not-true _ new.0)) (mote_in-below place.motes t.0 m.0 m.1) (λ p. p)
 
 image_known : (place : Place) (fields : List (List ℕ)) (line : Line) → image_of place fields ≡ Ok line → Known verb.Image place line
 unfolding image_of
@@ -135,21 +120,15 @@ image_known place fields line h =
     let number = ranged_in-within fault.Image 1 most_image t.0.0 image.0 image.1 in
     let some = ranged_in-within fault.Version 1 most_number t.0.1 version.0 version.1 in
     let size = sized_content-is 0 most_content t.0.3 content.0 content.1 in
-    let here : Image image.0 version.0 name.0 content.0 ≡ line = cc in
-    let P : Line → Type 0 = λ l. Known verb.Image place l in
-    subst P here (record {
-      stood = standing-by verb.Image place u.0 u.1;
-      fitting = record {
-        not_golden = number.0;
-        image = number.1;
-        version = some.0;
-        version_fits = omega (arith, some.1);
-        name = name_of-name t.0.2 name.0 name.1;
-        fits = size.high;
-        bytes = size.bytes;
-      };
-      playing = λ p. p;
-    })
+    known_line verb.Image place u.0 (Image image.0 version.0 name.0 content.0) line u.1 (cc) (λ s. s) (record {
+      not_golden = number.0;
+      image = number.1;
+      version = some.0;
+      version_fits = omega (arith, some.1);
+      name = name_of-name t.0.2 name.0 name.1;
+      fits = size.high;
+      bytes = size.bytes;
+    }) (λ p. p)
 
 tick_known : (place : Place) (fields : List (List ℕ)) (line : Line) → tick_of place fields ≡ Ok line → Known verb.Tick place line
 unfolding tick_of
@@ -159,13 +138,7 @@ tick_known place fields line h =
     let mote = bound (mote_in place.motes t.0.0) _ line u.2 in
     let dt = bound (number_in t.0.1) _ line mote.2 in
     let draw = bound (number_in t.0.2) _ line dt.2 in
-    let here : EventLine (Tick mote.0 dt.0 draw.0) ≡ line = cc in
-    let P : Line → Type 0 = λ l. Known verb.Tick place l in
-    subst P here (record {
-      stood = standing-by verb.Tick place u.0 u.1;
-      fitting = (mote_in-below place.motes t.0.0 mote.0 mote.1, timed t.0.1 t.0.2 dt.0 draw.0 dt.1 draw.1);
-      playing = λ p. p;
-    })
+    known_line verb.Tick place u.0 (EventLine (Tick mote.0 dt.0 draw.0)) line u.1 (cc) (λ s. s) (mote_in-below place.motes t.0.0 mote.0 mote.1, timed t.0.1 t.0.2 dt.0 draw.0 dt.1 draw.1) (λ p. p)
 
 hear_known : (place : Place) (fields : List (List ℕ)) (line : Line) → hear_of place fields ≡ Ok line → Known verb.Hear place line
 unfolding hear_of
@@ -176,13 +149,7 @@ hear_known place fields line h =
     let dt = bound (number_in t.0.1) _ line mote.2 in
     let draw = bound (number_in t.0.2) _ line dt.2 in
     let frame = bound (counted_in t.0.3) _ line draw.2 in
-    let here : EventLine (Hear mote.0 dt.0 draw.0 frame.0) ≡ line = cc in
-    let P : Line → Type 0 = λ l. Known verb.Hear place l in
-    subst P here (record {
-      stood = standing-by verb.Hear place u.0 u.1;
-      fitting = let count = counted t.0.3 frame.0 frame.1 in ((mote_in-below place.motes t.0.0 mote.0 mote.1, count.0), (timed t.0.1 t.0.2 dt.0 draw.0 dt.1 draw.1, count.1));
-      playing = λ p. p;
-    })
+    known_line verb.Hear place u.0 (EventLine (Hear mote.0 dt.0 draw.0 frame.0)) line u.1 (cc) (λ s. s) (let count = counted t.0.3 frame.0 frame.1 in ((mote_in-below place.motes t.0.0 mote.0 mote.1, count.0), (timed t.0.1 t.0.2 dt.0 draw.0 dt.1 draw.1, count.1))) (λ p. p)
 
 last_known : (place : Place) (fields : List (List ℕ)) (line : Line) → last_line_of place fields ≡ Ok line → Known verb.Last place line
 unfolding last_line_of
@@ -193,13 +160,7 @@ last_known place fields line h =
     let b = bound (other_in place.motes a.0 t.0.1) _ line a.2 in
     let dt = bound (number_in t.0.2) _ line b.2 in
     let draw = bound (number_in t.0.3) _ line dt.2 in
-    let here : EventLine (Last a.0 b.0 dt.0 draw.0) ≡ line = cc in
-    let P : Line → Type 0 = λ l. Known verb.Last place l in
-    subst P here (record {
-      stood = standing-by verb.Last place u.0 u.1;
-      fitting = (two place.motes t.0.0 t.0.1 a.0 b.0 a.1 b.1, timed t.0.2 t.0.3 dt.0 draw.0 dt.1 draw.1);
-      playing = λ p. p;
-    })
+    known_line verb.Last place u.0 (EventLine (Last a.0 b.0 dt.0 draw.0)) line u.1 (cc) (λ s. s) (two place.motes t.0.0 t.0.1 a.0 b.0 a.1 b.1, timed t.0.2 t.0.3 dt.0 draw.0 dt.1 draw.1) (λ p. p)
 
 reset_known : (place : Place) (fields : List (List ℕ)) (line : Line) → reset_of place fields ≡ Ok line → Known verb.Reset place line
 unfolding reset_of
@@ -209,13 +170,7 @@ reset_known place fields line h =
     let mote = bound (mote_in place.motes t.0.0) _ line u.2 in
     let dt = bound (number_in t.0.1) _ line mote.2 in
     let draw = bound (number_in t.0.2) _ line dt.2 in
-    let here : EventLine (Reset mote.0 dt.0 draw.0) ≡ line = cc in
-    let P : Line → Type 0 = λ l. Known verb.Reset place l in
-    subst P here (record {
-      stood = standing-by verb.Reset place u.0 u.1;
-      fitting = (mote_in-below place.motes t.0.0 mote.0 mote.1, timed t.0.1 t.0.2 dt.0 draw.0 dt.1 draw.1);
-      playing = λ p. p;
-    })
+    known_line verb.Reset place u.0 (EventLine (Reset mote.0 dt.0 draw.0)) line u.1 (cc) (λ s. s) (mote_in-below place.motes t.0.0 mote.0 mote.1, timed t.0.1 t.0.2 dt.0 draw.0 dt.1 draw.1) (λ p. p)
 
 inject_known : (place : Place) (fields : List (List ℕ)) (line : Line) → inject_of place fields ≡ Ok line → Known verb.Inject place line
 unfolding inject_of
@@ -227,16 +182,10 @@ inject_known place fields line h =
     let version = bound (version_in t.0.2) _ line image.2 in
     let dt = bound (number_in t.0.3) _ line version.2 in
     let draw = bound (number_in t.0.4) _ line dt.2 in
-    let here : EventLine (Inject mote.0 image.0 version.0 dt.0 draw.0) ≡ line = cc in
-    let P : Line → Type 0 = λ l. Known verb.Inject place l in
-    subst P here (record {
-      stood = standing-by verb.Inject place u.0 u.1;
-      fitting = (
-        (mote_in-below place.motes t.0.0 mote.0 mote.1, version_known t.0.1 t.0.2 image.0 version.0 image.1 version.1),
-        (timed t.0.3 t.0.4 dt.0 draw.0 dt.1 draw.1, (numbered t.0.2 version.0 version.1).1),
-      );
-      playing = λ p. p;
-    })
+    known_line verb.Inject place u.0 (EventLine (Inject mote.0 image.0 version.0 dt.0 draw.0)) line u.1 (cc) (λ s. s) (
+      (mote_in-below place.motes t.0.0 mote.0 mote.1, version_known t.0.1 t.0.2 image.0 version.0 image.1 version.1),
+      (timed t.0.3 t.0.4 dt.0 draw.0 dt.1 draw.1, (numbered t.0.2 version.0 version.1).1),
+    ) (λ p. p)
 
 order_known : (place : Place) (fields : List (List ℕ)) (line : Line) → order_of place fields ≡ Ok line → Known verb.Order place line
 unfolding order_of
@@ -251,16 +200,10 @@ order_known place fields line h =
     let draw = bound (number_in t.0.5) _ line dt.2 in
     let count = numbered t.0.1 number.0 number.1 in
     let order : Line = EventLine (Order mote.0 number.0 image.0 version.0 dt.0 draw.0) in
-    let here : order ≡ line = same_of_ok order line _ _ refl refl draw.2 in
-    let P : Line → Type 0 = λ l. Known verb.Order place l in
-    subst P here (record {
-      stood = standing-by verb.Order place u.0 u.1;
-      fitting = (
-        (mote_in-below place.motes t.0.0 mote.0 mote.1, version_known t.0.2 t.0.3 image.0 version.0 image.1 version.1, (numbered t.0.3 version.0 version.1).1, count.0, count.1),
-        timed t.0.4 t.0.5 dt.0 draw.0 dt.1 draw.1,
-      );
-      playing = λ p. p;
-    })
+    known_line verb.Order place u.0 order line u.1 (same_of_ok order line _ _ refl refl draw.2) (λ s. s) (
+      (mote_in-below place.motes t.0.0 mote.0 mote.1, version_known t.0.2 t.0.3 image.0 version.0 image.1 version.1, (numbered t.0.3 version.0 version.1).1, count.0, count.1),
+      timed t.0.4 t.0.5 dt.0 draw.0 dt.1 draw.1,
+    ) (λ p. p)
 
 frame_known : (place : Place) (fields : List (List ℕ)) (line : Line) → frame_of place fields ≡ Ok line → Known verb.Frame place line
 unfolding frame_of
@@ -272,13 +215,7 @@ frame_known place fields line h =
     let draw = bound (number_in t.0.2) _ line dt.2 in
     let content = bound (sized_content 0 longest_frame t.0.3) _ line draw.2 in
     let size = sized_content-is 0 longest_frame t.0.3 content.0 content.1 in
-    let here : EventLine (Frame mote.0 dt.0 draw.0 content.0) ≡ line = cc in
-    let P : Line → Type 0 = λ l. Known verb.Frame place l in
-    subst P here (record {
-      stood = standing-by verb.Frame place u.0 u.1;
-      fitting = ((mote_in-below place.motes t.0.0 mote.0 mote.1, record { few = size.high; bytes = size.bytes }), timed t.0.1 t.0.2 dt.0 draw.0 dt.1 draw.1);
-      playing = λ p. p;
-    })
+    known_line verb.Frame place u.0 (EventLine (Frame mote.0 dt.0 draw.0 content.0)) line u.1 (cc) (λ s. s) ((mote_in-below place.motes t.0.0 mote.0 mote.1, record { few = size.high; bytes = size.bytes }), timed t.0.1 t.0.2 dt.0 draw.0 dt.1 draw.1) (λ p. p)
 
 cut_known : (place : Place) (fields : List (List ℕ)) (line : Line) → cut_of place fields ≡ Ok line → Known verb.Cut place line
 unfolding cut_of
@@ -290,17 +227,11 @@ cut_known place fields line h =
     let cut = bound (cut_with after.0 mask.0) _ line mask.2 in
     let is = cut_with-is after.0 mask.0 cut.0 cut.1 in
     let count = counted t.0.0 after.0 after.1 in
-    let here : Cut cut.0 ≡ line = cc in
-    let P : Line → Type 0 = λ l. Known verb.Cut place l in
-    subst P here (record {
-      stood = standing-by verb.Cut place u.0 u.1;
-      fitting = record {
-        range = record { counted = cut.0.numbered; some = cut.0.some; few = cut.0.within };
-        fits = omega (arith, is.0, count.1);
-        bytes = subst AreBytes (sym is.1) (mask_of-bytes t.0.1 mask.0 mask.1);
-      };
-      playing = λ p. p;
-    })
+    known_line verb.Cut place u.0 (Cut cut.0) line u.1 (cc) (λ s. s) (record {
+      range = record { counted = cut.0.numbered; some = cut.0.some; few = cut.0.within };
+      fits = omega (arith, is.0, count.1);
+      bytes = subst AreBytes (sym is.1) (mask_of-bytes t.0.1 mask.0 mask.1);
+    }) (λ p. p)
 
 round_known : (place : Place) (fields : List (List ℕ)) (line : Line) → round_of place fields ≡ Ok line → Known verb.Round place line
 unfolding round_of
@@ -309,9 +240,7 @@ round_known place fields line h =
     let u = bound (standing verb.Round place) _ line t.2 in
     let a = bound (mote_in place.motes t.0.0) _ line u.2 in
     let b = bound (other_in place.motes a.0 t.0.1) _ line a.2 in
-    let here : Round a.0 b.0 ≡ line = cc in
-    let P : Line → Type 0 = λ l. Known verb.Round place l in
-    subst P here (record { stood = standing-by verb.Round place u.0 u.1; fitting = two place.motes t.0.0 t.0.1 a.0 b.0 a.1 b.1; playing = λ p. p })
+    known_line verb.Round place u.0 (Round a.0 b.0) line u.1 (cc) (λ s. s) (two place.motes t.0.0 t.0.1 a.0 b.0 a.1 b.1) (λ p. p)
 
 sweeps_known : (place : Place) (fields : List (List ℕ)) (line : Line) → sweeps_of place fields ≡ Ok line → Known verb.Sweeps place line
 unfolding sweeps_of
@@ -319,9 +248,7 @@ sweeps_known place fields line h =
     let t = bound (one_of fields) _ line h in
     let u = bound (standing verb.Sweeps place) _ line t.2 in
     let n = bound (sweeps_in t.0) _ line u.2 in
-    let here : Sweeps n.0 ≡ line = cc in
-    let P : Line → Type 0 = λ l. Known verb.Sweeps place l in
-    subst P here (record { stood = standing-by verb.Sweeps place u.0 u.1; fitting = ranged_in-within fault.Number 1 most_sweeps t.0 n.0 n.1; playing = λ p. p })
+    known_line verb.Sweeps place u.0 (Sweeps n.0) line u.1 (cc) (λ s. s) (ranged_in-within fault.Number 1 most_sweeps t.0 n.0 n.1) (λ p. p)
 
 fields_known : (v : Verb) (place : Place) (fields : List (List ℕ)) (line : Line) → fields_of v place fields ≡ Ok line → Known v place line
 fields_known verb.Motes place fields line h = motes_known place fields line h
