@@ -17,7 +17,8 @@ use Rattle.dg_rules.specs.Premises.{LinkFits}
 use Rattle.dg_script.specs.Ranges.{EventInRange, StepInRange}
 use Rattle.dg_rules.specs.World.{World}
 use Rattle.dg_world.specs.Worlds.{IsWorld}
-use Rattle.dg_replay.specs.Boards.{WorldStands, StoppedIn, ItemStops, LineStops}
+use Rattle.dg_world.specs.Boards.{WorldStands}
+use Rattle.dg_replay.specs.Boards.{StoppedIn, ItemStops, LineStops}
 use Rattle.dg_replay.specs.Items.{Ground, no_ground, Beginning, begin_by, motes_in, lacking_by, is_boards}
 use Rattle.dg_replay.specs.Playing.{Seated, InWorld, Stood, Ready, ItemsPlayedAs, StopsInItem, PlayedAs}
 use Rattle.dg_replay.specs.declared.player.Player.{Player}

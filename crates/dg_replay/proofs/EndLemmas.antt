@@ -24,7 +24,8 @@ use Rattle.dg_script.specs.declared.place.Place.{Place}
 use Rattle.dg_script.specs.declared.fault.LineFault.TheVariants as line_fault
 use Rattle.dg_script.specs.Report.{report_text}
 use Rattle.dg_rules.specs.World.{World}
-use Rattle.dg_replay.specs.Boards.{EventNext, InSome, LacksImage, WorldStands, BoardsStand, StoppedIn}
+use Rattle.dg_world.specs.Boards.{WorldStands}
+use Rattle.dg_replay.specs.Boards.{EventNext, InSome, LacksImage, BoardsStand, StoppedIn}
 use Rattle.dg_replay.specs.Ending.{Ending, Ends, NoBoards, TooManyEvents, FaultAt, Over, events_in, InBounds, by_fault, ending_from, ending_line, whole_lines, used, has_unused_bytes, script_of, ending_of, InLimits}
 use Rattle.dg_replay.specs.Near.{behind_lines, FewBytesBehind}
 use Rattle.dg_replay.specs.Replayed.{Progress, item_played, played_text, ReachesEnding, closing, StopsAt, BoardsLeft, RunsTo, IsSettled, NextIsWhole, DoneIsWhole, BoardsEndIt, no_volume_line, no_image_line}

@@ -17,7 +17,8 @@ use Rattle.dg_replay.specs.Items.{UsesBoards, lacking, lacking_by, motes_in, nex
 use Rattle.dg_script.specs.Places.{first_place, place_after}
 use Rattle.dg_script.specs.Script.{Script}
 use Rattle.dg_script.specs.declared.fault.LineFault.{LineFault}
-use Rattle.dg_replay.specs.Boards.{EventNext, BoardsStand, BoardStopped}
+use Rattle.dg_world.specs.Boards.{BoardStopped}
+use Rattle.dg_replay.specs.Boards.{EventNext, BoardsStand}
 use Rattle.dg_replay.specs.Ending.{Ending, Ends, NoBoards, TooManyEvents, FaultAt, Over, events_in, by_fault, by_events, by_boards, ending_from, status_of, used}
 use Rattle.dg_replay.specs.Replayed.{Progress, played_text, AtTooMany, IsWholeReport, Wrote, BoardsLeft, IsCaused, IsSettled, DoneIsWhole, ReadEnough, EndsNear, ReadsNear, NoVolumeThere, NoImageThere}
 use Rattle.dg_replay.specs.Replaying.{HasFew, ReadyToEnd, EndsWith, ScriptReplayed}

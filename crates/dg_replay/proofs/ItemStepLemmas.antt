@@ -28,13 +28,14 @@ use Rattle.dg_world.proofs.CountLemmas.{NoneRose_then}
 use Rattle.dg_world.specs.Applied.{Applied, OneBoard, FlashAt, RunEnded}
 use Rattle.dg_world.specs.Deployments.{deployed}
 use Rattle.dg_world.specs.declared.world.World.{World as KeptWorld}
-use Rattle.dg_replay.specs.Boards.{WorldStands, ItemStops, LacksImage, EventNext}
+use Rattle.dg_world.specs.Boards.{WorldStands}
+use Rattle.dg_replay.specs.Boards.{ItemStops, LacksImage, EventNext}
 use Rattle.dg_replay.specs.Playing.{KeepsMotes, ItemsRun, ItemsPlayed, ItemsBegun, ItemsPlayedAs, IsOneTooMany, StopsInItem}
 use Rattle.dg_replay.specs.declared.stop.Stop.{Stop}
 use Rattle.dg_replay.specs.Stages.{boards_reported}
 use Rattle.dg_replay.specs.declared.stop.Stop.TheVariants.{Memory, BadInput, WriteFault, FlashFault, TooMany, NoBoard, NoImage, NotAVolume}
 use Rattle.dg_replay.proofs.ItemLemmas.{items_run_none, items_run_one, items_run_join, declared_same, step_counts}
-use Rattle.dg_replay.proofs.BoardLemmas.{boards_through, caused_through, there}
+use Rattle.dg_world.proofs.EndureLemmas.{boards_through, board_stops, event_within, sites_same, other_than, stands_next}
 
 -- ---- the boards behind an event
 
@@ -51,35 +52,10 @@ not_full r board n is few full = less n most_events few (λ e. ⊎_elim (λ x. d
     lacks : ◌≡◌ {A = Result (Unit {0}) WorldFault} (Err (Flash board)) (Err MemoryFault) → ⊥
     lacks e = cc
 
-other_than : (m n k : ℕ) → n < k → k ≤ m → m ≡ n → ⊥
-other_than m n k low high e = omega arith
-
-stands_next : (u z : World) (v2 : KeptWorld) (mote : ℕ) (initial old new : List Device) → mote < length u.sites → length z.sites ≡ length u.sites → IsWorld v2 new z → OneBoard mote old new → NoneRose old new → WorldStands u initial old → WorldStands z initial new
-stands_next u z v2 mote initial old new within count kept one calm b =
-    record {
-      all = boards_through initial old new b.all one.count one.endures;
-      calm = NoneRose_then initial old new b.all.count b.calm calm;
-      stands = λ m x inside is. (kept.sites m x inside is).stands;
-      came = λ m x inside is. b.came m x (omega (arith, inside, count)) is;
-      others = λ m past.
-          let far : length u.sites ≤ m = omega (arith, past, count) in
-          one.others m (other_than m mote (length u.sites) within far) ∙ b.others m far;
-    }
-
 flash_next : (u : World) (x : Step) (reported : Bool) (more : List Item) (board : ℕ) (initial old new : List Device) → u.events < most_events → mote_of x.event < length u.sites → FlashAt u x board old new → WorldStands u initial old → StopsInItem u (Applies x reported ∷ more) initial new
 flash_next u x reported more board initial old new few within f b =
-    let was : slice_get initial board ≡ Some (get_or initial board f.before) = there old initial board f.before (sym b.all.count) f.was in
     record {
-      stopped = record {
-        board = board;
-        known = omega (arith, f.at, within);
-        before = get_or initial board f.before;
-        after = f.after;
-        was = was;
-        is = f.is;
-        stopped = f.stopped;
-        cause = caused_through (beneath_of (get_or initial board f.before)) (beneath_of f.before) (beneath_of f.after) (b.all.endures board _ f.before was f.was) (f.boards.counts board f.before f.after f.was f.is) f.cause;
-      };
+      stopped = board_stops (length u.sites) board initial old new f.before f.after (omega (arith, f.at, within)) b.all f.was f.is f.stopped (f.boards.counts board f.before f.after f.was f.is) f.cause;
       there = record {
         few = few;
         at = f.at;
@@ -111,18 +87,6 @@ begun_all w v items text P runs there =
 pub played_none : (w : World) (kept : KeptWorld) (initial now : List Device) (told : List ℕ) → IsWorld kept now w → WorldStands w initial now → ItemsPlayed w [] kept initial now told told
 played_none w kept initial now told is stands =
     record { world = w; text = []; runs = items_run_none w is.few_events; kept_now = is; boards = stands; report_now = sym (append-nil told) }
-
-sites_same : (k : KeptWorld) (boards : List Device) (w z : World) → IsWorld k boards w → IsWorld k boards z → length w.sites ≡ length z.sites
-sites_same k boards w z a b = a.motes ∙ sym b.motes
-
-event_within : (n : ℕ) (event : Event) → EventInRange n event → mote_of event < n
-event_within n (Tick mote dt draw) h = h
-event_within n (Hear mote dt draw frame) h = h.0
-event_within n (Last from to dt draw) h = h.second
-event_within n (Reset mote dt draw) h = h
-event_within n (Inject mote image version dt draw) h = h.0
-event_within n (Order mote number image version dt draw) h = h.0
-event_within n (Frame mote dt draw bytes) h = h.0
 
 -- a world in which the step may be applied
 abbrev MayStep : KeptWorld → List Device → Step → Type 0

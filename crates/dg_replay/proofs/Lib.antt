@@ -2,7 +2,6 @@ pub mod ItemLemmas
 pub mod ItemStepLemmas
 pub mod StepLemmas
 pub mod PlayLemmas
-pub mod BoardLemmas
 pub mod StandLemmas
 pub mod SilentLemmas
 pub mod BusyLemmas

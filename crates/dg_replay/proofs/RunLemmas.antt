@@ -13,7 +13,8 @@ use Rattle.dg_script.specs.Items.{items_behind, items_of}
 use Rattle.dg_script.specs.Script.{Script}
 use Rattle.dg_script.specs.declared.line.Line.{Line}
 use Rattle.dg_script.specs.declared.line.Line.TheVariants.{Boards}
-use Rattle.dg_replay.specs.Boards.{BoardsStand, BoardStopped}
+use Rattle.dg_world.specs.Boards.{BoardStopped}
+use Rattle.dg_replay.specs.Boards.{BoardsStand}
 use Rattle.dg_replay.specs.Items.{Ground, UsesBoards, is_boards, begin_behind, beginning_of, motes_in, lacking, next_items}
 use Rattle.dg_replay.specs.Ending.{Ending, Ends, Over, ending_from, ending_of, ending_line, status_of, script_of, has_unused_bytes, InBounds, InLimits}
 use Rattle.dg_replay.specs.Around.{Around, around}

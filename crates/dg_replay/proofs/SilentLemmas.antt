@@ -28,13 +28,14 @@ use Rattle.dg_world.specs.Counts.{NoneRose}
 use Rattle.dg_world.specs.Formatted.{FirstBoards, FormatStops}
 use Rattle.dg_world.specs.declared.format.FormatStopped.{FormatStopped}
 use Rattle.dg_replay.specs.Items.{motes_in, golden_world, with_link, with_narrow}
-use Rattle.dg_replay.specs.Boards.{BoardsEndure, StoppedIn}
+use Rattle.dg_world.specs.Boards.{BoardsEndure}
+use Rattle.dg_replay.specs.Boards.{StoppedIn}
 use Rattle.dg_replay.specs.Playing.{Counted, InWorld, Stood, PlayedLine, LacksBoards, PlayedAs, mount_stop}
 use Rattle.dg_replay.specs.declared.player.Player.{Player}
 use Rattle.dg_replay.specs.declared.stop.Stop.{Stop}
 use Rattle.dg_replay.specs.Stages.{based_on, done_so_far, boards_reported}
 use Rattle.dg_replay.specs.declared.stop.Stop.TheVariants.{Memory, BadInput, WriteFault, FlashFault, TooMany, NoBoard, NoImage, NotAVolume}
-use Rattle.dg_replay.proofs.BoardLemmas.{there}
+use Rattle.dg_world.proofs.EndureLemmas.{there}
 use Rattle.dg_replay.proofs.PlayLemmas.{false_not, no_world, in_world_as, seated_as}
 use Rattle.dg_replay.proofs.StandLemmas.{joined_next, stood_next, grounded_next, grounded_motes, silent_runs, golden_runs, boards_runs, link_runs, narrow_runs, none_begun}
 

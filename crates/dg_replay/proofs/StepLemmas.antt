@@ -13,7 +13,7 @@ use Rattle.dg_rules.specs.World.{World}
 use Rattle.dg_world.specs.Worlds.{IsWorld}
 use Rattle.dg_world.specs.declared.world.World.{World as KeptWorld}
 use Rattle.dg_completion.proofs.GrowLemmas.{all_append, all_replicate, all_times}
-use Rattle.dg_replay.specs.Boards.{WorldStands}
+use Rattle.dg_world.specs.Boards.{WorldStands}
 use Rattle.dg_replay.specs.Playing.{ItemsPlayed, ItemsPlayedAs}
 use Rattle.dg_replay.specs.Stages.{boards_reported}
 use Rattle.dg_replay.specs.declared.stop.Stop.{Stop}

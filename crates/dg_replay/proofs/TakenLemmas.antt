@@ -12,7 +12,7 @@ use Rattle.dg_script.specs.declared.line.Line.{Line}
 use Rattle.dg_script.specs.declared.line.Line.TheVariants.{Nothing, Motes, Golden, Boards, Link, Narrow, Image, Cut, Event as EventLine, Round, Sweeps}
 use Rattle.dg_script.specs.Items.{Item}
 use Rattle.dg_replay.specs.Items.{Ground, no_ground, Beginning, begin_by, begin_behind, motes_in, next_items}
-use Rattle.dg_replay.specs.Boards.{BoardStopped}
+use Rattle.dg_world.specs.Boards.{BoardStopped}
 use Rattle.dg_replay.specs.Ending.{whole_lines, used, has_unused_bytes, script_of, ending_from}
 use Rattle.dg_replay.specs.Replayed.{IsSettled, AreWhole, DoneIsWhole}
 use Rattle.dg_replay.proofs.EndLemmas.{is_over-true, over_more}

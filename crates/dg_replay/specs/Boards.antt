@@ -1,9 +1,7 @@
 -- What a replay leaves of the boards.
-use Rattle.std.specs.Prelude.{◌≡◌, ◌≢◌, ◌⊎◌, ℕ, ◌-◌, ◌<◌, ◌≤◌, Bool, true, false, List, [], ◌∷◌, length, slice_get, Option, Some}
+use Rattle.std.specs.Prelude.{◌≡◌, ◌≢◌, ℕ, ◌-◌, ◌<◌, ◌≤◌, Bool, false, List, [], ◌∷◌, length, slice_get, Option, Some}
 use Rattle.std.specs.Prelude.{None, IfSome}
-use Rattle.dg_words.specs.Counts.{Rose}
-use Rattle.dg_nor.specs.Device.{Device, Endures}
-use Rattle.dg_nor.specs.Fuse.{beneath_of}
+use Rattle.dg_nor.specs.Device.{Device}
 use Rattle.dg_nor.specs.Trail.{Trail, operations, MayLeave}
 use Rattle.dg_volume.specs.Store.{Store, IsNear, fresh}
 use Rattle.dg_volume.specs.Stands.{Stands}
@@ -15,25 +13,11 @@ use Rattle.dg_rules.specs.Sizes.{most_events}
 use Rattle.dg_rules.specs.World.{World, store_at}
 use Rattle.dg_rules.specs.Events.{does, mote_of, trail_of}
 use Rattle.dg_rules.specs.Steps.{EndsRun}
+use Rattle.dg_world.specs.Boards.{BoardsEndure, WorldStands, BoardStopped}
 use Rattle.dg_world.specs.Counts.{NoneRose}
 use Rattle.dg_world.specs.Applied.{SameBoards}
 use Rattle.dg_world.specs.Mounted.{NoVolumeAt, MountedTo}
 use Rattle.dg_script.specs.Items.{Item, Applies}
-
--- No count of a board fell, and a board is stopped only where it was, or where its count rose.
-pub record BoardsEndure (old new : List Device) : Type 0 where
-  pub count : length new ≡ length old
-  pub endures : (m : ℕ) (a b : Device) → slice_get old m ≡ Some a → slice_get new m ≡ Some b
-      → Endures (beneath_of a) (beneath_of b)
-
--- The boards of a world's motes stand for its stores, and did not come stopped. All others are as before,
--- and no board's count rose: where one fails, that is told.
-pub record WorldStands (w : World) (old new : List Device) : Type 0 where
-  pub all : BoardsEndure old new
-  pub calm : NoneRose old new
-  pub stands : (m : ℕ) (d : Device) → m < length w.sites → slice_get new m ≡ Some d → Stands d.image (store_at w m)
-  pub came : (m : ℕ) (d : Device) → m < length w.sites → slice_get old m ≡ Some d → d.stopped ≡ false
-  pub others : (m : ℕ) → length w.sites ≤ m → slice_get new m ≡ slice_get old m
 
 -- before the boards are formatted none is used
 abbrev pub BoardsStand : Option World → List Device → List Device → Type 0
@@ -41,17 +25,6 @@ BoardsStand None old new = new ≡ old
 BoardsStand (Some w) old new = WorldStands w old new
 
 -- ---- a board that stopped
-
--- The board of one of so many motes is stopped: its count rose, or it came stopped.
-pub record BoardStopped (motes : ℕ) (old new : List Device) : Type 0 where
-  pub board : ℕ
-  pub known : board < motes
-  pub before : Device
-  pub after : Device
-  pub was : slice_get old board ≡ Some before
-  pub is : slice_get new board ≡ Some after
-  pub stopped : after.stopped ≡ true
-  pub cause : (before.stopped ≡ true) ⊎ Rose before.faults after.faults
 
 -- The boards of a world's motes but this one stand for its stores. None of them came stopped, and all others are as before.
 pub record OthersStand (w : World) (board : ℕ) (old new : List Device) : Type 0 where

@@ -4,7 +4,7 @@ use Rattle.dg_words.specs.Counts.{Rose}
 use Rattle.dg_base.specs.declared.answers.Status.{Status}
 use Rattle.dg_base.specs.declared.answers.Status.TheVariants.{Done, Memory, Usage, NotAVolume, Refused, LinkFault, NoImage}
 use Rattle.dg_object.specs.Object.{Row}
-use Rattle.dg_replay.specs.Boards.{BoardStopped}
+use Rattle.dg_world.specs.Boards.{BoardStopped}
 use Rattle.dg_replay.specs.Items.{UsesBoards, motes_in}
 use Rattle.dg_replay.specs.Ending.{InLimits, script_of}
 use Rattle.dg_replay.specs.Around.{Around}

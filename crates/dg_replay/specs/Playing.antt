@@ -26,7 +26,8 @@ use Rattle.dg_world.specs.Formatted.{FirstBoards, FormatStops}
 use Rattle.dg_world.specs.declared.format.FormatStopped.{FormatStopped}
 use Rattle.dg_world.specs.Worlds.{IsWorld}
 use Rattle.dg_world.specs.declared.world.World.{World as KeptWorld}
-use Rattle.dg_replay.specs.Boards.{WorldStands, BoardsStand, BoardStopped, ItemStops, StoppedIn, EventNext, InSome, NoVolumeIn}
+use Rattle.dg_world.specs.Boards.{WorldStands, BoardStopped}
+use Rattle.dg_replay.specs.Boards.{BoardsStand, ItemStops, StoppedIn, EventNext, InSome, NoVolumeIn}
 use Rattle.dg_replay.specs.Boards.{LacksImage}
 use Rattle.dg_script.specs.Items.{Item, Declares, Applies, item_by, items_of, place_behind}
 use Rattle.dg_replay.specs.Items.{Ground, UsesBoards, beginning_of, motes_in, lacking_by}

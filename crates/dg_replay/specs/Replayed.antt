@@ -26,7 +26,8 @@ use Rattle.dg_script.specs.Items.{Item, items_of}
 use Rattle.dg_replay.specs.Near.{FewBytesBehind}
 use Rattle.dg_volume.specs.Stands.{IsVolume}
 use Rattle.dg_world.specs.Mounted.{StandFor}
-use Rattle.dg_replay.specs.Boards.{BoardsStand, BoardStopped, StoppedIn, EventNext, InSome, NoVolumeIn, LacksImage}
+use Rattle.dg_world.specs.Boards.{BoardStopped}
+use Rattle.dg_replay.specs.Boards.{BoardsStand, StoppedIn, EventNext, InSome, NoVolumeIn, LacksImage}
 use Rattle.dg_replay.specs.Items.{Ground, UsesBoards, beginning_of, motes_in, next_items, events_among}
 use Rattle.dg_replay.specs.Around.{Around}
 use Rattle.dg_replay.specs.Stages.{BytesTaken, bytes_taken}

@@ -19,7 +19,8 @@ use Rattle.dg_rules.specs.World.{World}
 use Rattle.dg_rules.specs.Changes.{final_lines}
 use Rattle.dg_rules.specs.Runs.{Played}
 use Rattle.dg_script.specs.Items.{Item, items_of}
-use Rattle.dg_replay.specs.Boards.{BoardsStand, BoardStopped, StoppedIn, InSome, NoVolumeIn, LacksImage}
+use Rattle.dg_world.specs.Boards.{BoardStopped}
+use Rattle.dg_replay.specs.Boards.{BoardsStand, StoppedIn, InSome, NoVolumeIn, LacksImage}
 use Rattle.dg_replay.specs.Items.{Ground, UsesBoards, beginning_of, motes_in, lacking}
 use Rattle.dg_replay.specs.Ending.{Ending, NoBoards, TooManyEvents, FaultAt, script_of, events_in, InBounds, ending_line}
 use Rattle.dg_replay.specs.Near.{behind_lines, FewBytesBehind}

@@ -6,7 +6,7 @@ ghost use Rattle.dg_nor.specs.Device.{Device};
 ghost use Rattle.dg_script.specs.Report.{report_text};
 ghost use Rattle.dg_rules.specs.World.{World as RuleWorld};
 ghost use Rattle.dg_world.specs.Worlds.{IsWorld};
-ghost use Rattle.dg_replay.specs.Boards.{WorldStands};
+ghost use Rattle.dg_world.specs.Boards.{WorldStands};
 ghost use Rattle.dg_replay.specs.Ending.{ending_line, FaultAt, NoBoards};
 ghost use Rattle.dg_replay.specs.Replaying.{EndsWith, FinishesWith};
 

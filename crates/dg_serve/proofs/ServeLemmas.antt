@@ -19,7 +19,7 @@ use Rattle.dg_serve.specs.Services.{Moment, Course, course, plan}
 use Rattle.dg_serve.specs.Endings.{StoresOf, begins}
 use Rattle.dg_serve.specs.Traces.{UnwrittenLast, trace, lines_text, head_lines, event_lines, last_line}
 use Rattle.dg_serve.specs.Standings.{Standing, StandsFor, Ready, BoardEndures, BoardIsCalm, BoardsAreUsed, Went, PartsHalted, GoesOn, stretch}
-use Rattle.dg_serve.specs.Served.{Outside, LeftBy, Wrote, BoardsEndure, Causes, Began, Hindered, Served, TooFewBoards, outside}
+use Rattle.dg_serve.specs.Served.{Outside, LeftBy, Wrote, MotesEndure, Causes, Began, Hindered, Served, TooFewBoards, outside}
 use Rattle.dg_serve.specs.Ran.{status_of, IsOpened, WroteBy, ServiceRan, RanTo, LineWritten, TellsStop, TellsTooFew}
 use Rattle.dg_serve.specs.declared.stop.Stop.{Stop}
 use Rattle.dg_serve.specs.declared.stop.Stop.TheVariants as stop
@@ -42,8 +42,8 @@ calm_at o n a b was now e =
     let P : Option Device → Option Device → Type 0 = λ x y. BoardIsCalm x y in
     subst (λ y. P (Some a) y) now (subst (λ x. P x n) was e)
 
-boards_endure : (motes : ℕ) (old new : List Device) → BoardsAreUsed motes old new → BoardsEndure motes old new
-boards_endure motes old new u = record { count = u.count; others = u.others; endures = λ m a b was now. endures_at (slice_get old m) (slice_get new m) a b was now (u.endures m) }
+boards_endure : (motes : ℕ) (old new : List Device) → BoardsAreUsed motes old new → MotesEndure motes old new
+boards_endure motes old new u = record { all = record { count = u.count; endures = λ m a b was now. endures_at (slice_get old m) (slice_get new m) a b was now (u.endures m) }; others = u.others }
 
 -- ---- from the opening to where it ended
 
@@ -290,9 +290,9 @@ module _ (profile : NetProfile) (seed turns : ℕ) (before mid : Outside) where
   served_stop stop.NoImage answer v g (inr r) t = inr (ends_no_image answer v g r t)
 
 pub count_of : (r : Result (Unit {0}) Stop) (profile : NetProfile) (seed turns : ℕ) (before mid : Outside) → RanTo r profile seed turns before mid → length mid.boards ≡ length before.boards
-count_of (Ok u) profile seed turns before mid ran = ran.boards.count
+count_of (Ok u) profile seed turns before mid ran = ran.boards.all.count
 count_of (Err why) profile seed turns before mid (inl h) = ap length h.boards
-count_of (Err why) profile seed turns before mid (inr ran) = ran.boards.count
+count_of (Err why) profile seed turns before mid (inr ran) = ran.boards.all.count
 
 -- ---- too few boards
 

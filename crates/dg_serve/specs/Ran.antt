@@ -15,7 +15,7 @@ use Rattle.dg_volume.specs.Store.{Store}
 use Rattle.dg_seed.specs.Draws.{first_generator, generator_of}
 use Rattle.dg_serve.specs.Services.{Part, course, plan}
 use Rattle.dg_serve.specs.Endings.{StoresOf, begins}
-use Rattle.dg_serve.specs.Served.{Outside, Came, BoardsEndure, Hindered}
+use Rattle.dg_serve.specs.Served.{Outside, Came, MotesEndure, Hindered}
 use Rattle.dg_serve.specs.Traces.{UnwrittenLast, lines_text, head_lines, event_lines, last_line}
 use Rattle.dg_serve.specs.declared.service.Service.{Service}
 use Rattle.dg_serve.specs.declared.stop.Stop.{Stop}
@@ -89,7 +89,7 @@ pub record ServiceRan (why : Option Stop) (profile : NetProfile) (seed turns : â
   pub text : List â„•
   pub put : Puts before.written after.written text
   pub wrote : WroteBy why (lines_text (head_lines profile)) events text
-  pub boards : BoardsEndure profile.motes before.boards after.boards
+  pub boards : MotesEndure profile.motes before.boards after.boards
   pub counts : CountedBy why before after
 
 -- why it did not begin

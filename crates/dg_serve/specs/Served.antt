@@ -8,10 +8,10 @@ use Rattle.dg_base.specs.declared.answers.Status.TheVariants as status
 use Rattle.dg_base.specs.declared.events.Event.{Event}
 use Rattle.dg_link.specs.Inboxes.{Inboxes, emptied}
 use Rattle.dg_netcfg.specs.declared.profile.NetProfile.{NetProfile}
-use Rattle.dg_nor.specs.Device.{Device, Endures}
-use Rattle.dg_nor.specs.Fuse.{beneath_of}
+use Rattle.dg_nor.specs.Device.{Device}
 use Rattle.dg_object.specs.Object.{Row}
 use Rattle.dg_volume.specs.Store.{Store}
+use Rattle.dg_world.specs.Boards.{BoardsEndure}
 use Rattle.dg_serve.specs.Services.{Part, Moment, PartsDone, Course, course, plan}
 use Rattle.dg_serve.specs.Endings.{StoresOf, begins, BoardsStand, BoardsLeft, LinkLeft, ClockLeft}
 use Rattle.dg_serve.specs.Traces.{UnwrittenLast, trace, lines_text, head_lines, last_line}
@@ -72,12 +72,10 @@ Wrote (Some stop.NotAVolume) answer profile boards events text =
 Wrote (Some stop.NoImage) answer profile boards events text =
     WroteLast answer status.NoImage (trace profile events) (last_line status.NoImage profile.motes boards) text
 
--- No board but those of the motes was used. No count fell, and a board is stopped only where it was, or where its count rose.
-pub record BoardsEndure (motes : ℕ) (old new : List Device) : Type 0 where
-  pub count : length new ≡ length old
+-- No board but those of the motes was used, and all endure.
+pub record MotesEndure (motes : ℕ) (old new : List Device) : Type 0 where
+  pub all : BoardsEndure old new
   pub others : (m : ℕ) → motes ≤ m → slice_get new m ≡ slice_get old m
-  pub endures : (m : ℕ) (a b : Device) → slice_get old m ≡ Some a → slice_get new m ≡ Some b
-      → Endures (beneath_of a) (beneath_of b)
 
 -- A fault of the outside is told, and with its own answer alone.
 pub record Causes (answer : Status) (before after : Outside) : Type 0 where
@@ -110,7 +108,7 @@ pub record Began (answer : Status) (profile : NetProfile) (seed turns : ℕ) (be
   pub text : List ℕ
   pub put : Puts before.written after.written text
   pub wrote : Wrote why answer profile (length before.boards) events text
-  pub boards : BoardsEndure profile.motes before.boards after.boards
+  pub boards : MotesEndure profile.motes before.boards after.boards
   pub causes : Causes answer before after
 
 -- why a service did not begin, where the head of its trace could not be written, or the link could not be opened

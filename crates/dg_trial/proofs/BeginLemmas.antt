@@ -24,7 +24,8 @@ use Rattle.dg_trial.proofs.ScheduleLemmas.{line_at, line_none}
 use Rattle.dg_rules.specs.World.{World, Site, first_world, off_site, no_site}
 use Rattle.dg_world.specs.Worlds.{IsWorld}
 use Rattle.dg_world.specs.declared.world.World.{World as KeptWorld}
-use Rattle.dg_trial.specs.Playing.{golden, chip, first, WorldStands, MayPlay}
+use Rattle.dg_world.specs.Boards.{WorldStands}
+use Rattle.dg_trial.specs.Playing.{golden, chip, first, MayPlay}
 use Rattle.dg_trial.specs.Schedule.{always, line, resets, opening, disturbances}
 use Rattle.dg_trial.proofs.FitLemmas.{few_events, schedule_fits}
 use Rattle.dg_trial.specs.Trials.{Formatted}

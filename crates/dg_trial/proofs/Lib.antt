@@ -1,6 +1,5 @@
 pub mod CutLemmas
 pub mod RunLemmas
-pub mod BoardLemmas
 pub mod PartLemmas
 pub mod ScheduleLemmas
 pub mod LoopLemmas

@@ -18,43 +18,19 @@ use Rattle.dg_world.specs.Deployments.{deployed}
 use Rattle.dg_world.specs.declared.world.World.{World as KeptWorld}
 use Rattle.dg_world.proofs.CountLemmas.{NoneRose_then}
 use Rattle.dg_trial.specs.Schedule.{Part, only}
-use Rattle.dg_trial.specs.Playing.{LeadsTo, WorldStands, StopsInStep, StopsInPart, PartsPlayed, PartsBegun, PartsPlayedAs, PartsPlay, MayPlay, MayPlayOver, PartsGoOnLaw}
+use Rattle.dg_world.specs.Boards.{WorldStands}
+use Rattle.dg_trial.specs.Playing.{LeadsTo, StopsInStep, StopsInPart, PartsPlayed, PartsBegun, PartsPlayedAs, PartsPlay, MayPlay, MayPlayOver, PartsGoOnLaw}
 use Rattle.dg_trial.specs.declared.playing.Stop.{Stop}
 use Rattle.dg_trial.specs.declared.playing.Stop.TheVariants.{Memory, Flash}
-use Rattle.dg_trial.proofs.RunLemmas.{step_counts, event_within, leads_none, leads_one, leads_then, may_front}
-use Rattle.dg_trial.proofs.BoardLemmas.{boards_through, caused_through, there}
+use Rattle.dg_trial.proofs.RunLemmas.{step_counts, leads_none, leads_one, leads_then, may_front}
+use Rattle.dg_world.proofs.EndureLemmas.{boards_through, board_stops, event_within, sites_same, other_than, stands_next}
 
 -- ---- the boards behind a step
 
-other_than : (m n k : ℕ) → n < k → k ≤ m → m ≡ n → ⊥
-other_than m n k low high e = omega arith
-
-stands_next : (u z : World) (v2 : KeptWorld) (mote : ℕ) (initial old new : List Device) → mote < length u.sites → length z.sites ≡ length u.sites → IsWorld v2 new z → OneBoard mote old new → NoneRose old new → WorldStands u initial old → WorldStands z initial new
-stands_next u z v2 mote initial old new within count kept one calm b =
-    record {
-      all = boards_through initial old new b.all one.count one.endures;
-      calm = NoneRose_then initial old new b.all.count b.calm calm;
-      stands = λ m x inside is. (kept.sites m x inside is).stands;
-      came = λ m x inside is. b.came m x (omega (arith, inside, count)) is;
-      others = λ m past.
-          let far : length u.sites ≤ m = omega (arith, past, count) in
-          one.others m (other_than m mote (length u.sites) within far) ∙ b.others m far;
-    }
-
 flash_next : (u : World) (x : Step) (board : ℕ) (initial old new : List Device) → mote_of x.event < length u.sites → FlashAt u x board old new → WorldStands u initial old → StopsInStep u x initial new
 flash_next u x board initial old new within f b =
-    let was : slice_get initial board ≡ Some (get_or initial board f.before) = there old initial board f.before (sym b.all.count) f.was in
     record {
-      stopped = record {
-        board = board;
-        known = omega (arith, f.at, within);
-        before = get_or initial board f.before;
-        after = f.after;
-        was = was;
-        is = f.is;
-        stopped = f.stopped;
-        cause = caused_through (beneath_of (get_or initial board f.before)) (beneath_of f.before) (beneath_of f.after) (b.all.endures board _ f.before was f.was) (f.boards.counts board f.before f.after f.was f.is) f.cause;
-      };
+      stopped = board_stops (length u.sites) board initial old new f.before f.after (omega (arith, f.at, within)) b.all f.was f.is f.stopped (f.boards.counts board f.before f.after f.was f.is) f.cause;
       at = f.at;
       made = f.done;
       within = f.within;
@@ -68,9 +44,6 @@ flash_next u x board initial old new within f b =
 
 begun_none : (w : World) (parts : List Part) (P : World → List Part → Type 0) → P w parts → PartsBegun w parts P
 begun_none w parts P there = record { begun = []; left = parts; split = refl; world = w; run = leads_none w; there = there }
-
-sites_same : (k : KeptWorld) (boards : List Device) (w z : World) → IsWorld k boards w → IsWorld k boards z → length w.sites ≡ length z.sites
-sites_same k boards w z a b = a.motes ∙ sym b.motes
 
 pub step_fits : (motes : ℕ) (w : World) (x : Step) → MayPlay motes w (only x) → StepInRange (length w.sites) x
 step_fits motes w x may = subst (λ (n : ℕ). StepInRange n x) (sym may.count) (may.fits.0 0)

@@ -53,15 +53,6 @@ pub step_counts : (w v : World) (x : Step) (reports : List Report) → WorldStep
 unfolding WorldStep
 step_counts w v x reports step = does_counts (does w x.event) w x v reports step
 
-pub event_within : (n : ℕ) (event : Event) → EventInRange n event → mote_of event < n
-event_within n (Tick mote dt draw) h = h
-event_within n (Hear mote dt draw frame) h = h.0
-event_within n (Last from to dt draw) h = h.second
-event_within n (Reset mote dt draw) h = h
-event_within n (Inject mote image version dt draw) h = h.0
-event_within n (Order mote number image version dt draw) h = h.0
-event_within n (Frame mote dt draw bytes) h = h.0
-
 -- ---- runs
 
 pub leads_none : (w : World) → LeadsTo w [] w

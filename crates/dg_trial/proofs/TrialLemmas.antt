@@ -26,12 +26,13 @@ use Rattle.dg_trial.specs.Trials.{keeps_all, wholes}
 use Rattle.dg_trial.proofs.SummaryLemmas.{world_told, page_count_is}
 use Rattle.dg_seed.specs.Draws.{first_generator}
 use Rattle.dg_trial.specs.Schedule.{Part, always, line, resets, opening, disturbances, row_by, row_of_seed, schedule, sweep_count}
-use Rattle.dg_trial.specs.Playing.{golden, chip, first, LeadsTo, MayPlay, WorldStands, PartsPlay, PartsBegun, StopsInPart, MayPlayOver}
+use Rattle.dg_world.specs.Boards.{WorldStands}
+use Rattle.dg_trial.specs.Playing.{golden, chip, first, LeadsTo, MayPlay, PartsPlay, PartsBegun, StopsInPart, MayPlayOver}
 use Rattle.dg_trial.specs.Trials.{begins, Formatted, FormatEnds, Front, SchedulePlayed, ScheduleEnds, TrialOutcome, TrialRun, StopsReading, Unplayed}
 use Rattle.dg_trial.specs.declared.playing.Stop.{Stop}
 use Rattle.dg_trial.specs.declared.playing.Stop.TheVariants as stop
 use Rattle.dg_trial.proofs.RunLemmas.{leads_none, leads_sites}
-use Rattle.dg_trial.proofs.BoardLemmas.{boards_through, caused_through, there}
+use Rattle.dg_world.proofs.EndureLemmas.{board_stops, chips_read}
 use Rattle.dg_trial.proofs.BeginLemmas.{length_first, first_stands, first_may}
 
 -- ---- the schedule
@@ -97,21 +98,6 @@ format_stopped stop.Flash motes pages seed old new h = inl h
 
 -- ---- the reading at the end
 
-chips_read : (w : World) (initial old new : List Device) → SameBoards old new → WorldStands w initial old → (m : ℕ) (d : Device) → m < length w.sites → slice_get new m ≡ Some d → Stands d.image (store_at w m)
-chips_read w initial old new same b m x inside is =
-    let was : slice_get old m ≡ Some (get_or old m x) = there new old m x (sym same.count) is in
-    subst (λ (image : List ℕ). Stands image (store_at w m)) (sym (same.images m (get_or old m x) x was is)) (b.stands m (get_or old m x) inside was)
-
-pub stands_read : (w : World) (initial old new : List Device) → SameBoards old new → NoneRose old new → ((m : ℕ) → length w.sites ≤ m → slice_get new m ≡ slice_get old m) → WorldStands w initial old → WorldStands w initial new
-stands_read w initial old new same calm others b =
-    record {
-      all = boards_through initial old new b.all same.count same.endures;
-      calm = NoneRose_then initial old new b.all.count b.calm calm;
-      stands = chips_read w initial old new same b;
-      came = b.came;
-      others = λ m past. others m past ∙ b.others m past;
-    }
-
 -- no memory to read them
 pub read_unread : (motes pages seed : ℕ) (w : World) (initial new : List Device) → TrialRun motes pages seed w → WorldStands w initial new → Unplayed motes pages seed initial new
 read_unread motes pages seed w initial new run stands =
@@ -121,20 +107,10 @@ read_unread motes pages seed w initial new run stands =
 pub read_stopped : (motes pages seed : ℕ) (w : World) (board : ℕ) (initial old new : List Device) → TrialRun motes pages seed w → length w.sites ≡ motes → board < length w.sites → SameBoards old new → ((m : ℕ) → length w.sites ≤ m → slice_get new m ≡ slice_get old m) → ReadFlash board old new → WorldStands w initial old
     → StopsReading motes pages seed initial new
 read_stopped motes pages seed w board initial old new run count known same others f b =
-    let was : slice_get initial board ≡ Some (get_or initial board f.before) = there old initial board f.before (sym b.all.count) f.was in
     record {
       last = w;
       run = run;
-      stopped = record {
-        board = board;
-        known = omega (arith, known, count);
-        before = get_or initial board f.before;
-        after = f.after;
-        was = was;
-        is = f.is;
-        stopped = f.stopped;
-        cause = caused_through (beneath_of (get_or initial board f.before)) (beneath_of f.before) (beneath_of f.after) (b.all.endures board _ f.before was f.was) (same.counts board f.before f.after f.was f.is) f.cause;
-      };
+      stopped = board_stops motes board initial old new f.before f.after (omega (arith, known, count)) b.all f.was f.is f.stopped (same.counts board f.before f.after f.was f.is) f.cause;
       stands = λ m d inside is. chips_read w initial old new same b m d (omega (arith, inside, count)) is;
       others = λ m past. others m (omega (arith, past, count)) ∙ b.others m (omega (arith, past, count));
     }

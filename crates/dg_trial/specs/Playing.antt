@@ -1,10 +1,8 @@
 -- Playing a schedule: runs of its parts, and the boards meanwhile.
-use Rattle.std.specs.Prelude.{◌≡◌, ◌≢◌, ◌⊎◌, ℕ, ◌+◌, ◌-◌, ◌<◌, ◌≤◌, true, false, List, [], ◌∷◌, ◌++◌, length, replicate}
+use Rattle.std.specs.Prelude.{◌≡◌, ◌≢◌, ℕ, ◌+◌, ◌-◌, ◌<◌, ◌≤◌, List, [], ◌∷◌, ◌++◌, length, replicate}
 use Rattle.std.specs.Prelude.{slice_get, codes, Some, IfSome, Result, Ok, Err}
 use Rattle.std.specs.List.{AllByRecursion}
-use Rattle.dg_words.specs.Counts.{Rose}
-use Rattle.dg_nor.specs.Device.{Device, Endures}
-use Rattle.dg_nor.specs.Fuse.{beneath_of}
+use Rattle.dg_nor.specs.Device.{Device}
 use Rattle.dg_nor.specs.Trail.{operations, MayLeave}
 use Rattle.dg_object.specs.Object.{Row}
 use Rattle.dg_volume.specs.Store.{Store, IsNear, golden_row, fresh}
@@ -18,7 +16,7 @@ use Rattle.dg_rules.specs.Events.{does, mote_of, trail_of}
 use Rattle.dg_rules.specs.Steps.{WorldStep}
 use Rattle.dg_script.specs.Ranges.{StepInRange}
 use Rattle.dg_rules.specs.Golden.{WorldKeepsGolden}
-use Rattle.dg_world.specs.Counts.{NoneRose}
+use Rattle.dg_world.specs.Boards.{WorldStands, BoardStopped}
 use Rattle.dg_world.specs.Worlds.{IsWorld}
 use Rattle.dg_world.specs.declared.world.World.{World as KeptWorld}
 use Rattle.dg_trial.specs.Schedule.{Part, line}
@@ -44,32 +42,6 @@ abbrev pub first : (motes : ℕ) → Row → World
 first motes row = record (first_world (golden ∷ []) (line motes) none_narrow (replicate motes chip)) { declared = row ∷ [] }
 
 -- ---- the boards
-
--- No count of a board fell, and a board is stopped only where it was, or where its count rose.
-pub record BoardsEndure (old new : List Device) : Type 0 where
-  pub count : length new ≡ length old
-  pub endures : (m : ℕ) (a b : Device) → slice_get old m ≡ Some a → slice_get new m ≡ Some b
-      → Endures (beneath_of a) (beneath_of b)
-
--- The boards of a world's motes stand for its stores, and did not come stopped. All others are as before,
--- and no board's count rose.
-pub record WorldStands (w : World) (old new : List Device) : Type 0 where
-  pub all : BoardsEndure old new
-  pub calm : NoneRose old new
-  pub stands : (m : ℕ) (d : Device) → m < length w.sites → slice_get new m ≡ Some d → Stands d.image (store_at w m)
-  pub came : (m : ℕ) (d : Device) → m < length w.sites → slice_get old m ≡ Some d → d.stopped ≡ false
-  pub others : (m : ℕ) → length w.sites ≤ m → slice_get new m ≡ slice_get old m
-
--- The board of one of so many motes is stopped: its count rose, or it came stopped.
-pub record BoardStopped (motes : ℕ) (old new : List Device) : Type 0 where
-  pub board : ℕ
-  pub known : board < motes
-  pub before : Device
-  pub after : Device
-  pub was : slice_get old board ≡ Some before
-  pub is : slice_get new board ≡ Some after
-  pub stopped : after.stopped ≡ true
-  pub cause : (before.stopped ≡ true) ⊎ Rose before.faults after.faults
 
 -- A board stopped in a step: it stands for a store that the event's trail leaves where so many operations were done,
 -- and a cut did not come before. All other boards are as they were before the step.

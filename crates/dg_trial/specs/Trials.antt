@@ -20,7 +20,8 @@ use Rattle.dg_world.specs.Worlds.{IsWorld}
 use Rattle.dg_world.specs.declared.world.World.{World as KeptWorld}
 use Rattle.dg_trial.specs.AroundTrial.{AroundTrial}
 use Rattle.dg_trial.specs.Schedule.{Part, row_of_seed, schedule, sweep_count}
-use Rattle.dg_trial.specs.Playing.{LeadsTo, first, chip, WorldStands, BoardStopped, PartsBegun, StopsInPart}
+use Rattle.dg_world.specs.Boards.{WorldStands, BoardStopped}
+use Rattle.dg_trial.specs.Playing.{LeadsTo, first, chip, PartsBegun, StopsInPart}
 use Rattle.dg_trial.specs.declared.playing.Stop.{Stop}
 use Rattle.dg_trial.specs.declared.playing.Stop.TheVariants as stop
 use Rattle.dg_trial.specs.declared.summary.Summary.{Summary}

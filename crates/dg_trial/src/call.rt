@@ -9,7 +9,7 @@ ghost use Rattle.dg_rules.specs.World.{World as RuleWorld};
 ghost use Rattle.dg_world.specs.Worlds.{IsWorld};
 ghost use Rattle.dg_trial.specs.AroundTrial.{around_trial};
 ghost use Rattle.dg_trial.specs.Schedule.{sweep_count};
-ghost use Rattle.dg_trial.specs.Playing.{WorldStands};
+ghost use Rattle.dg_world.specs.Boards.{WorldStands};
 ghost use Rattle.dg_trial.specs.Trials.{ScheduleEnds, TrialRun, TrialOutcome, TrialEnds, TellsWhole, LineEnds, summary_line};
 ghost use Rattle.dg_trial.specs.Trials.{no_board_line};
 

@@ -16,6 +16,7 @@ pub mod UnseenLemmas
 pub mod CutLemmas
 pub mod BoardLemmas
 pub mod CountLemmas
+pub mod EndureLemmas
 pub mod FormatLemmas
 pub mod StepLemmas
 pub mod DoneLemmas

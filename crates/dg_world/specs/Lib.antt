@@ -8,6 +8,7 @@ pub mod Worlds
 pub mod Knows
 pub mod Occasions
 pub mod Counts
+pub mod Boards
 pub mod Applied
 pub mod Applying
 pub mod Formatted

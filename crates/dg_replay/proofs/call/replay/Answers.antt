@@ -4,7 +4,7 @@ use Rattle.dg_base.specs.Outside.{AtEnd}
 use Rattle.dg_object.specs.Object.{Row}
 use Rattle.dg_words.specs.Counts.{Rose}
 use Rattle.dg_replay.specs.Ending.{script_of}
-use Rattle.dg_replay.proofs.BoardLemmas.{rose_later, rose_first}
+use Rattle.dg_world.proofs.EndureLemmas.{rose_later, rose_first}
 use Rattle.dg_replay.proofs.RunLemmas.{replay_done, memory_unread, end_replayed, halt_failed, halt_over, halt_stopped}
 use Rattle.dg_replay.proofs.WayLemmas.{replay_ended, stopped_unfailed}
 use Rattle.dg_replay.proofs.call.replay.Goals as goal

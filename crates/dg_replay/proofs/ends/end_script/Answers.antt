@@ -1,6 +1,6 @@
 use Rattle.std.proofs.Common.{◌∙◌, sym}
 use Rattle.dg_replay.proofs.EndLemmas.{short_ends, script_ends, finishes_in}
-use Rattle.dg_replay.proofs.BoardLemmas.{rose_later}
+use Rattle.dg_world.proofs.EndureLemmas.{rose_later}
 use Rattle.dg_replay.proofs.ends.end_script.Goals as goal
 
 pub finish-requires : goal.finish-requires

@@ -1,7 +1,8 @@
 use Rattle.std.proofs.Common.{List, refl, inl, inr, Err, ap, ◌++◌, ◌∙◌}
 use Rattle.dg_rules.specs.Changes.{final_lines}
 use Rattle.dg_script.specs.declared.report.Report.{Report}
-use Rattle.dg_replay.proofs.FinishLemmas.{stands_read, read_stopped, finished_as}
+use Rattle.dg_world.proofs.EndureLemmas.{stands_read}
+use Rattle.dg_replay.proofs.FinishLemmas.{read_stopped, finished_as}
 use Rattle.dg_replay.proofs.finish.finish.Goals as goal
 
 pub returns-in-Ok-clause-finishes : goal.returns-in-Ok-clause-finishes

@@ -2,7 +2,8 @@ use Rattle.std.proofs.Common.{List, ◌++◌, ◌<◌, ◌^◌, arith, refl, inr
 use Rattle.std.specs.Prelude.{Err}
 use Rattle.dg_rules.specs.Changes.{final_lines}
 use Rattle.dg_script.specs.declared.report.Report.{Report}
-use Rattle.dg_trial.proofs.TrialLemmas.{stands_read, read_unread, read_stopped, whole_read, few_whole, ends_first}
+use Rattle.dg_world.proofs.EndureLemmas.{stands_read}
+use Rattle.dg_trial.proofs.TrialLemmas.{read_unread, read_stopped, whole_read, few_whole, ends_first}
 use Rattle.dg_trial.proofs.call.summarize.Goals as goal
 
 pub finish-requires : goal.finish-requires
