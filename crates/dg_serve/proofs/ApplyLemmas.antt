@@ -126,6 +126,10 @@ abbrev pub IsKnown : (motes : ℕ) → List (ℕ × ℕ) → Event → Standing 
 IsKnown motes links event p =
     IsReset event ⊎ ((told : Option Answers) × (reached : ℕ) × (first : List Device) × (s : Moment) × StandsFor motes (begun_before motes event) links (dt_of event) first s (record p { clock = told; reached = reached }))
 
+pub known_at : (motes : ℕ) (links : List (ℕ × ℕ)) (event : Event) (p : Standing) (told : Option Answers) (reached : ℕ) → IsReset event ⊎ ForSome motes links event (record p { clock = told; reached = reached }) → IsKnown motes links event p
+known_at motes links event p told reached (inl reset) = inl reset
+known_at motes links event p told reached (inr y) = inr (told, reached, y.0, y.1, y.2)
+
 board_kept : (links : List (ℕ × ℕ)) (motes : ℕ) (event : Event) (r : Result Outbox Fault) (p q : Standing) (alone : IsAlone event) (x : Setting motes (mote_of event) event r p q) → IsKnown motes links event p → Endures (beneath_of x.played.before) (beneath_of x.played.after) × CountKeeps r x.played.before x.played.after
 board_kept links motes event r p q alone x (inl reset) = kept links motes event r p q alone x (inl reset)
 board_kept links motes event r p q alone x (inr y) =

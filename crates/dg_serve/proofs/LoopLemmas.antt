@@ -3,7 +3,7 @@ use Rattle.std.proofs.Common.{◌≡◌, ℕ, ◌+◌, ◌-◌, ◌*◌, ◌^◌
 use Rattle.std.specs.Prelude.{Result, Ok, Err, IsErrAnd}
 use Rattle.dg_serve.specs.Each.{each}
 use Rattle.dg_serve.specs.Services.{Part, Looks, Ticks, turn_of_all}
-use Rattle.dg_serve.specs.Standings.{Standing, StandsForSome, Ready, Went, PartsHalted, GoesOn, stretch}
+use Rattle.dg_serve.specs.Standings.{Standing, StandsForSome, Ready, IsUnderWay, Went, PartsHalted, GoesOn, stretch}
 use Rattle.dg_serve.specs.declared.stop.Stop.{Stop}
 use Rattle.dg_serve.proofs.EachLemmas.{each_next, each_none, each_split, each_few}
 use Rattle.dg_serve.proofs.GoLemmas.{went_none, went_then, went_as, went_halts, halts_more, halts_as}
@@ -12,8 +12,11 @@ pub halts_exit : (x : Result (Unit {0}) Stop) (why : Stop) (motes begun on : ℕ
 halts_exit (Ok u) why motes begun on links ps p q is h = absurd is
 halts_exit (Err e) why motes begun on links ps p q is h = subst (λ (w : Stop). PartsHalted w motes begun links ps p q) (sym is) h
 
-pub went_some : (motes : ℕ) (links : List (ℕ × ℕ)) (ps : List Part) (p q : Standing) → Went motes motes motes links ps p q → StandsForSome motes motes links p → StandsForSome motes motes links q
+went_some : (motes : ℕ) (links : List (ℕ × ℕ)) (ps : List Part) (p q : Standing) → Went motes motes motes links ps p q → StandsForSome motes motes links p → StandsForSome motes motes links q
 went_some motes links ps p q went y = let x = went.run y.0 y.1 y.2 in (y.0, x.0, x.2)
+
+pub still_under_way : (motes : ℕ) (links : List (ℕ × ℕ)) (ps : List Part) (limit more : ℕ) (p q : Standing) → Went motes motes motes links ps p q → IsUnderWay motes links limit p → q.service.timeline.moment < more → IsUnderWay motes links more q
+still_under_way motes links ps limit more p q went way early = record { ready = went.ready; early = early; some = went_some motes links ps p q went way.some }
 
 pub loop_begins : (motes begun : ℕ) (links : List (ℕ × ℕ)) (f : ℕ → List Part) (p : Standing) → Ready motes begun p → Went motes begun begun links (each 0 f) p p
 loop_begins motes begun links f p ready = went_as motes begun begun links [] (each 0 f) p p (sym (each_none f)) (went_none motes begun links p ready)

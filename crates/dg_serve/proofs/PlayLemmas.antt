@@ -61,36 +61,28 @@ off_stands a before v w m off x volume =
       mote = subst (λ o. P o (site w m).runs) (sym off) (subst (λ r. P None r) (sym x.1) tt);
     }
 
+-- an event of a mote that began
+here_on : (links : List (ℕ × ℕ)) (motes : ℕ) (event : Event) (r : Result Outbox Fault) (first : List Device) (s : Moment) (p q : Standing) (x : Setting motes (mote_of event) event r p q) → StandsFor motes motes links (dt_of event) first s p
+    → IsHere links motes motes motes (dt_of event) event first s p q x.played.before x.played.after (ran_at p (mote_of event)) (ran_at q (mote_of event))
+here_on links motes event r first s p q x st = record {
+  stands = st;
+  known = x.known;
+  many = x.many;
+  was = x.played.was;
+  put = x.played.put;
+  motes_put = x.put;
+  timeline = x.timeline;
+  inside = x.known;
+  others_on = λ k other within. within;
+  others_off = λ k out. out;
+  site_of = λ a was volume. (st.on (mote_of event) a x.played.before x.known was x.played.was).1;
+  image_of = λ a was none. let v = (st.on (mote_of event) a x.played.before x.known was x.played.was).0 in absurd (none v.0 v.1);
+}
+
 pub is_here : (links : List (ℕ × ℕ)) (motes : ℕ) (event : Event) (r : Result Outbox Fault) (first : List Device) (s : Moment) (p q : Standing) → IsAlone event → (x : Setting motes (mote_of event) event r p q) → StandsFor motes (begun_before motes event) links (dt_of event) first s p
     → IsHere links motes (begun_before motes event) (begun_behind motes event) (dt_of event) event first s p q x.played.before x.played.after (ran_at p (mote_of event)) (ran_at q (mote_of event))
-is_here links motes (Tick m dt draw) r first s p q alone x st = record {
-  stands = st;
-  known = x.known;
-  many = x.many;
-  was = x.played.was;
-  put = x.played.put;
-  motes_put = x.put;
-  timeline = x.timeline;
-  inside = x.known;
-  others_on = λ k other within. within;
-  others_off = λ k out. out;
-  site_of = λ a was volume. (st.on m a x.played.before x.known was x.played.was).1;
-  image_of = λ a was none. let v = (st.on m a x.played.before x.known was x.played.was).0 in absurd (none v.0 v.1);
-}
-is_here links motes (Frame m dt draw bytes) r first s p q alone x st = record {
-  stands = st;
-  known = x.known;
-  many = x.many;
-  was = x.played.was;
-  put = x.played.put;
-  motes_put = x.put;
-  timeline = x.timeline;
-  inside = x.known;
-  others_on = λ k other within. within;
-  others_off = λ k out. out;
-  site_of = λ a was volume. (st.on m a x.played.before x.known was x.played.was).1;
-  image_of = λ a was none. let v = (st.on m a x.played.before x.known was x.played.was).0 in absurd (none v.0 v.1);
-}
+is_here links motes (Tick m dt draw) r first s p q alone x st = here_on links motes (Tick m dt draw) r first s p q x st
+is_here links motes (Frame m dt draw bytes) r first s p q alone x st = here_on links motes (Frame m dt draw bytes) r first s p q x st
 is_here links motes (Reset m dt draw) r first s p q alone x st = record {
   stands = st;
   known = x.known;

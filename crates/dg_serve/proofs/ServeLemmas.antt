@@ -19,7 +19,7 @@ use Rattle.dg_serve.specs.Services.{Moment, Course, course, plan}
 use Rattle.dg_serve.specs.Endings.{StoresOf, begins}
 use Rattle.dg_serve.specs.Traces.{UnwrittenLast, trace, lines_text, head_lines, event_lines, last_line}
 use Rattle.dg_serve.specs.Standings.{Standing, StandsFor, Ready, BoardEndures, BoardIsCalm, BoardsAreUsed, Went, PartsHalted, GoesOn, stretch}
-use Rattle.dg_serve.specs.Served.{Outside, LeftBy, Wrote, MotesEndure, Causes, Began, Hindered, Served, TooFewBoards, outside}
+use Rattle.dg_serve.specs.Served.{Outside, LeftBy, WroteLast, Wrote, MotesEndure, Causes, Began, Hindered, Served, TooFewBoards, outside}
 use Rattle.dg_serve.specs.Ran.{status_of, IsOpened, WroteBy, ServiceRan, RanTo, LineWritten, TellsStop, TellsTooFew}
 use Rattle.dg_serve.specs.declared.stop.Stop.{Stop}
 use Rattle.dg_serve.specs.declared.stop.Stop.TheVariants as stop
@@ -250,29 +250,24 @@ module _ (profile : NetProfile) (seed turns : ℕ) (before mid : Outside) where
     sends_rise = r.counts.failures_rise;
   }
 
+  ends_told : (why : Stop) (of answer : Status) (line : List ℕ) (v : Option (List ℕ)) (g : ℕ) (r : ServiceRan (Some why) profile seed turns before mid) → why ≢ stop.Write → why ≢ stop.Link → why ≢ stop.Flash → of ≢ status.WriteFault → of ≢ status.LinkFault → of ≢ status.Done → r.text ≡ trace profile r.events
+      → ((a : Status) (text : List ℕ) → WroteLast a of (trace profile r.events) line text → Wrote (Some why) a profile (length before.boards) r.events text) → LineWritten answer of line mid.written v mid.faults g → Began answer profile seed turns before (told_after mid v g)
+  ends_told why of answer line v g r writes sends stops a b c whole wrote (inl t) =
+      subst (λ (x : Status). Began x profile seed turns before (told_after mid v g)) (sym t.0)
+      (began (Some why) of profile seed turns before mid v g (r.text ++ line) r (Puts-join before.written mid.written v r.text line r.put t.1)
+      (wrote of (r.text ++ line) (inl (refl, last_written line (trace profile r.events) r.text whole)))
+      (calm_told why of v g r writes sends stops a b c t.2))
+  ends_told why of answer line v g r writes sends stops a b c whole wrote (inr t) =
+      subst (λ (x : Status). Began x profile seed turns before (told_after mid v g)) (sym t.0)
+      (began (Some why) status.WriteFault profile seed turns before mid v g (r.text ++ take t.1.0 line) r (Puts-join before.written mid.written v r.text (take t.1.0 line) r.put t.1.1)
+      (wrote status.WriteFault (r.text ++ take t.1.0 line) (inr (refl, (t.1.0, last_written (take t.1.0 line) (trace profile r.events) r.text whole))))
+      (failed_told why v g r writes stops t.2 t.3))
+
   ends_no_volume : (answer : Status) (v : Option (List ℕ)) (g : ℕ) → ServiceRan (Some stop.NotAVolume) profile seed turns before mid → LineWritten answer status.NotAVolume (last_line status.NotAVolume 0 0) mid.written v mid.faults g → Began answer profile seed turns before (told_after mid v g)
-  ends_no_volume answer v g r (inl t) =
-      subst (λ (a : Status). Began a profile seed turns before (told_after mid v g)) (sym t.0)
-      (began (Some stop.NotAVolume) status.NotAVolume profile seed turns before mid v g (r.text ++ last_line status.NotAVolume 0 0) r (Puts-join before.written mid.written v r.text (last_line status.NotAVolume 0 0) r.put t.1)
-      (inl (refl, last_written (last_line status.NotAVolume 0 0) (trace profile r.events) r.text r.wrote))
-      (calm_told stop.NotAVolume status.NotAVolume v g r (λ x. absurd cc) (λ x. absurd cc) (λ x. absurd cc) (λ x. absurd cc) (λ x. absurd cc) (λ x. absurd cc) t.2))
-  ends_no_volume answer v g r (inr t) =
-      subst (λ (a : Status). Began a profile seed turns before (told_after mid v g)) (sym t.0)
-      (began (Some stop.NotAVolume) status.WriteFault profile seed turns before mid v g (r.text ++ take t.1.0 (last_line status.NotAVolume 0 0)) r (Puts-join before.written mid.written v r.text (take t.1.0 (last_line status.NotAVolume 0 0)) r.put t.1.1)
-      (inr (refl, (t.1.0, last_written (take t.1.0 (last_line status.NotAVolume 0 0)) (trace profile r.events) r.text r.wrote)))
-      (failed_told stop.NotAVolume v g r (λ x. absurd cc) (λ x. absurd cc) t.2 t.3))
+  ends_no_volume answer v g r t = ends_told stop.NotAVolume status.NotAVolume answer (last_line status.NotAVolume 0 0) v g r (λ x. absurd cc) (λ x. absurd cc) (λ x. absurd cc) (λ x. absurd cc) (λ x. absurd cc) (λ x. absurd cc) r.wrote (λ a text x. x) t
 
   ends_no_image : (answer : Status) (v : Option (List ℕ)) (g : ℕ) → ServiceRan (Some stop.NoImage) profile seed turns before mid → LineWritten answer status.NoImage (last_line status.NoImage 0 0) mid.written v mid.faults g → Began answer profile seed turns before (told_after mid v g)
-  ends_no_image answer v g r (inl t) =
-      subst (λ (a : Status). Began a profile seed turns before (told_after mid v g)) (sym t.0)
-      (began (Some stop.NoImage) status.NoImage profile seed turns before mid v g (r.text ++ last_line status.NoImage 0 0) r (Puts-join before.written mid.written v r.text (last_line status.NoImage 0 0) r.put t.1)
-      (inl (refl, last_written (last_line status.NoImage 0 0) (trace profile r.events) r.text r.wrote))
-      (calm_told stop.NoImage status.NoImage v g r (λ x. absurd cc) (λ x. absurd cc) (λ x. absurd cc) (λ x. absurd cc) (λ x. absurd cc) (λ x. absurd cc) t.2))
-  ends_no_image answer v g r (inr t) =
-      subst (λ (a : Status). Began a profile seed turns before (told_after mid v g)) (sym t.0)
-      (began (Some stop.NoImage) status.WriteFault profile seed turns before mid v g (r.text ++ take t.1.0 (last_line status.NoImage 0 0)) r (Puts-join before.written mid.written v r.text (take t.1.0 (last_line status.NoImage 0 0)) r.put t.1.1)
-      (inr (refl, (t.1.0, last_written (take t.1.0 (last_line status.NoImage 0 0)) (trace profile r.events) r.text r.wrote)))
-      (failed_told stop.NoImage v g r (λ x. absurd cc) (λ x. absurd cc) t.2 t.3))
+  ends_no_image answer v g r t = ends_told stop.NoImage status.NoImage answer (last_line status.NoImage 0 0) v g r (λ x. absurd cc) (λ x. absurd cc) (λ x. absurd cc) (λ x. absurd cc) (λ x. absurd cc) (λ x. absurd cc) r.wrote (λ a text x. x) t
 
   nothing_more : (answer of : Status) (v : Option (List ℕ)) (g : ℕ) → answer ≡ of → v ≡ mid.written → g ≡ mid.faults → Served of profile seed turns before mid → Served answer profile seed turns before (told_after mid v g)
   nothing_more answer of v g is same count s =

@@ -7,7 +7,9 @@ use Rattle.dg_base.specs.Outside.{Puts}
 use Rattle.dg_base.specs.declared.events.Event.{Event}
 use Rattle.dg_base.specs.declared.events.Event.TheVariants.{Tick, Reset, Frame}
 use Rattle.dg_link.specs.Inboxes.{Inboxes, TakesFrame}
-use Rattle.dg_script.specs.Ranges.{IsFrame}
+use Rattle.dg_script.specs.Ranges.{IsFrame, EventInRange}
+use Rattle.dg_script.specs.Fitting.{FitsLine}
+use Rattle.dg_script.specs.declared.line.Line.TheVariants.{Event as EventLine}
 use Rattle.dg_nor.specs.Device.{Device}
 use Rattle.dg_volume.specs.Stands.{IsVolume}
 use Rattle.dg_rules.specs.World.{World, Running, site, store_at}
@@ -16,13 +18,13 @@ use Rattle.dg_mote.specs.Effects.{frame_effect}
 use Rattle.dg_volume.specs.Store.{Store}
 use Rattle.dg_mote.specs.Timely.{Timely}
 use Rattle.dg_mote.proofs.TimelyLemmas.{timely_later}
-use Rattle.dg_world.specs.Alone.{IsReset}
+use Rattle.dg_world.specs.Alone.{IsAlone, IsReset}
 use Rattle.dg_world.specs.Worlds.{MayRun, MoteStands}
 use Rattle.dg_world.specs.declared.world.RunningMote.{RunningMote}
 use Rattle.dg_serve.specs.Services.{Part, Begins, Looks, Ticks, Moment, Steps, EventApplied, PartDone}
 use Rattle.dg_serve.specs.Traces.{event_lines}
 use Rattle.dg_serve.specs.Endings.{BoardsStand, FindsNoImage, FindsNoVolume, EventEnds, EndsInNext, BoardsLeft, TakesFor, FoundBy, HandedToFirst, PartlyHanded, LinkLeft, ClockLeft, OneTaken, event_of}
-use Rattle.dg_serve.specs.Standings.{Standing, StandsFor, StandsForSome, Ready, BoardsAreUsed, BoardsAreCalm, Went, PartsHalted, GoesOn, stretch, AppliedAt, NotApplied, HandedThen, AppliedPartly, ApplyEnds, begun_before, begun_behind}
+use Rattle.dg_serve.specs.Standings.{Standing, StandsFor, StandsForSome, Ready, IsUnderWay, EventAsks, BoardsAreUsed, BoardsAreCalm, Went, PartsHalted, GoesOn, stretch, AppliedAt, NotApplied, HandedThen, AppliedPartly, ApplyEnds, begun_before, begun_behind}
 use Rattle.dg_serve.specs.declared.stop.Stop.{Stop}
 use Rattle.dg_serve.specs.declared.stop.Stop.TheVariants as stop
 use Rattle.dg_serve.proofs.BoardLemmas.{got_within}
@@ -86,7 +88,7 @@ stands_looked motes begun links boxes p first s st = record {
 }
 
 -- the event that comes is ahead of some moment
-pub some_drawn : (motes begun : ℕ) (links : List (ℕ × ℕ)) (p m : Standing) (dt draw : ℕ) → DrawnTo p m dt draw → StandsForSome motes begun links p → (first : List Device) × (s : Moment) × StandsFor motes begun links dt first s m
+some_drawn : (motes begun : ℕ) (links : List (ℕ × ℕ)) (p m : Standing) (dt draw : ℕ) → DrawnTo p m dt draw → StandsForSome motes begun links p → (first : List Device) × (s : Moment) × StandsFor motes begun links dt first s m
 some_drawn motes begun links p m dt draw d y =
     let st = stands_looked motes begun links m.inboxes p y.0 y.1 y.2 in
     (y.0, drawn (looked y.1 m.inboxes) m.service.timeline m.clock, stands_drawn motes begun links y.0 (looked y.1 m.inboxes) (record p { inboxes = m.inboxes }) m dt draw st d.timed d.boards d.motes refl)
@@ -97,7 +99,7 @@ may_run c None s o moment now later stands timely = tt
 may_run c (Some x) s None moment now later stands timely = absurd stands
 may_run c (Some x) s (Some r) moment now later stands timely = (r.mote, s, stands.1, timely_later r.mote moment now later timely)
 
-pub may_at : (motes ahead mote : ℕ) (links : List (ℕ × ℕ)) (m : Standing) → mote < motes → (first : List Device) × (s : Moment) × StandsFor motes motes links ahead first s m → (a : Device) → slice_get m.boards mote ≡ Some a → MayRun a.image m.service.timeline.moment (slice_index_or m.service.motes.items mote None)
+may_at : (motes ahead mote : ℕ) (links : List (ℕ × ℕ)) (m : Standing) → mote < motes → (first : List Device) × (s : Moment) × StandsFor motes motes links ahead first s m → (a : Device) → slice_get m.boards mote ≡ Some a → MayRun a.image m.service.timeline.moment (slice_index_or m.service.motes.items mote None)
 may_at motes ahead mote links m known y a was =
     let st = y.2 in
     let f = got_some y.0 mote (let n = st.count in let k = got_within m.boards mote a was in omega (arith, n, k)) in
@@ -105,8 +107,43 @@ may_at motes ahead mote links m known y a was =
     may_run a.image (slice_index_or m.service.motes.items mote None) (site y.1.world mote).store (site y.1.world mote).runs y.1.world.moment m.service.timeline.moment (let n = st.moment in omega (arith, n)) x.mote (st.timely mote (omega (arith, known, st.sites)))
 
 -- a mote that is off may begin
-pub may_begin : (v : Option RunningMote) (c : List ℕ) (now : ℕ) → v ≡ None → MayRun c now v
+may_begin : (v : Option RunningMote) (c : List ℕ) (now : ℕ) → v ≡ None → MayRun c now v
 may_begin v c now off = subst (λ o. MayRun c now o) (sym off) tt
+
+-- ---- what an event asks for, once its draw was made
+
+asked : (motes mote begun : ℕ) (links : List (ℕ × ℕ)) (event : Event) (dt draw : ℕ) (p m : Standing) → DrawnTo p m dt draw → Ready motes begun p → p.service.timeline.moment < 2 ^ 60 → FitsLine motes (EventLine event) → EventInRange motes event → IsAlone event → mote_of event ≡ mote → mote < motes
+    → ((a : Device) → slice_get m.boards mote ≡ Some a → MayRun a.image m.service.timeline.moment (slice_index_or m.service.motes.items mote None)) → (IsReset event → slice_index_or m.service.motes.items mote None ≡ None)
+    → IsReset event ⊎ ((first : List Device) × (s : Moment) × StandsFor motes (begun_before motes event) links (dt_of event) first s m) → EventAsks motes mote links event m
+asked motes mote begun links event dt draw p m d ready early fits ranges alone at known may off some = record {
+  fits = fits;
+  short = tt;
+  ranges = ranges;
+  alone = alone;
+  at = at;
+  known = known;
+  motes_are = ap length d.motes ∙ ready.motes_are;
+  boards = let n = ap length d.boards in omega (arith, n, ready.boards);
+  addressees = d.addressees ∙ ready.addressees;
+  moment = omega (arith, d.timed.moment, d.short, early);
+  may = may;
+  off = off;
+  some = some;
+}
+
+-- a reset, before which its mote is off
+pub reset_asks : (motes mote : ℕ) (links : List (ℕ × ℕ)) (dt draw : ℕ) (p m : Standing) → DrawnTo p m dt draw → Ready motes mote p → p.service.timeline.moment < 2 ^ 60 → mote < motes → EventAsks motes mote links (Reset mote dt draw) m
+reset_asks motes mote links dt draw p m d ready early known =
+    let off : slice_index_or m.service.motes.items mote None ≡ None = subst (λ xs. slice_index_or xs mote None ≡ None) (sym d.motes) (ready.off mote (omega arith)) in
+    asked motes mote mote links (Reset mote dt draw) dt draw p m d ready early (known, d.timed.fits) known tt refl known (λ a was. may_begin (slice_index_or m.service.motes.items mote None) a.image m.service.timeline.moment off) (λ reset. off) (inl tt)
+
+-- an event of a service that is under way
+pub event_asks : (motes mote : ℕ) (links : List (ℕ × ℕ)) (event : Event) (dt draw : ℕ) (p m : Standing) → DrawnTo p m dt draw → IsUnderWay motes links (2 ^ 60) p → FitsLine motes (EventLine event) → EventInRange motes event → IsAlone event → mote_of event ≡ mote → mote < motes → (IsReset event → ⊥) → dt_of event ≡ dt → begun_before motes event ≡ motes → EventAsks motes mote links event m
+event_asks motes mote links event dt draw p m d way fits ranges alone at known never dt_is before_is =
+    let x = some_drawn motes motes links p m dt draw d way.some in
+    let P : ℕ → ℕ → Type 0 = λ b k. StandsFor motes b links k x.0 x.1 m in
+    asked motes mote motes links event dt draw p m d way.ready way.early fits ranges alone at known (may_at motes dt mote links m known x) (λ reset. absurd (never reset))
+    (inr (x.0, x.1, subst (λ b. P b (dt_of event)) (sym before_is) (subst (λ k. P motes k) (sym dt_is) x.2)))
 
 module _ (motes begun on : ℕ) (links : List (ℕ × ℕ)) (part : Part) (event : (dt draw : ℕ) → Event) (bytes : List ℕ) (dt draw : ℕ) (p m q : Standing) (d : DrawnTo p m dt draw) (h : IsPart motes begun on part event bytes p.inboxes m.inboxes) where
   looked_at : (first : List Device) (s : Moment) → StandsFor motes begun links 0 first s p → StandsFor motes begun links 0 first (looked s m.inboxes) (record p { inboxes = m.inboxes })

@@ -6,18 +6,24 @@ use Rattle.dg_base.specs.Clock.{Answers}
 use Rattle.dg_base.specs.Outside.{Puts}
 use Rattle.dg_base.specs.declared.events.Event.{Event}
 use Rattle.dg_base.specs.declared.events.Event.TheVariants.{Tick, Hear, Last, Reset, Inject, Order, Frame}
+use Rattle.dg_base.specs.declared.clock.Clock.{Ghosts as ClockTells}
+use Rattle.dg_base.specs.declared.outside.Sink.{Ghosts as SinkTells}
+use Rattle.dg_link.specs.declared.link.Link.{Ghosts as LinkTells}
 use Rattle.dg_link.specs.Inboxes.{Inboxes, TakesFrame, IsEmptyAt}
 use Rattle.dg_nor.specs.Device.{Device, Endures}
 use Rattle.dg_nor.specs.Fuse.{beneath_of}
 use Rattle.dg_volume.specs.Stands.{Stands, IsVolume, IsNoVolume}
 use Rattle.dg_mote.specs.declared.outbox.Outbox.{Outbox}
-use Rattle.dg_script.specs.Ranges.{IsFrame}
+use Rattle.dg_script.specs.Ranges.{IsFrame, EventInRange}
+use Rattle.dg_script.specs.Fitting.{FitsLine}
+use Rattle.dg_script.specs.Spelling.{IsShort}
+use Rattle.dg_script.specs.declared.line.Line.TheVariants.{Event as EventLine}
 use Rattle.dg_script.specs.Places.{none_narrow}
 use Rattle.dg_rules.specs.World.{World, site, wide_at, store_at}
 use Rattle.dg_rules.specs.Events.{mote_of, dt_of}
 use Rattle.dg_rules.specs.Premises.{WorldTimely}
-use Rattle.dg_world.specs.Worlds.{SiteStands}
-use Rattle.dg_world.specs.Alone.{IsReset, PlaysAlone, Powers}
+use Rattle.dg_world.specs.Worlds.{SiteStands, MayRun}
+use Rattle.dg_world.specs.Alone.{IsAlone, IsReset, PlaysAlone, Powers}
 use Rattle.dg_world.specs.declared.outcome.Fault.{Fault}
 use Rattle.dg_world.specs.declared.outcome.Fault.TheVariants as fault
 use Rattle.dg_world.specs.declared.world.RunningMote.{RunningMote}
@@ -25,7 +31,6 @@ use Rattle.dg_seed.specs.Draws.{generator_of}
 use Rattle.dg_serve.specs.Services.{Part, Moment, PartsDone, Course, course, Steps, handed_to, neighbours_by}
 use Rattle.dg_serve.specs.Traces.{UnwrittenLast, event_lines}
 use Rattle.dg_serve.specs.Endings.{BoardsStand, EventEnds, BoardsLeft, HandedToFirst, LinkLeft, ClockLeft}
-use Rattle.dg_serve.specs.Served.{Outside}
 use Rattle.dg_serve.specs.declared.service.Service.{Service}
 use Rattle.dg_serve.specs.declared.stop.Stop.{Stop}
 use Rattle.dg_serve.specs.declared.stop.Stop.TheVariants as stop
@@ -42,19 +47,25 @@ pub record Standing : Type 0 where
   pub written : Option (List ℕ)
   pub faults : ℕ
 
--- a service amid this outside, whose link has so many motes, and whose clock reached this
-abbrev pub service_standing : Service → Outside → (addressees reached : ℕ) → Standing
-service_standing service around addressees reached = record {
-  service = service;
-  boards = around.boards;
-  inboxes = around.inboxes;
-  addressees = addressees;
-  failures = around.failures;
-  clock = around.clock;
-  reached = reached;
-  written = around.written;
-  faults = around.faults;
+-- a service with these boards, amid what its sink and its link tell, and what a clock told and reached
+abbrev pub standing_with : {K L : Type 0} → Service × List Device → SinkTells K × K → LinkTells L × L → Option Answers × ℕ
+    → Standing
+standing_with x sink link clock = record {
+  service = x.0;
+  boards = x.1;
+  inboxes = link.0.inboxes link.1;
+  addressees = link.0.mote_count link.1;
+  failures = link.0.faults link.1;
+  clock = clock.0;
+  reached = clock.1;
+  written = sink.0.written sink.1;
+  faults = sink.0.faults sink.1;
 }
+
+-- the same amid what its clock tells
+abbrev pub service_standing : {K L C : Type 0} → Service × List Device → SinkTells K × K → LinkTells L × L → ClockTells C × C
+    → Standing
+service_standing x sink link clock = standing_with x sink link (clock.0.told clock.1, clock.0.reached clock.1)
 
 -- The code stands for a moment of a service whose boards were these when it began. The power of the first motes came, and
 -- its time is ahead of the rules' by so much.
@@ -174,6 +185,12 @@ GoesOn (Err why) motes links x p q = PartsHalted why motes x.begun links x.parts
 abbrev pub StandsForSome : (motes begun : ℕ) → List (ℕ × ℕ) → Standing → Type 0
 StandsForSome motes begun links p = (first : List Device) × (s : Moment) × StandsFor motes begun links 0 first s p
 
+-- Each mote began, the time of the service is below this, and it stands for some moment.
+pub record IsUnderWay (motes : ℕ) (links : List (ℕ × ℕ)) (limit : ℕ) (p : Standing) : Type 0 where
+  pub ready : Ready motes motes p
+  pub early : p.service.timeline.moment < limit
+  pub some : StandsForSome motes motes links p
+
 -- ---- one event
 
 -- how many motes' power came before an event and behind it, where it is a reset; else all motes' power came
@@ -194,6 +211,24 @@ begun_behind motes (Reset mote dt draw) = mote + 1
 begun_behind motes (Inject mote image version dt draw) = motes
 begun_behind motes (Order mote number image version dt draw) = motes
 begun_behind motes (Frame mote dt draw bytes) = motes
+
+-- What an event at a mote asks for: its mote may run, and is off before a reset. Else the service stands for some moment.
+pub record EventAsks (motes mote : ℕ) (links : List (ℕ × ℕ)) (event : Event) (p : Standing) : Type 0 where
+  pub fits : FitsLine motes (EventLine event)
+  pub short : IsShort (EventLine event)
+  pub ranges : EventInRange motes event
+  pub alone : IsAlone event
+  pub at : mote_of event ≡ mote
+  pub known : mote < motes
+  pub motes_are : length p.service.motes.items ≡ motes
+  pub boards : motes ≤ length p.boards
+  pub addressees : p.addressees ≡ motes
+  pub moment : p.service.timeline.moment < 2 ^ 62
+  pub may : (a : Device) → slice_get p.boards mote ≡ Some a
+      → MayRun a.image p.service.timeline.moment (slice_index_or p.service.motes.items mote None)
+  pub off : IsReset event → slice_index_or p.service.motes.items mote None ≡ None
+  pub some : IsReset event ⊎ ((first : List Device) × (s : Moment)
+      × StandsFor motes (begun_before motes event) links (dt_of event) first s p)
 
 -- what a mote runs, and the boards
 pub record AtMote : Type 0 where

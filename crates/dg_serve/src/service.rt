@@ -1,20 +1,10 @@
 //! A service, part by part.
-ghost use Rattle.std.specs.Prelude.{◌≡◌, ◌⊎◌, ℕ, ◌+◌, ◌^◌, ◌<◌, ◌≤◌, List, [], ◌∷◌, length, map, slice_get, slice_index_or};
-ghost use Rattle.std.specs.Prelude.{Option, Some, None};
+ghost use Rattle.std.specs.Prelude.{◌≡◌, ℕ, ◌+◌, ◌^◌, ◌<◌, ◌≤◌, [], ◌∷◌, map, Option};
 ghost use Rattle.dg_base.specs.Clock.{Answers};
 ghost use Rattle.dg_netcfg.specs.Readings.{IsAllowed};
-ghost use Rattle.dg_nor.specs.Device.{Device};
-ghost use Rattle.dg_rules.specs.Events.{mote_of, dt_of};
-ghost use Rattle.dg_script.specs.Ranges.{EventInRange};
-ghost use Rattle.dg_script.specs.Fitting.{FitsLine};
-ghost use Rattle.dg_script.specs.Spelling.{IsShort};
-ghost use Rattle.dg_script.specs.declared.line.Line.TheVariants.{Event as EventLine};
-ghost use Rattle.dg_world.specs.Alone.{IsAlone, IsReset};
-ghost use Rattle.dg_world.specs.Worlds.{MayRun};
 ghost use Rattle.dg_serve.specs.Each.{each};
-ghost use Rattle.dg_serve.specs.Served.{outside};
-ghost use Rattle.dg_serve.specs.Services.{Begins, Looks, Ticks, Moment, beginning, turn_of_all, plan};
-ghost use Rattle.dg_serve.specs.Standings.{Ready, StandsFor, StandsForSome, GoesOn, ApplyEnds, begun_before, stretch};
+ghost use Rattle.dg_serve.specs.Services.{Begins, Looks, Ticks, beginning, turn_of_all, plan};
+ghost use Rattle.dg_serve.specs.Standings.{Ready, IsUnderWay, GoesOn, EventAsks, ApplyEnds, stretch, standing_with};
 ghost use Rattle.dg_serve.specs.Standings.{service_standing};
 
 use crate::handing::{hand_on, receive};
@@ -53,28 +43,12 @@ impl Service {
         out: &mut K,
     ) -> Result<(), Stop>
         requires allowed { IsAllowed profile.now }
-        requires fits { FitsLine profile.now.motes (EventLine event) }
-        requires short { IsShort (EventLine event) }
-        requires ranges { EventInRange profile.now.motes event }
-        requires alone { IsAlone event }
-        requires at { mote_of event ≡ mote }
-        requires known { mote < profile.now.motes }
-        requires motes { length self.old.motes.items ≡ profile.now.motes }
-        requires boards { profile.now.motes ≤ length boards.old }
-        requires addressees { L.mote_count link.old ≡ profile.now.motes }
-        requires moment { self.old.timeline.moment < 2 ^ 62 }
-        requires may { (a : Device) → slice_get (map N.device boards.old) mote ≡ Some a
-            → MayRun a.image self.old.timeline.moment (slice_index_or self.old.motes.items mote None) }
-        requires off { IsReset event → slice_index_or self.old.motes.items mote None ≡ None }
-        requires some { IsReset event ⊎ ((told : Option Answers) × (reached : ℕ) × (first : List Device) × (s : Moment)
-            × StandsFor profile.now.motes (begun_before profile.now.motes event) profile.now.links (dt_of event) first s
-            (service_standing self.old (outside (K.written out.old) (K.faults out.old) told (L.inboxes link.old)
-            (L.faults link.old) (map N.device boards.old)) (L.mote_count link.old) reached)) }
+        requires asks { (told : Option Answers) × (reached : ℕ)
+            × EventAsks profile.now.motes mote profile.now.links event
+            (standing_with (self.old, map N.device boards.old) (K.Sink, out.old) (L.Link, link.old) (told, reached)) }
         ensures ends { (told : Option Answers) (reached : ℕ) → ApplyEnds result profile.now.motes profile.now.links event
-            (service_standing self.old (outside (K.written out.old) (K.faults out.old) told (L.inboxes link.old)
-            (L.faults link.old) (map N.device boards.old)) (L.mote_count link.old) reached)
-            (service_standing self.new (outside (K.written out.new) (K.faults out.new) told (L.inboxes link.new)
-            (L.faults link.new) (map N.device boards.new)) (L.mote_count link.new) reached) }
+            (standing_with (self.old, map N.device boards.old) (K.Sink, out.old) (L.Link, link.old) (told, reached))
+            (standing_with (self.new, map N.device boards.new) (K.Sink, out.new) (L.Link, link.new) (told, reached)) }
     {
         agreement_is_kept();
         let line = Line::Event(event);
@@ -100,14 +74,11 @@ impl Service {
         requires allowed { IsAllowed profile.now }
         requires known { mote < profile.now.motes }
         requires ready { Ready profile.now.motes mote
-            (service_standing self.old (outside (K.written out.old) (K.faults out.old) (C.told clock.old) (L.inboxes link.old)
-            (L.faults link.old) (map N.device boards.old)) (L.mote_count link.old) (C.reached clock.old)) }
+            (service_standing (self.old, map N.device boards.old) (K.Sink, out.old) (L.Link, link.old) (C.Clock, clock.old)) }
         requires early { self.old.timeline.moment < 2 ^ 60 }
         ensures goes { GoesOn result profile.now.motes profile.now.links (stretch mote (mote + 1) (Begins mote ∷ []))
-            (service_standing self.old (outside (K.written out.old) (K.faults out.old) (C.told clock.old) (L.inboxes link.old)
-            (L.faults link.old) (map N.device boards.old)) (L.mote_count link.old) (C.reached clock.old))
-            (service_standing self.new (outside (K.written out.new) (K.faults out.new) (C.told clock.new) (L.inboxes link.new)
-            (L.faults link.new) (map N.device boards.new)) (L.mote_count link.new) (C.reached clock.new)) }
+            (service_standing (self.old, map N.device boards.old) (K.Sink, out.old) (L.Link, link.old) (C.Clock, clock.old))
+            (service_standing (self.new, map N.device boards.new) (K.Sink, out.new) (L.Link, link.new) (C.Clock, clock.new)) }
     {
         let timing = self.timeline.draw(clock);
         let event = Event::Reset {
@@ -130,19 +101,12 @@ impl Service {
     ) -> Result<(), Stop>
         requires allowed { IsAllowed profile.now }
         requires known { mote < profile.now.motes }
-        requires ready { Ready profile.now.motes profile.now.motes
-            (service_standing self.old (outside (K.written out.old) (K.faults out.old) (C.told clock.old) (L.inboxes link.old)
-            (L.faults link.old) (map N.device boards.old)) (L.mote_count link.old) (C.reached clock.old)) }
-        requires early { self.old.timeline.moment < 2 ^ 60 }
-        requires some { StandsForSome profile.now.motes profile.now.motes profile.now.links
-            (service_standing self.old (outside (K.written out.old) (K.faults out.old) (C.told clock.old) (L.inboxes link.old)
-            (L.faults link.old) (map N.device boards.old)) (L.mote_count link.old) (C.reached clock.old)) }
+        requires under_way { IsUnderWay profile.now.motes profile.now.links (2 ^ 60)
+            (service_standing (self.old, map N.device boards.old) (K.Sink, out.old) (L.Link, link.old) (C.Clock, clock.old)) }
         ensures goes { GoesOn result profile.now.motes profile.now.links
             (stretch profile.now.motes profile.now.motes (Looks mote ∷ []))
-            (service_standing self.old (outside (K.written out.old) (K.faults out.old) (C.told clock.old) (L.inboxes link.old)
-            (L.faults link.old) (map N.device boards.old)) (L.mote_count link.old) (C.reached clock.old))
-            (service_standing self.new (outside (K.written out.new) (K.faults out.new) (C.told clock.new) (L.inboxes link.new)
-            (L.faults link.new) (map N.device boards.new)) (L.mote_count link.new) (C.reached clock.new)) }
+            (service_standing (self.old, map N.device boards.old) (K.Sink, out.old) (L.Link, link.old) (C.Clock, clock.old))
+            (service_standing (self.new, map N.device boards.new) (K.Sink, out.new) (L.Link, link.new) (C.Clock, clock.new)) }
     {
         match receive(self.alloc, link, mote)? {
             Some(bytes) => {
@@ -171,19 +135,12 @@ impl Service {
     ) -> Result<(), Stop>
         requires allowed { IsAllowed profile.now }
         requires known { mote < profile.now.motes }
-        requires ready { Ready profile.now.motes profile.now.motes
-            (service_standing self.old (outside (K.written out.old) (K.faults out.old) (C.told clock.old) (L.inboxes link.old)
-            (L.faults link.old) (map N.device boards.old)) (L.mote_count link.old) (C.reached clock.old)) }
-        requires early { self.old.timeline.moment < 2 ^ 60 }
-        requires some { StandsForSome profile.now.motes profile.now.motes profile.now.links
-            (service_standing self.old (outside (K.written out.old) (K.faults out.old) (C.told clock.old) (L.inboxes link.old)
-            (L.faults link.old) (map N.device boards.old)) (L.mote_count link.old) (C.reached clock.old)) }
+        requires under_way { IsUnderWay profile.now.motes profile.now.links (2 ^ 60)
+            (service_standing (self.old, map N.device boards.old) (K.Sink, out.old) (L.Link, link.old) (C.Clock, clock.old)) }
         ensures goes { GoesOn result profile.now.motes profile.now.links
             (stretch profile.now.motes profile.now.motes (Ticks mote ∷ []))
-            (service_standing self.old (outside (K.written out.old) (K.faults out.old) (C.told clock.old) (L.inboxes link.old)
-            (L.faults link.old) (map N.device boards.old)) (L.mote_count link.old) (C.reached clock.old))
-            (service_standing self.new (outside (K.written out.new) (K.faults out.new) (C.told clock.new) (L.inboxes link.new)
-            (L.faults link.new) (map N.device boards.new)) (L.mote_count link.new) (C.reached clock.new)) }
+            (service_standing (self.old, map N.device boards.old) (K.Sink, out.old) (L.Link, link.old) (C.Clock, clock.old))
+            (service_standing (self.new, map N.device boards.new) (K.Sink, out.new) (L.Link, link.new) (C.Clock, clock.new)) }
     {
         let timing = self.timeline.draw(clock);
         let event = Event::Tick {
@@ -206,19 +163,12 @@ impl Service {
     ) -> Result<(), Stop>
         requires allowed { IsAllowed profile.now }
         requires known { mote < profile.now.motes }
-        requires ready { Ready profile.now.motes profile.now.motes
-            (service_standing self.old (outside (K.written out.old) (K.faults out.old) (C.told clock.old) (L.inboxes link.old)
-            (L.faults link.old) (map N.device boards.old)) (L.mote_count link.old) (C.reached clock.old)) }
-        requires early { self.old.timeline.moment < 2 ^ 59 }
-        requires some { StandsForSome profile.now.motes profile.now.motes profile.now.links
-            (service_standing self.old (outside (K.written out.old) (K.faults out.old) (C.told clock.old) (L.inboxes link.old)
-            (L.faults link.old) (map N.device boards.old)) (L.mote_count link.old) (C.reached clock.old)) }
+        requires under_way { IsUnderWay profile.now.motes profile.now.links (2 ^ 59)
+            (service_standing (self.old, map N.device boards.old) (K.Sink, out.old) (L.Link, link.old) (C.Clock, clock.old)) }
         ensures goes { GoesOn result profile.now.motes profile.now.links
             (stretch profile.now.motes profile.now.motes (Looks mote ∷ Ticks mote ∷ []))
-            (service_standing self.old (outside (K.written out.old) (K.faults out.old) (C.told clock.old) (L.inboxes link.old)
-            (L.faults link.old) (map N.device boards.old)) (L.mote_count link.old) (C.reached clock.old))
-            (service_standing self.new (outside (K.written out.new) (K.faults out.new) (C.told clock.new) (L.inboxes link.new)
-            (L.faults link.new) (map N.device boards.new)) (L.mote_count link.new) (C.reached clock.new)) }
+            (service_standing (self.old, map N.device boards.old) (K.Sink, out.old) (L.Link, link.old) (C.Clock, clock.old))
+            (service_standing (self.new, map N.device boards.new) (K.Sink, out.new) (L.Link, link.new) (C.Clock, clock.new)) }
     {
         self.look(profile, mote, boards, link, clock, out)?;
         self.tick(profile, mote, boards, link, clock, out)?;
@@ -236,15 +186,12 @@ impl Service {
     ) -> Result<(), Stop>
         requires allowed { IsAllowed profile.now }
         requires ready { Ready profile.now.motes 0
-            (service_standing self.old (outside (K.written out.old) (K.faults out.old) (C.told clock.old) (L.inboxes link.old)
-            (L.faults link.old) (map N.device boards.old)) (L.mote_count link.old) (C.reached clock.old)) }
+            (service_standing (self.old, map N.device boards.old) (K.Sink, out.old) (L.Link, link.old) (C.Clock, clock.old)) }
         requires early { self.old.timeline.moment ≡ 0 }
         ensures goes { GoesOn result profile.now.motes profile.now.links
             (stretch 0 profile.now.motes (beginning profile.now.motes))
-            (service_standing self.old (outside (K.written out.old) (K.faults out.old) (C.told clock.old) (L.inboxes link.old)
-            (L.faults link.old) (map N.device boards.old)) (L.mote_count link.old) (C.reached clock.old))
-            (service_standing self.new (outside (K.written out.new) (K.faults out.new) (C.told clock.new) (L.inboxes link.new)
-            (L.faults link.new) (map N.device boards.new)) (L.mote_count link.new) (C.reached clock.new)) }
+            (service_standing (self.old, map N.device boards.old) (K.Sink, out.old) (L.Link, link.old) (C.Clock, clock.old))
+            (service_standing (self.new, map N.device boards.new) (K.Sink, out.new) (L.Link, link.new) (C.Clock, clock.new)) }
     {
         for mote in 0..profile.motes {
             self.begin(profile, mote, boards, link, clock, out)?;
@@ -262,19 +209,12 @@ impl Service {
         out: &mut K,
     ) -> Result<(), Stop>
         requires allowed { IsAllowed profile.now }
-        requires ready { Ready profile.now.motes profile.now.motes
-            (service_standing self.old (outside (K.written out.old) (K.faults out.old) (C.told clock.old) (L.inboxes link.old)
-            (L.faults link.old) (map N.device boards.old)) (L.mote_count link.old) (C.reached clock.old)) }
-        requires early { self.old.timeline.moment < 2 ^ 58 }
-        requires some { StandsForSome profile.now.motes profile.now.motes profile.now.links
-            (service_standing self.old (outside (K.written out.old) (K.faults out.old) (C.told clock.old) (L.inboxes link.old)
-            (L.faults link.old) (map N.device boards.old)) (L.mote_count link.old) (C.reached clock.old)) }
+        requires under_way { IsUnderWay profile.now.motes profile.now.links (2 ^ 58)
+            (service_standing (self.old, map N.device boards.old) (K.Sink, out.old) (L.Link, link.old) (C.Clock, clock.old)) }
         ensures goes { GoesOn result profile.now.motes profile.now.links
             (stretch profile.now.motes profile.now.motes (turn_of_all profile.now.motes))
-            (service_standing self.old (outside (K.written out.old) (K.faults out.old) (C.told clock.old) (L.inboxes link.old)
-            (L.faults link.old) (map N.device boards.old)) (L.mote_count link.old) (C.reached clock.old))
-            (service_standing self.new (outside (K.written out.new) (K.faults out.new) (C.told clock.new) (L.inboxes link.new)
-            (L.faults link.new) (map N.device boards.new)) (L.mote_count link.new) (C.reached clock.new)) }
+            (service_standing (self.old, map N.device boards.old) (K.Sink, out.old) (L.Link, link.old) (C.Clock, clock.old))
+            (service_standing (self.new, map N.device boards.new) (K.Sink, out.new) (L.Link, link.new) (C.Clock, clock.new)) }
     {
         for mote in 0..profile.motes {
             self.take_part(profile, mote, boards, link, clock, out)?;
@@ -295,15 +235,12 @@ impl Service {
         requires allowed { IsAllowed profile.now }
         requires few { turns ≤ 1000000 }
         requires ready { Ready profile.now.motes 0
-            (service_standing self.old (outside (K.written out.old) (K.faults out.old) (C.told clock.old) (L.inboxes link.old)
-            (L.faults link.old) (map N.device boards.old)) (L.mote_count link.old) (C.reached clock.old)) }
+            (service_standing (self.old, map N.device boards.old) (K.Sink, out.old) (L.Link, link.old) (C.Clock, clock.old)) }
         requires early { self.old.timeline.moment ≡ 0 }
         ensures goes { GoesOn result profile.now.motes profile.now.links
             (stretch 0 profile.now.motes (plan profile.now.motes turns))
-            (service_standing self.old (outside (K.written out.old) (K.faults out.old) (C.told clock.old) (L.inboxes link.old)
-            (L.faults link.old) (map N.device boards.old)) (L.mote_count link.old) (C.reached clock.old))
-            (service_standing self.new (outside (K.written out.new) (K.faults out.new) (C.told clock.new) (L.inboxes link.new)
-            (L.faults link.new) (map N.device boards.new)) (L.mote_count link.new) (C.reached clock.new)) }
+            (service_standing (self.old, map N.device boards.old) (K.Sink, out.old) (L.Link, link.old) (C.Clock, clock.old))
+            (service_standing (self.new, map N.device boards.new) (K.Sink, out.new) (L.Link, link.new) (C.Clock, clock.new)) }
     {
         self.begin_all(profile, boards, link, clock, out)?;
         self.play_turns(turns, profile, boards, link, clock, out)?;
@@ -322,19 +259,12 @@ impl Service {
     ) -> Result<(), Stop>
         requires allowed { IsAllowed profile.now }
         requires few { turns ≤ 1000000 }
-        requires ready { Ready profile.now.motes profile.now.motes
-            (service_standing self.old (outside (K.written out.old) (K.faults out.old) (C.told clock.old) (L.inboxes link.old)
-            (L.faults link.old) (map N.device boards.old)) (L.mote_count link.old) (C.reached clock.old)) }
-        requires early { self.old.timeline.moment < 2 ^ 40 }
-        requires some { StandsForSome profile.now.motes profile.now.motes profile.now.links
-            (service_standing self.old (outside (K.written out.old) (K.faults out.old) (C.told clock.old) (L.inboxes link.old)
-            (L.faults link.old) (map N.device boards.old)) (L.mote_count link.old) (C.reached clock.old)) }
+        requires under_way { IsUnderWay profile.now.motes profile.now.links (2 ^ 40)
+            (service_standing (self.old, map N.device boards.old) (K.Sink, out.old) (L.Link, link.old) (C.Clock, clock.old)) }
         ensures goes { GoesOn result profile.now.motes profile.now.links
             (stretch profile.now.motes profile.now.motes (each turns (λ turn. turn_of_all profile.now.motes)))
-            (service_standing self.old (outside (K.written out.old) (K.faults out.old) (C.told clock.old) (L.inboxes link.old)
-            (L.faults link.old) (map N.device boards.old)) (L.mote_count link.old) (C.reached clock.old))
-            (service_standing self.new (outside (K.written out.new) (K.faults out.new) (C.told clock.new) (L.inboxes link.new)
-            (L.faults link.new) (map N.device boards.new)) (L.mote_count link.new) (C.reached clock.new)) }
+            (service_standing (self.old, map N.device boards.old) (K.Sink, out.old) (L.Link, link.old) (C.Clock, clock.old))
+            (service_standing (self.new, map N.device boards.new) (K.Sink, out.new) (L.Link, link.new) (C.Clock, clock.new)) }
     {
         for _turn in 0..turns {
             self.play_turn(profile, boards, link, clock, out)?;

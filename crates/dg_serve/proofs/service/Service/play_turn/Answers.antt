@@ -1,11 +1,11 @@
 use Rattle.std.proofs.Common.{◌∷◌, [], arith}
 use Rattle.dg_serve.specs.Each.{each}
 use Rattle.dg_serve.specs.Services.{Looks, Ticks}
-use Rattle.dg_serve.proofs.LoopLemmas.{went_some, loop_begins, loop_next, loop_halts, loop_moved, loop_ends}
+use Rattle.dg_serve.proofs.LoopLemmas.{still_under_way, loop_begins, loop_next, loop_halts, loop_moved, loop_ends}
 use Rattle.dg_serve.proofs.service.Service.play_turn.Goals as goal
 
 pub loop-mote-init : goal.loop-mote-init
-loop-mote-init g c = loop_begins c.args.profile.now.motes c.args.profile.now.motes c.args.profile.now.links (λ mote. Looks mote ∷ Ticks mote ∷ []) _ c.requires.ready
+loop-mote-init g c = loop_begins c.args.profile.now.motes c.args.profile.now.motes c.args.profile.now.links (λ mote. Looks mote ∷ Ticks mote ∷ []) _ c.requires.under_way.ready
 
 pub take_part-requires-clause-allowed : goal.take_part-requires-clause-allowed
 take_part-requires-clause-allowed g c = c.requires.allowed
@@ -13,17 +13,11 @@ take_part-requires-clause-allowed g c = c.requires.allowed
 pub take_part-requires-clause-known : goal.take_part-requires-clause-known
 take_part-requires-clause-known g c = omega arith
 
-pub take_part-requires-clause-ready : goal.take_part-requires-clause-ready
-take_part-requires-clause-ready g c = c.loop-mote.invariant.ready
-
-pub take_part-requires-clause-early : goal.take_part-requires-clause-early
-take_part-requires-clause-early g c =
+pub take_part-requires-clause-under_way : goal.take_part-requires-clause-under_way
+take_part-requires-clause-under_way g c =
     let moved = loop_moved c.args.profile.now.motes c.args.profile.now.motes c.args.profile.now.motes c.args.profile.now.links c.loop-mote.mote 2 (λ mote. Looks mote ∷ Ticks mote ∷ []) _ _ (λ k. omega arith) c.loop-mote.invariant in
     let most = c.requires.allowed.motes.1 in
-    omega (arith, moved, most, c.requires.early)
-
-pub take_part-requires-clause-some : goal.take_part-requires-clause-some
-take_part-requires-clause-some g c = went_some c.args.profile.now.motes c.args.profile.now.links (each c.loop-mote.mote (λ mote. Looks mote ∷ Ticks mote ∷ [])) _ _ c.loop-mote.invariant c.requires.some
+    still_under_way c.args.profile.now.motes c.args.profile.now.links (each c.loop-mote.mote (λ mote. Looks mote ∷ Ticks mote ∷ [])) _ _ _ _ c.loop-mote.invariant c.requires.under_way (omega (arith, moved, most, c.requires.under_way.early))
 
 pub returns-in_err-take_part : goal.returns-in_err-take_part
 returns-in_err-take_part g c = record {

@@ -27,17 +27,11 @@ play_turns-requires-clause-allowed g c = c.requires.allowed
 pub play_turns-requires-clause-few : goal.play_turns-requires-clause-few
 play_turns-requires-clause-few g c = c.requires.few
 
-pub play_turns-requires-clause-ready : goal.play_turns-requires-clause-ready
-play_turns-requires-clause-ready g c = c.in_ok-begin_all.ensures.goes.ready
-
-pub play_turns-requires-clause-early : goal.play_turns-requires-clause-early
-play_turns-requires-clause-early g c =
+pub play_turns-requires-clause-under_way : goal.play_turns-requires-clause-under_way
+play_turns-requires-clause-under_way g c =
     let moved = loop_moved c.args.profile.now.motes 0 c.args.profile.now.motes c.args.profile.now.links c.args.profile.now.motes 1 (λ mote. Begins mote ∷ []) _ _ (λ k. omega arith) c.in_ok-begin_all.ensures.goes in
     let most = c.requires.allowed.motes.1 in
-    omega (arith, moved, most, c.requires.early)
-
-pub play_turns-requires-clause-some : goal.play_turns-requires-clause-some
-play_turns-requires-clause-some g c = some_begun c.args.profile.now.motes c.args.profile.now.links (beginning c.args.profile.now.motes) _ _ c.requires.ready c.requires.early c.in_ok-begin_all.ensures.goes
+    record { ready = c.in_ok-begin_all.ensures.goes.ready; early = omega (arith, moved, most, c.requires.early); some = some_begun c.args.profile.now.motes c.args.profile.now.links (beginning c.args.profile.now.motes) _ _ c.requires.ready c.requires.early c.in_ok-begin_all.ensures.goes }
 
 pub returns-in_err-play_turns : goal.returns-in_err-play_turns
 returns-in_err-play_turns g c = record {

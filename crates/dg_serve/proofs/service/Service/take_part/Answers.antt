@@ -1,7 +1,7 @@
 use Rattle.std.proofs.Common.{◌∷◌, [], arith}
 use Rattle.dg_serve.specs.Services.{Looks, Ticks}
 use Rattle.dg_serve.proofs.GoLemmas.{went_then, went_halts, halts_more}
-use Rattle.dg_serve.proofs.LoopLemmas.{halts_exit, went_some}
+use Rattle.dg_serve.proofs.LoopLemmas.{halts_exit, still_under_way}
 use Rattle.dg_serve.proofs.service.Service.take_part.Goals as goal
 
 pub look-requires-clause-allowed : goal.look-requires-clause-allowed
@@ -10,14 +10,8 @@ look-requires-clause-allowed g c = c.requires.allowed
 pub look-requires-clause-known : goal.look-requires-clause-known
 look-requires-clause-known g c = c.requires.known
 
-pub look-requires-clause-ready : goal.look-requires-clause-ready
-look-requires-clause-ready g c = c.requires.ready
-
-pub look-requires-clause-early : goal.look-requires-clause-early
-look-requires-clause-early g c = omega (arith, c.requires.early)
-
-pub look-requires-clause-some : goal.look-requires-clause-some
-look-requires-clause-some g c = c.requires.some
+pub look-requires-clause-under_way : goal.look-requires-clause-under_way
+look-requires-clause-under_way g c = record { ready = c.requires.under_way.ready; early = omega (arith, c.requires.under_way.early); some = c.requires.under_way.some }
 
 pub returns-in_err-look : goal.returns-in_err-look
 returns-in_err-look g c = record {
@@ -31,14 +25,8 @@ tick-requires-clause-allowed g c = c.requires.allowed
 pub tick-requires-clause-known : goal.tick-requires-clause-known
 tick-requires-clause-known g c = c.requires.known
 
-pub tick-requires-clause-ready : goal.tick-requires-clause-ready
-tick-requires-clause-ready g c = c.in_ok-look.ensures.goes.ready
-
-pub tick-requires-clause-early : goal.tick-requires-clause-early
-tick-requires-clause-early g c = let moved = c.in_ok-look.ensures.goes.moved in omega (arith, moved, c.requires.early)
-
-pub tick-requires-clause-some : goal.tick-requires-clause-some
-tick-requires-clause-some g c = went_some c.args.profile.now.motes c.args.profile.now.links (Looks c.args.mote ∷ []) _ _ c.in_ok-look.ensures.goes c.requires.some
+pub tick-requires-clause-under_way : goal.tick-requires-clause-under_way
+tick-requires-clause-under_way g c = still_under_way c.args.profile.now.motes c.args.profile.now.links (Looks c.args.mote ∷ []) _ _ _ _ c.in_ok-look.ensures.goes c.requires.under_way (let moved = c.in_ok-look.ensures.goes.moved in omega (arith, moved, c.requires.under_way.early))
 
 pub returns-in_err-tick : goal.returns-in_err-tick
 returns-in_err-tick g c = record {
