@@ -1,14 +1,14 @@
 -- Loops over the pieces of a schedule.
-use Rattle.std.proofs.Common.{◌≡◌, ℕ, zero, suc, ◌+◌, ◌-◌, ◌<◌, ◌≤◌, List, [], ◌∷◌, ◌++◌, map, append-nil, append_assoc, ap, sym, ◌∙◌, subst, arith}
+use Rattle.std.proofs.Common.{◌≡◌, ℕ, zero, suc, ◌+◌, ◌-◌, ◌*◌, ◌<◌, ◌≤◌, List, [], ◌∷◌, ◌++◌, map, append-nil, append_assoc, ap, sym, ◌∙◌, subst, arith}
 use Rattle.std.proofs.lemmas.List.{map-append}
 use Rattle.std.specs.Prelude.{Ok, Err}
 use Rattle.rand_pcg.specs.Lcg.{Lcg}
 use Rattle.dg_base.specs.declared.events.Event.{Event}
-use Rattle.dg_base.specs.declared.events.Event.TheVariants.{Reset}
+use Rattle.dg_base.specs.declared.events.Event.TheVariants.{Reset, Inject}
 use Rattle.dg_nor.specs.Device.{Device}
 use Rattle.dg_rounds.specs.Rounds.{times}
 use Rattle.dg_world.specs.declared.world.World.{World as KeptWorld}
-use Rattle.dg_trial.specs.Schedule.{Part, always, resets, disturbances, drawn}
+use Rattle.dg_trial.specs.Schedule.{Part, always, resets, opening, disturbances, drawn}
 use Rattle.dg_trial.specs.Playing.{PartsPlay, MayPlayOver, PartsGoOnLaw}
 use Rattle.dg_trial.specs.declared.playing.Stop.{Stop}
 use Rattle.dg_trial.proofs.PartLemmas.{SoFar, so_far_none, so_far_more, so_far_stop, may_next}
@@ -130,7 +130,7 @@ pub record Five (r i d s whole : List Part) : Type 0 where
   pub fifth : (((r ++ i) ++ d) ++ r) ++ (s ++ []) ≡ whole
   pub all : (((r ++ i) ++ d) ++ r) ++ s ≡ whole
 
-pub five : (r i d s whole : List Part) → (r ++ i) ++ (d ++ (r ++ s)) ≡ whole → Five r i d s whole
+five : (r i d s whole : List Part) → (r ++ i) ++ (d ++ (r ++ s)) ≡ whole → Five r i d s whole
 five r i d s whole e =
     let two : r ++ (i ++ (d ++ (r ++ s))) ≡ whole = sym (append_assoc r i (d ++ (r ++ s))) ∙ e in
     let four : ((r ++ i) ++ d) ++ (r ++ s) ≡ whole = append_assoc (r ++ i) d (r ++ s) ∙ e in
@@ -144,8 +144,18 @@ five r i d s whole e =
       all = end;
     }
 
-pub resting_split : (front d : List Part) (xs ys : List Event) → front ++ (d ++ (map always xs ++ map always ys)) ≡ front ++ (d ++ map always (xs ++ ys))
+resting_split : (front d : List Part) (xs ys : List Event) → front ++ (d ++ (map always xs ++ map always ys)) ≡ front ++ (d ++ map always (xs ++ ys))
 resting_split front d xs ys = ap (λ (ps : List Part). front ++ (d ++ ps)) (sym (map-append always xs ys))
+
+-- the image is injected into the first mote
+abbrev pub injected : List Part
+injected = always (Inject 0 1 1 0 0) ∷ []
+
+-- the five pieces of a schedule whose disturbances have these draws, and whose sweeps have these events
+pub pieces : (motes : ℕ) (g : Lcg) (es : List Event) → Five (map always (resets motes)) injected (disturbances motes (100 * motes) g) (map always es) (opening motes ++ (disturbances motes (100 * motes) g ++ map always (resets motes ++ es)))
+pieces motes g es =
+    let d : List Part = disturbances motes (100 * motes) g in
+    five (map always (resets motes)) injected d (map always es) (opening motes ++ (d ++ map always (resets motes ++ es))) (resting_split (opening motes) d (resets motes) es)
 
 pub played_so_far : (parts : List Part) (first kept : KeptWorld) (old now : List Device) → PartsPlay (Ok tt) parts first kept old now → SoFar parts first kept old now
 played_so_far parts first kept old now p = record { played = p }
