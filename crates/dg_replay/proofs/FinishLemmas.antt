@@ -1,19 +1,15 @@
 -- The end of a report, for which the boards are read.
-use Rattle.std.proofs.Common.{◌≡◌, ℕ, ◌<◌, ◌≤◌, inl, List, [], length, get_or, sym, ◌∙◌, subst, arith}
+use Rattle.std.proofs.Common.{◌≡◌, ℕ, ◌<◌, ◌≤◌, inl, List, [], length, ◌∙◌, subst, arith}
 use Rattle.std.specs.Prelude.{Option, Some, slice_get}
 use Rattle.dg_nor.specs.Device.{Device}
-use Rattle.dg_nor.specs.Fuse.{beneath_of}
-use Rattle.dg_volume.specs.Stands.{Stands}
 use Rattle.dg_base.specs.declared.answers.Status.{Status}
 use Rattle.dg_base.specs.declared.answers.Status.TheVariants as status
 use Rattle.dg_script.specs.Report.{report_text}
 use Rattle.dg_script.specs.declared.report.Report.{Report}
 use Rattle.dg_rules.specs.Changes.{final_lines}
 use Rattle.dg_replay.specs.Replaying.{EndsWith, FinishesWith}
-use Rattle.dg_rules.specs.World.{World, store_at}
+use Rattle.dg_rules.specs.World.{World}
 use Rattle.dg_world.specs.Applied.{SameBoards, ReadFlash}
-use Rattle.dg_world.specs.Counts.{NoneRose}
-use Rattle.dg_world.proofs.CountLemmas.{NoneRose_then}
 use Rattle.dg_world.specs.Boards.{WorldStands}
 use Rattle.dg_replay.specs.Boards.{StoppedIn}
 use Rattle.dg_world.proofs.EndureLemmas.{boards_through, board_stops, chips_read}

@@ -1,18 +1,15 @@
 -- What playing one item answers, and items behind others.
-use Rattle.std.proofs.Common.{◌≡◌, ℕ, ◌<◌, ◌≤◌, ◌≢◌, ◌⊎◌, ⊎_elim, Bool, false, if◌then◌else◌, List, [], ◌∷◌, ◌++◌, length, get_or, refl, append-nil, append_assoc, ap, sym, ◌∙◌, subst, arith}
+use Rattle.std.proofs.Common.{◌≡◌, ℕ, ◌<◌, ◌≤◌, ◌≢◌, ◌⊎◌, ⊎_elim, Bool, false, if◌then◌else◌, List, [], ◌∷◌, ◌++◌, length, refl, append-nil, append_assoc, ap, sym, ◌∙◌, subst, arith}
 use Rattle.std.proofs.lemmas.List.{length-set}
 use Rattle.std.specs.List.{filter}
-use Rattle.std.specs.Prelude.{Option, Some, None, Result, Ok, Err, OnOk, OnErr, slice_get}
-use Rattle.dg_base.specs.declared.events.Event.{Event}
-use Rattle.dg_base.specs.declared.events.Event.TheVariants.{Tick, Hear, Last, Reset, Inject, Order, Frame}
+use Rattle.std.specs.Prelude.{Option, Some, None, Result, Ok, Err, OnOk, OnErr}
 use Rattle.dg_base.specs.declared.events.Step.{Step}
 use Rattle.dg_object.specs.Object.{Row}
 use Rattle.dg_nor.specs.Device.{Device}
-use Rattle.dg_nor.specs.Fuse.{beneath_of}
 use Rattle.dg_script.specs.Items.{Item, Declares, Applies}
 use Rattle.dg_script.specs.Report.{report_text}
 use Rattle.dg_script.specs.declared.report.Report.{Report}
-use Rattle.dg_script.specs.Ranges.{EventInRange, StepInRange}
+use Rattle.dg_script.specs.Ranges.{StepInRange}
 use Rattle.dg_rules.specs.Steps.{DeclareStep, declared_as}
 use Rattle.dg_script.specs.declared.report.Report.TheVariants as report
 use Rattle.dg_volume.specs.Table.{row_at}
@@ -21,11 +18,10 @@ use Rattle.dg_rules.specs.World.{World}
 use Rattle.dg_rules.specs.Events.{mote_of}
 use Rattle.dg_rules.specs.Sizes.{most_events}
 use Rattle.dg_world.specs.Worlds.{IsWorld}
-use Rattle.dg_world.specs.Counts.{NoneRose}
 use Rattle.dg_world.specs.declared.world.WorldFault.{WorldFault}
 use Rattle.dg_world.specs.declared.world.WorldFault.TheVariants.{Flash, TooMany as TooManyFault, Memory as MemoryFault}
 use Rattle.dg_world.proofs.CountLemmas.{NoneRose_then}
-use Rattle.dg_world.specs.Applied.{Applied, OneBoard, FlashAt, RunEnded}
+use Rattle.dg_world.specs.Applied.{Applied, FlashAt, RunEnded}
 use Rattle.dg_world.specs.Deployments.{deployed}
 use Rattle.dg_world.specs.declared.world.World.{World as KeptWorld}
 use Rattle.dg_world.specs.Boards.{WorldStands}

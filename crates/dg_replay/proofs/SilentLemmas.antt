@@ -43,11 +43,6 @@ use Rattle.dg_replay.proofs.StandLemmas.{joined_next, stood_next, grounded_next,
 pub memory_line : (table : List Row) (p q : Player) (done : List Line) (w : Option World) (line : Line) (report_before told : List ℕ) (initial now : List Device) → Stood p done w initial now → PlayedAs (based_on table initial) (Err Memory) q (done_so_far done w) line (boards_reported now report_before) (boards_reported now told)
 memory_line table p q done w line report_before told initial now s = none_begun p done line w now s.world s.boards
 
--- the same where it ran out behind a line that left the boards as they were
-pub memory_behind : (table : List Row) (p q : Player) (done : List Line) (w : Option World) (line : Line) (report_before told : List ℕ) (initial old now : List Device) → now ≡ old → Stood p done w initial old → PlayedAs (based_on table initial) (Err Memory) q (done_so_far done w) line (boards_reported old report_before) (boards_reported now told)
-memory_behind table p q done w line report_before told initial old now same s =
-    subst (λ (ds : List Device). PlayedAs (based_on table initial) (Err Memory) q (done_so_far done w) line (boards_reported old report_before) (boards_reported ds told)) (sym same) (memory_line table p q done w line report_before told initial old s)
-
 -- of a line that was not played to its end nothing is said of the player
 pub stop_as : (table : List Row) (stop : Stop) (p q : Player) (done : List Line) (w : Option World) (line : Line) (report_before told : List ℕ) (initial old now : List Device)
     → PlayedAs (based_on table initial) (Err stop) p (done_so_far done w) line (boards_reported old report_before) (boards_reported now told) → PlayedAs (based_on table initial) (Err stop) q (done_so_far done w) line (boards_reported old report_before) (boards_reported now told)

@@ -1,5 +1,5 @@
 //! Plays the items of a line: an image that is declared, an event, and the events of rounds and sweeps.
-ghost use Rattle.std.specs.Prelude.{◌≡◌, ◌≤◌, ◌∷◌, ◌++◌, [], ℕ, List, Err, map, length, OnOk, OnErr, option_copied};
+ghost use Rattle.std.specs.Prelude.{◌≡◌, ◌∷◌, ◌++◌, [], List, Err, map, length, OnOk, OnErr, option_copied};
 ghost use Rattle.std.specs.List.{AllByRecursion};
 ghost use Rattle.dg_nor.specs.Device.{Device};
 ghost use Rattle.dg_object.specs.Object.{row_of};

@@ -1,6 +1,5 @@
 //! Plays the lines of a script over its world.
-ghost use Rattle.std.specs.Prelude.{◌≡◌, ◌<◌, ◌≤◌, ◌∷◌, [], ℕ, true, false, List, Some, None, Err, map, length, OnOk};
-ghost use Rattle.std.specs.Prelude.{OnErr, IfOk};
+ghost use Rattle.std.specs.Prelude.{◌≡◌, ◌<◌, ◌≤◌, ℕ, true, false, List, Err, map, length, OnOk};
 ghost use Rattle.dg_volume.specs.Store.{fresh};
 ghost use Rattle.dg_script.specs.Fitting.{IsGolden};
 ghost use Rattle.dg_script.specs.Places.{first_place, place_after};

@@ -1,7 +1,6 @@
 //! A service from its first line to its last.
-ghost use Rattle.std.specs.Prelude.{◌≡◌, ◌^◌, ◌<◌, ◌≤◌, List, [], ◌++◌, length, map, codes, replicate, None, IfOk, vec_len};
+ghost use Rattle.std.specs.Prelude.{◌≡◌, ◌^◌, ◌<◌, ◌≤◌, List, length, map, replicate, None, IfOk, vec_len};
 ghost use Rattle.dg_base.specs.declared.answers.Status.TheVariants.{NoBoard};
-ghost use Rattle.dg_link.specs.Inboxes.{emptied};
 ghost use Rattle.dg_mote.specs.Sizes.{BuffersFit, ValuesAreSmall};
 ghost use Rattle.dg_netcfg.specs.Readings.{IsAllowed};
 ghost use Rattle.dg_nor.specs.Device.{Device};

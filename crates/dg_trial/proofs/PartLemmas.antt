@@ -1,9 +1,8 @@
 -- What playing one part, and one after the other, answers.
-use Rattle.std.proofs.Common.{◌≡◌, ℕ, ◌<◌, ◌≤◌, false, List, [], ◌∷◌, ◌++◌, length, get_or, refl, append_assoc, ap, sym, ◌∙◌, subst, arith}
-use Rattle.std.specs.Prelude.{Some, Ok, Err, slice_get}
+use Rattle.std.proofs.Common.{◌≡◌, ℕ, ◌<◌, false, List, [], ◌∷◌, ◌++◌, length, refl, append_assoc, ap, sym, ◌∙◌, subst, arith}
+use Rattle.std.specs.Prelude.{Ok, Err}
 use Rattle.dg_base.specs.declared.events.Step.{Step}
 use Rattle.dg_nor.specs.Device.{Device}
-use Rattle.dg_nor.specs.Fuse.{beneath_of}
 use Rattle.dg_rules.specs.Sizes.{most_events}
 use Rattle.dg_rules.specs.World.{World}
 use Rattle.dg_rules.specs.Events.{mote_of}
@@ -12,18 +11,16 @@ use Rattle.dg_rules.specs.Golden.{WorldKeepsGolden}
 use Rattle.dg_rules.specs.Steps.{WorldStep, EndsRun}
 use Rattle.dg_script.specs.declared.report.Report.{Report}
 use Rattle.dg_world.specs.Worlds.{IsWorld}
-use Rattle.dg_world.specs.Counts.{NoneRose}
-use Rattle.dg_world.specs.Applied.{Applied, OneBoard, FlashAt, RunEnded}
+use Rattle.dg_world.specs.Applied.{Applied, FlashAt, RunEnded}
 use Rattle.dg_world.specs.Deployments.{deployed}
 use Rattle.dg_world.specs.declared.world.World.{World as KeptWorld}
-use Rattle.dg_world.proofs.CountLemmas.{NoneRose_then}
 use Rattle.dg_trial.specs.Schedule.{Part, only}
 use Rattle.dg_world.specs.Boards.{WorldStands}
 use Rattle.dg_trial.specs.Playing.{LeadsTo, StopsInStep, StopsInPart, PartsPlayed, PartsBegun, PartsPlayedAs, PartsPlay, MayPlay, MayPlayOver, PartsGoOnLaw}
 use Rattle.dg_trial.specs.declared.playing.Stop.{Stop}
 use Rattle.dg_trial.specs.declared.playing.Stop.TheVariants.{Memory, Flash}
 use Rattle.dg_trial.proofs.RunLemmas.{step_counts, leads_none, leads_one, leads_then, may_front}
-use Rattle.dg_world.proofs.EndureLemmas.{boards_through, board_stops, event_within, sites_same, other_than, stands_next}
+use Rattle.dg_world.proofs.EndureLemmas.{board_stops, event_within, sites_same, other_than, stands_next}
 
 -- ---- the boards behind a step
 

@@ -1,19 +1,16 @@
 -- A whole trial: from boards as they come to the line that is told.
-use Rattle.std.proofs.Common.{◌≡◌, inl, inr, ⊎_elim, ℕ, ◌*◌, ◌<◌, ◌≤◌, List, [], ◌∷◌, ◌++◌, length, map, replicate, get_or, append-nil, refl, ap, sym, subst, ◌∙◌, arith}
+use Rattle.std.proofs.Common.{◌≡◌, inl, inr, ⊎_elim, ℕ, ◌*◌, ◌<◌, ◌≤◌, List, [], ◌∷◌, ◌++◌, length, map, replicate, append-nil, refl, ap, sym, subst, ◌∙◌, arith}
 use Rattle.std.specs.Prelude.{Some, slice_get, Ok, Err}
 use Rattle.rand_pcg.specs.Lcg.{Lcg}
 use Rattle.rand_pcg.specs.Pcg.{pcg32}
 use Rattle.dg_nor.specs.Device.{Device}
-use Rattle.dg_nor.specs.Fuse.{beneath_of}
 use Rattle.dg_volume.specs.Stands.{Stands}
 use Rattle.dg_rounds.specs.Rounds.{times, sweep}
 use Rattle.dg_object.specs.Object.{Row}
-use Rattle.dg_rules.specs.World.{World, store_at, first_world}
+use Rattle.dg_rules.specs.World.{World, first_world}
 use Rattle.dg_world.specs.Applied.{SameBoards, ReadFlash}
-use Rattle.dg_world.specs.Counts.{NoneRose}
 use Rattle.dg_world.specs.Worlds.{IsWorld}
 use Rattle.dg_world.specs.declared.world.World.{World as KeptWorld}
-use Rattle.dg_world.proofs.CountLemmas.{NoneRose_then}
 use Rattle.std.specs.Prelude.{count_by}
 use Rattle.std.proofs.Common.{◌^◌}
 use Rattle.std.proofs.lemmas.List.Sums.{count_by-le-length}

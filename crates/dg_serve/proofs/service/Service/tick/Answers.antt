@@ -1,4 +1,4 @@
-use Rattle.std.proofs.Common.{[], map, refl, arith}
+use Rattle.std.proofs.Common.{[], map, refl}
 use Rattle.dg_base.specs.declared.events.Event.TheVariants.{Tick}
 use Rattle.dg_serve.specs.Services.{Ticks}
 use Rattle.dg_serve.specs.Standings.{Standing, service_standing}
