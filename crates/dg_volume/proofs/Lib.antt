@@ -12,7 +12,6 @@ pub mod BehindLemmas
 pub mod AgreeLemmas
 pub mod BootLemmas
 pub mod WholeLemmas
-pub mod PacketLemmas
 pub mod HaltLemmas
 pub mod RowLemmas
 pub mod FreshLemmas

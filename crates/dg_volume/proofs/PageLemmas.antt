@@ -11,12 +11,12 @@ use Rattle.dg_slot.specs.Layout.{page_size, packets, page_operations}
 use Rattle.dg_slot.specs.Kept.{Held, KeepsImage, with_page, kept_crc}
 use Rattle.dg_slot.specs.Pages.{slot_pages}
 use Rattle.dg_slot.specs.Fits.{may_seal, first_fits}
-use Rattle.dg_slot.specs.Jobs.{IsOpen, outline_told, page_from, seal_trail, SlotStops, Seals}
+use Rattle.dg_slot.specs.Jobs.{IsOpen, outline_told, packets_of, page_from, seal_trail, SlotStops, Seals}
 use Rattle.dg_slot.specs.declared.states.Sealing.{Sealing}
 use Rattle.dg_slot.specs.declared.states.Sealing.TheVariants.{Sealed, Bad, Unfit}
 use Rattle.dg_slot.specs.declared.states.OpenSlot.{OpenSlot}
-use Rattle.dg_volume.specs.Filling.{first_packets, page_trail}
-use Rattle.dg_volume.proofs.PacketLemmas.{page_first}
+use Rattle.dg_slot.proofs.JobLemmas.{packets_make}
+use Rattle.dg_volume.specs.Filling.{page_trail}
 
 -- ---- what an open slot keeps is told whole
 
@@ -78,18 +78,13 @@ gate_stops_here image h page a b c may ran stops =
     let here : Halted 1 May b c = subst (λ (n : ℕ). Halted n May b c) (operations-stepping h 1 (with_page h page)) one in
     stops_page image h page a c (Halted_second {m = packets + 1} {n = 1} {may = PageMay image h page} May ran (λ k within x. at_gate image h page k c.image within x) here)
 
--- the image and the page, as the job tells them
-pub record SameJob (image i : ℕ) (page made : List ℕ) : Type 0 where
-  pub same_image : i ≡ image
-  pub same_page : made ≡ page
-
-pub same_job : (o p : OpenSlot) (page : List ℕ) → p ≡ o → length page ≡ page_size → SameJob (outline_told o).image (outline_told p).image page (page_from (first_packets page packets))
-same_job o p page same long = record { same_image = ap (λ (x : OpenSlot). (outline_told x).image) same; same_page = page_first page long }
-
-pub gate_stops : (image i : ℕ) (h : Held) (page made : List ℕ) (a b c : Device) → SameJob image i page made → may_seal image h page ≡ true → Ran (packets + 1) a b → SlotStops i (seal_trail i h made) b c → SlotStops image (page_trail h page) a c
-gate_stops image i h page made a b c same may ran stops =
-    let first : SlotStops image (seal_trail image h made) b c = subst (λ (n : ℕ). SlotStops n (seal_trail n h made) b c) same.same_image stops in
-    gate_stops_here image h page a b c may ran (subst (λ (l : List ℕ). SlotStops image (seal_trail image h l) b c) same.same_page first)
+-- the job tells the slot, and its packets make the page
+pub gate_stops : (o p : OpenSlot) (h : Held) (page : List ℕ) (a b c : Device) → p ≡ o → length page ≡ page_size → may_seal (outline_told o).image h page ≡ true → Ran (packets + 1) a b
+    → SlotStops (outline_told p).image (seal_trail (outline_told p).image h (page_from (packets_of page))) b c → SlotStops (outline_told o).image (page_trail h page) a c
+gate_stops o p h page a b c same long may ran stops =
+    let image = (outline_told o).image in
+    let here = subst (λ (x : OpenSlot). SlotStops (outline_told x).image (seal_trail (outline_told x).image h (page_from (packets_of page))) b c) same stops in
+    gate_stops_here image h page a b c may ran (subst (λ (l : List ℕ). SlotStops image (seal_trail image h l) b c) (packets_make page long) here)
 
 pub halted_page : (image : ℕ) (h : Held) (page : List ℕ) (a b : Device) → SlotStops image (page_trail h page) a b → Halted page_operations (λ _ _. ⊤) a b
 halted_page image h page a b stops =
@@ -119,7 +114,9 @@ sealed_by image h page b c (Unfit o) may seals = absurd (no (sym may ∙ seals.1
     no : true ≡ false → ⊥
     no e = cc
 
-pub sealed_to : (image i : ℕ) (h : Held) (page made : List ℕ) (b c : Device) (answer : Sealing) → SameJob image i page made → may_seal image h page ≡ true → Seals i h made b c answer → SealedTo h page b c answer
-sealed_to image i h page made b c answer same may seals =
-    let first : Seals image h made b c answer = subst (λ (n : ℕ). Seals n h made b c answer) same.same_image seals in
-    sealed_by image h page b c answer may (subst (λ (l : List ℕ). Seals image h l b c answer) same.same_page first)
+pub sealed_to : (o p : OpenSlot) (h : Held) (page : List ℕ) (b c : Device) (answer : Sealing) → p ≡ o → length page ≡ page_size → may_seal (outline_told o).image h page ≡ true
+    → Seals (outline_told p).image h (page_from (packets_of page)) b c answer → SealedTo h page b c answer
+sealed_to o p h page b c answer same long may seals =
+    let image = (outline_told o).image in
+    let here = subst (λ (x : OpenSlot). Seals (outline_told x).image h (page_from (packets_of page)) b c answer) same seals in
+    sealed_by image h page b c answer may (subst (λ (l : List ℕ). Seals image h l b c answer) (packets_make page long) here)

@@ -1,21 +1,15 @@
 -- Pages that are filled packet by packet.
-use Rattle.std.specs.Prelude.{ℕ, ◌*◌, nat_lt, if◌then◌else◌, List, Some, None}
-use Rattle.dg_words.specs.Lists.{tabulate}
+use Rattle.std.specs.Prelude.{ℕ, ◌*◌, List}
 use Rattle.dg_words.specs.Cells.{part}
-use Rattle.dg_slot.specs.Layout.{packets, packet_size, page_operations}
+use Rattle.dg_slot.specs.Layout.{packet_size, page_operations}
 use Rattle.dg_slot.specs.Kept.{Held, with_page}
 use Rattle.dg_nor.specs.Trail.{Trail, stepping}
 use Rattle.dg_object.specs.Object.{Row, row_of}
-use Rattle.dg_slot.specs.Jobs.{Packets}
 use Rattle.dg_volume.specs.declared.new_image.NewImage.{NewImage}
 
 -- packet q of a page
 abbrev pub packet_of : List ℕ → ℕ → List ℕ
 packet_of page q = part page (packet_size * q) packet_size
-
--- the first n packets of a page are put
-unfoldable pub first_packets : List ℕ → ℕ → Packets
-first_packets page n = tabulate packets (λ q. if nat_lt q n then Some (packet_of page q) else None)
 
 -- one page more is complete, after its operations
 abbrev pub page_trail : Held → List ℕ → Trail Held

@@ -19,8 +19,8 @@ use crate::volume::Volume;
 use dg_nor::{Nor, Stopped};
 
 impl Volume {
-    /// Fills the next page. 50 operations.
-    pub(crate) fn fill_page<N: Nor>(
+    /// Fills the next page of an image, which this one fits, and makes it complete. 50 operations.
+    pub fn fill_page<N: Nor>(
         &mut self,
         nor: &mut N,
         image: u8,

@@ -180,7 +180,12 @@ impl Volume {
 }
 
 /// Why an image is refused, wherever its version is not the one that is kept.
-fn injection_fault(kept: Option<Kept>, image: u8, version: u32, bytes: &[u8]) -> Option<InjectFault>
+pub fn injection_fault(
+    kept: Option<Kept>,
+    image: u8,
+    version: u32,
+    bytes: &[u8],
+) -> Option<InjectFault>
     ensures refusal { (e : InjectFault) → result ≡ Some e → (v : Volume) (s : Store) (name : List ℕ) → Tells v s
         → kept ≡ kept_at v image → image < images
         → inject_refusal s (row_of image version name bytes.now) ≡ Some e }
@@ -205,7 +210,7 @@ fn injection_fault(kept: Option<Kept>, image: u8, version: u32, bytes: &[u8]) ->
 }
 
 /// Whether what is kept of a version is another image: it has another profile, or another page 0.
-fn is_other<N: Nor>(nor: &mut N, new: &NewImage<'_>, kept: &Kept) -> Result<bool, Stopped>
+pub fn is_other<N: Nor>(nor: &mut N, new: &NewImage<'_>, kept: &Kept) -> Result<bool, Stopped>
     ensures other { IfOk result (λ other. (h : Held) → KeepsImage (N.device nor.old).image new.now.image h
         → told_held h ≡ kept.now
         → other ≡ is_other h (new_row new.now)) }

@@ -21,6 +21,7 @@ mod telling;
 mod volume;
 
 pub use dg_control::{FORM, OLD_FORM, Order, Program, SlotState, Snapshot};
+pub use injecting::{injection_fault, is_other};
 pub use laws::{
     a_chip_stands_for_a_shaped_store, a_chip_stands_for_one_store, a_lent_slot_is_filled,
     a_row_is_filled_page_by_page, a_start_ends, a_table_holds_sound_rows,
@@ -29,6 +30,7 @@ pub use laws::{
     program_memory_holds_the_app, starts_end, trails_begin, trails_join, trails_keep_agreement,
     trails_keep_consistency, trails_of_one_stage, what_stands_behind_the_commits,
 };
+pub use new_image::NewImage;
 pub use taking::TAKE_COMMITS;
 pub use volume::{
     FormatFault, InjectFault, Injected, Kept, MountFault, OrderFault, StartCause, TakeFault, Volume,

@@ -9,24 +9,24 @@ use dg_object::{Profile, page_of, pages_of};
 
 /// A version of an image, with its name and its bytes.
 #[derive(Drop)]
-pub(crate) struct NewImage<'a> {
-    pub(crate) image: u8,
-    pub(crate) version: u32,
-    pub(crate) name: &'a [u8],
-    pub(crate) bytes: &'a [u8],
+pub struct NewImage<'a> {
+    pub image: u8,
+    pub version: u32,
+    pub name: &'a [u8],
+    pub bytes: &'a [u8],
     ghost is_row: { IsRow (row_of image version name.now bytes.now) },
 }
 
 impl NewImage<'_> {
     /// How many pages it makes.
-    pub(crate) fn pages(&self) -> u8
+    pub fn pages(&self) -> u8
         ensures { result ≡ pages_for (length self.now.bytes.now) }
     {
         pages_of(self.bytes.len() as u32)
     }
 
     /// Writes page `p` of it into `into`.
-    pub(crate) fn page(&self, p: u8, into: &mut [u8; PAGE_SIZE])
+    pub fn page(&self, p: u8, into: &mut [u8; PAGE_SIZE])
         requires { p < pages_for (length self.now.bytes.now) }
         ensures { into.new ≡ page_of_row (row_of self.now.image self.now.version self.now.name.now self.now.bytes.now) p }
     {
@@ -34,7 +34,7 @@ impl NewImage<'_> {
     }
 
     /// What is told of it before any page. `first` is its page 0.
-    pub(crate) fn profile(&self, first: &[u8; PAGE_SIZE]) -> Profile
+    pub fn profile(&self, first: &[u8; PAGE_SIZE]) -> Profile
         requires { first.now ≡ page_of_row (row_of self.now.image self.now.version self.now.name.now self.now.bytes.now) 0 }
         ensures { outline_of result ≡ profile (row_of self.now.image self.now.version self.now.name.now self.now.bytes.now) }
     {
