@@ -17,7 +17,7 @@ use Rattle.dg_volume.specs.Trails.{fill_trail}
 use Rattle.dg_volume.specs.Acts.{Acted, Stops}
 use Rattle.dg_volume.specs.declared.volume.Volume.{Volume}
 use Rattle.dg_volume.proofs.ActLemmas.{acted_none, acted_then, stops_first, stops_then}
-use Rattle.dg_volume.proofs.ActEndLemmas.{held_paged}
+use Rattle.dg_volume.proofs.HeldLemmas.{held_paged}
 use Rattle.dg_volume.proofs.FillLemmas.{fill_first, fill_works, fill_more, fit_rest, fit_next}
 use Rattle.dg_chain.specs.Checking.{Break, field_of, first_break}
 use Rattle.dg_chain.specs.Receiving.{fill_operations}

@@ -1,5 +1,6 @@
 -- Where takes, fillings and injections end.
 use Rattle.std.proofs.Common.{◌≡◌, ℕ, ◌-◌, ◌<◌, Bool, true, false, cond, List, [], ◌∷◌, length, drop, get_or, set, Option, Some, None, IfSome, refl, sym, ap, subst, ◌∙◌, ⊎_elim, arith, append_assoc, get_or-set_other, get_or-set_same}
+use Rattle.dg_volume.proofs.HeldLemmas.{held_paged}
 use Rattle.std.specs.Prelude.{◌==◌, if◌then◌else◌, option_map}
 use Rattle.std.proofs.lemmas.Bool.{cases_Bool, cases_eq, eqb-true}
 use Rattle.std.proofs.lemmas.List.{same_lists, get_or_default, take-append-drop, append-nil}
@@ -72,10 +73,6 @@ unfolding take_trail drop_trail
 take_last s p = take_last_by s p (held s p.image)
 
 -- ---- pages that are filled
-
-pub held_paged : (s : Store) (image : ℕ) (h : Held) (page : List ℕ) → image < length s.kept → held s image ≡ Some h → held (paged image page s) image ≡ Some (with_page h page)
-held_paged s image h page known here =
-    get_or-set_same s.kept image (option_map (λ x. with_page x page) (held s image)) None known ∙ ap (λ (o : Option Held). option_map (λ x. with_page x page) o) here
 
 pub fill_last : (s : Store) (image : ℕ) (h : Held) (pages : List (List ℕ)) → image < length s.kept → held s image ≡ Some h → last (fill_trail s image pages) ≡ keeping image (Some (with_pages h pages)) s
 unfolding fill_trail

@@ -1,8 +1,8 @@
 -- What other crates write behind the control sectors.
 use Rattle.std.proofs.Common.{◌≡◌, ℕ, ◌+◌, ◌<◌, ◌≤◌, List, length, Option, Some, None, IfSome, IsSomeAnd, refl, sym, ap, subst, ◌∙◌, ⊎_elim, arith}
+use Rattle.dg_volume.proofs.HeldLemmas.{held_there, golden_held, each_keeping}
 use Rattle.std.proofs.Math.ListN.{length-set}
 use Rattle.std.proofs.lemmas.Bool.{cases_lt, cases_eq}
-use Rattle.std.proofs.lemmas.List.{get_or-set_other, get_or-set_same}
 use Rattle.dg_words.specs.Cells.{part}
 use Rattle.dg_nor.specs.Chip.{sector, Touches}
 use Rattle.dg_object.specs.Descriptor.{IsDescriptor}
@@ -89,12 +89,6 @@ memory_free c d v s none keeps m =
     })
     m.tells.kept
 
-held_here : (s : Store) (i : ℕ) (g : Held) → i < length s.kept → held (keeping i (Some g) s) i ≡ Some g
-held_here s i g h = get_or-set_same s.kept i (Some g) None h
-
-held_there : (s : Store) (i j : ℕ) (g : Held) → (j ≡ i → ⊥) → held (keeping i (Some g) s) j ≡ held s j
-held_there s i j g other = get_or-set_other s.kept i j (Some g) None other
-
 -- what is told of one slot does not count
 pub told_but : (c : List ℕ) (v : Volume) (s : Store) (i : ℕ) → Mounted c v s → MountedBut (λ j. j ≡ i) c v s
 told_but c v s i m = record { control = m.control; stands = m.stands; tells = record { says = m.tells.says; room = m.tells.room; kept = λ j k other. m.tells.kept j k (λ x. x) } }
@@ -105,21 +99,17 @@ slot_counts c d v s i h g not_golden known here version keeps image m =
     let contains = m.stands.contains in
     let within : i < length s.kept = omega (arith, contains.count) in
     let t = keeping i (Some g) s in
-    let same_slot : slot_told (held s i) ≡ slot_told (held t i) = ap slot_told here ∙ ap (λ (n : ℕ). Live n) (sym version) ∙ ap slot_told (sym (held_here s i g within)) in
     let told_slots : (j : ℕ) → slot_told (held s j) ≡ slot_told (held t j) =
-    λ j. ⊎_elim (λ e. subst (λ (n : ℕ). slot_told (held s n) ≡ slot_told (held t n)) (sym e) same_slot) (λ other. ap slot_told (sym (held_there s i j g other))) (cases_eq j i) in
+    each_keeping (λ j x. slot_told (held s j) ≡ slot_told x) s i (Some g) within (ap slot_told here ∙ ap (λ (n : ℕ). Live n) (sym version)) (λ j other. refl) in
     mounted_by (λ j. j ≡ i) (λ j. j ≡ i) c d v s t (control_before (header_sector i) (slot_end i) c d (omega arith) keeps) m refl
     (λ p says. record { slots = λ j k. says.slots j k ∙ told_slots j; program = says.program; order = says.order; waived = says.waived; gesture = says.gesture })
     (record {
       count = length-set s.kept i (Some g) ∙ contains.count;
-      kept = λ j k. ⊎_elim
-          (λ e. subst (λ (n : ℕ). IfSome (held t n) (KeepsImage d n)) (sym e) (subst (λ (o : Option Held). IfSome o (KeepsImage d i)) (sym (held_here s i g within)) image))
-          (λ other. subst (λ (o : Option Held). IfSome o (KeepsImage d j)) (sym (held_there s i j g other)) (held_stays c d j (held s j) (slot_beside c d i j k other keeps) (contains.kept j k)))
-          (cases_eq j i);
-      golden = record { whole = subst (λ (o : Option Held). IsSomeAnd o (λ x. (x.version ≡ golden_version) × (length x.complete ≡ x.pages))) (sym (held_there s i 0 g (λ e. absurd (omega (arith, e, not_golden))))) contains.golden.whole };
+      kept = each_keeping (λ j x. j < images → IfSome x (KeepsImage d j)) s i (Some g) within (λ k. image) (λ j other k. held_stays c d j (held s j) (slot_beside c d i j k other keeps) (contains.kept j k));
+      golden = record { whole = subst (λ (o : Option Held). IsSomeAnd o (λ x. (x.version ≡ golden_version) × (length x.complete ≡ x.pages))) (sym (golden_held s i (Some g) not_golden)) contains.golden.whole };
       app = memory_stays c d s.app (memory_before (slot_end i) c d i keeps) contains.app;
     })
-    (λ j k other. m.tells.kept j k other ∙ ap told (sym (held_there s i j g other)))
+    (λ j k other. m.tells.kept j k other ∙ ap told (sym (held_there s i j (Some g) other)))
 
 -- what of the slots is told stays, whatever that is
 pub slot_same : (P : ℕ → Type 0) (c d : List ℕ) (v : Volume) (s : Store) (i : ℕ) (h : Held) → 1 ≤ i → i < images → held s i ≡ Some h → Touches (header_sector i) (slot_end i) c d → KeepsImage d i h → MountedBut P c v s

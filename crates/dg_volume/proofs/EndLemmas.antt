@@ -1,7 +1,7 @@
 -- Where acts and starts end.
 use Rattle.std.proofs.Common.{◌≡◌, ◌≢◌, ◌⊎◌, ℕ, ◌+◌, ◌*◌, Bool, true, false, List, [], ◌∷◌, length, get_or, Option, Some, None, IfSome, refl, sym, ap, subst, ◌∙◌, inl, inr, ⊎_elim, cond}
 use Rattle.std.specs.Prelude.{◌==◌, ◌&&◌, ◌||◌, not, nat_lt}
-use Rattle.std.proofs.lemmas.Bool.{cond_both, eqb-true}
+use Rattle.std.proofs.lemmas.Bool.{cond_both, eqb-true, and_parts}
 use Rattle.dg_nor.specs.Trail.{Stage, Trail, last, joined, resting}
 use Rattle.dg_nor.specs.Through.{AllAfter, Through}
 use Rattle.dg_nor.proofs.ThroughLemmas.{Through-joined, Through-resting, Through-stepping}
@@ -17,14 +17,6 @@ use Rattle.dg_volume.specs.Start.{Runs, Boot, behind, counts, count_trail, by_ge
 use Rattle.dg_volume.specs.Ends.{IsGolden, IsOrdered, MayBoot, OnTheWay, Boots}
 use Rattle.dg_volume.specs.declared.volume.StartCause.{StartCause}
 use Rattle.dg_volume.proofs.BeginLemmas.{finish_begins, kept_begins, counted_begins}
-
-both_first : (a b : Bool) → (a && b) ≡ true → a ≡ true
-both_first true b e = refl
-both_first false b e = cc
-
-both_second : (a b : Bool) → (a && b) ≡ true → b ≡ true
-both_second true b e = e
-both_second false b e = cc
 
 -- ---- what stays on the way
 
@@ -149,8 +141,8 @@ same_app a b p q r =
 stays_boots : (s : Store) (app : App) (three : Bool) → s.app ≡ Some app → is_set_to (Some app) 0 golden_version ≡ true → Boots s (golden_stays s app three)
 stays_boots s app three here is =
     let r : Runs = record { image = 0; version = golden_version; pages = app.pages } in
-    let image : app.image ≡ 0 = eqb-true app.image 0 (both_first (app.image == 0) (app.version == golden_version) is) in
-    let version : app.version ≡ golden_version = eqb-true app.version golden_version (both_second (app.image == 0) (app.version == golden_version) is) in
+    let image : app.image ≡ 0 = eqb-true app.image 0 ((and_parts (app.image == 0) (app.version == golden_version) is).0) in
+    let version : app.version ≡ golden_version = eqb-true app.version golden_version ((and_parts (app.image == 0) (app.version == golden_version) is).1) in
     let set_to : s.app ≡ Some (app_of r) = here ∙ ap Some (same_app app (app_of r) image version refl) in
     record {
       way = finish_through s s r three (same_way s s (Some r) (itself s));
@@ -188,13 +180,13 @@ not_zero n h e = let f : not (n == 0) ≡ false = ap (λ (m : ℕ). not (m == 0)
 
 ordered_is : (s : Store) → order_waits s ≡ true → IsOrdered s (kept_runs s s.order.image s.order.version)
 ordered_is s waits =
-    let one = both_second (not (s.order.number == 0)) _ waits in
-    let two = both_second (not s.waived) _ one in
+    let one = (and_parts (not (s.order.number == 0)) _ waits).1 in
+    let two = (and_parts (not s.waived) _ one).1 in
     record {
-      some = not_zero s.order.number (both_first (not (s.order.number == 0)) _ waits);
+      some = not_zero s.order.number ((and_parts (not (s.order.number == 0)) _ waits).0);
       image = refl;
       version = refl;
-      whole = both_first (is_whole (held s s.order.image) s.order.version) _ two;
+      whole = (and_parts (is_whole (held s s.order.image) s.order.version) _ two).0;
       pages = refl;
     }
 

@@ -1,5 +1,7 @@
 -- An injection is refused, resumed, or begun anew.
 use Rattle.std.proofs.Common.{◌≡◌, ◌≢◌, ◌⊎◌, ℕ, ◌+◌, ◌<◌, ◌≤◌, Bool, true, false, cond, List, [], ◌∷◌, length, drop, Option, Some, None, Result, Ok, Err, IsErrAnd, refl, sym, ap, subst, ◌∙◌, inl, inr, arith}
+use Rattle.dg_volume.proofs.HeldLemmas.{held_here}
+use Rattle.std.proofs.lemmas.Bool.{cond-true, cond-false}
 use Rattle.std.specs.Prelude.{◌==◌, ◌||◌, not, nat_lt}
 use Rattle.std.proofs.Math.ListN.{length-set}
 use Rattle.std.proofs.lemmas.Bool.Decides.{nat_tests}
@@ -30,7 +32,6 @@ use Rattle.dg_volume.proofs.ActLemmas.{acted_then, stops_first, stops_then}
 use Rattle.dg_volume.proofs.CommitLemmas.{near_same}
 use Rattle.dg_volume.proofs.FillLemmas.{fill_first, fill_works}
 use Rattle.dg_volume.proofs.PartLemmas.{NextFits, part_begun, rest_part}
-use Rattle.dg_volume.proofs.TakeLemmas.{held_at}
 
 -- ---- how it ends
 
@@ -117,21 +118,15 @@ looked_stops t a b c looked stops =
 
 -- ---- refusals
 
-chosen : {A : Type 0} (b : Bool) (x y : A) → b ≡ true → cond b x y ≡ x
-chosen b x y e = ap (λ (c : Bool). cond c x y) e
-
-passed : {A : Type 0} (b : Bool) (x y : A) → b ≡ false → cond b x y ≡ y
-passed b x y e = ap (λ (c : Bool). cond c x y) e
-
 pub refusal_is : (s : Store) (row : Row) → IsRow row → 1 ≤ row.image → inject_refusal s row ≡ refusal_by (held s row.image) s row
 refusal_is s row is some =
     let n = length row.bytes in
     let least = is.some in
     let most = is.fits in
-    passed (n == 0) _ _ (grind (arith, nat_tests)) ∙ passed (nat_lt most_bytes n) _ _ (grind (arith, nat_tests)) ∙ passed (row.image == 0) _ _ (grind (arith, nat_tests))
+    cond-false (n == 0) _ _ (grind (arith, nat_tests)) ∙ cond-false (nat_lt most_bytes n) _ _ (grind (arith, nat_tests)) ∙ cond-false (row.image == 0) _ _ (grind (arith, nat_tests))
 
 kept_by : (s : Store) (row : Row) (h : Held) → h.version ≡ row.version → refusal_by (Some h) s row ≡ cond (is_other h row) (Some Taken) None
-kept_by s row h same = passed (nat_lt row.version h.version) _ _ (grind (arith, nat_tests)) ∙ chosen (h.version == row.version) _ _ (grind (arith, nat_tests))
+kept_by s row h same = cond-false (nat_lt row.version h.version) _ _ (grind (arith, nat_tests)) ∙ cond-true (h.version == row.version) _ _ (grind (arith, nat_tests))
 
 pub kept_refusal : (s : Store) (row : Row) (h : Held) → IsRow row → 1 ≤ row.image → held s row.image ≡ Some h → h.version ≡ row.version → inject_refusal s row ≡ cond (is_other h row) (Some Taken) None
 kept_refusal s row h is some here same = refusal_is s row is some ∙ ap (λ (o : Option Held). refusal_by o s row) here ∙ kept_by s row h same
@@ -144,10 +139,10 @@ pub kept_split : (s : Store) (row : Row) (h : Held) → IsRow row → 1 ≤ row.
 kept_split s row h is some here same = refusal_split (is_other h row) _ (kept_refusal s row h is some here same)
 
 pub kept_free : (s : Store) (row : Row) (h : Held) → IsRow row → 1 ≤ row.image → held s row.image ≡ Some h → h.version ≡ row.version → is_other h row ≡ false → inject_refusal s row ≡ None
-kept_free s row h is some here same free = kept_refusal s row h is some here same ∙ passed (is_other h row) _ _ free
+kept_free s row h is some here same free = kept_refusal s row h is some here same ∙ cond-false (is_other h row) _ _ free
 
 pub kept_taken : (s : Store) (row : Row) (h : Held) → IsRow row → 1 ≤ row.image → held s row.image ≡ Some h → h.version ≡ row.version → is_other h row ≡ true → inject_refusal s row ≡ Some Taken
-kept_taken s row h is some here same other = kept_refusal s row h is some here same ∙ chosen (is_other h row) _ _ other
+kept_taken s row h is some here same other = kept_refusal s row h is some here same ∙ cond-true (is_other h row) _ _ other
 
 -- ---- the profile that is kept
 
@@ -182,7 +177,7 @@ pub kept_trail : (s : Store) (row : Row) (h : Held) (n : ℕ) → inject_refusal
 unfolding inject_trail
 kept_trail s row h n free here same count =
     ap (λ (o : Option InjectFault). inject_by o s row) free
-    ∙ chosen (is_version (held s row.image) row.version) _ _ (ap (λ (o : Option Held). is_version o row.version) here ∙ version)
+    ∙ cond-true (is_version (held s row.image) row.version) _ _ (ap (λ (o : Option Held). is_version o row.version) here ∙ version)
     ∙ ap (λ (k : ℕ). fill_trail s row.image (drop k (object row))) (ap done_of here ∙ sym count)
   where
     version : h.version == row.version ≡ true
@@ -197,7 +192,7 @@ older_by : (s : Store) (row : Row) (o : Option Held) → ((h : Held) → o ≡ S
 older_by s row None older = refl
 older_by s row (Some h) older =
     let less = older h refl in
-    passed (nat_lt row.version h.version) _ _ (grind (arith, nat_tests)) ∙ passed (h.version == row.version) _ _ (grind (arith, nat_tests))
+    cond-false (nat_lt row.version h.version) _ _ (grind (arith, nat_tests)) ∙ cond-false (h.version == row.version) _ _ (grind (arith, nat_tests))
 
 other_version : (version : ℕ) (o : Option Held) → ((h : Held) → o ≡ Some h → h.version < version) → is_version o version ≡ false
 other_version version None older = refl
@@ -207,17 +202,17 @@ older_refusal : (s : Store) (row : Row) → IsRow row → 1 ≤ row.image → Ol
 older_refusal s row is some older = refusal_is s row is some ∙ older_by s row (held s row.image) older
 
 pub older_worn : (s : Store) (row : Row) (room : ℕ) → IsRow row → 1 ≤ row.image → Older s row → s.room ≡ room → room < 2 → inject_refusal s row ≡ Some (Worn room)
-older_worn s row room is some older same less = older_refusal s row is some older ∙ chosen (nat_lt s.room 2) _ _ (grind (arith, nat_tests)) ∙ ap (λ (n : ℕ). Some (Worn n)) same
+older_worn s row room is some older same less = older_refusal s row is some older ∙ cond-true (nat_lt s.room 2) _ _ (grind (arith, nat_tests)) ∙ ap (λ (n : ℕ). Some (Worn n)) same
 
 pub older_free : (s : Store) (row : Row) → IsRow row → 1 ≤ row.image → Older s row → 2 ≤ s.room → inject_refusal s row ≡ None
-older_free s row is some older room = older_refusal s row is some older ∙ passed (nat_lt s.room 2) _ _ (grind (arith, nat_tests))
+older_free s row is some older room = older_refusal s row is some older ∙ cond-false (nat_lt s.room 2) _ _ (grind (arith, nat_tests))
 
 abbrev pub anew_trail : Store → Row → Trail Store
 anew_trail s row = joined (take_trail s (profile row)) (fill_trail (last (take_trail s (profile row))) row.image (object row))
 
 pub anew_is : (s : Store) (row : Row) → inject_refusal s row ≡ None → Older s row → inject_trail s row ≡ anew_trail s row
 unfolding inject_trail
-anew_is s row free older = ap (λ (o : Option InjectFault). inject_by o s row) free ∙ passed (is_version (held s row.image) row.version) _ _ (other_version row.version (held s row.image) older)
+anew_is s row free older = ap (λ (o : Option InjectFault). inject_by o s row) free ∙ cond-false (is_version (held s row.image) row.version) _ _ (other_version row.version (held s row.image) older)
 
 -- ---- what a take leaves
 
@@ -234,7 +229,7 @@ take_held c v s p known m =
     let x = last (drop_trail s p.image) in
     let e = take_last s p in
     let count : length (keeping p.image (Some (held_begun p)) (spent x)).kept ≡ images = subst (λ (t : Store). length t.kept ≡ images) e m.stands.contains.count in
-    ap (λ (t : Store). held t p.image) e ∙ held_at x p.image (Some (held_begun p)) (omega (arith, known, count, length-set x.kept p.image (Some (held_begun p))))
+    ap (λ (t : Store). held t p.image) e ∙ held_here (spent x) p.image (Some (held_begun p)) (omega (arith, known, count, length-set x.kept p.image (Some (held_begun p))))
 
 -- a volume that tells all tells all but one slot
 pub but_one : (P : ℕ → Type 0) (c : List ℕ) (v : Volume) (s : Store) → Mounted c v s → MountedBut P c v s

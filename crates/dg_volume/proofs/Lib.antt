@@ -9,6 +9,8 @@ pub mod ActLemmas
 pub mod FillLemmas
 pub mod BeginLemmas
 pub mod BehindLemmas
+pub mod HeldLemmas
+pub mod StayLemmas
 pub mod AgreeLemmas
 pub mod BootLemmas
 pub mod WholeLemmas

@@ -1,7 +1,7 @@
 -- Orders that are kept, and orders that are refused.
-use Rattle.std.proofs.Common.{◌≡◌, ℕ, ◌<◌, ◌≤◌, Bool, true, false, cond, List, get_or, Some, None, refl, sym, ap, ◌∙◌, arith}
+use Rattle.std.proofs.Common.{◌≡◌, ℕ, ◌<◌, ◌≤◌, false, List, get_or, Some, None, refl, sym, ap, ◌∙◌, arith}
 use Rattle.std.specs.Prelude.{nat_le, ◌==◌}
-use Rattle.std.proofs.lemmas.Bool.{le-leb, lt-leb}
+use Rattle.std.proofs.lemmas.Bool.{le-leb, lt-leb, cond-true, cond-false}
 use Rattle.std.proofs.lemmas.Bool.Decides.{nat_tests}
 use Rattle.dg_control.specs.declared.snapshot.Order.{Order}
 use Rattle.dg_control.specs.declared.snapshot.Snapshot.{Snapshot}
@@ -40,23 +40,17 @@ order_commits c v s next o stands tells says = record {
   spent = refl;
 }
 
-chosen : {A : Type 0} (b : Bool) (x y : A) → b ≡ true → cond b x y ≡ x
-chosen b x y e = ap (λ (c : Bool). cond c x y) e
-
-passed : {A : Type 0} (b : Bool) (x y : A) → b ≡ false → cond b x y ≡ y
-passed b x y e = ap (λ (c : Bool). cond c x y) e
-
 pub order_old : (s : Store) (o : Order) (kept : ℕ) (e : OrderFault) → kept ≡ s.order.number → o.number ≤ kept → OldOrder kept ≡ e → order_refusal s o ≡ Some e
 order_old s o kept e same low is =
-    chosen (nat_le o.number s.order.number) (Some (OldOrder s.order.number)) _ (le-leb o.number s.order.number (omega (arith, same, low))) ∙ ap (λ (n : ℕ). Some (OldOrder n)) (sym same) ∙ ap Some is
+    cond-true (nat_le o.number s.order.number) (Some (OldOrder s.order.number)) _ (le-leb o.number s.order.number (omega (arith, same, low))) ∙ ap (λ (n : ℕ). Some (OldOrder n)) (sym same) ∙ ap Some is
 
 pub order_worn : (s : Store) (o : Order) (room : ℕ) (e : OrderFault) → s.order.number < o.number → room ≡ s.room → room < 1 → Worn room ≡ e → order_refusal s o ≡ Some e
 order_worn s o room e high same worn is =
     let none : s.room ≡ 0 = omega (arith, same, worn) in
-    passed (nat_le o.number s.order.number) (Some (OldOrder s.order.number)) _ (lt-leb o.number s.order.number high)
-    ∙ chosen (s.room == 0) (Some (Worn s.room)) None (grind (arith, nat_tests)) ∙ ap (λ (n : ℕ). Some (Worn n)) (sym same) ∙ ap Some is
+    cond-false (nat_le o.number s.order.number) (Some (OldOrder s.order.number)) _ (lt-leb o.number s.order.number high)
+    ∙ cond-true (s.room == 0) (Some (Worn s.room)) None (grind (arith, nat_tests)) ∙ ap (λ (n : ℕ). Some (Worn n)) (sym same) ∙ ap Some is
 
 pub order_allowed : (s : Store) (o : Order) → s.order.number < o.number → 0 < s.room → order_refusal s o ≡ None
 order_allowed s o high some =
-    passed (nat_le o.number s.order.number) (Some (OldOrder s.order.number)) _ (lt-leb o.number s.order.number high)
-    ∙ passed (s.room == 0) (Some (Worn s.room)) None (grind (arith, nat_tests))
+    cond-false (nat_le o.number s.order.number) (Some (OldOrder s.order.number)) _ (lt-leb o.number s.order.number high)
+    ∙ cond-false (s.room == 0) (Some (Worn s.room)) None (grind (arith, nat_tests))

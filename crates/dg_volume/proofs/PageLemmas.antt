@@ -1,8 +1,8 @@
 -- The page of a slot is filled, or its filling is stopped.
-use Rattle.std.proofs.Common.{◌≡◌, ℕ, ◌+◌, ◌<◌, ◌≤◌, Bool, true, false, List, length, refl, sym, ap, subst, ◌∙◌, inl, inr, ⊎_elim, arith}
+use Rattle.std.proofs.Common.{◌≡◌, ℕ, ◌+◌, ◌<◌, ◌≤◌, Bool, true, List, length, refl, sym, ap, subst, ◌∙◌, inl, inr, ⊎_elim, arith}
 use Rattle.std.specs.Prelude.{⊤, ◌==◌, ◌&&◌}
 use Rattle.dg_base.specs.Crc.{crc_of}
-use Rattle.std.proofs.lemmas.Bool.{eqb-true}
+use Rattle.std.proofs.lemmas.Bool.{eqb-true, and_parts, true≢false}
 use Rattle.dg_nor.specs.Device.{Device, Ran, Halts, Halted}
 use Rattle.dg_nor.specs.Trail.{Trail, stepping, MayLeave, Leaves, LeavesFrom}
 use Rattle.dg_nor.proofs.DeviceLemmas.{Halted_once, Halted_first, Halted_second, Halted-weaker}
@@ -98,21 +98,14 @@ pub record SealedTo (h : Held) (page : List ℕ) (b c : Device) (answer : Sealin
   pub opened : IsOpen c.image slot (with_page h page)
   pub ran : Ran 1 b c
 
-may_crc : (image : ℕ) (h : Held) (page : List ℕ) → may_seal image h page ≡ true → crc_of page ≡ kept_crc h
+pub may_crc : (image : ℕ) (h : Held) (page : List ℕ) → may_seal image h page ≡ true → crc_of page ≡ kept_crc h
 unfolding may_seal
-may_crc image h page may = eqb-true (crc_of page) (kept_crc h) (and_true (crc_of page == kept_crc h) (first_fits image h page (length h.complete)) may)
-  where
-    and_true : (a b : Bool) → a && b ≡ true → a ≡ true
-    and_true true b e = refl
-    and_true false b e = e
+may_crc image h page may = eqb-true (crc_of page) (kept_crc h) (and_parts (crc_of page == kept_crc h) (first_fits image h page (length h.complete)) may).0
 
 sealed_by : (image : ℕ) (h : Held) (page : List ℕ) (b c : Device) (answer : Sealing) → may_seal image h page ≡ true → Seals image h page b c answer → SealedTo h page b c answer
 sealed_by image h page b c (Sealed o) may seals = record { slot = o; is = refl; opened = seals.1; ran = seals.2 }
 sealed_by image h page b c (Bad kept found o) may seals = absurd (seals.2 (seals.1 ∙ may_crc image h page may ∙ sym seals.0))
-sealed_by image h page b c (Unfit o) may seals = absurd (no (sym may ∙ seals.1))
-  where
-    no : true ≡ false → ⊥
-    no e = cc
+sealed_by image h page b c (Unfit o) may seals = absurd (true≢false (sym may ∙ seals.1))
 
 pub sealed_to : (o p : OpenSlot) (h : Held) (page : List ℕ) (b c : Device) (answer : Sealing) → p ≡ o → length page ≡ page_size → may_seal (outline_told o).image h page ≡ true
     → Seals (outline_told p).image h (page_from (packets_of page)) b c answer → SealedTo h page b c answer

@@ -19,7 +19,7 @@ use Rattle.dg_volume.specs.Changes.{keeping, paged}
 use Rattle.dg_volume.specs.Trails.{sealing_trail}
 use Rattle.dg_volume.specs.Acts.{Acted, Stops}
 use Rattle.dg_volume.specs.declared.volume.Volume.{Volume}
-use Rattle.dg_volume.proofs.ActEndLemmas.{held_paged}
+use Rattle.dg_volume.proofs.HeldLemmas.{held_paged}
 use Rattle.dg_volume.proofs.BehindLemmas.{told_but, slot_counts, slot_same}
 use Rattle.dg_volume.proofs.CommitLemmas.{near_same}
 

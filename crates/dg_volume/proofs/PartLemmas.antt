@@ -1,9 +1,10 @@
 -- What is kept of a row in part: its next pages fit.
-use Rattle.std.proofs.Common.{◌≡◌, ℕ, zero, suc, ◌+◌, ◌-◌, ◌<◌, ◌≤◌, Bool, true, false, List, [], ◌∷◌, ◌++◌, length, take, drop, get_or, Option, Some, refl, sym, ap, subst, ◌∙◌, ⊎_elim, arith}
+use Rattle.std.proofs.Common.{◌≡◌, ℕ, zero, suc, ◌+◌, ◌-◌, ◌<◌, ◌≤◌, Bool, true, false, List, [], ◌∷◌, ◌++◌, length, take, drop, get_or, Some, refl, sym, ap, subst, ◌∙◌, ⊎_elim, arith}
+use Rattle.dg_volume.proofs.HeldLemmas.{held_paged}
 use Rattle.std.specs.Prelude.{◌==◌, ◌&&◌, ◌||◌, not, option_map}
 use Rattle.std.specs.Cmp.Lexicographic.{same_text}
 use Rattle.std.proofs.lemmas.Bool.{eqb-true, cases_lt}
-use Rattle.std.proofs.lemmas.List.{get_or-take, get_or-set_same, length-append}
+use Rattle.std.proofs.lemmas.List.{get_or-take, length-append}
 use Rattle.std.proofs.Math.ListN.{length-set, drop_of_length-le}
 use Rattle.std.proofs.Math.Seq.{drop-cons}
 use Rattle.dg_base.specs.Crc.{crc_of}
@@ -97,7 +98,7 @@ rest_part next row (suc k) n h s e is row_is part known here =
     let t = paged row.image page s in
     let fits : may_seal row.image h page ≡ true = may_same row h n row.image page part is (omega arith) ∙ next row n row_is within in
     let one : FitsNext row.image page s = record { kept = h; held_here = here; more = omega (arith, within, is, part.pages, length-object row); fits = fits } in
-    let kept : held t row.image ≡ Some g = get_or-set_same s.kept row.image (option_map (λ x. with_page x page) (held s row.image)) _ known ∙ ap (λ (o : Option Held). option_map (λ x. with_page x page) o) here in
+    let kept : held t row.image ≡ Some g = held_paged s row.image h page known here in
     let known_t : row.image < length t.kept = omega (arith, known, length-set s.kept row.image (option_map (λ x. with_page x page) (held s row.image))) in
     let j : n + 1 ≡ suc n = omega arith in
     let count : n + 1 ≡ length g.complete = omega (arith, is, length-append h.complete (page ∷ [])) in

@@ -1,8 +1,9 @@
 -- The pages of a row fit its slot, one after the other.
-use Rattle.std.proofs.Common.{◌≡◌, ℕ, zero, suc, ◌+◌, ◌-◌, ◌<◌, ◌≤◌, Bool, true, false, List, [], ◌∷◌, ◌++◌, length, take, drop, get_or, Option, Some, refl, sym, ap, subst, ◌∙◌, eq-eqb, ⊎_elim, arith}
-use Rattle.std.specs.Prelude.{◌↔◌, ◌==◌, ◌&&◌, option_map}
-use Rattle.std.proofs.lemmas.Bool.{cases_lt}
-use Rattle.std.proofs.lemmas.List.{get_or-take, get_or-set_same, length-take}
+use Rattle.std.proofs.Common.{◌≡◌, ℕ, zero, suc, ◌+◌, ◌-◌, ◌<◌, ◌≤◌, true, List, [], ◌∷◌, ◌++◌, length, take, drop, get_or, Some, refl, sym, ap, subst, ◌∙◌, eq-eqb, ⊎_elim, arith}
+use Rattle.dg_volume.proofs.HeldLemmas.{held_paged}
+use Rattle.std.specs.Prelude.{◌↔◌, ◌==◌, option_map}
+use Rattle.std.proofs.lemmas.Bool.{cases_lt, and_from}
+use Rattle.std.proofs.lemmas.List.{get_or-take, length-take}
 use Rattle.std.proofs.Math.ListN.{length-set, drop_of_length-le}
 use Rattle.std.proofs.Math.Seq.{take-suc, drop-cons}
 use Rattle.dg_base.specs.Crc.{crc_of}
@@ -10,7 +11,7 @@ use Rattle.dg_object.specs.Object.{Row, IsRow, pages_for, descriptor_page, objec
 use Rattle.dg_object.specs.Descriptor.{details, crc_in}
 use Rattle.dg_object.proofs.PageLemmas.{page_of_row-first, page_of_row-data}
 use Rattle.dg_object.proofs.RowLemmas.{descriptor_of_row, crc_in-descriptor_page, length-object, get_or-object}
-use Rattle.dg_slot.specs.Kept.{Held, Describes, with_page, crc_by, kept_crc}
+use Rattle.dg_slot.specs.Kept.{Describes, with_page, crc_by, kept_crc}
 use Rattle.dg_slot.specs.Fits.{describes, first_fits, may_seal}
 use Rattle.dg_volume.specs.Store.{Store, held, held_to}
 use Rattle.dg_volume.specs.Changes.{paged, FitsNext, FitAll}
@@ -18,10 +19,6 @@ use Rattle.dg_volume.specs.Changes.{paged, FitsNext, FitAll}
 -- the test for a descriptor is true where the page is one
 abbrev pub Tested : Type 0
 Tested = (page : List ℕ) (image version pages : ℕ) → (describes page image version pages ≡ true) ↔ Describes page image version pages
-
-both : (a b : Bool) → a ≡ true → b ≡ true → a && b ≡ true
-both true b p q = q
-both false b p q = absurd cc
 
 pub length-held_to : (row : Row) (n : ℕ) → n ≤ length (object row) → length (held_to row n).complete ≡ n
 length-held_to row n h = grind (arith, length-take)
@@ -56,7 +53,7 @@ unfolding may_seal
 next_fits tested row n is h =
     let page = get_or (object row) n [] in
     let k = length (held_to row n).complete in
-    both (crc_of page == kept_crc (held_to row n)) (first_fits row.image (held_to row n) page k) (eq-eqb (crc_of page) (kept_crc (held_to row n)) (crc_fits row n is h))
+    and_from (crc_of page == kept_crc (held_to row n)) (first_fits row.image (held_to row n) page k) (eq-eqb (crc_of page) (kept_crc (held_to row n)) (crc_fits row n is h))
     (head_fits tested row n k is (length-held_to row n (omega (arith, h))) h)
 
 -- ---- so do all that are missing
@@ -70,9 +67,7 @@ one_more row n h =
 held_next : (row : Row) (s : Store) (n : ℕ) → row.image < length s.kept → held s row.image ≡ Some (held_to row n) → n < length (object row)
     → held (paged row.image (get_or (object row) n []) s) row.image ≡ Some (held_to row (n + 1))
 held_next row s n known here h =
-    let page = get_or (object row) n [] in
-    get_or-set_same s.kept row.image (option_map (λ x. with_page x page) (held s row.image)) _ known
-    ∙ ap (λ (o : Option Held). option_map (λ x. with_page x page) o) here ∙ ap Some (one_more row n h)
+    held_paged s row.image (held_to row n) (get_or (object row) n []) known here ∙ ap Some (one_more row n h)
 
 rest_fits : Tested → (row : Row) (k n : ℕ) (s : Store) → k + n ≡ length (object row) → IsRow row → row.image < length s.kept → held s row.image ≡ Some (held_to row n) → FitAll row.image (drop n (object row)) s
 unfolding FitAll

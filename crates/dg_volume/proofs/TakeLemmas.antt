@@ -1,9 +1,8 @@
 -- The slot of an image is given up, and taken for another profile.
 use Rattle.std.specs.Prelude.{⊤, is_none}
-use Rattle.std.proofs.Common.{◌≡◌, ◌≢◌, ℕ, Bool, ◌+◌, ◌<◌, ◌≤◌, List, length, get_or, Option, Some, None, IfSome, IfNone, IsSomeAnd, Result, Ok, Err, OnOk, OnErr, false, refl, sym, ap, subst, ◌∙◌, ⊎_elim, arith}
+use Rattle.dg_volume.proofs.HeldLemmas.{golden_held, each_keeping}
+use Rattle.std.proofs.Common.{◌≡◌, ◌≢◌, ℕ, Bool, ◌+◌, ◌<◌, ◌≤◌, List, length, get_or, Option, Some, None, IfSome, IfNone, IsSomeAnd, Result, Ok, Err, OnOk, OnErr, false, refl, sym, ap, subst, ◌∙◌, arith}
 use Rattle.std.proofs.Math.ListN.{length-set}
-use Rattle.std.proofs.lemmas.Bool.{cases_eq}
-use Rattle.std.proofs.lemmas.List.{get_or-set_other, get_or-set_same}
 use Rattle.dg_nor.specs.Chip.{Touches}
 use Rattle.dg_nor.specs.Device.{Device, Ran, Halted}
 use Rattle.dg_nor.proofs.ChipLemmas.{Touches_wider}
@@ -36,12 +35,6 @@ use Rattle.dg_volume.proofs.CommitLemmas.{Commits, near_same}
 
 -- ---- what is kept of one image changes
 
-pub held_at : (s : Store) (i : ℕ) (o : Option Held) → i < length s.kept → held (keeping i o (spent s)) i ≡ o
-held_at s i o h = get_or-set_same s.kept i o None h
-
-pub held_beside : (s : Store) (i j : ℕ) (o : Option Held) → j ≢ i → held (keeping i o (spent s)) j ≡ held s j
-held_beside s i j o other = get_or-set_other s.kept i j o None other
-
 -- the state of a slot of which this is told
 pub record StateOf (x : SlotState) (kept : Option Kept) : Type 0 where
   pub dirty : IfNone kept (x ≡ Dirty)
@@ -71,10 +64,7 @@ slot_commits c v s next i h not_golden known stands tells says keeps =
       room = tells.room;
       contains = contains;
       says_next = record {
-        slots = λ j k. ⊎_elim
-            (λ e. subst (λ (n : ℕ). get_or next.slots n Dirty ≡ slot_told (held t n)) (sym e) (says.slot ∙ ap slot_told (sym (held_at s i h within))))
-            (λ other. says.others j other ∙ tells.says.slots j k ∙ ap slot_told (sym (held_beside s i j h other)))
-            (cases_eq j i);
+        slots = each_keeping (λ j x. j < images → get_or next.slots j Dirty ≡ slot_told x) (spent s) i h within (λ k. says.slot) (λ j other k. says.others j other ∙ tells.says.slots j k);
         program = says.program ∙ tells.says.program;
         order = says.order ∙ tells.says.order;
         waived = says.waived ∙ tells.says.waived;
@@ -82,11 +72,8 @@ slot_commits c v s next i h not_golden known stands tells says keeps =
       };
       contains_next = record {
         count = length-set s.kept i h ∙ contains.count;
-        kept = λ j k. ⊎_elim
-            (λ e. subst (λ (n : ℕ). IfSome (held t n) (KeepsImage c n)) (sym e) (subst (λ (o : Option Held). IfSome o (KeepsImage c i)) (sym (held_at s i h within)) keeps))
-            (λ other. subst (λ (o : Option Held). IfSome o (KeepsImage c j)) (sym (held_beside s i j h other)) (contains.kept j k))
-            (cases_eq j i);
-        golden = record { whole = subst (λ (o : Option Held). IsSomeAnd o (λ x. (x.version ≡ golden_version) × (length x.complete ≡ x.pages))) (sym (held_beside s i 0 h (λ e. absurd (omega (arith, e, not_golden))))) contains.golden.whole };
+        kept = each_keeping (λ j x. j < images → IfSome x (KeepsImage c j)) (spent s) i h within (λ k. keeps) (λ j other k. contains.kept j k);
+        golden = record { whole = subst (λ (o : Option Held). IsSomeAnd o (λ x. (x.version ≡ golden_version) × (length x.complete ≡ x.pages))) (sym (golden_held (spent s) i h not_golden)) contains.golden.whole };
         app = contains.app;
       };
       spent = refl;
@@ -95,12 +82,8 @@ slot_commits c v s next i h not_golden known stands tells says keeps =
 -- what the volume tells then
 pub kept_next : (v w : Volume) (s : Store) (i : ℕ) (h : Option Held) (kept : Option Kept) → length s.kept ≡ images → i < images → ((j : ℕ) → j < images → kept_at v j ≡ told (held s j)) → kept_at w i ≡ kept → ((j : ℕ) → j ≢ i → kept_at w j ≡ kept_at v j)
     → told h ≡ kept → (j : ℕ) → j < images → kept_at w j ≡ told (held (keeping i h (spent s)) j)
-kept_next v w s i h kept count known tells here others is j k =
-    let t = keeping i h (spent s) in
-    ⊎_elim
-    (λ e. subst (λ (n : ℕ). kept_at w n ≡ told (held t n)) (sym e) (here ∙ sym is ∙ ap told (sym (held_at s i h (omega (arith, count))))))
-    (λ other. others j other ∙ tells j k ∙ ap told (sym (held_beside s i j h other)))
-    (cases_eq j i)
+kept_next v w s i h kept count known tells here others is =
+    each_keeping (λ j x. j < images → kept_at w j ≡ told x) (spent s) i h (omega (arith, known, count)) (λ k. here ∙ sym is) (λ j other k. others j other ∙ tells j k)
 
 -- ---- operations that no store tells
 

@@ -1,9 +1,10 @@
 -- An image that is kept whole is sound.
-use Rattle.std.proofs.Common.{◌≡◌, ℕ, zero, suc, ◌+◌, ◌-◌, ◌^◌, ◌<◌, ◌≤◌, Bool, true, false, List, [], ◌∷◌, length, take, drop, get_or, Some, refl, sym, ap, subst, ◌∙◌, eq-eqb, arith, lit≤}
+use Rattle.std.proofs.Common.{◌≡◌, ℕ, zero, suc, ◌+◌, ◌-◌, ◌^◌, ◌<◌, ◌≤◌, Bool, true, List, [], ◌∷◌, length, take, drop, get_or, Some, refl, sym, ap, subst, ◌∙◌, eq-eqb, arith, lit≤}
+use Rattle.std.proofs.lemmas.Bool.{and_from}
 use Rattle.std.specs.Int.{from_be_bytes, to_be_bytes, w32}
 use Rattle.std.proofs.lemmas.List.{drop-take, take-take}
 use Rattle.std.proofs.lemmas.Nat.{from_be_bytes-to_be_bytes_4}
-use Rattle.std.specs.Prelude.{◌==◌, ◌&&◌}
+use Rattle.std.specs.Prelude.{◌==◌}
 use Rattle.std.specs.List.{list_all, range_with_len}
 use Rattle.dg_base.specs.Crc.{crc_of}
 use Rattle.dg_object.specs.Object.{Row, IsRow, pages_for, data_page, descriptor_page, object}
@@ -33,19 +34,15 @@ length_in-descriptor page d described =
 
 -- ---- tests of each page
 
-both : (a b : Bool) → a ≡ true → b ≡ true → a && b ≡ true
-both true b p q = q
-both false b p q = absurd cc
-
 all_in_range : (p : ℕ → Bool) (a n : ℕ) → ((k : ℕ) → a ≤ k → k < a + n → p k ≡ true) → list_all p (range_with_len a n) ≡ true
 all_in_range p a zero h = refl
-all_in_range p a (suc n) h = both (p a) (list_all p (range_with_len (a + 1) n)) (h a (omega arith) (omega arith)) (all_in_range p (a + 1) n (λ k low high. h k (omega arith) (omega arith)))
+all_in_range p a (suc n) h = and_from (p a) (list_all p (range_with_len (a + 1) n)) (h a (omega arith) (omega arith)) (all_in_range p (a + 1) n (λ k low high. h k (omega arith) (omega arith)))
 
 pages_sound_from : (crc : ℕ) (pages : List (List ℕ)) → 1 ≤ length pages → crc_of (get_or pages 0 []) ≡ crc
     → ((p : ℕ) → 1 ≤ p → p < length pages → crc_of (get_or pages p []) ≡ crc_in (get_or pages 0 []) p) → pages_sound crc pages ≡ true
 pages_sound_from crc [] some first each = absurd (omega arith)
 pages_sound_from crc (page ∷ pages) some first each =
-    both (crc_of page == crc) (list_all (λ p. crc_of (get_or (page ∷ pages) p []) == crc_in page p) (range_with_len 1 (length pages)))
+    and_from (crc_of page == crc) (list_all (λ p. crc_of (get_or (page ∷ pages) p []) == crc_in page p) (range_with_len 1 (length pages)))
     (eq-eqb (crc_of page) crc first)
     (all_in_range (λ p. crc_of (get_or (page ∷ pages) p []) == crc_in page p) 1 (length pages)
     (λ p low high. eq-eqb (crc_of (get_or (page ∷ pages) p [])) (crc_in page p) (each p low (omega arith))))

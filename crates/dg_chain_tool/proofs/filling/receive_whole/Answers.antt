@@ -7,7 +7,7 @@ use Rattle.dg_slot.specs.Kept.{with_page}
 use Rattle.dg_slot.specs.Layout.{page_operations}
 use Rattle.dg_volume.specs.Store.{Store, held}
 use Rattle.dg_volume.specs.Changes.{paged, FitAll}
-use Rattle.dg_volume.proofs.ActEndLemmas.{held_paged}
+use Rattle.dg_volume.proofs.HeldLemmas.{held_paged}
 use Rattle.dg_volume.proofs.FillLemmas.{fit_next, fit_rest, object_drop}
 use Rattle.dg_volume.proofs.StoreLemmas.{one_store}
 use Rattle.dg_chain_tool.specs.Filling.{received_row}

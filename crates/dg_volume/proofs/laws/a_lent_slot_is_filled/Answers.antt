@@ -1,4 +1,4 @@
-use Rattle.dg_volume.proofs.ActEndLemmas.{held_paged}
+use Rattle.dg_volume.proofs.HeldLemmas.{held_paged}
 use Rattle.dg_volume.proofs.BehindLemmas.{told_but, slot_same}
 use Rattle.dg_volume.proofs.PagedLemmas.{page_counts, fill_stops, seal_stops}
 use Rattle.dg_volume.proofs.laws.a_lent_slot_is_filled.Goals as goal
