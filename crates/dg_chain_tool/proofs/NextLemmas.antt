@@ -21,6 +21,7 @@ use Rattle.dg_volume.specs.Acts.{Acted, Stops}
 use Rattle.dg_volume.specs.declared.volume.Volume.{Volume}
 use Rattle.dg_volume.proofs.BehindLemmas.{told_but, slot_same}
 use Rattle.dg_volume.proofs.CompareLemmas.{bytes_same, bytes_other}
+use Rattle.dg_volume.proofs.PageLemmas.{may_crc}
 use Rattle.dg_volume.proofs.PagedLemmas.{page_mounted, page_acted, page_stops, fill_stops}
 use Rattle.dg_chain.specs.Receiving.{fill_operations, receive_page_trail, Receives}
 use Rattle.dg_chain.specs.declared.sealing.ChainSealing.TheVariants.{Sealed, Foreign, Bad}
@@ -28,15 +29,6 @@ use Rattle.dg_chain_tool.specs.Filling.{fits_root, next_trail}
 
 abbrev Back : List ℕ → Volume → Volume → OpenSlot → Type 0
 Back d v w o = (t : Store) (g : Held) → MountedBut (λ j. j ≡ (outline_told o).image) d v t → held t (outline_told o).image ≡ Some g → Opens o g → Mounted d w t
-
--- a page that fits has the CRC that is kept of it
-pub may_crc : (image : ℕ) (h : Held) (page : List ℕ) → may_seal image h page ≡ true → crc_of page ≡ kept_crc h
-unfolding may_seal
-may_crc image h page may = eqb-true (crc_of page) (kept_crc h) (and_true (crc_of page == kept_crc h) (first_fits image h page (length h.complete)) may)
-  where
-    and_true : (a b : Bool) → a && b ≡ true → a ≡ true
-    and_true true b e = refl
-    and_true false b e = e
 
 module _ (a b : Device) (v v1 w : Volume) (s : Store) (i : ℕ) (h : Held) (expected page : List ℕ) (slot : OpenSlot) (not_golden : 1 ≤ i) (known : i < images) (here : held s i ≡ Some h) (there : (outline_told slot).image ≡ i)
     (touches : Touches (header_sector (outline_told slot).image) (slot_end (outline_told slot).image) a.image b.image) (before : Mounted a.image v s) (lent : Mounted a.image v1 s) (opened : IsOpen a.image slot h) where

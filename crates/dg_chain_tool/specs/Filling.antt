@@ -4,7 +4,6 @@ use Rattle.std.specs.Prelude.{Ok, Err}
 use Rattle.sha2.specs.Sha256.{sha256}
 use Rattle.dg_nor.specs.Device.{Device}
 use Rattle.dg_nor.specs.Trail.{Trail, resting, stepping}
-use Rattle.dg_object.specs.Object.{Row, row_of}
 use Rattle.dg_slot.specs.Layout.{page_operations}
 use Rattle.dg_volume.specs.Store.{Store}
 use Rattle.dg_volume.specs.Changes.{paged, FitsNext}
@@ -19,7 +18,6 @@ use Rattle.dg_tool.specs.declared.refusal.Refusal.TheVariants as refusals
 use Rattle.dg_tool.specs.declared.stop.Stop.{Stop}
 use Rattle.dg_tool.specs.declared.stop.Stop.TheVariants as stops
 use Rattle.dg_chain_tool.specs.Receiving.{with_foreign}
-use Rattle.dg_chain_tool.specs.declared.new_image.NewImage.{NewImage}
 
 -- what a slot that is not taken makes of a verb
 abbrev pub take_stop : TakeFault → Stop
@@ -27,10 +25,6 @@ take_stop take_fault.Stopped = stops.FlashFault
 take_stop (take_fault.Stale kept) = stops.Refused (refusals.Stale kept)
 take_stop take_fault.Reserved = stops.Refused refusals.Reserved
 take_stop (take_fault.Worn room) = stops.Refused (refusals.Worn room)
-
--- the row of an image that is received
-abbrev pub received_row : NewImage → Row
-received_row new = row_of new.image new.version new.name.now new.bytes.now
 
 -- the page is the expected one
 abbrev pub fits_root : (expected : List ℕ) → List ℕ → Bool

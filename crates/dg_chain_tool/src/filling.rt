@@ -12,73 +12,17 @@ ghost use Rattle.dg_volume.specs.Sizes.{images};
 ghost use Rattle.dg_volume.specs.Store.{Store, held};
 ghost use Rattle.dg_volume.specs.Stands.{Mounted, IsMounted, is_lent};
 ghost use Rattle.dg_volume.specs.Changes.{paged, FitsNext, FitAll};
-ghost use Rattle.dg_volume.specs.Filling.{page_trail};
+ghost use Rattle.dg_volume.specs.Filling.{new_row};
 ghost use Rattle.dg_volume.specs.Acts.{Acted, Stops};
 ghost use Rattle.dg_chain.specs.Checking.{first_break};
 ghost use Rattle.dg_chain_tool.specs.Receiving.{expected, foreign_from, first_foreign};
-ghost use Rattle.dg_chain_tool.specs.Filling.{received_row, FitsData, NextEnds, fill_to, FillEnds};
+ghost use Rattle.dg_chain_tool.specs.Filling.{FitsData, NextEnds, fill_to, FillEnds};
 
-use crate::new_image::NewImage;
 use dg_chain::{ChainSealing, DIGEST_SIZE, PIECE_SIZE, receive_page};
 use dg_nor::{Nor, Stopped};
 use dg_object::PAGE_SIZE;
-use dg_slot::{OpenSlot, Sealing};
 use dg_tool::{Refusal, Stop};
-use dg_volume::Volume;
-
-/// Fills the next page of a slot, which this one fits, and makes it complete. 50 operations.
-fn fill_next<N: Nor>(
-    nor: &mut N,
-    slot: OpenSlot,
-    page: &[u8; PAGE_SIZE],
-) -> Result<OpenSlot, Stopped>
-    requires fits { (h : Held) × IsOpen (N.device nor.old).image slot h × (length h.complete < h.pages)
-        × (may_seal (outline_told slot).image h page.now ≡ true) }
-    ensures sealed { IfOk result (λ o. (h : Held) → IsOpen (N.device nor.old).image slot h
-        → IsOpen (N.device nor.new).image o (with_page h page.now)) }
-    ensures same { IfOk result (λ o. outline_told o ≡ outline_told slot) }
-    ensures ran { OnOk result (Ran page_operations (N.device nor.old) (N.device nor.new)) }
-    ensures touches { Touches (header_sector (outline_told slot).image) (slot_end (outline_told slot).image)
-        (N.device nor.old).image (N.device nor.new).image }
-    ensures stops { OnErr result ((h : Held) → IsOpen (N.device nor.old).image slot h
-        → SlotStops (outline_told slot).image (page_trail h page.now) (N.device nor.old) (N.device nor.new)) }
-{
-    let mut job = slot.begin_page(nor)?;
-    job.put_all(nor, page)?;
-    match job.seal(nor)? {
-        Sealing::Sealed(slot) => Ok(slot),
-        Sealing::Bad { .. } => unreachable!(),
-        Sealing::Unfit { .. } => unreachable!(),
-    }
-}
-
-/// Fills page 0 of an image. 50 operations.
-fn fill_first<N: Nor>(
-    volume: &mut Volume,
-    nor: &mut N,
-    image: u8,
-    page: &[u8; PAGE_SIZE],
-) -> Result<(), Stopped>
-    requires mounted { IsMounted (N.device nor.old).image volume.old }
-    requires not_golden { 1 ≤ image }
-    requires known_image { image < images }
-    requires not_lent { is_lent volume.old image ≡ false }
-    requires fits { (s : Store) × Mounted (N.device nor.old).image volume.old s × FitsNext image page.now s }
-    ensures acted { OnOk result ((s : Store) → Mounted (N.device nor.old).image volume.old s
-        → Acted (stepping s page_operations (paged image page.now s)) (N.device nor.old) (N.device nor.new) volume.new) }
-    ensures lent { OnOk result ((i : ℕ) → is_lent volume.new i ≡ is_lent volume.old i) }
-    ensures stopped { OnErr result ((s : Store) → Mounted (N.device nor.old).image volume.old s
-        → Stops (stepping s page_operations (paged image page.now s)) (N.device nor.old) (N.device nor.new)) }
-{
-    match volume.slot(image) {
-        Some(slot) => {
-            let filled = fill_next(nor, slot, page)?;
-            volume.put_back(filled);
-            Ok(())
-        }
-        None => unreachable!(),
-    }
-}
+use dg_volume::{NewImage, Volume};
 
 /// Fills the next page of an image, a data page with this number, and makes it complete where it is the expected one. 50
 /// operations, and 49 where it is foreign.
@@ -147,11 +91,11 @@ fn receive_data<N: Nor>(
     requires some { 1 ≤ done }
     requires within { done ≤ pages_for (length new.now.bytes.now) }
     requires fit { (s : Store) → Mounted (N.device nor.old).image volume.old s
-        → FitAll new.now.image (drop done (object (received_row new.now))) s }
+        → FitAll new.now.image (drop done (object (new_row new.now))) s }
     requires data { (s : Store) → Mounted (N.device nor.old).image volume.old s → (h : Held)
         × (held s new.now.image ≡ Some h) × (1 ≤ length h.complete) }
     ensures ends { (s : Store) → Mounted (N.device nor.old).image volume.old s
-        → let pages = drop done (object (received_row new.now)) in
+        → let pages = drop done (object (new_row new.now)) in
         let found = first_break first.now done pages in
         FillEnds result found (fill_to found done s new.now.image pages)
         (N.device nor.old) (N.device nor.new) volume.new }
@@ -170,7 +114,7 @@ fn receive_data<N: Nor>(
 fn expected_of(new: &NewImage<'_>, page: u8, root: &[u8; DIGEST_SIZE]) -> [u8; DIGEST_SIZE]
     requires data_page { 1 ≤ page }
     requires within { page ≤ pages_for (length new.now.bytes.now) }
-    ensures { result ≡ expected root.now (object (received_row new.now)) page }
+    ensures { result ≡ expected root.now (object (new_row new.now)) page }
 {
     if page == 1 {
         return *root;
@@ -192,17 +136,17 @@ fn receive_whole<N: Nor>(
     requires known_image { new.now.image < images }
     requires not_lent { is_lent volume.old new.now.image ≡ false }
     requires fit { (s : Store) → Mounted (N.device nor.old).image volume.old s
-        → FitAll new.now.image (object (received_row new.now)) s }
+        → FitAll new.now.image (object (new_row new.now)) s }
     requires complete { (s : Store) → Mounted (N.device nor.old).image volume.old s → (h : Held)
         × (held s new.now.image ≡ Some h) × (length h.complete ≡ 0) }
-    ensures ends { (s : Store) → Mounted (N.device nor.old).image volume.old s → let pages = object (received_row new.now) in
+    ensures ends { (s : Store) → Mounted (N.device nor.old).image volume.old s → let pages = object (new_row new.now) in
         let found = foreign_from root.now pages 1 in
         FillEnds result found (fill_to found 0 s new.now.image pages)
         (N.device nor.old) (N.device nor.new) volume.new }
 {
     let mut page = [0; PAGE_SIZE];
     new.page(0, &mut page);
-    match fill_first(volume, nor, new.image, &page) {
+    match volume.fill_page(nor, new.image, &page) {
         Ok(()) => receive_data(volume, nor, new, 1, root),
         Err(Stopped) => Err(Stop::FlashFault),
     }
@@ -222,10 +166,10 @@ pub(crate) fn receive_rest<N: Nor>(
     requires not_lent { is_lent volume.old new.now.image ≡ false }
     requires within { done ≤ pages_for (length new.now.bytes.now) }
     requires fit { (s : Store) → Mounted (N.device nor.old).image volume.old s
-        → FitAll new.now.image (drop done (object (received_row new.now))) s }
+        → FitAll new.now.image (drop done (object (new_row new.now))) s }
     requires complete { (s : Store) → Mounted (N.device nor.old).image volume.old s → (h : Held)
         × (held s new.now.image ≡ Some h) × (length h.complete ≡ done) }
-    ensures ends { (s : Store) → Mounted (N.device nor.old).image volume.old s → let pages = object (received_row new.now) in
+    ensures ends { (s : Store) → Mounted (N.device nor.old).image volume.old s → let pages = object (new_row new.now) in
         let found = first_foreign root.now pages done in
         FillEnds result found
         (fill_to found done s new.now.image (drop done pages)) (N.device nor.old) (N.device nor.new) volume.new }

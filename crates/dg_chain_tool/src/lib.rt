@@ -6,9 +6,7 @@
 
 mod checking;
 mod filling;
-mod new_image;
 mod receiving;
-mod refusing;
 mod wrapping;
 
 ghost use Rattle.std.specs.Prelude.{◌≡◌, ◌⊎◌, ◌<◌, ◌≤◌, ℕ, List, Some, length, drop, map, IsTrue};

@@ -13,16 +13,18 @@ ghost use Rattle.dg_tool.specs.Done.{verb_rule, InputRead, Went, WentOn, StopsOn
 ghost use Rattle.dg_tool.specs.Stops.{InputFails, OnStore, OnBoard, OnBoards, result_status, result_text};
 ghost use Rattle.dg_chain_tool.specs.Receiving.{receive_trail};
 ghost use Rattle.dg_chain_tool.specs.Verbs.{receive_to, receive_into, receive_ending};
-ghost use Rattle.dg_chain_tool.specs.Filling.{received_row, take_stop};
+ghost use Rattle.dg_volume.specs.Filling.{new_row};
+ghost use Rattle.dg_chain_tool.specs.Filling.{take_stop};
 
 use crate::filling::receive_rest;
-use crate::new_image::NewImage;
-use crate::refusing::{injection_fault, is_other};
 use dg_base::Source;
 use dg_chain::DIGEST_SIZE;
 use dg_nor::{Nor, Stopped};
+use dg_object::PAGE_SIZE;
 use dg_tool::{Refusal, Stop, have_line, mount, read_image, stop_at};
-use dg_volume::{Kept, TakeFault, Volume, a_row_is_filled_page_by_page};
+use dg_volume::{
+    Kept, NewImage, TakeFault, Volume, a_row_is_filled_page_by_page, injection_fault, is_other,
+};
 use std::alloc::Global;
 
 /// Fills what is missing of a version that is kept, where that is this image.
@@ -39,7 +41,7 @@ fn receive_kept<N: Nor>(
     requires known_image { new.now.image < images }
     requires kept { kept_at volume.old new.now.image ≡ Some kept.now }
     requires same_version { kept.now.version ≡ new.now.version }
-    ensures ends { (s : Store) → Mounted (N.device nor.old).image volume.old s → let row = received_row new.now in
+    ensures ends { (s : Store) → Mounted (N.device nor.old).image volume.old s → let row = new_row new.now in
         OnStore (result_status result) (result_text (λ u. have_text row) result)
         (receive_to root.now row s) (Went (receive_trail root.now s row))
         (Stops (receive_trail root.now s row)) (N.device nor.old) (N.device nor.new) }
@@ -80,12 +82,14 @@ fn receive_anew<N: Nor>(
     requires not_golden { 1 ≤ new.now.image }
     requires known_image { new.now.image < images }
     requires older { (k : Kept) → kept_at volume.old new.now.image ≡ Some k → k.version < new.now.version }
-    ensures ends { (s : Store) → Mounted (N.device nor.old).image volume.old s → let row = received_row new.now in
+    ensures ends { (s : Store) → Mounted (N.device nor.old).image volume.old s → let row = new_row new.now in
         OnStore (result_status result) (result_text (λ u. have_text row) result)
         (receive_to root.now row s) (Went (receive_trail root.now s row))
         (Stops (receive_trail root.now s row)) (N.device nor.old) (N.device nor.new) }
 {
-    match volume.take(nor, new.image, &new.profile()) {
+    let mut first = [0; PAGE_SIZE];
+    new.page(0, &mut first);
+    match volume.take(nor, new.image, &new.profile(&first)) {
         Ok(slot) => {
             volume.put_back(slot);
             a_row_is_filled_page_by_page();
@@ -107,7 +111,7 @@ fn receive_new<N: Nor>(
     requires not_golden { 1 ≤ new.now.image }
     requires known_image { new.now.image < images }
     requires newest { (k : Kept) → kept_at volume.old new.now.image ≡ Some k → k.version ≤ new.now.version }
-    ensures ends { (s : Store) → Mounted (N.device nor.old).image volume.old s → let row = received_row new.now in
+    ensures ends { (s : Store) → Mounted (N.device nor.old).image volume.old s → let row = new_row new.now in
         OnStore (result_status result) (result_text (λ u. have_text row) result)
         (receive_to root.now row s) (Went (receive_trail root.now s row))
         (Stops (receive_trail root.now s row)) (N.device nor.old) (N.device nor.new) }
@@ -131,7 +135,7 @@ fn receive_told<N: Nor>(
     requires not_golden { 1 ≤ new.now.image }
     requires known_image { new.now.image < images }
     requires newest { (k : Kept) → kept_at volume.old new.now.image ≡ Some k → k.version ≤ new.now.version }
-    ensures ends { (s : Store) → Mounted (N.device nor.old).image volume.old s → let row = received_row new.now in
+    ensures ends { (s : Store) → Mounted (N.device nor.old).image volume.old s → let row = new_row new.now in
         OnStore (result_status result) (result_text (λ text. text.items) result)
         (receive_to root.now row s) (Went (receive_trail root.now s row))
         (Stops (receive_trail root.now s row)) (N.device nor.old) (N.device nor.new) }

@@ -6,13 +6,14 @@ use Rattle.dg_volume.specs.Store.{Store}
 use Rattle.dg_volume.specs.Stands.{Mounted}
 use Rattle.dg_chain.specs.Checking.{field_of, first_break}
 use Rattle.dg_tool.proofs.ComesLemmas.{from_err}
-use Rattle.dg_chain_tool.specs.Filling.{received_row, fill_to, FillEnds}
+use Rattle.dg_volume.specs.Filling.{new_row}
+use Rattle.dg_chain_tool.specs.Filling.{fill_to, FillEnds}
 use Rattle.dg_chain_tool.proofs.FillLemmas.{Going, going_none, going_more, going_all, going_fits, next_fails, break_on}
 use Rattle.dg_chain_tool.proofs.filling.receive_data.Goals as goal
 
 pub loop-p-init : goal.loop-p-init
 loop-p-init g c =
-    let pages = drop c.args.done (object (received_row c.args.new.now)) in
+    let pages = drop c.args.done (object (new_row c.args.new.now)) in
     record {
       found = refl;
       going = λ s mounted. let h = c.requires.data s mounted in
@@ -28,7 +29,7 @@ receive_next-requires-clause-not_lent g c = c.loop-p.invariant.lent c.args.new.n
 
 pub receive_next-requires-clause-fits : goal.receive_next-requires-clause-fits
 receive_next-requires-clause-fits g c =
-    let row = received_row c.args.new.now in
+    let row = new_row c.args.new.now in
     let i = c.args.new.now.image in
     let p = c.loop-p.p in
     let page = c.page.new.into in
@@ -43,7 +44,7 @@ receive_next-requires-clause-fits g c =
 pub returns-in_err-receive_next : goal.returns-in_err-receive_next
 returns-in_err-receive_next g c = record {
   ends = λ s mounted.
-      let row = received_row c.args.new.now in
+      let row = new_row c.args.new.now in
       let i = c.args.new.now.image in
       let p = c.loop-p.p in
       let page = c.page.new.into in
@@ -64,7 +65,7 @@ returns-in_err-receive_next g c = record {
 
 pub loop-p-preserved : goal.loop-p-preserved
 loop-p-preserved g c =
-    let row = received_row c.args.new.now in
+    let row = new_row c.args.new.now in
     let i = c.args.new.now.image in
     let p = c.loop-p.p in
     let page = c.page.new.into in
@@ -93,7 +94,7 @@ loop-p-preserved g c =
 pub returns : goal.returns
 returns g c = record {
   ends = λ s mounted.
-      let row = received_row c.args.new.now in
+      let row = new_row c.args.new.now in
       let i = c.args.new.now.image in
       let p = c.loop-p.p in
       let whole = drop c.args.done (object row) in

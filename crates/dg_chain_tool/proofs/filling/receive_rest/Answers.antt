@@ -2,18 +2,19 @@ use Rattle.std.proofs.Common.{◌≡◌, ℕ, List, Option, drop, sym, ap, subst
 use Rattle.dg_object.specs.Object.{object}
 use Rattle.dg_volume.specs.Changes.{FitAll}
 use Rattle.dg_chain.specs.Checking.{Break, first_break}
-use Rattle.dg_chain_tool.specs.Filling.{received_row, fill_to, FillEnds}
+use Rattle.dg_volume.specs.Filling.{new_row}
+use Rattle.dg_chain_tool.specs.Filling.{fill_to, FillEnds}
 use Rattle.dg_chain_tool.specs.Receiving.{first_foreign, foreign_from}
 use Rattle.dg_chain_tool.proofs.ReceiveLemmas.{from_some}
 use Rattle.dg_chain_tool.proofs.filling.receive_rest.Goals as goal
 
 pub receive_whole-requires-clause-fit : goal.receive_whole-requires-clause-fit
-receive_whole-requires-clause-fit g c = λ s mounted. subst (λ (n : ℕ). FitAll c.args.new.now.image (drop n (object (received_row c.args.new.now))) s) c.if-done-eq0.true (c.requires.fit s mounted)
+receive_whole-requires-clause-fit g c = λ s mounted. subst (λ (n : ℕ). FitAll c.args.new.now.image (drop n (object (new_row c.args.new.now))) s) c.if-done-eq0.true (c.requires.fit s mounted)
 
 pub returns : goal.returns
 returns g c = record {
   ends = λ s mounted.
-      let row = received_row c.args.new.now in
+      let row = new_row c.args.new.now in
       let n = c.args.done in
       let rest = drop n (object row) in
       let same : first_break c.expected_of-first.result n rest ≡ first_foreign c.args.root.now (object row) n =

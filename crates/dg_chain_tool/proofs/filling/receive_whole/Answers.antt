@@ -10,15 +10,15 @@ use Rattle.dg_volume.specs.Changes.{paged, FitAll}
 use Rattle.dg_volume.proofs.HeldLemmas.{held_paged}
 use Rattle.dg_volume.proofs.FillLemmas.{fit_next, fit_rest, object_drop}
 use Rattle.dg_volume.proofs.StoreLemmas.{one_store}
-use Rattle.dg_chain_tool.specs.Filling.{received_row}
+use Rattle.dg_volume.specs.Filling.{new_row}
 use Rattle.dg_chain_tool.specs.Receiving.{foreign_from}
 use Rattle.dg_chain_tool.proofs.FillLemmas.{break_above}
 use Rattle.dg_chain_tool.proofs.ReceiveLemmas.{whole_ends, whole_stops}
 use Rattle.dg_chain_tool.proofs.filling.receive_whole.Goals as goal
 
-pub fill_first-requires-clause-fits : goal.fill_first-requires-clause-fits
-fill_first-requires-clause-fits g c =
-    let row = received_row c.args.new.now in
+pub fill_page-requires-clause-fits : goal.fill_page-requires-clause-fits
+fill_page-requires-clause-fits g c =
+    let row = new_row c.args.new.now in
     let i = c.args.new.now.image in
     let s = c.requires.mounted.0 in
     let page = c.page.new.into in
@@ -30,7 +30,7 @@ receive_data-requires-clause-mounted g c = let acted = c.in-Ok.ensures.acted c.r
 
 pub receive_data-requires-clause-fit : goal.receive_data-requires-clause-fit
 receive_data-requires-clause-fit g c = λ t there.
-    let row = received_row c.args.new.now in
+    let row = new_row c.args.new.now in
     let i = c.args.new.now.image in
     let s = c.requires.mounted.0 in
     let page = c.page.new.into in
@@ -59,7 +59,7 @@ receive_data-requires-clause-not_lent g c = c.in-Ok.ensures.lent c.args.new.now.
 pub returns-in-Ok : goal.returns-in-Ok
 returns-in-Ok g c = record {
   ends = λ s mounted.
-      let row = received_row c.args.new.now in
+      let row = new_row c.args.new.now in
       let i = c.args.new.now.image in
       let page = c.page.new.into in
       let rest = drop 1 (object row) in
@@ -71,7 +71,7 @@ returns-in-Ok g c = record {
 pub returns-in-Err : goal.returns-in-Err
 returns-in-Err g c = record {
   ends = λ s mounted.
-      let row = received_row c.args.new.now in
+      let row = new_row c.args.new.now in
       let page = c.page.new.into in
       let rest = drop 1 (object row) in
       let pages : object row ≡ page ∷ rest = object_drop row 0 page (omega arith) c.page.ensures in

@@ -11,7 +11,8 @@ use Rattle.dg_volume.specs.Acts.{Stops}
 use Rattle.dg_volume.proofs.InjectLemmas.{older_told, begun_anew, anew_fits}
 use Rattle.dg_volume.proofs.StoreLemmas.{one_store}
 use Rattle.dg_tool.specs.Verbs.{have_text}
-use Rattle.dg_chain_tool.specs.Filling.{received_row, fill_to}
+use Rattle.dg_volume.specs.Filling.{new_row}
+use Rattle.dg_chain_tool.specs.Filling.{fill_to}
 use Rattle.dg_chain_tool.specs.Receiving.{first_foreign}
 use Rattle.dg_chain_tool.proofs.FillLemmas.{to_first}
 use Rattle.dg_chain_tool.proofs.ReceiveLemmas.{received_filled, take_fails, take_free, anew_done, anew_fill, ends_then}
@@ -27,7 +28,7 @@ pub receive_rest-requires-clause-mounted : goal.receive_rest-requires-clause-mou
 receive_rest-requires-clause-mounted g c =
     let s = c.requires.mounted.0 in
     let mounted = c.requires.mounted.1 in
-    let row = received_row c.args.new.now in
+    let row = new_row c.args.new.now in
     let is = c.args.new.now.is_row in
     let opened = c.in-Ok.ensures.open in
     let begun = begun_anew s row (outline_of c.profile.result) (g.N.Nor.device c.args.nor.now) (g.N.Nor.device c.take.new.nor) c.take.new.self c.put_back.new.self c.in-Ok.slot c.requires.known_image c.profile.ensures (c.in-Ok.ensures.acted s mounted) opened.0 opened.1 c.put_back.ensures.mounted in
@@ -40,7 +41,7 @@ pub receive_rest-requires-clause-fit : goal.receive_rest-requires-clause-fit
 receive_rest-requires-clause-fit g c = λ t there.
     let s = c.requires.mounted.0 in
     let mounted = c.requires.mounted.1 in
-    let row = received_row c.args.new.now in
+    let row = new_row c.args.new.now in
     let is = c.args.new.now.is_row in
     let opened = c.in-Ok.ensures.open in
     let begun = begun_anew s row (outline_of c.profile.result) (g.N.Nor.device c.args.nor.now) (g.N.Nor.device c.take.new.nor) c.take.new.self c.put_back.new.self c.in-Ok.slot c.requires.known_image c.profile.ensures (c.in-Ok.ensures.acted s mounted) opened.0 opened.1 c.put_back.ensures.mounted in
@@ -51,7 +52,7 @@ pub receive_rest-requires-clause-complete : goal.receive_rest-requires-clause-co
 receive_rest-requires-clause-complete g c = λ t there.
     let s = c.requires.mounted.0 in
     let mounted = c.requires.mounted.1 in
-    let row = received_row c.args.new.now in
+    let row = new_row c.args.new.now in
     let is = c.args.new.now.is_row in
     let opened = c.in-Ok.ensures.open in
     let begun = begun_anew s row (outline_of c.profile.result) (g.N.Nor.device c.args.nor.now) (g.N.Nor.device c.take.new.nor) c.take.new.self c.put_back.new.self c.in-Ok.slot c.requires.known_image c.profile.ensures (c.in-Ok.ensures.acted s mounted) opened.0 opened.1 c.put_back.ensures.mounted in
@@ -61,7 +62,7 @@ receive_rest-requires-clause-complete g c = λ t there.
 pub returns-in-Ok : goal.returns-in-Ok
 returns-in-Ok g c = record {
   ends = λ s mounted.
-      let row = received_row c.args.new.now in
+      let row = new_row c.args.new.now in
       let is = c.args.new.now.is_row in
       let opened = c.in-Ok.ensures.open in
       let begun = begun_anew s row (outline_of c.profile.result) (g.N.Nor.device c.args.nor.now) (g.N.Nor.device c.take.new.nor) c.take.new.self c.put_back.new.self c.in-Ok.slot c.requires.known_image c.profile.ensures (c.in-Ok.ensures.acted s mounted) opened.0 opened.1 c.put_back.ensures.mounted in
@@ -78,7 +79,7 @@ returns-in-Ok g c = record {
 pub returns-in-Err : goal.returns-in-Err
 returns-in-Err g c = record {
   ends = λ s mounted.
-      let row = received_row c.args.new.now in
+      let row = new_row c.args.new.now in
       let is = c.args.new.now.is_row in
       let x = c.in-Err in
       let older = older_told c.args.volume.now s row c.requires.known_image mounted.tells c.requires.older in

@@ -10,7 +10,8 @@ use Rattle.dg_volume.proofs.PartLemmas.{part_of}
 use Rattle.dg_volume.proofs.InjectLemmas.{kept_free, kept_taken}
 use Rattle.dg_tool.specs.declared.refusal.Refusal.TheVariants as refusals
 use Rattle.dg_tool.specs.Verbs.{have_text}
-use Rattle.dg_chain_tool.specs.Filling.{received_row, fill_to}
+use Rattle.dg_volume.specs.Filling.{new_row}
+use Rattle.dg_chain_tool.specs.Filling.{fill_to}
 use Rattle.dg_chain_tool.specs.Receiving.{first_foreign, receive_trail}
 use Rattle.dg_chain_tool.proofs.ReceiveLemmas.{received_refused, received_filled, received_stops, receive_begins, kept_done, kept_is, ends_looked}
 use Rattle.dg_chain_tool.proofs.receiving.receive_kept.Goals as goal
@@ -18,7 +19,7 @@ use Rattle.dg_chain_tool.proofs.receiving.receive_kept.Goals as goal
 pub returns-then-other : goal.returns-then-other
 returns-then-other g c = record {
   ends = λ s mounted.
-      let row = received_row c.args.new.now in
+      let row = new_row c.args.new.now in
       let is = c.args.new.now.is_row in
       let keeps = keeps_told _ c.args.volume.now s row.image c.args.kept.now c.requires.known_image mounted c.requires.kept in
       let h = keeps.kept in
@@ -34,7 +35,7 @@ pub receive_rest-requires-clause-within : goal.receive_rest-requires-clause-with
 receive_rest-requires-clause-within g c =
     let s = c.requires.mounted.0 in
     let mounted = c.requires.mounted.1 in
-    let row = received_row c.args.new.now in
+    let row = new_row c.args.new.now in
     let is = c.args.new.now.is_row in
     let keeps = keeps_told _ c.args.volume.now s row.image c.args.kept.now c.requires.known_image mounted c.requires.kept in
     let h = keeps.kept in
@@ -48,7 +49,7 @@ receive_rest-requires-clause-within g c =
 pub receive_rest-requires-clause-fit : goal.receive_rest-requires-clause-fit
 receive_rest-requires-clause-fit g c = λ s there.
     let mounted = subst (λ (x : List ℕ). Mounted x c.args.volume.now s) c.in-Ok.ensures.ends.same_image there in
-    let row = received_row c.args.new.now in
+    let row = new_row c.args.new.now in
     let is = c.args.new.now.is_row in
     let keeps = keeps_told _ c.args.volume.now s row.image c.args.kept.now c.requires.known_image mounted c.requires.kept in
     let h = keeps.kept in
@@ -67,7 +68,7 @@ receive_rest-requires-clause-complete g c = λ s there.
 pub returns-else-other : goal.returns-else-other
 returns-else-other g c = record {
   ends = λ s mounted.
-      let row = received_row c.args.new.now in
+      let row = new_row c.args.new.now in
       let is = c.args.new.now.is_row in
       let keeps = keeps_told _ c.args.volume.now s row.image c.args.kept.now c.requires.known_image mounted c.requires.kept in
       let h = keeps.kept in
@@ -87,6 +88,6 @@ returns-else-other g c = record {
 pub returns-in-Err : goal.returns-in-Err
 returns-in-Err g c = record {
   ends = λ s mounted.
-      let row = received_row c.args.new.now in
+      let row = new_row c.args.new.now in
       received_stops (λ (u : ℕ). have_text row) c.args.root.now s row _ _ (read_stops s (receive_trail c.args.root.now s row) _ _ (receive_begins c.args.root.now s row) mounted.stands c.in-Err.ensures.ends);
 }

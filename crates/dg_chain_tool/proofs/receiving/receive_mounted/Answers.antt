@@ -7,4 +7,4 @@ pub returns-in-Some : goal.returns-in-Some
 returns-in-Some g c = λ s mounted.
     let row = row_of c.args.image c.args.version c.args.name.now c.args.bytes.now in
     let x = c.injection_fault.ensures in
-    refused_at (λ (n : ℕ). []) c.args.root.now s row _ c.in-Some.fault c.stop_at.result (x.refusal c.in-Some.fault c.in-Some.is c.args.volume.now s c.args.name.now mounted.tells c.kept.ensures c.requires.image) (c.stop_at.ensures.refused (x.other c.in-Some.fault c.in-Some.is) row refl)
+    refused_at (λ (n : ℕ). []) c.args.root.now s row _ c.in-Some.fault c.stop_at.result (x.refusal c.in-Some.fault c.in-Some.is c.args.volume.now s c.args.name.now mounted.tells c.kept.ensures c.requires.image) (c.stop_at.ensures.refused (x.other c.in-Some.fault c.in-Some.is).0 row refl)
