@@ -1,11 +1,11 @@
 //! What a mounted volume tells of its chip, without a read.
-ghost use Rattle.std.specs.Prelude.{◌≡◌, ◌⊎◌, ◌<◌, ℕ, List};
+ghost use Rattle.std.specs.Prelude.{◌≡◌, ◌⊎◌, ◌<◌, ℕ, List, None, slice_index_or};
 ghost use Rattle.dg_control.specs.Store.{HasForm};
 ghost use Rattle.dg_volume.specs.Sizes.{images, old_form, new_form};
 ghost use Rattle.dg_volume.specs.Stands.{snapshot_of, form_of, room_of, kept_at, IsMounted};
 
 use crate::volume::{Kept, Volume};
-use dg_control::{Snapshot, a_chip_has_one_form};
+use dg_control::{IMAGES, Snapshot, a_chip_has_one_form};
 
 impl Volume {
     /// What the volume commits as a whole.
@@ -38,5 +38,12 @@ impl Volume {
         ensures { result ≡ kept_at self.now image }
     {
         self.kept[usize::from(image)]
+    }
+
+    /// What is kept of each image, by its number.
+    pub fn kept_images(&self) -> [Option<Kept>; IMAGES]
+        ensures { (i : ℕ) → i < images → slice_index_or result i None ≡ kept_at self.now i }
+    {
+        self.kept
     }
 }

@@ -25,13 +25,9 @@ pub(crate) struct ChipReport {
 pub(crate) fn report_chip(volume: &Volume) -> ChipReport
     ensures { (s : Store) → Tells volume.now s → IsReportOf result s }
 {
-    let mut kept = [None; IMAGES];
-    for image in 0..IMAGES {
-        kept[image] = volume.kept(image as u8);
-    }
     ChipReport {
         order: volume.snapshot().order,
-        kept,
+        kept: volume.kept_images(),
     }
 }
 
