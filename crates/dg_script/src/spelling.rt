@@ -1,5 +1,5 @@
 //! Writes lines of fields.
-ghost use Rattle.std.specs.Prelude.{◌≡◌, ◌∷◌, ◌++◌, [], ◌≤◌, length, OnOk, OnErr};
+ghost use Rattle.std.specs.Prelude.{◌≡◌, ◌∷◌, ◌++◌, ◌+◌, ◌<◌, [], ◌≤◌, length, decimal, OnOk, OnErr};
 ghost use Rattle.dg_script.specs.Spelling.{content_text, field_text, fields_text, IsFrontOf};
 
 use dg_base::{push_hex, push_u32};
@@ -32,6 +32,28 @@ fn push_content(out: &mut Vec<u8>, bytes: &[u8]) -> Result<(), AllocError>
     push_hex(out, bytes)
 }
 
+// Appends the decimal digits of a number. Most numbers of a line have one digit. Without memory `out` stays as it was.
+#[tactic(auto, using(std::proofs::lemmas::Fmt::decimal_digit))]
+fn push_number(out: &mut Vec<u8>, n: u32) -> Result<(), AllocError>
+    ensures ok { OnOk result (out.new.items ≡ out.old.items ++ decimal n) }
+    ensures err { OnErr result (out.new.items ≡ out.old.items) }
+{
+    if n < 10 {
+        return push_digit(out, n as u8);
+    }
+    push_u32(out, n)
+}
+
+// Appends the digit of a number below 10.
+fn push_digit(out: &mut Vec<u8>, n: u8) -> Result<(), AllocError>
+    requires { n < 10 }
+    ensures ok { OnOk result (out.new.items ≡ out.old.items ++ (48 + n) ∷ []) }
+    ensures err { OnErr result (out.new.items ≡ out.old.items) }
+{
+    out.push(b'0' + n)?;
+    Ok(())
+}
+
 // Appends a field.
 #[tactic(auto, using(crate::proofs::FrontLemmas::front_none))]
 fn push_field(out: &mut Vec<u8>, field: Field) -> Result<(), AllocError>
@@ -40,8 +62,8 @@ fn push_field(out: &mut Vec<u8>, field: Field) -> Result<(), AllocError>
     ensures kept { length out.old.items ≤ length out.new.items }
 {
     match field {
-        Field::Small(number) => push_u32(out, u32::from(number)),
-        Field::Number(number) => push_u32(out, number),
+        Field::Small(number) => push_number(out, u32::from(number)),
+        Field::Number(number) => push_number(out, number),
         Field::Word(word) => out.extend_from_slice(word),
         Field::Crc(crc) => push_hex(out, &crc.to_be_bytes()),
         Field::Digits(bytes) => push_hex(out, bytes),
