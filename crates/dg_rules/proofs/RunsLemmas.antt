@@ -29,7 +29,7 @@ module _ (laws : (row : Row) → IsRow row → RowLaws row) (table : List Row) (
   runs_row r h =
       let row = h.row in
       let known = laws row (row_at-each IsRow table r.image r.version row is_table.each h.in_table) in
-      let told : runs_length r ≡ length row.bytes = ap (λ (pages : List (List ℕ)). length_in (slice_index_or pages 0 [])) h.pages ∙ known.length_reported in
+      let told : runs_length r ≡ length row.bytes = ap (λ (pages : List (List ℕ)). length_in (slice_index_or pages 0 [])) h.pages ∙ known.length_told in
       record {
         row = row;
         in_table = h.in_table;
