@@ -35,7 +35,7 @@ use Rattle.dg_serve.specs.declared.stop.Stop.{Stop}
 use Rattle.dg_serve.specs.declared.stop.Stop.TheVariants as stop
 use Rattle.dg_serve.proofs.BoardLemmas.{used_same, used_one, all_calm, calm_one}
 use Rattle.dg_serve.proofs.EventLemmas.{same_of, stands_boards}
-use Rattle.dg_serve.proofs.PlayLemmas.{KeepsTime, ran_at, Setting, kept, then, steps_then, stands_behind, boards_behind, frames_behind, some_handed, failed_run}
+use Rattle.dg_serve.proofs.PlayLemmas.{KeepsTime, ForSome, ran_at, Setting, kept, then, steps_then, stands_behind, boards_behind, frames_behind, some_handed, failed_run}
 
 -- ---- the line of an event
 

@@ -26,7 +26,7 @@ pub rose_first : (a b c : ℕ) → b ≤ c → Rose a b → Rose a c
 rose_first a b c h rose = omega (arith, h, rose)
 
 -- a cause in two steps
-caused_through : (a b c : Beneath) → Endures a b → b.faults ≤ c.faults → (b.stopped ≡ true) ⊎ Rose b.faults c.faults → (a.stopped ≡ true) ⊎ Rose a.faults c.faults
+pub caused_through : (a b c : Beneath) → Endures a b → b.faults ≤ c.faults → (b.stopped ≡ true) ⊎ Rose b.faults c.faults → (a.stopped ≡ true) ⊎ Rose a.faults c.faults
 caused_through a b c first later cause =
     ⊎_elim
     (λ stopped. ⊎_elim (λ was. inl was) (λ rose. inr (rose_first a.faults b.faults c.faults later rose)) (first.cause stopped))

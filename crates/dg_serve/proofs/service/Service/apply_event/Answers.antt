@@ -1,4 +1,5 @@
 use Rattle.std.proofs.Common.{◌≡◌, map, refl, sym, ap, subst, ◌∙◌, arith}
+use Rattle.std.proofs.lemmas.List.{length-map}
 use Rattle.std.specs.Prelude.{slice_index_or, option_map, length, None}
 use Rattle.dg_base.specs.Outside.{Puts, PutsFront}
 use Rattle.dg_rules.specs.Events.{mote_of}
@@ -36,7 +37,7 @@ pub play-requires-clause-motes : goal.play-requires-clause-motes
 play-requires-clause-motes g c = let e = ap length c.as_mut_slice.ensures.value in omega (arith, e, c.requires.asks.2.known, c.requires.asks.2.motes_are)
 
 pub play-requires-clause-boards : goal.play-requires-clause-boards
-play-requires-clause-boards g c = omega (arith, c.requires.asks.2.known, c.requires.asks.2.boards)
+play-requires-clause-boards g c = let n = length-map c.args.boards.now g.N.Nor.device in omega (arith, n, c.requires.asks.2.known, c.requires.asks.2.boards)
 
 pub play-requires-clause-may : goal.play-requires-clause-may
 play-requires-clause-may g c = λ a was. subst (λ xs. MayRun a.image c.args.self.now.timeline.moment (slice_index_or xs c.args.mote None)) (sym c.as_mut_slice.ensures.value) (c.requires.asks.2.may a was)
