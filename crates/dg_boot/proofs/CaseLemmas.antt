@@ -1,6 +1,6 @@
 -- The cases of a start.
 use Rattle.std.proofs.Common.{◌≡◌, ◌≢◌, ℕ, ◌+◌, ◌-◌, ◌*◌, ◌<◌, ◌≤◌, Bool, true, false, List, length, Option, Some, None, IfSome, IsSomeAnd, refl, sym, ap, subst, ◌∙◌, arith, eq-eqb}
-use Rattle.std.proofs.lemmas.Bool.{eqb-true}
+use Rattle.std.proofs.lemmas.Bool.{eqb-true, and_parts, or_right}
 use Rattle.std.proofs.lemmas.Bool.Decides.{nat_tests}
 use Rattle.std.specs.Prelude.{◌==◌, ◌&&◌, ◌||◌, not, nat_lt, nat_le, is_some, if◌then◌else◌}
 use Rattle.dg_base.specs.Crc.{crc_of}
@@ -21,10 +21,6 @@ use Rattle.dg_volume.specs.Trails.{committing}
 use Rattle.dg_volume.specs.Start.{behind, complete_pages, is_whole, is_set_to, order_waits, by_gesture, blank_by, blank_trail, copy_trail, app_of, kept_runs, order_boot, finish_trail, golden_copied, golden_stays, golden_by, golden_boot, kept_by, kept_boot, waived_once, boot_counted, sound}
 use Rattle.dg_boot.specs.Loads.{IsWhole, IsApp, app_from}
 use Rattle.dg_boot.specs.Ends.{HoldsWhole, copied_trail, golden_loaded, ordered_boot, golden_fits}
-
-both : (a b : Bool) → a && b ≡ true → (a ≡ true) × (b ≡ true)
-both true b h = (refl, h)
-both false b h = absurd cc
 
 not_true : (b : Bool) → not b ≡ true → b ≡ false
 not_true false h = refl
@@ -86,7 +82,7 @@ golden_version_of s h golden e = let x = golden_whole_by (held s 0) golden.whole
 whole_by : (o : Option Held) (v : ℕ) → is_whole o v ≡ true → (h : Held) × (o ≡ Some h) × (h.version ≡ v) × IsWhole h
 whole_by None v h = absurd cc
 whole_by (Some x) v h =
-    let parts = both (x.version == v) (length x.complete == x.pages) h in
+    let parts = and_parts (x.version == v) (length x.complete == x.pages) h in
     (x, refl, eqb-true x.version v parts.0, eqb-true (length x.complete) x.pages parts.1)
 
 -- an order that waits
@@ -105,10 +101,10 @@ pub order_facts : (s : Store) → order_waits s ≡ true → Waits s
 order_facts s h =
     let whole = is_whole (held s s.order.image) s.order.version in
     let set = is_set_to s.app s.order.image s.order.version in
-    let one = both (not (s.order.number == 0)) (not s.waived && (whole && (not set && nat_le 2 s.room))) h in
-    let two = both (not s.waived) (whole && (not set && nat_le 2 s.room)) one.1 in
-    let three = both whole (not set && nat_le 2 s.room) two.1 in
-    let four = both (not set) (nat_le 2 s.room) three.1 in
+    let one = and_parts (not (s.order.number == 0)) (not s.waived && (whole && (not set && nat_le 2 s.room))) h in
+    let two = and_parts (not s.waived) (whole && (not set && nat_le 2 s.room)) one.1 in
+    let three = and_parts whole (not set && nat_le 2 s.room) two.1 in
+    let four = and_parts (not set) (nat_le 2 s.room) three.1 in
     let x = whole_by (held s s.order.image) s.order.version three.0 in
     record { ordered = number_some s.order.number (not_true (s.order.number == 0) one.0); found = x.0; here = x.1; version = x.2; whole = x.3; room = at_least 2 s.room four.1 }
 
@@ -181,7 +177,7 @@ pub record SetTo (a : Option App) (i v : ℕ) : Type 0 where
 pub set_to : (a : Option App) (i v : ℕ) → is_set_to a i v ≡ true → SetTo a i v
 set_to None i v h = absurd cc
 set_to (Some app) i v h =
-    let parts = both (app.image == i) (app.version == v) h in
+    let parts = and_parts (app.image == i) (app.version == v) h in
     record { app = app; is = refl; same = record { image = eqb-true app.image i parts.0; version = eqb-true app.version v parts.1 } }
 
 golden_stays_by : (s : Store) (three : Bool) (o : Option App) (app : App) → is_set_to o 0 golden_version ≡ true → o ≡ Some app → golden_by o s three ≡ golden_stays s app three
@@ -213,19 +209,15 @@ set_here (Some app) h e = e
 pub fits_room : (s : Store) → golden_fits s ≡ true → is_set_to s.app 0 golden_version ≡ false → (s.app ≡ None → ⊥) → 1 ≤ s.room
 fits_room s h e some = above 0 s.room (either (nat_lt 0 s.room) (not (is_some s.app) || is_set_to s.app 0 golden_version) h (set_here s.app some e))
 
-or_true : (a : Bool) → a || true ≡ true
-or_true true = refl
-or_true false = refl
-
 fits_none_by : (s : Store) (o : Option App) → o ≡ None → nat_lt 0 s.room || (not (is_some o) || is_set_to o 0 golden_version) ≡ true
-fits_none_by s None e = or_true (nat_lt 0 s.room)
+fits_none_by s None e = or_right (nat_lt 0 s.room) true refl
 fits_none_by s (Some app) e = absurd cc
 
 pub fits_none : (s : Store) → s.app ≡ None → golden_fits s ≡ true
 fits_none s e = fits_none_by s s.app e
 
 pub fits_gesture : (s : Store) → by_gesture s ≡ true → golden_fits s ≡ true
-fits_gesture s h = (both (s.gesture == short_starts) (golden_fits s) h).1
+fits_gesture s h = (and_parts (s.gesture == short_starts) (golden_fits s) h).1
 
 -- ---- what is in program memory
 

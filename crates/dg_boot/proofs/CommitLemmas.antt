@@ -1,6 +1,6 @@
 -- Acts of a start that follow one another, and its commits.
 use Rattle.std.proofs.Common.{◌≡◌, ℕ, ◌+◌, ◌<◌, ◌≤◌, Bool, true, false, Option, Some, None, refl, sym, ap, ◌∙◌, arith}
-use Rattle.std.proofs.lemmas.Bool.{cond_both}
+use Rattle.std.proofs.lemmas.Bool.{cond_both, and_parts}
 use Rattle.std.proofs.lemmas.Bool.Decides.{nat_tests}
 use Rattle.std.specs.Prelude.{◌%◌, ◌==◌, ◌&&◌, not, nat_lt, if◌then◌else◌}
 use Rattle.dg_nor.specs.Device.{Device}
@@ -22,10 +22,6 @@ use Rattle.dg_volume.specs.declared.volume.StartCause.TheVariants.{Power, Order}
 use Rattle.dg_volume.proofs.ActLemmas.{acted_none, acted_then}
 use Rattle.dg_boot.specs.Loads.{IsApp}
 use Rattle.dg_boot.specs.Ends.{TrailWent, finishes}
-
-both : (a b : Bool) → a && b ≡ true → (a ≡ true) × (b ≡ true)
-both true b h = (refl, h)
-both false b h = absurd cc
 
 -- ---- acts
 
@@ -71,7 +67,7 @@ below m n h = grind (arith, nat_tests)
 
 pub counts_room : (k : StartCause) (s : Store) → counts k s ≡ true → Counts s
 counts_room Power s h =
-    let parts = both (nat_lt s.gesture short_starts) (nat_lt 0 s.room) h in
+    let parts = and_parts (nat_lt s.gesture short_starts) (nat_lt 0 s.room) h in
     record { few = below s.gesture short_starts parts.0; room = below 0 s.room parts.1 }
 counts_room Order s h = absurd cc
 

@@ -1,6 +1,6 @@
 -- What holds of every start.
 use Rattle.std.proofs.Common.{◌≡◌, ◌⊎◌, ℕ, ◌+◌, ◌-◌, ◌*◌, ◌<◌, ◌≤◌, Bool, true, false, length, Option, Some, None, IfSome, IsSome, refl, sym, ap, subst, ◌∙◌, inl, inr, ⊎_elim, eq-eqb, arith}
-use Rattle.std.proofs.lemmas.Bool.{cond_both, cases_lt}
+use Rattle.std.proofs.lemmas.Bool.{cond_both, cases_lt, and_parts}
 use Rattle.std.proofs.lemmas.Bool.Decides.{nat_tests}
 use Rattle.std.specs.Prelude.{◌==◌, ◌&&◌, ◌||◌, not, nat_lt, nat_le, is_some}
 use Rattle.dg_nor.specs.Trail.{Trail, last, operations, joined, resting, EachWorks, LeavesFrom, Leaves}
@@ -18,10 +18,6 @@ use Rattle.dg_volume.proofs.BeginLemmas.{begins_committing, begins_joined}
 use Rattle.dg_boot.specs.Ends.{golden_loaded, finishes}
 use Rattle.dg_boot.proofs.BeginLemmas.{copy_begins, finish_begins, kept_begins, counted_begins}
 use Rattle.dg_boot.proofs.CaseLemmas.{blank_app, counted_golden, set_to, golden_kept_is}
-
-both : (a b : Bool) → a && b ≡ true → (a ≡ true) × (b ≡ true)
-both true b h = (refl, h)
-both false b h = absurd cc
 
 -- ---- a start is by one of its cases
 
@@ -89,7 +85,7 @@ by_three : (s : Store) → s.gesture ≡ short_starts → 1 ≤ s.room → Golde
 by_three s g room = subst GoldenRuns (sym (counted_golden s (three_true s g room))) (golden_runs s true)
 
 counts_few : (k : StartCause) (s : Store) → counts k s ≡ true → s.gesture < short_starts
-counts_few Power s h = let a = (both (nat_lt s.gesture short_starts) (nat_lt 0 s.room) h).0 in grind (arith, nat_tests)
+counts_few Power s h = let a = (and_parts (nat_lt s.gesture short_starts) (nat_lt 0 s.room) h).0 in grind (arith, nat_tests)
 counts_few Order s h = absurd cc
 
 pub three_stand : (k : StartCause) (s : Store) → s.gesture ≡ short_starts → 1 ≤ s.room → IfSome (boot k s).runs IsGolden
@@ -127,8 +123,8 @@ waits_unwaived : (s : Store) → order_waits s ≡ true → s.waived ≡ false
 waits_unwaived s h =
     let whole = is_whole (held s s.order.image) s.order.version in
     let rest = not (is_set_to s.app s.order.image s.order.version) && nat_le 2 s.room in
-    let one = both (not (s.order.number == 0)) (not s.waived && (whole && rest)) h in
-    let two = both (not s.waived) (whole && rest) one.1 in
+    let one = and_parts (not (s.order.number == 0)) (not s.waived && (whole && rest)) h in
+    let two = and_parts (not s.waived) (whole && rest) one.1 in
     not_true s.waived two.0
   where
     not_true : (b : Bool) → not b ≡ true → b ≡ false

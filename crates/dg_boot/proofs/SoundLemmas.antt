@@ -1,6 +1,6 @@
 -- The checksums that a descriptor keeps, and what makes pages sound.
 use Rattle.std.proofs.Common.{◌≡◌, ℕ, zero, suc, ◌+◌, ◌-◌, ◌<◌, ◌≤◌, Bool, true, false, List, [], map, length, get_or, refl, sym, ap, ◌∙◌, ⊎_elim, arith}
-use Rattle.std.proofs.lemmas.Bool.{cases_lt, eq-eqb}
+use Rattle.std.proofs.lemmas.Bool.{cases_lt, eq-eqb, and_parts}
 use Rattle.std.specs.Prelude.{◌==◌, ◌&&◌}
 use Rattle.std.specs.List.{list_all, range_with_len}
 use Rattle.dg_words.specs.Lists.{tabulate}
@@ -34,10 +34,6 @@ pages_sound-tabulate crc (suc n) f h =
 
 -- ---- page by page
 
-both_true : (a b : Bool) → a && b ≡ true → (a ≡ true) × (b ≡ true)
-both_true true b h = (refl, h)
-both_true false b h = absurd cc
-
 and_false : (a : Bool) → a && false ≡ false
 and_false true = refl
 and_false false = refl
@@ -45,7 +41,7 @@ and_false false = refl
 all_next : (p : ℕ → Bool) (a n k : ℕ) → a + n ≡ k → list_all p (range_with_len a n) ≡ true → p k ≡ true → list_all p (range_with_len a (n + 1)) ≡ true
 all_next p a zero k e h t = let f : a ≡ k = omega arith in ap (λ x. p x && true) f ∙ ap (λ b. b && true) t
 all_next p a (suc n) k e h t =
-    let parts = both_true (p a) (list_all p (range_with_len (a + 1) n)) h in
+    let parts = and_parts (p a) (list_all p (range_with_len (a + 1) n)) h in
     let rest = all_next p (a + 1) n k (omega arith) parts.1 t in
     let m : suc n + 1 ≡ suc (n + 1) = omega arith in
     ap (λ x. list_all p (range_with_len a x)) m ∙ ap (λ b. b && list_all p (range_with_len (a + 1) (n + 1))) parts.0 ∙ rest
