@@ -1,16 +1,13 @@
 -- One data page is received.
-use Rattle.std.proofs.Common.{◌≡◌, ℕ, ◌<◌, ◌≤◌, Bool, true, false, ◌&&◌, List, length, Some, refl, sym, subst, ◌∙◌, cond}
+use Rattle.std.proofs.Common.{◌≡◌, ℕ, ◌<◌, ◌≤◌, Bool, true, false, ◌&&◌, List, Some, sym, subst, ◌∙◌, cond}
 use Rattle.sha2.specs.Sha256.{sha256}
-use Rattle.dg_base.specs.Crc.{crc_of}
-use Rattle.std.specs.Prelude.{◌==◌}
-use Rattle.std.proofs.lemmas.Bool.{eqb-true}
 use Rattle.dg_nor.specs.Chip.{Touches}
 use Rattle.dg_nor.specs.Device.{Device, Ran, Halts}
 use Rattle.dg_nor.specs.Trail.{resting, stepping}
 use Rattle.dg_nor.proofs.TrailLemmas.{operations-resting, last-resting, Leaves-resting}
 use Rattle.dg_slot.specs.Layout.{header_sector, slot_end, page_operations}
-use Rattle.dg_slot.specs.Kept.{Held, KeepsImage, with_page, kept_crc}
-use Rattle.dg_slot.specs.Fits.{may_seal, first_fits}
+use Rattle.dg_slot.specs.Kept.{Held, KeepsImage, with_page}
+use Rattle.dg_slot.specs.Fits.{may_seal}
 use Rattle.dg_slot.specs.Jobs.{Opens, IsOpen, outline_told, SlotStops}
 use Rattle.dg_slot.specs.declared.states.OpenSlot.{OpenSlot}
 use Rattle.dg_volume.specs.Sizes.{images}

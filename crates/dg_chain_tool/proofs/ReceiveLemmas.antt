@@ -34,7 +34,7 @@ use Rattle.dg_tool.specs.Endings.{Ending}
 use Rattle.dg_tool.specs.Verbs.{have_text, inject_cause}
 use Rattle.dg_tool.specs.Done.{Went, NeedsBoard, NeedsInput}
 use Rattle.dg_base.specs.declared.answers.Status.TheVariants as statuses
-use Rattle.dg_tool.specs.Stops.{Makes, OnStore, stop_status, stop_text, result_status, result_text}
+use Rattle.dg_tool.specs.Stops.{Makes, OnStore, result_status, result_text}
 use Rattle.dg_tool.proofs.ComesLemmas.{made_comes, refused_comes, breaks_comes, stopped_comes, halts_stopped}
 use Rattle.dg_volume.proofs.ReadLemmas.{Looked-none}
 use Rattle.dg_tool.proofs.VerbLemmas.{looked_same}

@@ -1,19 +1,12 @@
 //! Pages of an image that is received, one after the other, each compared with the digest that is expected of it.
-ghost use Rattle.std.specs.Prelude.{◌≡◌, ◌≢◌, ◌⊎◌, ℕ, ◌<◌, ◌≤◌, ◌+◌, true, false, OnOk, OnErr, IfOk, Some, drop, length};
-ghost use Rattle.dg_nor.specs.Chip.{Touches};
-ghost use Rattle.dg_nor.specs.Device.{Ran};
-ghost use Rattle.dg_nor.specs.Trail.{stepping};
+ghost use Rattle.std.specs.Prelude.{◌≡◌, ℕ, ◌<◌, ◌≤◌, false, OnOk, Some, drop, length};
 ghost use Rattle.dg_object.specs.Object.{pages_for, object};
-ghost use Rattle.dg_slot.specs.Layout.{page_operations, header_sector, slot_end};
-ghost use Rattle.dg_slot.specs.Kept.{Held, with_page};
-ghost use Rattle.dg_slot.specs.Fits.{may_seal};
-ghost use Rattle.dg_slot.specs.Jobs.{IsOpen, outline_told, SlotStops};
+ghost use Rattle.dg_slot.specs.Kept.{Held};
 ghost use Rattle.dg_volume.specs.Sizes.{images};
 ghost use Rattle.dg_volume.specs.Store.{Store, held};
 ghost use Rattle.dg_volume.specs.Stands.{Mounted, IsMounted, is_lent};
-ghost use Rattle.dg_volume.specs.Changes.{paged, FitsNext, FitAll};
+ghost use Rattle.dg_volume.specs.Changes.{FitAll};
 ghost use Rattle.dg_volume.specs.Filling.{new_row};
-ghost use Rattle.dg_volume.specs.Acts.{Acted, Stops};
 ghost use Rattle.dg_chain.specs.Checking.{first_break};
 ghost use Rattle.dg_chain_tool.specs.Receiving.{expected, foreign_from, first_foreign};
 ghost use Rattle.dg_chain_tool.specs.Filling.{FitsData, NextEnds, fill_to, FillEnds};
