@@ -40,7 +40,7 @@ use Rattle.dg_mote.proofs.RowLemmas.{few_complete}
 use Rattle.dg_mote.proofs.AdvertLemmas.{no_places, none_came, no_packet}
 use Rattle.dg_mote.proofs.RoundTicks.{spot_of, ticked_by, tick_by_mode, not_clearing, asks_now}
 use Rattle.dg_mote.proofs.RoundTake.{none_yet}
-use Rattle.dg_mote.proofs.RoundNext.{found, asked_store, IsNext, next_by, keeps_better, kept_better, same_kept_better}
+use Rattle.dg_mote.proofs.RoundNext.{found, asked_store, IsNext, next_by, can_order, kept_better, same_kept_better}
 
 -- ---- what it hears
 
@@ -57,7 +57,7 @@ pub record ActLaws : Type 0 where
 module _ (laws : ActLaws) where
   last_better : (s : Store) (o : Order) → last (better_trail s o) ≡ kept_better s o
   unfolding better_trail
-  last_better s o = by (keeps_better s o)
+  last_better s o = by (can_order s o)
     where
       by : (b : Bool) → last (cond b (order_trail s o) (resting s 0)) ≡ cond b (ordered s o) s
       by true = laws.order s o
@@ -120,7 +120,7 @@ module _ (laws : ActLaws) where
 
     ahead_same : ahead_in entries s1 ≡ ahead_in entries x.store
     unfolding ahead_in
-    ahead_same = ap (λ ks. find (λ i. advertiser_ahead (entry_for entries i) (get_or ks i None)) (named entries)) (same_kept_better (keeps_better x.store order) x.store order).kept
+    ahead_same = ap (λ ks. find (λ i. advertiser_ahead (entry_for entries i) (get_or ks i None)) (named entries)) (same_kept_better (can_order x.store order) x.store order).kept
 
     abbrev e_of : ℕ → Entry
     e_of i = entry_for entries i
@@ -225,7 +225,7 @@ asks_law laws table x now id s i w d a other is room =
     let ahead = fo.ahead in
     let order = own_order x.mote.wide s in
     let st = kept_better x.store order in
-    let keeps = same_kept_better (keeps_better x.store order) x.store order in
+    let keeps = same_kept_better (can_order x.store order) x.store order in
     let agreed = does_ask laws x now id s d.timer i d other d.maintains is room in
     let f = asked_store st i (entry_by (Some ahead)) in
     let same = hears_asks laws x now id s d.timer i ahead other d.maintains is agreed fo.entry in

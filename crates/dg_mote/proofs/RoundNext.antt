@@ -142,11 +142,11 @@ next_by (Some h) s i ahead is there e =
 
 -- ---- the order is kept_better before
 
-abbrev pub keeps_better : Store → Order → Bool
-keeps_better s o = ltb s.order.number o.number && leb 1 s.room
+abbrev pub can_order : Store → Order → Bool
+can_order s o = ltb s.order.number o.number && leb 1 s.room
 
 abbrev pub kept_better : Store → Order → Store
-kept_better s o = cond (keeps_better s o) (ordered s o) s
+kept_better s o = cond (can_order s o) (ordered s o) s
 
 -- an order changes nothing of this
 pub record SameBut (s t : Store) : Type 0 where
