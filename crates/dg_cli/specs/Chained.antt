@@ -36,7 +36,7 @@ check_rule boards image root =
 pub record Checked (status : Status) (image : ℕ) (root : List ℕ) (before after : ToolOutside) : Type 0 where
   pub done : ToolDone status (check_rule before.boards image root) ⊥ before after
   -- Whatever made the board's bytes: pages that pass for the root of a payload are its pages,
-  -- or two that differ at one place have one digest.
+  -- or two of one index that differ have one digest.
   pub named : (x : List ℕ) (s : Store) (h : Held) → IsPayload x → root ≡ root_of x → FirstAs before.boards (Some s)
       → held s image ≡ Some h → status ≡ Done → (drop 1 h.complete ≡ chain x) ⊎ Collision (drop 1 h.complete) (chain x)
   -- Its own pages pass, and its length is told.

@@ -37,7 +37,7 @@ use Rattle.dg_cli.specs.Chained.{root_in, Checked, WrappedDone, ReceivedDone}
 
 -- ---- serving
 
--- The network that the input spells was served over the link, by the clock, with the words of the seed.
+-- The network that the input spells was served over the link, by the clock, with the draws of the seed.
 pub record ServeDone (turns seed : ℕ) (status : Status) (a b : Surroundings) : Type 0 where
   pub served : NetworkServed status seed turns (around_service a.here.left a.here.reads (outside_of a))
       (around_service b.here.left b.here.reads (outside_of b))

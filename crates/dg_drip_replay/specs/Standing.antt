@@ -15,7 +15,7 @@ use Rattle.dg_drip_replay.specs.declared.report.DripReport.{DripReport}
 abbrev pub node_at : List Node → ℕ → Node
 node_at nodes m = slice_index_or nodes m (new_node 0 0 0)
 
--- Its nodes keep what those of the network keep, and each has its place as its number.
+-- Its nodes keep what those of the network keep, and each has its position as its number.
 pub record Stands (d : DripNetwork) (w : Network) : Type 0 where
   pub moment : d.moment ≡ w.moment
   pub links : d.links.items ≡ w.links

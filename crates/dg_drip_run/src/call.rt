@@ -101,8 +101,8 @@ fn read_and_play<S: Source, K: Sink>(alloc: Global, input: &mut S, out: &mut K) 
 /// Replays the script that `input` spells over nodes that keep nothing at first, and writes the report to `out`. A status
 /// other than [`Status::Done`] writes its line last, where it has one.
 ///
-/// The input is read line by line, and what a line tells is written before the next one is asked for. No more than a million
-/// events are played, and no more than 16,777,216 bytes of the input are used.
+/// The input is read line by line, and what is reported of a line is written before the next one is asked for. No more than a
+/// million events are played, and no more than 16,777,216 bytes of the input are used.
 pub fn drip<S: Source, K: Sink>(alloc: Global, input: &mut S, out: &mut K) -> Status
     // The bytes written are the report of the run of the script's events from nodes that keep nothing, and each status comes
     // where the rules say.

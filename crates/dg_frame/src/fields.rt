@@ -60,7 +60,7 @@ pub(crate) fn set_at(bytes: &[u8], at: usize) -> PageBits<PACKETS>
     PageBits::from_bytes(&bytes[at..at + SET_BYTES]).unwrap()
 }
 
-/// Appends bytes for which there is room.
+/// Appends bytes for which there is capacity.
 pub(crate) fn put(frame: &mut Frame, bytes: &[u8])
     requires { array_vec_len frame.old + length bytes.now ≤ frame_bytes }
     ensures items { frame.new.items ≡ frame.old.items ++ bytes.now }

@@ -145,12 +145,14 @@ impl Mote {
         }
     }
 
+    /// Its volume.
     pub fn volume(&self) -> &Volume
         ensures { result.now ≡ volume_of self.now }
     {
         &self.volume
     }
 
+    /// Its number.
     pub fn id(&self) -> u16
         ensures { result ≡ id_told self.now }
     {

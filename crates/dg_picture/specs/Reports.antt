@@ -31,7 +31,7 @@ reported mote image kept (Have m i version count) =
 reported mote image kept (Lost m i) = if m == mote && i == image then nothing else kept
 reported mote image kept _ = kept
 
--- the last state that is told of an image at a mote
+-- the last state that is reported of an image at a mote
 abbrev pub last_reported : (mote image : ℕ) → List Report → Pages
 last_reported mote image reports = fold (reported mote image) nothing reports
 

@@ -219,7 +219,7 @@ pub record LacksBoards (line : Line) (motes boards : ℕ) (initial old new : Lis
   pub same : new ≡ old
 
 -- What playing a line answers, from a player and boards that stand for the world behind other lines. The boards and what is
--- told were a before it, and are b then.
+-- reported were a before it, and are b then.
 abbrev pub PlayedAs : Basis → Result (Unit {0}) Stop → Player → (behind : DoneSoFar) → Line → (a b : BoardsReported) → Type 0
 PlayedAs basis (Ok u) q behind line a b = PlayedLine basis q behind line a.told b
 PlayedAs basis (Err Memory) q behind line a b =

@@ -18,7 +18,8 @@ use Rattle.dg_replay.specs.Items.{IsNoFrame, UsesBoards, beginning_of}
 use Rattle.dg_replay.specs.Replayed.{Progress}
 
 -- Each frame from outside is honest by the table of its moment. Where the boards are used as they are, what they stood for
--- agrees with the table, and no key of that table is injected with another content. A script with golden meets that.
+-- agrees with the table, and no image version of that table is injected with another content. A script with golden
+-- meets that.
 pub record FramesAreHonest {table : List Row} {script : Script} (c : Progress table script) : Type 0 where
   pub frames : AllByRecursion IsHonestThen c.played
   pub agree : UsesBoards c.done → StoresAgree c.ground.table c.ground.stores

@@ -24,7 +24,7 @@ use dg_script::{Report, write_report};
 use dg_world::{DeclareFault, World, WorldFault};
 use std::alloc::AllocError;
 
-/// The buffers of a line.
+/// What is reported of a line that is played, in buffers that the next line uses again.
 #[derive(Drop)]
 pub struct LineReport {
     /// What one item of it reports.

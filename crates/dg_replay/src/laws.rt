@@ -30,7 +30,7 @@ pub fn first_lines_are_read_the_same()
 {}
 
 /// However far a script was played: where each frame from outside is honest by the table of its moment, and boards that
-/// are used as they are agree with a table no key of which is injected with another content, each step is
+/// are used as they are agree with a table no image version of which is injected with another content, each step is
 /// legal, no version falls, what starts is a row of the table, and the chips, the motes that are on and the frames that
 /// were sent agree with the table, and so does the store of each half-done chip, wherever a stop comes in the next event.
 /// Lines that bring no frame meet that. Each round of two wide motes, or of two narrow ones, brought a page to one that was

@@ -40,7 +40,7 @@ abbrev pub AreShaped : List Store → Type 0
 AreShaped stores = (m : ℕ) → m < length stores → IsShaped (store_of stores m)
 
 -- An event holds to a table: a frame that it brings from outside is honest by the table of its moment, and a row that it
--- injects is this table's, where this table has its key.
+-- injects is this table's, where this table has its image version.
 abbrev pub HoldsTo : List Row → World → Event → Type 0
 HoldsTo table w (Tick mote dt draw) = Unit {0}
 HoldsTo table w (Hear mote dt draw frame) = Unit {0}

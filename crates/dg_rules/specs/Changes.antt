@@ -61,7 +61,7 @@ is_reported reported report = true
 abbrev pub same_row : Row → Row → Bool
 same_row a b = same_bytes a.name b.name && same_bytes a.bytes b.bytes
 
--- the key is declared with another name or content
+-- the image version is declared with another name or content
 abbrev pub is_taken : Option Row → Row → Bool
 is_taken None row = false
 is_taken (Some kept) row = not (same_row kept row)

@@ -65,7 +65,7 @@ HonestEvent table (Frame mote dt draw bytes) = IsHonest table bytes
 HonestEvent table event = Unit {0}
 
 -- An event is true in a world: a frame that it brings from outside is honest by the table before it, and a row that it
--- injects is the table's, where the table has its key
+-- injects is the table's, where the table has its image version
 abbrev pub TrueEvent : World → Event → Type 0
 TrueEvent w (Tick mote dt draw) = Unit {0}
 TrueEvent w (Hear mote dt draw frame) = Unit {0}

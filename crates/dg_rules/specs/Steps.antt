@@ -79,8 +79,8 @@ abbrev pub declared_as : Option Row → World → Row → World
 declared_as None w row = record w { declared = w.declared ++ row ∷ [] }
 declared_as (Some kept) w row = w
 
--- A row is declared: it is added where its key is not there. Where the key has another name or content,
--- that is reported and nothing changes
+-- A row is declared: it is added where its image version is not there. Where that has another name or content,
+-- this is reported and nothing changes
 pub record DeclareStep (w : World) (row : Row) (v : World) (reports : List Report) : Type 0 where
   pub world : v ≡ declared_as (row_at w.declared row.image row.version) w row
   pub told : reports ≡ declared_lines (row_at w.declared row.image row.version) row

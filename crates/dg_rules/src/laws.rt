@@ -57,9 +57,9 @@ pub fn what_a_cut_leaves_agrees()
 {}
 
 /// A world that agrees with its table still does after a step, also a cut one, where a frame from outside is honest and
-/// what is injected is the table's row where the table has its key, and after a declaration. Wherever a stop comes in such an
-/// event, each store that the chip may then stand for agrees with the table behind the event. And no moment of a mote that is
-/// on is later than the world's, whatever frames come.
+/// what is injected is the table's row where the table has its image version, and after a declaration. Wherever a stop comes
+/// in such an event, each store that the chip may then stand for agrees with the table behind the event. And no moment of a
+/// mote that is on is later than the world's, whatever frames come.
 pub fn agreement_is_kept()
     ensures stepped { (w v : World) (x : Step) (reports : List Report) → WorldAgrees w → StepInRange (length w.sites) x
         → TrueEvent w x.event → WorldStep w x v reports → WorldAgrees v }
@@ -198,8 +198,8 @@ pub fn scripts_with_golden()
 }
 
 /// A script over chips as they stand, which agree with a table. Where each event holds to it, so that each frame from
-/// outside is honest and no key of the table is injected with another content, each step is legal, versions do not fall,
-/// what starts is a row of the table, and the chips, the motes that are on and the frames that were sent agree with the
+/// outside is honest and no image version of the table is injected with another content, each step is legal, versions do not
+/// fall, what starts is a row of the table, and the chips, the motes that are on and the frames that were sent agree with the
 /// table; and where the next event holds to it too, then wherever a stop comes in it, each store that the chip may then
 /// stand for agrees with the table behind it.
 pub fn scripts_with_boards()

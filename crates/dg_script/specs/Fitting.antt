@@ -33,7 +33,7 @@ pub record FitsCut (cut : CutOfPower) : Type 0 where
   pub fits : cut.after < 2 ^ 32
   pub bytes : AreBytes cut.mask
 
--- the step of time and the word of each event are of 32 bits
+-- the time and the draw of each event are of 32 bits
 pub record IsTimed (d w : ℕ) : Type 0 where
   pub dt : d < 2 ^ 32
   pub draw : w < 2 ^ 32

@@ -1,4 +1,5 @@
--- The ranges of what is declared and of what happens: of rows, events, cuts and steps. Each range stands here alone.
+-- The ranges of what is declared and of what is applied: of rows, events, cuts and steps. Each of these stands here alone;
+-- that the other numbers of a line are of 32 bits is said in Fitting.
 use Rattle.std.specs.Prelude.{◌≢◌, ℕ, ◌<◌, ◌≤◌, ◌^◌, IsTrue, List, length, IfSome}
 use Rattle.dg_words.specs.Cells.{AreBytes}
 use Rattle.dg_base.specs.Texts.{spells_name}
@@ -36,7 +37,7 @@ pub record IsFrame (content : List ℕ) : Type 0 where
   pub few : length content ≤ longest_frame
   pub bytes : AreBytes content
 
--- an event is at one of so many motes
+-- an event is at one of so many motes, and what it names, brings or orders is in its range
 abbrev pub EventInRange : ℕ → Event → Type 0
 EventInRange motes (Tick mote dt draw) = mote < motes
 EventInRange motes (Hear mote dt draw frame) = (mote < motes) × (1 ≤ frame)

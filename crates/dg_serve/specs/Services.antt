@@ -100,7 +100,7 @@ pub record Steps (motes : ℕ) (s : Moment) (event : Event) (t : Moment) : Type 
   pub same_draws : t.draws ≡ s.draws
   pub inboxes : t.inboxes ≡ option_map (handed t.world motes (new_frames s.world t.world)) s.inboxes
 
--- The event of this time and draw happened.
+-- The clock was read, and the event of this time and draw was applied.
 pub record EventApplied (motes : ℕ) (s : Moment) (event : (dt draw : ℕ) → Event) (done : List Event) (t : Moment) : Type 0 where
   pub dt : ℕ
   pub draw : ℕ

@@ -30,7 +30,7 @@ pub enum Stop {
 /// The disturbances of each mote.
 const DISTURBANCES: u32 = 100;
 
-/// Plays an event with the cut that waits for it. What it tells is dropped.
+/// Plays an event with the cut that waits for it. What is reported of it is dropped.
 fn play_step<N: Nor>(
     world: &mut World,
     event: &Event,

@@ -179,7 +179,7 @@ impl Volume {
     }
 }
 
-/// Why an image is refused, wherever its version is not the one that is kept.
+/// Why an image is refused, if it is, wherever its version is not the one that is kept. Of that one [`is_other`] tells.
 pub fn injection_fault(
     kept: Option<Kept>,
     image: u8,
@@ -209,7 +209,8 @@ pub fn injection_fault(
     }
 }
 
-/// Whether what is kept of a version is another image: it has another profile, or another page 0.
+/// Whether what is kept of a version is another image: it has another profile, or another page 0. `Stopped` where the board
+/// stops as that page is read.
 pub fn is_other<N: Nor>(nor: &mut N, new: &NewImage<'_>, kept: &Kept) -> Result<bool, Stopped>
     ensures other { IfOk result (λ other. (h : Held) → KeepsImage (N.device nor.old).image new.now.image h
         → told_held h ≡ kept.now

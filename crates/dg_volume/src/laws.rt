@@ -289,7 +289,7 @@ pub fn a_row_is_filled_page_by_page()
     a_descriptor_is_tested();
 }
 
-/// What is found in a table of images is a row with that key, it is sound, and its pages may be sealed one after the
+/// What is found in a table of images is a row of that image version, it is sound, and its pages may be sealed one after the
 /// other.
 pub fn a_table_holds_sound_rows()
     ensures key { (table : List Row) (image version : ℕ) (row : Row) → row_at table image version ≡ Some row

@@ -7,7 +7,8 @@ use crate::layout::PAGE_SIZE;
 use dg_base::crc16;
 use dg_object::{Profile, page_of, pages_of};
 
-/// A version of an image, with its name and its bytes.
+/// A version of an image, with its name and its bytes: an image from 0 to 6, a version from 1 on, a name of 1 to 16 bytes, and
+/// 1 to 70,656 bytes.
 #[derive(Drop)]
 pub struct NewImage<'a> {
     pub image: u8,

@@ -1,12 +1,12 @@
--- A part of a list, and one list written over another from a place on. Both are opaque in proofs: the
+-- A part of a list, and one list written over another from an offset on. Both are opaque in proofs: the
 -- lists are long, and `proofs/CellLemmas.antt` has what follows.
 use Rattle.std.specs.Prelude.{ℕ, ◌+◌, ◌<◌, List, ◌++◌, length, take, drop, slice_index}
 
--- the n elements from place `at` on
+-- the n elements from offset `at` on
 unfoldable pub part : List ℕ → ℕ → ℕ → List ℕ
 part xs at n = take n (drop at xs)
 
--- xs, with bs over what stands from place `at` on
+-- xs, with bs over what stands from offset `at` on
 unfoldable pub overwritten : List ℕ → ℕ → List ℕ → List ℕ
 overwritten xs at bs = take at xs ++ bs ++ drop (at + length bs) xs
 

@@ -48,7 +48,7 @@ ended_as (Ok power.Stays) t = Ok (Whole (turn_of t))
 ended_as (Ok power.Cut) t = Ok (Cut t.before)
 ended_as (Err f) t = Err (halt_of f t.before)
 
--- the frame that a step sends which is told so, if it does
+-- the frame that a step sends which has this outcome, if it sends one
 abbrev pub stepped : {T : Type 0} → Result T Fault → Outcome → Result (Option (List ℕ)) Halt
 stepped (Ok x) t = Ok (sent_in t.outbox)
 stepped (Err f) t = Err (halt_of f t.before)

@@ -21,8 +21,8 @@ use dg_rules::{Cut, Event, Report, agreement_is_kept, consistency_is_kept};
 use dg_script::MOST_EVENTS;
 
 impl World {
-    /// One step: an event, and the cut that waits for it. What it tells is appended, its `sent` line only where `reported` is
-    /// true.
+    /// One step: an event, and the cut that waits for it. What is reported of it is appended, its `sent` line only where
+    /// `reported` is true.
     pub fn apply<N: Nor>(
         &mut self,
         boards: &mut Vec<N>,

@@ -21,7 +21,7 @@ pub(crate) struct ChipReport {
     pub(crate) kept: [Option<Kept>; IMAGES],
 }
 
-/// What a volume tells of its chip.
+/// What is reported of a chip, as its volume tells it.
 pub(crate) fn report_chip(volume: &Volume) -> ChipReport
     ensures { (s : Store) → Tells volume.now s → IsReportOf result s }
 {
