@@ -40,7 +40,7 @@ not_feed bytes h k d within = ne_eqb (get_or bytes k d) 10 (h k d within)
 
 -- the text of one more line
 one_text : (text line : List ℕ) → IsLine text line → lines line ≡ text ∷ []
-one_text text line l = ap lines l.ended ∙ lines-ended l.before [] (not_feed l.before l.whole) ∙ ap (λ (t : List ℕ). t ∷ []) (sym l.line_report)
+one_text text line l = ap lines l.ended ∙ lines-ended l.before [] (not_feed l.before l.whole) ∙ ap (λ (t : List ℕ). t ∷ []) (sym l.told)
 
 pub texts_next : (front text line : List ℕ) (more : List (List ℕ)) → IsFront front → IsLine text line → lines (front ++ line) ++ more ≡ lines front ++ text ∷ more
 texts_next front text line more is l =

@@ -119,7 +119,7 @@ not_feed bytes h k d within = ne_eqb (get_or bytes k d) 10 (h k d within)
 pub last_text : (front text line : List ℕ) → IsFront front → IsLastLine text line → lines (front ++ line) ≡ lines front ++ text ∷ []
 last_text front text line is l =
     lines_front front line is
-    ∙ ap (λ (ls : List (List ℕ)). lines front ++ ls) (lines-last line (not_feed line l.whole) (some_of line l.some) ∙ ap (λ (t : List ℕ). t ∷ []) (sym l.line_report))
+    ∙ ap (λ (ls : List (List ℕ)). lines front ++ ls) (lines-last line (not_feed line l.whole) (some_of line l.some) ∙ ap (λ (t : List ℕ). t ∷ []) (sym l.told))
   where
     some_of : (xs : List ℕ) → xs ≢ [] → 0 < length xs
     some_of [] some = absurd (some refl)

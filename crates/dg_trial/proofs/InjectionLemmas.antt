@@ -206,7 +206,7 @@ module _ (name bytes : List ℕ) where
 
     pub is_injected : Injected u v
     is_injected = record {
-      good = laws.agrees u v (uncut (Inject 0 1 1 0 0)) reports good (record { event = (there, lit< tt, lit≤ tt); cut = tt }) (true_injection u table) did;
+      good = laws.agrees u v (uncut (Inject 0 1 1 0 0)) reports good (record { event = (there, record { image = lit≤ tt; version = lit≤ tt }); cut = tt }) (true_injection u table) did;
       table = ap (λ (z : World). z.table) world_is.1 ∙ ap (λ (rows : List Row). with_row rows row) table ∙ table_more;
       links = ap (λ (z : World). z.links) world_is.1;
       narrow = ap (λ (z : World). z.narrow) world_is.1;
