@@ -13,7 +13,7 @@ ghost use Rattle.dg_world.specs.declared.chip_report.ChipReport.{ChipReport};
 use crate::events::{dt_at, mote_at};
 use crate::knowing::{is_watched, known_after, makes_known, note};
 use crate::occasion::Occasion;
-use crate::outcome::{Fault, Outcome};
+use crate::outcome::Fault;
 use crate::stepping::{MOST_LINES, step_at};
 use crate::world::{World, WorldFault};
 use dg_nor::Nor;
@@ -39,8 +39,6 @@ impl World {
     {
         consistency_is_kept();
         agreement_is_kept();
-        // made before any return, so that its memory is filled once
-        let mut outcome = Outcome::new();
         if self.events >= MOST_EVENTS {
             return Err(WorldFault::TooMany);
         }
@@ -50,6 +48,7 @@ impl World {
         if out.reserve(MOST_LINES).is_err() {
             return Err(WorldFault::Memory);
         }
+        self.outcome.clear();
         let mote = mote_at(event);
         let index = usize::from(mote);
         let moment = self.moment + u64::from(dt_at(event));
@@ -64,12 +63,12 @@ impl World {
             known,
             reported,
         };
-        match step_at(&occasion, runs, event, cut, board, &mut outcome, out) {
+        match step_at(&occasion, runs, event, cut, board, &mut self.outcome, out) {
             Ok(()) => {
                 self.moment = moment;
                 self.events += 1;
-                self.shared.air.send(mote, &mut outcome.outbox);
-                let orderly = known_after(runs, outcome.orderly, is_watched(known, makes));
+                self.shared.air.send(mote, &mut self.outcome.outbox);
+                let orderly = known_after(runs, self.outcome.orderly, is_watched(known, makes));
                 note(&mut self.known, mote, orderly);
                 Ok(())
             }

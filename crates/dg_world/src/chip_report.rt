@@ -16,7 +16,7 @@ pub(crate) const MOST_CHANGES: usize = IMAGES + 1;
 
 /// What is reported of a chip: the order, and what is kept of each image.
 #[derive(Clone, Copy, Debug, PartialEq, Eq)]
-pub(crate) struct ChipReport {
+pub struct ChipReport {
     pub(crate) order: Order,
     pub(crate) kept: [Option<Kept>; IMAGES],
 }

@@ -21,6 +21,7 @@ ghost use Rattle.dg_world.specs.Known.{known_of};
 use crate::air::Air;
 use crate::images::{Image, Images};
 use crate::links::{Links, MOST_MOTES};
+use crate::outcome::Outcome;
 use crate::shared::{Shared, mark};
 use crate::world::{DeclareFault, RunningMote, World};
 use dg_base::Bytes;
@@ -71,6 +72,7 @@ impl World {
             },
             motes,
             known: PageBits::none(),
+            outcome: Outcome::new(),
         }
     }
 

@@ -1,4 +1,6 @@
 //! What comes of an event at a mote.
+ghost use Rattle.std.specs.Prelude.{◌≡◌, None};
+ghost use Rattle.dg_mote.specs.Motes.{sent_in};
 ghost use Rattle.dg_world.specs.Outcomes.{IsNothing};
 
 use crate::chip_report::ChipReport;
@@ -7,7 +9,7 @@ use dg_rules::{Cause, ImageVersion};
 
 /// An image that was started.
 #[derive(Clone, Copy, Debug, PartialEq, Eq)]
-pub(crate) struct StartLine {
+pub struct StartLine {
     pub(crate) image_version: ImageVersion,
     pub(crate) length: u32,
     pub(crate) crc: u16,
@@ -16,7 +18,7 @@ pub(crate) struct StartLine {
 /// What comes of an event. It is filled in as the event goes on, where it stands: of most events little comes, and all of
 /// this is large.
 #[derive(Drop)]
-pub(crate) struct Outcome {
+pub struct Outcome {
     /// Why the event was refused.
     pub(crate) refused: Option<Cause>,
     /// What is reported of the chip before the event, where the event may make something else of it.
@@ -43,6 +45,34 @@ impl Outcome {
             orderly: None,
             outbox: Outbox::new(),
         }
+    }
+
+    /// Nothing came of the next event yet. What is so already is not written again.
+    pub(crate) fn clear(&mut self)
+        ensures { IsNothing self.new }
+    {
+        clear_value(&mut self.refused);
+        clear_value(&mut self.before);
+        clear_value(&mut self.after);
+        clear_value(&mut self.started);
+        clear_value(&mut self.orderly);
+        clear_outbox(&mut self.outbox);
+    }
+}
+
+fn clear_value<T: Copy>(value: &mut Option<T>)
+    ensures { value.new ≡ None }
+{
+    if value.is_some() {
+        *value = None;
+    }
+}
+
+fn clear_outbox(outbox: &mut Outbox)
+    ensures { sent_in outbox.new ≡ None }
+{
+    if outbox.frame().is_some() {
+        *outbox = Outbox::new();
     }
 }
 

@@ -1,5 +1,6 @@
 //! The world as the code keeps it.
 use crate::links::MOST_MOTES;
+use crate::outcome::Outcome;
 use crate::shared::Shared;
 use dg_bits::PageBits;
 use dg_mote::Mote;
@@ -24,6 +25,8 @@ pub struct World {
     pub(crate) motes: Vec<Option<RunningMote>>,
     /// The motes whose boards are known: they may be mounted again by halving.
     pub(crate) known: PageBits<MOST_MOTES>,
+    /// What comes of an event. It is kept for its memory alone: to fill so many bytes anew takes long beside most events.
+    pub(crate) outcome: Outcome,
 }
 
 /// Why an image is not declared. Nothing has changed.
