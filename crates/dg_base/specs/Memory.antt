@@ -11,7 +11,7 @@ pub record Input : Type 0 where
 -- The bytes written, how many may be written in all, and the same three.
 pub record Output : Type 0 where
   pub written : List ℕ
-  pub room : ℕ
+  pub limit : ℕ
   pub failing : List ℕ
   pub calls : ℕ
   pub faults : ℕ

@@ -13,7 +13,7 @@ longest_mask = 2048
 abbrev pub most_motes : ℕ
 most_motes = 16
 
--- the greatest port of the first mote of a network. The others have those that follow, so it leaves room for them
+-- the greatest port of the first mote of a network. The others have those that follow, so it is below the greatest port of all
 abbrev pub greatest_port : ℕ
 greatest_port = 65500
 

@@ -89,14 +89,14 @@ impl Source for MemSource {
     }
 }
 
-/// An output in memory of `room` bytes at most, which it takes when it is made.
+/// An output in memory of `limit` bytes at most, for which it takes memory when it is made.
 ///
 /// A write fails exactly where its number is listed or the piece does not fit into the rest of the
-/// room, and then appends nothing. Writes are numbered as the reads of [`MemSource`].
+/// limit, and then appends nothing. Writes are numbered as the reads of [`MemSource`].
 #[derive(Drop)]
 pub struct MemSink {
     bytes: Vec<u8>,
-    room: usize,
+    limit: usize,
     failing: Vec<u32>,
     calls: u32,
     faults: u64,
@@ -110,27 +110,27 @@ impl Model for MemSink {
 
     ghost view = { λ s. record {
       written = s.bytes.items;
-      room = s.room;
+      limit = s.limit;
       failing = s.failing.items;
       calls = s.calls;
       faults = s.faults;
     } };
 
-    ghost invariant = { λ s. (vec_len s.bytes ≤ s.room) × (s.room ≤ vec_capacity s.bytes) };
+    ghost invariant = { λ s. (vec_len s.bytes ≤ s.limit) × (s.limit ≤ vec_capacity s.bytes) };
 }
 
 impl MemSink {
-    /// An empty output with `room` bytes of room, whose writes with the numbers `failing` fail.
-    pub fn new(alloc: Global, room: usize, failing: Vec<u32>) -> Result<MemSink, AllocError>
+    /// An empty output of `limit` bytes at most, whose writes with the numbers `failing` fail.
+    pub fn new(alloc: Global, limit: usize, failing: Vec<u32>) -> Result<MemSink, AllocError>
         ensures written { IfOk result (λ sink. sink.written ≡ []) }
-        ensures room { IfOk result (λ sink. sink.room ≡ room) }
+        ensures limit { IfOk result (λ sink. sink.limit ≡ limit) }
         ensures failing { IfOk result (λ sink. sink.failing ≡ failing.items) }
         ensures calls { IfOk result (λ sink. sink.calls ≡ 0) }
         ensures faults { IfOk result (λ sink. sink.faults ≡ 0) }
     {
         Ok(MemSink {
-            bytes: Vec::with_capacity(alloc, room)?,
-            room,
+            bytes: Vec::with_capacity(alloc, limit)?,
+            limit,
             failing,
             calls: 0,
             faults: 0,
@@ -158,9 +158,9 @@ impl Sink for MemSink {
 
         // The calls with a listed number fail, those whose piece does not fit, and no others.
         ensures fails { IsErr result ↔ (Contains self.old.failing (self.old.calls + 1)
-            ⊎ (self.old.room < length self.old.written + length bytes.now)) }
+            ⊎ (self.old.limit < length self.old.written + length bytes.now)) }
         ensures nothing { OnErr result (self.new.written ≡ self.old.written) }
-        ensures room { self.new.room ≡ self.old.room }
+        ensures limit { self.new.limit ≡ self.old.limit }
         ensures listed { self.new.failing ≡ self.old.failing }
         ensures numbered { self.new.calls ≡ min (self.old.calls + 1) (2 ^ 32 - 1) }
         ensures unfailed { OnOk result (self.new.faults ≡ self.old.faults) }
@@ -168,7 +168,7 @@ impl Sink for MemSink {
     {
         let failed = is_failing(&self.failing, self.calls);
         self.calls = self.calls.saturating_add(1);
-        let fits = !failed && bytes.len() <= self.room - self.bytes.len();
+        let fits = !failed && bytes.len() <= self.limit - self.bytes.len();
         if fits && self.bytes.extend_from_slice(bytes).is_ok() {
             return Ok(());
         }

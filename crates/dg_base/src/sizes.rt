@@ -7,7 +7,7 @@ use crate::events::{LONGEST_FRAME, LONGEST_MASK};
 /// The most motes of a network.
 pub const MOST_MOTES: u8 = 16;
 
-/// The greatest port of the first mote of a network. The others have those that follow, so it leaves room for them.
+/// The greatest port of the first mote of a network. The others have those that follow, so it is below the greatest port of all.
 pub const GREATEST_PORT: u16 = 65_500;
 
 /// The most bytes of a content that a script or a file gives for an image.

@@ -8,7 +8,7 @@ use Rattle.dg_object.specs.Object.{Row, object, profile, page_of_row}
 use Rattle.dg_slot.specs.Kept.{Held}
 use Rattle.dg_volume.specs.Store.{held, held_whole}
 use Rattle.dg_volume.specs.Sizes.{images}
-use Rattle.dg_volume.specs.Table.{row_at, has_key}
+use Rattle.dg_volume.specs.Table.{row_at, has_version}
 use Rattle.dg_volume.specs.Agreement.{KeepsRow}
 use Rattle.dg_frame.specs.Sizes.{known_images, narrow_images, wide_images}
 use Rattle.dg_rules.specs.World.{World, is_wide_mote, wide_at, store_at, linked}
@@ -20,7 +20,7 @@ use Rattle.dg_base.specs.declared.events.Event.{Event}
 use Rattle.dg_completion.proofs.GrowLemmas.{grows_none, grows_then, free_grows, rounds_free, all_map}
 use Rattle.dg_completion.proofs.RestLemmas.{times_add}
 use Rattle.dg_completion.proofs.PipelineLemmas.{Rested, Level, IsLink, pipeline, pipeline_on}
-use Rattle.dg_completion.proofs.NewestLemmas.{found_key, newest_in, count}
+use Rattle.dg_completion.proofs.NewestLemmas.{found_version, newest_in, count}
 use Rattle.dg_completion.proofs.RaiseLemmas.{Below, raises}
 
 -- ---- links
@@ -79,7 +79,7 @@ DoneTo i w = (j m : ℕ) (r : Row) → 1 ≤ j → j < i → newest w.table j �
 
 row_image : (table : List Row) (i : ℕ) (r : Row) → newest table i ≡ Some r → r.image ≡ i
 unfolding newest
-row_image table i r e = (found_key table i (largest table i) r e).0
+row_image table i r e = (found_version table i (largest table i) r e).0
 
 done_on : (i : ℕ) (w v : World) → Grows w v → DoneTo i w → DoneTo i v
 done_on i w v g d j m r from less is there =
@@ -107,12 +107,12 @@ found_passes P [] i n row all is = absurd (no_row is)
   where
     no_row : None ≡ Some row → ⊥
     no_row e = cc
-found_passes P (x ∷ xs) i n row all is = elim (cases_Bool (has_key i n x)) [
+found_passes P (x ∷ xs) i n row all is = elim (cases_Bool (has_version i n x)) [
   | inl here ↦
-      let some : Some x ≡ Some row = sym (ap (λ b. cond b (Some x) (find (has_key i n) xs)) here) ∙ is in
+      let some : Some x ≡ Some row = sym (ap (λ b. cond b (Some x) (find (has_version i n) xs)) here) ∙ is in
       let same : x ≡ row = cc in
       subst P same all.0
-  | inr other ↦ found_passes P xs i n row all.1 (sym (ap (λ b. cond b (Some x) (find (has_key i n) xs)) other) ∙ is)
+  | inr other ↦ found_passes P xs i n row all.1 (sym (ap (λ b. cond b (Some x) (find (has_version i n) xs)) other) ∙ is)
 ]
 
 record HasWidth (w : World) : Type 0 where

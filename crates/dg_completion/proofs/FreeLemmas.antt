@@ -19,7 +19,7 @@ use Rattle.dg_mote.specs.Changes.{MayClear}
 use Rattle.dg_mote.specs.Agreement.{HonestMessage}
 use Rattle.dg_mote.specs.Well.{IsWell}
 use Rattle.dg_rules.specs.World.{World, Running, Site, Sent, site, wide_at, store_at, with_site, counted, no_site, linked, frame_at, last_frame}
-use Rattle.dg_rules.specs.Events.{Deed, Does, Refuses, Goes, does, mote_of, dt_of, key_of, tick_does, heard_sent, heard_last, unless_off}
+use Rattle.dg_rules.specs.Events.{Deed, Does, Refuses, Goes, does, mote_of, dt_of, image_version_of, tick_does, heard_sent, heard_last, unless_off}
 use Rattle.dg_rules.specs.Steps.{WorldStep, StepDoes, and_sent}
 use Rattle.dg_rules.specs.Premises.{WorldAgrees, SentIsWell, TrueEvent}
 use Rattle.dg_script.specs.Ranges.{EventInRange, StepInRange}
@@ -121,7 +121,7 @@ going_on r runs e = (r, sym (same_running (Some r) runs e))
 
 starting_on : (o : Option Runs) (id : ℕ) (wide : Bool) (now draw : ℕ) (runs : Option Running) → running_by o id wide now draw ≡ Some runs → (q : Running) × (runs ≡ Some q)
 starting_on None id wide now draw runs e = absurd cc
-starting_on (Some r) id wide now draw runs e = going_on (record { image_version = key_of r; mote = begun_mote id wide now draw }) runs e
+starting_on (Some r) id wide now draw runs e = going_on (record { image_version = image_version_of r; mote = begun_mote id wide now draw }) runs e
 
 module _ (laws : Laws) (w : World) (good : WorldAgrees w) where
   hear_free : (m dt draw : ℕ) (f : Sent) (r : Running) → SentIsWell w.table f

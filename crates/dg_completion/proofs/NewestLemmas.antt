@@ -6,7 +6,7 @@ use Rattle.dg_object.specs.Object.{Row}
 use Rattle.dg_slot.specs.Kept.{Held}
 use Rattle.dg_volume.specs.Changes.{is_version}
 use Rattle.dg_volume.specs.Trails.{done_of}
-use Rattle.dg_volume.specs.Table.{row_at, has_key}
+use Rattle.dg_volume.specs.Table.{row_at, has_version}
 use Rattle.dg_completion.specs.Completion.{newest, largest}
 
 -- a row is the newest of its image, and no row of that image has a larger version than it
@@ -15,33 +15,33 @@ pub record HasNewest (table : List Row) (i v : ℕ) : Type 0 where
   pub is : newest table i ≡ Some row
   pub bound : v ≤ row.version
 
--- what is found has the key
-pub found_key : (rows : List Row) (i n : ℕ) (r : Row) → row_at rows i n ≡ Some r → (r.image ≡ i) × (r.version ≡ n)
-found_key [] i n r e = absurd (no_row r e)
+-- what is found is of the image version
+pub found_version : (rows : List Row) (i n : ℕ) (r : Row) → row_at rows i n ≡ Some r → (r.image ≡ i) × (r.version ≡ n)
+found_version [] i n r e = absurd (no_row r e)
   where
     no_row : (r : Row) → None ≡ Some r → ⊥
     no_row r e = cc
-found_key (x ∷ xs) i n r e = by_key (cases_Bool (has_key i n x)) (found_key xs i n r)
+found_version (x ∷ xs) i n r e = by_version (cases_Bool (has_version i n x)) (found_version xs i n r)
   where
-    by_key : (has_key i n x ≡ true) ⊎ (has_key i n x ≡ false) → (row_at xs i n ≡ Some r → (r.image ≡ i) × (r.version ≡ n)) → (r.image ≡ i) × (r.version ≡ n)
-    by_key (inl k) rest =
+    by_version : (has_version i n x ≡ true) ⊎ (has_version i n x ≡ false) → (row_at xs i n ≡ Some r → (r.image ≡ i) × (r.version ≡ n)) → (r.image ≡ i) × (r.version ≡ n)
+    by_version (inl k) rest =
         let parts = and_parts (eqb x.image i) (eqb x.version n) k in
-        let some : Some x ≡ Some r = sym (ap (λ b. cond b (Some x) (find (has_key i n) xs)) k) ∙ e in
+        let some : Some x ≡ Some r = sym (ap (λ b. cond b (Some x) (find (has_version i n) xs)) k) ∙ e in
         let same : x ≡ r = cc in
         subst (λ (y : Row). (y.image ≡ i) × (y.version ≡ n)) same (eqb-true x.image i parts.0, eqb-true x.version n parts.1)
-    by_key (inr k) rest = rest (sym (ap (λ b. cond b (Some x) (find (has_key i n) xs)) k) ∙ e)
+    by_version (inr k) rest = rest (sym (ap (λ b. cond b (Some x) (find (has_version i n) xs)) k) ∙ e)
 
-skip : (x : Row) (xs : List Row) (i n : ℕ) → has_key i n x ≡ false → row_at (x ∷ xs) i n ≡ row_at xs i n
-skip x xs i n k = ap (λ b. cond b (Some x) (find (has_key i n) xs)) k
+skip : (x : Row) (xs : List Row) (i n : ℕ) → has_version i n x ≡ false → row_at (x ∷ xs) i n ≡ row_at xs i n
+skip x xs i n k = ap (λ b. cond b (Some x) (find (has_version i n) xs)) k
 
--- a row with that key, or nothing was said
+-- a row of that image version, or nothing was said
 abbrev Attained : List Row → ℕ → ℕ → Type 0
 Attained rows i n = (n ≡ 0) ⊎ ((r : Row) × (row_at rows i n ≡ Some r))
 
 attained_more : (x : Row) (xs : List Row) (i n : ℕ) → Attained xs i n → Attained (x ∷ xs) i n
 attained_more x xs i n (inl e) = inl e
-attained_more x xs i n (inr h) = elim (cases_Bool (has_key i n x)) [
-  | inl k ↦ inr (x, ap (λ b. cond b (Some x) (find (has_key i n) xs)) k)
+attained_more x xs i n (inr h) = elim (cases_Bool (has_version i n x)) [
+  | inl k ↦ inr (x, ap (λ b. cond b (Some x) (find (has_version i n) xs)) k)
   | inr k ↦ inr (h.0, skip x xs i n k ∙ h.1)
 ]
 
@@ -57,7 +57,7 @@ attained (x ∷ xs) i = by_image (cases_Bool (eqb x.image i)) (attained xs i)
         (elim (cases_lt x.version (largest xs i)) [
           | inl less ↦ let e : max x.version (largest xs i) ≡ largest xs i = omega arith in subst (Attained (x ∷ xs) i) (sym e) (attained_more x xs i (largest xs i) rest)
           | inr more ↦ let e : max x.version (largest xs i) ≡ x.version = omega arith in
-              subst (Attained (x ∷ xs) i) (sym e) (inr (x, ap (λ b. cond b (Some x) (find (has_key i x.version) xs)) (λ j. k j && eq-eqb x.version x.version refl j)))
+              subst (Attained (x ∷ xs) i) (sym e) (inr (x, ap (λ b. cond b (Some x) (find (has_version i x.version) xs)) (λ j. k j && eq-eqb x.version x.version refl j)))
         ])
 
 largest_bound : (rows : List Row) (i n : ℕ) (r : Row) → row_at rows i n ≡ Some r → n ≤ largest rows i
@@ -66,14 +66,14 @@ largest_bound [] i n r e = absurd (no_row r e)
   where
     no_row : (r : Row) → None ≡ Some r → ⊥
     no_row r e = cc
-largest_bound (x ∷ xs) i n r e = by_key (cases_Bool (has_key i n x)) (largest_bound xs i n r)
+largest_bound (x ∷ xs) i n r e = by_version (cases_Bool (has_version i n x)) (largest_bound xs i n r)
   where
     more : largest xs i ≤ cond (eqb x.image i) (max x.version (largest xs i)) (largest xs i)
     more = cond_both (eqb x.image i) (max x.version (largest xs i)) (largest xs i) (λ m. largest xs i ≤ m) (λ _. omega arith) (λ _. omega arith)
 
-    by_key : (has_key i n x ≡ true) ⊎ (has_key i n x ≡ false) → (row_at xs i n ≡ Some r → n ≤ largest xs i) → n ≤ cond (eqb x.image i) (max x.version (largest xs i)) (largest xs i)
-    by_key (inr k) rest = omega (arith, rest (sym (skip x xs i n k) ∙ e), more)
-    by_key (inl k) rest =
+    by_version : (has_version i n x ≡ true) ⊎ (has_version i n x ≡ false) → (row_at xs i n ≡ Some r → n ≤ largest xs i) → n ≤ cond (eqb x.image i) (max x.version (largest xs i)) (largest xs i)
+    by_version (inr k) rest = omega (arith, rest (sym (skip x xs i n k) ∙ e), more)
+    by_version (inl k) rest =
         let parts = and_parts (eqb x.image i) (eqb x.version n) k in
         omega (arith, eqb-true x.version n parts.1, ap (λ b. cond b (max x.version (largest xs i)) (largest xs i)) parts.0)
 
@@ -87,13 +87,13 @@ has_newest table i v row e = by_attained (attained table i)
     by_attained : Attained table i (largest table i) → HasNewest table i v
     by_attained (inl none) =
         let same : largest table i ≡ v = omega (arith, none, bound) in
-        record { row = row; is = ap (row_at table i) same ∙ e; bound = omega (arith, (found_key table i v row e).1) }
-    by_attained (inr h) = record { row = h.0; is = h.1; bound = omega (arith, bound, (found_key table i (largest table i) h.0 h.1).1) }
+        record { row = row; is = ap (row_at table i) same ∙ e; bound = omega (arith, (found_version table i v row e).1) }
+    by_attained (inr h) = record { row = h.0; is = h.1; bound = omega (arith, bound, (found_version table i (largest table i) h.0 h.1).1) }
 
 -- the newest row is in the table, under its version
 pub newest_in : (table : List Row) (i : ℕ) (r : Row) → newest table i ≡ Some r → row_at table i r.version ≡ Some r
 unfolding newest
-newest_in table i r e = ap (row_at table i) (found_key table i (largest table i) r e).1 ∙ e
+newest_in table i r e = ap (row_at table i) (found_version table i (largest table i) r e).1 ∙ e
 
 -- the pages of this version
 abbrev pub count : Option Held → ℕ → ℕ

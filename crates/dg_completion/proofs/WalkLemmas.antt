@@ -20,7 +20,7 @@ use Rattle.dg_frame.specs.Grammar.{message_of}
 use Rattle.dg_mote.specs.Effects.{tick_effect, tick_by, boot_by}
 use Rattle.dg_mote.specs.Spots.{Spot, pace, tick_at, ticked, after_ticks, last_sent, newer_of, mote_or}
 use Rattle.dg_rules.specs.World.{World, Running, Site, Sent, no_site, site, is_wide_mote, wide_at, with_site, counted, last_by, last_frame}
-use Rattle.dg_rules.specs.Events.{does, runs_by, key_of, tick_does}
+use Rattle.dg_rules.specs.Events.{does, runs_by, image_version_of, tick_does}
 use Rattle.dg_volume.specs.Start.{Runs}
 use Rattle.dg_rules.specs.Premises.{WorldAgrees, RunsWell, SiteIsWell}
 use Rattle.dg_rules.specs.Steps.{WorldStep, StepDoes, and_sent}
@@ -109,7 +109,7 @@ went : (o : Option MoteState) (started : Option Runs) (image_version : ImageVers
     → (k : ImageVersion) × (runs ≡ Some (record { image_version = k; mote = mote_or o before }))
 went None started image_version before runs e = absurd cc
 went (Some m) None image_version before runs e = (image_version, cc)
-went (Some m) (Some r) image_version before runs e = (key_of r, cc)
+went (Some m) (Some r) image_version before runs e = (image_version_of r, cc)
 
 -- an event at mote m made spot x into y, and it sent this
 pub record Walks (m : ℕ) (w u : World) (y : Spot) (sent : Option Message) (dt : ℕ) : Type 0 where

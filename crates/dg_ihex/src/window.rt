@@ -116,7 +116,7 @@ impl Window {
     fn reach(&mut self, address: usize, count: usize) -> Result<(), AllocError>
         requires { address < addresses }
         ensures holds { (blocks : List Block) → Holds self.old blocks → OnOk result (Holds self.new blocks) }
-        ensures room { OnOk result ((k : ℕ) → k < count → (address + self.new.shift + k) % most_image < self.new.cells.len) }
+        ensures within { OnOk result ((k : ℕ) → k < count → (address + self.new.shift + k) % most_image < self.new.cells.len) }
     {
         let first = (address + self.shift) % MOST_IMAGE;
         let needed = first.saturating_add(count).min(MOST_IMAGE);
@@ -129,7 +129,7 @@ impl Window {
     // Writes the bytes of a block, for which there are cells.
     fn put(&mut self, address: usize, bytes: &[u8])
         requires fits { address < addresses }
-        requires room { (k : ℕ) → k < length bytes.now → (address + self.old.shift + k) % most_image < self.old.cells.len }
+        requires within { (k : ℕ) → k < length bytes.now → (address + self.old.shift + k) % most_image < self.old.cells.len }
         ensures { (blocks : List Block) → Holds self.old blocks
             → let block : Block = record { address = address; bytes = bytes.now } in
             overlaps blocks block ≡ false → span_of (blocks ++ block ∷ []) ≤ most_image
@@ -174,7 +174,7 @@ fn cell_at(cells: &[Option<u8>], cell: usize) -> Option<u8>
 // Writes the bytes of a block into their cells.
 fn write(cells: &mut [Option<u8>], from: usize, bytes: &[u8])
     requires fits { from < addresses + most_image + 1 }
-    requires room { (k : ℕ) → k < length bytes.now → (from + k) % most_image < length cells.old }
+    requires within { (k : ℕ) → k < length bytes.now → (from + k) % most_image < length cells.old }
     ensures { cells.new ≡ written cells.old from bytes.now }
 {
     for at in 0..bytes.len() {

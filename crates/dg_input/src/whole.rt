@@ -16,7 +16,7 @@ fn keep_piece<S: Source>(
     bytes: &mut Vec<u8>,
 ) -> Result<usize, ReadStop>
     requires piece { 0 < length piece.old }
-    requires room { vec_len bytes.old ≤ most_input }
+    requires bound { vec_len bytes.old ≤ most_input }
     ensures taken { (more : List ℕ) × Takes (S.left source.old) (S.left source.new) more
         × (vec_len bytes.old + length more ≤ most_input + 1)
         × IfOk result (λ n. (n ≡ length more) × (bytes.new.items ≡ bytes.old.items ++ more)) }

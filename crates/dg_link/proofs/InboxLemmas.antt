@@ -10,46 +10,46 @@ abbrev pub Ring : Type 0
 Ring = Buffer (List ℕ)
 
 abbrev pub inboxes : ℕ → List Ring → Inboxes
-inboxes room rings = record { room = room; frames = map (λ ring. ring.items) rings }
+inboxes capacity rings = record { capacity = capacity; frames = map (λ ring. ring.items) rings }
 
 -- what waits at a mote is in its ring
-pub inbox_of-inboxes : (room : ℕ) (rings : List Ring) (mote : ℕ) (ring : Ring) → mote < length rings → ring ≡ get_or rings mote ring → inbox_of (inboxes room rings) mote ≡ ring.items
-inbox_of-inboxes room rings mote ring within is = get_or-map (λ r. r.items) rings mote ring [] within ∙ ap (λ r. r.items) (sym is)
+pub inbox_of-inboxes : (capacity : ℕ) (rings : List Ring) (mote : ℕ) (ring : Ring) → mote < length rings → ring ≡ get_or rings mote ring → inbox_of (inboxes capacity rings) mote ≡ ring.items
+inbox_of-inboxes capacity rings mote ring within is = get_or-map (λ r. r.items) rings mote ring [] within ∙ ap (λ r. r.items) (sym is)
 
 -- another ring for a mote
-pub inboxes-set : (room : ℕ) (rings : List Ring) (mote : ℕ) (ring : Ring) → inboxes room (set rings mote ring) ≡ with_inbox mote ring.items (inboxes room rings)
-inboxes-set room rings mote ring = rw (map-set (λ r. r.items) rings mote ring)
+pub inboxes-set : (capacity : ℕ) (rings : List Ring) (mote : ℕ) (ring : Ring) → inboxes capacity (set rings mote ring) ≡ with_inbox mote ring.items (inboxes capacity rings)
+inboxes-set capacity rings mote ring = rw (map-set (λ r. r.items) rings mote ring)
 
 -- a mote has an inbox exactly where it has a ring
-within_rings : (room : ℕ) (rings : List Ring) (boxes : Inboxes) (mote : ℕ) → inboxes room rings ≡ boxes → mote < length boxes.frames → mote < length rings
-within_rings room rings boxes mote is within =
+within_rings : (capacity : ℕ) (rings : List Ring) (boxes : Inboxes) (mote : ℕ) → inboxes capacity rings ≡ boxes → mote < length boxes.frames → mote < length rings
+within_rings capacity rings boxes mote is within =
     let same : length boxes.frames ≡ length rings = ap (λ b. length b.frames) (sym is) ∙ length-map rings (λ ring. ring.items) in
     omega arith
 
 -- the ring of a mote, what comes of it, and the inboxes before
-pub inboxes-push_back : (room : ℕ) (rings : List Ring) (boxes : Inboxes) (mote at : ℕ) (ring new : Ring) (frame : List ℕ) → inboxes room rings ≡ boxes → mote < length boxes.frames → at ≡ mote
-    → ring ≡ get_or rings at ring → All (λ r. r.capacity ≡ room) rings → new ≡ buffer (keep_last ring.capacity (ring.items ++ frame ∷ [])) ring.capacity
-    → inboxes room (set rings at new) ≡ delivered mote frame boxes
-inboxes-push_back room rings boxes mote at ring new frame is within same old cap becomes =
-    let here : at < length rings = subst (λ m. m < length rings) (sym same) (within_rings room rings boxes mote is within) in
-    let full : ring.capacity ≡ room = ap (λ r. r.capacity) old ∙ All-get_or (λ r. r.capacity ≡ room) rings at ring here cap in
-    let waits = inbox_of-inboxes room rings at ring here old in
-    let moved : inboxes room (set rings at new) ≡ delivered at frame (inboxes room rings) =
-    inboxes-set room rings at new ∙ ap (λ r. with_inbox at r.items (inboxes room rings)) becomes
-    ∙ ap (λ n. with_inbox at (keep_last n (ring.items ++ frame ∷ [])) (inboxes room rings)) full
-    ∙ ap (λ xs. with_inbox at (keep_last room (xs ++ frame ∷ [])) (inboxes room rings)) (sym waits) in
-    moved ∙ ap (λ m. delivered m frame (inboxes room rings)) same ∙ ap (delivered mote frame) is
+pub inboxes-push_back : (capacity : ℕ) (rings : List Ring) (boxes : Inboxes) (mote at : ℕ) (ring new : Ring) (frame : List ℕ) → inboxes capacity rings ≡ boxes → mote < length boxes.frames → at ≡ mote
+    → ring ≡ get_or rings at ring → All (λ r. r.capacity ≡ capacity) rings → new ≡ buffer (keep_last ring.capacity (ring.items ++ frame ∷ [])) ring.capacity
+    → inboxes capacity (set rings at new) ≡ delivered mote frame boxes
+inboxes-push_back capacity rings boxes mote at ring new frame is within same old cap becomes =
+    let here : at < length rings = subst (λ m. m < length rings) (sym same) (within_rings capacity rings boxes mote is within) in
+    let full : ring.capacity ≡ capacity = ap (λ r. r.capacity) old ∙ All-get_or (λ r. r.capacity ≡ capacity) rings at ring here cap in
+    let waits = inbox_of-inboxes capacity rings at ring here old in
+    let moved : inboxes capacity (set rings at new) ≡ delivered at frame (inboxes capacity rings) =
+    inboxes-set capacity rings at new ∙ ap (λ r. with_inbox at r.items (inboxes capacity rings)) becomes
+    ∙ ap (λ n. with_inbox at (keep_last n (ring.items ++ frame ∷ [])) (inboxes capacity rings)) full
+    ∙ ap (λ xs. with_inbox at (keep_last capacity (xs ++ frame ∷ [])) (inboxes capacity rings)) (sym waits) in
+    moved ∙ ap (λ m. delivered m frame (inboxes capacity rings)) same ∙ ap (delivered mote frame) is
 
-pub inboxes-pop_front : (room : ℕ) (rings : List Ring) (boxes : Inboxes) (mote at : ℕ) (ring new : Ring) → inboxes room rings ≡ boxes → mote < length boxes.frames → at ≡ mote
+pub inboxes-pop_front : (capacity : ℕ) (rings : List Ring) (boxes : Inboxes) (mote at : ℕ) (ring new : Ring) → inboxes capacity rings ≡ boxes → mote < length boxes.frames → at ≡ mote
     → ring ≡ get_or rings at ring → new ≡ buffer (drop 1 ring.items) ring.capacity
-    → inboxes room (set rings at new) ≡ with_inbox mote (drop 1 (inbox_of boxes mote)) boxes
-inboxes-pop_front room rings boxes mote at ring new is within same old becomes =
-    let here : at < length rings = subst (λ m. m < length rings) (sym same) (within_rings room rings boxes mote is within) in
-    let waits = inbox_of-inboxes room rings at ring here old in
-    let moved : inboxes room (set rings at new) ≡ with_inbox at (drop 1 (inbox_of (inboxes room rings) at)) (inboxes room rings) =
-    inboxes-set room rings at new ∙ ap (λ r. with_inbox at r.items (inboxes room rings)) becomes
-    ∙ ap (λ xs. with_inbox at (drop 1 xs) (inboxes room rings)) (sym waits) in
-    moved ∙ ap (λ m. with_inbox m (drop 1 (inbox_of (inboxes room rings) m)) (inboxes room rings)) same
+    → inboxes capacity (set rings at new) ≡ with_inbox mote (drop 1 (inbox_of boxes mote)) boxes
+inboxes-pop_front capacity rings boxes mote at ring new is within same old becomes =
+    let here : at < length rings = subst (λ m. m < length rings) (sym same) (within_rings capacity rings boxes mote is within) in
+    let waits = inbox_of-inboxes capacity rings at ring here old in
+    let moved : inboxes capacity (set rings at new) ≡ with_inbox at (drop 1 (inbox_of (inboxes capacity rings) at)) (inboxes capacity rings) =
+    inboxes-set capacity rings at new ∙ ap (λ r. with_inbox at r.items (inboxes capacity rings)) becomes
+    ∙ ap (λ xs. with_inbox at (drop 1 xs) (inboxes capacity rings)) (sym waits) in
+    moved ∙ ap (λ m. with_inbox m (drop 1 (inbox_of (inboxes capacity rings) m)) (inboxes capacity rings)) same
     ∙ ap (λ b. with_inbox mote (drop 1 (inbox_of b mote)) b) is
 
 map-replicate : {A B : Type 0} (f : A → B) (n : ℕ) (x : A) → map f (replicate n x) ≡ replicate n (f x)
@@ -57,14 +57,14 @@ map-replicate f zero x = refl
 map-replicate f (suc n) x = ap (λ ys. f x ∷ ys) (map-replicate f n x)
 
 -- rings without frames
-pub inboxes-replicate : (room motes : ℕ) (boxes : Inboxes) → boxes.room ≡ room → inboxes room (replicate motes (buffer [] room)) ≡ emptied motes boxes
-inboxes-replicate room motes boxes is =
-    ap (λ frames. record { room = room; frames = frames }) (map-replicate (λ ring. ring.items) motes (buffer [] room))
-    ∙ ap (λ n. record { room = n; frames = replicate motes [] }) (sym is)
+pub inboxes-replicate : (capacity motes : ℕ) (boxes : Inboxes) → boxes.capacity ≡ capacity → inboxes capacity (replicate motes (buffer [] capacity)) ≡ emptied motes boxes
+inboxes-replicate capacity motes boxes is =
+    ap (λ frames. record { capacity = capacity; frames = frames }) (map-replicate (λ ring. ring.items) motes (buffer [] capacity))
+    ∙ ap (λ n. record { capacity = n; frames = replicate motes [] }) (sym is)
 
 with_same : (boxes : Inboxes) (mote : ℕ) → inbox_of boxes mote ≡ [] → with_inbox mote [] boxes ≡ boxes
 with_same boxes mote none =
-    ap (λ frames. record { room = boxes.room; frames = frames }) (ap (set boxes.frames mote) (sym none) ∙ set-get_or boxes.frames mote [])
+    ap (λ frames. record { capacity = boxes.capacity; frames = frames }) (ap (set boxes.frames mote) (sym none) ∙ set-get_or boxes.frames mote [])
 
 takes : (boxes : Inboxes) (mote : ℕ) (into : List ℕ) (waits : List (List ℕ)) (r : Option ℕ) → inbox_of boxes mote ≡ waits → option_map (λ n. take n into) r ≡ slice_get waits 0
     → Receives mote into r (Some boxes) (Some (with_inbox mote (drop 1 waits) boxes))
@@ -88,11 +88,11 @@ is_none-frame f (frame ∷ rest) None e = absurd cc
 is_none-frame f (frame ∷ rest) (Some n) e = (λ no. absurd cc, λ no. absurd cc)
 
 -- a frame that came waits at the mote
-pub Contains-delivered : (boxes : Inboxes) (mote : ℕ) (frame : List ℕ) → 1 ≤ boxes.room → mote < length boxes.frames → Contains (inbox_of (delivered mote frame boxes) mote) frame
-Contains-delivered boxes mote frame room within =
+pub Contains-delivered : (boxes : Inboxes) (mote : ℕ) (frame : List ℕ) → 1 ≤ boxes.capacity → mote < length boxes.frames → Contains (inbox_of (delivered mote frame boxes) mote) frame
+Contains-delivered boxes mote frame capacity within =
     let waits = inbox_of boxes mote in
     let all = waits ++ frame ∷ [] in
-    let short : length all - boxes.room ≤ length waits = omega (arith, length-append waits (frame ∷ [])) in
-    let place : inbox_of (delivered mote frame boxes) mote ≡ keep_last boxes.room all = get_or-set_same boxes.frames mote (keep_last boxes.room all) [] within in
-    let cut : keep_last boxes.room all ≡ drop (length all - boxes.room) waits ++ frame ∷ [] = drop-append-le (length all - boxes.room) waits (frame ∷ []) short in
-    subst (λ xs. Contains xs frame) (sym (place ∙ cut)) (Contains-push (drop (length all - boxes.room) waits) frame)
+    let short : length all - boxes.capacity ≤ length waits = omega (arith, length-append waits (frame ∷ [])) in
+    let place : inbox_of (delivered mote frame boxes) mote ≡ keep_last boxes.capacity all = get_or-set_same boxes.frames mote (keep_last boxes.capacity all) [] within in
+    let cut : keep_last boxes.capacity all ≡ drop (length all - boxes.capacity) waits ++ frame ∷ [] = drop-append-le (length all - boxes.capacity) waits (frame ∷ []) short in
+    subst (λ xs. Contains xs frame) (sym (place ∙ cut)) (Contains-push (drop (length all - boxes.capacity) waits) frame)

@@ -4,7 +4,7 @@ use Rattle.std.specs.Prelude.{Some, None}
 
 -- how many frames an inbox holds at most, and for each mote the frames in its inbox, the oldest first
 pub record Inboxes : Type 0 where
-  pub room : ℕ
+  pub capacity : ℕ
   pub frames : List (List (List ℕ))
 
 -- the frames that wait at a mote
@@ -17,15 +17,15 @@ latest n xs = drop (length xs - n) xs
 
 -- so many motes, with empty inboxes
 abbrev pub emptied : ℕ → Inboxes → Inboxes
-emptied motes boxes = record { room = boxes.room; frames = replicate motes [] }
+emptied motes boxes = record { capacity = boxes.capacity; frames = replicate motes [] }
 
 -- other frames wait at a mote
 abbrev pub with_inbox : ℕ → List (List ℕ) → Inboxes → Inboxes
-with_inbox mote frames boxes = record { room = boxes.room; frames = slice_set boxes.frames mote frames }
+with_inbox mote frames boxes = record { capacity = boxes.capacity; frames = slice_set boxes.frames mote frames }
 
 -- a frame came last at a mote. Where its inbox was full, the oldest is lost
 abbrev pub delivered : ℕ → List ℕ → Inboxes → Inboxes
-delivered mote frame boxes = with_inbox mote (latest boxes.room (inbox_of boxes mote ++ frame ∷ [])) boxes
+delivered mote frame boxes = with_inbox mote (latest boxes.capacity (inbox_of boxes mote ++ frame ∷ [])) boxes
 
 -- No frame waits at the mote; nothing is claimed where the inboxes are not told.
 abbrev pub IsEmptyAt : ℕ → Option Inboxes → Type 0

@@ -15,7 +15,7 @@ use std::marker::Model;
 /// It never fails, and its count of faults stays at 0.
 #[derive(Drop)]
 pub struct MemLink {
-    room: usize,
+    capacity: usize,
     rings: Vec<HeapCircularBuffer<FrameBytes>>,
 }
 
@@ -25,20 +25,20 @@ impl Model for MemLink {
 
     ghost Value = { Inboxes };
 
-    ghost view = { λ l. record { room = l.room; frames = map (λ ring. ring.items) l.rings.items } };
+    ghost view = { λ l. record { capacity = l.capacity; frames = map (λ ring. ring.items) l.rings.items } };
 
-    ghost invariant = { λ l. (1 ≤ l.room) × All (λ ring. ring.capacity ≡ l.room) l.rings.items };
+    ghost invariant = { λ l. (1 ≤ l.capacity) × All (λ ring. ring.capacity ≡ l.capacity) l.rings.items };
 }
 
 impl MemLink {
-    /// A link without motes, whose inboxes will hold `room` frames each.
-    pub fn new(alloc: Global, room: usize) -> MemLink
-        requires { 1 ≤ room }
-        ensures room { result.room ≡ room }
+    /// A link without motes, whose inboxes will hold `capacity` frames each.
+    pub fn new(alloc: Global, capacity: usize) -> MemLink
+        requires { 1 ≤ capacity }
+        ensures capacity { result.capacity ≡ capacity }
         ensures motes { result.frames ≡ [] }
     {
         MemLink {
-            room,
+            capacity,
             rings: Vec::new(alloc),
         }
     }
@@ -69,7 +69,7 @@ impl Link for MemLink {
         ensures memory { IfErr result (λ e. e ≡ OpenFault.Memory) }
     {
         self.rings.clear();
-        self.rings = empty_rings(alloc, self.room, motes)?;
+        self.rings = empty_rings(alloc, self.capacity, motes)?;
         Ok(())
     }
 
@@ -106,14 +106,14 @@ impl Link for MemLink {
 // Rings without frames, one for each of so many motes.
 fn empty_rings(
     alloc: Global,
-    room: usize,
+    capacity: usize,
     motes: u16,
 ) -> Result<Vec<HeapCircularBuffer<FrameBytes>>, AllocError>
-    ensures { IfOk result (λ v. v.items ≡ replicate motes (buffer [] room)) }
+    ensures { IfOk result (λ v. v.items ≡ replicate motes (buffer [] capacity)) }
 {
     let mut rings = Vec::with_capacity(alloc, usize::from(motes))?;
     for _ in 0..motes {
-        rings.push(HeapCircularBuffer::with_capacity(alloc, room)?)?;
+        rings.push(HeapCircularBuffer::with_capacity(alloc, capacity)?)?;
     }
     Ok(rings)
 }

@@ -97,11 +97,11 @@ names_row rows table i e range honest some =
     ⊎_elim
     (λ nothing. absurd (omega (arith, some, ap (λ (x : Entry). x.have) nothing)))
     (λ (named : (row : Row) × (row_at table i e.version ≡ Some row) × (e.pages ≡ (profile row).pages) × (e.crc ≡ (profile row).crc)).
-    let key = rows.key table i e.version named.0 named.1 in
+    let own = rows.image_version table i e.version named.0 named.1 in
     record {
       row = named.0;
       in_table = named.1;
-      is_profile = same_outline i e (profile named.0) (sym key.0) (sym key.1) named.2 named.3;
+      is_profile = same_outline i e (profile named.0) (sym own.0) (sym own.1) named.2 named.3;
       some = some;
       within = ⊎_elim (λ u. absurd (omega (arith, some, ap (λ (x : Entry). x.have) u))) (λ (t : TellsVersion e). t.have) range;
     })
@@ -118,9 +118,9 @@ none_in q = nothing packets q
     nothing (suc n) zero = refl
     nothing (suc n) (suc q) = nothing n q
 
-pub no_places : length no_packets ≡ packets
+pub no_packets-count : length no_packets ≡ packets
 unfolding no_packets
-no_places = length-replicate {A = Option (List ℕ)} packets None
+no_packets-count = length-replicate {A = Option (List ℕ)} packets None
 
 pub none_came : set.len (came no_packets) ≡ 0
 none_came =
@@ -159,15 +159,15 @@ module _ (table : List Row) (laws : TakeLaws table) (now draw source : ℕ) wher
       let p = outline i e in
       let t = take_trail s p in
       let u = joined t (resting (last t) 1) in
-      let key = laws.rows.key table i e.version n.row n.in_table in
+      let own = laws.rows.image_version table i e.version n.row n.in_table in
       let own = row_own laws.rows table i e.version n.row n.in_table in
       let way : Through (StoreIsWell table) t =
-      subst (λ (o : Outline). Through (StoreIsWell table) (take_trail s o)) (sym n.is_profile) (laws.take s n.row (omega (arith, key.0, low)) (omega (arith, key.0, high)) own w) in
+      subst (λ (o : Outline). Through (StoreIsWell table) (take_trail s o)) (sym n.is_profile) (laws.take s n.row (omega (arith, own.0, low)) (omega (arith, own.0, high)) own w) in
       let is : ask_trail s i e ≡ u = cond-false (is_version (held s i) e.version) (resting s 1) u other in
       let ends : last u ≡ taken s p = last-joined t (resting (last t) 1) refl ∙ last-resting (last t) 1 ∙ laws.end s p in
       record {
         kept = held_begun p;
-        here = ap (λ (x : Trail Store). held (last x) i) is ∙ ap (λ (x : Store). held x i) ends ∙ get_or-set_same s.kept i (Some (held_begun p)) None (omega (arith, high, w.places));
+        here = ap (λ (x : Trail Store). held (last x) i) is ∙ ap (λ (x : Store). held x i) ends ∙ get_or-set_same s.kept i (Some (held_begun p)) None (omega (arith, high, w.count));
         version = refl;
         more = omega (arith, n.some, n.within);
         way = subst (λ (x : Trail Store). Through (StoreIsWell table) x) (sym is)
@@ -213,7 +213,7 @@ module _ (table : List Row) (laws : TakeLaws table) (now draw source : ℕ) wher
           version = x.version;
           next = sym (ap done_of x.here);
           more = omega (arith, x.more, ap done_of x.here);
-          places = no_places;
+          count = no_packets-count;
           missing = omega (arith, none_came);
           honest = λ q bytes came. absurd (no_packet q bytes came);
         };

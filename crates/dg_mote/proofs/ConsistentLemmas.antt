@@ -53,7 +53,7 @@ use Rattle.dg_mote.specs.declared.mote.Did.{Did}
 use Rattle.dg_mote.specs.declared.mote.Heard.{Heard}
 use Rattle.dg_mote.proofs.ReadLemmas.{IsWellRead, HasShape, well_read}
 use Rattle.dg_mote.proofs.KeepLemmas.{through_both, through_then}
-use Rattle.dg_mote.proofs.WellStores.{HasPlaces, take_places}
+use Rattle.dg_mote.proofs.WellStores.{HasSlots, take_slots}
 use Rattle.dg_mote.proofs.AdvertLemmas.{is_ahead}
 
 -- ---- what is promised below
@@ -72,25 +72,25 @@ module _ (golden : Row) (laws : ActLaws golden) (now draw : ℕ) where
   abbrev Turns : {A : Type 0} → Turn A → Type 0
   Turns step = TurnIsConsistent golden step
 
-  -- ---- stores that have their places too
+  -- ---- stores that have their slots too
 
-  both : (t : Trail Store) → Through (Consistent golden) t → Through HasPlaces t → Through P t
-  both t c p = through_then (λ s. Consistent golden s × HasPlaces s) P (λ s h. record { places = h.1; consistent = h.0 }) t (through_both (Consistent golden) HasPlaces t c p)
+  both : (t : Trail Store) → Through (Consistent golden) t → Through HasSlots t → Through P t
+  both t c p = through_then (λ s. Consistent golden s × HasSlots s) P (λ s h. record { count = h.1; consistent = h.0 }) t (through_both (Consistent golden) HasSlots t c p)
 
   order_way : (s : Store) (o : Order) → P s → Through P (order_trail s o)
-  order_way s o p = both (order_trail s o) (laws.order s o p.consistent) (Through-stepping HasPlaces s (commit_operations s.room) (ordered s o) p.places p.places)
+  order_way s o p = both (order_trail s o) (laws.order s o p.consistent) (Through-stepping HasSlots s (commit_operations s.room) (ordered s o) p.count p.count)
 
   clear_way : (s : Store) → P s → Through P (clear_trail s)
-  clear_way s p = both (clear_trail s) (laws.clear s p.consistent) (Through-stepping HasPlaces s (commit_operations s.room) (gesture_cleared s) p.places p.places)
+  clear_way s p = both (clear_trail s) (laws.clear s p.consistent) (Through-stepping HasSlots s (commit_operations s.room) (gesture_cleared s) p.count p.count)
 
   take_way : (s : Store) (o : Outline) → 1 ≤ o.image → o.image < images → P s → Through P (take_trail s o)
-  take_way s o low high p = let count = p.places in both (take_trail s o) (laws.take s o low (omega (arith, high, count)) p.consistent) (take_places s o p.places)
+  take_way s o low high p = let count = p.count in both (take_trail s o) (laws.take s o low (omega (arith, high, count)) p.consistent) (take_slots s o p.count)
 
   page_way : (s : Store) (image : ℕ) (h : Held) (page : List ℕ) (n : ℕ) → 1 ≤ image → image < images → held s image ≡ Some h → may_seal image h page ≡ true → P s → Through P (stepping s n (paged image page s))
   page_way s image h page n low high here may p =
-      let count = p.places in
+      let count = p.count in
       both (stepping s n (paged image page s)) (laws.page s image h page n low (omega (arith, high, count)) here may p.consistent)
-      (Through-stepping HasPlaces s n (paged image page s) p.places (length-set s.kept image (option_map (λ x. with_page x page) (held s image)) ∙ p.places))
+      (Through-stepping HasSlots s n (paged image page s) p.count (length-set s.kept image (option_map (λ x. with_page x page) (held s image)) ∙ p.count))
 
   rests : {A : Type 0} (m : MoteState) (s : Store) (n : ℕ) (sent : Option Message) (answer : A) → P s → AsksForKnown m.mode → Turns (record { mote = m; trail = resting s n; sent = sent; answer = answer })
   rests m s n sent answer p asks = record { way = Through-resting P s n p; asks = asks }
@@ -245,7 +245,7 @@ module _ (golden : Row) (laws : ActLaws golden) (now draw : ℕ) where
 pub consistent_room : (golden : Row) (s : Store) (room : ℕ) → StoreIsConsistent golden s → StoreIsConsistent golden (record s { room = room })
 consistent_room golden s room p =
     let c = p.consistent in
-    record { places = p.places; consistent = record { version = c.version; golden = c.golden; kept = c.kept; app = c.app } }
+    record { count = p.count; consistent = record { version = c.version; golden = c.golden; kept = c.kept; app = c.app } }
 
 near_consistent : (golden : Row) (a s : Store) → StoreIsConsistent golden a → IsNear a s → StoreIsConsistent golden s
 near_consistent golden a s p near = subst (λ (x : Store). StoreIsConsistent golden x) (sym near.same) (consistent_room golden a s.room p)

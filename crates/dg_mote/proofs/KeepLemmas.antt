@@ -60,7 +60,7 @@ mode_same table s t e (Receive r) a = record {
   version = a.version;
   next = a.next;
   more = a.more;
-  places = a.places;
+  count = a.count;
   missing = a.missing;
   honest = a.honest;
 }

@@ -99,18 +99,18 @@ pub record ReceivesPage (table : List Row) (s : Store) (r : Receiving) (row : Ro
 module _ (table : List Row) (is_table : IsTable table) (laws : PageLaws table) (s : Store) (well : StoreIsWell table s) (now draw : ℕ) where
   pub receives_page : (r : Receiving) → (a : ReceivesRow table s r) → ReceivesPage table s r a.row
   receives_page r a =
-      let key = laws.rows.key table r.image r.version a.row a.in_table in
+      let own = laws.rows.image_version table r.image r.version a.row a.in_table in
       let own = row_own laws.rows table r.image r.version a.row a.in_table in
-      let here : held s a.row.image ≡ Some a.kept = ap (held s) key.0 ∙ a.held_here in
+      let here : held s a.row.image ≡ Some a.kept = ap (held s) own.0 ∙ a.held_here in
       let kept : KeepsPagesOf a.row a.kept = subst (λ (o : Option Held). IfSome o (KeepsPagesOf a.row)) here (laws.kept s a.row own well.agrees) in
-      let to = kept (a.version ∙ sym key.1) in
+      let to = kept (a.version ∙ sym own.1) in
       let count : length a.kept.complete ≡ min to.0 (length (object a.row)) = ap (λ (h : Held). length h.complete) to.2 ∙ length-take to.0 (object a.row) in
       let n : to.0 ≡ r.page = omega (arith, count, to.1, a.next) in
       let pages : a.kept.pages ≡ (profile a.row).pages = ap (λ (h : Held). h.pages) to.2 in
       record {
         in_table = own;
-        image_is = key.0;
-        version_is = key.1;
+        image_is = own.0;
+        version_is = own.1;
         kept = here ∙ ap Some to.2 ∙ ap (λ k. Some (held_to a.row k)) n;
         more = omega (arith, a.more, pages, laws.count a.row);
         packets_are = a.honest;
@@ -141,7 +141,7 @@ module _ (table : List Row) (is_table : IsTable table) (laws : PageLaws table) (
       let then = accepted r now q bytes in
       let p = receives_page r a in
       let are : AreOf (slice_index_or (object a.row) r.page []) then.packets = put_are_of (slice_index_or (object a.row) r.page []) r.packets q bytes a.honest is in
-      let high : r.image < images = omega (arith, kept_within s r.image a.kept a.held_here, well.places) in
+      let high : r.image < images = omega (arith, kept_within s r.image a.kept a.held_here, well.count) in
       cond_both (set.len (came then.packets) == packets) _ _ (Keeps (StoreIsWell table) table)
       (λ full. seal_keeps (held s r.image) m r (page_from then.packets) a.row own a.not_golden high p
       (makes_page laws.whole (slice_index_or (object a.row) r.page []) then.packets
@@ -156,7 +156,7 @@ module _ (table : List Row) (is_table : IsTable table) (laws : PageLaws table) (
         version = a.version;
         next = a.next;
         more = a.more;
-        places = length-set r.packets q (Some bytes) ∙ a.places;
+        count = length-set r.packets q (Some bytes) ∙ a.count;
         missing = omega (arith, came_few then.packets, eqb-false (set.len (came then.packets)) packets some);
         honest = are;
       }) tt)

@@ -37,10 +37,10 @@ use Rattle.dg_mote.specs.Drained.{Drained, spare_room, HasRoom}
 use Rattle.dg_mote.specs.Completing.{BeginsWith, KeepsNext, AsksPage, Asked, Requested}
 use Rattle.dg_mote.specs.declared.mote.Did.{Did}
 use Rattle.dg_mote.proofs.RowLemmas.{few_complete}
-use Rattle.dg_mote.proofs.AdvertLemmas.{no_places, none_came, no_packet}
+use Rattle.dg_mote.proofs.AdvertLemmas.{no_packets-count, none_came, no_packet}
 use Rattle.dg_mote.proofs.RoundTicks.{spot_of, ticked_by, tick_by_mode, not_clearing, asks_now}
 use Rattle.dg_mote.proofs.RoundTake.{none_yet}
-use Rattle.dg_mote.proofs.RoundNext.{found, asked_store, IsNext, next_by, can_order, kept_better, same_kept_better}
+use Rattle.dg_mote.proofs.RoundNext.{found, asked_store, IsNext, next_by, can_keep_better, kept_better, same_kept_better}
 
 -- ---- what it hears
 
@@ -57,7 +57,7 @@ pub record ActLaws : Type 0 where
 module _ (laws : ActLaws) where
   last_better : (s : Store) (o : Order) → last (better_trail s o) ≡ kept_better s o
   unfolding better_trail
-  last_better s o = by (can_order s o)
+  last_better s o = by (can_keep_better s o)
     where
       by : (b : Bool) → last (cond b (order_trail s o) (resting s 0)) ≡ cond b (ordered s o) s
       by true = laws.order s o
@@ -120,7 +120,7 @@ module _ (laws : ActLaws) where
 
     ahead_same : ahead_in entries s1 ≡ ahead_in entries x.store
     unfolding ahead_in
-    ahead_same = ap (λ ks. find (λ i. advertiser_ahead (entry_for entries i) (get_or ks i None)) (named entries)) (same_kept_better (can_order x.store order) x.store order).kept
+    ahead_same = ap (λ ks. find (λ i. advertiser_ahead (entry_for entries i) (get_or ks i None)) (named entries)) (same_kept_better (can_keep_better x.store order) x.store order).kept
 
     abbrev e_of : ℕ → Entry
     e_of i = entry_for entries i
@@ -192,7 +192,7 @@ asks_well table x now id i s f ahead w a there some n =
     let g : KeepsRow table i n.kept = keeps_next table i (held x.store i) ahead n.kept n.next (before.kept i) k in
     record {
       store = record {
-        places = n.places ∙ w.store.places;
+        count = n.count ∙ w.store.count;
         agrees = record {
           golden = (before.golden.0, before.golden.1, n.others 0 (λ e. omega (arith, some, e)) ∙ before.golden.2);
           kept = λ j. elim (cases_eq j i) [
@@ -211,7 +211,7 @@ asks_well table x now id i s f ahead w a there some n =
         version = n.version;
         next = sym (ap done_of n.held_now);
         more = omega (arith, ap done_of n.held_now, n.less, few_kept table i ahead k, n.pages);
-        places = no_places;
+        count = no_packets-count;
         missing = omega (arith, none_came);
         honest = λ q bytes e. absurd (no_packet q bytes e);
       };
@@ -225,12 +225,12 @@ asks_law laws table x now id s i w d a other is room =
     let ahead = fo.ahead in
     let order = own_order x.mote.wide s in
     let st = kept_better x.store order in
-    let keeps = same_kept_better (can_order x.store order) x.store order in
+    let keeps = same_kept_better (can_keep_better x.store order) x.store order in
     let agreed = does_ask laws x now id s d.timer i d other d.maintains is room in
     let f = asked_store st i (entry_by (Some ahead)) in
     let same = hears_asks laws x now id s d.timer i ahead other d.maintains is agreed fo.entry in
     let held_st : (j : ℕ) → held st j ≡ held x.store j = λ j. ap (λ k. get_or k j None) keeps.kept in
-    let n = next_by (held st i) st i ahead refl (omega (arith, fo.to, w.store.places, ap length keeps.kept)) (ap (advertiser_ahead (entry_by (Some ahead))) (held_st i) ∙ fo.is_ahead) in
+    let n = next_by (held st i) st i ahead refl (omega (arith, fo.to, w.store.count, ap length keeps.kept)) (ap (advertiser_ahead (entry_by (Some ahead))) (held_st i) ∙ fo.is_ahead) in
     let nx : IsNext x.store f i ahead =
     record {
       kept = n.kept;
@@ -241,7 +241,7 @@ asks_law laws table x now id s i w d a other is room =
       crc = n.crc;
       less = n.less;
       others = λ j different. n.others j different ∙ held_st j;
-      places = n.places ∙ ap length keeps.kept;
+      count = n.count ∙ ap length keeps.kept;
       app = n.app ∙ keeps.app;
       gesture = n.gesture ∙ keeps.gesture;
     } in

@@ -25,7 +25,7 @@ pub fresh_well : (table : List Row) (name bytes : List ℕ) (used : ℕ) → row
 fresh_well table name bytes used in_table =
     let row = golden_row name bytes in
     let golden : KeepsRow table 0 (held_whole row) = record { row = row; in_table = in_table; pages = refl; crc = refl; first = sym (take_all (length (object row)) (object row) (omega arith)) } in
-    record { places = refl; agrees = record { golden = (row, in_table, refl); kept = kept golden; app = tt } }
+    record { count = refl; agrees = record { golden = (row, in_table, refl); kept = kept golden; app = tt } }
   where
     kept : KeepsRow table 0 (held_whole (golden_row name bytes)) → (i : ℕ) → IfSome (held (fresh name bytes used) i) (KeepsRow table i)
     kept golden zero = golden

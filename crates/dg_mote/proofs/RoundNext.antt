@@ -67,7 +67,7 @@ pub record IsNext (s t : Store) (i : ℕ) (ahead : Held) : Type 0 where
   pub crc : kept.crc ≡ ahead.crc
   pub less : length kept.complete < length ahead.complete
   pub others : (j : ℕ) → j ≢ i → held t j ≡ held s j
-  pub places : length t.kept ≡ length s.kept
+  pub count : length t.kept ≡ length s.kept
   pub app : t.app ≡ s.app
   pub gesture : t.gesture ≡ s.gesture
 
@@ -107,7 +107,7 @@ taken_next s i ahead there some next =
       crc = refl;
       less = omega (arith, some);
       others = λ j other. get_or-set_other s.kept i j (Some (begun_for i ahead)) None other;
-      places = length-set s.kept i (Some (begun_for i ahead));
+      count = length-set s.kept i (Some (begun_for i ahead));
       app = refl;
       gesture = refl;
     }
@@ -134,7 +134,7 @@ next_by (Some h) s i ahead is there e =
             crc = sym same.crc;
             less = same.more;
             others = λ j other. refl;
-            places = refl;
+            count = refl;
             app = refl;
             gesture = refl;
           })
@@ -142,11 +142,11 @@ next_by (Some h) s i ahead is there e =
 
 -- ---- the order is kept_better before
 
-abbrev pub can_order : Store → Order → Bool
-can_order s o = ltb s.order.number o.number && leb 1 s.room
+abbrev pub can_keep_better : Store → Order → Bool
+can_keep_better s o = ltb s.order.number o.number && leb 1 s.room
 
 abbrev pub kept_better : Store → Order → Store
-kept_better s o = cond (can_order s o) (ordered s o) s
+kept_better s o = cond (can_keep_better s o) (ordered s o) s
 
 -- an order changes nothing of this
 pub record SameBut (s t : Store) : Type 0 where

@@ -35,7 +35,7 @@ use Rattle.dg_mote.proofs.RowLemmas.{keeps_row, same_row}
 use Rattle.dg_mote.proofs.CameLemmas.{came_has}
 use Rattle.dg_mote.proofs.PacketLemmas.{AreOf, put_are_of, makes_page}
 use Rattle.dg_mote.proofs.FillLemmas.{came_put}
-use Rattle.dg_mote.proofs.AdvertLemmas.{no_places, none_came, no_packet}
+use Rattle.dg_mote.proofs.AdvertLemmas.{no_packets-count, none_came, no_packet}
 use Rattle.dg_mote.proofs.RoundTicks.{spot_of}
 use Rattle.dg_volume.specs.Filling.{packet_of}
 
@@ -66,7 +66,7 @@ missing_next ps n h are =
 
 -- with it the first n + 1 came
 came_next : (ps : Packets) (n : ℕ) (bytes : List ℕ) → n < packets → length ps ≡ packets → came ps ≡ below n → came (put_packet ps n bytes) ≡ below (n + 1)
-came_next ps n bytes h places are = came_put ps n bytes h places ∙ ap (λ s. set.insert s n) are ∙ below_more n
+came_next ps n bytes h count are = came_put ps n bytes h count ∙ ap (λ s. set.insert s n) are ∙ below_more n
 
 -- ---- a packet is heard
 
@@ -90,7 +90,7 @@ module _ (whole : (page : List ℕ) → length page ≡ page_size → page_from 
     image_is : r.image ≡ image
     version_is : r.version ≡ version
     page_is : r.page ≡ number
-    places : length r.packets ≡ packets
+    count : length r.packets ≡ packets
     came_are : came r.packets ≡ below n
     are : AreOf page r.packets
 
@@ -110,7 +110,7 @@ module _ (whole : (page : List ℕ) → length page ≡ page_size → page_from 
       (λ i. hears x now (Packet sender (sym f.image_is i) (sym f.version_is i) (sym f.page_is i) n (packet_of page n)))
       ∙ hears_packet x now sender n f.r (packet_of page n) other f.receives (missing_next f.r.packets n h f.came_are)
       ∙ ap (λ k. spot_of (cond (eqb k packets) (seal_by (held x.store f.r.image) x.mote f.r x.store now 0 (page_from (with_one f.r now n).packets)) (part x f.r now n)))
-      (ap set.len (came_next f.r.packets n (packet_of page n) h f.places f.came_are) ∙ len_of_below (n + 1))
+      (ap set.len (came_next f.r.packets n (packet_of page n) h f.count f.came_are) ∙ len_of_below (n + 1))
 
   heard_more : (n : ℕ) (x : Spot) (now : ℕ) → n + 1 < packets → sender ≢ x.mote.id → (f : Fills n x)
       → hears x now (says n) ≡ record { store = x.store; mote = record x.mote { mode = Receive (with_one f.r now n) } }
@@ -126,8 +126,8 @@ module _ (whole : (page : List ℕ) → length page ≡ page_size → page_from 
     image_is = f.image_is;
     version_is = f.version_is;
     page_is = f.page_is;
-    places = length-set f.r.packets n (Some (packet_of page n)) ∙ f.places;
-    came_are = came_next f.r.packets n (packet_of page n) h f.places f.came_are;
+    count = length-set f.r.packets n (Some (packet_of page n)) ∙ f.count;
+    came_are = came_next f.r.packets n (packet_of page n) h f.count f.came_are;
     are = put_are_of page f.r.packets n (packet_of page n) f.are refl;
   }
 
@@ -182,7 +182,7 @@ takes_page whole table rows x now sender image kept row w a other in_table =
       image_is = a.image_is;
       version_is = a.version_is;
       page_is = a.page_is;
-      places = ap length a.fresh ∙ no_places;
+      count = ap length a.fresh ∙ no_packets-count;
       came_are = ap came a.fresh ∙ none_yet;
       are = λ q bytes there. absurd (no_packet q bytes (ap (λ (ps : Packets). packet ps q) (sym a.fresh) ∙ there));
     }) a.held_now fits.0 fits.1

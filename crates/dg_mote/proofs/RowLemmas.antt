@@ -14,13 +14,13 @@ use Rattle.dg_volume.specs.Agreement.{KeepsRow, Agrees}
 
 -- as it is promised below
 pub record TableLaws : Type 0 where
-  pub key : (table : List Row) (image version : ℕ) (row : Row) → row_at table image version ≡ Some row → (row.image ≡ image) × (row.version ≡ version)
+  pub image_version : (table : List Row) (image version : ℕ) (row : Row) → row_at table image version ≡ Some row → (row.image ≡ image) × (row.version ≡ version)
   pub row : (table : List Row) (image version : ℕ) (row : Row) → IsTable table → row_at table image version ≡ Some row → IsRow row
 
--- the row, by its own key
+-- the row, by its own image version
 pub row_own : TableLaws → (table : List Row) (image version : ℕ) (row : Row) → row_at table image version ≡ Some row → row_at table row.image row.version ≡ Some row
 row_own rows table image version row e =
-    let k = rows.key table image version row e in
+    let k = rows.image_version table image version row e in
     (λ i. row_at table (k.0 i) (k.1 i)) ∙ e
 
 pub same_row : (table : List Row) (image version : ℕ) (a b : Row) → row_at table image version ≡ Some a → row_at table image version ≡ Some b → a ≡ b

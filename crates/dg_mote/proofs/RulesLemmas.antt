@@ -218,20 +218,20 @@ missing_is r q =
     )
 
 module _ (m : MoteState) (s : Store) (now draw source to image version page : ℕ) (want : Numbers) where
-  abbrev Told : Option Message → Type 0
-  Told sent = sent ≡ Some (Request source to image version page want) → AsksFor m source to image version page want
+  abbrev AsksSo : Option Message → Type 0
+  AsksSo sent = sent ≡ Some (Request source to image version page want) → AsksFor m source to image version page want
 
-  advert_told : (id : ℕ) (wide : Bool) (entries : List Entry) (order : Order) → Told (Some (advert_by wide id entries order))
+  advert_told : (id : ℕ) (wide : Bool) (entries : List Entry) (order : Order) → AsksSo (Some (advert_by wide id entries order))
   advert_told id true entries order e = cc
   advert_told id false entries order e = cc
 
-  maintain_told : (a : Act) (x : MoteState) → Told (maintain_by a x s).sent
+  maintain_told : (a : Act) (x : MoteState) → AsksSo (maintain_by a x s).sent
   maintain_told act.Send x e = advert_told x.id x.wide (entries_of x.wide s) (own_order x.wide s) e
   maintain_told act.Quiet x e = cc
   maintain_told act.Expired x e = cc
   maintain_told act.Nothing x e = cc
 
-  asks_told : (r : Receiving) → m.mode ≡ Receive r → Told (Some (Request m.id r.server r.image r.version r.page (missing (reception r))))
+  asks_told : (r : Receiving) → m.mode ≡ Receive r → AsksSo (Some (Request m.id r.server r.image r.version r.page (missing (reception r))))
   asks_told r is e =
       let same : missing (reception r) ≡ want = cc in
       record {
@@ -245,26 +245,26 @@ module _ (m : MoteState) (s : Store) (now draw source to image version page : �
         missing = λ q. subst (λ w. (set.contains w q ≡ true) ↔ ((q < packets) × (packet r.packets q ≡ None))) same (missing_is r q);
       }
 
-  receive_told : (r : Receiving) → m.mode ≡ Receive r → Told (receive_by (ask_of (reception r) now) m r s now draw).sent
+  receive_told : (r : Receiving) → m.mode ≡ Receive r → AsksSo (receive_by (ask_of (reception r) now) m r s now draw).sent
   receive_told r is =
-      let P : Ask → Type 0 = λ x. Told (receive_by x m r s now draw).sent in
+      let P : Ask → Type 0 = λ x. AsksSo (receive_by x m r s now draw).sent in
       cond_both (nat_lt now r.due) ask.Wait _ P (λ _ e. cc)
       (λ _. cond_both (nat_le most_requests r.tries) ask.GiveUp (ask.Request (missing (reception r))) P (λ _ e. cc) (λ _. asks_told r is))
 
-  transmit_told : (a : Serve) (t : Sending) → Told (transmit_by a m t s now draw).sent
+  transmit_told : (a : Serve) (t : Sending) → AsksSo (transmit_by a m t s now draw).sent
   transmit_told (serve.Send q) t e = cc
   transmit_told serve.Done t e = cc
   transmit_told serve.Wait t e = cc
 
-  mode_told : (mode : Mode) → m.mode ≡ mode → Told (mode_tick mode m s now draw).sent
+  mode_told : (mode : Mode) → m.mode ≡ mode → AsksSo (mode_tick mode m s now draw).sent
   mode_told (Maintain timer) is =
-      cond_both (order_waits s) _ _ (λ (x : Turn Did). Told x.sent) (λ _ e. cc) (λ _. maintain_told (act_of timer now) (record m { mode = Maintain (after_tick timer now draw) }))
+      cond_both (order_waits s) _ _ (λ (x : Turn Did). AsksSo x.sent) (λ _ e. cc) (λ _. maintain_told (act_of timer now) (record m { mode = Maintain (after_tick timer now draw) }))
   mode_told (Receive r) is = receive_told r is
   mode_told (Transmit t) is = transmit_told (serve_of t.owed now) t
 
-  pub request_told : Told (tick_of m s now draw).sent
+  pub request_told : AsksSo (tick_of m s now draw).sent
   unfolding tick_of
-  request_told = cond_both (clears m s now) _ _ (λ (x : Turn Did). Told x.sent) (λ _ e. cc) (λ _. mode_told m.mode refl)
+  request_told = cond_both (clears m s now) _ _ (λ (x : Turn Did). AsksSo x.sent) (λ _ e. cc) (λ _. mode_told m.mode refl)
 
 -- an advert that is sent is the own summary
 module _ (m : MoteState) (s : Store) (now draw : ℕ) (wide : Bool) (source : ℕ) (entries : List Entry) (order : Order) where

@@ -117,7 +117,7 @@ pub serving_more : (c : List ℕ) (v : Mote) (m : MoteState) (s : Store) (t : Se
 serving_more c v m s t i version page a b d now owed want is mode code one two three =
     let this = sends_this c v m s t i version page owed is mode code in
     let serves = this.transmits.serves in
-    let e : is_served t a b d ≡ true = same_key t.image t.version t.page a b d (sym this.of_image ∙ one) (sym this.of_version ∙ two) (sym this.of_page ∙ three) in
+    let e : is_served t a b d ≡ true = same_page t.image t.version t.page a b d (sym this.of_image ∙ one) (sym this.of_version ∙ two) (sym this.of_page ∙ three) in
     rests_chosen (is_served t a b d) _ _ c s (record v { mode = value.Transmit i version page (after_merge owed want) }) heard.Merged e (record {
       trail = refl;
       mote = record {
@@ -132,19 +132,19 @@ serving_more c v m s t i version page a b d now owed want is mode code one two t
       answers = refl;
     })
   where
-    same_key : (a b d x y z : ℕ) → a ≡ x → b ≡ y → d ≡ z → (a == x) && (b == y) && (d == z) ≡ true
-    same_key a b d x y z e f h = grind (arith, nat_tests)
+    same_page : (a b d x y z : ℕ) → a ≡ x → b ≡ y → d ≡ z → (a == x) && (b == y) && (d == z) ≡ true
+    same_page a b d x y z e f h = grind (arith, nat_tests)
 
 -- it does not, where another page is asked for
 pub serving_other : (c : List ℕ) (v : Mote) (m : MoteState) (s : Store) (t : Sending) (i version page a b d now : ℕ) (owed : Owed) (want : Numbers) → IsMote c v m s → m.mode ≡ Transmit t → v.mode ≡ value.Transmit i version page owed
     → (i ≢ a) ⊎ ((version ≢ b) ⊎ (page ≢ d)) → ChipStays (to_it (Transmit t) m s now (page_request a b d want)) c s v heard.Dropped
 serving_other c v m s t i version page a b d now owed want is mode code other =
     let this = sends_this c v m s t i version page owed is mode code in
-    let e : is_served t a b d ≡ false = other_key t.image t.version t.page (⊎_elim (λ n. inl (λ x. n (this.of_image ∙ x))) (λ r. inr (⊎_elim (λ n. inl (λ x. n (this.of_version ∙ x))) (λ n. inr (λ x. n (this.of_page ∙ x))) r)) other) in
+    let e : is_served t a b d ≡ false = other_page t.image t.version t.page (⊎_elim (λ n. inl (λ x. n (this.of_image ∙ x))) (λ r. inr (⊎_elim (λ n. inl (λ x. n (this.of_version ∙ x))) (λ n. inr (λ x. n (this.of_page ∙ x))) r)) other) in
     rests_passed (is_served t a b d) _ _ c s v heard.Dropped e (rests_dropped c v m s is)
   where
-    other_key : (x y z : ℕ) → (x ≢ a) ⊎ ((y ≢ b) ⊎ (z ≢ d)) → (x == a) && (y == b) && (z == d) ≡ false
-    other_key x y z o = grind (arith, nat_tests)
+    other_page : (x y z : ℕ) → (x ≢ a) ⊎ ((y ≢ b) ⊎ (z ≢ d)) → (x == a) && (y == b) && (z == d) ≡ false
+    other_page x y z o = grind (arith, nat_tests)
 
 -- ---- a call that makes no operation
 

@@ -41,7 +41,7 @@ asked_receives table s r now a = record {
   version = a.version;
   next = a.next;
   more = a.more;
-  places = a.places;
+  count = a.count;
   missing = a.missing;
   honest = a.honest;
 }

@@ -49,7 +49,7 @@ hears_well table m s now draw bytes kept w =
 
 near_well : (table : List Row) (a s : Store) → StoreIsWell table a → IsNear a s → StoreIsWell table s
 near_well table a s w near =
-    let like : StoreIsWell table (record a { room = s.room }) = record { places = w.places; agrees = record { golden = w.agrees.golden; kept = w.agrees.kept; app = w.agrees.app } } in
+    let like : StoreIsWell table (record a { room = s.room }) = record { count = w.count; agrees = record { golden = w.agrees.golden; kept = w.agrees.kept; app = w.agrees.app } } in
     subst (λ (x : Store). StoreIsWell table x) (sym near.same) like
 
 pub stopped_well : (table : List Row) (t : Trail Store) (k : ℕ) (s : Store) → Through (StoreIsWell table) t → Leaves IsNear t k s → StoreIsWell table s
@@ -72,7 +72,7 @@ module _ (table : List Row) (laws : StartLaws table) where
   start_well : (k : StartCause) (s : Store) → StoreIsWell table s → Through (StoreIsWell table) (boot k s).trail
   start_well k s w =
       both_well table (boot k s).trail (laws.way k s w.agrees)
-      (through_then (OnTheWay s (boot k s).runs) (λ t. length t.kept ≡ images) (λ t way. ap length way.kept ∙ w.places) (boot k s).trail (laws.ends k s).way)
+      (through_then (OnTheWay s (boot k s).runs) (λ t. length t.kept ≡ images) (λ t way. ap length way.kept ∙ w.count) (boot k s).trail (laws.ends k s).way)
 
   pub boots_well : (k : StartCause) (s : Store) (id : ℕ) (wide : Bool) (now draw : ℕ) → StoreIsWell table s → EffectIsWell table (boots k s id wide now draw) now
   boots_well k s id wide now draw w =

@@ -28,7 +28,7 @@ pub record ReceivesRow (table : List Row) (s : Store) (r : Receiving) : Type 0 w
   pub version : kept.version ≡ r.version
   pub next : length kept.complete ≡ r.page
   pub more : r.page < kept.pages
-  pub places : length r.packets ≡ packets
+  pub count : length r.packets ≡ packets
   pub missing : set.len (came r.packets) < packets
   pub honest : (q : ℕ) (bytes : List ℕ) → packet r.packets q ≡ Some bytes
       → bytes ≡ packet_of (slice_index_or (object row) r.page []) q

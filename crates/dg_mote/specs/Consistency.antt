@@ -16,9 +16,9 @@ AsksForKnown (Maintain timer) = Unit {0}
 AsksForKnown (Receive r) = (1 ≤ r.image) × (r.image < images)
 AsksForKnown (Transmit t) = Unit {0}
 
--- the store has a place for each image, and is consistent
+-- the store has a slot for each image, and is consistent
 pub record StoreIsConsistent (golden : Row) (s : Store) : Type 0 where
-  pub places : length s.kept ≡ images
+  pub count : length s.kept ≡ images
   pub consistent : Consistent golden s
 
 -- A step goes through such stores, and the mote then asks for a known image, if for any.

@@ -13,9 +13,9 @@ use Rattle.dg_mote.specs.Effects.{Effect}
 use Rattle.dg_mote.specs.Timely.{Timely}
 use Rattle.dg_mote.specs.Agreement.{ModeAgrees, HonestMessage}
 
--- the store has a place for each image, and agrees
+-- the store has a slot for each image, and agrees
 pub record StoreIsWell (table : List Row) (s : Store) : Type 0 where
-  pub places : length s.kept ≡ images
+  pub count : length s.kept ≡ images
   pub agrees : Agrees table s
 
 -- a mote over its store

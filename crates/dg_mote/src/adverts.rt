@@ -309,7 +309,7 @@ fn can_open(volume: &Volume, image: u8, version: u32) -> bool
 }
 
 /// Whether an order is better than the one that is kept, and there is room to keep it.
-fn can_order(volume: &Volume, order: &Order) -> bool
+fn can_keep_better(volume: &Volume, order: &Order) -> bool
     ensures { (s : Store) → Tells volume.now s → result ≡ nat_lt s.order.number order.now.number && nat_le 1 s.room }
 {
     better(&volume.snapshot().order, order) && volume.room() >= 1
@@ -326,7 +326,7 @@ fn keep_better<N: Nor>(nor: &mut N, volume: &mut Volume, order: &Order) -> Resul
     ensures stopped { OnErr result ((s : Store) → Mounted (N.device nor.old).image volume.old s
         → Stops (better_trail s order.now) (N.device nor.old) (N.device nor.new)) }
 {
-    if !can_order(volume, order) {
+    if !can_keep_better(volume, order) {
         return Ok(());
     }
     match volume.order(nor, order.number, order.image, order.version) {

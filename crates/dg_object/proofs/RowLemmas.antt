@@ -23,9 +23,9 @@ pages_for-some len h = omega arith
 pub pages_for-most : (len : ℕ) → len ≤ most_bytes → pages_for len ≤ most_pages
 pages_for-most len h = omega arith
 
--- the data pages have room for the image
-pub pages_for-room : (len : ℕ) → len ≤ (pages_for len - 1) * page_size
-pages_for-room len = omega arith
+-- the data pages hold the image
+pub pages_for-holds : (len : ℕ) → len ≤ (pages_for len - 1) * page_size
+pages_for-holds len = omega arith
 
 -- a data page
 pub length-data_page : (bytes : List ℕ) (p : ℕ) → length (data_page bytes p) ≡ page_size
@@ -137,7 +137,7 @@ pub content-object : (row : Row) → content (length row.bytes) (object row) ≡
 content-object row =
     ap (λ n. take (length row.bytes) (concatenated (drop 1 (map (page_of_row row) (range_with_len 0 n))))) count
     ∙ ap (λ n. take n (concatenated (map (page_of_row row) (range_with_len 1 (pages_for (length row.bytes) - 1))))) (sym (sub-zero (length row.bytes)))
-    ∙ joined_chunks page_size 255 (page_of_row row) row.bytes 1 (pages_for (length row.bytes) - 1) (λ p low. page_of_row-data row p low) (omega arith) (omega (arith, pages_for-room (length row.bytes)))
+    ∙ joined_chunks page_size 255 (page_of_row row) row.bytes 1 (pages_for (length row.bytes) - 1) (λ p low. page_of_row-data row p low) (omega arith) (omega (arith, pages_for-holds (length row.bytes)))
   where
     count : pages_for (length row.bytes) ≡ suc (pages_for (length row.bytes) - 1)
     count = omega arith

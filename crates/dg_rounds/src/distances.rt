@@ -30,7 +30,7 @@ pub fn levels(
 
 /// Marks the motes that are a link away from those of this level, and says whether there were any.
 fn spread(levels: &mut [Option<u8>], links: &[(u8, u8)], level: u8) -> bool
-    requires room { level < 255 }
+    requires bound { level < 255 }
     requires linked { All (λ l. (l.0 < length levels.old) × (l.1 < length levels.old)) links.now }
     ensures spreads { Spreads (IsLinked links.now) level levels.old levels.new }
     ensures more { IsTrue result → unmarked levels.new < unmarked levels.old }
@@ -46,7 +46,7 @@ fn spread(levels: &mut [Option<u8>], links: &[(u8, u8)], level: u8) -> bool
 
 /// Marks a mote that is a link away from one of this level, where it isn't marked.
 fn mark(levels: &mut [Option<u8>], near: usize, far: usize, level: u8) -> bool
-    requires room { level < 255 }
+    requires bound { level < 255 }
     requires near_inside { near < length levels.old }
     requires far_inside { far < length levels.old }
     ensures { Marks near far level levels.old levels.new result }

@@ -36,12 +36,12 @@ use Rattle.dg_mote.specs.Timely.{Timely}
 use Rattle.dg_mote.specs.Well.{StoreIsWell, IsWell, TurnIsWell, SendsHonest}
 use Rattle.dg_mote.specs.Speaking.{OrderFits, Speaks, TurnSpeaks, IsSaid}
 use Rattle.dg_rules.specs.World.{World, Running, Sent, site, store_at, wide_at}
-use Rattle.dg_rules.specs.Events.{Deed, Does, Refuses, Goes, does, mote_of, dt_of, key_of, reloaded}
+use Rattle.dg_rules.specs.Events.{Deed, Does, Refuses, Goes, does, mote_of, dt_of, image_version_of, reloaded}
 use Rattle.dg_script.specs.Ranges.{IsDeclared, IsVersion, EventInRange}
 use Rattle.dg_rules.specs.Premises.{RunsWell, SentIsWell, WorldAgrees, TrueEvent}
 use Rattle.dg_base.specs.declared.events.Event.{Event}
 use Rattle.dg_rules.proofs.ThroughLemmas.{Through-map, Through-both}
-use Rattle.dg_rules.proofs.TableLemmas.{row_at-key, row_at-each, row_at-with_row, row_at-added, IsTable-with_row}
+use Rattle.dg_rules.proofs.TableLemmas.{row_at-version, row_at-each, row_at-with_row, row_at-added, IsTable-with_row}
 use Rattle.dg_rules.proofs.InjectLemmas.{OnInject, inject_way, refused_not}
 use Rattle.dg_rules.proofs.WiderLemmas.{Wider, wider_same, agrees_wider}
 use Rattle.dg_rules.proofs.EventLemmas.{order_of, running_by, starts, goes_on, hears, RestartLaws, does_cases}
@@ -79,7 +79,7 @@ pub record IsGood (table : List Row) (s : Store) : Type 0 where
 
 -- room is no part of it
 pub good_room : (table : List Row) (s : Store) (room : ℕ) → IsGood table s → IsGood table (record s { room = room })
-good_room table s room g = record { well = record { places = g.well.places; agrees = record { golden = g.well.agrees.golden; kept = g.well.agrees.kept; app = g.well.agrees.app } }; order = g.order }
+good_room table s room g = record { well = record { count = g.well.count; agrees = record { golden = g.well.agrees.golden; kept = g.well.agrees.kept; app = g.well.agrees.app } }; order = g.order }
 
 through_good : (table : List Row) (t : Trail Store) → Through (StoreIsWell table) t → Through (λ s. OrderFits s.order) t → Through (IsGood table) t
 through_good table t well order =
@@ -155,15 +155,15 @@ module _ (w : World) (agrees : WorldAgrees w) where
       → Injected m image version row
   injected m image version row low known same =
       let d = row_at-each IsDeclared w.declared image version row agrees.rows known in
-      let key = row_at-key w.declared image version row known in
+      let own = row_at-version w.declared image version row known in
       let old = agrees.sites m low in
       let wider : Wider w.table (with_row w.table row) = λ i v r e. row_at-with_row w.table row r i v e in
       record {
         declared = d;
-        image_is = key.0;
-        version_is = key.1;
-        in_table = row_at-added w.table row (λ r e. same r (ap (λ i. row_at w.table i version) (sym key.0) ∙ ap (row_at w.table row.image) (sym key.1) ∙ e));
-        within = let few = d.image in let count = old.store.places in omega (arith, few, count);
+        image_is = own.0;
+        version_is = own.1;
+        in_table = row_at-added w.table row (λ r e. same r (ap (λ i. row_at w.table i version) (sym own.0) ∙ ap (row_at w.table row.image) (sym own.1) ∙ e));
+        within = let few = d.image in let count = old.store.count in omega (arith, few, count);
         wider = wider;
         agrees_more = agrees_wider w.table (with_row w.table row) wider (store_at w m) old.store.agrees;
       }
@@ -203,7 +203,7 @@ module _ (laws : Laws) (w : World) (agrees : WorldAgrees w) where
       let b = boot k s in
       let way = (laws.volume.ends k s).way in
       through_good w.table b.trail
-      (Through-map (λ t. Agrees w.table t × OnTheWay s b.runs t) (StoreIsWell w.table) (λ t both. record { places = ap length both.1.kept ∙ g.well.places; agrees = both.0 }) b.trail
+      (Through-map (λ t. Agrees w.table t × OnTheWay s b.runs t) (StoreIsWell w.table) (λ t both. record { count = ap length both.1.kept ∙ g.well.count; agrees = both.0 }) b.trail
       (Through-both (Agrees w.table) (OnTheWay s b.runs) b.trail (laws.volume.boots w.table k s g.well.agrees) way))
       (Through-map (OnTheWay s b.runs) (λ t. OrderFits t.order) (λ t on. subst OrderFits (sym on.order) g.order) b.trail way)
 
@@ -212,7 +212,7 @@ module _ (laws : Laws) (w : World) (agrees : WorldAgrees w) where
       → IfSome runs (RunsWell w.table m (wide_at w m) now s)
   started_well m id wide now draw s None runs is same low g e = absurd cc
   started_well m id wide now draw s (Some r) runs is same low g e =
-      subst (λ (o : Option Running). IfSome o (RunsWell w.table m (wide_at w m) now s)) (same_running (Some (record { image_version = key_of r; mote = begun_mote id wide now draw })) runs e)
+      subst (λ (o : Option Running). IfSome o (RunsWell w.table m (wide_at w m) now s)) (same_running (Some (record { image_version = image_version_of r; mote = begun_mote id wide now draw })) runs e)
       (record {
         id = is;
         wide_is = same;
@@ -319,11 +319,11 @@ module _ (laws : Laws) (w : World) (agrees : WorldAgrees w) where
       let order = order_of number image version in
       let old = here m low in
       let t = order_trail s order in
-      let places = Through-stepping (λ x. length x.kept ≡ images) s (commit_operations s.room) (ordered s order) old.well.places old.well.places in
+      let count = Through-stepping (λ x. length x.kept ≡ images) s (commit_operations s.room) (ordered s order) old.well.count old.well.count in
       let way : Through (IsGood w.table) t =
       through_good w.table t
-      (Through-map (λ x. Agrees w.table x × (length x.kept ≡ images)) (StoreIsWell w.table) (λ x both. record { places = both.1; agrees = both.0 }) t
-      (Through-both (Agrees w.table) (λ x. length x.kept ≡ images) t (laws.volume.orders w.table s order old.well.agrees) places))
+      (Through-map (λ x. Agrees w.table x × (length x.kept ≡ images)) (StoreIsWell w.table) (λ x both. record { count = both.1; agrees = both.0 }) t
+      (Through-both (Agrees w.table) (λ x. length x.kept ≡ images) t (laws.volume.orders w.table s order old.well.agrees) count))
       (Through-stepping (λ x. OrderFits x.order) s (commit_operations s.room) (ordered s order) old.order fits) in
       same_table m dt _ refl way (λ runs e. reloads_well m dt draw w.table (last t) runs low (Through-last (IsGood w.table) t way) e) tt
 
@@ -342,7 +342,7 @@ module _ (laws : Laws) (w : World) (agrees : WorldAgrees w) where
       let way : Through (IsGood more) t =
       through_good more t
       (Through-map (λ x. Agrees more x × OnInject s row x) (StoreIsWell more)
-      (λ x both. record { places = ap length both.1.kept ∙ length-set s.kept row.image both.1.here ∙ old.well.places; agrees = both.0 }) t
+      (λ x both. record { count = ap length both.1.kept ∙ length-set s.kept row.image both.1.here ∙ old.well.count; agrees = both.0 }) t
       (Through-both (Agrees more) (OnInject s row) t (laws.volume.injects more s row i.within i.in_table i.agrees_more) on))
       (Through-map (OnInject s row) (λ x. OrderFits x.order) (λ x o. subst OrderFits (sym o.order) old.order) t on) in
       record {

@@ -89,7 +89,7 @@ module _ (table : List Row) (stores : List Store) (links : List (ℕ × ℕ)) (n
 
   first_well : StoresAgree table stores → AreShaped stores → (m : ℕ) → m < length stores → SiteIsWell table m (is_wide_mote narrow m) 0 (off_site (store_of stores m))
   first_well agree shaped m here = record {
-    store = record { places = (shaped m here).places; agrees = agree.each m here };
+    store = record { count = (shaped m here).count; agrees = agree.each m here };
     order = order_told (store_of stores m).order (shaped m here).order;
     runs = tt;
   }

@@ -20,11 +20,11 @@ use Rattle.dg_volume.specs.Start.{Runs, Boot, behind, counts, count_trail, by_ge
 use Rattle.dg_volume.specs.declared.volume.StartCause.{StartCause}
 use Rattle.dg_volume.specs.declared.volume.StartCause.TheVariants as cause
 use Rattle.dg_base.specs.declared.events.ImageVersion.{ImageVersion}
-use Rattle.dg_rules.specs.Small.{app_key}
-use Rattle.dg_rules.specs.Events.{key_of}
+use Rattle.dg_rules.specs.Small.{app_version}
+use Rattle.dg_rules.specs.Events.{image_version_of}
 
-abbrev pub golden_key : ImageVersion
-golden_key = record { image = 0; version = golden_version }
+abbrev pub golden_image_version : ImageVersion
+golden_image_version = record { image = 0; version = golden_version }
 
 -- the order's image, whole
 pub record IsWaiting (order : Order) (kept : Option Held) (r : Runs) : Type 0 where
@@ -35,11 +35,11 @@ pub record IsWaiting (order : Order) (kept : Option Held) (r : Runs) : Type 0 wh
 
 -- golden, what program memory was Set to, or the order's image
 abbrev pub MayRun : Store → Runs → Type 0
-MayRun s r = (key_of r ≡ golden_key) ⊎ ((option_map app_key s.app ≡ Some (key_of r)) ⊎ IsWaiting s.order (held s s.order.image) r)
+MayRun s r = (image_version_of r ≡ golden_image_version) ⊎ ((option_map app_version s.app ≡ Some (image_version_of r)) ⊎ IsWaiting s.order (held s s.order.image) r)
 
 -- program memory is Set to what runs, or is blank under golden
 abbrev pub InMemory : Option App → Runs → Type 0
-InMemory app r = (option_map app_key app ≡ Some (key_of r)) ⊎ ((app ≡ None) × (key_of r ≡ golden_key))
+InMemory app r = (option_map app_version app ≡ Some (image_version_of r)) ⊎ ((app ≡ None) × (image_version_of r ≡ golden_image_version))
 
 -- a chip whose third short start is counted has no room to choose by it
 abbrev pub IsSettled : Store → Type 0
@@ -145,7 +145,7 @@ golden_copied_start s three old =
     cond_both (sound s 0) copied none (IsStart s)
     (λ _. record {
       first = copied_first s r f;
-      chosen = λ q e. inl (ap key_of (sym (same_runs r q e)));
+      chosen = λ q e. inl (ap image_version_of (sym (same_runs r q e)));
       memory = λ q e. subst (InMemory (last copied.trail).app) (same_runs r q e) (subst (λ (x : Store). InMemory x.app r) (sym at) (finish_memory b r three (inr (blank_app s, refl))));
       settled = λ q e. subst IsSettled (sym at) (finish_settled b r three (λ no. blank_settled s (old no)));
       found = λ _ e. not_neither r e;
@@ -160,28 +160,28 @@ golden_copied_start s three old =
       row = λ table a q e. absurd (not_both q e);
     })
 
-set_key : (app : App) (image version : ℕ) → is_set_to (Some app) image version ≡ true → (app.image ≡ image) × (app.version ≡ version)
-set_key app image version is =
+set_version : (app : App) (image version : ℕ) → is_set_to (Some app) image version ≡ true → (app.image ≡ image) × (app.version ≡ version)
+set_version app image version is =
     let parts = and_parts (app.image == image) (app.version == version) is in
     (eqb-true app.image image parts.0, eqb-true app.version version parts.1)
 
-same_app_key : (app : App) (image_version : ImageVersion) → app.image ≡ image_version.image → app.version ≡ image_version.version → app_key app ≡ image_version
-same_app_key app image_version image version i = record { image = image i; version = version i }
+same_app_version : (app : App) (image_version : ImageVersion) → app.image ≡ image_version.image → app.version ≡ image_version.version → app_version app ≡ image_version
+same_app_version app image_version image version i = record { image = image i; version = version i }
 
 golden_stays_start : (s : Store) (app : App) (three : Bool) → s.app ≡ Some app → is_set_to (Some app) 0 golden_version ≡ true → (three ≡ false → IsSettled s) → IsStart s (golden_stays s app three)
 golden_stays_start s app three here is old =
     let r : Runs = record { image = 0; version = golden_version; pages = app.pages } in
-    let key = set_key app 0 golden_version is in
+    let own = set_version app 0 golden_version is in
     record {
       first = finish_first s r three;
-      chosen = λ q e. inl (ap key_of (sym (same_runs r q e)));
+      chosen = λ q e. inl (ap image_version_of (sym (same_runs r q e)));
       memory = λ q e. subst (InMemory (last (finish_trail s r three)).app) (same_runs r q e)
-          (finish_memory s r three (inl (ap (option_map app_key) here ∙ ap (λ (k : ImageVersion). Some k) (same_app_key app golden_key key.0 key.1))));
+          (finish_memory s r three (inl (ap (option_map app_version) here ∙ ap (λ (k : ImageVersion). Some k) (same_app_version app golden_image_version own.0 own.1))));
       settled = λ q e. finish_settled s r three old;
       found = λ _ e. not_neither r e;
       row = λ table a q e. subst (λ (x : Runs). HoldsRow table (app_of x)) (same_runs r q e)
           (let h : HoldsRow table app = subst (λ (o : Option App). IfSome o (HoldsRow table)) here a.app in
-          record { row = h.row; in_table = ap (λ (i : ℕ). row_at table i golden_version) (sym key.0) ∙ ap (row_at table app.image) (sym key.1) ∙ h.in_table; pages = h.pages });
+          record { row = h.row; in_table = ap (λ (i : ℕ). row_at table i golden_version) (sym own.0) ∙ ap (row_at table app.image) (sym own.1) ∙ h.in_table; pages = h.pages });
     }
 
 golden_start_by : (s : Store) (three : Bool) (o : Option App) → s.app ≡ o → (three ≡ false → IsSettled s) → IsStart s (golden_by o s three)
@@ -201,11 +201,11 @@ unfolding Rattle.dg_nor.specs.Trail.last_of
 kept_start_by s three None here old = golden_start s three (λ _. old)
 kept_start_by s three (Some app) here old =
     let r : Runs = record { image = app.image; version = app.version; pages = app.pages } in
-    let key : option_map app_key s.app ≡ Some (key_of r) = ap (option_map app_key) here in
+    let own : option_map app_version s.app ≡ Some (image_version_of r) = ap (option_map app_version) here in
     record {
       first = refl;
-      chosen = λ q e. subst (MayRun s) (same_runs r q e) (inr (inl key));
-      memory = λ q e. subst (InMemory s.app) (same_runs r q e) (inl key);
+      chosen = λ q e. subst (MayRun s) (same_runs r q e) (inr (inl own));
+      memory = λ q e. subst (InMemory s.app) (same_runs r q e) (inl own);
       settled = λ q e. old;
       found = λ _ e. not_neither r e;
       row = λ table a q e. subst (λ (x : Runs). HoldsRow table (app_of x)) (same_runs r q e)

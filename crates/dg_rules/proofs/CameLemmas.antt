@@ -10,7 +10,7 @@ use Rattle.dg_mote.specs.Ticks.{tick_of}
 use Rattle.dg_mote.specs.Hears.{heard_of}
 use Rattle.dg_mote.specs.Changes.{IfReceives, Brings, IsBegun, Continues}
 use Rattle.dg_rules.specs.World.{World, Site, Running, Sent, site, store_at, wide_at, counted}
-use Rattle.dg_rules.specs.Events.{Deed, Does, Refuses, Goes, does, mote_of, dt_of, key_of, reloaded}
+use Rattle.dg_rules.specs.Events.{Deed, Does, Refuses, Goes, does, mote_of, dt_of, image_version_of, reloaded}
 use Rattle.dg_rules.specs.Steps.{blows, StepDoes, WorldStep}
 use Rattle.dg_script.specs.Ranges.{EventInRange, StepInRange}
 use Rattle.dg_rules.specs.Premises.{RunsWell, WorldAgrees}
@@ -119,7 +119,7 @@ module _ (restarts : RestartLaws) (changes : ChangeLaws) (past : Past) (w : Worl
 
   start_came : (p : Past) (m : ℕ) (o : Option Runs) (id : ℕ) (wide : Bool) (now draw : ℕ) (runs : Option Running) → running_by o id wide now draw ≡ Some runs → At p m runs
   start_came p m None id wide now draw runs e = absurd cc
-  start_came p m (Some r) id wide now draw runs e = one_came p m (record { image_version = key_of r; mote = begun_mote id wide now draw }) runs tt e
+  start_came p m (Some r) id wide now draw runs e = one_came p m (record { image_version = image_version_of r; mote = begun_mote id wide now draw }) runs tt e
 
   reload_came : (p : Past) (m : ℕ) (o runs : Option Running) (now draw : ℕ) → Some (reloaded o now draw) ≡ Some runs → At p m runs
   reload_came p m o runs now draw e = subst (At p m) (same_running (reloaded o now draw) runs e) (each o)

@@ -24,7 +24,7 @@ use Rattle.dg_mote.specs.Hears.{heard_of}
 use Rattle.dg_mote.specs.Consistency.{AsksForKnown, StoreIsConsistent, TurnIsConsistent}
 use Rattle.dg_mote.proofs.ConsistentLemmas.{consistent_room}
 use Rattle.dg_rules.specs.World.{World, Running, Site, site, store_at, wide_at, off_site}
-use Rattle.dg_rules.specs.Events.{Deed, Does, Refuses, Goes, trail_of, does, mote_of, key_of, reloaded}
+use Rattle.dg_rules.specs.Events.{Deed, Does, Refuses, Goes, trail_of, does, mote_of, image_version_of, reloaded}
 use Rattle.dg_rules.specs.Steps.{WorldStep, DeclareStep, declared_as}
 use Rattle.dg_script.specs.Ranges.{IsDeclared, EventInRange, StepInRange}
 use Rattle.dg_rules.specs.Consistency.{SiteConsistent, WorldConsistent, StartsSoundDoes, StopsConsistent}
@@ -51,8 +51,8 @@ pub record ConsistentLaws (golden : Row) : Type 0 where
   pub ticks : (m : MoteState) (s : Store) (now draw : ℕ) → StoreIsConsistent golden s → AsksForKnown m.mode → TurnIsConsistent golden (tick_of m s now draw)
   pub hears : (m : MoteState) (s : Store) (now draw : ℕ) (bytes : List ℕ) → StoreIsConsistent golden s → AsksForKnown m.mode → TurnIsConsistent golden (heard_of m s now draw bytes)
 
-abbrev HasPlaces : Store → Type 0
-HasPlaces s = length s.kept ≡ images
+abbrev HasSlots : Store → Type 0
+HasSlots s = length s.kept ≡ images
 
 abbrev AsksKnown : Option Running → Type 0
 AsksKnown runs = IfSome runs (λ r. AsksForKnown r.mote.mode)
@@ -64,8 +64,8 @@ module _ (golden : Row) where
   abbrev Fine : Bool → Site → Type 0
   Fine b y = SiteConsistent golden y
 
-  both : (t : Trail Store) → Through (Consistent golden) t → Through HasPlaces t → Through P t
-  both t c p = Through-map (λ s. Consistent golden s × HasPlaces s) P (λ s h. record { places = h.1; consistent = h.0 }) t (Through-both (Consistent golden) HasPlaces t c p)
+  both : (t : Trail Store) → Through (Consistent golden) t → Through HasSlots t → Through P t
+  both t c p = Through-map (λ s. Consistent golden s × HasSlots s) P (λ s h. record { count = h.1; consistent = h.0 }) t (Through-both (Consistent golden) HasSlots t c p)
 
   site_room : (s : Store) (room : ℕ) → SiteConsistent golden (off_site s) → SiteConsistent golden (off_site (record s { room = room }))
   site_room s room y = record { store = consistent_room golden s room y.store; asks = tt }
@@ -74,19 +74,19 @@ module _ (golden : Row) where
     boot_way : (k : StartCause) (s : Store) → P s → Through P (boot k s).trail
     boot_way k s p =
         let b = boot k s in
-        both b.trail (laws.boots k s p.consistent) (Through-map (OnTheWay s b.runs) HasPlaces (λ t on. ap length on.kept ∙ p.places) b.trail (laws.ends k s).way)
+        both b.trail (laws.boots k s p.consistent) (Through-map (OnTheWay s b.runs) HasSlots (λ t on. ap length on.kept ∙ p.count) b.trail (laws.ends k s).way)
 
     order_way : (s : Store) (number image version : ℕ) → P s → Through P (order_trail s (order_of number image version))
     order_way s number image version p =
         let order = order_of number image version in
-        both (order_trail s order) (laws.orders s order p.consistent) (Through-stepping HasPlaces s (commit_operations s.room) (ordered s order) p.places p.places)
+        both (order_trail s order) (laws.orders s order p.consistent) (Through-stepping HasSlots s (commit_operations s.room) (ordered s order) p.count p.count)
 
     inject_way : (s : Store) (row : Row) → IsDeclared row → inject_refusal s row ≡ None → P s → Through P (inject_trail s row)
     inject_way s row d fits p =
         let few = d.image in
-        let count = p.places in
+        let count = p.count in
         both (inject_trail s row) (laws.injects s row (is_row s row d fits) (omega (arith, few, count)) p.consistent)
-        (inject_keeps HasPlaces row (λ x o h. length-set x.kept row.image o ∙ h) (λ x h. h) s p.places)
+        (inject_keeps HasSlots row (λ x o h. length-set x.kept row.image o ∙ h) (λ x h. h) s p.count)
 
     -- ---- every event
 
@@ -108,7 +108,7 @@ module _ (golden : Row) where
 
       start_asks : (o : Option Runs) (id : ℕ) (wide : Bool) (now draw : ℕ) (runs : Option Running) → running_by o id wide now draw ≡ Some runs → AsksKnown runs
       start_asks None id wide now draw runs e = absurd cc
-      start_asks (Some r) id wide now draw runs e = one_asks (record { image_version = key_of r; mote = begun_mote id wide now draw }) runs tt e
+      start_asks (Some r) id wide now draw runs e = one_asks (record { image_version = image_version_of r; mote = begun_mote id wide now draw }) runs tt e
 
       reload_asks : (o runs : Option Running) (now draw : ℕ) → Some (reloaded o now draw) ≡ Some runs → AsksKnown runs
       reload_asks o runs now draw e = subst AsksKnown (same_running (reloaded o now draw) runs e) (each o)

@@ -71,7 +71,7 @@ module _ (laws : RunLaws) (g : GoldenNetwork) (played : List Played) (v : World)
   begins = record {
     world = record {
       rows = tt;
-      sites = λ m here. subst (SiteConsistent Golden) (sym (first_site g.name g.bytes g.used g.motes g.links g.narrow script.is_row m here)) (record { store = record { places = refl; consistent = laws.fresh g.name g.bytes g.used script.is_row }; asks = tt });
+      sites = λ m here. subst (SiteConsistent Golden) (sym (first_site g.name g.bytes g.used g.motes g.links g.narrow script.is_row m here)) (record { store = record { count = refl; consistent = laws.fresh g.name g.bytes g.used script.is_row }; asks = tt });
     };
     count = first_count g.name g.bytes g.used g.motes g.links g.narrow script.is_row;
   }

@@ -26,8 +26,8 @@ use Rattle.dg_mote.specs.Hears.{heard_of}
 use Rattle.dg_mote.specs.Changes.{MayClear, IfReceives}
 use Rattle.dg_base.specs.declared.events.ImageVersion.{ImageVersion}
 use Rattle.dg_rules.specs.World.{World, Site, Running, Sent, site, store_at, is_wide_mote, wide_at, counted, frame_at, last_frame}
-use Rattle.dg_rules.specs.Small.{Holding, SmallMote, holding, app_key, running_key, small_mote, Small, small, holds, whole}
-use Rattle.dg_rules.specs.Events.{Deed, Does, Refuses, Goes, does, mote_of, dt_of, key_of, reloaded, acts}
+use Rattle.dg_rules.specs.Small.{Holding, SmallMote, holding, app_version, running_version, small_mote, Small, small, holds, whole}
+use Rattle.dg_rules.specs.Events.{Deed, Does, Refuses, Goes, does, mote_of, dt_of, image_version_of, reloaded, acts}
 use Rattle.dg_rules.specs.Steps.{blows, and_sent, StepDoes, WorldStep}
 use Rattle.dg_script.specs.Ranges.{EventInRange, StepInRange}
 use Rattle.dg_rules.specs.Premises.{RunsWell, WorldAgrees, TrueEvent}
@@ -89,22 +89,22 @@ if_on P Q None (Some r) a b f p = absurd (let e = b refl in cc)
 if_on P Q (Some q) None a b f p = tt
 if_on P Q (Some q) (Some r) a b f p = f p
 
-started : (o : Option Runs) (id : ℕ) (wide : Bool) (now draw : ℕ) (runs : Option Running) → running_by o id wide now draw ≡ Some runs → (r : Runs) × (o ≡ Some r) × (runs ≡ Some (record { image_version = key_of r; mote = begun_mote id wide now draw }))
+started : (o : Option Runs) (id : ℕ) (wide : Bool) (now draw : ℕ) (runs : Option Running) → running_by o id wide now draw ≡ Some runs → (r : Runs) × (o ≡ Some r) × (runs ≡ Some (record { image_version = image_version_of r; mote = begun_mote id wide now draw }))
 started None id wide now draw runs e = absurd cc
-started (Some r) id wide now draw runs e = (r, refl, sym (same_running (Some (record { image_version = key_of r; mote = begun_mote id wide now draw })) runs e))
+started (Some r) id wide now draw runs e = (r, refl, sym (same_running (Some (record { image_version = image_version_of r; mote = begun_mote id wide now draw })) runs e))
 
 larger : (s : Store) (order : Order) → order_refusal s order ≡ None → s.order.number < order.number
 larger s order e =
     cond_both (nat_le order.number s.order.number) (Some (order_fault.OldOrder s.order.number)) _ (λ (o : Option OrderFault). o ≡ None → s.order.number < order.number)
     (λ _ f. cc) (λ low _. leb-false order.number s.order.number low) e
 
--- a mote goes on under the key that it ran under
-same_key : (t : Store) (a b : Option Running) → running_key a ≡ running_key b → mote t a ≡ mote t b
-same_key t a b e = λ j. record { holdings = (mote t a).holdings; app = (mote t a).app; order = t.order; runs = e j }
+-- a mote goes on with the image version that it ran
+same_running_version : (t : Store) (a b : Option Running) → running_version a ≡ running_version b → mote t a ≡ mote t b
+same_running_version t a b e = λ j. record { holdings = (mote t a).holdings; app = (mote t a).app; order = t.order; runs = e j }
 
-reloaded_key : (o : Option Running) (now draw : ℕ) → running_key (reloaded o now draw) ≡ running_key o
-reloaded_key None now draw = refl
-reloaded_key (Some r) now draw = refl
+reloaded_version : (o : Option Running) (now draw : ℕ) → running_version (reloaded o now draw) ≡ running_version o
+reloaded_version None now draw = refl
+reloaded_version (Some r) now draw = refl
 
 reloaded_none : (o : Option Running) (now draw : ℕ) → reloaded o now draw ≡ None → o ≡ None
 reloaded_none None now draw e = refl
@@ -115,17 +115,17 @@ none_reloaded None now draw e = refl
 none_reloaded (Some r) now draw e = absurd cc
 
 -- one holding is another
-inject_small : (x : Site) (row : Row) (image : ℕ) (t : Store) (way : OnInject x.store row t) (runs then : Option Running) → row.image ≡ image → running_key runs ≡ running_key then
-    → mote t runs ≡ record (taking (small_mote x) image (option_map holding way.here)) { runs = running_key then }
+inject_small : (x : Site) (row : Row) (image : ℕ) (t : Store) (way : OnInject x.store row t) (runs then : Option Running) → row.image ≡ image → running_version runs ≡ running_version then
+    → mote t runs ≡ record (taking (small_mote x) image (option_map holding way.here)) { runs = running_version then }
 inject_small x row image t way runs then image_is runs_is =
     let f : Option Held → Option Holding = option_map holding in
     let h = f way.here in
     let holdings : map f t.kept ≡ slice_set (map f x.store.kept) image h = ap (map f) way.kept ∙ map-set f x.store.kept row.image way.here ∙ ap (λ (i : ℕ). slice_set (map f x.store.kept) i h) image_is in
-    λ j. record { holdings = holdings j; app = option_map app_key (way.app j); order = way.order j; runs = runs_is j }
+    λ j. record { holdings = holdings j; app = option_map app_version (way.app j); order = way.order j; runs = runs_is j }
 
 module _ (laws : StepLaws) (past : Past) (w : World) (agrees : WorldAgrees w) (settled : WorldSettled w) (came : WorldCame past w) where
   is_on : (m : ℕ) (r : Running) → (site w m).runs ≡ Some r → SmallIsOn (small_mote (site w m))
-  is_on m r on = (r.image_version, ap running_key on)
+  is_on m r on = (r.image_version, ap running_version on)
 
   settled_here : (m : ℕ) (r : Running) → (site w m).runs ≡ Some r → m < length w.sites → IsSettled (store_at w m)
   settled_here m r on here = running_at (λ q. IsSettled (store_at w m)) (site w m).runs r on (settled m here)
@@ -133,10 +133,10 @@ module _ (laws : StepLaws) (past : Past) (w : World) (agrees : WorldAgrees w) (s
   one_settled : (r : Running) (runs : Option Running) (t : Store) → IsSettled t → IfSome runs (λ q. IsSettled t)
   one_settled r runs t s = if_any (IsSettled t) runs s
 
-  -- it goes on with the key that it ran under
-  on_key : (m : ℕ) (r : Running) (n : MoteState) (runs : Option Running) → (site w m).runs ≡ Some r → ◌≡◌ {A = Option (Option Running)} (Some (Some (record { image_version = r.image_version; mote = n }))) (Some runs)
-      → running_key runs ≡ running_key (site w m).runs
-  on_key m r n runs on e = ap running_key (sym (same_running (Some (record { image_version = r.image_version; mote = n })) runs e)) ∙ sym (ap running_key on)
+  -- it goes on with the image version that it ran
+  on_version : (m : ℕ) (r : Running) (n : MoteState) (runs : Option Running) → (site w m).runs ≡ Some r → ◌≡◌ {A = Option (Option Running)} (Some (Some (record { image_version = r.image_version; mote = n }))) (Some runs)
+      → running_version runs ≡ running_version (site w m).runs
+  on_version m r n runs on e = ap running_version (sym (same_running (Some (record { image_version = r.image_version; mote = n })) runs e)) ∙ sym (ap running_version on)
 
   -- nothing of the small state changes, but that the mote is off
   stays_cut : (may : ImageVersion → Type 0) (x : Site) (s : Store) → mote s None ≡ record (small_mote x) { runs = None } → CutStart may (small_mote x) (mote s None)
@@ -154,7 +154,7 @@ module _ (laws : StepLaws) (past : Past) (w : World) (agrees : WorldAgrees w) (s
       let t = step.trail in
       let way = laws.changes.ticks r.mote s now draw in
       record {
-        whole = λ runs e. (is_on m r on, inl (clear_small x (last t) runs (Through-last (MayClear s) t way) ∙ same_key s runs x.runs (on_key m r step.mote runs on e)), refl);
+        whole = λ runs e. (is_on m r on, inl (clear_small x (last t) runs (Through-last (MayClear s) t way) ∙ same_running_version s runs x.runs (on_version m r step.mote runs on e)), refl);
         cut = Through-map (MayClear s) (λ q. LegalAt (step_facts past w.declared true (wide_at w m) None) w.table (Tick m dt draw) (small_mote x) (mote q None) w.table)
             (λ q may. (is_on m r on, stays_cut (OrdersWholeRow w.table (small_mote x)) x q (clear_small x q None may), refl)) t way;
         settled = λ runs e. one_settled r runs (last t) (calm_settled s (last t) (tick_calm laws.changes r.mote s now draw) (settled_here m r on here));
@@ -173,15 +173,15 @@ module _ (laws : StepLaws) (past : Past) (w : World) (agrees : WorldAgrees w) (s
       let n = begun_mote r.mote.id r.mote.wide now draw in
       let May : ImageVersion → Type 0 = OrdersWholeRow w.table (small_mote x) in
       let chosen : b.runs ≡ Some q = tick_starts ends w.table x old agrees.table laws.rows waits (settled_here m r on here) in
-      let is : (runs : Option Running) → running_by b.runs r.mote.id r.mote.wide now draw ≡ Some runs → Some (record { image_version = key_of q; mote = n }) ≡ runs =
-      λ runs e. same_running (Some (record { image_version = key_of q; mote = n })) runs (ap (λ (o : Option Runs). running_by o r.mote.id r.mote.wide now draw) (sym chosen) ∙ e) in
+      let is : (runs : Option Running) → running_by b.runs r.mote.id r.mote.wide now draw ≡ Some runs → Some (record { image_version = image_version_of q; mote = n }) ≡ runs =
+      λ runs e. same_running (Some (record { image_version = image_version_of q; mote = n })) runs (ap (λ (o : Option Runs). running_by o r.mote.id r.mote.wide now draw) (sym chosen) ∙ e) in
       record {
         whole = λ runs e.
             subst (λ (o : Option Running). LegalAt (step_facts past w.declared false (wide_at w m) None) w.table (Tick m dt draw) (small_mote x) (mote (last b.trail) o) w.table) (is runs e)
             (is_on m r on, tick_start ends w.table x old n waits chosen, refl);
         cut = Through-map (λ t. CutStart May (small_mote x) (mote t None)) (λ t. LegalAt (step_facts past w.declared true (wide_at w m) None) w.table (Tick m dt draw) (small_mote x) (mote t None) w.table)
             (λ t c. (is_on m r on, c, refl)) b.trail
-            (cut_start ends w.table x old cause.Order May (λ c e. subst (λ (y : Runs). May (key_of y)) (same_runs q c (sym chosen ∙ e)) (tick_waits ends w.table x old waits)));
+            (cut_start ends w.table x old cause.Order May (λ c e. subst (λ (y : Runs). May (image_version_of y)) (same_runs q c (sym chosen ∙ e)) (tick_waits ends w.table x old waits)));
         settled = λ runs e. if_any (IsSettled (last b.trail)) runs ((boot_start cause.Order s).settled q chosen);
       }
 
@@ -230,7 +230,7 @@ module _ (laws : StepLaws) (past : Past) (w : World) (agrees : WorldAgrees w) (s
         let ends = heard_ends laws.changes w.table past m Listener r.mote (wide_at w m) known.wide_is Now draw bytes known.well.mode there in
         let n = (heard_of r.mote Listener.store Now draw bytes).mote in
         record {
-          whole = λ runs e. (is_on m r on, mote (last Heard) Listener.runs, ends.whole.0, same_key (last Heard) runs Listener.runs (on_key m r n runs on e), refl);
+          whole = λ runs e. (is_on m r on, mote (last Heard) Listener.runs, ends.whole.0, same_running_version (last Heard) runs Listener.runs (on_version m r n runs on e), refl);
           cut = Through-map (λ t. LegalMessage (Came m bytes past) true m (wide_at w m) (message_of bytes (wide_at w m)) (small_mote Listener) (mote t Listener.runs) × IsCalm Listener.store t) (λ s. Brought true (mote s None))
               (λ t may. (is_on m r on, mote t Listener.runs, may.0, refl, refl)) Heard ends.cut;
           calm = λ runs. if_any (IsSettled (last Heard)) runs (calm_settled Listener.store (last Heard) ends.whole.1 (settled_here m r on here));
@@ -264,8 +264,8 @@ module _ (laws : StepLaws) (past : Past) (w : World) (agrees : WorldAgrees w) (s
       let is = same_running (reloaded o now draw) runs e in
       if_on (IsSettled (store_at w m)) (IsSettled t) o runs (λ none. reloaded_none o now draw (is ∙ none)) (λ none. sym is ∙ none_reloaded o now draw none) f (settled m here)
 
-  reload_key : (m now draw : ℕ) (runs : Option Running) → Some (reloaded (site w m).runs now draw) ≡ Some runs → running_key runs ≡ running_key (site w m).runs
-  reload_key m now draw runs e = ap running_key (sym (same_running (reloaded (site w m).runs now draw) runs e)) ∙ reloaded_key (site w m).runs now draw
+  reload_version : (m now draw : ℕ) (runs : Option Running) → Some (reloaded (site w m).runs now draw) ≡ Some runs → running_version runs ≡ running_version (site w m).runs
+  reload_version m now draw runs e = ap running_version (sym (same_running (reloaded (site w m).runs now draw) runs e)) ∙ reloaded_version (site w m).runs now draw
 
   order_legal : (m number image version dt draw : ℕ) → order_refusal (store_at w m) (order_of number image version) ≡ None → m < length w.sites
       → LegalDeedDoes past w (OrderEvent m number image version dt draw) (acts w m (order_trail (store_at w m) (order_of number image version)) w.table (w.moment + dt) draw)
@@ -278,7 +278,7 @@ module _ (laws : StepLaws) (past : Past) (w : World) (agrees : WorldAgrees w) (s
       let more = larger s order none in
       let mid : SmallMote = record (small_mote x) { order = order } in
       record {
-        whole = λ runs e. (mid, record { larger = more; change = inl refl }, same_key t runs x.runs (reload_key m (w.moment + dt) draw runs e), refl);
+        whole = λ runs e. (mid, record { larger = more; change = inl refl }, same_running_version t runs x.runs (reload_version m (w.moment + dt) draw runs e), refl);
         cut = Through-stepping (λ q. LegalAt (step_facts past w.declared true (wide_at w m) None) w.table (OrderEvent m number image version dt draw) (small_mote x) (mote q None) w.table) s (commit_operations s.room) t
             (small_mote x, record { larger = more; change = inr (refl, refl) }, refl, refl)
             (mid, record { larger = more; change = inl refl }, refl, refl);
@@ -323,7 +323,7 @@ module _ (laws : StepLaws) (past : Past) (w : World) (agrees : WorldAgrees w) (s
           whole = λ runs e. (
             taking (small_mote Here) image (option_map holding way.here),
             inject_is_legal false (option_map holding way.here) (inl (refl, inject_whole More s row fact.in_table fact.within fact.agrees_more none)),
-            inject_small Here row image t way runs Here.runs fact.image_is (reload_key m (w.moment + dt) draw runs e),
+            inject_small Here row image t way runs Here.runs fact.image_is (reload_version m (w.moment + dt) draw runs e),
           );
           cut = Through-map (OnInject s row) (λ q. LegalAt (step_facts past w.declared true (wide_at w m) None) w.table (Inject m image version dt draw) (small_mote Here) (mote q None) More)
               (λ q on. (

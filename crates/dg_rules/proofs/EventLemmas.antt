@@ -25,7 +25,7 @@ use Rattle.dg_mote.specs.Rules.{MayRestart}
 use Rattle.dg_mote.specs.declared.mote.Did.{Did}
 use Rattle.dg_mote.specs.declared.mote.Did.TheVariants as did
 use Rattle.dg_rules.specs.World.{World, Site, Running, Sent, site, store_at, wide_at, with_site, counted, off_site, linked, frame_at, last_by, last_frame}
-use Rattle.dg_rules.specs.Events.{Deed, Does, Refuses, Goes, does, mote_of, dt_of, key_of, of_effect, tick_does, hear_by, heard_sent, heard_last, unless_off, acts, inject_unless, inject_row, order_unless, knows, injects, orders}
+use Rattle.dg_rules.specs.Events.{Deed, Does, Refuses, Goes, does, mote_of, dt_of, image_version_of, of_effect, tick_does, hear_by, heard_sent, heard_last, unless_off, acts, inject_unless, inject_row, order_unless, knows, injects, orders}
 use Rattle.dg_rules.specs.Steps.{Ended, before_cut, and_sent}
 use Rattle.dg_base.specs.declared.events.ImageVersion.{ImageVersion}
 use Rattle.dg_base.specs.declared.events.Event.{Event}
@@ -45,13 +45,13 @@ order_of number image version = record { number = number; image = image; version
 -- what runs from now on, None where there was no image to start
 abbrev pub running_by : Option Runs → (id : ℕ) (wide : Bool) (now draw : ℕ) → Option (Option Running)
 running_by None id wide now draw = None
-running_by (Some r) id wide now draw = Some (Some (record { image_version = key_of r; mote = begun_mote id wide now draw }))
+running_by (Some r) id wide now draw = Some (Some (record { image_version = image_version_of r; mote = begun_mote id wide now draw }))
 
 -- a start: what was on the mote is dropped
 abbrev pub starts : World → Boot → (id : ℕ) (wide : Bool) (now draw : ℕ) → Does
 starts w b id wide now draw = Goes (record { trail = b.trail; table = w.table; started = b.runs; sent = None; runs = running_by b.runs id wide now draw })
 
--- the mote that runs under this key goes on
+-- the mote that runs this image version goes on
 abbrev pub going_on : World → Trail Store → Option Message → ImageVersion → MoteState → Deed
 going_on w t sent image_version n = record { trail = t; table = w.table; started = None; sent = sent; runs = Some (Some (record { image_version = image_version; mote = n })) }
 

@@ -17,7 +17,7 @@ use Rattle.dg_mote.specs.Model.{begun_mote}
 use Rattle.dg_mote.specs.Ticks.{tick_of}
 use Rattle.dg_mote.specs.Hears.{heard_of}
 use Rattle.dg_rules.specs.World.{World, Running, Site, site, store_at, wide_at, off_site}
-use Rattle.dg_rules.specs.Events.{Deed, does, key_of, reloaded}
+use Rattle.dg_rules.specs.Events.{Deed, does, image_version_of, reloaded}
 use Rattle.dg_rules.specs.Steps.{WorldStep, EndsRun}
 use Rattle.dg_script.specs.Ranges.{EventInRange, StepInRange}
 use Rattle.dg_rules.specs.Golden.{KeepsGoldenRow, AsksForOthers, SiteKeepsGolden, WorldKeepsGolden, FindsImage}
@@ -75,7 +75,7 @@ module _ (laws : StepLaws) (w : World) (golden : WorldKeepsGolden w) where
 
   start_asks : (o : Option Runs) (id : ℕ) (wide : Bool) (now draw : ℕ) (runs : Option Running) → running_by o id wide now draw ≡ Some runs → AsksOthers runs
   start_asks None id wide now draw runs e = absurd cc
-  start_asks (Some r) id wide now draw runs e = one_asks (record { image_version = key_of r; mote = begun_mote id wide now draw }) runs tt e
+  start_asks (Some r) id wide now draw runs e = one_asks (record { image_version = image_version_of r; mote = begun_mote id wide now draw }) runs tt e
 
   reload_asks : (o runs : Option Running) (now draw : ℕ) → Some (reloaded o now draw) ≡ Some runs → AsksOthers runs
   reload_asks o runs now draw e = subst AsksOthers (same_running (reloaded o now draw) runs e) (each o)

@@ -21,11 +21,11 @@ use Rattle.dg_volume.specs.declared.volume.StartCause.TheVariants as cause
 use Rattle.dg_mote.specs.Model.{MoteState}
 use Rattle.dg_base.specs.declared.events.ImageVersion.{ImageVersion}
 use Rattle.dg_rules.specs.World.{Site, Running}
-use Rattle.dg_rules.specs.Small.{Holding, SmallMote, holding, app_key, small_mote, holds, whole}
-use Rattle.dg_rules.specs.Events.{key_of}
+use Rattle.dg_rules.specs.Small.{Holding, SmallMote, holding, app_version, small_mote, holds, whole}
+use Rattle.dg_rules.specs.Events.{image_version_of}
 use Rattle.dg_rules.specs.Legal.{HoldsWholeRow, MayStart, OrdersWholeRow, LegalStart, LegalTick, CutStart}
 use Rattle.dg_rules.proofs.ThroughLemmas.{Through-map}
-use Rattle.dg_rules.proofs.TableLemmas.{row_at-key, row_at-each}
+use Rattle.dg_rules.proofs.TableLemmas.{row_at-version, row_at-each}
 use Rattle.dg_rules.proofs.BootLemmas.{IsWaiting, MayRun, IsSettled, boot_start, order_alone, waits_whole, waits_some}
 
 -- a mote with what runs
@@ -54,12 +54,12 @@ whole_by table image version (Some h) is keeps =
     let all : length h.complete ≡ h.pages = eqb-true (length h.complete) h.pages parts.1 in
     let row = keeps.row in
     let many : length h.complete ≡ length (object row) = all ∙ keeps.pages ∙ sym (length-tabulate (pages_for (length row.bytes)) (page_of_row row)) in
-    let key = row_at-key table image h.version row keeps.in_table in
+    let own = row_at-version table image h.version row keeps.in_table in
     record {
       row = row;
       in_table = ap (row_at table image) (sym same) ∙ keeps.in_table;
       is = ap (λ (x : Held). Some x)
-          (same_held_as h (held_whole row) (sym key.1) keeps.pages keeps.crc (keeps.first ∙ ap (λ (n : ℕ). take n (object row)) many ∙ take-length (object row)));
+          (same_held_as h (held_whole row) (sym own.1) keeps.pages keeps.crc (keeps.first ∙ ap (λ (n : ℕ). take n (object row)) many ∙ take-length (object row)));
     }
 
 -- the order's image, where it waits
@@ -84,7 +84,7 @@ AppOnWay old runs new = (new ≡ old) ⊎ ((new ≡ None) ⊎ ((r : Runs) × (ru
 
 module _ (ends : (k : StartCause) (s : Store) → Boots s (boot k s)) (table : List Row) (x : Site) (agrees : Agrees table x.store) where
   abbrev Waits : Runs → Type 0
-  Waits r = OrdersWholeRow table (small_mote x) (key_of r)
+  Waits r = OrdersWholeRow table (small_mote x) (image_version_of r)
 
   waits_legal : (r : Runs) → IsWaiting x.store.order (held x.store x.store.order.image) r → Waits r
   waits_legal r w =
@@ -92,9 +92,9 @@ module _ (ends : (k : StartCause) (s : Store) → Boots s (boot k s)) (table : L
       let there : Whole table o.image o.version (held x.store o.image) = waiting_whole table x.store agrees w.whole in
       let here : Whole table r.image r.version (held x.store r.image) =
       subst (λ (i : ℕ). Whole table i r.version (held x.store i)) w.image (subst (λ (v : ℕ). Whole table o.image v (held x.store o.image)) w.version there) in
-      (record { some = w.some; image = w.image; version = w.version }, holds_whole table x (key_of r) (held x.store r.image) refl here)
+      (record { some = w.some; image = w.image; version = w.version }, holds_whole table x (image_version_of r) (held x.store r.image) refl here)
 
-  may_start : (r : Runs) → MayRun x.store r → MayStart table (small_mote x) (key_of r)
+  may_start : (r : Runs) → MayRun x.store r → MayStart table (small_mote x) (image_version_of r)
   may_start r may =
       ⊎_elim
       (λ golden. inl (ap (λ (k : ImageVersion). k.image) golden, ap (λ (k : ImageVersion). k.version) golden))
@@ -102,46 +102,46 @@ module _ (ends : (k : StartCause) (s : Store) → Boots s (boot k s)) (table : L
       may
 
   -- where the start is not stopped
-  pub legal_start : (k : StartCause) (r : Runs) (n : MoteState) → (boot k x.store).runs ≡ Some r → LegalStart table (small_mote x) (mote (last (boot k x.store).trail) (Some (record { image_version = key_of r; mote = n })))
+  pub legal_start : (k : StartCause) (r : Runs) (n : MoteState) → (boot k x.store).runs ≡ Some r → LegalStart table (small_mote x) (mote (last (boot k x.store).trail) (Some (record { image_version = image_version_of r; mote = n })))
   legal_start k r n runs =
       let b = boot k x.store in
       let start = boot_start k x.store in
       let way = Through-last (OnTheWay x.store b.runs) b.trail (ends k x.store).way in
       record {
-        image_version = key_of r;
-        app = option_map app_key (last b.trail).app;
+        image_version = image_version_of r;
+        app = option_map app_version (last b.trail).app;
         chosen = may_start r (start.chosen r runs);
         memory =
             ⊎_elim
             (λ set. inl set)
-            (λ blank. inr (ap (option_map app_key) blank.0, (ap (λ (q : ImageVersion). q.image) blank.1, ap (λ (q : ImageVersion). q.version) blank.1)))
+            (λ blank. inr (ap (option_map app_version) blank.0, (ap (λ (q : ImageVersion). q.image) blank.1, ap (λ (q : ImageVersion). q.version) blank.1)))
             (start.memory r runs);
-        change = λ i. record { holdings = map (option_map holding) (way.kept i); app = option_map app_key (last b.trail).app; order = way.order i; runs = Some (key_of r) };
+        change = λ i. record { holdings = map (option_map holding) (way.kept i); app = option_map app_version (last b.trail).app; order = way.order i; runs = Some (image_version_of r) };
       }
 
-  pub chosen_start : (k : StartCause) (r : Runs) → (boot k x.store).runs ≡ Some r → MayStart table (small_mote x) (key_of r)
+  pub chosen_start : (k : StartCause) (r : Runs) → (boot k x.store).runs ≡ Some r → MayStart table (small_mote x) (image_version_of r)
   chosen_start k r runs = may_start r ((boot_start k x.store).chosen r runs)
 
-  cut_app : (k : StartCause) (may : ImageVersion → Type 0) → ((r : Runs) → (boot k x.store).runs ≡ Some r → may (key_of r)) → (new : Option App) → AppOnWay x.store.app (boot k x.store).runs new
-      → (option_map app_key new ≡ (small_mote x).app) ⊎ ((option_map app_key new ≡ None) ⊎ ((image_version : ImageVersion) × (option_map app_key new ≡ Some image_version) × may image_version))
+  cut_app : (k : StartCause) (may : ImageVersion → Type 0) → ((r : Runs) → (boot k x.store).runs ≡ Some r → may (image_version_of r)) → (new : Option App) → AppOnWay x.store.app (boot k x.store).runs new
+      → (option_map app_version new ≡ (small_mote x).app) ⊎ ((option_map app_version new ≡ None) ⊎ ((image_version : ImageVersion) × (option_map app_version new ≡ Some image_version) × may image_version))
   cut_app k may chosen new way =
       ⊎_elim
-      (λ same. inl (ap (option_map app_key) same))
+      (λ same. inl (ap (option_map app_version) same))
       (λ other. ⊎_elim
-      (λ blank. inr (inl (ap (option_map app_key) blank)))
-      (λ set. inr (inr (key_of set.0, ap (option_map app_key) set.2, chosen set.0 set.1)))
+      (λ blank. inr (inl (ap (option_map app_version) blank)))
+      (λ set. inr (inr (image_version_of set.0, ap (option_map app_version) set.2, chosen set.0 set.1)))
       other)
       way
 
   -- where a cut blew in it
-  pub cut_start : (k : StartCause) (may : ImageVersion → Type 0) → ((r : Runs) → (boot k x.store).runs ≡ Some r → may (key_of r)) → Through (λ s. CutStart may (small_mote x) (mote s None)) (boot k x.store).trail
+  pub cut_start : (k : StartCause) (may : ImageVersion → Type 0) → ((r : Runs) → (boot k x.store).runs ≡ Some r → may (image_version_of r)) → Through (λ s. CutStart may (small_mote x) (mote s None)) (boot k x.store).trail
   cut_start k may chosen =
       let b = boot k x.store in
       Through-map (OnTheWay x.store b.runs) (λ s. CutStart may (small_mote x) (mote s None))
       (λ s way. record {
-        app = option_map app_key s.app;
+        app = option_map app_version s.app;
         how = cut_app k may chosen s.app way.app;
-        change = λ i. record { holdings = map (option_map holding) (way.kept i); app = option_map app_key s.app; order = way.order i; runs = None };
+        change = λ i. record { holdings = map (option_map holding) (way.kept i); app = option_map app_version s.app; order = way.order i; runs = None };
       })
       b.trail (ends k x.store).way
 
@@ -160,7 +160,7 @@ module _ (ends : (k : StartCause) (s : Store) → Boots s (boot k s)) (table : L
       waits_legal (kept_runs x.store o.image o.version) (record { some = waits_some x.store waits; image = refl; version = refl; whole = waits_whole x.store waits })
 
   pub tick_start : (n : MoteState) → order_waits x.store ≡ true → (boot cause.Order x.store).runs ≡ Some (kept_runs x.store x.store.order.image x.store.order.version)
-      → LegalTick table false (small_mote x) (mote (last (boot cause.Order x.store).trail) (Some (record { image_version = key_of (kept_runs x.store x.store.order.image x.store.order.version); mote = n })))
+      → LegalTick table false (small_mote x) (mote (last (boot cause.Order x.store).trail) (Some (record { image_version = image_version_of (kept_runs x.store x.store.order.image x.store.order.version); mote = n })))
   unfolding legal_start
   tick_start n waits chosen =
       inr (legal_start cause.Order (kept_runs x.store x.store.order.image x.store.order.version) n chosen, tick_waits waits)

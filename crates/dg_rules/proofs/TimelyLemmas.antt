@@ -8,7 +8,7 @@ use Rattle.dg_mote.specs.Ticks.{tick_of}
 use Rattle.dg_mote.specs.Hears.{heard_of}
 use Rattle.dg_mote.specs.Timely.{Timely}
 use Rattle.dg_rules.specs.World.{World, Site, Running, site, store_at, wide_at}
-use Rattle.dg_rules.specs.Events.{Deed, does, dt_of, key_of, reloaded}
+use Rattle.dg_rules.specs.Events.{Deed, does, dt_of, image_version_of, reloaded}
 use Rattle.dg_rules.specs.Steps.{WorldStep}
 use Rattle.dg_script.specs.Ranges.{EventInRange, StepInRange}
 use Rattle.dg_rules.specs.Premises.{WorldTimely}
@@ -50,7 +50,7 @@ module _ (restarts : RestartLaws) (laws : TimeLaws) (w : World) (timely : WorldT
 
   start_timely : (o : Option Runs) (id : ℕ) (wide : Bool) (dt draw : ℕ) (runs : Option Running) → running_by o id wide (w.moment + dt) draw ≡ Some runs → IsTimelyAt (w.moment + dt) runs
   start_timely None id wide dt draw runs e = absurd cc
-  start_timely (Some r) id wide dt draw runs e = one_timely dt (record { image_version = key_of r; mote = begun_mote id wide (w.moment + dt) draw }) runs (laws.begins id (w.moment + dt) draw wide) e
+  start_timely (Some r) id wide dt draw runs e = one_timely dt (record { image_version = image_version_of r; mote = begun_mote id wide (w.moment + dt) draw }) runs (laws.begins id (w.moment + dt) draw wide) e
 
   reload_timely : (m dt draw : ℕ) (runs : Option Running) → m < length w.sites → Some (reloaded (site w m).runs (w.moment + dt) draw) ≡ Some runs → IsTimelyAt (w.moment + dt) runs
   reload_timely m dt draw runs low e = subst (IsTimelyAt (w.moment + dt)) (same_running (reloaded (site w m).runs (w.moment + dt) draw) runs e) (each (site w m).runs refl)

@@ -17,7 +17,7 @@ use Rattle.dg_mote.specs.Well.{StoreIsWell, IsWell}
 use Rattle.dg_rules.specs.World.{Site, Sent}
 use Rattle.dg_rules.specs.Premises.{SiteIsWell, SentIsWell}
 
--- every row stays under its key
+-- every row stays that of its image version
 abbrev pub Wider : List Row → List Row → Type 0
 Wider table more = (image version : ℕ) (row : Row) → row_at table image version ≡ Some row → row_at more image version ≡ Some row
 
@@ -33,7 +33,7 @@ module _ (table more : List Row) (wider : Wider table more) where
   }
 
   pub store_wider : (s : Store) → StoreIsWell table s → StoreIsWell more s
-  store_wider s w = record { places = w.places; agrees = agrees_wider s w.agrees }
+  store_wider s w = record { count = w.count; agrees = agrees_wider s w.agrees }
 
   mode_wider : (s : Store) (mode : Mode) → ModeAgrees table s mode → ModeAgrees more s mode
   mode_wider s (Maintain timer) a = tt
@@ -47,7 +47,7 @@ module _ (table more : List Row) (wider : Wider table more) where
     version = a.version;
     next = a.next;
     more = a.more;
-    places = a.places;
+    count = a.count;
     missing = a.missing;
     honest = a.honest;
   }

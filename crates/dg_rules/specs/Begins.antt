@@ -35,7 +35,7 @@ pub record StoresAgree (table : List Row) (stores : List Store) : Type 0 where
   pub is_table : IsTable table
   pub each : (m : ℕ) → m < length stores → Agrees table (store_of stores m)
 
--- Each has a place for each image, and an order in its ranges, as whatever a chip stands for.
+-- Each has a slot for each image, and an order in its ranges, as whatever a chip stands for.
 abbrev pub AreShaped : List Store → Type 0
 AreShaped stores = (m : ℕ) → m < length stores → IsShaped (store_of stores m)
 

@@ -62,12 +62,12 @@ dt_of (Frame mote dt draw bytes) = dt
 
 -- ---- events of the mote itself
 
-abbrev pub key_of : Runs → ImageVersion
-key_of r = record { image = r.image; version = r.version }
+abbrev pub image_version_of : Runs → ImageVersion
+image_version_of r = record { image = r.image; version = r.version }
 
 -- what runs behind an effect: what was started, or what ran before
 abbrev pub runs_by : Option Runs → Option ImageVersion → MoteState → Option Running
-runs_by (Some r) old m = Some (record { image_version = key_of r; mote = m })
+runs_by (Some r) old m = Some (record { image_version = image_version_of r; mote = m })
 runs_by None (Some image_version) m = Some (record { image_version = image_version; mote = m })
 runs_by None None m = None
 

@@ -47,8 +47,8 @@ module _ (golden : Row) (laws : Laws golden) where
   abbrev P : Store → Type 0
   P = StoreIsConsistent golden
 
-  abbrev HasPlaces : Store → Type 0
-  HasPlaces s = length s.kept ≡ images
+  abbrev HasSlots : Store → Type 0
+  HasSlots s = length s.kept ≡ images
 
   -- an event goes through consistent stores, starts what is sound, and leaves a mote that asks for a known image, if for any
   record Holds (e : Effect) : Type 0 where
@@ -61,9 +61,9 @@ module _ (golden : Row) (laws : Laws golden) where
   boot_way : (k : StartCause) (s : Store) → P s → Through P (boot k s).trail
   boot_way k s p =
       let b = boot k s in
-      through_then (λ x. Consistent golden x × HasPlaces x) P (λ x h. record { places = h.1; consistent = h.0 }) b.trail
-      (through_both (Consistent golden) HasPlaces b.trail (laws.boots k s p.consistent)
-      (through_then (OnTheWay s b.runs) HasPlaces (λ x on. ap length on.kept ∙ p.places) b.trail (laws.ends k s).way))
+      through_then (λ x. Consistent golden x × HasSlots x) P (λ x h. record { count = h.1; consistent = h.0 }) b.trail
+      (through_both (Consistent golden) HasSlots b.trail (laws.boots k s p.consistent)
+      (through_then (OnTheWay s b.runs) HasSlots (λ x on. ap length on.kept ∙ p.count) b.trail (laws.ends k s).way))
 
   boot_by_holds : (o : Option Runs) (t : Trail Store) (id : ℕ) (wide : Bool) (now draw : ℕ) → IsSome o → IfSome o (λ r. IsSoundApp golden (app_of r)) → Through P t → Holds (boot_by o t id wide now draw)
   boot_by_holds None t id wide now draw some starts way = absurd cc

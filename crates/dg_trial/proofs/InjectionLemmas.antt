@@ -159,14 +159,14 @@ module _ (name bytes : List ℕ) where
     fine : inject_refusal s row ≡ None
     fine = not_refused s some few none room
 
-    places : 1 < length s.kept
-    places = let n = (good.sites 0 there).store.places in omega (arith, n)
+    count : 1 < length s.kept
+    count = let n = (good.sites 0 there).store.count in omega (arith, n)
 
     no_pages : IfSome (held s 1) (KeepsPagesOf row)
     no_pages = subst (λ (o : Option Held). IfSome o (KeepsPagesOf row)) (sym none) tt
 
     ends : last (inject_trail s row) ≡ injected s row
-    ends = law s row places fine no_pages
+    ends = law s row count fine no_pages
 
     abbrev mid : World
     mid = record (counted u 0) { table = with_row u.table row }
@@ -190,7 +190,7 @@ module _ (name bytes : List ℕ) where
     room_here = ap (λ (t : Store). t.room) ends ∙ ap (λ (o : Option Held). s.room - inject_commits o 1) none
 
     held_here : held y.store 1 ≡ Some (held_whole row)
-    held_here = ap (λ (t : Store). held t 1) ends ∙ get_or-set_same s.kept 1 (Some (held_whole row)) None places
+    held_here = ap (λ (t : Store). held t 1) ends ∙ get_or-set_same s.kept 1 (Some (held_whole row)) None count
 
     pages_here : pages_of y.store row ≡ page_count row
     pages_here = ap (λ (o : Option Held). if is_version o 1 then done_of o else 0) held_here ∙ length-object row

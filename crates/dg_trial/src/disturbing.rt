@@ -56,7 +56,7 @@ pub fn disturbance(
     third: u32,
 ) -> Result<Step, AllocError>
     requires some { 2 ≤ motes }
-    requires room { motes ≤ most_motes }
+    requires most { motes ≤ most_motes }
     requires few { sent ≤ most_events }
     ensures { IfOk result (λ step. step ≡ disturbance motes first second third sent) }
 {

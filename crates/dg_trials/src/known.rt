@@ -30,7 +30,7 @@ fn taken(rt: &HostRuntime, script: &[u8]) -> Result<u64, Fail> {
     let mut input = MemSource::new(Vec::from_slice(alloc, script)?, Vec::new(alloc));
     let mut out = ample(alloc)?;
     let mut link = MemLink::new(alloc, 1);
-    let told = play(
+    let answered = play(
         alloc,
         &["replay"],
         &mut input,
@@ -38,7 +38,7 @@ fn taken(rt: &HostRuntime, script: &[u8]) -> Result<u64, Fail> {
         &mut boards,
         &mut link,
     )?;
-    if told.status != Status::Done {
+    if answered.status != Status::Done {
         return Err("the replay is not done".into());
     }
     if boards.is_empty() {

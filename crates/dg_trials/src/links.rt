@@ -1,7 +1,7 @@
 //! A link of which chosen calls fail, and services over it.
 
 use crate::boards::formatted;
-use crate::playing::{Told, ample, play};
+use crate::playing::{Answer, ample, play};
 use dg_base::{LONGEST_FRAME, MemSource, Status};
 use dg_link::{FailLink, Link, LinkFailed, MemLink};
 use std::alloc::Global;
@@ -45,7 +45,7 @@ const SERVICES: [(&str, u32, Status, usize); 11] = [
 ];
 
 /// Serves two motes with golden alone over a link whose call `number` fails.
-fn serve(rt: &HostRuntime, turns: &str, number: u32) -> Result<Told, Fail> {
+fn serve(rt: &HostRuntime, turns: &str, number: u32) -> Result<Answer, Fail> {
     let alloc = rt.alloc();
     let mut boards = Vec::new(alloc);
     for _ in 0..2 {
@@ -77,11 +77,11 @@ fn first_lines(alloc: Global, count: usize) -> Result<Vec<u8>, Fail> {
 #[test]
 fn a_service_ends_at_each_call_of_its_link(rt: HostRuntime) -> Result<(), Fail> {
     for (turns, number, status, count) in SERVICES {
-        let told = serve(&rt, turns, number)?;
-        assert_eq!(rt; told.status, status, "{turns}, {number}");
+        let answered = serve(&rt, turns, number)?;
+        assert_eq!(rt; answered.status, status, "{turns}, {number}");
         let lines = first_lines(rt.alloc(), count)?;
         assert!(rt;
-            told.written.as_slice() == lines.as_slice(),
+            answered.written.as_slice() == lines.as_slice(),
             "{turns}, {number}"
         );
     }

@@ -7,12 +7,12 @@ use dg_nor::Nor;
 use std::alloc::Global;
 use std::test::Fail;
 
-/// More room than an output of these tests needs, in bytes.
+/// More bytes than an output of these tests has.
 pub(crate) const AMPLE: usize = 100_000;
 
 /// What a command answers and writes.
 #[derive(Drop)]
-pub(crate) struct Told {
+pub(crate) struct Answer {
     pub(crate) status: Status,
     pub(crate) written: Vec<u8>,
 }
@@ -30,7 +30,7 @@ pub(crate) fn play<S: Source, N: Nor, L: Link>(
     out: &mut MemSink,
     boards: &mut Vec<N>,
     link: &mut L,
-) -> Result<Told, Fail> {
+) -> Result<Answer, Fail> {
     let mut owned = Vec::new(alloc);
     for word in words {
         owned.push(String::from_str(alloc, word)?)?;
@@ -38,5 +38,5 @@ pub(crate) fn play<S: Source, N: Nor, L: Link>(
     let mut clock = StepClock::new(100);
     let status = run(alloc, &owned, input, out, boards, link, &mut clock);
     let written = Vec::from_slice(alloc, out.bytes())?;
-    Ok(Told { status, written })
+    Ok(Answer { status, written })
 }

@@ -1,6 +1,6 @@
 //! Runs of the program: scripts with the reports that they must have, and the ways in which a run fails.
 
-use crate::playing::{AMPLE, Told, play};
+use crate::playing::{AMPLE, Answer, play};
 use dg_base::{MemSink, MemSource, Source, Status};
 use dg_link::MemLink;
 use dg_nor::Board;
@@ -43,7 +43,7 @@ const NOT_HEARD_REPORT: &[u8] =
 struct Outside {
     reads: Vec<u32>,
     writes: Vec<u32>,
-    room: usize,
+    limit: usize,
 }
 
 /// Nothing goes wrong.
@@ -51,7 +51,7 @@ fn calm(alloc: Global) -> Outside {
     Outside {
         reads: Vec::new(alloc),
         writes: Vec::new(alloc),
-        room: AMPLE,
+        limit: AMPLE,
     }
 }
 
@@ -71,10 +71,10 @@ fn answer(
     script: &[u8],
     outside: Outside,
     boards: usize,
-) -> Result<Told, Fail> {
+) -> Result<Answer, Fail> {
     let mut boards = new_boards(alloc, boards)?;
     let mut input = MemSource::new(Vec::from_slice(alloc, script)?, outside.reads);
-    let mut out = MemSink::new(alloc, outside.room, outside.writes)?;
+    let mut out = MemSink::new(alloc, outside.limit, outside.writes)?;
     let mut link = MemLink::new(alloc, 1);
     play(alloc, &[word], &mut input, &mut out, &mut boards, &mut link)
 }
@@ -99,28 +99,28 @@ fn scripts_have_their_reports(rt: HostRuntime) -> Result<(), Fail> {
         ),
     ];
     for (script, status, report) in rows {
-        let told = answer(rt.alloc(), "replay", script, calm(rt.alloc()), 2)?;
-        assert_eq!(rt; told.status, status);
-        assert_eq!(rt; told.written.as_slice(), report);
+        let answered = answer(rt.alloc(), "replay", script, calm(rt.alloc()), 2)?;
+        assert_eq!(rt; answered.status, status);
+        assert_eq!(rt; answered.written.as_slice(), report);
     }
     Ok(())
 }
 
 #[test]
 fn other_words_are_no_command(rt: HostRuntime) -> Result<(), Fail> {
-    let told = answer(rt.alloc(), "fly", ONE_START, calm(rt.alloc()), 1)?;
-    assert_eq!(rt; told.status, Status::Usage);
-    assert_eq!(rt; told.status.code(), 2);
-    assert_eq!(rt; told.written.as_slice(), b"usage\n".as_slice());
+    let answered = answer(rt.alloc(), "fly", ONE_START, calm(rt.alloc()), 1)?;
+    assert_eq!(rt; answered.status, Status::Usage);
+    assert_eq!(rt; answered.status.code(), 2);
+    assert_eq!(rt; answered.written.as_slice(), b"usage\n".as_slice());
     Ok(())
 }
 
 #[test]
 fn each_mote_needs_a_board(rt: HostRuntime) -> Result<(), Fail> {
     let script: &[u8] = b"motes 2\ngolden base 0 hex:41\nreset 0 0 0\n";
-    let told = answer(rt.alloc(), "replay", script, calm(rt.alloc()), 1)?;
-    assert_eq!(rt; told.status, Status::NoBoard);
-    assert_eq!(rt; told.written.as_slice(), b"noboard 2 1\n".as_slice());
+    let answered = answer(rt.alloc(), "replay", script, calm(rt.alloc()), 1)?;
+    assert_eq!(rt; answered.status, Status::NoBoard);
+    assert_eq!(rt; answered.written.as_slice(), b"noboard 2 1\n".as_slice());
     Ok(())
 }
 
@@ -131,10 +131,10 @@ fn a_read_fails_in_mid_stream(rt: HostRuntime) -> Result<(), Fail> {
     script.extend_from_slice(&vec![in alloc; b'#'; 100_000]?)?;
     let mut outside = calm(alloc);
     outside.reads.push(2)?;
-    let told = answer(alloc, "replay", &script, outside, 1)?;
-    assert_eq!(rt; told.status, Status::ReadFault);
+    let answered = answer(alloc, "replay", &script, outside, 1)?;
+    assert_eq!(rt; answered.status, Status::ReadFault);
     // The three lines that were read whole are reported.
-    assert_eq!(rt; told.written.as_slice(), b"start 0 0 1 1 58e5\n".as_slice());
+    assert_eq!(rt; answered.written.as_slice(), b"start 0 0 1 1 58e5\n".as_slice());
     Ok(())
 }
 
@@ -170,9 +170,9 @@ fn no_more_is_taken_than_is_needed(rt: HostRuntime) -> Result<(), Fail> {
         }
         let mut boards = new_boards(alloc, 1)?;
         let mut input = MemSource::new(script, outside.reads);
-        let mut out = MemSink::new(alloc, outside.room, outside.writes)?;
+        let mut out = MemSink::new(alloc, outside.limit, outside.writes)?;
         let mut link = MemLink::new(alloc, 1);
-        let told = play(
+        let answered = play(
             alloc,
             &["replay"],
             &mut input,
@@ -180,8 +180,8 @@ fn no_more_is_taken_than_is_needed(rt: HostRuntime) -> Result<(), Fail> {
             &mut boards,
             &mut link,
         )?;
-        assert_eq!(rt; told.status, status);
-        assert_eq!(rt; told.written.as_slice(), report);
+        assert_eq!(rt; answered.status, status);
+        assert_eq!(rt; answered.written.as_slice(), report);
         let rest = left(&mut input);
         assert!(rt; rest >= 699_998, "{rest}");
     }
@@ -190,19 +190,19 @@ fn no_more_is_taken_than_is_needed(rt: HostRuntime) -> Result<(), Fail> {
 
 #[test]
 fn a_write_fails(rt: HostRuntime) -> Result<(), Fail> {
-    // The number of the write that fails, the room for the output, and what was written before.
+    // The number of the write that fails, the limit for the output, and what was written before.
     let rows: [(u32, usize, &[u8]); 3] = [
         (1, AMPLE, b""),
         (2, AMPLE, b"start 0 0 1 1 58e5\n"),
         (9, 20, b"start 0 0 1 1 58e5\n"),
     ];
-    for (number, room, written) in rows {
+    for (number, limit, written) in rows {
         let mut outside = calm(rt.alloc());
         outside.writes.push(number)?;
-        outside.room = room;
-        let told = answer(rt.alloc(), "replay", ONE_START, outside, 1)?;
-        assert_eq!(rt; told.status, Status::WriteFault);
-        assert_eq!(rt; told.written.as_slice(), written);
+        outside.limit = limit;
+        let answered = answer(rt.alloc(), "replay", ONE_START, outside, 1)?;
+        assert_eq!(rt; answered.status, Status::WriteFault);
+        assert_eq!(rt; answered.written.as_slice(), written);
     }
     Ok(())
 }

@@ -1,7 +1,7 @@
 //! Services over datagrams between sockets of this machine, and the replay of what they wrote.
 ghost use Rattle.std.specs.Prelude.{◌<◌};
 
-use crate::playing::{Told, ample, play};
+use crate::playing::{Answer, ample, play};
 use dg_base::{MemSource, Status};
 use dg_link::Link;
 use dg_net::UdpLink;
@@ -36,7 +36,7 @@ fn run_over<L: Link>(
     input: &[u8],
     boards: &mut Vec<Board>,
     link: &mut L,
-) -> Result<Told, Fail> {
+) -> Result<Answer, Fail> {
     let mut input = MemSource::new(Vec::from_slice(alloc, input)?, Vec::new(alloc));
     play(alloc, words, &mut input, &mut ample(alloc)?, boards, link)
 }
@@ -114,7 +114,7 @@ fn run_on_files<L: Link>(
     input: &[u8],
     files: &[String; 2],
     link: &mut L,
-) -> Result<Told, Fail> {
+) -> Result<Answer, Fail> {
     let [first, second] = files;
     let mut boards = chips(rt, first.as_str(), second.as_str())?;
     run_over(rt.alloc(), words, input, &mut boards, link)

@@ -4,7 +4,7 @@ ghost use Rattle.std.specs.Prelude.{◌≤◌, ◌<◌};
 ghost use Rattle.dg_nor.specs.Sizes.{sectors};
 
 use crate::boards::{CONTENT, GOLDEN, IMAGE, MASKS, formatted, mounted};
-use crate::playing::{Told, ample, play};
+use crate::playing::{Answer, ample, play};
 use crate::stops::{NO_ORDER, ORDER, SPENT};
 use dg_base::{MemSource, Status};
 use dg_control::{MOST_ROOM, PLACE_SIZE};
@@ -171,7 +171,7 @@ fn reported(alloc: Global, count: usize) -> Result<Vec<u8>, Fail> {
 }
 
 /// Replays the script over boards.
-fn replay<N: Nor>(alloc: Global, boards: &mut Vec<N>) -> Result<Told, Fail> {
+fn replay<N: Nor>(alloc: Global, boards: &mut Vec<N>) -> Result<Answer, Fail> {
     let mut input = MemSource::new(Vec::from_slice(alloc, SCRIPT)?, Vec::new(alloc));
     let mut out = ample(alloc)?;
     let mut link = MemLink::new(alloc, 1);
@@ -184,7 +184,7 @@ fn replay_stopped(
     board: &mut Board,
     after: u32,
     mask: &[u8; PLACE_SIZE],
-) -> Result<Told, Fail>
+) -> Result<Answer, Fail>
     requires { 1 ≤ after }
 {
     let mut boards = Vec::new(alloc);
@@ -306,17 +306,17 @@ fn a_run_stops_at_each_operation(rt: HostRuntime) -> Result<(), Fail> {
         for mask in &MASKS {
             for after in 1..=operations.saturating_add(1) {
                 let mut copy = board.copy(rt.alloc())?;
-                let told = replay_stopped(rt.alloc(), &mut copy, after, mask)?;
+                let answered = replay_stopped(rt.alloc(), &mut copy, after, mask)?;
                 let left = left_at(used, after, mask);
                 let status = if after <= operations {
                     Status::FlashFault
                 } else {
                     Status::Done
                 };
-                assert_eq!(rt; told.status, status, "{used}, {after}, {mask:?}");
+                assert_eq!(rt; answered.status, status, "{used}, {after}, {mask:?}");
                 let report = reported(rt.alloc(), left.reports)?;
                 assert!(rt;
-                    told.written.as_slice() == report.as_slice(),
+                    answered.written.as_slice() == report.as_slice(),
                     "{used}, {after}, {mask:?}"
                 );
                 let stand = stand_of(&mut copy, used)?;
@@ -333,9 +333,9 @@ fn a_board_comes_stopped(rt: HostRuntime) -> Result<(), Fail> {
     let mut boards = Vec::new(rt.alloc());
     boards.push(Fused::new(&mut board, Some(3), &MASKS[1]))?;
     for _ in 0..2 {
-        let told = replay(rt.alloc(), &mut boards)?;
-        assert_eq!(rt; told.status, Status::FlashFault);
-        assert!(rt; told.written.is_empty());
+        let answered = replay(rt.alloc(), &mut boards)?;
+        assert_eq!(rt; answered.status, Status::FlashFault);
+        assert!(rt; answered.written.is_empty());
     }
     drop(boards);
     assert_eq!(rt; stand_of(&mut board, 0)?, left_at(0, 3, &MASKS[1]).stand);

@@ -1,7 +1,7 @@
-//! A replay of which each read in turn fails, each write, and each write for which the output has no room.
+//! A replay of which each read in turn fails, each write, and each write that passes the limit of the output.
 ghost use Rattle.std.specs.Prelude.{Some};
 
-use crate::playing::{AMPLE, Told, ample, play};
+use crate::playing::{AMPLE, Answer, ample, play};
 use dg_base::{MemSink, MemSource, ReadFailed, Source, Status};
 use dg_link::MemLink;
 use dg_nor::Board;
@@ -64,7 +64,7 @@ fn script(alloc: Global) -> Result<Vec<u8>, Fail> {
 }
 
 /// Replays a script over a new board.
-fn replay<S: Source>(alloc: Global, input: &mut S, out: &mut MemSink) -> Result<Told, Fail> {
+fn replay<S: Source>(alloc: Global, input: &mut S, out: &mut MemSink) -> Result<Answer, Fail> {
     let mut boards = Vec::new(alloc);
     boards.push(Board::memory(alloc)?)?;
     let mut link = MemLink::new(alloc, 1);
@@ -84,9 +84,9 @@ fn writes_within(taken: usize) -> usize {
     count
 }
 
-/// How many writes find room, up to the first that does not.
-fn writes_with_room(room: usize) -> usize {
-    let mut rest = room;
+/// How many writes stay within the limit, up to the first that does not.
+fn writes_within(limit: usize) -> usize {
+    let mut rest = limit;
     for (made, piece) in WRITES.iter().enumerate() {
         if piece.len() > rest {
             return made;
@@ -112,7 +112,7 @@ fn each_read_fails_in_turn(rt: HostRuntime) -> Result<(), Fail> {
         for before in 0..=reads {
             let failing = Vec::from_slice(alloc, &[before.saturating_add(1)])?;
             let input = MemSource::new(script(alloc)?, failing);
-            let told = replay(alloc, &mut Pieces { input, most }, &mut ample(alloc)?)?;
+            let answered = replay(alloc, &mut Pieces { input, most }, &mut ample(alloc)?)?;
             let (status, count) = if before < reads {
                 (
                     Status::ReadFault,
@@ -121,10 +121,10 @@ fn each_read_fails_in_turn(rt: HostRuntime) -> Result<(), Fail> {
             } else {
                 (Status::Done, WRITES.len())
             };
-            assert_eq!(rt; told.status, status, "{most}, {before}");
+            assert_eq!(rt; answered.status, status, "{most}, {before}");
             let report = first_writes(alloc, count)?;
             assert!(rt;
-                told.written.as_slice() == report.as_slice(),
+                answered.written.as_slice() == report.as_slice(),
                 "{most}, {before}"
             );
         }
@@ -139,15 +139,15 @@ fn each_write_fails_in_turn(rt: HostRuntime) -> Result<(), Fail> {
         let failing = Vec::from_slice(alloc, &[before + 1])?;
         let mut input = MemSource::new(script(alloc)?, Vec::new(alloc));
         let mut out = MemSink::new(alloc, AMPLE, failing)?;
-        let told = replay(alloc, &mut input, &mut out)?;
+        let answered = replay(alloc, &mut input, &mut out)?;
         let status = if before < 7 {
             Status::WriteFault
         } else {
             Status::Done
         };
-        assert_eq!(rt; told.status, status, "{before}");
+        assert_eq!(rt; answered.status, status, "{before}");
         let report = first_writes(alloc, before as usize)?;
-        assert!(rt; told.written.as_slice() == report.as_slice(), "{before}");
+        assert!(rt; answered.written.as_slice() == report.as_slice(), "{before}");
     }
     Ok(())
 }
@@ -156,18 +156,18 @@ fn each_write_fails_in_turn(rt: HostRuntime) -> Result<(), Fail> {
 fn an_output_ends_at_each_byte(rt: HostRuntime) -> Result<(), Fail> {
     let alloc = rt.alloc();
     let whole = first_writes(alloc, WRITES.len())?;
-    for room in 0..=whole.len() {
+    for limit in 0..=whole.len() {
         let mut input = MemSource::new(script(alloc)?, Vec::new(alloc));
-        let mut out = MemSink::new(alloc, room, Vec::new(alloc))?;
-        let told = replay(alloc, &mut input, &mut out)?;
-        let status = if room < whole.len() {
+        let mut out = MemSink::new(alloc, limit, Vec::new(alloc))?;
+        let answered = replay(alloc, &mut input, &mut out)?;
+        let status = if limit < whole.len() {
             Status::WriteFault
         } else {
             Status::Done
         };
-        assert_eq!(rt; told.status, status, "{room}");
-        let report = first_writes(alloc, writes_with_room(room))?;
-        assert!(rt; told.written.as_slice() == report.as_slice(), "{room}");
+        assert_eq!(rt; answered.status, status, "{limit}");
+        let report = first_writes(alloc, writes_within(limit))?;
+        assert!(rt; answered.written.as_slice() == report.as_slice(), "{limit}");
     }
     Ok(())
 }

@@ -9,6 +9,6 @@ use Rattle.dg_volume.specs.Shaped.{IsShaped}
 
 pub shaped : (c : List ℕ) (s : Store) → Stands c s → IsShaped s
 shaped c s stands = record {
-  places = stands.contains.count;
+  count = stands.contains.count;
   order = subst (λ (o : Order). IsTrue (order_fits o)) stands.says.order (in_range stands.snapshot).order;
 }

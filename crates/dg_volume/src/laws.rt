@@ -73,7 +73,7 @@ pub fn a_volume_bounds_a_remount()
     ensures one { (c : List ℕ) (m n : ℕ) → RemountBytes c m → RemountBytes c n → m ≡ n }
 {}
 
-/// What a chip stands for has a place for each image, and an order in its ranges.
+/// What a chip stands for has a slot for each image, and an order in its ranges.
 pub fn a_chip_stands_for_a_shaped_store()
     ensures { (c : List ℕ) (s : Store) → Stands c s → IsShaped s }
 {}
@@ -292,7 +292,7 @@ pub fn a_row_is_filled_page_by_page()
 /// What is found in a table of images is a row of that image version, it is sound, and its pages may be sealed one after the
 /// other.
 pub fn a_table_holds_sound_rows()
-    ensures key { (table : List Row) (image version : ℕ) (row : Row) → row_at table image version ≡ Some row
+    ensures image_version { (table : List Row) (image version : ℕ) (row : Row) → row_at table image version ≡ Some row
         → (row.image ≡ image) × (row.version ≡ version) }
     ensures row { (table : List Row) (image version : ℕ) (row : Row) → IsTable table → row_at table image version ≡ Some row
         → IsRow row }

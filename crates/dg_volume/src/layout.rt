@@ -1,4 +1,4 @@
-//! Sizes and places of a chip.
+//! Sizes of a chip, and where its parts stand.
 pub(crate) use dg_control::GOLDEN;
 pub(crate) use dg_object::{PACKET_SIZE, PAGE_SIZE};
 pub(crate) use dg_slot::PROGRAM_SECTOR as PROGRAM;

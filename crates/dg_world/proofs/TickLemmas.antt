@@ -40,7 +40,7 @@ use Rattle.dg_mote.specs.declared.mote.Did.{Did}
 use Rattle.dg_mote.specs.declared.mote.Did.TheVariants as did
 use Rattle.dg_mote.specs.declared.mote.Heard.{Heard}
 use Rattle.dg_rules.specs.World.{World as RuleWorld, Running, store_at}
-use Rattle.dg_rules.specs.Events.{Does, Refuses, trail_of, key_of, of_effect}
+use Rattle.dg_rules.specs.Events.{Does, Refuses, trail_of, image_version_of, of_effect}
 use Rattle.dg_rules.specs.Changes.{changes, start_line, sent_line}
 use Rattle.dg_base.specs.declared.events.ImageVersion.{ImageVersion}
 use Rattle.dg_script.specs.declared.report.Cause.TheVariants as cause
@@ -77,8 +77,8 @@ line_is : (m : ℕ) (x : StartLine) (told : Started) (r : Runs) → x.image_vers
     → Start m x.image_version.image x.image_version.version x.length x.crc ∷ [] ≡ start_line m (Some r)
 line_is m x told r image_version long crc i v l c = cc
 
-key_is : (x : StartLine) (told : Started) (r : Runs) → x.image_version ≡ record { image = told.image; version = told.version } → told.image ≡ r.image → told.version ≡ r.version → x.image_version ≡ key_of r
-key_is x told r image_version i v = cc
+line_version_is : (x : StartLine) (told : Started) (r : Runs) → x.image_version ≡ record { image = told.image; version = told.version } → told.image ≡ r.image → told.version ≡ r.version → x.image_version ≡ image_version_of r
+line_version_is x told r image_version i v = cc
 
 boot_trail : (o : Option Runs) (t : Trail Store) (id : ℕ) (wide : Bool) (now draw : ℕ) → (boot_by o t id wide now draw).trail ≡ t
 boot_trail None t id wide now draw = refl
@@ -100,14 +100,14 @@ module _ (w : RuleWorld) (m : ℕ) (k : StartCause) (id : ℕ) (wide : Bool) (no
       let r = g.runs in
       let e : changes m s (last t) ≡ [] = changes_same m s (last t) (Through-last (SameReport s) t (boot_same k s)) in
       record {
-        deed = record { trail = t; table = w.table; started = Some r; sent = None; runs = Some (Some (record { image_version = key_of r; mote = begun_mote id wide now draw })) };
+        deed = record { trail = t; table = w.table; started = Some r; sent = None; runs = Some (Some (record { image_version = image_version_of r; mote = begun_mote id wide now draw })) };
         goes = ap starts g.chosen;
         ran = g.acted.ran;
         tells = record {
-          runs = Some (record { image_version = key_of r; mote = begun_mote id wide now draw });
+          runs = Some (record { image_version = image_version_of r; mote = begun_mote id wide now draw });
           runs_then = refl;
-          mote = (over.image_version ∙ key_is x.line told r over.line_key g.image g.version, over.mote b.image (last t) g.acted.mounted);
-          lines = line_is m x.line told r over.line_key over.length over.crc g.image g.version g.length g.crc ∙ ap (λ (l : List Report). (l ++ start_line m (Some r)) ++ []) (sym e);
+          mote = (over.image_version ∙ line_version_is x.line told r over.line_version g.image g.version, over.mote b.image (last t) g.acted.mounted);
+          lines = line_is m x.line told r over.line_version over.length over.crc g.image g.version g.length g.crc ∙ ap (λ (l : List Report). (l ++ start_line m (Some r)) ++ []) (sym e);
           sent = refl;
           stands = g.acted.mounted.stands;
           memory = ap (program b.image) (sym g.pages) ∙ g.memory;

@@ -10,12 +10,12 @@ use Rattle.dg_world.specs.declared.images.Images.{Images}
 abbrev pub row_of_image : ImageVersion → Image → Row
 row_of_image k i = row_of k.image k.version i.name i.content
 
-abbrev pub is_key : ImageVersion → ImageVersion → Bool
-is_key a b = (a.image == b.image) && (a.version == b.version)
+abbrev pub is_image_version : ImageVersion → ImageVersion → Bool
+is_image_version a b = (a.image == b.image) && (a.version == b.version)
 
 -- the image that was declared with an image version
 abbrev pub found : Images → ImageVersion → Option Image
-found images image_version = lookup (is_key image_version) images.by_key.entries
+found images image_version = lookup (is_image_version image_version) images.by_version.entries
 
 -- the images are the declared rows
 pub record Declares (images : Images) (rows : List Row) : Type 0 where

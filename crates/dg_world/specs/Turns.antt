@@ -57,7 +57,7 @@ turn_lines m (Starts x) = Start m x.image_version.image x.image_version.version 
 -- a mote that was started over the volume of its chip, and the line of that
 pub record BeginsOver (started : Started) (id : ℕ) (wide : Bool) (now draw : ℕ) (b : Begun) : Type 0 where
   pub image_version : b.running.image_version ≡ b.line.image_version
-  pub line_key : b.line.image_version ≡ record { image = started.image; version = started.version }
+  pub line_version : b.line.image_version ≡ record { image = started.image; version = started.version }
   pub length : b.line.length ≡ started.length
   pub crc : b.line.crc ≡ started.crc
   pub mote : (c : List ℕ) (s : Store) → Mounted c started.volume s → IsMote c b.running.mote (begun_mote id wide now draw) s

@@ -3,4 +3,4 @@ use Rattle.circular_buffer.specs.Buffer.{buffer}
 use Rattle.dg_link.proofs.memory.empty_rings.Given as goal
 
 abbrev pub invariant-loop : goal.invariant-loop
-invariant-loop l = l.rings.items ≡ replicate l.counter (buffer [] l.room)
+invariant-loop l = l.rings.items ≡ replicate l.counter (buffer [] l.capacity)

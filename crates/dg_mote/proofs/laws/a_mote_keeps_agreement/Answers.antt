@@ -16,7 +16,7 @@ returns c =
     let begin = c.trails_begin.ensures in
     let rows = c.an_agreeing_store_keeps_rows.ensures in
     let pages = c.a_row_is_its_pages.ensures in
-    let found : TableLaws = record { key = c.a_table_holds_sound_rows.ensures.key; row = c.a_table_holds_sound_rows.ensures.row } in
+    let found : TableLaws = record { image_version = c.a_table_holds_sound_rows.ensures.image_version; row = c.a_table_holds_sound_rows.ensures.row } in
     let takes : (table : List Row) → TakeLaws table = λ table.
     record {
       rows = found;

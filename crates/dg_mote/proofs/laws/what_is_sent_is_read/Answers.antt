@@ -17,7 +17,7 @@ returns-clause-said c table m s now draw is_table w speaks =
     let rows = c.a_row_is_its_pages.ensures in
     let laws : SpellLaws =
     record {
-      rows = record { key = c.a_table_holds_sound_rows.ensures.key; row = c.a_table_holds_sound_rows.ensures.row };
+      rows = record { image_version = c.a_table_holds_sound_rows.ensures.image_version; row = c.a_table_holds_sound_rows.ensures.row };
       some = rows.some;
       most = rows.most;
       count = rows.count;

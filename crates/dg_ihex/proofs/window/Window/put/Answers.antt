@@ -18,11 +18,11 @@ returns c blocks h apart close =
     let new = c.write.new.cells in
     let is : new ≡ written old from c.args.bytes.now = c.write.ensures ∙ ap (λ cells. written cells from c.args.bytes.now) c.deref_mut.ensures.value in
     let long : length new ≡ c.args.self.now.cells.len = c.write.auto.cells ∙ c.deref_mut.ensures.len in
-    let room : (k : ℕ) → k < length c.args.bytes.now → (from + k) % most_image < length old = λ k within. subst (λ n. (from + k) % most_image < n) c.args.self.now.cells.ok.0 (c.requires.room k within) in
+    let within : (k : ℕ) → k < length c.args.bytes.now → (from + k) % most_image < length old = λ k within. subst (λ n. (from + k) % most_image < n) c.args.self.now.cells.ok.0 (c.requires.within k within) in
     let same : take c.args.self.now.cells.len (new ++ drop (length new) old) ≡ new = take_at new (drop (length new) old) c.args.self.now.cells.len long in
     record {
       lowest = omega (arith, low, h.lowest);
       past = omega (arith, high, h.past);
       close = close;
-      cells = subst (λ cells. Keeps shift cells (byte_at (blocks ++ block ∷ []))) (sym (same ∙ is)) (keeps_block blocks block shift old room c.requires.fits apart close h.cells);
+      cells = subst (λ cells. Keeps shift cells (byte_at (blocks ++ block ∷ []))) (sym (same ∙ is)) (keeps_block blocks block shift old within c.requires.fits apart close h.cells);
     }

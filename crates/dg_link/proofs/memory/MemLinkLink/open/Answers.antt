@@ -4,4 +4,4 @@ use Rattle.dg_link.proofs.memory.MemLinkLink.open.Goals as goal
 
 pub returns-clause-ok : goal.returns-clause-ok
 returns-clause-ok c =
-    ap (inboxes c.self.inside.room) c.in_ok-self-inside.ensures ∙ inboxes-replicate c.self.inside.room c.args.motes c.args.self.now (ap (λ b. b.room) (sym c.self.view_is))
+    ap (inboxes c.self.inside.capacity) c.in_ok-self-inside.ensures ∙ inboxes-replicate c.self.inside.capacity c.args.motes c.args.self.now (ap (λ b. b.capacity) (sym c.self.view_is))

@@ -9,9 +9,9 @@ pub returns-clause-delivered : goal.returns-clause-delivered
 returns-clause-delivered c =
     let ring = c.index_mut.result.now in
     let becomes : c.push_back.new.self ≡ buffer (keep_last ring.capacity (ring.items ++ c.args.bytes.now ∷ [])) ring.capacity = c.push_back.ensures.items ∙ ap (λ f. buffer (keep_last ring.capacity (ring.items ++ f ∷ [])) ring.capacity) c.new.ensures in
-    inboxes-push_back c.self.inside.room c.self.inside.rings.items c.args.self.now c.args.to c.from.result ring c.push_back.new.self c.args.bytes.now c.self.view_is c.requires.receiver c.from.ensures c.index_mut.ensures.value c.self.invariant.1 becomes
+    inboxes-push_back c.self.inside.capacity c.self.inside.rings.items c.args.self.now c.args.to c.from.result ring c.push_back.new.self c.args.bytes.now c.self.view_is c.requires.receiver c.from.ensures c.index_mut.ensures.value c.self.invariant.1 becomes
 
 pub returns-clause-waits : goal.returns-clause-waits
 returns-clause-waits c =
-    let room : 1 ≤ c.args.self.now.room = subst (λ boxes. 1 ≤ boxes.room) c.self.view_is c.self.invariant.0 in
-    subst (λ boxes. Contains (inbox_of boxes c.args.to) c.args.bytes.now) (sym (returns-clause-delivered c)) (Contains-delivered c.args.self.now c.args.to c.args.bytes.now room c.requires.receiver)
+    let capacity : 1 ≤ c.args.self.now.capacity = subst (λ boxes. 1 ≤ boxes.capacity) c.self.view_is c.self.invariant.0 in
+    subst (λ boxes. Contains (inbox_of boxes c.args.to) c.args.bytes.now) (sym (returns-clause-delivered c)) (Contains-delivered c.args.self.now c.args.to c.args.bytes.now capacity c.requires.receiver)
