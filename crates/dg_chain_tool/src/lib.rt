@@ -45,8 +45,8 @@ pub fn wrap<S: Source, K: Sink>(alloc: Global, input: &mut S, out: &mut K) -> St
     ensures reads { S.faults input.old ≤ S.faults input.new }
     ensures writes { K.faults out.old ≤ K.faults out.new }
 {
-    let report = wrap_input(alloc, input);
-    end(alloc, out, report)
+    let text = wrap_input(alloc, input);
+    end(alloc, out, text)
 }
 
 /// Compares the data pages of an image that the first board keeps whole with a root, and changes no byte. Writes
@@ -79,8 +79,8 @@ pub fn check<K: Sink, N: Nor>(
     ensures writes { K.faults out.old ≤ K.faults out.new }
 {
     a_root_names_its_pages();
-    let report = check_boards(alloc, image, root, boards);
-    end(alloc, out, report)
+    let text = check_boards(alloc, image, root, boards);
+    end(alloc, out, text)
 }
 
 /// Keeps an image that `wrap` made whole on the first board, page by page: the image of the HEX file that `input` spells,
@@ -113,6 +113,6 @@ pub fn receive<S: Source, K: Sink, N: Nor>(
     ensures reads { S.faults input.old ≤ S.faults input.new }
     ensures writes { K.faults out.old ≤ K.faults out.new }
 {
-    let report = receive_boards(alloc, image, version, name, root, input, boards);
-    end(alloc, out, report)
+    let text = receive_boards(alloc, image, version, name, root, input, boards);
+    end(alloc, out, text)
 }

@@ -44,7 +44,7 @@ no_base_board_line = codes "noboard 1 0" ++ 10 ∷ []
 pub record NoBoardReported (status : Status) (a b : Around) : Type 0 where
   pub left : b.left ≡ a.left
   pub reads : b.reads ≡ a.reads
-  pub told : ((status ≡ NoBoard) × Puts a.written b.written no_base_board_line × (b.writes ≡ a.writes))
+  pub written : ((status ≡ NoBoard) × Puts a.written b.written no_base_board_line × (b.writes ≡ a.writes))
       ⊎ ((status ≡ WriteFault) × PutsFront a.written b.written no_base_board_line × Rose a.writes b.writes)
 
 -- over the first of the boards, and the others are as before

@@ -146,12 +146,12 @@ pub record DripDone (status : Status) (a b : Around) : Type 0 where
 pub record UsageDone (status : Status) (a b : Around) : Type 0 where
   pub unread : Unread a b
   pub boards : b.boards ≡ a.boards
-  pub told : UsageWritten status a.written b.written a.writes b.writes
+  pub written : UsageWritten status a.written b.written a.writes b.writes
 
 pub record HelpDone (status : Status) (a b : Around) : Type 0 where
   pub unread : Unread a b
   pub boards : b.boards ≡ a.boards
-  pub told : HelpWritten status a.written b.written a.writes b.writes
+  pub written : HelpWritten status a.written b.written a.writes b.writes
 
 -- ---- all commands
 

@@ -11,7 +11,7 @@ use std::alloc::Global;
 
 /// Tells that there is no board.
 fn tell_no_board<K: Sink>(out: &mut K) -> Status
-    ensures told { ((result ≡ Status.NoBoard) × Puts (K.written out.old) (K.written out.new) no_base_board_line
+    ensures written { ((result ≡ Status.NoBoard) × Puts (K.written out.old) (K.written out.new) no_base_board_line
         × (K.faults out.new ≡ K.faults out.old))
         ⊎ ((result ≡ Status.WriteFault) × PutsFront (K.written out.old) (K.written out.new) no_base_board_line
         × Rose (K.faults out.old) (K.faults out.new)) }

@@ -7,7 +7,7 @@ use dg_base::{Sink, Status, WriteFailed};
 
 /// Tells that the words are no command.
 pub(crate) fn tell_usage<K: Sink>(out: &mut K) -> Status
-    ensures told { UsageWritten result (K.written out.old) (K.written out.new) (K.faults out.old) (K.faults out.new) }
+    ensures written { UsageWritten result (K.written out.old) (K.written out.new) (K.faults out.old) (K.faults out.new) }
     ensures counts { K.faults out.old ≤ K.faults out.new }
 {
     match out.write(b"usage\n") {
@@ -18,7 +18,7 @@ pub(crate) fn tell_usage<K: Sink>(out: &mut K) -> Status
 
 /// Writes a text of help.
 pub(crate) fn tell_help<K: Sink>(out: &mut K, text: &str) -> Status
-    ensures told { HelpWritten result (K.written out.old) (K.written out.new) (K.faults out.old) (K.faults out.new) }
+    ensures written { HelpWritten result (K.written out.old) (K.written out.new) (K.faults out.old) (K.faults out.new) }
     ensures counts { K.faults out.old ≤ K.faults out.new }
 {
     match out.write(text.as_bytes()) {

@@ -31,7 +31,7 @@ pub set_ok : (d e : DripNetwork) (w : Network) (reported : Bool) (node key value
     → Ok number ≡ set_answer (node_at d.nodes.items node) key → Does e w reported (Set node key value dt draw) (Some (Got node key (record { number = number; value = value })))
 set_ok d e w reported node key value dt draw number s h l moment links sent nodes answer = record {
   after = set_stands d e w node key value dt draw s h l moment links sent nodes;
-  told_is = set_told w reported node key value dt draw number (ap set_outcome (sym (s.cells node key h l)) ∙ sym answer);
+  report_is = set_told w reported node key value dt draw number (ap set_outcome (sym (s.cells node key h l)) ∙ sym answer);
 }
 
 pub set_err : (d e : DripNetwork) (w : Network) (reported : Bool) (node key value dt draw : ℕ) → Stands d w → node < length d.nodes.items → key < key_count
@@ -39,7 +39,7 @@ pub set_err : (d e : DripNetwork) (w : Network) (reported : Bool) (node key valu
     → Err fault.Last ≡ set_answer (node_at d.nodes.items node) key → Does e w reported (Set node key value dt draw) (Some (Refused node cause.Last))
 set_err d e w reported node key value dt draw s h l moment links sent nodes answer = record {
   after = set_stands d e w node key value dt draw s h l moment links sent nodes;
-  told_is = set_refused w reported node key value dt draw (ap set_outcome (sym (s.cells node key h l)) ∙ sym answer);
+  report_is = set_refused w reported node key value dt draw (ap set_outcome (sym (s.cells node key h l)) ∙ sym answer);
 }
 
 -- ---- ticks
@@ -65,7 +65,7 @@ tick_none d e w reported node key dt draw s h l moment links sent nodes told =
     record {
       after = tick_stands d e w node key dt draw s h l moment links nodes
           (sent ∙ sym (ap (λ (b : Bool). d.sent.items ++ told_if b (said_by n key)) silent ∙ append-nil d.sent.items));
-      told_is = tick_silent w reported node key dt draw (and_false reported (tells (w.cells node key) (w.moment + dt)) (tick_tells d w node key dt false s h l silent));
+      report_is = tick_silent w reported node key dt draw (and_false reported (tells (w.cells node key) (w.moment + dt)) (tick_tells d w node key dt false s h l silent));
     }
 
 -- the network behind a tick that tells
@@ -83,7 +83,7 @@ pub tick_quiet : (d e : DripNetwork) (w : Network) (reported : Bool) (node key d
     → Some said ≡ told_by (node_at d.nodes.items node) (d.moment + dt) key → reported ≡ false → Does e w reported (Tick node key dt draw) None
 tick_quiet d e w reported node key dt draw said s h l moment links sent nodes told quiet = record {
   after = tells_stands d e w node key dt draw said s h l moment links sent nodes told;
-  told_is = tick_silent w reported node key dt draw (ap (λ (b : Bool). b && tells (w.cells node key) (w.moment + dt)) quiet);
+  report_is = tick_silent w reported node key dt draw (ap (λ (b : Bool). b && tells (w.cells node key) (w.moment + dt)) quiet);
 }
 
 pub tick_reported : (d e : DripNetwork) (w : Network) (reported : Bool) (node key dt draw : ℕ) (said : Said) → Stands d w → node < length d.nodes.items → key < key_count
@@ -94,7 +94,7 @@ tick_reported d e w reported node key dt draw said s h l moment links sent nodes
     let parts = some_by (tells (cell_of n key) (d.moment + dt)) (said_by n key) said told in
     record {
       after = tells_stands d e w node key dt draw said s h l moment links sent nodes told;
-      told_is = tick_told w reported node key dt draw said.entry is (tick_tells d w node key dt true s h l parts.0)
+      report_is = tick_told w reported node key dt draw said.entry is (tick_tells d w node key dt true s h l parts.0)
           (ap (λ (x : Said). x.entry) (sym parts.1) ∙ ap (λ (c : Cell). c.entry) (s.cells node key h l));
     }
 
@@ -106,7 +106,7 @@ pub take_hears : (d e : DripNetwork) (w : Network) (node draw : ℕ) (s : Said) 
     → answer ≡ outcome (cell_of (node_at d.nodes.items node) s.key) s.key s.entry → Hears e w node draw s (heard_report node s.key s.entry answer)
 take_hears d e w node draw s answer t h l moment links sent nodes is = record {
   after = heard_stands d e w node draw s t h l moment links sent nodes;
-  told_is = heard_told w node draw s answer (is ∙ ap (λ (c : Cell). outcome c s.key s.entry) (t.cells node s.key h l));
+  report_is = heard_told w node draw s answer (is ∙ ap (λ (c : Cell). outcome c s.key s.entry) (t.cells node s.key h l));
 }
 
 silent_unless_newer : (node key : ℕ) (e : Entry) (a : DripHeard) → ((k : ℕ) → a ≡ what.Newer k → ⊥) → heard_report node key e a ≡ None
@@ -134,7 +134,7 @@ hear_none d e w reported node dt draw frame s moment links sent nodes none =
     let is : None ≡ frame_numbered w.sent frame = none ∙ ap (λ (xs : List Said). frame_numbered xs frame) s.sent in
     record {
       after = subst (λ (r : Option Said). Stands e (heard w node (w.moment + dt) draw (from_neighbour w.links node r))) is (later_stands d e w dt s moment links sent nodes);
-      told_is = ap (λ (r : Option Said). report_of_frame w (applied w (Hear node dt draw frame)) node r) is;
+      report_is = ap (λ (r : Option Said). report_of_frame w (applied w (Hear node dt draw frame)) node r) is;
     }
 
 pub hear_link : (d e : DripNetwork) (w : Network) (reported : Bool) (node dt draw frame : ℕ) (x : Said) → Stands d w
@@ -146,7 +146,7 @@ hear_link d e w reported node dt draw frame x s moment links sent nodes some far
     record {
       after = subst (λ (r : Option Said). Stands e (heard w node (w.moment + dt) draw (from_neighbour w.links node r))) is
           (subst (λ (b : Bool). Stands e (heard w node (w.moment + dt) draw (cond b (Some x) None))) (sym off) (later_stands d e w dt s moment links sent nodes));
-      told_is = sym (ap (λ (b : Bool). let r : Option DripReport = cond b (got w (applied w (Hear node dt draw frame)) node x.key) (Some (Refused node cause.Link)) in r) off)
+      report_is = sym (ap (λ (b : Bool). let r : Option DripReport = cond b (got w (applied w (Hear node dt draw frame)) node x.key) (Some (Refused node cause.Link)) in r) off)
           ∙ ap (λ (r : Option Said). report_of_frame w (applied w (Hear node dt draw frame)) node r) is;
     }
 
@@ -159,7 +159,7 @@ hear_takes d e w reported node dt draw frame x told s some near h =
     sym (ap (λ (b : Bool). heard w node (w.moment + dt) draw (cond b (Some x) None)) on) ∙ ap (λ (r : Option Said). heard w node (w.moment + dt) draw (from_neighbour w.links node r)) is in
     record {
       after = subst (λ (v : Network). Stands e v) there h.after;
-      told_is = h.told_is
+      report_is = h.report_is
           ∙ ap (λ (v : Network). got w v node x.key) there
           ∙ sym (ap (λ (b : Bool). let r : Option DripReport = cond b (got w (applied w (Hear node dt draw frame)) node x.key) (Some (Refused node cause.Link)) in r) on)
           ∙ ap (λ (r : Option Said). report_of_frame w (applied w (Hear node dt draw frame)) node r) is;
@@ -170,7 +170,7 @@ last_none d w reported from to key s none =
     let is : None ≡ last_said w.sent from key = none ∙ ap (λ (xs : List Said). last_said xs from key) s.sent in
     record {
       after = subst (λ (r : Option Said). Stands d (heard w to w.moment 0 r)) is (record { moment = s.moment; links = s.links; sent = s.sent; long = s.long; ids = s.ids; cells = s.cells });
-      told_is = ap (λ (r : Option Said). report_of_last w (applied w (Last from to key)) to r) is;
+      report_is = ap (λ (r : Option Said). report_of_last w (applied w (Last from to key)) to r) is;
     }
 
 pub last_takes : (d e : DripNetwork) (w : Network) (reported : Bool) (from to key : ℕ) (x : Said) (told : Option DripReport) → Stands d w → Some x ≡ last_said d.sent.items from key
@@ -180,5 +180,5 @@ last_takes d e w reported from to key x told s some h =
     let there : heard w to w.moment 0 (Some x) ≡ applied w (Last from to key) = ap (λ (r : Option Said). heard w to w.moment 0 r) is in
     record {
       after = subst (λ (v : Network). Stands e v) there h.after;
-      told_is = h.told_is ∙ ap (λ (v : Network). got w v to x.key) there ∙ ap (λ (r : Option Said). report_of_last w (applied w (Last from to key)) to r) is;
+      report_is = h.report_is ∙ ap (λ (v : Network). got w v to x.key) there ∙ ap (λ (r : Option Said). report_of_last w (applied w (Last from to key)) to r) is;
     }

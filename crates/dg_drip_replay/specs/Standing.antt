@@ -36,9 +36,9 @@ abbrev pub AreKeyed : List Said → Type 0
 AreKeyed sent = All (λ s. s.key < key_count) sent
 
 -- an event was applied in the network, and this is reported of it
-pub record Does (d : DripNetwork) (w : Network) (reported : Bool) (event : DripEvent) (told : Option DripReport) : Type 0 where
+pub record Does (d : DripNetwork) (w : Network) (reported : Bool) (event : DripEvent) (report : Option DripReport) : Type 0 where
   pub after : Stands d (applied w event)
-  pub told_is : told ≡ report_of_event w reported event
+  pub report_is : report ≡ report_of_event w reported event
 
 -- The clock went on by dt, and there are as many nodes as before.
 pub record Passes (old new : DripNetwork) (dt : ℕ) : Type 0 where
@@ -47,9 +47,9 @@ pub record Passes (old new : DripNetwork) (dt : ℕ) : Type 0 where
   pub keyed : AreKeyed new.sent.items
 
 -- A node heard what a frame tells, at the moment of the network.
-pub record Hears (d : DripNetwork) (w : Network) (node draw : ℕ) (s : Said) (told : Option DripReport) : Type 0 where
+pub record Hears (d : DripNetwork) (w : Network) (node draw : ℕ) (s : Said) (report : Option DripReport) : Type 0 where
   pub after : Stands d (heard w node w.moment draw (Some s))
-  pub told_is : told ≡ got w (heard w node w.moment draw (Some s)) node s.key
+  pub report_is : report ≡ got w (heard w node w.moment draw (Some s)) node s.key
 
 -- how long it is since the event before
 abbrev pub time_of : DripEvent → ℕ

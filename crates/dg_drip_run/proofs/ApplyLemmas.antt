@@ -48,9 +48,9 @@ event_applied p q s before e reported told h fits short on few does passes stand
           subst (λ (n : ℕ). q.network.moment ≤ n * 2 ^ 32) (sym (one_more s.items i))
           (subst (λ (m : ℕ). m ≤ (length s.items + 1) * 2 ^ 32) (sym passes.moment) (later p.network.moment (time_of e) (length s.items) h.moment short));
       keyed = passes.keyed;
-      told =
+      reported =
           ap (λ t. before ++ t) text ∙ sym (append_assoc before p.text.items (reported_text told))
-          ∙ (ap (λ t. t ++ reported_text told) h.told ∙ (ap (λ o. report_of s ++ reported_text o) does.told_is ∙ sym (told_more (start s.links) s.items i)));
+          ∙ (ap (λ t. t ++ reported_text told) h.reported ∙ (ap (λ o. report_of s ++ reported_text o) does.report_is ∙ sym (told_more (start s.links) s.items i)));
       first = λ none. let some = some_node p.standing.nodes e fits in absurd (let bad : p.standing.nodes ≡ 0 = nodes_is ∙ none in omega (arith, some, bad));
       early = λ not_yet. absurd (true≢false (sym begun_is ∙ not_yet));
       below = h.below;

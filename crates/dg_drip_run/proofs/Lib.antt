@@ -5,5 +5,5 @@ pub mod RangeLemmas
 pub mod RoundLemmas
 pub mod LineLemmas
 pub mod FinishLemmas
-pub mod ToldLemmas
+pub mod ReportLemmas
 pub mod ReadLemmas

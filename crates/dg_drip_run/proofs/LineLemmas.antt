@@ -32,7 +32,7 @@ begun_plays p s before h =
       few = h.few;
       moment = h.moment;
       keyed = h.keyed;
-      told = h.told;
+      reported = h.reported;
       first = h.first;
       early = λ not_yet. absurd (true≢false not_yet);
       below = h.below;
@@ -93,7 +93,7 @@ link_plays p q s before a b h stands passes early less few standing events text 
       few = h.few;
       moment = moved;
       keyed = passes.keyed;
-      told = ap (λ t. before ++ t) text ∙ (h.told ∙ (told_none s.links ∙ sym (told_none links)));
+      reported = ap (λ t. before ++ t) text ∙ (h.reported ∙ (told_none s.links ∙ sym (told_none links)));
       first = λ zero_nodes. absurd (let bad : p.standing.nodes ≡ 0 = nodes_is ∙ zero_nodes in omega (arith, less, bad));
       early = h.early;
       below = below;

@@ -21,7 +21,7 @@ use Rattle.dg_drip_run.specs.AroundDrip.{AroundDrip}
 use Rattle.dg_drip_run.specs.Playing.{Plays}
 use Rattle.dg_drip_run.specs.Dripped.{AreLines, Ends, BadLine, TooManyEvents, Over, played, Closed, Wrote, Dripped, LineStops, LineAnswer, TextAnswer, BadText, DripStage, NextPlays, LinesPlayed, LinesAnswer}
 use Rattle.dg_drip_run.specs.declared.player.Player.{Player}
-use Rattle.dg_drip_run.proofs.ToldLemmas.{front_behind, played_all}
+use Rattle.dg_drip_run.proofs.ReportLemmas.{front_behind, played_all}
 
 -- ---- the next line
 
@@ -127,7 +127,7 @@ lines_first now none unread first h = record {
   used = omega arith;
   script = first_script;
   says = refl;
-  told = [];
+  reported = [];
   plays = h;
   put = Puts-nil now.around.written;
 }
@@ -169,7 +169,7 @@ lines_step ended first p q more number writes i taken g l line is h =
       used = let used = g.used in let passed = i.passed in omega (arith, used, long, bytes, passed);
       script = with_drip_line i.script line;
       says = spelled_more first_script i.script i.texts new.text line i.says is;
-      told = h.0.0;
+      reported = h.0.0;
       plays = h.0.1;
       put = subst (λ (xs : List ℕ). Puts first.written q.around.written xs) whole (Puts-join first.written p.around.written q.around.written (report_of i.script) h.1.0 i.put h.1.2);
     }
@@ -222,7 +222,7 @@ stopped_line status first p q more number spread i taken g line is h =
     let after = q.around.written in
     ⊎_elim
     (λ k. dripped_before status first q.around p more number i taken
-    (inr (inr (inl (k.0, put_whole p.player i.script i.told before after i.plays (subst (λ (o : Option (List ℕ)). Puts before o (report_of i.script)) (sym k.1) i.put))))))
+    (inr (inr (inl (k.0, put_whole p.player i.script i.reported before after i.plays (subst (λ (o : Option (List ℕ)). Puts before o (report_of i.script)) (sym k.1) i.put))))))
     (λ k. dripped_in status first p q more number i taken g line is
     (⊎_elim
     (λ w. inr (inr (inr (w.0, spread w.1, subst (λ (xs : List ℕ). PutsFront before after xs) k.1 (front_behind before mid after (report_of i.script) k.0 i.put w.2)))))
@@ -239,7 +239,7 @@ bad_text status first p q more number spread i taken f t closed =
       BadLine (p.reader.number + 1) f,
       (ap (λ k. k + 1) i.counted, inr (t.text, t.first.line, t.rest, t.first.parts, t.first.is, t.bad)),
       closed_after status statuses.BadInput first.written p.around.written q.around.written (report_of i.script) [] (report_of (played i.script)) (bad_line (p.reader.number + 1) f)
-          (Rose p.around.writes q.around.writes) (Rose first.writes q.around.writes) spread i.put (report_whole p.player i.script i.told i.plays) closed,
+          (Rose p.around.writes q.around.writes) (Rose first.writes q.around.writes) spread i.put (report_whole p.player i.script i.reported i.plays) closed,
     ))
 
 too_long : (status : Status) (first : AroundDrip) (p q : DripStage) (more : List ℕ) (number : ℕ) → (Rose p.around.writes q.around.writes → Rose first.writes q.around.writes) → (i : LinesPlayed ⊥ first number p) → Takes p.around.left q.around.left more
@@ -252,7 +252,7 @@ too_long status first p q more number spread i taken t closed =
       Over,
       (ap (λ (k : ℕ). k + length (ahead ++ more)) (sym i.passed) ∙ t.all, subst (λ (k : ℕ). HasNoEnd (take (most_used_bytes - k) (ahead ++ more))) i.passed t.none),
       closed_after status statuses.TooLong first.written p.around.written q.around.written (report_of i.script) [] (report_of (played i.script)) (codes "toolong" ++ 10 ∷ [])
-          (Rose p.around.writes q.around.writes) (Rose first.writes q.around.writes) spread i.put (report_whole p.player i.script i.told i.plays) closed,
+          (Rose p.around.writes q.around.writes) (Rose first.writes q.around.writes) spread i.put (report_whole p.player i.script i.reported i.plays) closed,
     ))
 
 pub lines_stopped : (status : Status) (first : AroundDrip) (p q : DripStage) (more : List ℕ) (number : ℕ) → (Rose p.around.reads q.around.reads → Rose first.reads q.around.reads) → (Rose p.around.writes q.around.writes → Rose first.writes q.around.writes)
@@ -264,7 +264,7 @@ lines_stopped status first p q more number read spread i taken h =
     (λ k. bad_text status first p q more number spread i taken k.0 k.1 k.2)
     (λ m. ⊎_elim
     (λ k. dripped_before status first q.around p more number i taken
-    (inr (inl (k.0, read k.1, k.2, put_whole p.player i.script i.told first.written q.around.written i.plays (subst (λ (o : Option (List ℕ)). Puts first.written o (report_of i.script)) (sym k.3) i.put)))))
+    (inr (inl (k.0, read k.1, k.2, put_whole p.player i.script i.reported first.written q.around.written i.plays (subst (λ (o : Option (List ℕ)). Puts first.written o (report_of i.script)) (sym k.3) i.put)))))
     (λ k. too_long status first p q more number spread i taken k.0 k.1)
     m) j)
     h
@@ -278,7 +278,7 @@ pub lines_halt : (r : Result ℕ Status) (status : Status) (first : AroundDrip) 
     → ((s : DripScript) (told : List ℕ) → Plays p.player s told → NextPlays (Err status) (p.reader.ahead ++ more) s p q) → LinesAnswer r first q
 lines_halt r status first p q more number is read spread i taken h =
     subst (λ (x : Result ℕ Status). LinesAnswer x first q) (err_is r status is)
-    (lines_stopped status first p q more number read spread i taken (h i.script i.told i.plays))
+    (lines_stopped status first p q more number read spread i taken (h i.script i.reported i.plays))
 
 -- nothing is left
 pub lines_end : (first : AroundDrip) (p q : DripStage) (more : List ℕ) (number : ℕ) → (i : LinesPlayed ⊥ first number p) → Takes p.around.left q.around.left more
@@ -301,8 +301,8 @@ lines_end first p q more number i taken h =
         used = i.used;
         script = i.script;
         says = i.says;
-        told = i.told;
-        plays = subst (λ (x : Player). Plays x i.script i.told) (sym h.1) i.plays;
+        reported = i.reported;
+        plays = subst (λ (x : Player). Plays x i.script i.reported) (sym h.1) i.plays;
         put = subst (λ (o : Option (List ℕ)). Puts first.written o (report_of i.script)) (sym h.2) i.put;
       },
     )
@@ -343,7 +343,7 @@ pub script_ended : (status : Status) (first last : AroundDrip) (now : DripStage)
     → Dripped status first last
 script_ended status first last now number same spread h ends =
     let i = h.1 in
-    let whole = report_whole now.player i.script i.told i.plays in
+    let whole = report_whole now.player i.script i.reported i.plays in
     let at_end : AtEnd last.left = subst AtEnd (sym same) h.0.0 in
     record {
       input = i.given ++ now.reader.ahead;
@@ -368,7 +368,7 @@ script_ended status first last now number same spread h ends =
             closed_after status statuses.Done first.written now.around.written last.written (report_of i.script) [] (report_of (played i.script)) (final_text (network_of i.script) i.script.nodes (length i.script.items))
                 (Rose now.around.writes last.writes) (Rose first.writes last.writes) spread i.put whole k.1,
           ))
-          (ends i.script i.told i.plays));
+          (ends i.script i.reported i.plays));
     }
 
 -- nothing was read, since there was no memory

@@ -182,8 +182,8 @@ pub record LinesPlayed (ended : Type 0) (first : AroundDrip) (number : ℕ) (now
   pub used : length given ≤ most_used_bytes
   pub script : DripScript
   pub says : script_of texts ≡ Some script
-  pub told : List ℕ
-  pub plays : Plays now.player script told
+  pub reported : List ℕ
+  pub plays : Plays now.player script reported
   pub put : Puts first.written now.around.written (report_of script)
 
 -- what playing all lines of an input answers: the number of the line after the last

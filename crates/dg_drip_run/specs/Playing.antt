@@ -23,7 +23,7 @@ pub record Plays (p : Player) (s : DripScript) (before : List ℕ) : Type 0 wher
   -- the time of each event is below 2 ^ 32
   pub moment : p.network.moment ≤ length s.items * 2 ^ 32
   pub keyed : AreKeyed p.network.sent.items
-  pub told : before ++ p.text.items ≡ report_of s
+  pub reported : before ++ p.text.items ≡ report_of s
   pub first : s.nodes ≡ 0 → (s.links ≡ []) × (s.items ≡ [])
   pub early : s.begun ≡ false → s.items ≡ []
   pub below : AreBelow s.nodes s.links

@@ -36,7 +36,7 @@ pub struct Player {
 
 // Appends what is reported of an event.
 fn push_text(text: &mut Vec<u8>, report: &Option<DripReport>) -> Result<(), PlayStop>
-    ensures told { OnOk result (text.new.items ≡ text.old.items ++ reported_text report.now) }
+    ensures reported { OnOk result (text.new.items ≡ text.old.items ++ reported_text report.now) }
     ensures stop { OnErr result (result ≡ Err PlayStop.Memory) }
 {
     match report {

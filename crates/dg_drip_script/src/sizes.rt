@@ -6,6 +6,6 @@ ghost use Rattle.dg_drip_script.specs.Sizes.{most_nodes};
 pub const MOST_NODES: u8 = 16;
 
 /// A script has at most 16 nodes.
-pub fn scripts_of_nodes_have_these_bounds()
+pub fn scripts_of_nodes_have_this_bound()
     ensures nodes { MOST_NODES ≡ most_nodes }
 {}

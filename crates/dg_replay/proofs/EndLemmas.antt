@@ -76,7 +76,7 @@ cut_at_end {table} result script over input at_end number initial now before mid
         front = inr (inr (line, ends, append_assoc (played_text c.played) (take k line) (drop k line) ∙ ap (λ (xs : List ℕ). played_text c.played ++ xs) (take-append-drop k line)));
       };
       enough = ⊎_elim (λ (x : at_end). inl x) (λ (x : NextIsWhole input c.done c.rest). inr (inr (inr (line, ends, x)))) whole;
-      near = inl (record { lines = front.lines; within = front.within; more = front.more; told = front.told; near = near_later number (front.lines + 1) input front.behind near });
+      near = inl (record { lines = front.lines; within = front.within; more = front.more; reported = front.reported; near = near_later number (front.lines + 1) input front.behind near });
       limits = limits;
       stood = stood;
       boards = boards;
@@ -96,7 +96,7 @@ stopped_ends {table} Memory result script over input at_end number initial now b
     let made : ScriptReplayed table status.Memory script (ending_from (length initial) over script) (bytes_taken input at_end) (span initial now before after) (failures reads worse) = record {
       came = f.came;
       text = f.text;
-      written = subst (λ (o : Option (List ℕ)). Puts before o f.text) (sym told) f.told;
+      written = subst (λ (o : Option (List ℕ)). Puts before o f.text) (sym told) f.reported;
       report = record { more = f.more; front = f.whole };
       enough = f.there.1;
       near = tt;
@@ -108,7 +108,7 @@ stopped_ends {table} Memory result script over input at_end number initial now b
     subst (λ (s : Status). ScriptReplayed table s script (ending_from (length initial) over script) (bytes_taken input at_end) (span initial now before after) (failures reads worse)) (sym same) made
 stopped_ends {table} (BadInput line fault) result script over input at_end number initial now before mid after failed later reads worse spread widen near settled (numbered, f) done =
     let e = fault_ending over script initial line fault f.there.3 f.there.1 in
-    let ready : ReadyToEnd table script (FaultAt line fault) (ending_line (FaultAt line fault)) (span initial now before mid) = record { came = f.came; told = f.told; boards = f.there.2; all = f.there.0; line = refl; limits = f.limits; stood = f.stood } in
+    let ready : ReadyToEnd table script (FaultAt line fault) (ending_line (FaultAt line fault)) (span initial now before mid) = record { came = f.came; reported = f.reported; boards = f.there.2; all = f.there.0; line = refl; limits = f.limits; stood = f.stood } in
     let there : FewBytesBehind line input = subst (λ (n : ℕ). FewBytesBehind n input) (sym numbered) near in
     subst (λ (x : Ending). ScriptReplayed table result script x (bytes_taken input at_end) (span initial now before after) (failures reads worse)) (sym e)
     (ended result script (FaultAt line fault) _ input at_end initial now before mid after later reads worse widen ready settled f.there.4 (λ text. there) done)
@@ -117,10 +117,10 @@ stopped_ends {table} WriteFault result script over input at_end number initial n
     let made : ScriptReplayed table status.WriteFault script (ending_from (length initial) over script) (bytes_taken input at_end) (span initial now before after) (failures reads worse) = record {
       came = f.came;
       text = f.text;
-      written = subst (λ (o : Option (List ℕ)). Puts before o f.text) (sym told) f.told;
+      written = subst (λ (o : Option (List ℕ)). Puts before o f.text) (sym told) f.reported;
       report = record { more = f.more; front = inl f.whole };
       enough = ⊎_elim (λ (x : at_end). inl x) (λ (x : DoneIsWhole input f.came.done f.came.rest f.came.begun). inr (inr (inl (x, record { more = f.more; front = f.whole })))) f.there.2;
-      near = inl (record { lines = before_it.lines; within = before_it.within; more = before_it.more; told = before_it.told; near = near_later number (before_it.lines + 1) input before_it.behind near });
+      near = inl (record { lines = before_it.lines; within = before_it.within; more = before_it.more; reported = before_it.reported; near = near_later number (before_it.lines + 1) input before_it.behind near });
       limits = f.limits;
       stood = f.stood;
       boards = f.there.0;
@@ -131,7 +131,7 @@ stopped_ends {table} FlashFault result script over input at_end number initial n
     let made : ScriptReplayed table status.FlashFault script (ending_from (length initial) over script) (bytes_taken input at_end) (span initial now before after) (failures reads worse) = record {
       came = f.came;
       text = played_text f.came.played;
-      written = subst (λ (o : Option (List ℕ)). Puts before o (played_text f.came.played)) (sym told) f.told;
+      written = subst (λ (o : Option (List ℕ)). Puts before o (played_text f.came.played)) (sym told) f.reported;
       report = (refl, subst (λ (ls : List Line). StopsAt (ending_from (length initial) over script) ls) (sym f.there.0.2) f.there.0.3);
       enough = f.there.2;
       near = tt;
@@ -143,19 +143,19 @@ stopped_ends {table} FlashFault result script over input at_end number initial n
     subst (λ (s : Status). ScriptReplayed table s script (ending_from (length initial) over script) (bytes_taken input at_end) (span initial now before after) (failures reads worse)) (sym same) made
 stopped_ends {table} TooMany result script over input at_end number initial now before mid after failed later reads worse spread widen near settled f done =
     let e = many_ending over script initial f.came f.there.2 f.there.0 in
-    let ready : ReadyToEnd table script TooManyEvents (ending_line TooManyEvents) (span initial now before mid) = record { came = f.came; told = f.told; boards = f.there.1; all = f.there.0; line = refl; limits = f.limits; stood = f.stood } in
+    let ready : ReadyToEnd table script TooManyEvents (ending_line TooManyEvents) (span initial now before mid) = record { came = f.came; reported = f.reported; boards = f.there.1; all = f.there.0; line = refl; limits = f.limits; stood = f.stood } in
     subst (λ (x : Ending). ScriptReplayed table result script x (bytes_taken input at_end) (span initial now before after) (failures reads worse)) (sym e)
     (ended result script TooManyEvents _ input at_end initial now before mid after later reads worse widen ready settled f.there.3 (λ text. tt) done)
 stopped_ends {table} (NoBoard motes boards) result script over input at_end number initial now before mid after failed later reads worse spread widen near settled f done =
     let e = stop_ending (NoBoard motes boards) over script (λ c. at_end ⊎ DoneIsWhole input c.done c.rest c.begun) number initial now before mid failed f in
-    let ready : ReadyToEnd table script (NoBoards motes boards) (ending_line (NoBoards motes boards)) (span initial now before mid) = record { came = f.came; told = f.told; boards = f.there.2; all = f.there.1; line = refl; limits = f.limits; stood = f.stood } in
+    let ready : ReadyToEnd table script (NoBoards motes boards) (ending_line (NoBoards motes boards)) (span initial now before mid) = record { came = f.came; reported = f.reported; boards = f.there.2; all = f.there.1; line = refl; limits = f.limits; stood = f.stood } in
     subst (λ (x : Ending). ScriptReplayed table result script x (bytes_taken input at_end) (span initial now before after) (failures reads worse)) (sym e)
     (ended result script (NoBoards motes boards) _ input at_end initial now before mid after later reads worse widen ready settled f.there.4 (λ text. tt) done)
 stopped_ends {table} NoImage result script over input at_end number initial now before mid after failed later reads worse spread widen near settled f (inl (same, put)) =
     let made : ScriptReplayed table status.NoImage script (ending_from (length initial) over script) (bytes_taken input at_end) (span initial now before after) (failures reads worse) = record {
       came = f.came;
       text = played_text f.came.played ++ no_image_line;
-      written = Puts-join before mid after _ _ f.told put;
+      written = Puts-join before mid after _ _ f.reported put;
       report = refl;
       enough = f.there.4;
       near = tt;
@@ -166,12 +166,12 @@ stopped_ends {table} NoImage result script over input at_end number initial now 
     } in
     subst (λ (s : Status). ScriptReplayed table s script (ending_from (length initial) over script) (bytes_taken input at_end) (span initial now before after) (failures reads worse)) (sym same) made
 stopped_ends {table} NoImage result script over input at_end number initial now before mid after failed later reads worse spread widen near settled f (inr (same, cut, rose)) =
-    cut_at_end result script over input at_end number initial now before mid after later reads worse widen near f.came no_image_line (inr (f.there.1, lacks_next f.came.last f.came.left initial now f.there.2, refl)) f.told f.limits f.stood (inr (inr (inr (f.there.1, f.there.2)))) f.there.3 f.there.4 same cut rose
+    cut_at_end result script over input at_end number initial now before mid after later reads worse widen near f.came no_image_line (inr (f.there.1, lacks_next f.came.last f.came.left initial now f.there.2, refl)) f.reported f.limits f.stood (inr (inr (inr (f.there.1, f.there.2)))) f.there.3 f.there.4 same cut rose
 stopped_ends {table} NotAVolume result script over input at_end number initial now before mid after failed later reads worse spread widen near settled f (inl (same, put)) =
     let made : ScriptReplayed table status.NotAVolume script (ending_from (length initial) over script) (bytes_taken input at_end) (span initial now before after) (failures reads worse) = record {
       came = f.came;
       text = played_text f.came.played ++ no_volume_line;
-      written = Puts-join before mid after _ _ f.told put;
+      written = Puts-join before mid after _ _ f.reported put;
       report = refl;
       enough = f.there.2;
       near = tt;
@@ -182,7 +182,7 @@ stopped_ends {table} NotAVolume result script over input at_end number initial n
     } in
     subst (λ (s : Status). ScriptReplayed table s script (ending_from (length initial) over script) (bytes_taken input at_end) (span initial now before after) (failures reads worse)) (sym same) made
 stopped_ends {table} NotAVolume result script over input at_end number initial now before mid after failed later reads worse spread widen near settled f (inr (same, cut, rose)) =
-    cut_at_end result script over input at_end number initial now before mid after later reads worse widen near f.came no_volume_line (inl (f.there.0.more, f.there.0.next, refl)) f.told f.limits f.stood (inr (inr (inl f.there.0))) f.there.1 f.there.2 same cut rose
+    cut_at_end result script over input at_end number initial now before mid after later reads worse widen near f.came no_volume_line (inl (f.there.0.more, f.there.0.next, refl)) f.reported f.limits f.stood (inr (inr (inl f.there.0))) f.there.1 f.there.2 same cut rose
 
 -- a script all of whose lines were played
 lines_done : {table : List Row} (ends : Bool) (script : Script) (n : ℕ) (p : Player) (initial now : List Device) (before mid : Option (List ℕ)) → (r : Reached table ends script [] n p (span initial now before mid)) → r.done ++ [] ≡ script.lines
@@ -225,7 +225,7 @@ abbrev ready_done : {table : List Row} (ends : Bool) (script : Script) (e : Endi
     → ((w : Option World) → closing e w ≡ ending_line e) → ReadyToEnd table script e (ending_line e) (span initial now before mid)
 ready_done ends script e n p initial now before mid r all closes =
     let came = came_to ends script n p initial now before mid r.last r refl in
-    record { came = came; told = r.told; boards = r.stood.boards; all = all came refl; line = closes r.last; limits = bounds_done ends script n p initial now before mid r; stood = λ uses. (r.grounded uses).1 }
+    record { came = came; reported = r.reported; boards = r.stood.boards; all = all came refl; line = closes r.last; limits = bounds_done ends script n p initial now before mid r; stood = λ uses. (r.grounded uses).1 }
 
 -- nothing stands behind the last line
 nothing_near : (n : ℕ) (input : List ℕ) → behind_lines n input ≡ [] → FewBytesBehind n input
@@ -258,13 +258,13 @@ finish_as : {table : List Row} (result : Status) (script : Script) (input : List
 finish_as result script input w n p initial now new before mid after failed reads worse spread r is count (inl (ends, boards)) =
     let came = came_to true script n p initial now before mid (Some w) r is in
     ended result script Ends (report_text (final_lines w)) input ⊤ initial new before mid after failed reads worse spread
-    (record { came = came; told = r.told; boards = boards; all = refl; line = refl; limits = bounds_done true script n p initial now before mid r; stood = λ uses. (r.grounded uses).1 }) (inl tt) (inl tt) (λ text. tt) ends
+    (record { came = came; reported = r.reported; boards = boards; all = refl; line = refl; limits = bounds_done true script n p initial now before mid r; stood = λ uses. (r.grounded uses).1 }) (inl tt) (inl tt) (λ text. tt) ends
 finish_as {table} result script input w n p initial now new before mid after failed reads worse spread r is count (inr (same, stopped, kept)) =
     let there : StoppedIn (motes_in r.done) [] [] (Some w) initial new = stopped (motes_in r.done) count in
     let made : ScriptReplayed table status.FlashFault script Ends (bytes_taken input ⊤) (span initial new before after) (failures reads worse) = record {
       came = came_to true script n p initial now before mid (Some w) r is;
       text = played_text r.played;
-      written = subst (λ (o : Option (List ℕ)). Puts before o (played_text r.played)) (sym kept) r.told;
+      written = subst (λ (o : Option (List ℕ)). Puts before o (played_text r.played)) (sym kept) r.reported;
       report = (refl, refl);
       enough = inl tt;
       near = tt;

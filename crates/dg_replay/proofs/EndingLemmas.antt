@@ -70,11 +70,11 @@ pub ended : {table : List Row} (result : Status) (script : Script) (e : Ending) 
     → EndsWith result (status_of e) piece mid after failed → ScriptReplayed table result script e (bytes_taken input at_end) (span initial now before after) (failures reads worse)
 ended {table} result script e piece input at_end initial now before mid after failed reads worse spread r settled whole near (inl done) =
     let text : List ℕ = played_text r.came.played ++ piece in
-    let all : IsWholeReport e r.came text = record { all = r.all; told = ap (λ (xs : List ℕ). played_text r.came.played ++ xs) (sym r.line) } in
+    let all : IsWholeReport e r.came text = record { all = r.all; reported = ap (λ (xs : List ℕ). played_text r.came.played ++ xs) (sym r.line) } in
     let made : ScriptReplayed table (status_of e) script e (bytes_taken input at_end) (span initial now before after) (failures reads worse) = record {
       came = r.came;
       text = text;
-      written = Puts-join before mid after _ _ r.told done.1;
+      written = Puts-join before mid after _ _ r.reported done.1;
       report = wrote_whole e r.came text all;
       enough = enough_by e (length initial) input at_end r.came text settled;
       near = near text;
@@ -89,16 +89,16 @@ ended {table} result script e piece input at_end initial now before mid after fa
     let made : ScriptReplayed table status.WriteFault script e (bytes_taken input at_end) (span initial now before after) (failures reads worse) = record {
       came = r.came;
       text = played_text r.came.played ++ take k piece;
-      written = Puts-join before mid after _ _ r.told cut.1.2;
+      written = Puts-join before mid after _ _ r.reported cut.1.2;
       report = record {
         more = drop k piece;
         front = inr (inl (record {
           all = r.all;
-          told = append_assoc (played_text r.came.played) (take k piece) (drop k piece) ∙ ap (λ (xs : List ℕ). played_text r.came.played ++ xs) (take-append-drop k piece ∙ sym r.line);
+          reported = append_assoc (played_text r.came.played) (take k piece) (drop k piece) ∙ ap (λ (xs : List ℕ). played_text r.came.played ++ xs) (take-append-drop k piece ∙ sym r.line);
         }));
       };
       enough = ⊎_elim (λ (x : at_end). inl x) (λ (x : IsSettled (length initial) input). inr (inl x)) settled;
-      near = inr (record { all = r.all; more = take k piece; told = refl; near = ends_near e input r.came [] (near []) });
+      near = inr (record { all = r.all; more = take k piece; reported = refl; near = ends_near e input r.came [] (near []) });
       limits = r.limits;
       stood = r.stood;
       boards = inl r.boards;
@@ -109,7 +109,7 @@ ended {table} result script e piece input at_end initial now before mid after fa
     let made : ScriptReplayed table status.Memory script e (bytes_taken input at_end) (span initial now before after) (failures reads worse) = record {
       came = r.came;
       text = played_text r.came.played;
-      written = subst (λ (o : Option (List ℕ)). Puts before o (played_text r.came.played)) (sym memory.1) r.told;
+      written = subst (λ (o : Option (List ℕ)). Puts before o (played_text r.came.played)) (sym memory.1) r.reported;
       report = record { more = []; front = append-nil (played_text r.came.played) };
       enough = whole;
       near = tt;

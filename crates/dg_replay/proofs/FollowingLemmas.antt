@@ -63,4 +63,4 @@ given_next r o n text bytes old new A F N P some same h played =
 
 -- nothing is played of a line that is too long
 pub long_plays : (p : Player) (n : ℕ) (old : List Device) (mid : Option (List ℕ)) (failed : Type 0) (text : List ℕ) → most_line < length text → TextPlays (Err (BadInput n line_fault.Long)) text n p p old old mid mid failed
-long_plays p n old mid failed text long = λ basis so_far s. (refl, long_line p.place text long, record { boards = refl; told = refl })
+long_plays p n old mid failed text long = λ basis so_far s. (refl, long_line p.place text long, record { boards = refl; written = refl })

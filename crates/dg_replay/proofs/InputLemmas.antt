@@ -84,7 +84,7 @@ read_stopped front bytes given p initial now before after is few none r =
     let c = at_line false first [] (given + 1) p initial now before after r in
     record {
       came = lifted (front_begins front bytes is few) c;
-      told = r.told;
+      reported = r.reported;
       limits = bounds_done false first (given + 1) p initial now before after r;
       stood = λ uses. (r.grounded uses).1;
       there = (refl, r.stood.boards, progress_whole front bytes is few c, whole_read front bytes r.done is none (all_read (lines front) (given + 1) p initial now before after r));
@@ -126,14 +126,14 @@ lines_over a b c reads writes old more number p q initial was now before mid aft
 -- a stop is known by more of what was done
 stops_with : {table : List Row} (stop : Stop) (script : Script) (W : Progress table script → Type 0) (number : ℕ) (initial now : List Device) (before after : Option (List ℕ)) (failed : Type 0) → ((c : Progress table script) → W c)
     → StopsThere table stop script number (span initial now before after) failed → StopsAtText table stop script W number (span initial now before after) failed
-stops_with Memory script W number initial now before after failed w f = record { came = f.came; text = f.text; more = f.more; told = f.told; whole = f.whole; limits = f.limits; stood = f.stood; there = (f.there.0, w f.came) }
-stops_with (BadInput line fault) script W number initial now before after failed w (same, f) = (same, record { came = f.came; told = f.told; limits = f.limits; stood = f.stood; there = (f.there.0, f.there.1, f.there.2, f.there.3, w f.came) })
-stops_with WriteFault script W number initial now before after failed w (rose, f) = (rose, record { came = f.came; text = f.text; more = f.more; told = f.told; whole = f.whole; limits = f.limits; stood = f.stood; there = (f.there.0, f.there.1, w f.came) })
-stops_with FlashFault script W number initial now before after failed w f = record { came = f.came; told = f.told; limits = f.limits; stood = f.stood; there = (f.there.0, f.there.1, w f.came) }
-stops_with TooMany script W number initial now before after failed w f = record { came = f.came; told = f.told; limits = f.limits; stood = f.stood; there = (f.there.0, f.there.1, f.there.2, w f.came) }
-stops_with (NoBoard motes boards) script W number initial now before after failed w f = record { came = f.came; told = f.told; limits = f.limits; stood = f.stood; there = (f.there.0, f.there.1, f.there.2, f.there.3, w f.came) }
-stops_with NoImage script W number initial now before after failed w f = record { came = f.came; told = f.told; limits = f.limits; stood = f.stood; there = (f.there.0, f.there.1, f.there.2, f.there.3, w f.came) }
-stops_with NotAVolume script W number initial now before after failed w f = record { came = f.came; told = f.told; limits = f.limits; stood = f.stood; there = (f.there.0, f.there.1, w f.came) }
+stops_with Memory script W number initial now before after failed w f = record { came = f.came; text = f.text; more = f.more; reported = f.reported; whole = f.whole; limits = f.limits; stood = f.stood; there = (f.there.0, w f.came) }
+stops_with (BadInput line fault) script W number initial now before after failed w (same, f) = (same, record { came = f.came; reported = f.reported; limits = f.limits; stood = f.stood; there = (f.there.0, f.there.1, f.there.2, f.there.3, w f.came) })
+stops_with WriteFault script W number initial now before after failed w (rose, f) = (rose, record { came = f.came; text = f.text; more = f.more; reported = f.reported; whole = f.whole; limits = f.limits; stood = f.stood; there = (f.there.0, f.there.1, w f.came) })
+stops_with FlashFault script W number initial now before after failed w f = record { came = f.came; reported = f.reported; limits = f.limits; stood = f.stood; there = (f.there.0, f.there.1, w f.came) }
+stops_with TooMany script W number initial now before after failed w f = record { came = f.came; reported = f.reported; limits = f.limits; stood = f.stood; there = (f.there.0, f.there.1, f.there.2, w f.came) }
+stops_with (NoBoard motes boards) script W number initial now before after failed w f = record { came = f.came; reported = f.reported; limits = f.limits; stood = f.stood; there = (f.there.0, f.there.1, f.there.2, f.there.3, w f.came) }
+stops_with NoImage script W number initial now before after failed w f = record { came = f.came; reported = f.reported; limits = f.limits; stood = f.stood; there = (f.there.0, f.there.1, f.there.2, f.there.3, w f.came) }
+stops_with NotAVolume script W number initial now before after failed w f = record { came = f.came; reported = f.reported; limits = f.limits; stood = f.stood; there = (f.there.0, f.there.1, w f.came) }
 
 by_rules : (stop : Stop) {S : Type 0} → S → ByRules stop S
 by_rules Memory s = tt

@@ -85,7 +85,7 @@ taken_step None w row e taken = absurd (let f : false ≡ true = taken in cc)
 taken_step (Some k) w row e taken =
     record {
       world = sym (ap (λ (o : Option Row). declared_as o w row) e);
-      told = sym (ap (λ (o : Option Row). declared_lines o row) e ∙ ap (λ (b : Bool). if b then report.Taken row.image row.version ∷ [] else []) taken);
+      reported = sym (ap (λ (o : Option Row). declared_lines o row) e ∙ ap (λ (b : Bool). if b then report.Taken row.image row.version ∷ [] else []) taken);
     }
 
 -- a world with as many sites, in which so many more events were applied
@@ -213,7 +213,7 @@ run_counts g lines played v run = by_beginning (beginning_of g lines).world (beg
 
 pub items_run_none : (w : World) → w.events ≤ most_events → ItemsRun w [] w []
 unfolding Plays
-items_run_none w few = record { played = []; are = refl; run = refl; told = refl; few = few }
+items_run_none w few = record { played = []; are = refl; run = refl; reported = refl; few = few }
 
 pub items_run_one : (w v : World) (item : Item) (reports : List Report) → ItemStep w item v reports → v.events ≤ most_events → ItemsRun w (item ∷ []) v (report_text reports)
 unfolding Plays
@@ -222,7 +222,7 @@ items_run_one w v item reports step few =
       played = record { item = item; before = w; after = v; reports = reports } ∷ [];
       are = refl;
       run = (refl, step, refl);
-      told = sym (append-nil (report_text reports));
+      reported = sym (append-nil (report_text reports));
       few = few;
     }
 
@@ -232,7 +232,7 @@ items_run_join w u v xs ys before text a b =
       played = a.played ++ b.played;
       are = map-append item_played a.played b.played ∙ ap (λ (zs : List Item). zs ++ map item_played b.played) a.are ∙ ap (λ (zs : List Item). xs ++ zs) b.are;
       run = plays_append w u v a.played b.played a.run b.run;
-      told = ap (λ (s : List ℕ). s ++ text) a.told ∙ ap (λ (s : List ℕ). played_text a.played ++ s) b.told ∙ sym (played_more a.played b.played);
+      reported = ap (λ (s : List ℕ). s ++ text) a.reported ∙ ap (λ (s : List ℕ). played_text a.played ++ s) b.reported ∙ sym (played_more a.played b.played);
       few = b.few;
     }
 

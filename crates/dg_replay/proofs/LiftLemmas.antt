@@ -85,7 +85,7 @@ left_there b c initial now (inr (inr (inl lacking))) = inr (inr (inl (record { m
 left_there b c initial now (inr (inl (some, stop))) = inr (inl (some, stopped_on c.done c.rest b.rest c.begun c.left c.last initial now c.parts some stop))
 
 told_there : {table : List Row} {first script : Script} (b : BeginsAs first script) (c : Progress table first) (line : ℕ) (text : List ℕ) → ReportedBefore line c text → ReportedBefore line (lifted b c) text
-told_there b c line text t = record { lines = t.lines; within = t.within; behind = t.behind; more = t.more; told = t.told }
+told_there b c line text t = record { lines = t.lines; within = t.within; behind = t.behind; more = t.more; reported = t.reported }
 
 many_on : (done rest more : List Line) (begun left : List Item) (played : List Played) → next_items done rest ≡ begun ++ left → AtTooMany left played → AtTooMany (left_of done rest more left) played
 many_on done [] more begun left played e at = no_items begun left at.next e
@@ -143,14 +143,14 @@ module _ (front ahead : List ℕ) (is : IsFront front) (few : length front ≤ m
         let P : Script → Type 0 = λ s. PlayedUpTo table s initial before after (Q s) in
         let c = f.came in
         let all : DoneIsWhole input c.done c.rest c.begun = subst (λ (r : List Line). DoneIsWhole input c.done r c.begun) (append-nil c.rest) (done_whole c []) in
-        let made : P first = record { came = c; told = f.told; limits = f.limits; stood = f.stood; there = (f.there.0, f.there.1, f.there.2, f.there.3, inr all) } in
+        let made : P first = record { came = c; reported = f.reported; limits = f.limits; stood = f.stood; there = (f.there.0, f.there.1, f.there.2, f.there.3, inr all) } in
         (same, subst P (sym (begins_here.fault (line, fault) f.there.1)) made)
 
     pub stops_here : (table : List Row) (stop : Stop) → StopsThere table stop (script_from false first_place 1 (lines front)) number (span initial now before after) failed
         → (stop ≡ TooMany → lacking (length initial) (script_of (front ++ ahead)).lines ≡ None)
         → StopsInTaken table stop (script_of (front ++ ahead)) (bytes_taken (front ++ ahead) at_end) number (span initial now before after) failed
     stops_here table Memory f enough =
-        record { came = lifted begins_here f.came; text = f.text; more = f.more; told = f.told; whole = f.whole; limits = f.limits; stood = f.stood; there = (f.there.0, inr (done_whole f.came begins_here.rest)) }
+        record { came = lifted begins_here f.came; text = f.text; more = f.more; reported = f.reported; whole = f.whole; limits = f.limits; stood = f.stood; there = (f.there.0, inr (done_whole f.came begins_here.rest)) }
     stops_here table (BadInput line fault) f enough = fault_here line fault f
     stops_here table WriteFault (rose, f) enough = (
       rose,
@@ -158,7 +158,7 @@ module _ (front ahead : List ℕ) (is : IsFront front) (few : length front ≤ m
         came = lifted begins_here f.came;
         text = f.text;
         more = f.more;
-        told = f.told;
+        reported = f.reported;
         whole = f.whole;
         limits = f.limits;
         stood = f.stood;
@@ -171,7 +171,7 @@ module _ (front ahead : List ℕ) (is : IsFront front) (few : length front ≤ m
         let at = f.there.0 in
         record {
           came = lifted b c;
-          told = f.told;
+          reported = f.reported;
           limits = f.limits;
           stood = f.stood;
           there = (
@@ -185,7 +185,7 @@ module _ (front ahead : List ℕ) (is : IsFront front) (few : length front ≤ m
         let b = begins_here in
         record {
           came = lifted b c;
-          told = f.told;
+          reported = f.reported;
           limits = f.limits;
           stood = f.stood;
           there = (many_on c.done c.rest b.rest c.begun c.left c.played c.parts f.there.0, f.there.1, enough refl, inr (done_whole c b.rest));
@@ -195,7 +195,7 @@ module _ (front ahead : List ℕ) (is : IsFront front) (few : length front ≤ m
         let b = begins_here in
         record {
           came = lifted b c;
-          told = f.told;
+          reported = f.reported;
           limits = f.limits;
           stood = f.stood;
           there = (f.there.0, (f.there.1.0 ++ b.rest, ap (λ (ls : List Line). ls ++ b.rest) f.there.1.1), f.there.2, f.there.3, inr (done_whole c b.rest));
@@ -206,7 +206,7 @@ module _ (front ahead : List ℕ) (is : IsFront front) (few : length front ≤ m
         let at = f.there.0 in
         record {
           came = lifted b c;
-          told = f.told;
+          reported = f.reported;
           limits = f.limits;
           stood = f.stood;
           there = (
@@ -223,7 +223,7 @@ module _ (front ahead : List ℕ) (is : IsFront front) (few : length front ≤ m
         let lacking = f.there.0 in
         record {
           came = lifted b c;
-          told = f.told;
+          reported = f.reported;
           limits = f.limits;
           stood = f.stood;
           there = (

@@ -98,7 +98,7 @@ pub record Over (o : Option World) (ps : List Played) (items : List Item) (v : O
   pub now : List Played
   pub are : map item_played now ≡ items
   pub run : RunsTo o (ps ++ now) v
-  pub told : t ≡ played_text now
+  pub reported : t ≡ played_text now
   pub few : IfSome v (λ u. u.events ≤ most_events)
 
 over : (o w : Option World) (ps : List Played) (items : List Item) (v : Option World) (t : List ℕ) → RunsTo o ps w → RunsFrom w items v t → Over o ps items v t
@@ -107,7 +107,7 @@ over o None ps items v t run (none, is, told) =
       now = [];
       are = sym none;
       run = subst (λ (x : Option World). RunsTo o (ps ++ []) x) (sym is) (subst (λ (xs : List Played). RunsTo o xs None) (sym (append-nil ps)) run);
-      told = told;
+      reported = told;
       few = subst (λ (x : Option World). IfSome x (λ u. u.events ≤ most_events)) (sym is) tt;
     }
 over None (Some w) ps items v t run from = absurd (let e : Some w ≡ None = run.1 in cc)
@@ -117,7 +117,7 @@ over (Some w0) (Some w) ps items v t (u, is, plays) (z, at, runs) =
       now = runs.played;
       are = runs.are;
       run = subst (λ (x : Option World). RunsTo (Some w0) (ps ++ runs.played) x) (sym at) (z, refl, plays_append w0 w z ps runs.played first runs.run);
-      told = runs.told;
+      reported = runs.reported;
       few = subst (λ (x : Option World). IfSome x (λ u. u.events ≤ most_events)) (sym at) runs.few;
     }
 
@@ -168,7 +168,7 @@ reached_next ends script texts text n p q initial old now before mid after r t =
       ground = on.ground;
       grounded = on.grounded;
       run = on.run;
-      told = subst (λ (xs : List ℕ). Puts before after xs) (ap (λ (xs : List ℕ). played_text r.played ++ xs) to.report_now ∙ sym on.told) (Puts-join before mid after _ _ r.told t.written);
+      reported = subst (λ (xs : List ℕ). Puts before after xs) (ap (λ (xs : List ℕ). played_text r.played ++ xs) to.report_now ∙ sym on.reported) (Puts-join before mid after _ _ r.reported t.written);
       stood = to.stood;
       few = few_lines (r.done ++ line ∷ []) on.now on.items (few_next on.ground (r.done ++ line ∷ []) to.world on.now q now on.run to.stood.world);
       boards_enough = lacking_next (length initial) r.done line r.boards_enough to.boards_enough;
@@ -185,7 +185,7 @@ front_put script initial before mid after ps t came told tells put limits stood 
       came = came;
       text = played_text ps ++ take k t;
       more = drop k t;
-      told = Puts-join before mid after _ _ told put.2;
+      reported = Puts-join before mid after _ _ told put.2;
       whole = append_assoc (played_text ps) (take k t) (drop k t) ∙ ap (λ (xs : List ℕ). played_text ps ++ xs) (take-append-drop k t) ∙ sym tells;
       limits = limits;
       stood = stood;
@@ -269,7 +269,7 @@ pub run_of : {table : List Row} {P : Option World → List Item → List ℕ →
 run_of ends script texts text n p initial old before mid line r b = over (beginning_of r.ground r.done).world r.last r.played b.begun b.world b.text r.run b.runs
 
 pub over_tells : (o v : Option World) (ps : List Played) (items : List Item) (t : List ℕ) → (x : Over o ps items v t) → played_text (ps ++ x.now) ≡ played_text ps ++ t
-over_tells o v ps items t x = played_more ps x.now ∙ ap (λ (xs : List ℕ). played_text ps ++ xs) (sym x.told)
+over_tells o v ps items t x = played_more ps x.now ∙ ap (λ (xs : List ℕ). played_text ps ++ xs) (sym x.reported)
 
 pub over_bounds : (boards : ℕ) (ground : Ground) (done : List Line) (v : Option World) (ps : List Played) (items : List Item) (t : List ℕ) → lacking boards done ≡ None → (x : Over (beginning_of ground done).world ps items v t) → InBounds boards done (map item_played (ps ++ x.now))
 over_bounds boards ground done v ps items t none x =

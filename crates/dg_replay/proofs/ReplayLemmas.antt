@@ -64,21 +64,21 @@ stopped_more motes line more left w initial now s = record { stopped = s.stopped
 
 -- what is reported of items is reported of some
 begun_some : (o v : Option World) (ps : List Played) (begun : List Item) (t : List ℕ) → Over o ps begun v t → t ≢ [] → begun ≢ []
-begun_some o v ps begun t x some none = some (x.told ∙ none_told x.now (x.are ∙ none))
+begun_some o v ps begun t x some none = some (x.reported ∙ none_told x.now (x.are ∙ none))
 
 -- memory ran out in a line
 memory_begun : {table : List Row} (ends : Bool) (script : Script) (texts : List (List ℕ)) (text : List ℕ) (n : ℕ) (p : Player) (initial old now : List Device) (before mid after : Option (List ℕ)) (line : Line) (r : Reached table ends script (text ∷ texts) n p (span initial old before mid))
     → line_of p.place text ≡ Ok line → (b : LineBegun r.done line r.last (λ v left t. BoardsStand v initial now)) → Choice b.begun b.left → after ≡ mid → PlayedFront table script initial before after (λ c text. BoardsStand c.last initial now × Unit {0})
 memory_begun ends script texts text n p initial old now before mid after line r spelled b (inl within) none =
     let o = run_of ends script texts text n p initial old before mid line r b in
-    front_put script initial before mid after r.played b.text (in_line ends script texts text n p initial old before mid line r spelled b o within) r.told
+    front_put script initial before mid after r.played b.text (in_line ends script texts text n p initial old before mid line r spelled b o within) r.reported
     (over_tells (beginning_of r.ground r.done).world b.world r.played b.begun b.text o) (front_kept mid after b.text none)
     (over_bounds (length initial) r.ground r.done b.world r.played b.begun b.text r.boards_enough o) (λ uses. (r.grounded uses).1) (λ k. (b.there, tt))
 memory_begun ends script texts text n p initial old now before mid after line r spelled b (inr (left, (item, items, begun))) none =
     let o = run_of ends script texts text n p initial old before mid line r b in
     let parts = b.parts ∙ ap (λ (xs : List Item). b.begun ++ xs) left ∙ append-nil b.begun in
     let does : IsBusy line = busy (place_behind first_place r.done) line item items (parts ∙ begun) in
-    front_put script initial before mid after r.played b.text (all_of_line ends script texts text n p initial old before mid line b.begun b.world b.text r spelled parts does o) r.told
+    front_put script initial before mid after r.played b.text (all_of_line ends script texts text n p initial old before mid line b.begun b.world b.text r spelled parts does o) r.reported
     (over_tells (beginning_of r.ground r.done).world b.world r.played b.begun b.text o) (front_kept mid after b.text none)
     (record {
       boards_enough = lacking_next (length initial) r.done line r.boards_enough (does.enough (length initial));
@@ -103,20 +103,20 @@ told_line : {table : List Row} (ends : Bool) (script : Script) (texts : List (Li
 told_line ends script texts text n p q initial old now before mid r t on told k same =
     ⊎_elim
     (λ (none : t.to.text ≡ []).
-    let all : played_text on.now ≡ played_text r.played = on.told ∙ ap (λ (xs : List ℕ). played_text r.played ++ xs) none ∙ append-nil (played_text r.played) in
+    let all : played_text on.now ≡ played_text r.played = on.reported ∙ ap (λ (xs : List ℕ). played_text r.played ++ xs) none ∙ append-nil (played_text r.played) in
     record {
       lines = length (r.done ++ t.line ∷ []);
       within = omega arith;
       behind = omega (arith, r.numbered, length-append r.done (t.line ∷ []));
       more = take k told;
-      told = ap (λ (xs : List ℕ). xs ++ take k told) (sym (told_all (r.done ++ t.line ∷ []) on.now on.items ∙ all));
+      reported = ap (λ (xs : List ℕ). xs ++ take k told) (sym (told_all (r.done ++ t.line ∷ []) on.now on.items ∙ all));
     })
     (λ (went : (more : List Played) × (on.now ≡ r.played ++ more)). record {
       lines = length r.done;
       within = omega (arith, length-append r.done (t.line ∷ []));
       behind = omega (arith, r.numbered);
       more = take k told;
-      told = ap (λ (xs : List ℕ). xs ++ take k told)
+      reported = ap (λ (xs : List ℕ). xs ++ take k told)
           (sym (ap (λ (ps : List Played). played_text (take (length (items_of (take (length r.done) (r.done ++ t.line ∷ [])))) ps)) went.1
           ∙ told_front r.done (r.done ++ t.line ∷ []) r.played went.0 (take_at r.done (t.line ∷ []) (length r.done) refl) r.items));
     })
@@ -129,12 +129,12 @@ cut_told ends script texts text n p q initial old now before mid after r t =
     let to = t.played.to in
     let line = t.played.line in
     let on = to.runs r.ground r.played r.grounded r.items r.run in
-    front_put script initial before mid after r.played t.played.told (behind_line ends script texts text n p q initial old now before mid r t.played on) r.told
-    (on.told ∙ ap (λ (xs : List ℕ). played_text r.played ++ xs) (sym to.report_now)) t.written
+    front_put script initial before mid after r.played t.played.reported (behind_line ends script texts text n p q initial old now before mid r t.played on) r.reported
+    (on.reported ∙ ap (λ (xs : List ℕ). played_text r.played ++ xs) (sym to.report_now)) t.written
     (record {
       boards_enough = lacking_next (length initial) r.done line r.boards_enough to.boards_enough;
       few_events = few_next on.ground (r.done ++ line ∷ []) to.world on.now q now on.run to.stood.world;
-    }) (λ uses. (on.grounded uses).1) (λ k. (inl to.stood.boards, told_line ends script texts text n p q initial old now before mid r t.played on t.played.told k to.report_now, tt))
+    }) (λ uses. (on.grounded uses).1) (λ k. (inl to.stood.boards, told_line ends script texts text n p q initial old now before mid r t.played on t.played.reported k to.report_now, tt))
 
 -- all that was told before a line that was begun was written
 told_begun : {table : List Row} {P : Option World → List Item → List ℕ → Type 0} (ends : Bool) (script : Script) (texts : List (List ℕ)) (text : List ℕ) (n : ℕ) (p : Player) (initial old : List Device) (before mid : Option (List ℕ)) (line : Line)
@@ -145,7 +145,7 @@ told_begun ends script texts text n p initial old before mid line r spelled b o 
   within = omega arith;
   behind = omega (arith, r.numbered);
   more = take k b.text;
-  told = ap (λ (xs : List ℕ). xs ++ take k b.text) (sym (told_front r.done r.done r.played o.now (take_all (length r.done) r.done (omega arith)) r.items));
+  reported = ap (λ (xs : List ℕ). xs ++ take k b.text) (sym (told_front r.done r.done r.played o.now (take_all (length r.done) r.done (omega arith)) r.items));
 }
 
 -- a line was begun, and so
@@ -156,7 +156,7 @@ cut_begun : {table : List Row} (ends : Bool) (script : Script) (texts : List (Li
 cut_begun ends script texts text n p initial old now before mid after line r spelled b (inl (some, stop, cut)) uses =
     let o = run_of ends script texts text n p initial old before mid line r b in
     let within = stop_within (place_behind first_place r.done) line (motes_in r.done) b.begun b.left b.world initial now b.parts stop in
-    front_put script initial before mid after r.played b.text (in_line ends script texts text n p initial old before mid line r spelled b o within) r.told
+    front_put script initial before mid after r.played b.text (in_line ends script texts text n p initial old before mid line r spelled b o within) r.reported
     (over_tells (beginning_of r.ground r.done).world b.world r.played b.begun b.text o) cut
     (over_bounds (length initial) r.ground r.done b.world r.played b.begun b.text r.boards_enough o) (λ uses. (r.grounded uses).1)
     (λ k. (
@@ -166,14 +166,14 @@ cut_begun ends script texts text n p initial old now before mid after line r spe
     ))
 cut_begun ends script texts text n p initial old now before mid after line r spelled b (inr (inl (full, boards, cut))) uses =
     let o = run_of ends script texts text n p initial old before mid line r b in
-    front_put script initial before mid after r.played b.text (in_line ends script texts text n p initial old before mid line r spelled b o (λ none. absurd (some_left b.world b.left full none))) r.told
+    front_put script initial before mid after r.played b.text (in_line ends script texts text n p initial old before mid line r spelled b o (λ none. absurd (some_left b.world b.left full none))) r.reported
     (over_tells (beginning_of r.ground r.done).world b.world r.played b.begun b.text o) cut
     (over_bounds (length initial) r.ground r.done b.world r.played b.begun b.text r.boards_enough o) (λ uses. (r.grounded uses).1)
     (λ k. (inl boards, told_begun ends script texts text n p initial old before mid line r spelled b o (λ none. absurd (some_left b.world b.left full none)) k, tt))
 cut_begun ends script texts text n p initial old now before mid after line r spelled b (inr (inr (some, lacks, cut))) uses =
     let o = run_of ends script texts text n p initial old before mid line r b in
     let within : b.left ≡ [] → b.begun ≡ [] = λ none. absurd (lacks_left b.world b.left initial now lacks none) in
-    front_put script initial before mid after r.played b.text (in_line ends script texts text n p initial old before mid line r spelled b o within) r.told
+    front_put script initial before mid after r.played b.text (in_line ends script texts text n p initial old before mid line r spelled b o within) r.reported
     (over_tells (beginning_of r.ground r.done).world b.world r.played b.begun b.text o) cut
     (over_bounds (length initial) r.ground r.done b.world r.played b.begun b.text r.boards_enough o) (λ uses. (r.grounded uses).1)
     (λ k. (
@@ -191,7 +191,7 @@ image_told ends script texts text n p initial old before mid line r spelled b o 
   within = omega arith;
   behind = omega (arith, r.numbered);
   more = b.text ++ more;
-  told = ap (λ (xs : List ℕ). xs ++ more) (over_tells (beginning_of r.ground r.done).world b.world r.played b.begun b.text o) ∙ append_assoc (played_text r.played) b.text more
+  reported = ap (λ (xs : List ℕ). xs ++ more) (over_tells (beginning_of r.ground r.done).world b.world r.played b.begun b.text o) ∙ append_assoc (played_text r.played) b.text more
       ∙ ap (λ (xs : List ℕ). xs ++ (b.text ++ more)) (sym (told_front r.done r.done r.played o.now (take_all (length r.done) r.done (omega arith)) r.items));
 }
 
@@ -203,7 +203,7 @@ image_begun ends script texts text n p initial old now before mid after line r s
     let o = run_of ends script texts text n p initial old before mid line r b in
     record {
       came = in_line ends script texts text n p initial old before mid line r spelled b o (λ none. absurd (lacks_left b.world b.left initial now b.there.0 none));
-      told = all_put before mid after r.played (r.played ++ o.now) b.text r.told (over_tells (beginning_of r.ground r.done).world b.world r.played b.begun b.text o) b.there.1;
+      reported = all_put before mid after r.played (r.played ++ o.now) b.text r.reported (over_tells (beginning_of r.ground r.done).world b.world r.played b.begun b.text o) b.there.1;
       limits = over_bounds (length initial) r.ground r.done b.world r.played b.begun b.text r.boards_enough o;
       stood = λ uses. (r.grounded uses).1;
       there = ((line, _, refl), uses, b.there.0, λ more. image_told ends script texts text n p initial old before mid line r spelled b o (λ none. absurd (lacks_left b.world b.left initial now b.there.0 none)) more, tt);
@@ -219,7 +219,7 @@ stop_begun ends script texts text n p initial old now before mid after line r sp
     record {
       came = in_line ends script texts text n p initial old before mid line r spelled b o
           (stop_within (place_behind first_place r.done) line (motes_in r.done) b.begun b.left b.world initial now b.parts stop);
-      told = all_put before mid after r.played (r.played ++ o.now) b.text r.told (over_tells (beginning_of r.ground r.done).world b.world r.played b.begun b.text o) b.there.1;
+      reported = all_put before mid after r.played (r.played ++ o.now) b.text r.reported (over_tells (beginning_of r.ground r.done).world b.world r.played b.begun b.text o) b.there.1;
       limits = over_bounds (length initial) r.ground r.done b.world r.played b.begun b.text r.boards_enough o;
       stood = λ uses. (r.grounded uses).1;
       there = ((line, _, refl, uses), stopped_more (motes_in r.done) line _ b.left b.world initial now stop, tt);
@@ -233,7 +233,7 @@ many_begun ends script texts text n p initial old now before mid after line r sp
     let o = run_of ends script texts text n p initial old before mid line r b in
     record {
       came = in_line ends script texts text n p initial old before mid line r spelled b o (λ none. absurd (some_left b.world b.left b.there.0 none));
-      told = all_put before mid after r.played (r.played ++ o.now) b.text r.told (over_tells (beginning_of r.ground r.done).world b.world r.played b.begun b.text o) b.there.2;
+      reported = all_put before mid after r.played (r.played ++ o.now) b.text r.reported (over_tells (beginning_of r.ground r.done).world b.world r.played b.begun b.text o) b.there.2;
       limits = over_bounds (length initial) r.ground r.done b.world r.played b.begun b.text r.boards_enough o;
       stood = λ uses. (r.grounded uses).1;
       there = (
@@ -250,7 +250,7 @@ many_begun ends script texts text n p initial old now before mid after line r sp
 nothing_more : {table : List Row} (ends : Bool) (script : Script) (texts : List (List ℕ)) (n : ℕ) (p : Player) (initial old now : List Device) (before mid after : Option (List ℕ))
     → Reached table ends script texts n p (span initial old before mid) → NothingDone old now mid after → PlayedFront table script initial before after (λ c text. BoardsStand c.last initial now × Unit {0})
 nothing_more ends script texts n p initial old now before mid after r none =
-    front_put script initial before mid after r.played [] (at_line ends script texts n p initial old before mid r) r.told (sym (append-nil (played_text r.played))) (front_kept mid after [] none.told)
+    front_put script initial before mid after r.played [] (at_line ends script texts n p initial old before mid r) r.reported (sym (append-nil (played_text r.played))) (front_kept mid after [] none.written)
     (record { boards_enough = r.boards_enough; few_events = few_items r.done r.played r.items r.few })
     (λ uses. (r.grounded uses).1) (λ k. (subst (λ (ds : List Device). BoardsStand r.last initial ds) (sym none.boards) r.stood.boards, tt))
 
@@ -260,7 +260,7 @@ at_line_put : {table : List Row} (ends : Bool) (script : Script) (texts : List (
 at_line_put ends script texts n p initial old before mid after r none there =
     record {
       came = at_line ends script texts n p initial old before mid r;
-      told = subst (λ (o : Option (List ℕ)). Puts before o (played_text r.played)) (sym none) r.told;
+      reported = subst (λ (o : Option (List ℕ)). Puts before o (played_text r.played)) (sym none) r.reported;
       limits = record { boards_enough = r.boards_enough; few_events = few_items r.done r.played r.items r.few };
       stood = λ uses. (r.grounded uses).1;
       there = there;
@@ -295,7 +295,7 @@ stopped_at (BadInput line fault) ends script texts text n p q initial old now be
     let bad = script_fault ends p.place n text texts fault spelled in
     let rest : (script_from ends p.place n (text ∷ texts)).lines ≡ [] = ap (λ (s : Script). s.lines) bad in (
       same,
-      at_line_put ends script (text ∷ texts) n p initial old before mid after r none.told (
+      at_line_put ends script (text ∷ texts) n p initial old before mid after r none.written (
         rest,
         sym r.fault ∙ ap (λ (s : Script). s.fault) bad ∙ ap (λ (k : ℕ). Some (k, fault)) (sym same),
         subst (λ (ds : List Device). BoardsStand r.last initial ds) (sym none.boards) r.stood.boards,
@@ -333,7 +333,7 @@ stopped_at NotAVolume ends script texts text n p q initial old now before mid af
         within = omega arith;
         behind = omega (arith, r.numbered);
         more = more;
-        told = ap (λ (xs : List ℕ). xs ++ more) (sym (told_all r.done r.played r.items));
+        reported = ap (λ (xs : List ℕ). xs ++ more) (sym (told_all r.done r.played r.items));
       },
       tt,
     )
@@ -354,7 +354,7 @@ reached_first {table} ends texts p initial before place =
       ground = record { stores = []; table = table };
       grounded = λ uses. absurd (cc);
       run = (refl, refl);
-      told = Puts-nil before;
+      reported = Puts-nil before;
       stood = record {
         seats = λ some. absurd (omega (arith, some, ap (λ (at : Place). at.motes) place));
         place = place;

@@ -88,7 +88,7 @@ pub failed_replayed : {table : List Row} (input : List ℕ) (at_end : Type 0) (e
     → PlayedUpTo table (script_of input) old before after (λ c. (c.begun ≡ []) × BoardsStand c.last old new × AreWhole input c.done × AllWhole input c.done)
     → ScriptReplayed table ReadFault (script_of input) ending (bytes_taken input at_end) (span old new before after) (failures reads writes)
 failed_replayed input at_end ending old new before after reads writes rose f =
-    record { came = f.came; text = played_text f.came.played; written = f.told; report = (refl, f.there.0); enough = (f.there.2, f.there.3); near = tt; limits = f.limits; stood = f.stood; boards = f.there.1; caused = rose }
+    record { came = f.came; text = played_text f.came.played; written = f.reported; report = (refl, f.there.0); enough = (f.there.2, f.there.3); near = tt; limits = f.limits; stood = f.stood; boards = f.there.1; caused = rose }
 
 -- ---- how the lines that were played end
 

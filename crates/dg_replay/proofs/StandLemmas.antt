@@ -179,7 +179,7 @@ silent_runs done line w none same ground = λ g played before items r. record {
   now = played;
   items = items ∙ same_items done line none;
   run = same_run g done line played w (same g) r;
-  told = sym (append-nil (played_text played));
+  reported = sym (append-nil (played_text played));
   on = inl refl;
 }
 
@@ -192,7 +192,7 @@ busy_runs done line u z items text are same plain counts x = λ g played first b
   now = played ++ x.played;
   items = map-append item_played played x.played ∙ ap (λ (xs : List Item). xs ++ map item_played x.played) before ∙ ap (λ (xs : List Item). items_of done ++ xs) (x.are ∙ sym are) ∙ sym (items_next done line);
   run = same_run g done line (played ++ x.played) (Some z) (same g) (runs_append (beginning_of g done).world u z played x.played r x.run);
-  told = played_more played x.played ∙ ap (λ (xs : List ℕ). played_text played ++ xs) (sym x.told);
+  reported = played_more played x.played ∙ ap (λ (xs : List ℕ). played_text played ++ xs) (sym x.reported);
   on = inr (x.played, refl);
 }
 
@@ -208,7 +208,7 @@ golden_runs done name used content motes is = λ g played before items r. record
     plays_none (golden_world (beginning_of g done).motes name used content) (golden_world motes name used content) played (runs_from_none (beginning_of g done).world played r).1
         (ap (λ (n : ℕ). golden_world n name used content) (motes_same g no_ground no_beginning no_beginning done refl ∙ sym is)),
   );
-  told = sym (append-nil (played_text played));
+  reported = sym (append-nil (played_text played));
   on = inl refl;
 }
 
@@ -227,7 +227,7 @@ boards_runs {initial} done table stores stand shaped = λ g played before items 
         refl,
         plays_none (first_world table [] none_narrow stores) (first_world table [] none_narrow stores) played (runs_from_none (beginning_of g done).world played r).1 refl,
       );
-      told = sym (append-nil (played_text played));
+      reported = sym (append-nil (played_text played));
       on = inl refl;
     }
 
@@ -261,7 +261,7 @@ item_set f s (Declares row) w v reports is step =
     let same : row_at (f w).declared row.image row.version ≡ row_at w.declared row.image row.version = ap (λ (rows : List Row). row_at rows row.image row.version) (s.declared w) in
     record {
       world = ap f step.world ∙ s.rows (row_at w.declared row.image row.version) w row ∙ ap (λ (o : Option Row). declared_as o (f w) row) (sym same);
-      told = step.told ∙ ap (λ (o : Option Row). declared_lines o row) (sym same);
+      reported = step.reported ∙ ap (λ (o : Option Row). declared_lines o row) (sym same);
     }
 item_set f s (Applies x reported) w v reports is step = absurd is
 
@@ -294,7 +294,7 @@ set_runs f s done line w all none begins plain counts = λ g played before items
   run = subst (λ (x : Beginning). RunsTo x.world (map (set_in f) played) (Some (f w))) (sym (begin_next g no_beginning done line))
       (subst (λ (o : Option World). RunsTo o (map (set_in f) played) (Some (f w))) (sym (begins g (beginning_of g done)))
       (run_set f s (beginning_of g done).world played w (subst (λ (xs : List Item). AllByRecursion IsDeclaration xs) (sym items) all) r));
-  told = text_set f played ∙ sym (append-nil (played_text played));
+  reported = text_set f played ∙ sym (append-nil (played_text played));
   on = inl refl;
 }
 

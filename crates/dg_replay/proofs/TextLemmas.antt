@@ -32,10 +32,10 @@ pub told_as : (table : List Row) (r : Result (Unit {0}) Stop) (text : List ℕ) 
     → OnOk r (Puts before after told) → OnErr r (PutsFront before after told × (told ≢ [])) → OnErr r ((r ≡ Err WriteFault) × failed)
     → TextAnswer (based_on table initial) r (line_read text number) (done_so_far done w) (replay_state p old before) (replay_state q new after) failed
 told_as table (Ok u) text number p q done w initial old new before after failed line told spelled to behind ok cut cause =
-    record { played = record { line = line; spelled = spelled; told = told; to = to; behind = behind }; written = ok }
+    record { played = record { line = line; spelled = spelled; reported = told; to = to; behind = behind }; written = ok }
 told_as table (Err s) text number p q done w initial old new before after failed line told spelled to behind ok cut cause =
     let P : Stop → Type 0 = λ x. TextAnswer (based_on table initial) (Err x) (line_read text number) (done_so_far done w) (replay_state p old before) (replay_state q new after) failed in
-    let played : TextPlayed (based_on table initial) text (done_so_far done w) p q new = record { line = line; spelled = spelled; told = told; to = to; behind = behind } in
+    let played : TextPlayed (based_on table initial) text (done_so_far done w) p q new = record { line = line; spelled = spelled; reported = told; to = to; behind = behind } in
     subst P (sym (same_stop s WriteFault cause.0)) (cause.1, inl (record { played = played; written = cut.0 }))
 
 -- a line was not played, or begun, and what is reported of that was written, or a front of it
@@ -110,10 +110,10 @@ pub not_found_as : (table : List Row) (stop : Stop) (text : List ℕ) (number : 
     → NotFound p.place text number stop → TextAnswer (based_on table initial) (Err stop) (line_read text number) (done_so_far done w) (replay_state p now before) (replay_state q now before) failed
 not_found_as table stop text number p q done w initial now before failed (inl memory) =
     let P : Stop → Type 0 = λ x. TextAnswer (based_on table initial) (Err x) (line_read text number) (done_so_far done w) (replay_state p now before) (replay_state q now before) failed in
-    subst P (sym memory) (inl (record { boards = refl; told = refl }))
+    subst P (sym memory) (inl (record { boards = refl; written = refl }))
 not_found_as table stop text number p q done w initial now before failed (inr (fault, is, read)) =
     let P : Stop → Type 0 = λ x. TextAnswer (based_on table initial) (Err x) (line_read text number) (done_so_far done w) (replay_state p now before) (replay_state q now before) failed in
-    subst P (sym is) (refl, read, record { boards = refl; told = refl })
+    subst P (sym is) (refl, read, record { boards = refl; written = refl })
 
 -- a line was not read
 pub not_read : (place : Place) (text : List ℕ) (number : ℕ) (stop : Stop) (fault : LineFault) → (known : (fault ≡ line_fault.Memory) ⊎ (fault ≢ line_fault.Memory)) → StopsAtLine stop number fault → (fault ≢ line_fault.Memory → line_of place text ≡ Err fault)

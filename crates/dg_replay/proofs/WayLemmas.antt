@@ -78,7 +78,7 @@ text_begun stop result text number p q gone old now line cleared told shown befo
 
 -- there was no memory for the place behind a line that left the boards as they were
 pub text_forgotten : (text : List ℕ) (number : ℕ) (p q : Player) (old now : List Device) (before : Option (List ℕ)) (failed : Type 0) → now ≡ old → TextPlays (Err Memory) text number p q old now before before failed
-text_forgotten text number p q old now before failed same = λ basis so_far s. inl (record { boards = same; told = refl })
+text_forgotten text number p q old now before failed same = λ basis so_far s. inl (record { boards = same; written = refl })
 
 -- what is answered where the next line was given, and this became of it
 pub given_answer : (r : Result Bool Halt) (o : Option ℕ) (n : ℕ) (text : List ℕ) (old new : Reading) (at_end read_failed : Type 0) (Took : List ℕ → Type 0) (p q : Player) (was now : List Device) (before after : Option (List ℕ)) (failed : Type 0) → o ≡ Some n → text ≡ new.text

@@ -22,7 +22,7 @@ pub record LineTaken (bytes : List ℕ) (old : Reading) (at_end : Type 0) (text 
 pub record AllAsBefore (p q : Player) (old new : List Device) (before after : Option (List ℕ)) : Type 0 where
   pub player : q ≡ p
   pub boards : new ≡ old
-  pub told : after ≡ before
+  pub written : after ≡ before
 
 -- why a replay ends at a line that could not be read
 abbrev pub HaltedAs : ReadStop → Halt → Type 0

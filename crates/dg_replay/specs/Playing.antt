@@ -45,7 +45,7 @@ pub record ItemsRun (w : World) (items : List Item) (v : World) (text : List ℕ
   pub played : List Played
   pub are : map item_played played ≡ items
   pub run : Plays w played v
-  pub told : text ≡ played_text played
+  pub reported : text ≡ played_text played
   pub few : v.events ≤ most_events
 
 -- Items were played, and the boards, which were `initial` when the replay began, stand for the world then.
@@ -82,15 +82,16 @@ pub record StopsInItem (w : World) (left : List Item) (initial now : List Device
 -- What playing items answers, where this was reported before, and b are the boards and what is reported then.
 abbrev pub ItemsPlayedAs : Result (Unit {0}) Stop → World → List Item → KeptWorld → (initial : List Device)
     → (report_before : List ℕ) → (b : BoardsReported) → Type 0
-ItemsPlayedAs (Ok u) w items kept initial report_before b = ItemsPlayed w items kept initial b.boards report_before b.told
+ItemsPlayedAs (Ok u) w items kept initial report_before b = ItemsPlayed w items kept initial b.boards report_before b.reported
 ItemsPlayedAs (Err Memory) w items kept initial report_before b =
     ItemsBegun w items (λ v left text. WorldStands v initial b.boards)
 ItemsPlayedAs (Err TooMany) w items kept initial report_before b =
-    ItemsBegun w items (λ v left text. IsOneTooMany v left × WorldStands v initial b.boards × (b.told ≡ report_before ++ text))
+    ItemsBegun w items (λ v left text. IsOneTooMany v left × WorldStands v initial b.boards
+    × (b.reported ≡ report_before ++ text))
 ItemsPlayedAs (Err FlashFault) w items kept initial report_before b =
-    ItemsBegun w items (λ v left text. StopsInItem v left initial b.boards × (b.told ≡ report_before ++ text))
+    ItemsBegun w items (λ v left text. StopsInItem v left initial b.boards × (b.reported ≡ report_before ++ text))
 ItemsPlayedAs (Err NoImage) w items kept initial report_before b =
-    ItemsBegun w items (λ v left text. LacksImage v left initial b.boards × (b.told ≡ report_before ++ text))
+    ItemsBegun w items (λ v left text. LacksImage v left initial b.boards × (b.reported ≡ report_before ++ text))
 ItemsPlayedAs (Err NotAVolume) w items kept initial report_before b = ⊥
 ItemsPlayedAs (Err (NoBoard motes boards)) w items kept initial report_before b = ⊥
 ItemsPlayedAs (Err (BadInput n fault)) w items kept initial report_before b = ⊥
@@ -172,7 +173,7 @@ pub record RunsOn (table : List Row) (initial : List Device) (done : List Line) 
   pub ground : Ground
   pub grounded : Grounded table initial ground (done ++ line ∷ [])
   pub run : RunsTo (beginning_of ground (done ++ line ∷ [])).world now v
-  pub told : played_text now ≡ played_text played ++ text
+  pub reported : played_text now ≡ played_text played ++ text
   -- where something is reported, it goes on behind what was played before
   pub on : (text ≡ []) ⊎ ((more : List Played) × (now ≡ played ++ more))
 
@@ -189,7 +190,7 @@ pub record PlayedLine (basis : Basis) (q : Player) (behind : DoneSoFar) (line : 
     (b : BoardsReported) : Type 0 where
   pub world : Option World
   pub text : List ℕ
-  pub report_now : b.told ≡ report_before ++ text
+  pub report_now : b.reported ≡ report_before ++ text
   pub runs : LineRuns basis.table basis.boards behind.lines line behind.world world text
   pub stood : Stood q (behind.lines ++ line ∷ []) world basis.boards b.boards
   pub boards_enough : lacking_by (length basis.boards) line None ≡ None
@@ -221,19 +222,19 @@ pub record LacksBoards (line : Line) (motes boards : ℕ) (initial old new : Lis
 -- What playing a line answers, from a player and boards that stand for the world behind other lines. The boards and what is
 -- reported were a before it, and are b then.
 abbrev pub PlayedAs : Basis → Result (Unit {0}) Stop → Player → (behind : DoneSoFar) → Line → (a b : BoardsReported) → Type 0
-PlayedAs basis (Ok u) q behind line a b = PlayedLine basis q behind line a.told b
+PlayedAs basis (Ok u) q behind line a b = PlayedLine basis q behind line a.reported b
 PlayedAs basis (Err Memory) q behind line a b =
     LineBegun behind.lines line behind.world (λ v left text. BoardsStand v basis.boards b.boards)
 PlayedAs basis (Err (NoBoard motes boards)) q behind line a b = LacksBoards line motes boards basis.boards a.boards b.boards
 PlayedAs basis (Err FlashFault) q behind line a b = UsesBoard line
     × LineBegun behind.lines line behind.world (λ v left text.
-    StoppedIn (motes_in behind.lines) (line ∷ []) left v basis.boards b.boards × (b.told ≡ a.told ++ text))
+    StoppedIn (motes_in behind.lines) (line ∷ []) left v basis.boards b.boards × (b.reported ≡ a.reported ++ text))
 PlayedAs basis (Err TooMany) q behind line a b =
     LineBegun behind.lines line behind.world (λ v left text. InSome v (λ u. IsOneTooMany u left)
-    × BoardsStand v basis.boards b.boards × (b.told ≡ a.told ++ text))
+    × BoardsStand v basis.boards b.boards × (b.reported ≡ a.reported ++ text))
 PlayedAs basis (Err NoImage) q behind line a b =
     LineBegun behind.lines line behind.world (λ v left text. InSome v (λ u. LacksImage u left basis.boards b.boards)
-    × (b.told ≡ a.told ++ text))
+    × (b.reported ≡ a.reported ++ text))
 PlayedAs basis (Err NotAVolume) q behind line a b =
     (line ≡ Boards) × NoVolumeIn (motes_in behind.lines) basis.boards b.boards
 PlayedAs basis (Err (BadInput n fault)) q behind line a b = ⊥

@@ -101,7 +101,7 @@ ReachesEnding Over c = c.rest ≡ []
 pub record IsWholeReport {table : List Row} {script : Script} (ending : Ending) (c : Progress table script)
     (text : List ℕ) : Type 0 where
   pub all : ReachesEnding ending c
-  pub told : text ≡ played_text c.played ++ closing ending c.last
+  pub reported : text ≡ played_text c.played ++ closing ending c.last
 
 -- a front of the lines that are reported before the end
 pub record IsFrontOfLines (played : List Played) (text : List ℕ) : Type 0 where
@@ -245,7 +245,7 @@ pub record ReportedAndNear {table : List Row} {script : Script} (input : List �
   pub lines : ℕ
   pub within : lines ≤ length c.done
   pub more : List ℕ
-  pub told : text ≡ report_of_lines lines c ++ more
+  pub reported : text ≡ report_of_lines lines c ++ more
   pub near : FewBytesBehind (lines + 1) input
 
 -- what was taken ends near the line whose fault is the ending
@@ -258,7 +258,7 @@ pub record EndBegun {table : List Row} {script : Script} (ending : Ending) (inpu
     (text : List ℕ) : Type 0 where
   pub all : ReachesEnding ending c
   pub more : List ℕ
-  pub told : text ≡ played_text c.played ++ more
+  pub reported : text ≡ played_text c.played ++ more
   pub near : EndsNear ending input
 
 -- Not much more was taken than the lines that were needed: no more than 300,002 bytes behind a line with a fault,

@@ -46,24 +46,24 @@ use Rattle.dg_replay.specs.declared.stop.Stop.TheVariants.{NotAVolume}
 pub record TextPlayed (basis : Basis) (text : List ℕ) (so_far : DoneSoFar) (p q : Player) (now : List Device) : Type 0 where
   pub line : Line
   pub spelled : line_of p.place text ≡ Ok line
-  pub told : List ℕ
-  pub to : PlayedLine basis q so_far line [] (boards_reported now told)
+  pub reported : List ℕ
+  pub to : PlayedLine basis q so_far line [] (boards_reported now reported)
   pub behind : q.place ≡ place_after p.place line
 
 -- and what is reported of it was written
 pub record TextReported (basis : Basis) (text : List ℕ) (behind : DoneSoFar) (a b : ReplayState) : Type 0 where
   pub played : TextPlayed basis text behind a.player b.player b.boards
-  pub written : Puts a.written b.written played.told
+  pub written : Puts a.written b.written played.reported
 
 -- or a front of it
 pub record TextCut (basis : Basis) (text : List ℕ) (behind : DoneSoFar) (a b : ReplayState) : Type 0 where
   pub played : TextPlayed basis text behind a.player b.player b.boards
-  pub written : PutsFront a.written b.written played.told
+  pub written : PutsFront a.written b.written played.reported
 
 -- nothing was done
 pub record NothingDone (old new : List Device) (before after : Option (List ℕ)) : Type 0 where
   pub boards : new ≡ old
-  pub told : after ≡ before
+  pub written : after ≡ before
 
 -- a line was read, and P holds of it
 pub record TextRead (text : List ℕ) (p : Player) (P : Line → Type 0) : Type 0 where
@@ -164,7 +164,7 @@ pub record Reached (table : List Row) (ends : Bool) (script : Script) (texts : L
   pub ground : Ground
   pub run : RunsTo (beginning_of ground done).world played last
   pub grounded : Grounded table s.initial ground done
-  pub told : Puts s.before s.after (played_text played)
+  pub reported : Puts s.before s.after (played_text played)
   pub stood : Stood p done last s.initial s.now
   pub few : events_in done ≤ most_events
   -- there are boards for the motes of every line that was done
@@ -177,7 +177,7 @@ pub record PlayedFront (table : List Row) (script : Script) (initial : List Devi
   pub came : Progress table script
   pub text : List ℕ
   pub more : List ℕ
-  pub told : Puts before after text
+  pub reported : Puts before after text
   pub whole : text ++ more ≡ played_text came.played
   pub limits : InBounds (length initial) came.done (map item_played came.played)
   pub stood : UsesBoards came.done → StandFor (motes_in came.done) came.ground.stores initial
@@ -187,7 +187,7 @@ pub record PlayedFront (table : List Row) (script : Script) (initial : List Devi
 pub record PlayedUpTo (table : List Row) (script : Script) (initial : List Device) (before after : Option (List ℕ))
     (P : Progress table script → Type 0) : Type 0 where
   pub came : Progress table script
-  pub told : Puts before after (played_text came.played)
+  pub reported : Puts before after (played_text came.played)
   pub limits : InBounds (length initial) came.done (map item_played came.played)
   pub stood : UsesBoards came.done → StandFor (motes_in came.done) came.ground.stores initial
   pub there : P came
@@ -204,7 +204,7 @@ pub record ReportedBefore {table : List Row} {script : Script} (line : ℕ) (c :
   pub within : lines ≤ length c.done
   pub behind : line ≤ lines + 1
   pub more : List ℕ
-  pub told : text ≡ report_of_lines lines c ++ more
+  pub reported : text ≡ report_of_lines lines c ++ more
 
 -- Why playing a script stops at the line of this number, and how far it came: W holds of that.
 abbrev pub StopsAtText : (table : List Row) → Stop → (script : Script) → (W : Progress table script → Type 0)
@@ -278,7 +278,7 @@ InputAnswer table (Err (Stopped stop)) taken s failed =
 -- A script came to its ending, and the end of its report, which is this piece, is not written yet.
 pub record ReadyToEnd (table : List Row) (script : Script) (ending : Ending) (piece : List ℕ) (s : Span) : Type 0 where
   pub came : Progress table script
-  pub told : Puts s.before s.after (played_text came.played)
+  pub reported : Puts s.before s.after (played_text came.played)
   pub boards : BoardsStand came.last s.initial s.now
   pub all : ReachesEnding ending came
   pub line : closing ending came.last ≡ piece

@@ -25,10 +25,10 @@ done_so_far lines world = record { lines = lines; world = world }
 -- The boards, and what was reported of lines so far.
 pub record BoardsReported : Type 0 where
   pub boards : List Device
-  pub told : List ℕ
+  pub reported : List ℕ
 
 abbrev pub boards_reported : (boards : List Device) (report : List ℕ) → BoardsReported
-boards_reported boards report = record { boards = boards; told = report }
+boards_reported boards report = record { boards = boards; reported = report }
 
 -- The state of a replay: its player, the boards, and what was written, where that is told.
 pub record ReplayState : Type 0 where

@@ -45,7 +45,7 @@ pub fn push_reports(text: &mut Vec<u8>, reports: &[Report]) -> Result<(), AllocE
 
 /// Appends the text of what an item reports.
 fn append_text(line_report: &mut LineReport) -> Result<(), Stop>
-    ensures told { OnOk result (line_report.new.text.items ≡ line_report.old.text.items
+    ensures reported { OnOk result (line_report.new.text.items ≡ line_report.old.text.items
         ++ report_text line_report.old.reports.items) }
     ensures memory { OnErr result (result ≡ Err Stop.Memory) }
 {

@@ -89,7 +89,8 @@ OrdersWholeRow table x image_version = OrdersVersion x image_version × HoldsWho
 
 -- golden, what program memory is Set to, or such a row
 abbrev pub MayStart : List Row → SmallMote → ImageVersion → Type 0
-MayStart table x image_version = IsGoldenVersion image_version ⊎ ((x.app ≡ Some image_version) ⊎ OrdersWholeRow table x image_version)
+MayStart table x image_version =
+    IsGoldenVersion image_version ⊎ ((x.app ≡ Some image_version) ⊎ OrdersWholeRow table x image_version)
 
 -- a start that was not stopped
 pub record LegalStart (table : List Row) (old new : SmallMote) : Type 0 where

@@ -159,11 +159,11 @@ found_then motes s t u ps qs es fs found first n = record {
   earlier = ps ++ n.earlier;
   part = n.part;
   parts_are = ap (λ l. ps ++ l) n.parts_are ∙ sym (append_assoc ps n.earlier (n.part ∷ []));
-  told = es ++ n.told;
+  written = es ++ n.written;
   event = n.event;
-  events_are = ap (λ l. es ++ l) n.events_are ∙ sym (append_assoc es n.told (n.event ∷ []));
+  events_are = ap (λ l. es ++ l) n.events_are ∙ sym (append_assoc es n.written (n.event ∷ []));
   before = n.before;
-  serves = serves_then motes s t n.before ps n.earlier es n.told first n.serves;
+  serves = serves_then motes s t n.before ps n.earlier es n.written first n.serves;
   applied = n.applied;
   takes = n.takes;
 }
@@ -186,11 +186,11 @@ untold_then : (es fs : List Event) (text : List ℕ) → UnwrittenLast [] fs tex
 untold_then es fs text u =
     let line = take u.n (event_lines (u.event ∷ [])) in
     record {
-      told = es ++ u.told;
+      written = es ++ u.written;
       event = u.event;
-      events_are = ap (λ l. es ++ l) u.events_are ∙ sym (append_assoc es u.told (u.event ∷ []));
+      events_are = ap (λ l. es ++ l) u.events_are ∙ sym (append_assoc es u.written (u.event ∷ []));
       n = u.n;
-      text_is = ap (λ l. event_lines es ++ l) u.text_is ∙ sym (append_assoc (event_lines es) (event_lines u.told) line) ∙ ap (λ l. l ++ line) (sym (lines_then es u.told));
+      text_is = ap (λ l. event_lines es ++ l) u.text_is ∙ sym (append_assoc (event_lines es) (event_lines u.written) line) ∙ ap (λ l. l ++ line) (sym (lines_then es u.written));
     }
 
 -- some parts were done, and then a stop came in others

@@ -115,7 +115,7 @@ same_outside : (before : Outside) (w : Option (List ℕ)) (f : ℕ) → w ≡ be
 same_outside before w f e g = ap (λ (x : Option (List ℕ)). record before { written = x; faults = f }) e ∙ ap (λ (k : ℕ). record before { faults = k }) g
 
 alone : (answer of : Status) (line : List ℕ) (before : Outside) (w : Option (List ℕ)) (f : ℕ) → TellsLine answer of line before.written w before.faults f → TellsAlone answer of line before (record before { written = w; faults = f })
-alone answer of line before w f told = record { boards = refl; clock = refl; link = refl; failures = refl; told = told }
+alone answer of line before w f told = record { boards = refl; clock = refl; link = refl; failures = refl; written = told }
 
 pub none_served : (why : NoProfile) (answer : Status) (seed turns : ℕ) (left_before left_after : Option (List ℕ)) (reads_before reads_after : ℕ) (before : Outside) (w : Option (List ℕ)) (f : ℕ) → NetworkRead (Err why) left_before left_after reads_before reads_after
     → TellsNone why answer before.written w before.faults f → NetworkServed answer seed turns (around_service left_before reads_before before) (around_service left_after reads_after (record before { written = w; faults = f }))
@@ -178,7 +178,7 @@ served_rises answer profile seed turns before after (inl h) = hindered_rises ans
 served_rises answer profile seed turns before after (inr h) = (h.causes.writes_rise, h.causes.sends_rise)
 
 few_rises : (answer : Status) (profile : NetProfile) (before after : Outside) → (h : TooFewBoards answer profile before after) → Rises before after
-few_rises answer profile before after h = (told h.told, omega (arith, h.failures))
+few_rises answer profile before after h = (told h.written, omega (arith, h.failures))
   where
     told : ((answer ≡ status.NoBoard) × Puts before.written after.written (last_line status.NoBoard profile.motes (length before.boards)) × (after.faults ≡ before.faults))
         ⊎ (((n : ℕ) × (answer ≡ status.WriteFault) × Puts before.written after.written (take n (last_line status.NoBoard profile.motes (length before.boards))) × Rose before.faults after.faults × (before.faults ≤ after.faults))
@@ -188,7 +188,7 @@ few_rises answer profile before after h = (told h.told, omega (arith, h.failures
     told (inr (inr x)) = omega (arith, x.2)
 
 alone_rises : (answer of : Status) (line : List ℕ) (before after : Outside) → TellsAlone answer of line before after → Rises before after
-alone_rises answer of line before after h = (told h.told, omega (arith, h.failures))
+alone_rises answer of line before after h = (told h.written, omega (arith, h.failures))
   where
     told : TellsLine answer of line before.written after.written before.faults after.faults → before.faults ≤ after.faults
     told (inl (inl x)) = omega (arith, x.2)
@@ -235,7 +235,7 @@ bad_apart : status.BadInput ≢ status.LinkFault
 bad_apart e = cc
 
 alone_unlinked : (answer of : Status) (line : List ℕ) (before after : Outside) → of ≢ status.LinkFault → TellsAlone answer of line before after → answer ≡ status.LinkFault → ⊥
-alone_unlinked answer of line before after other h e = told h.told
+alone_unlinked answer of line before after other h e = told h.written
   where
     told : TellsLine answer of line before.written after.written before.faults after.faults → ⊥
     told (inl (inl x)) = unlike answer of status.LinkFault x.0 e other
@@ -243,7 +243,7 @@ alone_unlinked answer of line before after other h e = told h.told
     told (inr x) = unlike answer status.Memory status.LinkFault x.0 e memory_apart
 
 few_unlinked : (answer : Status) (profile : NetProfile) (before after : Outside) → TooFewBoards answer profile before after → answer ≡ status.LinkFault → ⊥
-few_unlinked answer profile before after h e = told h.told
+few_unlinked answer profile before after h e = told h.written
   where
     told : ((answer ≡ status.NoBoard) × Puts before.written after.written (last_line status.NoBoard profile.motes (length before.boards)) × (after.faults ≡ before.faults))
         ⊎ (((n : ℕ) × (answer ≡ status.WriteFault) × Puts before.written after.written (take n (last_line status.NoBoard profile.motes (length before.boards))) × Rose before.faults after.faults × (before.faults ≤ after.faults))

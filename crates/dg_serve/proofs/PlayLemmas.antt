@@ -176,25 +176,25 @@ module _ (links : List (ℕ × ℕ)) (motes : ℕ) (event : Event) (out : Outbox
 
   pub steps_then : Steps motes s event then
   unfolding then
-  steps_then = steps_on motes s event (ran_at q (mote_of event)) (sent_in out) x.played.after done_at.told done_at.done
+  steps_then = steps_on motes s event (ran_at q (mote_of event)) (sent_in out) x.played.after done_at.reported done_at.done
 
   pub stands_behind : q.clock ≡ p.clock → q.inboxes ≡ option_map (handed_by links motes (mote_of event) (sent_in out)) p.inboxes → StandsFor motes (begun_behind motes event) links 0 first then q
   unfolding then
   stands_behind clock handed_on =
       stands_then links motes (begun_before motes event) (begun_behind motes event) (dt_of event) event first s p q x.played.before x.played.after (ran_at p (mote_of event)) (ran_at q (mote_of event))
-      (is_here links motes event (Ok out) first s p q alone x st) (sent_in out) done_at.told done_at.done volume timely_then st.moment clock handed_on
+      (is_here links motes event (Ok out) first s p q alone x st) (sent_in out) done_at.reported done_at.done volume timely_then st.moment clock handed_on
 
   pub boards_behind : BoardsStand then.world first q.boards
   unfolding then
   boards_behind =
       boards_then links motes (begun_before motes event) (begun_behind motes event) (dt_of event) event first s p q x.played.before x.played.after (ran_at p (mote_of event)) (ran_at q (mote_of event))
-      (is_here links motes event (Ok out) first s p q alone x st) (sent_in out) done_at.told done_at.done volume timely_then st.moment
+      (is_here links motes event (Ok out) first s p q alone x st) (sent_in out) done_at.reported done_at.done volume timely_then st.moment
 
   -- the frame that it sent, if it sent one
   pub frames_behind : (new_frames s.world then.world ≡ sent_now (mote_of event) (sent_in out)) × (then.world.links ≡ links)
   unfolding then
   frames_behind = (
-    frames_of s event (ran_at q (mote_of event)) (sent_in out) x.played.after done_at.told done_at.done,
+    frames_of s event (ran_at q (mote_of event)) (sent_in out) x.played.after done_at.reported done_at.done,
     done_at.done.links ∙ st.linked,
   )
 

@@ -1,5 +1,5 @@
 -- The events of a service are a run of the rules.
-use Rattle.std.proofs.Common.{◌≡◌, ℕ, zero, suc, ◌<◌, true, List, [], ◌∷◌, ◌++◌, length, map, refl, sym, ap, subst, ◌∙◌, inl, inr, arith}
+use Rattle.std.proofs.Common.{◌≡◌, ◌≢◌, ℕ, zero, suc, ◌<◌, true, List, [], ◌∷◌, ◌++◌, length, map, refl, sym, ap, subst, ◌∙◌, inl, inr, arith}
 use Rattle.std.specs.List.{AllByRecursion, filter}
 use Rattle.std.proofs.lemmas.List.{map-append}
 use Rattle.std.proofs.lemmas.List.Elements.{recursion_from_All}
@@ -122,8 +122,9 @@ serves_run motes s (part ∷ parts) es t fits h =
 
 -- ---- over the boards
 
-abbrev Joins : ℕ → ℕ × ℕ → Type 0
-Joins motes l = (l.0 < motes) × (l.1 < motes) × (l.0 ≡ l.1 → ⊥)
+-- the link joins two different ones of so many motes
+abbrev pub Joins : ℕ → ℕ × ℕ → Type 0
+Joins motes l = (l.0 < motes) × (l.1 < motes) × (l.0 ≢ l.1)
 
 links_fit : (motes : ℕ) (links : List (ℕ × ℕ)) → AllByRecursion (Joins motes) links → AllByRecursion (LinkFits motes) links
 links_fit motes [] h = tt

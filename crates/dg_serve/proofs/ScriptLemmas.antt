@@ -34,7 +34,7 @@ use Rattle.dg_script.proofs.ReadsBackLemmas.{line_reads}
 use Rattle.dg_serve.specs.Services.{Part, Begins, Looks, Ticks, Moment, EventApplied, PartDone, PartsDone}
 use Rattle.dg_serve.specs.Traces.{head_lines, lines_text, trace, IsScript}
 use Rattle.dg_serve.proofs.ApplyLemmas.{fits_more}
-use Rattle.dg_serve.proofs.RunLemmas.{PartFits, all_both}
+use Rattle.dg_serve.proofs.RunLemmas.{Joins, PartFits, all_both}
 
 -- ---- texts without line ends
 
@@ -219,9 +219,6 @@ events_read motes b links n (e ∷ es) some few h =
 
 abbrev link_line : ℕ × ℕ → Line
 link_line = λ l. Link l.0 l.1
-
-abbrev Joins : ℕ → ℕ × ℕ → Type 0
-Joins motes l = (l.0 < motes) × (l.1 < motes) × (l.0 ≢ l.1)
 
 abbrev IsNew : List (ℕ × ℕ) → ℕ × ℕ → Type 0
 IsNew before l = is_linked before l.0 l.1 ≡ false

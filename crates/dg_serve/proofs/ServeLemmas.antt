@@ -51,7 +51,7 @@ wrote_by : (why : Stop) (head : List ℕ) (events : List Event) (text : List ℕ
 wrote_by stop.Memory head events text front whole = ap (λ l. head ++ l) (whole (λ x. absurd cc))
 wrote_by stop.Write head events text front whole =
     let u = front refl in
-    record { told = u.told; event = u.event; events_are = u.events_are; n = u.n; text_is = ap (λ l. head ++ l) u.text_is ∙ sym (append_assoc head (event_lines u.told) (take u.n (event_lines (u.event ∷ [])))) }
+    record { written = u.written; event = u.event; events_are = u.events_are; n = u.n; text_is = ap (λ l. head ++ l) u.text_is ∙ sym (append_assoc head (event_lines u.written) (take u.n (event_lines (u.event ∷ [])))) }
 wrote_by stop.Link head events text front whole = ap (λ l. head ++ l) (whole (λ x. absurd cc))
 wrote_by stop.Flash head events text front whole = ap (λ l. head ++ l) (whole (λ x. absurd cc))
 wrote_by stop.NotAVolume head events text front whole = ap (λ l. head ++ l) (whole (λ x. absurd cc))
@@ -65,7 +65,7 @@ module _ (profile : NetProfile) (seed turns : ℕ) (b : Outside) (p q : Standing
   ran_all w = record {
     origin = p.service.timeline.reading;
     clock = p.clock;
-    first = o.told;
+    first = o.written;
     events = w.events;
     done = plan profile.motes turns;
     left = [];
@@ -93,7 +93,7 @@ module _ (profile : NetProfile) (seed turns : ℕ) (b : Outside) (p q : Standing
   ran_some why h = record {
     origin = p.service.timeline.reading;
     clock = p.clock;
-    first = o.told;
+    first = o.written;
     events = h.events;
     done = h.done;
     left = h.left;
@@ -292,7 +292,7 @@ count_of (Err why) profile seed turns before mid (inr ran) = ran.boards.all.coun
 -- ---- too few boards
 
 pub too_few_told : (answer : Status) (profile : NetProfile) (before : Outside) (v : Option (List ℕ)) (g n : ℕ) → n ≡ length before.boards → TellsTooFew answer (last_line status.NoBoard profile.motes n) before.written v before.faults g → TooFewBoards answer profile before (told_after before v g)
-too_few_told answer profile before v g n same t = record { boards = refl; clock = refl; link = refl; failures = refl; told = told (subst (λ k. TellsTooFew answer (last_line status.NoBoard profile.motes k) before.written v before.faults g) same t) }
+too_few_told answer profile before v g n same t = record { boards = refl; clock = refl; link = refl; failures = refl; written = told (subst (λ k. TellsTooFew answer (last_line status.NoBoard profile.motes k) before.written v before.faults g) same t) }
   where
     told : TellsTooFew answer (last_line status.NoBoard profile.motes (length before.boards)) before.written v before.faults g
         → ((answer ≡ status.NoBoard) × Puts before.written v (last_line status.NoBoard profile.motes (length before.boards)) × (g ≡ before.faults))

@@ -7,7 +7,7 @@ use Rattle.dg_base.specs.Outside.{Puts}
 use Rattle.dg_base.specs.declared.events.Event.{Event}
 use Rattle.dg_base.specs.declared.events.Event.TheVariants.{Tick, Reset, Frame}
 use Rattle.dg_link.specs.Inboxes.{Inboxes, TakesFrame}
-use Rattle.dg_script.specs.Ranges.{IsFrame, EventInRange}
+use Rattle.dg_script.specs.Ranges.{IsFrame}
 use Rattle.dg_script.specs.Fitting.{FitsLine}
 use Rattle.dg_script.specs.declared.line.Line.TheVariants.{Event as EventLine}
 use Rattle.dg_nor.specs.Device.{Device}
@@ -112,13 +112,12 @@ may_begin v c now off = subst (λ o. MayRun c now o) (sym off) tt
 
 -- ---- what an event asks for, once its draw was made
 
-asked : (motes mote begun : ℕ) (links : List (ℕ × ℕ)) (event : Event) (dt draw : ℕ) (p m : Standing) → DrawnTo p m dt draw → Ready motes begun p → p.service.timeline.moment < 2 ^ 60 → FitsLine motes (EventLine event) → EventInRange motes event → IsAlone event → mote_of event ≡ mote → mote < motes
+asked : (motes mote begun : ℕ) (links : List (ℕ × ℕ)) (event : Event) (dt draw : ℕ) (p m : Standing) → DrawnTo p m dt draw → Ready motes begun p → p.service.timeline.moment < 2 ^ 60 → FitsLine motes (EventLine event) → IsAlone event → mote_of event ≡ mote → mote < motes
     → ((a : Device) → slice_get m.boards mote ≡ Some a → MayRun a.image m.service.timeline.moment (slice_index_or m.service.motes.items mote None)) → (IsReset event → slice_index_or m.service.motes.items mote None ≡ None)
     → IsReset event ⊎ ((first : List Device) × (s : Moment) × StandsFor motes (begun_before motes event) links (dt_of event) first s m) → EventAsks motes mote links event m
-asked motes mote begun links event dt draw p m d ready early fits ranges alone at known may off some = record {
+asked motes mote begun links event dt draw p m d ready early fits alone at known may off some = record {
   fits = fits;
   short = tt;
-  ranges = ranges;
   alone = alone;
   at = at;
   known = known;
@@ -135,14 +134,14 @@ asked motes mote begun links event dt draw p m d ready early fits ranges alone a
 pub reset_asks : (motes mote : ℕ) (links : List (ℕ × ℕ)) (dt draw : ℕ) (p m : Standing) → DrawnTo p m dt draw → Ready motes mote p → p.service.timeline.moment < 2 ^ 60 → mote < motes → EventAsks motes mote links (Reset mote dt draw) m
 reset_asks motes mote links dt draw p m d ready early known =
     let off : slice_index_or m.service.motes.items mote None ≡ None = subst (λ xs. slice_index_or xs mote None ≡ None) (sym d.motes) (ready.off mote (omega arith)) in
-    asked motes mote mote links (Reset mote dt draw) dt draw p m d ready early (known, d.timed.fits) known tt refl known (λ a was. may_begin (slice_index_or m.service.motes.items mote None) a.image m.service.timeline.moment off) (λ reset. off) (inl tt)
+    asked motes mote mote links (Reset mote dt draw) dt draw p m d ready early (known, d.timed.fits) tt refl known (λ a was. may_begin (slice_index_or m.service.motes.items mote None) a.image m.service.timeline.moment off) (λ reset. off) (inl tt)
 
 -- an event of a service that is under way
-pub event_asks : (motes mote : ℕ) (links : List (ℕ × ℕ)) (event : Event) (dt draw : ℕ) (p m : Standing) → DrawnTo p m dt draw → IsUnderWay motes links (2 ^ 60) p → FitsLine motes (EventLine event) → EventInRange motes event → IsAlone event → mote_of event ≡ mote → mote < motes → (IsReset event → ⊥) → dt_of event ≡ dt → begun_before motes event ≡ motes → EventAsks motes mote links event m
-event_asks motes mote links event dt draw p m d way fits ranges alone at known never dt_is before_is =
+pub event_asks : (motes mote : ℕ) (links : List (ℕ × ℕ)) (event : Event) (dt draw : ℕ) (p m : Standing) → DrawnTo p m dt draw → IsUnderWay motes links (2 ^ 60) p → FitsLine motes (EventLine event) → IsAlone event → mote_of event ≡ mote → mote < motes → (IsReset event → ⊥) → dt_of event ≡ dt → begun_before motes event ≡ motes → EventAsks motes mote links event m
+event_asks motes mote links event dt draw p m d way fits alone at known never dt_is before_is =
     let x = some_drawn motes motes links p m dt draw d way.some in
     let P : ℕ → ℕ → Type 0 = λ b k. StandsFor motes b links k x.0 x.1 m in
-    asked motes mote motes links event dt draw p m d way.ready way.early fits ranges alone at known (may_at motes dt mote links m known x) (λ reset. absurd (never reset))
+    asked motes mote motes links event dt draw p m d way.ready way.early fits alone at known (may_at motes dt mote links m known x) (λ reset. absurd (never reset))
     (inr (x.0, x.1, subst (λ b. P b (dt_of event)) (sym before_is) (subst (λ k. P motes k) (sym dt_is) x.2)))
 
 module _ (motes begun on : ℕ) (links : List (ℕ × ℕ)) (part : Part) (event : (dt draw : ℕ) → Event) (bytes : List ℕ) (dt draw : ℕ) (p m q : Standing) (d : DrawnTo p m dt draw) (h : IsPart motes begun on part event bytes p.inboxes m.inboxes) where
@@ -253,7 +252,7 @@ module _ (motes begun on : ℕ) (links : List (ℕ × ℕ)) (part : Part) (event
     all = refl;
     text = e.text;
     put = subst (λ (o : Option (List ℕ)). Puts o q.written e.text) d.written e.put;
-    front = λ is. record { told = []; event = event dt draw; events_are = refl; n = e.front.0; text_is = e.front.1 };
+    front = λ is. record { written = []; event = event dt draw; events_are = refl; n = e.front.0; text_is = e.front.1 };
     whole = e.whole;
     run = λ first s st.
         let x = e.run first (drawn (looked s m.inboxes) m.service.timeline m.clock) (stands_before first s st) in
@@ -278,7 +277,7 @@ module _ (motes begun on : ℕ) (links : List (ℕ × ℕ)) (part : Part) (event
     earlier = [];
     part = part;
     parts_are = refl;
-    told = [];
+    written = [];
     event = event dt draw;
     events_are = refl;
     before = s;

@@ -135,11 +135,11 @@ pub record FoundBy (motes : ℕ) (s : Moment) (done : List Part) (events : List 
   pub earlier : List Part
   pub part : Part
   pub parts_are : done ≡ earlier ++ part ∷ []
-  pub told : List Event
+  pub written : List Event
   pub event : Event
-  pub events_are : events ≡ told ++ event ∷ []
+  pub events_are : events ≡ written ++ event ∷ []
   pub before : Moment
-  pub serves : PartsDone motes s earlier told before
+  pub serves : PartsDone motes s earlier written before
   pub applied : PartDone motes part before (event ∷ []) last
   pub takes : TakesFor event before.inboxes found
 

@@ -52,7 +52,7 @@ pub record TellsAlone (answer of : Status) (line : List ℕ) (before after : Out
   pub clock : after.clock ≡ before.clock
   pub link : after.inboxes ≡ before.inboxes
   pub failures : after.failures ≡ before.failures
-  pub told : LineWritten answer of line before.written after.written before.faults after.faults
+  pub written : LineWritten answer of line before.written after.written before.faults after.faults
       ⊎ ((answer ≡ status.Memory) × (after.written ≡ before.written) × (after.faults ≡ before.faults))
 
 abbrev pub DoneBy : Opening → (answer : Status) → (seed turns : ℕ) → (before after : Outside) → Type 0

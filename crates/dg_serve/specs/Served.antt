@@ -141,7 +141,7 @@ pub record TooFewBoards (answer : Status) (profile : NetProfile) (before after :
   pub clock : after.clock ≡ before.clock
   pub link : after.inboxes ≡ before.inboxes
   pub failures : after.failures ≡ before.failures
-  pub told : ((answer ≡ status.NoBoard) × Puts before.written after.written
+  pub written : ((answer ≡ status.NoBoard) × Puts before.written after.written
       (last_line status.NoBoard profile.motes (length before.boards)) × (after.faults ≡ before.faults))
       ⊎ (((n : ℕ) × (answer ≡ status.WriteFault) × Puts before.written after.written
       (take n (last_line status.NoBoard profile.motes (length before.boards))) × Rose before.faults after.faults

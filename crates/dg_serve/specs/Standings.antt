@@ -14,7 +14,7 @@ use Rattle.dg_nor.specs.Device.{Device, Endures}
 use Rattle.dg_nor.specs.Fuse.{beneath_of}
 use Rattle.dg_volume.specs.Stands.{Stands, IsVolume, IsNoVolume}
 use Rattle.dg_mote.specs.declared.outbox.Outbox.{Outbox}
-use Rattle.dg_script.specs.Ranges.{IsFrame, EventInRange}
+use Rattle.dg_script.specs.Ranges.{IsFrame}
 use Rattle.dg_script.specs.Fitting.{FitsLine}
 use Rattle.dg_script.specs.Spelling.{IsShort}
 use Rattle.dg_script.specs.declared.line.Line.TheVariants.{Event as EventLine}
@@ -216,7 +216,6 @@ begun_behind motes (Frame mote dt draw bytes) = motes
 pub record EventAsks (motes mote : ℕ) (links : List (ℕ × ℕ)) (event : Event) (p : Standing) : Type 0 where
   pub fits : FitsLine motes (EventLine event)
   pub short : IsShort (EventLine event)
-  pub ranges : EventInRange motes event
   pub alone : IsAlone event
   pub at : mote_of event ≡ mote
   pub known : mote < motes

@@ -30,11 +30,11 @@ trace p events = lines_text (head_lines p) ++ event_lines events
 
 -- Behind this head the lines of all events but the last were written, and of its line a front.
 pub record UnwrittenLast (head : List ℕ) (events : List Event) (text : List ℕ) : Type 0 where
-  pub told : List Event
+  pub written : List Event
   pub event : Event
-  pub events_are : events ≡ told ++ event ∷ []
+  pub events_are : events ≡ written ++ event ∷ []
   pub n : ℕ
-  pub text_is : text ≡ head ++ event_lines told ++ take n (event_lines (event ∷ []))
+  pub text_is : text ≡ head ++ event_lines written ++ take n (event_lines (event ∷ []))
 
 -- the last line of a status
 abbrev pub last_line : Status → (motes boards : ℕ) → List ℕ

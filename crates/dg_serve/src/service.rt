@@ -80,7 +80,7 @@ impl Service {
             (service_standing (self.old, map N.device boards.old) (K.Sink, out.old) (L.Link, link.old) (C.Clock, clock.old))
             (service_standing (self.new, map N.device boards.new) (K.Sink, out.new) (L.Link, link.new) (C.Clock, clock.new)) }
     {
-        let timing = self.timeline.draw(clock);
+        let timing = self.timeline.next(clock);
         let event = Event::Reset {
             mote,
             dt: timing.dt,
@@ -110,7 +110,7 @@ impl Service {
     {
         match receive(self.alloc, link, mote)? {
             Some(bytes) => {
-                let timing = self.timeline.draw(clock);
+                let timing = self.timeline.next(clock);
                 let event = Event::Frame {
                     mote,
                     dt: timing.dt,
@@ -142,7 +142,7 @@ impl Service {
             (service_standing (self.old, map N.device boards.old) (K.Sink, out.old) (L.Link, link.old) (C.Clock, clock.old))
             (service_standing (self.new, map N.device boards.new) (K.Sink, out.new) (L.Link, link.new) (C.Clock, clock.new)) }
     {
-        let timing = self.timeline.draw(clock);
+        let timing = self.timeline.next(clock);
         let event = Event::Tick {
             mote,
             dt: timing.dt,

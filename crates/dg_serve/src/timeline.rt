@@ -40,8 +40,8 @@ impl Timeline {
         }
     }
 
-    /// Before an event the clock is read and a draw is taken.
-    pub(crate) fn draw<C: Clock>(&mut self, clock: &mut C) -> Timing
+    /// The timing of the next event: the clock is read and a draw is taken.
+    pub(crate) fn next<C: Clock>(&mut self, clock: &mut C) -> Timing
         requires known { self.old.reading ≤ C.reached clock.old }
         requires early { self.old.moment < 2 ^ 60 }
         ensures dt { result.dt ≡ later self.old.reading self.new.reading }

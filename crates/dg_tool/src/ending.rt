@@ -130,12 +130,12 @@ fn end_at_stop<K: Sink>(alloc: Global, out: &mut K, stop: Stop) -> Status
 }
 
 /// Ends a verb that came to its text, or was stopped: one write at most.
-pub fn end<K: Sink>(alloc: Global, out: &mut K, report: Result<Vec<u8>, Stop>) -> Status
-    ensures ends { ClosesWith result (result_status report) (result_text (λ text. text.items) report) (K.written out.old)
+pub fn end<K: Sink>(alloc: Global, out: &mut K, text: Result<Vec<u8>, Stop>) -> Status
+    ensures ends { ClosesWith result (result_status text) (result_text (λ bytes. bytes.items) text) (K.written out.old)
         (K.written out.new) (Rose (K.faults out.old) (K.faults out.new)) (K.faults out.new ≡ K.faults out.old) }
     ensures counts { K.faults out.old ≤ K.faults out.new }
 {
-    match report {
+    match text {
         Ok(text) => end_with(out, &text, Status::Done),
         Err(stop) => end_at_stop(alloc, out, stop),
     }

@@ -78,8 +78,8 @@ pub fn format<S: Source, K: Sink, N: Nor>(
     ensures reads { S.faults input.old ≤ S.faults input.new }
     ensures writes { K.faults out.old ≤ K.faults out.new }
 {
-    let report = format_boards(alloc, name, used, form, input, boards);
-    end(alloc, out, report)
+    let text = format_boards(alloc, name, used, form, input, boards);
+    end(alloc, out, text)
 }
 
 /// Keeps an image whole on the first board: the image of the HEX file that `input` spells, with this name. Writes
@@ -109,8 +109,8 @@ pub fn inject<S: Source, K: Sink, N: Nor>(
     ensures reads { S.faults input.old ≤ S.faults input.new }
     ensures writes { K.faults out.old ≤ K.faults out.new }
 {
-    let report = inject_boards(alloc, image, version, name, input, boards);
-    end(alloc, out, report)
+    let text = inject_boards(alloc, image, version, name, input, boards);
+    end(alloc, out, text)
 }
 
 /// Keeps an order on the first board, which is not waived. Writes `order 0 K I V`.
@@ -130,8 +130,8 @@ pub fn order<K: Sink, N: Nor>(
         (tool_outside (K.written out.new) (K.faults out.new) (map N.device boards.new.items)) }
     ensures writes { K.faults out.old ≤ K.faults out.new }
 {
-    let report = order_boards(alloc, order, boards);
-    end(alloc, out, report)
+    let text = order_boards(alloc, order, boards);
+    end(alloc, out, text)
 }
 
 /// Starts the first board by power. Writes `start 0 I V LENGTH CRC`. The start counts as a short one.
@@ -142,8 +142,8 @@ pub fn boot<K: Sink, N: Nor>(alloc: Global, out: &mut K, boards: &mut Vec<N>) ->
         (tool_outside (K.written out.new) (K.faults out.new) (map N.device boards.new.items)) }
     ensures writes { K.faults out.old ≤ K.faults out.new }
 {
-    let report = boot_boards(alloc, boards);
-    end(alloc, out, report)
+    let text = boot_boards(alloc, boards);
+    end(alloc, out, text)
 }
 
 /// Tells what the first board keeps, and changes no byte.
@@ -156,8 +156,8 @@ pub fn ping<K: Sink, N: Nor>(alloc: Global, out: &mut K, boards: &mut Vec<N>) ->
         ≡ map (λ board. (N.device board).image) boards.old.items }
     ensures writes { K.faults out.old ≤ K.faults out.new }
 {
-    let report = ping_boards(alloc, boards);
-    end(alloc, out, report)
+    let text = ping_boards(alloc, boards);
+    end(alloc, out, text)
 }
 
 /// Writes the image that a slot of the first board keeps whole as a HEX file, and changes no byte.
@@ -172,8 +172,8 @@ pub fn dump<K: Sink, N: Nor>(alloc: Global, image: u8, out: &mut K, boards: &mut
         ≡ map (λ board. (N.device board).image) boards.old.items }
     ensures writes { K.faults out.old ≤ K.faults out.new }
 {
-    let report = dump_boards(alloc, image, boards);
-    end(alloc, out, report)
+    let text = dump_boards(alloc, image, boards);
+    end(alloc, out, text)
 }
 
 /// Writes the first board's snapshot in form 2, where it is written in form 1. Writes `form 2`.
@@ -185,6 +185,6 @@ pub fn migrate<K: Sink, N: Nor>(alloc: Global, out: &mut K, boards: &mut Vec<N>)
         (tool_outside (K.written out.new) (K.faults out.new) (map N.device boards.new.items)) }
     ensures writes { K.faults out.old ≤ K.faults out.new }
 {
-    let report = migrate_boards(alloc, boards);
-    end(alloc, out, report)
+    let text = migrate_boards(alloc, boards);
+    end(alloc, out, text)
 }

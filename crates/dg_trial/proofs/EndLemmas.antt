@@ -51,8 +51,8 @@ trial_told law r motes pages seed before after fb fa old new s some few some_pag
     let all = law motes pages seed run.0.last some few some_pages few_pages run.0.run in
     let E : Status → Type 0 = λ x. TrialEnds x motes pages seed (around_trial before old) (around_trial after new) in
     let at = subst (λ (t : List ℕ). LineEnds r status.Done t before after fb fa) (told_is motes pages seed old new s run.0 run.1) h in
-    ⊎_elim (λ a. subst E (sym a.0) (record { enough = enough; played = run.0; kept = all.0; whole = all.1; told = a.1 }))
-    (λ x. ⊎_elim (λ b. subst E (sym b.0) (inl (record { enough = enough; played = run.0; told = b.1 })))
+    ⊎_elim (λ a. subst E (sym a.0) (record { enough = enough; played = run.0; kept = all.0; whole = all.1; written = a.1 }))
+    (λ x. ⊎_elim (λ b. subst E (sym b.0) (inl (record { enough = enough; played = run.0; written = b.1 })))
     (λ c. subst E (sym c.0) (unread motes pages seed old new run.0, c.1)) x) at
 
 -- where it was played and told, the line says that every mote keeps the image whole
@@ -60,7 +60,7 @@ pub tells_whole : (r : Status) (motes pages seed : ℕ) (before after : Option (
 tells_whole r motes pages seed before after old new ends is =
     let d : TrialComplete motes pages seed (around_trial before old) (around_trial after new) = subst (λ (s : Status). TrialEnds s motes pages seed (around_trial before old) (around_trial after new)) is ends in
     let w = d.played.last in
-    (w.events, subst (λ (n : ℕ). Puts before after (summary_line motes pages (sweep_count motes pages) w.events n)) d.whole d.told)
+    (w.events, subst (λ (n : ℕ). Puts before after (summary_line motes pages (sweep_count motes pages) w.events n)) d.whole d.written)
 
 pub summary_text : (t0 t1 t2 t3 t4 t5 t6 : List ℕ) (a b c d e m p s v w : ℕ) → t1 ≡ t0 ++ (codes "trial motes " ++ decimal a) → t2 ≡ t1 ++ (codes " pages " ++ decimal b) → t3 ≡ t2 ++ (codes " sweeps " ++ decimal c) → t4 ≡ t3 ++ (codes " events " ++ decimal d)
     → t5 ≡ t4 ++ (codes " whole " ++ decimal e) → t6 ≡ t5 ++ 10 ∷ [] → a ≡ m → b ≡ p → c ≡ s → d ≡ v → e ≡ w → t6 ≡ t0 ++ summary_line m p s v w

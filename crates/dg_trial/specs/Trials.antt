@@ -156,13 +156,13 @@ pub record TrialComplete (motes pages seed : ℕ) (a b : AroundTrial) : Type 0 w
   pub played : TrialPlayed motes pages seed a.boards b.boards
   pub kept : AllKeep motes (row_of_seed pages seed) played.last
   pub whole : wholes (row_of_seed pages seed) played.last ≡ motes
-  pub told : Puts a.written b.written (trial_text motes pages seed played.last)
+  pub written : Puts a.written b.written (trial_text motes pages seed played.last)
 
 -- It was played, and its line was written in part.
 pub record TrialCut (motes pages seed : ℕ) (a b : AroundTrial) : Type 0 where
   pub enough : motes ≤ length a.boards
   pub played : TrialPlayed motes pages seed a.boards b.boards
-  pub told : PutsFront a.written b.written (trial_text motes pages seed played.last)
+  pub written : PutsFront a.written b.written (trial_text motes pages seed played.last)
 
 -- the line of a trial in which every mote keeps the image whole
 abbrev pub TellsWhole : (motes pages : ℕ) → (before after : Option (List ℕ)) → Type 0

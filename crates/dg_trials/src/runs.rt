@@ -134,7 +134,10 @@ fn a_read_fails_in_mid_stream(rt: HostRuntime) -> Result<(), Fail> {
     let answered = answer(alloc, "replay", &script, outside, 1)?;
     assert_eq!(rt; answered.status, Status::ReadFault);
     // The three lines that were read whole are reported.
-    assert_eq!(rt; answered.written.as_slice(), b"start 0 0 1 1 58e5\n".as_slice());
+    assert_eq!(rt;
+        answered.written.as_slice(),
+        b"start 0 0 1 1 58e5\n".as_slice()
+    );
     Ok(())
 }
 

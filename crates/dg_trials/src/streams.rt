@@ -147,7 +147,10 @@ fn each_write_fails_in_turn(rt: HostRuntime) -> Result<(), Fail> {
         };
         assert_eq!(rt; answered.status, status, "{before}");
         let report = first_writes(alloc, before as usize)?;
-        assert!(rt; answered.written.as_slice() == report.as_slice(), "{before}");
+        assert!(rt;
+            answered.written.as_slice() == report.as_slice(),
+            "{before}"
+        );
     }
     Ok(())
 }

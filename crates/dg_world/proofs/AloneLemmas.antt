@@ -60,7 +60,7 @@ pub alone_done : (t : Outcome) (w : RuleWorld) (e : Event) (v u : Option Running
 alone_done t w e v u a b known stands ends =
     let told : List Report = filter (is_reported true) (turn_lines (mote_of e) (turn_of t)) in
     let s = step_turn w (uncut_step e) true v u (sent_in t.outbox) (turn_of t) a b [] told known stands (uncut (Ok (turn_of t)) w (mote_of e) (does w e) v u a b ends) (frame_told t) refl in
-    record { ends = record { told = told; done = s.ends }; endures = s.endures; count = s.count }
+    record { ends = record { reported = told; done = s.ends }; endures = s.endures; count = s.count }
 
 pub alone_fails : (f : Fault) (t : Outcome) (w : RuleWorld) (e : Event) (v u : Option RunningMote) (a b : Device) → TurnEnds (Err (halt_of f t.before)) w (mote_of e) (does w e) (host a v) (host b u) → PlaysAlone (Err f) w e u a b
 alone_fails fault.Stopped t w e v u a b ends =

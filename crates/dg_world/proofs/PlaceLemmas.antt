@@ -274,8 +274,8 @@ runs_at v bs w i now a runs is known here read later =
 -- what a step answers that was begun
 abbrev pub ApplyEnds : Result (Unit {0}) WorldFault → RuleWorld → Step → (reported : Bool) → (a b : Deployment) → Type 0
 ApplyEnds (Ok u) w x reported a b = Applied w x reported a b
-ApplyEnds (Err (world_fault.Flash board)) w x reported a b = FlashAt w x board a.boards b.boards × (b.told ≡ a.told)
-ApplyEnds (Err world_fault.NoImage) w x reported a b = RunEnded w x a.boards b.boards × (b.told ≡ a.told)
+ApplyEnds (Err (world_fault.Flash board)) w x reported a b = FlashAt w x board a.boards b.boards × (b.reported ≡ a.reported)
+ApplyEnds (Err world_fault.NoImage) w x reported a b = RunEnded w x a.boards b.boards × (b.reported ≡ a.reported)
 ApplyEnds (Err world_fault.NotAVolume) w x reported a b = ⊥
 ApplyEnds (Err world_fault.Memory) w x reported a b = ⊥
 ApplyEnds (Err world_fault.TooMany) w x reported a b = ⊥

@@ -39,7 +39,7 @@ failed f = Err f
 
 module _ (o : Occasion) (event : Event) (t : Outcome) (a b : Station) (cut : Option PowerCut) (none : cut ≡ None) where
   -- its lines were told
-  pub whole_did : AppliedSo done o event t a b → o.mote ≡ mote_of event → b.told ≡ a.told ++ filter (is_reported o.reported) (turn_lines o.mote (turn_of t)) → StepDid done o (step_of event cut) t a b
+  pub whole_did : AppliedSo done o event t a b → o.mote ≡ mote_of event → b.reported ≡ a.reported ++ filter (is_reported o.reported) (turn_lines o.mote (turn_of t)) → StepDid done o (step_of event cut) t a b
   whole_did h here told =
       let x = step_of event cut in
       let m = mote_of event in
@@ -47,8 +47,8 @@ module _ (o : Occasion) (event : Event) (t : Outcome) (a b : Station) (cut : Opt
         steps = λ w fits on.
             let p = played_as (Ok (Whole (turn_of t))) (ended false (turned done t)) cut None w m (does w event) a.runs b.runs a.board b.board refl none
             (uncut (turned done t) w m (does w event) a.runs b.runs a.board b.board (h.ends w on)) in
-            step_turn w x o.reported _ _ _ (turn_of t) _ _ a.told b.told (event_mote _ event fits.event) on.stands p (frame_told t)
-            (told ∙ ap (λ k. a.told ++ filter (is_reported o.reported) (turn_lines k (turn_of t))) here);
+            step_turn w x o.reported _ _ _ (turn_of t) _ _ a.reported b.reported (event_mote _ event fits.event) on.stands p (frame_told t)
+            (told ∙ ap (λ k. a.reported ++ filter (is_reported o.reported) (turn_lines k (turn_of t))) here);
         sees = λ w on. step_sees w o.known b.runs a.board.image b.board.image event t h.sees (turn_refused w m (does w event) _ _ a.board b.board (turn_of t) (h.ends w on));
         order_reads = λ known. order_takes event o.known _ t.refused _ _ known h.reads;
         inject_reads = λ known w on.
@@ -58,7 +58,7 @@ module _ (o : Occasion) (event : Event) (t : Outcome) (a b : Station) (cut : Opt
       }
 
   -- its fault is handed on, and nothing is told
-  pub whole_failed : (r : Result (Unit {0}) Fault) (f : Fault) → IsErrAnd r (λ e. e ≡ f) → AppliedSo (failed f) o event t a b → StepDid r o (step_of event cut) t a (station b.board b.runs a.told)
+  pub whole_failed : (r : Result (Unit {0}) Fault) (f : Fault) → IsErrAnd r (λ e. e ≡ f) → AppliedSo (failed f) o event t a b → StepDid r o (step_of event cut) t a (station b.board b.runs a.reported)
   whole_failed (Ok u) f is h = absurd is
   whole_failed (Err e) f is h =
       let x = step_of event cut in
@@ -67,7 +67,7 @@ module _ (o : Occasion) (event : Event) (t : Outcome) (a b : Station) (cut : Opt
         steps = λ w fits on.
             let p = played_as (Err (halt_of f t.before)) (ended false (turned (failed f) t)) cut None w m (does w event) a.runs b.runs a.board b.board (sym (halted (halt_of f t.before))) none
             (uncut (turned (failed f) t) w m (does w event) a.runs b.runs a.board b.board (h.ends w on)) in
-            step_fails (Err e) f t w x o.reported _ _ _ _ a.told is p;
+            step_fails (Err e) f t w x o.reported _ _ _ _ a.reported is p;
         sees = tt;
         order_reads = λ known. order_takes event o.known _ t.refused _ _ known h.reads;
         inject_reads = tt;

@@ -45,8 +45,8 @@ uncut event = record { event = event; cut = None }
 -- The event was done at its board, and is a step of the world.
 pub record AloneDone (w : RuleWorld) (event : Event) (u : Option RunningMote) (frame : Option (List ℕ)) (new : Device) : Type
     0 where
-  pub told : List Report
-  pub done : StepDone w (uncut event) true frame [] (station new u told)
+  pub reported : List Report
+  pub done : StepDone w (uncut event) true frame [] (station new u reported)
 
 -- What the event answers from a board that stood for the mote's store.
 abbrev pub AloneEnds : Result Outbox Fault → RuleWorld → Event → Option RunningMote → Device → Type 0

@@ -42,7 +42,7 @@ pub record Applied (w : RuleWorld) (x : Step) (reported : Bool) (a b : Deploymen
   pub reports : List Report
   pub step : WorldStep w x world reports
   pub stood : IsWorld b.world b.boards world
-  pub report_now : b.told ≡ a.told ++ filter (is_reported reported) reports
+  pub report_now : b.reported ≡ a.reported ++ filter (is_reported reported) reports
   pub boards : OneBoard (mote_of x.event) a.boards b.boards
   pub calm : NoneRose a.boards b.boards
   pub memory : (d : Deed) (r : Runs) (c : Device) → does w x.event ≡ Goes d → blows x.cut d.trail ≡ false → d.started ≡ Some r

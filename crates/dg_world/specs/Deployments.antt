@@ -8,7 +8,7 @@ use Rattle.dg_world.specs.declared.world.World.{World}
 pub record Deployment : Type 0 where
   pub world : World
   pub boards : List Device
-  pub told : List Report
+  pub reported : List Report
 
 abbrev pub deployed : World → List Device → List Report → Deployment
-deployed world boards report = record { world = world; boards = boards; told = report }
+deployed world boards report = record { world = world; boards = boards; reported = report }

@@ -64,10 +64,10 @@ CutRead (Err fault.NoImage) old new = ⊥
 pub record Station : Type 0 where
   pub board : Device
   pub runs : Option RunningMote
-  pub told : List Report
+  pub reported : List Report
 
 abbrev pub station : Device → Option RunningMote → List Report → Station
-station board runs report = record { board = board; runs = runs; told = report }
+station board runs report = record { board = board; runs = runs; reported = report }
 
 -- A step was done at its board, which stood for the mote's store: what the rules allow, where the mote and the board are then,
 -- what was reported, and what was sent. The station of the mote is b.
@@ -76,7 +76,7 @@ pub record StepDone (w : RuleWorld) (x : Step) (reported : Bool) (frame : Option
   pub world : RuleWorld
   pub reports : List Report
   pub step : WorldStep w x world reports
-  pub report_now : b.told ≡ report_before ++ filter (is_reported reported) reports
+  pub report_now : b.reported ≡ report_before ++ filter (is_reported reported) reports
   pub here : Site
   pub moment : world.moment ≡ w.moment + dt_of x.event
   pub events : world.events ≡ w.events + 1
@@ -95,14 +95,15 @@ abbrev pub StepEnds : Result (Option (List ℕ)) Halt → RuleWorld → Step →
     → Type 0
 StepEnds (Ok frame) w x reported report_before b = StepDone w x reported frame report_before b
 StepEnds (Err (Stopped before)) w x reported report_before b = IsStopped w (mote_of x.event) (does w x.event) x.cut b.board
-    × (b.told ≡ report_before)
-StepEnds (Err NoImage) w x reported report_before b = IsLacking (does w x.event) x.cut b.board.image × (b.told ≡ report_before)
+    × (b.reported ≡ report_before)
+StepEnds (Err NoImage) w x reported report_before b = IsLacking (does w x.event) x.cut b.board.image
+    × (b.reported ≡ report_before)
 StepEnds (Err NotAVolume) w x reported report_before b = ⊥
 
 -- The step ended so at its board, whose count did not fall, and stays unless the board stopped. The station of its mote was a
 -- and is b.
 pub record Stepped (r : Result (Option (List ℕ)) Halt) (w : RuleWorld) (x : Step) (reported : Bool) (a b : Station) : Type 0 where
-  pub ends : StepEnds r w x reported a.told b
+  pub ends : StepEnds r w x reported a.reported b
   pub endures : Endures (beneath_of a.board) (beneath_of b.board)
   pub count : CountStays r a.board b.board
 

@@ -63,7 +63,7 @@ fn have(mote: u8, image: u8, kept: Kept) -> Report
 /// Appends the lines on the images of which something else is kept. There is capacity for them.
 fn push_haves(mote: u8, before: &ChipReport, after: &ChipReport, out: &mut Vec<Report>)
     requires capacity { vec_len out.old + images ≤ vec_capacity out.old }
-    ensures told { out.new.items ≡ out.old.items ++ have_lines mote before.now after.now images }
+    ensures reported { out.new.items ≡ out.old.items ++ have_lines mote before.now after.now images }
     ensures capacity { vec_capacity out.new ≡ vec_capacity out.old }
     ensures few { vec_len out.new ≤ vec_len out.old + images }
 {
@@ -76,7 +76,7 @@ fn push_haves(mote: u8, before: &ChipReport, after: &ChipReport, out: &mut Vec<R
 /// Appends a line, if there is one. There is capacity for it.
 pub(crate) fn push_line(line: Option<Report>, out: &mut Vec<Report>)
     requires capacity { vec_len out.old + 1 ≤ vec_capacity out.old }
-    ensures told { out.new.items ≡ out.old.items ++ option_to_list line }
+    ensures reported { out.new.items ≡ out.old.items ++ option_to_list line }
     ensures capacity { vec_capacity out.new ≡ vec_capacity out.old }
     ensures few { vec_len out.new ≤ vec_len out.old + 1 }
 {
@@ -88,7 +88,7 @@ pub(crate) fn push_line(line: Option<Report>, out: &mut Vec<Report>)
 /// Appends the line on an order that is another one than before. There is capacity for it.
 fn push_order(mote: u8, before: Order, after: Order, out: &mut Vec<Report>)
     requires capacity { vec_len out.old + 1 ≤ vec_capacity out.old }
-    ensures told { out.new.items ≡ out.old.items ++ order_change mote before after }
+    ensures reported { out.new.items ≡ out.old.items ++ order_change mote before after }
     ensures capacity { vec_capacity out.new ≡ vec_capacity out.old }
     ensures few { vec_len out.new ≤ vec_len out.old + 1 }
 {
@@ -106,7 +106,7 @@ fn push_order(mote: u8, before: Order, after: Order, out: &mut Vec<Report>)
 /// Appends the lines of what changed. There is capacity for them.
 pub(crate) fn push_changes(mote: u8, before: &ChipReport, after: &ChipReport, out: &mut Vec<Report>)
     requires capacity { vec_len out.old + MOST_CHANGES ≤ vec_capacity out.old }
-    ensures told { out.new.items ≡ out.old.items ++ change_lines mote before.now after.now }
+    ensures reported { out.new.items ≡ out.old.items ++ change_lines mote before.now after.now }
     ensures capacity { vec_capacity out.new ≡ vec_capacity out.old }
     ensures few { vec_len out.new ≤ vec_len out.old + MOST_CHANGES }
 {

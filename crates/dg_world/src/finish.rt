@@ -42,7 +42,7 @@ impl World {
         requires world { (w : RuleWorld) × IsWorld self.now (map N.device boards.old.items) w }
         ensures finished { OnOk result ((w : RuleWorld) → IsWorld self.now (map N.device boards.old.items) w
             → out.new.items ≡ out.old.items ++ final_lines w) }
-        ensures untold { OnErr result (out.new.items ≡ out.old.items) }
+        ensures unreported { OnErr result (out.new.items ≡ out.old.items) }
         ensures boards { SameBoards (map N.device boards.old.items) (map N.device boards.new.items) }
         // a count rises only where a board stopped
         ensures calm { OnOk result (NoneRose (map N.device boards.old.items) (map N.device boards.new.items)) }
@@ -84,7 +84,7 @@ impl World {
     ) -> Result<(), BoardStopped>
         requires world { (w : RuleWorld) × IsWorld self.now (map N.device boards.old) w }
         requires capacity { vec_len out.old + MOST_SITE_LINES * length self.now.motes.items ≤ vec_capacity out.old }
-        ensures told { OnOk result ((w : RuleWorld) → IsWorld self.now (map N.device boards.old) w
+        ensures reported { OnOk result ((w : RuleWorld) → IsWorld self.now (map N.device boards.old) w
             → out.new.items ≡ out.old.items ++ flat_map (λ m. site_lines m (site w m)) (range_with_len 0 (length w.sites))) }
         ensures begun { (lines : List Report) × (out.new.items ≡ out.old.items ++ lines) }
         ensures boards { SameBoards (map N.device boards.old) (map N.device boards.new) }
@@ -126,12 +126,12 @@ fn push_site<N: Nor>(
 ) -> Result<(), Stopped>
     requires volume { IsVolume (N.device nor.old).image }
     requires capacity { vec_len out.old + MOST_SITE_LINES ≤ vec_capacity out.old }
-    ensures told { OnOk result ((x : Site) → SiteStands (N.device nor.old) runs.now x
+    ensures reported { OnOk result ((x : Site) → SiteStands (N.device nor.old) runs.now x
         → out.new.items ≡ out.old.items ++ site_lines mote x) }
     ensures begun { (lines : List Report) × (out.new.items ≡ out.old.items ++ lines) }
     ensures looked { OnOk result (Looked (N.device nor.old) (N.device nor.new)) }
     ensures stopped { OnErr result (ReadStopped (N.device nor.old) (N.device nor.new)) }
-    ensures untold { OnErr result (out.new.items ≡ out.old.items) }
+    ensures unreported { OnErr result (out.new.items ≡ out.old.items) }
     ensures capacity { vec_capacity out.new ≡ vec_capacity out.old }
     ensures few { vec_len out.new ≤ vec_len out.old + MOST_SITE_LINES }
 {
@@ -178,7 +178,7 @@ fn kept_line(mote: u8, image: u8, kept: Option<Kept>) -> Option<Report>
 /// Appends the lines on what a mote keeps of each image but golden. There is capacity for them.
 fn push_keeps(mote: u8, chip_report: &ChipReport, out: &mut Vec<Report>)
     requires capacity { vec_len out.old + (IMAGES - 1) ≤ vec_capacity out.old }
-    ensures told { out.new.items ≡ out.old.items ++ kept_reports mote chip_report.now (images - 1) }
+    ensures reported { out.new.items ≡ out.old.items ++ kept_reports mote chip_report.now (images - 1) }
     ensures capacity { vec_capacity out.new ≡ vec_capacity out.old }
     ensures few { vec_len out.new ≤ vec_len out.old + (IMAGES - 1) }
 {

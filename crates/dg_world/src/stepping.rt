@@ -54,7 +54,7 @@ fn push_outcome(mote: u8, outcome: &Outcome, reported: bool, out: &mut Vec<Repor
 /// Appends the line on a frame where it is wanted.
 fn push_sent(mote: u8, frame: &Frame, reported: bool, out: &mut Vec<Report>)
     requires capacity { vec_len out.old + 1 ≤ vec_capacity out.old }
-    ensures told { out.new.items
+    ensures reported { out.new.items
         ≡ out.old.items ++ filter (is_reported reported) (frame_lines mote (message_of frame.now.items true)) }
     ensures capacity { vec_capacity out.new ≡ vec_capacity out.old }
     ensures few { vec_len out.new ≤ vec_len out.old + 1 }
@@ -112,7 +112,7 @@ fn message_line(mote: u8, message: &Message) -> Report
 
 fn push_refused(mote: u8, cause: Cause, out: &mut Vec<Report>)
     requires capacity { vec_len out.old + 1 ≤ vec_capacity out.old }
-    ensures told { out.new.items ≡ out.old.items ++ turn_lines mote (Refused cause) }
+    ensures reported { out.new.items ≡ out.old.items ++ turn_lines mote (Refused cause) }
     ensures capacity { vec_capacity out.new ≡ vec_capacity out.old }
     ensures few { vec_len out.new ≤ vec_len out.old + 1 }
 {
@@ -121,7 +121,7 @@ fn push_refused(mote: u8, cause: Cause, out: &mut Vec<Report>)
 
 fn push_start(mote: u8, line: StartLine, out: &mut Vec<Report>)
     requires capacity { vec_len out.old + 1 ≤ vec_capacity out.old }
-    ensures told { out.new.items ≡ out.old.items ++ turn_lines mote (Starts line) }
+    ensures reported { out.new.items ≡ out.old.items ++ turn_lines mote (Starts line) }
     ensures capacity { vec_capacity out.new ≡ vec_capacity out.old }
     ensures few { vec_len out.new ≤ vec_len out.old + 1 }
 {
@@ -155,7 +155,7 @@ fn look_again<N: Nor>(
 ) -> Result<bool, Fault>
     requires known_chip { IsTrue known → IsKnownChip (N.device board.old).image }
     requires capacity { vec_len out.old + MOST_CHANGES ≤ vec_capacity out.old }
-    ensures told { (s : Store) → Stands (N.device board.old).image s
+    ensures reported { (s : Store) → Stands (N.device board.old).image s
         → CutReported result mote before.now s out.old.items out.new.items
         × CutRead result (N.device board.old) (N.device board.new) }
     ensures sees { IfOk result (λ orderly. SeesOrder orderly (N.device board.new).image) }
@@ -172,7 +172,7 @@ fn look_again<N: Nor>(
 /// Appends the lines of what is reported of a volume now, where this was reported of it before.
 fn report_changes(mote: u8, before: &Option<ChipReport>, volume: &Volume, out: &mut Vec<Report>)
     requires capacity { vec_len out.old + MOST_CHANGES ≤ vec_capacity out.old }
-    ensures told { (s : Store) → Tells volume.now s → CutChangesAre mote before.now s out.old.items out.new.items }
+    ensures reported { (s : Store) → Tells volume.now s → CutChangesAre mote before.now s out.old.items out.new.items }
     ensures capacity { vec_capacity out.new ≡ vec_capacity out.old }
     ensures few { vec_len out.new ≤ vec_len out.old + MOST_CHANGES }
 {
@@ -210,7 +210,7 @@ fn look_after_cut<N: Nor>(
 ) -> Result<Option<bool>, Fault>
     requires known_chip { (known ≡ true) → IsOrder event.now → IsKnownChip (N.device board.old).image }
     requires capacity { vec_len out.old + MOST_CHANGES ≤ vec_capacity out.old }
-    ensures told { (s : Store) → Stands (N.device board.old).image s
+    ensures reported { (s : Store) → Stands (N.device board.old).image s
         → CutReported result mote before.now s out.old.items out.new.items
         × CutRead result (N.device board.old) (N.device board.new) }
     ensures sees { IfOk result (λ seen. (w : RuleWorld) → SeesCut w event.now known seen (N.device board.new).image) }

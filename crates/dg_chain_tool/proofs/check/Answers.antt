@@ -6,7 +6,7 @@ use Rattle.dg_chain_tool.proofs.CheckLemmas.{done_fine, own_ending, told_by}
 use Rattle.dg_chain_tool.proofs.check.Goals as goal
 
 pub returns-clause-done : goal.returns-clause-done
-returns-clause-done g c = ended _ _ _ _ _ c.check_boards-report.result c.end.result c.check_boards-report.ensures.unread c.check_boards-report.ensures.done c.end.ensures.ends
+returns-clause-done g c = ended _ _ _ _ _ c.check_boards-text.result c.end.result c.check_boards-text.ensures.unread c.check_boards-text.ensures.done c.end.ensures.ends
 
 pub returns-clause-named : goal.returns-clause-named
 returns-clause-named g c = λ x s h payload root stands here done.

@@ -2,4 +2,4 @@ use Rattle.dg_tool.proofs.EndLemmas.{ended}
 use Rattle.dg_tool.proofs.dump.Goals as goal
 
 pub returns-clause-done : goal.returns-clause-done
-returns-clause-done g c = ended _ _ _ _ _ c.dump_boards-report.result c.end.result c.dump_boards-report.ensures.unread c.dump_boards-report.ensures.done c.end.ensures.ends
+returns-clause-done g c = ended _ _ _ _ _ c.dump_boards-text.result c.end.result c.dump_boards-text.ensures.unread c.dump_boards-text.ensures.done c.end.ensures.ends

@@ -2,4 +2,4 @@ use Rattle.dg_tool.proofs.EndLemmas.{ended}
 use Rattle.dg_tool.proofs.order.Goals as goal
 
 pub returns-clause-done : goal.returns-clause-done
-returns-clause-done g c = ended _ _ _ _ _ c.order_boards-report.result c.end.result c.order_boards-report.ensures.unread c.order_boards-report.ensures.done c.end.ensures.ends
+returns-clause-done g c = ended _ _ _ _ _ c.order_boards-text.result c.end.result c.order_boards-text.ensures.unread c.order_boards-text.ensures.done c.end.ensures.ends

@@ -8,11 +8,11 @@ returns-then-is_empty-clause-done g c =
     over_none g.N.Nor.device c.args.boards.now _ _ _ _ (eqb-true _ _ (sym c.is_empty.ensures ∙ c.if-is_empty.true)) (record {
       left = refl;
       reads = refl;
-      told = c.tell_no_board.ensures.told;
+      written = c.tell_no_board.ensures.written;
     })
 
 pub returns-then-is_empty-clause-link : goal.returns-then-is_empty-clause-link
-returns-then-is_empty-clause-link g c = no_link_told _ _ _ _ _ c.tell_no_board.ensures.told
+returns-then-is_empty-clause-link g c = no_link_told _ _ _ _ _ c.tell_no_board.ensures.written
 
 pub returns-clause-done : goal.returns-clause-done
 returns-clause-done g c =

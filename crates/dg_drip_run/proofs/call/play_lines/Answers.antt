@@ -10,7 +10,7 @@ loop-number-init g c =
     (lines_first now c.requires.none c.requires.unread c.requires.first c.requires.playing, refl, refl)
 
 pub play_next-requires : goal.play_next-requires
-play_next-requires g c = let i = c.loop-number.invariant.0 in (i.script, i.told, i.plays)
+play_next-requires g c = let i = c.loop-number.invariant.0 in (i.script, i.reported, i.plays)
 
 pub returns-in_err-play_next-clause-answer : goal.returns-in_err-play_next-clause-answer
 returns-in_err-play_next-clause-answer g c =
@@ -29,7 +29,7 @@ returns-then-is_last-clause-answer g c =
     let q = drip_stage c.play_next.new.reader c.play_next.new.player (around_drip (g.S.Source.left c.play_next.new.input) (g.S.Source.faults c.play_next.new.input) (g.K.Sink.written c.play_next.new.out) (g.K.Sink.faults c.play_next.new.out)) in
     let i = c.loop-number.invariant.0 in
     let a = c.in_ok-play_next.ensures.answer in
-    let given = true_of c.in_ok-play_next.field-0 i.script (p.reader.ahead ++ a.0) p q c.if-branch.true (a.2 i.script i.told i.plays) in
+    let given = true_of c.in_ok-play_next.field-0 i.script (p.reader.ahead ++ a.0) p q c.if-branch.true (a.2 i.script i.reported i.plays) in
     let last : q.reader.last ≡ true = sym c.is_last.ensures ∙ c.if-is_last.true in
     lines_last first p q a.0 c.loop-number.number i a.1 given last
 
@@ -39,7 +39,7 @@ loop-number-smaller g c =
     let q = drip_stage c.play_next.new.reader c.play_next.new.player (around_drip (g.S.Source.left c.play_next.new.input) (g.S.Source.faults c.play_next.new.input) (g.K.Sink.written c.play_next.new.out) (g.K.Sink.faults c.play_next.new.out)) in
     let i = c.loop-number.invariant.0 in
     let a = c.in_ok-play_next.ensures.answer in
-    let given = true_of c.in_ok-play_next.field-0 i.script (p.reader.ahead ++ a.0) p q c.if-branch.true (a.2 i.script i.told i.plays) in
+    let given = true_of c.in_ok-play_next.field-0 i.script (p.reader.ahead ++ a.0) p q c.if-branch.true (a.2 i.script i.reported i.plays) in
     passes (p.reader.ahead ++ a.0) p.reader q.reader _ given.0
 
 pub loop-number-preserved : goal.loop-number-preserved
@@ -50,7 +50,7 @@ loop-number-preserved g c =
     let j = c.loop-number.invariant in
     let i = c.loop-number.invariant.0 in
     let a = c.in_ok-play_next.ensures.answer in
-    let given = true_of c.in_ok-play_next.field-0 i.script (p.reader.ahead ++ a.0) p q c.if-branch.true (a.2 i.script i.told i.plays) in
+    let given = true_of c.in_ok-play_next.field-0 i.script (p.reader.ahead ++ a.0) p q c.if-branch.true (a.2 i.script i.reported i.plays) in
     let more_lines : q.reader.last ≡ false = sym c.is_last.ensures ∙ c.if-is_last.false in (
       lines_next first p q a.0 c.loop-number.number i a.1 given more_lines,
       c.in_ok-play_next.ensures.unread ∙ j.1,
@@ -64,5 +64,5 @@ returns-clause-answer g c =
     let q = drip_stage c.play_next.new.reader c.play_next.new.player (around_drip (g.S.Source.left c.play_next.new.input) (g.S.Source.faults c.play_next.new.input) (g.K.Sink.written c.play_next.new.out) (g.K.Sink.faults c.play_next.new.out)) in
     let i = c.loop-number.invariant.0 in
     let a = c.in_ok-play_next.ensures.answer in
-    let none = false_of c.in_ok-play_next.field-0 i.script (p.reader.ahead ++ a.0) p q c.if-branch.false (a.2 i.script i.told i.plays) in
+    let none = false_of c.in_ok-play_next.field-0 i.script (p.reader.ahead ++ a.0) p q c.if-branch.false (a.2 i.script i.reported i.plays) in
     lines_end first p q a.0 c.loop-number.number i a.1 none

@@ -2,7 +2,7 @@ use Rattle.std.proofs.Common.{ℕ, ◌++◌, ◌∷◌, [], subst}
 use Rattle.std.specs.Prelude.{codes}
 use Rattle.dg_words.specs.Counts.{Rose}
 use Rattle.dg_base.specs.declared.answers.Status.TheVariants as statuses
-use Rattle.dg_drip_run.proofs.ToldLemmas.{closed_behind}
+use Rattle.dg_drip_run.proofs.ReportLemmas.{closed_behind}
 use Rattle.dg_drip_run.proofs.lines.end_full.Goals as goal
 
 pub returns-in-Ok-clause-ends : goal.returns-in-Ok-clause-ends

@@ -1,7 +1,7 @@
 use Rattle.std.proofs.Common.{refl}
 use Rattle.dg_words.specs.Counts.{Rose}
 use Rattle.dg_drip_script.specs.Scripts.{with_drip_line, report_of}
-use Rattle.dg_drip_run.proofs.ToldLemmas.{cleared_plays, cleared_playing, line_ok, line_cut, line_full}
+use Rattle.dg_drip_run.proofs.ReportLemmas.{cleared_plays, cleared_playing, line_ok, line_cut, line_full}
 use Rattle.dg_drip_run.proofs.lines.play_read.Goals as goal
 
 pub play_line-requires-clause-playing : goal.play_line-requires-clause-playing

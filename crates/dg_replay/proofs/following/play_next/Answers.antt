@@ -123,5 +123,5 @@ returns-in-Err-clause-answer g c =
       a.1,
       next_halted c.in-Err.stop c.halted.result (c.args.reader.now.ahead ++ a.0) c.args.reader.now c.next.new.self (AtEnd (left c.next.new.input)) (Rose (faults c.args.input.now) (faults c.next.new.input))
           (AllAsBefore p p old old before before) (λ r text. TextPlays r text n p p old old before before failed)
-          c.halted.ensures a.2 (record { player = refl; boards = refl; told = refl }) (λ text long. long_plays p n old before failed text long),
+          c.halted.ensures a.2 (record { player = refl; boards = refl; written = refl }) (λ text long. long_plays p n old before failed text long),
     )

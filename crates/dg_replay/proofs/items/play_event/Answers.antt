@@ -6,7 +6,7 @@ use Rattle.dg_replay.proofs.items.play_event.Goals as goal
 pub returns-in-Ok-clause-played : goal.returns-in-Ok-clause-played
 returns-in-Ok-clause-played g c = λ w initial is stands.
     told_as c.append_text.result w (step_of c.args.event.now (option_copied c.args.cut)) c.args.reported c.args.world.now c.apply.new.self initial _ _ c.clear.new.self.items c.apply.new.out.items c.args.line_report.now.text.items c.append_text.new.line_report.text.items
-    c.clear.ensures.items c.requires (c.in-Ok.ensures.applied w is) c.append_text.ensures.told c.append_text.ensures.memory is stands
+    c.clear.ensures.items c.requires (c.in-Ok.ensures.applied w is) c.append_text.ensures.reported c.append_text.ensures.memory is stands
 
 pub returns-in-Ok-clause-goes_on : goal.returns-in-Ok-clause-goes_on
 returns-in-Ok-clause-goes_on g c =

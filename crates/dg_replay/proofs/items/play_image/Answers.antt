@@ -27,4 +27,4 @@ returns-in-Ok-push c = λ boards initial w is stands.
     let only : c.push.new.self.items ≡ taken ∷ [] = c.in-Ok-push.ensures.items ∙ ap (λ (rs : List Report). rs ++ taken ∷ []) c.clear.ensures.items in
     let step : DeclareStep w row w (taken ∷ []) = taken_step (row_at w.declared row.image row.version) w row refl (c.in-Err-Taken.ensures.taken (ap Err c.in-Err-Taken.field-0-is) boards w is) in
     taken_as c.append_text.result w row c.declare.new.self initial boards c.push.new.self.items c.args.line_report.now.text.items c.append_text.new.line_report.text.items
-    (subst (λ (rs : List Report). DeclareStep w row w rs) (sym only) step) c.append_text.ensures.told c.append_text.ensures.memory (c.in-Err-Taken.ensures.unchanged boards w is) stands
+    (subst (λ (rs : List Report). DeclareStep w row w rs) (sym only) step) c.append_text.ensures.reported c.append_text.ensures.memory (c.in-Err-Taken.ensures.unchanged boards w is) stands

@@ -10,7 +10,7 @@ loop-image-preserved c =
     let i = c.loop-image.invariant in
     let line = ap option_to_list c.have_change-line.ensures in
     record {
-      told = told_then c.args.out.now.items c.loop-image.out.items c.push_line.new.out.items _ _ _ i.told c.push_line.ensures.told
+      reported = told_then c.args.out.now.items c.loop-image.out.items c.push_line.new.out.items _ _ _ i.reported c.push_line.ensures.reported
           (ap (λ (l : List Report). have_lines c.args.mote c.args.before.now c.args.after.now c.loop-image.image ++ l) line ∙ sym (haves_more c.args.mote c.args.before.now c.args.after.now c.loop-image.image));
       room = c.push_line.ensures.capacity ∙ i.room;
       few = omega (arith, i.few, c.push_line.ensures.few);

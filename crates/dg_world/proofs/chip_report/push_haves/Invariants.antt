@@ -5,7 +5,7 @@ use Rattle.dg_world.proofs.chip_report.push_haves.Given as goal
 
 abbrev pub invariant-loop-image : goal.invariant-loop-image
 invariant-loop-image l = record {
-  told : l.out.items ≡ l.initial.out.items ++ have_lines l.mote l.before l.after l.image;
+  reported : l.out.items ≡ l.initial.out.items ++ have_lines l.mote l.before l.after l.image;
   room : vec_capacity l.out ≡ vec_capacity l.initial.out;
   few : vec_len l.out ≤ vec_len l.initial.out + l.image;
 }

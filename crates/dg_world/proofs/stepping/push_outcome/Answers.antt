@@ -15,6 +15,6 @@ returns-in-Some-Some c =
     let e = c.in-Some-Some in
     let t = c.args.outcome.now in
     let turn : turn_of t ≡ Changes e.before e.after = changes_of t e.before e.after (sym c.frame.ensures ∙ ap (λ f. option_map (λ x. x.now.items) f) c.in_default.is) c.in_default-refused.is c.in_default-started.is e.is-0 e.is-1 in
-    c.push_changes.ensures.told
+    c.push_changes.ensures.reported
     ∙ ap (λ (l : List Report). c.args.out.now.items ++ l) (sym (changes_reported c.args.reported c.args.mote e.before e.after))
     ∙ ap (λ (x : EventTurn). c.args.out.now.items ++ filter (is_reported c.args.reported) (turn_lines c.args.mote x)) (sym turn)

@@ -83,7 +83,7 @@ returns-in_ok-orderly-in-Cut g c =
           let P : Option (List ℕ) → Type 0 = λ sent. Stepped (Ok sent) w x o.reported (station a c.args.runs.now told) (station (g.N.Nor.device c.look_after_cut.new.board) None c.push_reserved.new.self.items) in
           subst P (sym c.new-outcome.ensures)
           (step_cut w x o.reported _ _ t.before c.look_after_cut.result _ _ _ _ told c.look_after_cut.new.out.items c.push_reserved.new.self.items p c.in_ok-orderly-in-Cut.was
-          (told_at c.look_after_cut.result o.mote m t.before p.ends.leaves.store _ _ _ _ same (c.look_after_cut.ensures.told p.ends.leaves.store p.ends.leaves.stands_for))
+          (told_at c.look_after_cut.result o.mote m t.before p.ends.leaves.store _ _ _ _ same (c.look_after_cut.ensures.reported p.ends.leaves.store p.ends.leaves.stands_for))
           (c.push_reserved.ensures.items ∙ ap (λ m. c.look_after_cut.new.out.items ++ Off m ∷ []) same));
       sees = λ w on. cut_sees w o.known None a.image (g.N.Nor.device c.look_after_cut.new.board).image event c.in_ok-orderly-in-Cut.orderly (c.in_ok-orderly-in-Cut.ensures.sees w);
       order_reads = λ known.
@@ -107,7 +107,7 @@ returns-in_err-orderly-in-Cut g c =
           let p = played_as _ (ended_as c.play_cut.result t) x.cut (Some c.args.cut.now) w m (does w event) _ _ _ _ (sym (ap (λ r. ended_as r t) was)) refl (c.play_cut.ensures.played w on) in
           step_cut_halts c.from_residual-in_err-orderly-in-Cut.result c.look_after_cut.result t c.in_err-orderly-in-Cut.field-0.0 w x o.reported _ _ _ t.before _ _ _ c.args.out.now.items c.look_after_cut.new.out.items
           c.from_residual-in_err-orderly-in-Cut.ensures.1 c.in_err-orderly-in-Cut.was p
-          (told_at c.look_after_cut.result o.mote m t.before p.ends.leaves.store _ _ _ _ c.requires.may.here (c.look_after_cut.ensures.told p.ends.leaves.store p.ends.leaves.stands_for));
+          (told_at c.look_after_cut.result o.mote m t.before p.ends.leaves.store _ _ _ _ c.requires.may.here (c.look_after_cut.ensures.reported p.ends.leaves.store p.ends.leaves.stands_for));
       sees = search rules;
       order_reads = λ known.
           order_again event o.known _ t.refused _ (g.N.Nor.device c.play_cut.new.board) _ c.a_volume_bounds_a_remount.ensures.some known (c.requires.may.known known) c.play_cut.ensures.reads c.look_after_cut.ensures.took;

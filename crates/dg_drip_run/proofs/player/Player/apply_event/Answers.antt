@@ -10,7 +10,7 @@ pub returns-clause-ran : goal.returns-clause-ran
 returns-clause-ran c =
     let short : time_of c.args.event.now < 2 ^ 32 = omega (arith, c.dt_of-short.ensures, c.dt_of-short.type_inv) in
     apply_ran c.push_text.result c.args.self.now (record { network = c.apply.new.self; standing = c.args.self.now.standing; events = c.args.self.now.events + 1; text = c.push_text.new.text })
-    c.args.event.now c.args.reported c.in-Ok.report c.push_text.ensures.told c.push_text.ensures.stop c.requires.fits short c.requires.begun c.if-self-ge-MOST_EVENTS.false c.in-Ok.ensures.does c.in-Ok.ensures.passes refl refl
+    c.args.event.now c.args.reported c.in-Ok.report c.push_text.ensures.reported c.push_text.ensures.stop c.requires.fits short c.requires.begun c.if-self-ge-MOST_EVENTS.false c.in-Ok.ensures.does c.in-Ok.ensures.passes refl refl
 
 pub returns-clause-on : goal.returns-clause-on
 returns-clause-on c =

@@ -5,11 +5,11 @@ use Rattle.dg_serve.specs.Standings.{Standing, service_standing}
 use Rattle.dg_serve.proofs.TurnLemmas.{DrawnTo, part_ends, ticks_part, event_asks}
 use Rattle.dg_serve.proofs.service.Service.tick.Goals as goal
 
-pub draw-timing-requires-clause-known : goal.draw-timing-requires-clause-known
-draw-timing-requires-clause-known g c = c.requires.under_way.ready.reading
+pub next-timing-requires-clause-known : goal.next-timing-requires-clause-known
+next-timing-requires-clause-known g c = c.requires.under_way.ready.reading
 
-pub draw-timing-requires-clause-early : goal.draw-timing-requires-clause-early
-draw-timing-requires-clause-early g c = c.requires.under_way.early
+pub next-timing-requires-clause-early : goal.next-timing-requires-clause-early
+next-timing-requires-clause-early g c = c.requires.under_way.early
 
 pub apply_event-requires-clause-allowed : goal.apply_event-requires-clause-allowed
 apply_event-requires-clause-allowed g c = c.requires.allowed
@@ -17,15 +17,15 @@ apply_event-requires-clause-allowed g c = c.requires.allowed
 pub apply_event-requires-clause-asks : goal.apply_event-requires-clause-asks
 apply_event-requires-clause-asks g c =
     let p : Standing = service_standing (c.args.self.now, map g.N.Nor.device c.args.boards.now) (g.K.Sink, c.args.out.now) (g.L.Link, c.args.link.now) (g.C.Clock, c.args.clock.now) in
-    let m : Standing = service_standing (record { motes = c.args.self.now.motes; timeline = c.draw-timing.new.self; text = c.args.self.now.text; alloc = c.args.self.now.alloc }, map g.N.Nor.device c.args.boards.now) (g.K.Sink, c.args.out.now) (g.L.Link, c.args.link.now) (g.C.Clock, c.draw-timing.new.clock) in
-    let d : DrawnTo p m c.draw-timing.result.dt c.draw-timing.result.draw = record { timed = record { dt_is = c.draw-timing.ensures.dt; rises = c.draw-timing.ensures.rises; answered = c.draw-timing.ensures.told; draw_is = c.draw-timing.ensures.draw; moment = c.draw-timing.ensures.moment; fits = record { dt = c.draw-timing.ensures.short; draw = c.draw-timing.ensures.drawn } }; boards = refl; motes = refl; written = refl; failures = refl; faults = refl; addressees = refl; reached = c.draw-timing.ensures.goes_on; known = c.draw-timing.ensures.reached; short = c.draw-timing.ensures.short } in
-    (m.clock, m.reached, event_asks c.args.profile.now.motes c.args.mote c.args.profile.now.links (Tick c.args.mote c.draw-timing.result.dt c.draw-timing.result.draw) c.draw-timing.result.dt c.draw-timing.result.draw p m d c.requires.under_way (c.requires.known, d.timed.fits) c.requires.known tt refl c.requires.known (λ reset. reset) refl refl)
+    let m : Standing = service_standing (record { motes = c.args.self.now.motes; timeline = c.next-timing.new.self; text = c.args.self.now.text; alloc = c.args.self.now.alloc }, map g.N.Nor.device c.args.boards.now) (g.K.Sink, c.args.out.now) (g.L.Link, c.args.link.now) (g.C.Clock, c.next-timing.new.clock) in
+    let d : DrawnTo p m c.next-timing.result.dt c.next-timing.result.draw = record { timed = record { dt_is = c.next-timing.ensures.dt; rises = c.next-timing.ensures.rises; answered = c.next-timing.ensures.told; draw_is = c.next-timing.ensures.draw; moment = c.next-timing.ensures.moment; fits = record { dt = c.next-timing.ensures.short; draw = c.next-timing.ensures.drawn } }; boards = refl; motes = refl; written = refl; failures = refl; faults = refl; addressees = refl; reached = c.next-timing.ensures.goes_on; known = c.next-timing.ensures.reached; short = c.next-timing.ensures.short } in
+    (m.clock, m.reached, event_asks c.args.profile.now.motes c.args.mote c.args.profile.now.links (Tick c.args.mote c.next-timing.result.dt c.next-timing.result.draw) c.next-timing.result.dt c.next-timing.result.draw p m d c.requires.under_way (c.requires.known, d.timed.fits) tt refl c.requires.known (λ reset. reset) refl refl)
 
 pub returns : goal.returns
 returns g c =
     let p : Standing = service_standing (c.args.self.now, map g.N.Nor.device c.args.boards.now) (g.K.Sink, c.args.out.now) (g.L.Link, c.args.link.now) (g.C.Clock, c.args.clock.now) in
-    let m : Standing = service_standing (record { motes = c.args.self.now.motes; timeline = c.draw-timing.new.self; text = c.args.self.now.text; alloc = c.args.self.now.alloc }, map g.N.Nor.device c.args.boards.now) (g.K.Sink, c.args.out.now) (g.L.Link, c.args.link.now) (g.C.Clock, c.draw-timing.new.clock) in
-    let d : DrawnTo p m c.draw-timing.result.dt c.draw-timing.result.draw = record { timed = record { dt_is = c.draw-timing.ensures.dt; rises = c.draw-timing.ensures.rises; answered = c.draw-timing.ensures.told; draw_is = c.draw-timing.ensures.draw; moment = c.draw-timing.ensures.moment; fits = record { dt = c.draw-timing.ensures.short; draw = c.draw-timing.ensures.drawn } }; boards = refl; motes = refl; written = refl; failures = refl; faults = refl; addressees = refl; reached = c.draw-timing.ensures.goes_on; known = c.draw-timing.ensures.reached; short = c.draw-timing.ensures.short } in
+    let m : Standing = service_standing (record { motes = c.args.self.now.motes; timeline = c.next-timing.new.self; text = c.args.self.now.text; alloc = c.args.self.now.alloc }, map g.N.Nor.device c.args.boards.now) (g.K.Sink, c.args.out.now) (g.L.Link, c.args.link.now) (g.C.Clock, c.next-timing.new.clock) in
+    let d : DrawnTo p m c.next-timing.result.dt c.next-timing.result.draw = record { timed = record { dt_is = c.next-timing.ensures.dt; rises = c.next-timing.ensures.rises; answered = c.next-timing.ensures.told; draw_is = c.next-timing.ensures.draw; moment = c.next-timing.ensures.moment; fits = record { dt = c.next-timing.ensures.short; draw = c.next-timing.ensures.drawn } }; boards = refl; motes = refl; written = refl; failures = refl; faults = refl; addressees = refl; reached = c.next-timing.ensures.goes_on; known = c.next-timing.ensures.reached; short = c.next-timing.ensures.short } in
     record {
-      goes = part_ends c.args.profile.now.motes c.args.profile.now.motes c.args.profile.now.motes c.args.profile.now.links (Ticks c.args.mote) (λ dt draw. Tick c.args.mote dt draw) [] c.draw-timing.result.dt c.draw-timing.result.draw p m _ d (ticks_part c.args.profile.now.motes c.args.mote p.inboxes) c.apply_event.result c.requires.under_way.ready (c.apply_event.ensures.ends (g.C.Clock.told c.draw-timing.new.clock) (g.C.Clock.reached c.draw-timing.new.clock)) refl refl;
+      goes = part_ends c.args.profile.now.motes c.args.profile.now.motes c.args.profile.now.motes c.args.profile.now.links (Ticks c.args.mote) (λ dt draw. Tick c.args.mote dt draw) [] c.next-timing.result.dt c.next-timing.result.draw p m _ d (ticks_part c.args.profile.now.motes c.args.mote p.inboxes) c.apply_event.result c.requires.under_way.ready (c.apply_event.ensures.ends (g.C.Clock.told c.next-timing.new.clock) (g.C.Clock.reached c.next-timing.new.clock)) refl refl;
     }

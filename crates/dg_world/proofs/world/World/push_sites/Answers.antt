@@ -45,9 +45,9 @@ loop-mote-preserved g c =
     let at = read_at c.args.self.now.motes.items c.loop-mote.mote c.index-runs.result.now within c.index-runs.ensures in
     let looked = c.in-Ok.ensures.looked in
     record {
-      told = λ w is.
-          told_then c.args.out.now.items c.loop-mote.out.items c.push_site.new.out.items _ _ _ (i.told w is)
-          (c.in-Ok.ensures.told (site w c.loop-mote.mote) (next_site _ w _ _ _ _ _ is i.read used.before within at))
+      reported = λ w is.
+          told_then c.args.out.now.items c.loop-mote.out.items c.push_site.new.out.items _ _ _ (i.reported w is)
+          (c.in-Ok.ensures.reported (site w c.loop-mote.mote) (next_site _ w _ _ _ _ _ is i.read used.before within at))
           (sym (sites_more (λ m. site_lines m (site w m)) c.loop-mote.mote));
       begun = (i.begun.0 ++ c.push_site.ensures.begun.0, told_then c.args.out.now.items c.loop-mote.out.items c.push_site.new.out.items _ _ _ i.begun.1 c.push_site.ensures.begun.1 refl);
       read = read_more _ _ _ _ _ _ i.read used (ran_endures _ _ looked.ran) looked.same_image;

@@ -12,7 +12,7 @@ use Rattle.dg_world.proofs.world.World.push_sites.Given as goal
 
 abbrev pub invariant-loop-mote : goal.invariant-loop-mote
 invariant-loop-mote g l = record {
-  told : (w : RuleWorld) → IsWorld l.self (map g.N.Nor.device l.initial.boards) w → l.out.items ≡ l.initial.out.items ++ flat_map (λ m. site_lines m (site w m)) (range_with_len 0 l.mote);
+  reported : (w : RuleWorld) → IsWorld l.self (map g.N.Nor.device l.initial.boards) w → l.out.items ≡ l.initial.out.items ++ flat_map (λ m. site_lines m (site w m)) (range_with_len 0 l.mote);
   begun : (told : List Report) × (l.out.items ≡ l.initial.out.items ++ told);
   read : ReadTo l.mote (map g.N.Nor.device l.initial.boards) (map g.N.Nor.device l.boards);
   calm : NoneRose (map g.N.Nor.device l.initial.boards) (map g.N.Nor.device l.boards);

@@ -64,7 +64,7 @@ cleared_plays p q s before h network standing events text = record {
   few = h.few;
   moment = subst (λ (n : DripNetwork). n.moment ≤ length s.items * 2 ^ 32) (sym network) h.moment;
   keyed = subst (λ (n : DripNetwork). AreKeyed n.sent.items) (sym network) h.keyed;
-  told = ap (λ (t : List ℕ). report_of s ++ t) text ∙ append-nil (report_of s);
+  reported = ap (λ (t : List ℕ). report_of s ++ t) text ∙ append-nil (report_of s);
   first = h.first;
   early = h.early;
   below = h.below;
@@ -75,7 +75,7 @@ cleared_playing p q h network standing events text = (h.0, report_of h.0, cleare
 
 -- what such a player tells of a line that it played
 pub tells : (q : Player) (s t : DripScript) (text : List ℕ) → Plays q t (report_of s) → text ≡ q.text.items → Tells s t text
-tells q s t text h is = ap (λ (u : List ℕ). report_of s ++ u) is ∙ (h.told ∙ ap report_of (sym (played_all t h.few)))
+tells q s t text h is = ap (λ (u : List ℕ). report_of s ++ u) is ∙ (h.reported ∙ ap report_of (sym (played_all t h.few)))
 
 pub line_ok : (q : Player) (s t : DripScript) (text : List ℕ) (old new : Option (List ℕ)) → Plays q t (report_of s) → text ≡ q.text.items → Puts old new text
     → ((b : List ℕ) × Plays q t b) × ((more : List ℕ) × Tells s t more × Puts old new more)
@@ -92,4 +92,4 @@ pub line_full : (r : Status) (e : PlayStop) (p q : Player) (line : DripLine) (s 
     → text ≡ q.text.items → Closed r statuses.TooMany text (codes "toomany" ++ 10 ∷ []) old new failed → LineStops r s (with_drip_line s line) old new failed
 line_full r e p q line s text old new failed is ran h text_is closed =
     let k = full_of e p q line s (report_of s) is ran h in
-    inr (text, ap (λ (u : List ℕ). report_of s ++ u) text_is ∙ k.1.told, inr (k.0, closed))
+    inr (text, ap (λ (u : List ℕ). report_of s ++ u) text_is ∙ k.1.reported, inr (k.0, closed))
