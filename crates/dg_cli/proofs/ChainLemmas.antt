@@ -84,7 +84,7 @@ checked status image n told root before after e f done named own =
 pub receive_nothing : (image version : ℕ) (name root : List ℕ) (a : Around) → ReceivedDone statuses.Memory image version name root a a
 receive_nothing image version name root a = (
   [],
-  record { taken = takes_none a.left; few_bytes = omega arith; enough = read_by (length a.boards) (AtEnd a.left); read_faults = λ _. refl },
+  record { taken = takes_none a.left; few_bytes = omega arith; read = read_by (length a.boards) (AtEnd a.left); read_faults = λ _. refl },
   nothing (receive_rule a.boards root (row_of image version name) []) (Rose a.reads a.reads) (tool_around a),
 )
 

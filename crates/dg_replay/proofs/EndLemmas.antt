@@ -75,7 +75,7 @@ cut_at_end {table} result script over input at_end number initial now before mid
         more = drop k line;
         front = inr (inr (line, ends, append_assoc (played_text c.played) (take k line) (drop k line) ∙ ap (λ (xs : List ℕ). played_text c.played ++ xs) (take-append-drop k line)));
       };
-      enough = ⊎_elim (λ (x : at_end). inl x) (λ (x : NextIsWhole input c.done c.rest). inr (inr (inr (line, ends, x)))) whole;
+      read = ⊎_elim (λ (x : at_end). inl x) (λ (x : NextIsWhole input c.done c.rest). inr (inr (inr (line, ends, x)))) whole;
       near = inl (record { lines = front.lines; within = front.within; more = front.more; reported = front.reported; near = near_later number (front.lines + 1) input front.behind near });
       limits = limits;
       stood = stood;
@@ -98,7 +98,7 @@ stopped_ends {table} Memory result script over input at_end number initial now b
       text = f.text;
       written = subst (λ (o : Option (List ℕ)). Puts before o f.text) (sym told) f.reported;
       report = record { more = f.more; front = f.whole };
-      enough = f.there.1;
+      read = f.there.1;
       near = tt;
       limits = f.limits;
       stood = f.stood;
@@ -119,7 +119,7 @@ stopped_ends {table} WriteFault result script over input at_end number initial n
       text = f.text;
       written = subst (λ (o : Option (List ℕ)). Puts before o f.text) (sym told) f.reported;
       report = record { more = f.more; front = inl f.whole };
-      enough = ⊎_elim (λ (x : at_end). inl x) (λ (x : DoneIsWhole input f.came.done f.came.rest f.came.begun). inr (inr (inl (x, record { more = f.more; front = f.whole })))) f.there.2;
+      read = ⊎_elim (λ (x : at_end). inl x) (λ (x : DoneIsWhole input f.came.done f.came.rest f.came.begun). inr (inr (inl (x, record { more = f.more; front = f.whole })))) f.there.2;
       near = inl (record { lines = before_it.lines; within = before_it.within; more = before_it.more; reported = before_it.reported; near = near_later number (before_it.lines + 1) input before_it.behind near });
       limits = f.limits;
       stood = f.stood;
@@ -133,7 +133,7 @@ stopped_ends {table} FlashFault result script over input at_end number initial n
       text = played_text f.came.played;
       written = subst (λ (o : Option (List ℕ)). Puts before o (played_text f.came.played)) (sym told) f.reported;
       report = (refl, subst (λ (ls : List Line). StopsAt (ending_from (length initial) over script) ls) (sym f.there.0.2) f.there.0.3);
-      enough = f.there.2;
+      read = f.there.2;
       near = tt;
       limits = f.limits;
       stood = f.stood;
@@ -157,7 +157,7 @@ stopped_ends {table} NoImage result script over input at_end number initial now 
       text = played_text f.came.played ++ no_image_line;
       written = Puts-join before mid after _ _ f.reported put;
       report = refl;
-      enough = f.there.4;
+      read = f.there.4;
       near = tt;
       limits = f.limits;
       stood = f.stood;
@@ -173,7 +173,7 @@ stopped_ends {table} NotAVolume result script over input at_end number initial n
       text = played_text f.came.played ++ no_volume_line;
       written = Puts-join before mid after _ _ f.reported put;
       report = refl;
-      enough = f.there.2;
+      read = f.there.2;
       near = tt;
       limits = f.limits;
       stood = f.stood;
@@ -266,7 +266,7 @@ finish_as {table} result script input w n p initial now new before mid after fai
       text = played_text r.played;
       written = subst (λ (o : Option (List ℕ)). Puts before o (played_text r.played)) (sym kept) r.reported;
       report = (refl, refl);
-      enough = inl tt;
+      read = inl tt;
       near = tt;
       limits = bounds_done true script n p initial now before mid r;
       stood = λ uses. (r.grounded uses).1;

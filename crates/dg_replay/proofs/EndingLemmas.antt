@@ -20,7 +20,7 @@ use Rattle.dg_script.specs.declared.fault.LineFault.{LineFault}
 use Rattle.dg_world.specs.Boards.{BoardStopped}
 use Rattle.dg_replay.specs.Boards.{EventNext, BoardsStand}
 use Rattle.dg_replay.specs.Ending.{Ending, Ends, NoBoards, TooManyEvents, FaultAt, Over, events_in, by_fault, by_events, by_boards, ending_from, status_of, used}
-use Rattle.dg_replay.specs.Replayed.{Progress, played_text, AtTooMany, IsWholeReport, Wrote, BoardsLeft, IsCaused, IsSettled, DoneIsWhole, ReadEnough, EndsNear, ReadsNear, NoVolumeThere, NoImageThere}
+use Rattle.dg_replay.specs.Replayed.{Progress, played_text, AtTooMany, IsWholeReport, Wrote, BoardsLeft, IsCaused, IsSettled, DoneIsWhole, ReadFor, EndsNear, ReadsNear, NoVolumeThere, NoImageThere}
 use Rattle.dg_replay.specs.Replaying.{HasFew, ReadyToEnd, EndsWith, ScriptReplayed}
 use Rattle.dg_base.specs.declared.events.Step.{Step}
 use Rattle.dg_script.specs.declared.line.Line.{Line}
@@ -50,7 +50,7 @@ caused_by (FaultAt line f) r w b v i = refl
 caused_by Over r w b v i = refl
 
 -- the bytes that were taken settle the ending
-enough_by : {table : List Row} {script : Script} (e : Ending) (n : ℕ) (input : List ℕ) (at_end : Type 0) (c : Progress table script) (text : List ℕ) → at_end ⊎ IsSettled n input → ReadEnough (status_of e) n (bytes_taken input at_end) c text
+enough_by : {table : List Row} {script : Script} (e : Ending) (n : ℕ) (input : List ℕ) (at_end : Type 0) (c : Progress table script) (text : List ℕ) → at_end ⊎ IsSettled n input → ReadFor (status_of e) n (bytes_taken input at_end) c text
 enough_by Ends n input at_end c text settled = settled
 enough_by (NoBoards m b) n input at_end c text settled = settled
 enough_by TooManyEvents n input at_end c text settled = settled
@@ -76,7 +76,7 @@ ended {table} result script e piece input at_end initial now before mid after fa
       text = text;
       written = Puts-join before mid after _ _ r.reported done.1;
       report = wrote_whole e r.came text all;
-      enough = enough_by e (length initial) input at_end r.came text settled;
+      read = enough_by e (length initial) input at_end r.came text settled;
       near = near text;
       limits = r.limits;
       stood = r.stood;
@@ -97,7 +97,7 @@ ended {table} result script e piece input at_end initial now before mid after fa
           reported = append_assoc (played_text r.came.played) (take k piece) (drop k piece) ∙ ap (λ (xs : List ℕ). played_text r.came.played ++ xs) (take-append-drop k piece ∙ sym r.line);
         }));
       };
-      enough = ⊎_elim (λ (x : at_end). inl x) (λ (x : IsSettled (length initial) input). inr (inl x)) settled;
+      read = ⊎_elim (λ (x : at_end). inl x) (λ (x : IsSettled (length initial) input). inr (inl x)) settled;
       near = inr (record { all = r.all; more = take k piece; reported = refl; near = ends_near e input r.came [] (near []) });
       limits = r.limits;
       stood = r.stood;
@@ -111,7 +111,7 @@ ended {table} result script e piece input at_end initial now before mid after fa
       text = played_text r.came.played;
       written = subst (λ (o : Option (List ℕ)). Puts before o (played_text r.came.played)) (sym memory.1) r.reported;
       report = record { more = []; front = append-nil (played_text r.came.played) };
-      enough = whole;
+      read = whole;
       near = tt;
       limits = r.limits;
       stood = r.stood;

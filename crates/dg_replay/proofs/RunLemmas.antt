@@ -20,7 +20,7 @@ use Rattle.dg_replay.specs.Ending.{Ending, Ends, Over, ending_from, ending_of, e
 use Rattle.dg_replay.specs.Around.{Around, around}
 use Rattle.dg_replay.specs.Promised.{Headline}
 use Rattle.dg_replay.specs.Done.{IsUnfailed, ReplaysAll, ReplayDone}
-use Rattle.dg_replay.specs.Replayed.{Progress, RunsTo, played_text, Wrote, BoardsLeft, NoVolumeThere, NoImageThere, IsComplete, AreVolumes, IsSettled, AreWhole, AllWhole, NextIsWhole, ReadEnough, IsCaused, Replayed}
+use Rattle.dg_replay.specs.Replayed.{Progress, RunsTo, played_text, Wrote, BoardsLeft, NoVolumeThere, NoImageThere, IsComplete, AreVolumes, IsSettled, AreWhole, AllWhole, NextIsWhole, ReadFor, IsCaused, Replayed}
 use Rattle.dg_replay.specs.Replaying.{Reached, PlayedUpTo, InputAnswer, StopEnds, EndsWith, ScriptReplayed}
 use Rattle.dg_replay.specs.declared.halt.Halt.{Halt}
 use Rattle.dg_replay.specs.declared.halt.Halt.TheVariants as halts
@@ -31,21 +31,21 @@ use Rattle.dg_replay.proofs.EndLemmas.{over_not, is_over-true, over_ends, stoppe
 use Rattle.dg_replay.proofs.TakenLemmas.{over_settled, over_done, none_whole, stopped_of_script, known_in_script}
 
 -- where an input is at its end, the bytes are enough
-at_end_for : {table : List Row} {script : Script} (s : Status) (n : ℕ) (input : List ℕ) (at_end : Type 0) (c : Progress table script) (text : List ℕ) → at_end → ReadEnough s n (bytes_taken input ⊤) c text → ReadEnough s n (bytes_taken input at_end) c text
+at_end_for : {table : List Row} {script : Script} (s : Status) (n : ℕ) (input : List ℕ) (at_end : Type 0) (c : Progress table script) (text : List ℕ) → at_end → ReadFor s n (bytes_taken input ⊤) c text → ReadFor s n (bytes_taken input at_end) c text
 at_end_for ReadFault n input at_end c text e enough = enough
-at_end_for Memory n input at_end c text e enough = inl e
-at_end_for WriteFault n input at_end c text e enough = inl e
-at_end_for FlashFault n input at_end c text e enough = inl e
-at_end_for Done n input at_end c text e enough = inl e
-at_end_for Usage n input at_end c text e enough = inl e
-at_end_for BadInput n input at_end c text e enough = inl e
-at_end_for NotAVolume n input at_end c text e enough = inl e
-at_end_for Refused n input at_end c text e enough = inl e
-at_end_for LinkFault n input at_end c text e enough = inl e
-at_end_for TooLong n input at_end c text e enough = inl e
-at_end_for TooMany n input at_end c text e enough = inl e
-at_end_for NoBoard n input at_end c text e enough = inl e
-at_end_for NoImage n input at_end c text e enough = inl e
+at_end_for Memory n input at_end c text e read = inl e
+at_end_for WriteFault n input at_end c text e read = inl e
+at_end_for FlashFault n input at_end c text e read = inl e
+at_end_for Done n input at_end c text e read = inl e
+at_end_for Usage n input at_end c text e read = inl e
+at_end_for BadInput n input at_end c text e read = inl e
+at_end_for NotAVolume n input at_end c text e read = inl e
+at_end_for Refused n input at_end c text e read = inl e
+at_end_for LinkFault n input at_end c text e read = inl e
+at_end_for TooLong n input at_end c text e read = inl e
+at_end_for TooMany n input at_end c text e read = inl e
+at_end_for NoBoard n input at_end c text e read = inl e
+at_end_for NoImage n input at_end c text e read = inl e
 
 caused_too : (s : Status) (e : Ending) (r w b v i : Type 0) → IsCaused s e ⊥ w b v i → IsCaused s e r w b v i
 caused_too ReadFault e r w b v i h = absurd h
@@ -64,7 +64,7 @@ end_replayed {table} s input at_end old new before after reads writes ended few 
       text = r.text;
       written = r.written;
       report = r.report;
-      enough = at_end_for s (length old) input at_end r.came r.text ended r.enough;
+      read = at_end_for s (length old) input at_end r.came r.text ended r.read;
       near = r.near;
       limits = r.limits;
       stood = r.stood;
@@ -88,7 +88,7 @@ pub failed_replayed : {table : List Row} (input : List ℕ) (at_end : Type 0) (e
     → PlayedUpTo table (script_of input) old before after (λ c. (c.begun ≡ []) × BoardsStand c.last old new × AreWhole input c.done × AllWhole input c.done)
     → ScriptReplayed table ReadFault (script_of input) ending (bytes_taken input at_end) (span old new before after) (failures reads writes)
 failed_replayed input at_end ending old new before after reads writes rose f =
-    record { came = f.came; text = played_text f.came.played; written = f.reported; report = (refl, f.there.0); enough = (f.there.2, f.there.3); near = tt; limits = f.limits; stood = f.stood; boards = f.there.1; caused = rose }
+    record { came = f.came; text = played_text f.came.played; written = f.reported; report = (refl, f.there.0); read = (f.there.2, f.there.3); near = tt; limits = f.limits; stood = f.stood; boards = f.there.1; caused = rose }
 
 -- ---- how the lines that were played end
 
@@ -119,7 +119,7 @@ pub replayed_of : {table : List Row} (s : Status) (bytes : List ℕ) (a b : Arou
     → ScriptReplayed table s (script_of bytes) (ending_of (length a.boards) bytes) (bytes_taken bytes (AtEnd b.left)) (span a.boards b.boards a.written b.written) (failures (Rose a.reads b.reads) (Rose a.writes b.writes))
     → (s ≢ ReadFault → b.reads ≡ a.reads) → (s ≢ WriteFault → b.writes ≡ a.writes) → Replayed table s a b
 replayed_of s bytes a b taken few r reads writes =
-    record { input = bytes; taken = taken; few_bytes = few; came = r.came; text = r.text; written = r.written; report = r.report; enough = r.enough; near = r.near; limits = r.limits; stood = r.stood; boards = r.boards; caused = r.caused; read_faults = reads; write_faults = writes }
+    record { input = bytes; taken = taken; few_bytes = few; came = r.came; text = r.text; written = r.written; report = r.report; read = r.read; near = r.near; limits = r.limits; stood = r.stood; boards = r.boards; caused = r.caused; read_faults = reads; write_faults = writes }
 
 -- before the first line nothing is done
 none_bound : (boards : ℕ) → InBounds boards [] []
@@ -155,10 +155,10 @@ none_played {table} script = record {
 pub memory_unread : {table : List Row} (bytes : List ℕ) (lb la wb : Option (List ℕ)) (rb ra k : ℕ) (old : List Device) → Takes lb la bytes → length bytes ≤ (most_used_bytes + 1) → ra ≡ rb
     → Replayed table Memory (around lb rb wb k old) (around la ra wb k old)
 memory_unread bytes lb la wb rb ra k old taken few reads =
-    record { input = bytes; taken = taken; few_bytes = few; came = none_played (script_of bytes); text = []; written = Puts-nil wb; report = record { more = []; front = refl }; enough = inr (none_whole bytes); near = tt; limits = none_bound (length old); stood = λ uses. absurd (cc); boards = refl; caused = tt; read_faults = λ other. reads; write_faults = λ other. refl }
+    record { input = bytes; taken = taken; few_bytes = few; came = none_played (script_of bytes); text = []; written = Puts-nil wb; report = record { more = []; front = refl }; read = inr (none_whole bytes); near = tt; limits = none_bound (length old); stood = λ uses. absurd (cc); boards = refl; caused = tt; read_faults = λ other. reads; write_faults = λ other. refl }
 
 -- the status of an ending that is the script's
-by_status : {table : List Row} (s : Status) (input : List ℕ) (at_end : Type 0) (c : Progress table (script_of input)) (text : List ℕ) (r w b v i uses : Type 0) (n : ℕ) → ReadEnough s n (bytes_taken input at_end) c text → IsCaused s (ending_of n input) r w b v i → (r → ⊥) → (w → ⊥)
+by_status : {table : List Row} (s : Status) (input : List ℕ) (at_end : Type 0) (c : Progress table (script_of input)) (text : List ℕ) (r w b v i uses : Type 0) (n : ℕ) → ReadFor s n (bytes_taken input at_end) c text → IsCaused s (ending_of n input) r w b v i → (r → ⊥) → (w → ⊥)
     → (b → at_end ⊎ NextIsWhole input c.done c.rest → ⊥) → (v → at_end ⊎ NextIsWhole input c.done c.rest → ⊥) → (i → at_end ⊎ NextIsWhole input c.done c.rest → uses) → (at_end ⊎ IsSettled n input → ending_of n input ≡ Ends) → IsComplete uses s
 by_status Memory input at_end c text r w b v i uses n enough caused reads writes stops none lacks ends = inr (inl refl)
 by_status ReadFault input at_end c text r w b v i uses n enough caused reads writes stops none lacks ends = absurd (reads caused)
@@ -251,7 +251,7 @@ completed : {table : List Row} (s : Status) (bytes : List ℕ) (a b : Around) �
 completed s bytes a b all volumes x =
     let old = a.boards in
     let taken : Takes (Some bytes) b.left x.input = subst (λ (o : Option (List ℕ)). Takes o b.left x.input) all.told x.taken in
-    by_status s x.input (AtEnd b.left) x.came x.text (Rose a.reads b.reads) (Rose a.writes b.writes) (BoardStopped (motes_in x.came.done) old b.boards) (NoVolumeThere x.came old b.boards) ((UsesBoards x.came.done) × NoImageThere x.came old b.boards) (UsesBoards (script_of bytes).lines) (length old) x.enough x.caused all.reads all.writes
+    by_status s x.input (AtEnd b.left) x.came x.text (Rose a.reads b.reads) (Rose a.writes b.writes) (BoardStopped (motes_in x.came.done) old b.boards) (NoVolumeThere x.came old b.boards) ((UsesBoards x.came.done) × NoImageThere x.came old b.boards) (UsesBoards (script_of bytes).lines) (length old) x.read x.caused all.reads all.writes
     (λ stop enough. all.boards (told_stop bytes x.input b.left x.came.done x.came.rest old b.boards taken x.came.lines stop enough))
     (λ v enough.
     let at = v.there.at in

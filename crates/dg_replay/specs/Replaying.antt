@@ -27,7 +27,7 @@ use Rattle.dg_replay.specs.Near.{behind_lines, FewBytesBehind}
 use Rattle.dg_replay.specs.Replayed.{Progress, ReachesEnding, AtTooMany, closing, Wrote, BoardsLeft, BoardStoppedThere, IsCaused}
 use Rattle.dg_replay.specs.Replayed.{RunsTo, item_played, played_text, report_of_lines, IsSettled, AreWhole, AllWhole}
 use Rattle.dg_replay.specs.Replayed.{NextIsWhole}
-use Rattle.dg_replay.specs.Replayed.{DoneIsWhole, ReadEnough, ReadsNear, NoVolumeThere, NoImageThere, no_volume_line}
+use Rattle.dg_replay.specs.Replayed.{DoneIsWhole, ReadFor, ReadsNear, NoVolumeThere, NoImageThere, no_volume_line}
 use Rattle.dg_replay.specs.Replayed.{no_image_line}
 use Rattle.dg_replay.specs.Stages.{Basis, DoneSoFar, ReplayState, LineRead, Span, BytesTaken, Failures, boards_reported, span}
 use Rattle.dg_replay.specs.Playing.{Stood, PlayedLine, LineBegun, IsOneTooMany, LacksBoards, Grounded}
@@ -325,7 +325,7 @@ pub record ScriptReplayed (table : List Row) (status : Status) (script : Script)
   pub text : List ℕ
   pub written : Puts s.before s.after text
   pub report : Wrote status ending came text
-  pub enough : ReadEnough status (length s.initial) taken came text
+  pub read : ReadFor status (length s.initial) taken came text
   pub near : ReadsNear status ending taken.bytes came text
   pub limits : InBounds (length s.initial) came.done (map item_played came.played)
   pub stood : UsesBoards came.done → StandFor (motes_in came.done) came.ground.stores s.initial

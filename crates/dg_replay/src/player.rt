@@ -38,7 +38,7 @@ impl Player {
 
 /// There are so many motes, for which boards are needed.
 fn play_motes<N: Nor>(motes: u8, boards: &Vec<N>) -> Result<(), Stop>
-    ensures enough { OnOk result (motes ≤ length boards.now.items) }
+    ensures counted { OnOk result (motes ≤ length boards.now.items) }
     ensures missing { (stop : Stop) → result ≡ Err stop → (stop ≡ Stop.NoBoard motes (length boards.now.items))
         × (length boards.now.items < motes) }
 {

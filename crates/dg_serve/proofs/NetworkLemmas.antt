@@ -102,7 +102,7 @@ served_by profile n answer seed turns a b count read enough few = record {
   taken = read.taken;
   few_bytes = read.few_bytes;
   done = inr (record {
-    enough = read.reads.1;
+    read = read.reads.1;
     reads = read.reads.2;
     done = subst (λ (o : Opening). DoneBy o answer seed turns a.outside b.outside) (sym (opens_by (length a.outside.boards) read.input (Ok profile) read.reads.0.0 read.reads.0.1))
         (subst (λ (k : ℕ). DoneBy (by_boards k profile) answer seed turns a.outside b.outside) count (done_boards n profile answer seed turns a.outside b.outside few enough));
@@ -136,7 +136,7 @@ none_served none.TooLong answer seed turns left_before left_after reads_before r
   taken = read.taken;
   few_bytes = read.few_bytes;
   done = inr (record {
-    enough = read.reads.1;
+    read = read.reads.1;
     reads = read.reads.2;
     done = subst (λ (o : Opening). DoneBy o answer seed turns before (record before { written = w; faults = f })) (sym (opens_over (length before.boards) read.input read.reads.0)) (alone answer status.TooLong over_line before w f told);
   });
@@ -146,7 +146,7 @@ none_served (none.Fault x) answer seed turns left_before left_after reads_before
   taken = read.taken;
   few_bytes = read.few_bytes;
   done = inr (record {
-    enough = read.reads.1;
+    read = read.reads.1;
     reads = read.reads.2;
     done = subst (λ (o : Opening). DoneBy o answer seed turns before (record before { written = w; faults = f })) (sym (opens_by (length before.boards) read.input (Err x) read.reads.0.0 read.reads.0.1)) (alone answer status.BadInput (fault_line x) before w f told);
   });

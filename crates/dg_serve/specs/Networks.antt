@@ -78,7 +78,7 @@ pub record NotRead (answer : Status) (a b : AroundService) : Type 0 where
 
 -- It was read to its end, or one byte past those that are used, and what the rules say was done.
 pub record WasRead (input : List ℕ) (answer : Status) (seed turns : ℕ) (a b : AroundService) : Type 0 where
-  pub enough : AtEnd b.left ⊎ (most_used_bytes < length input)
+  pub read : AtEnd b.left ⊎ (most_used_bytes < length input)
   pub reads : b.reads ≡ a.reads
   pub done : DoneBy (opening_of (length a.outside.boards) input) answer seed turns a.outside b.outside
 

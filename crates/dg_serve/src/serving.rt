@@ -80,7 +80,7 @@ fn serve_boards<K: Sink, N: Nor, L: Link, C: Clock>(
 ) -> Result<(), Stop>
     requires allowed { IsAllowed profile.now }
     requires turns { turns ≤ 1000000 }
-    requires enough { profile.now.motes ≤ length boards.old }
+    requires boards { profile.now.motes ≤ length boards.old }
     ensures ran { RanTo result profile.now seed turns
         (outside (K.written out.old) (K.faults out.old) (C.told clock.old) (L.inboxes link.old) (L.faults link.old)
         (map N.device boards.old))

@@ -9,7 +9,7 @@ use Rattle.dg_nor.specs.Device.{Device}
 use Rattle.dg_tool.specs.declared.stop.Stop.{Stop}
 use Rattle.dg_tool.specs.declared.stop.Stop.TheVariants as stops
 use Rattle.dg_tool.specs.Endings.{Ending, text_of}
-use Rattle.dg_tool.specs.Done.{VerbRule, ToolOutside, LeftBy, CommandLeaves, Wrote, FirstStopped, Faulted, ToolDone, InputRead, ReadBy, ReadEnough}
+use Rattle.dg_tool.specs.Done.{VerbRule, ToolOutside, LeftBy, CommandLeaves, Wrote, FirstStopped, Faulted, ToolDone, InputRead, ReadBy, ReadToEnd}
 use Rattle.dg_tool.specs.Stops.{stop_text, result_status, result_text, OnBoards, WritesLast, ClosesWith, InputFails}
 
 -- ---- a verb that comes to its last line
@@ -73,7 +73,7 @@ faulted_line statuses.TooMany r w b text line = absurd line
 faulted_line statuses.NoBoard r w b text line = tt
 faulted_line statuses.NoImage r w b text line = tt
 
-enough_line : (st : Status) (input : List ℕ) (at_end : Type 0) → HasLine st → ReadEnough st input at_end → at_end ⊎ (most_input < length input)
+enough_line : (st : Status) (input : List ℕ) (at_end : Type 0) → HasLine st → ReadToEnd st input at_end → at_end ⊎ (most_input < length input)
 enough_line statuses.Done input at_end line h = h
 enough_line statuses.Memory input at_end line h = absurd line
 enough_line statuses.Usage input at_end line h = h
@@ -211,7 +211,7 @@ module _ (boards : ℕ) (input : List ℕ) (left_before left_after : Option (Lis
   abbrev pub Read : Status → Type 0
   Read status = InputRead status boards input left_before left_after reads_before reads_after
 
-  later : (n : ℕ) (st to : Status) (at_end : Type 0) → (ReadEnough st input at_end → ReadEnough to input at_end) → ReadBy n st input at_end → ReadBy n to input at_end
+  later : (n : ℕ) (st to : Status) (at_end : Type 0) → (ReadToEnd st input at_end → ReadToEnd to input at_end) → ReadBy n st input at_end → ReadBy n to input at_end
   later zero st to at_end f h = h
   later (suc n) st to at_end f h = f h
 
@@ -219,7 +219,7 @@ module _ (boards : ℕ) (input : List ℕ) (left_before left_after : Option (Lis
   read_short st line h = record {
     taken = h.taken;
     few_bytes = h.few_bytes;
-    enough = later boards st statuses.WriteFault (AtEnd left_after) (enough_line st input (AtEnd left_after) line) h.enough;
+    read = later boards st statuses.WriteFault (AtEnd left_after) (enough_line st input (AtEnd left_after) line) h.read;
     read_faults = λ _. h.read_faults (no_read_fault st line);
   }
 
@@ -227,7 +227,7 @@ module _ (boards : ℕ) (input : List ℕ) (left_before left_after : Option (Lis
   read_wanting st line h = record {
     taken = h.taken;
     few_bytes = h.few_bytes;
-    enough = later boards st statuses.Memory (AtEnd left_after) (λ _. tt) h.enough;
+    read = later boards st statuses.Memory (AtEnd left_after) (λ _. tt) h.read;
     read_faults = λ _. h.read_faults (no_read_fault st line);
   }
 

@@ -17,7 +17,7 @@ use Rattle.dg_volume.proofs.ReadLemmas.{Looked-none}
 use Rattle.dg_tool.specs.declared.stop.Stop.{Stop}
 use Rattle.dg_tool.specs.declared.stop.Stop.TheVariants as stops
 use Rattle.dg_tool.specs.Endings.{Ending, Over, FaultAt, by_boards, by_file, by_input, content_by, content_in, status_of, text_of}
-use Rattle.dg_tool.specs.Done.{verb_rule, LeftBy, NeedsInput, InputRead, ReadBy, ReadEnough}
+use Rattle.dg_tool.specs.Done.{verb_rule, LeftBy, NeedsInput, InputRead, ReadBy, ReadToEnd}
 use Rattle.dg_tool.specs.Input.{SpellsNone, Spells, ReadsNone, ReadsImage, ImageRead, stop_by, stop_of}
 use Rattle.dg_tool.specs.Stops.{stop_status, stop_text, OfBoard, Comes, InputFails, OnBoard, OnBoards}
 use Rattle.dg_tool.proofs.BoardLemmas.{by_some, on_same}
@@ -105,7 +105,7 @@ stop_fails stops.NotAVolume input at_end before after h = tt
 stop_fails (stops.Refused cause) input at_end before after h = tt
 stop_fails stops.NoImage input at_end before after h = tt
 
-pub stop_enough : (stop : Stop) (input : List ℕ) (at_end failed : Type 0) → ReadsNone stop input at_end failed → ReadEnough (stop_status stop) input at_end
+pub stop_enough : (stop : Stop) (input : List ℕ) (at_end failed : Type 0) → ReadsNone stop input at_end failed → ReadToEnd (stop_status stop) input at_end
 stop_enough stops.Memory input at_end failed h = tt
 stop_enough stops.ReadFault input at_end failed h = tt
 stop_enough stops.TooLong input at_end failed h = h.1
@@ -119,12 +119,12 @@ stop_enough stops.NoImage input at_end failed h = absurd h.0
 pub status_differs : (stop : Stop) → stop_status stop ≢ statuses.ReadFault → stop ≢ stops.ReadFault
 status_differs stop other e = other (ap stop_status e)
 
-by_count : (n : ℕ) (status : Status) (input : List ℕ) (at_end : Type 0) → 0 < n → ReadEnough status input at_end → ReadBy n status input at_end
+by_count : (n : ℕ) (status : Status) (input : List ℕ) (at_end : Type 0) → 0 < n → ReadToEnd status input at_end → ReadBy n status input at_end
 by_count zero status input at_end some h = absurd (omega (arith, some))
 by_count (suc n) status input at_end some h = h
 
-pub input_read : (status : Status) (n : ℕ) (input : List ℕ) (before after : Option (List ℕ)) (reads_before reads_after : ℕ) → 0 < n → Takes before after input → length input ≤ most_input + 1 → ReadEnough status input (AtEnd after) → (status ≢ statuses.ReadFault → reads_after ≡ reads_before) → InputRead status n input before after reads_before reads_after
-input_read status n input before after reads_before reads_after some taken few enough calm = record { taken = taken; few_bytes = few; enough = by_count n status input (AtEnd after) some enough; read_faults = calm }
+pub input_read : (status : Status) (n : ℕ) (input : List ℕ) (before after : Option (List ℕ)) (reads_before reads_after : ℕ) → 0 < n → Takes before after input → length input ≤ most_input + 1 → ReadToEnd status input (AtEnd after) → (status ≢ statuses.ReadFault → reads_after ≡ reads_before) → InputRead status n input before after reads_before reads_after
+input_read status n input before after reads_before reads_after some taken few enough calm = record { taken = taken; few_bytes = few; read = by_count n status input (AtEnd after) some enough; read_faults = calm }
 
 -- ---- a file that is read
 
@@ -191,7 +191,7 @@ failing T e = Err e
 err_inner : {T : Type 0} (e f : Stop) → failing T e ≡ failing T f → e ≡ f
 err_inner e f p = cc
 
-enough_any : (status : Status) (input : List ℕ) (at_end : Type 0) → (at_end ⊎ (most_input < length input)) → ReadEnough status input at_end
+enough_any : (status : Status) (input : List ℕ) (at_end : Type 0) → (at_end ⊎ (most_input < length input)) → ReadToEnd status input at_end
 enough_any statuses.Done input at_end h = h
 enough_any statuses.Memory input at_end h = tt
 enough_any statuses.Usage input at_end h = h
@@ -240,7 +240,7 @@ none_by zero at_end e = refl
 none_by (suc n) at_end e = absurd (omega (arith, e))
 
 pub none_read : (n : ℕ) (left : Option (List ℕ)) (reads : ℕ) → n ≡ 0 → InputRead statuses.NoBoard n [] left left reads reads
-none_read n left reads e = record { taken = takes_none left; few_bytes = omega arith; enough = none_by n (AtEnd left) e; read_faults = λ _. refl }
+none_read n left reads e = record { taken = takes_none left; few_bytes = omega arith; read = none_by n (AtEnd left) e; read_faults = λ _. refl }
 
 -- what is done with the image is done with the content of the input
 pub spelled : (status : Status) (chips : Option Store → Type 0) (next : Option Store → List ℕ → Ending) (acted may : List ℕ → Option Store → Device → Device → Type 0) (text : List ℕ) (a b : Device) (input image : List ℕ) → length input ≤ most_input → hex_file input ≡ Ok image

@@ -211,21 +211,21 @@ pub record ToolDone (status : Status) (rule : VerbRule) (reads_failed : Type 0) 
 -- ---- the input
 
 -- so much of the input was taken: all, or one byte past those that are used, unless memory ran out or a read failed
-abbrev pub ReadEnough : Status → (input : List ℕ) → (at_end : Type 0) → Type 0
-ReadEnough Memory input at_end = Unit {0}
-ReadEnough ReadFault input at_end = Unit {0}
-ReadEnough status input at_end = at_end ⊎ (most_input < length input)
+abbrev pub ReadToEnd : Status → (input : List ℕ) → (at_end : Type 0) → Type 0
+ReadToEnd Memory input at_end = Unit {0}
+ReadToEnd ReadFault input at_end = Unit {0}
+ReadToEnd status input at_end = at_end ⊎ (most_input < length input)
 
 -- a verb without a board reads nothing
 abbrev pub ReadBy : (boards : ℕ) → Status → (input : List ℕ) → (at_end : Type 0) → Type 0
 ReadBy zero status input at_end = input ≡ []
-ReadBy (suc n) status input at_end = ReadEnough status input at_end
+ReadBy (suc n) status input at_end = ReadToEnd status input at_end
 
 -- what was taken of the input
 pub record InputRead (status : Status) (boards : ℕ) (input : List ℕ) (left_before left_after : Option (List ℕ))
     (reads_before reads_after : ℕ) : Type 0 where
   pub taken : Takes left_before left_after input
   pub few_bytes : length input ≤ most_input + 1
-  pub enough : ReadBy boards status input (AtEnd left_after)
+  pub read : ReadBy boards status input (AtEnd left_after)
   -- a read that fails is always told
   pub read_faults : status ≢ ReadFault → reads_after ≡ reads_before

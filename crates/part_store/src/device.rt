@@ -28,7 +28,7 @@ impl RamChip {
 }
 
 impl Nor for RamChip {
-    ghost use Rattle.part_store.specs.Shown.{ram_device};
+    ghost use Rattle.part_store.specs.Ram.{ram_device};
 
     ghost device = { ram_device };
 

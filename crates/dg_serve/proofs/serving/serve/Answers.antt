@@ -24,8 +24,8 @@ serve_boards-requires-clause-allowed g c = c.requires.allowed
 pub serve_boards-requires-clause-turns : goal.serve_boards-requires-clause-turns
 serve_boards-requires-clause-turns g c = c.requires.turns
 
-pub serve_boards-requires-clause-enough : goal.serve_boards-requires-clause-enough
-serve_boards-requires-clause-enough g c = let n = ap length c.as_mut_slice.ensures.value in omega (arith, n, c.args.boards.now.ok.0)
+pub serve_boards-requires-clause-boards : goal.serve_boards-requires-clause-boards
+serve_boards-requires-clause-boards g c = let n = ap length c.as_mut_slice.ensures.value in omega (arith, n, c.args.boards.now.ok.0)
 
 pub returns-in-Ok-clause-served : goal.returns-in-Ok-clause-served
 returns-in-Ok-clause-served g c = λ enough.

@@ -25,7 +25,7 @@ run-requires-clause-ready g c =
     let before : Outside = outside (g.K.Sink.written c.args.out.now) (g.K.Sink.faults c.args.out.now) (g.C.Clock.told c.args.clock.now) (g.L.Link.inboxes c.args.link.now) (g.L.Link.faults c.args.link.now) (map g.N.Nor.device c.args.boards.now) in
     let mid : Outside = outside (g.K.Sink.written c.open_service.new.out) (g.K.Sink.faults c.open_service.new.out) (g.C.Clock.told c.open_service.new.clock) (g.L.Link.inboxes c.open_service.new.link) (g.L.Link.faults c.open_service.new.link) (map g.N.Nor.device c.args.boards.now) in
     let p : Standing = service_standing (c.in_ok-service.service, map g.N.Nor.device c.args.boards.now) (g.K.Sink, c.open_service.new.out) (g.L.Link, c.open_service.new.link) (g.C.Clock, c.open_service.new.clock) in
-    ready_opened c.args.profile.now c.args.seed before mid p (c.in_ok-service.ensures.opens (map g.N.Nor.device c.args.boards.now)) (let n = length-map c.args.boards.now g.N.Nor.device in omega (arith, n, c.requires.enough))
+    ready_opened c.args.profile.now c.args.seed before mid p (c.in_ok-service.ensures.opens (map g.N.Nor.device c.args.boards.now)) (let n = length-map c.args.boards.now g.N.Nor.device in omega (arith, n, c.requires.boards))
 
 pub run-requires-clause-early : goal.run-requires-clause-early
 run-requires-clause-early g c = (c.in_ok-service.ensures.opens (map g.N.Nor.device c.args.boards.now)).moment
