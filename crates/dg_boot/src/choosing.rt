@@ -40,7 +40,7 @@ pub(crate) fn chooses_golden(volume: &Volume) -> bool
 
 /// Whether an order waits to be started: it is not waived, its image is kept whole in its version, program memory is not
 /// set to it, and there is room for its two commits.
-pub fn waits(volume: &Volume) -> bool
+pub fn order_waits(volume: &Volume) -> bool
     ensures { (s : Store) → Tells volume.now s → result ≡ order_waits s }
 {
     let now = volume.snapshot();

@@ -31,7 +31,7 @@ ghost use Rattle.dg_volume.specs.Consistent.{Consistent, IsSoundApp};
 ghost use Rattle.dg_boot.specs.Started.{Starts, Lacks};
 
 use crate::starting::start_mounted;
-pub use choosing::waits;
+pub use choosing::order_waits;
 use dg_nor::Nor;
 pub use dg_volume::StartCause;
 use dg_volume::{Volume, trails_keep_consistency};

@@ -11,7 +11,7 @@ ghost use Rattle.dg_volume.specs.Trails.{committing};
 ghost use Rattle.dg_volume.specs.Acts.{Stops, TouchesBut};
 ghost use Rattle.dg_boot.specs.Ends.{BootOutcome, golden_fits, copied_trail, golden_loaded, ordered_boot, HoldsWhole, CopiedIn};
 
-use crate::choosing::{GOLDEN, chooses_golden, has_three, is_golden, waits};
+use crate::choosing::{GOLDEN, chooses_golden, has_three, is_golden, order_waits};
 use crate::committing::{blank, count_start, finish, set, waive};
 use crate::loaded::Loaded;
 use crate::loading::{load, measure};
@@ -227,7 +227,7 @@ fn start_counted<N: Nor>(nor: &mut N, volume: Volume) -> Result<Started, BootFau
 {
     if chooses_golden(&volume) {
         start_golden(nor, volume, true)
-    } else if waits(&volume) {
+    } else if order_waits(&volume) {
         try_order(nor, volume)
     } else {
         start_kept(nor, volume)

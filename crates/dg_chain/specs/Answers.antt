@@ -15,8 +15,8 @@ use Rattle.dg_chain.specs.declared.sealing.ChainSealing.{ChainSealing}
 use Rattle.dg_chain.specs.declared.sealing.ChainSealing.TheVariants.{Sealed, Foreign, Bad}
 
 -- the slot of an image keeps a version whole
-abbrev pub IsWhole : List ℕ → ℕ → Type 0
-IsWhole c image = (h : Held) × KeepsImage c image h × (length h.complete ≡ h.pages)
+abbrev pub IsKeptWhole : List ℕ → ℕ → Type 0
+IsKeptWhole c image = (h : Held) × KeepsImage c image h × (length h.complete ≡ h.pages)
 
 -- the code's answer is this one, but for a stop
 abbrev pub ChainAnswers : Result ℕ ChainFault → Answer → Type 0

@@ -7,7 +7,7 @@ ghost use Rattle.dg_slot.specs.Pages.{page_in};
 ghost use Rattle.dg_slot.specs.Kept.{Held, KeepsImage};
 ghost use Rattle.dg_chain.specs.Chain.{IsPayload, chain, root_of, most_payload, pages_of_size, no_digest};
 ghost use Rattle.dg_chain.specs.Checking.{answer_of, Collision, data_pages, is_same};
-ghost use Rattle.dg_chain.specs.Answers.{IsWhole, ChainAnswers, Walks, ChainEnds};
+ghost use Rattle.dg_chain.specs.Answers.{IsKeptWhole, ChainAnswers, Walks, ChainEnds};
 
 use crate::pages::{field_of, read_page, told_length};
 use crate::wrapping::pages_of_size;
@@ -46,7 +46,7 @@ impl From<Stopped> for ChainFault {
 // How many data pages a slot has. The slot is whole.
 fn count_of<N: Nor>(nor: &mut N, image: u8) -> Result<u8, Stopped>
     requires known_image { image < slots }
-    requires whole { IsWhole (N.device nor.old).image image }
+    requires whole { IsKeptWhole (N.device nor.old).image image }
     ensures count { IfOk result (λ n. (h : Held) → KeepsImage (N.device nor.old).image image h → n + 1 ≡ length h.complete) }
     ensures some { IfOk result (λ n. 1 ≤ n) }
     ensures few { IfOk result (λ n. n < most_pages) }
@@ -140,7 +140,7 @@ fn check_pages<N: Nor>(
 /// The length of the payload that the data pages of a slot hold, where they are the pages that a root names. The slot is whole.
 pub fn check<N: Nor>(nor: &mut N, image: u8, root: &[u8; DIGEST_SIZE]) -> Result<u32, ChainFault>
     requires known_image { image < slots }
-    requires whole { IsWhole (N.device nor.old).image image }
+    requires whole { IsKeptWhole (N.device nor.old).image image }
     ensures answer { (h : Held) → KeepsImage (N.device nor.old).image image h
         → ChainAnswers result (answer_of root.now (drop 1 h.complete)) }
     // Pages that answer the root of a payload are its pages, or two of one index that differ have one digest.

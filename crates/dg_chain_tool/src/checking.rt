@@ -8,7 +8,7 @@ ghost use Rattle.dg_volume.specs.Store.{Store, held};
 ghost use Rattle.dg_volume.specs.Stands.{Mounted, IsMounted};
 ghost use Rattle.dg_volume.specs.Told.{told_held};
 ghost use Rattle.dg_chain.specs.Checking.{answer_of};
-ghost use Rattle.dg_chain.specs.Answers.{IsWhole};
+ghost use Rattle.dg_chain.specs.Answers.{IsKeptWhole};
 ghost use Rattle.dg_tool.specs.Endings.{StandsAs, FirstAs};
 ghost use Rattle.dg_tool.specs.Done.{verb_rule};
 ghost use Rattle.dg_tool.specs.Stops.{Makes, OnStore, OnBoard, OnBoards, result_status, result_text};
@@ -49,7 +49,7 @@ fn check_whole<N: Nor>(
     root: &[u8; DIGEST_SIZE],
 ) -> Result<Vec<u8>, Stop>
     requires known_image { image < slots }
-    requires whole { IsWhole (N.device nor.old).image image }
+    requires whole { IsKeptWhole (N.device nor.old).image image }
     ensures done { (h : Held) → KeepsImage (N.device nor.old).image image h
         → OnStore (result_status result) (result_text (λ text. text.items) result)
         (answered (answer_of root.now (drop 1 h.complete))) Looked ReadStopped

@@ -2,7 +2,7 @@
 ghost use Rattle.std.specs.Prelude.{◌≡◌, ◌≤◌, ◌++◌, ℕ, List, IfOk, codes, length};
 ghost use Rattle.dg_base.specs.Hexadecimal.{hex_text};
 ghost use Rattle.dg_ihex.specs.Written.{written_file};
-ghost use Rattle.dg_ihex.specs.Sizes.{most_image};
+ghost use Rattle.dg_ihex.specs.Sizes.{longest_image};
 ghost use Rattle.dg_tool.specs.Texts.{line};
 ghost use Rattle.dg_tool.specs.Done.{InputRead};
 ghost use Rattle.dg_tool.specs.Stops.{InputFails, result_status, result_text};
@@ -18,7 +18,7 @@ use std::alloc::{AllocError, Global};
 /// The line of a root, and then the HEX file of the image.
 fn wrapped_report(alloc: Global, wrapped: &Wrapped) -> Result<Vec<u8>, AllocError>
     requires some { 1 ≤ length wrapped.now.image }
-    requires fits { length wrapped.now.image ≤ most_image }
+    requires fits { length wrapped.now.image ≤ longest_image }
     ensures { IfOk result (λ text. text.items ≡ line (codes "root " ++ hex_text wrapped.now.root)
         ++ written_file wrapped.now.image) }
 {

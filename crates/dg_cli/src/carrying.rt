@@ -3,7 +3,7 @@ ghost use Rattle.std.specs.Prelude.{◌≡◌, ◌≤◌, true, map};
 ghost use Rattle.dg_words.specs.Counts.{Rose};
 ghost use Rattle.dg_replay.specs.Around.{around};
 ghost use Rattle.dg_command.specs.Asking.{Asks, said_by, is_well_formed};
-ghost use Rattle.dg_command.specs.Bounds.{IsInRange};
+ghost use Rattle.dg_command.specs.Bounds.{IsInBounds};
 ghost use Rattle.dg_cli.specs.Commands.{SaidDone, ReadsInput, UsesLink};
 ghost use Rattle.dg_cli.specs.Surroundings.{surroundings};
 
@@ -30,7 +30,7 @@ pub(crate) fn carry_out<S: Source, K: Sink, N: Nor, L: Link, C: Clock>(
     link: &mut L,
     clock: &mut C,
 ) -> Status
-    requires ranges { IsInRange (said_by command.now) }
+    requires ranges { IsInBounds (said_by command.now) }
     requires formed { is_well_formed (said_by command.now) ≡ true }
     ensures done { SaidDone (said_by command.now) result
         (surroundings (around (S.left input.old) (S.faults input.old) (K.written out.old) (K.faults out.old)

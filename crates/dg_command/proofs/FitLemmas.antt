@@ -10,7 +10,7 @@ use Rattle.dg_command.specs.Apps.{app_for, app_of_verb, most_number}
 use Rattle.dg_command.specs.Asking.{Said, is_well_formed, named, refused_by, said_at, taken_by}
 use Rattle.std.specs.Prelude.{◌==◌, if◌then◌else◌}
 use Rattle.dg_command.specs.Values.{number_at, form_of}
-use Rattle.dg_command.specs.Bounds.{FitsRanges, IsInRange}
+use Rattle.dg_command.specs.Bounds.{FitsRanges, IsInBounds}
 use Rattle.dg_command.specs.Sizes.{last_slot, most_turns, most_room, least_motes, most_motes, least_pages, most_pages, most_step, most_id, old_form, new_form}
 use Rattle.dg_command.specs.declared.verbs.Verb.{Verb}
 use Rattle.dg_command.specs.declared.verbs.Verb.TheVariants.{Replay, Serve, Format, Inject, Order, Boot, Ping, Dump, Migrate, Trial, Wrap, Check, Receive, Drip, Base}
@@ -23,7 +23,7 @@ form_known n = by_test (n == old_form)
     by_test true = inl refl
     by_test false = inr refl
 
-numbers : (v : Verb) (old : Command) (m : ArgMatches) → app_of old ≡ app_of_verb v → IsParsedFrom old m → IsInRange (said_at v (rows_of (found_of m)))
+numbers : (v : Verb) (old : Command) (m : ArgMatches) → app_of old ≡ app_of_verb v → IsParsedFrom old m → IsInBounds (said_at v (rows_of (found_of m)))
 numbers Replay old m is p = tt
 numbers Serve old m is p = in_range Serve old m 0 1 most_turns 32 (codes "turns") is p (omega arith) (λ d. refl) refl refl (omega arith)
 numbers Format old m is p = ((in_range Format old m 1 0 most_room 32 (codes "used") is p (omega arith) (λ d. refl) refl refl (omega arith)).1, form_known (number_at 8 (codes "form") (rows_of (found_of m))))
@@ -54,7 +54,7 @@ numbers Base old m is p =
     let step = in_range Base old m 1 1 most_step 32 (codes "step") is p (omega arith) (λ d. refl) refl refl (omega arith) in
     ((in_range Base old m 0 0 most_id 16 (codes "id") is p (omega arith) (λ d. refl) refl refl (omega arith)).1, step.0, step.1)
 
-named_fits : (s : Said) → IsInRange s → FitsRanges (named s)
+named_fits : (s : Said) → IsInBounds s → FitsRanges (named s)
 named_fits s h = go (is_well_formed s) refl
   where
     go : (b : Bool) → is_well_formed s ≡ b → FitsRanges (named s)

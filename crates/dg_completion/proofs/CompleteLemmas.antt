@@ -8,14 +8,14 @@ use Rattle.dg_object.specs.Object.{Row, object, profile, page_of_row}
 use Rattle.dg_slot.specs.Kept.{Held}
 use Rattle.dg_volume.specs.Store.{held, held_whole}
 use Rattle.dg_volume.specs.Sizes.{images}
-use Rattle.dg_volume.specs.Table.{row_at, has_version}
+use Rattle.dg_volume.specs.Table.{row_at, has_image_version}
 use Rattle.dg_volume.specs.Agreement.{KeepsRow}
 use Rattle.dg_frame.specs.Sizes.{known_images, narrow_images, wide_images}
 use Rattle.dg_rules.specs.World.{World, is_wide_mote, wide_at, store_at, linked}
 use Rattle.dg_rules.specs.Premises.{WorldAgrees, OneWidth}
 use Rattle.dg_rounds.specs.Rounds.{round, times, rounds_of}
 use Rattle.dg_completion.specs.Rests.{HasRounds}
-use Rattle.dg_completion.specs.Completion.{Follows, Grows, FreeLaw, IsOn, HasRoomAt, RoundLaw, newest, largest, pages_of, page_count, within, IsEnoughFor, IsEnoughOver, PipelineLaw, CompletionLaw}
+use Rattle.dg_completion.specs.Completion.{Follows, Grows, FreeLaw, IsOn, HasRoomAt, RoundLaw, newest, largest, pages_kept, page_count, within, IsEnoughFor, IsEnoughOver, PipelineLaw, CompletionLaw}
 use Rattle.dg_base.specs.declared.events.Event.{Event}
 use Rattle.dg_completion.proofs.GrowLemmas.{grows_none, grows_then, free_grows, rounds_free, all_map}
 use Rattle.dg_completion.proofs.RestLemmas.{times_add}
@@ -51,9 +51,9 @@ any_more f g (l ∷ ls) into e = elim (or_cases (f l) (list_any f ls) e) [
 within_grows : (w u : World) (row : Row) → newest w.table row.image ≡ Some row → Grows w u → (h m : ℕ) → within w row h m ≡ true → within u row h m ≡ true
 unfolding within
 within_grows w u row is g zero m e =
-    let parts = and_parts (leb (page_count row) (pages_of (store_at w m) row)) (ltb m (length w.sites)) e in
-    and_from (leb (page_count row) (pages_of (store_at u m) row)) (ltb m (length u.sites))
-    (le-leb (page_count row) (pages_of (store_at u m) row) (omega (arith, leb-true (page_count row) (pages_of (store_at w m) row) parts.0, g.pages m row is)))
+    let parts = and_parts (leb (page_count row) (pages_kept (store_at w m) row)) (ltb m (length w.sites)) e in
+    and_from (leb (page_count row) (pages_kept (store_at u m) row)) (ltb m (length u.sites))
+    (le-leb (page_count row) (pages_kept (store_at u m) row) (omega (arith, leb-true (page_count row) (pages_kept (store_at w m) row) parts.0, g.pages m row is)))
     (lt-ltb m (length u.sites) (omega (arith, ltb-true m (length w.sites) parts.1, g.count)))
 within_grows w u row is g (suc h) m e =
     let f : World → (ℕ × ℕ) → Bool = λ x l. (eqb l.1 m && within x row h l.0) || (eqb l.0 m && within x row h l.1) in
@@ -67,9 +67,9 @@ within_grows w u row is g (suc h) m e =
           ]) next))
     ]
 
-within_whole : (w : World) (row : Row) (m : ℕ) → within w row 0 m ≡ true → leb (page_count row) (pages_of (store_at w m) row) ≡ true
+within_whole : (w : World) (row : Row) (m : ℕ) → within w row 0 m ≡ true → leb (page_count row) (pages_kept (store_at w m) row) ≡ true
 unfolding within
-within_whole w row m e = (and_parts (leb (page_count row) (pages_of (store_at w m) row)) (ltb m (length w.sites)) e).0
+within_whole w row m e = (and_parts (leb (page_count row) (pages_kept (store_at w m) row)) (ltb m (length w.sites)) e).0
 
 -- ---- image after image
 
@@ -107,12 +107,12 @@ found_passes P [] i n row all is = absurd (no_row is)
   where
     no_row : None ≡ Some row → ⊥
     no_row e = cc
-found_passes P (x ∷ xs) i n row all is = elim (cases_Bool (has_version i n x)) [
+found_passes P (x ∷ xs) i n row all is = elim (cases_Bool (has_image_version i n x)) [
   | inl here ↦
-      let some : Some x ≡ Some row = sym (ap (λ b. cond b (Some x) (find (has_version i n) xs)) here) ∙ is in
+      let some : Some x ≡ Some row = sym (ap (λ b. cond b (Some x) (find (has_image_version i n) xs)) here) ∙ is in
       let same : x ≡ row = cc in
       subst P same all.0
-  | inr other ↦ found_passes P xs i n row all.1 (sym (ap (λ b. cond b (Some x) (find (has_version i n) xs)) other) ∙ is)
+  | inr other ↦ found_passes P xs i n row all.1 (sym (ap (λ b. cond b (Some x) (find (has_image_version i n) xs)) other) ∙ is)
 ]
 
 record HasWidth (w : World) : Type 0 where
@@ -146,7 +146,7 @@ module _ (free : FreeLaw) (law : RoundLaw) (wide : Bool) (links : List (ℕ × �
       record { from = b.from; to = b.to; all = all_on wide w v g b.all; newest_is = ap (λ t. newest t row.image) g.table ∙ b.newest_is; whole = done_on row.image w v g b.whole }
 
   raise_for : (row : Row) (w v : World) (a b : ℕ) → WorldAgrees w → Below wide row w → linked w a b ≡ true → IsOn w a → IsOn w b → Follows w (round a b) v
-      → HasRoomAt v a → HasRoomAt v b → min (pages_of (store_at w a) row) (pages_of (store_at w b) row + 1) ≤ pages_of (store_at v b) row
+      → HasRoomAt v a → HasRoomAt v b → min (pages_kept (store_at w a) row) (pages_kept (store_at w b) row + 1) ≤ pages_kept (store_at v b) row
   raise_for row = raises free law wide row
 
   link_all : (row : Row) → AllByRecursion (IsLink free row (Below wide row) (below_on row) (raise_for row) links) (rounds_of links)
@@ -193,7 +193,7 @@ module _ (free : FreeLaw) (law : RoundLaw) (wide : Bool) (links : List (ℕ × �
       let below : Below wide row w = record { from = omega (arith, image); to = omega (arith, image, to row refl); all = r.all; newest_is = newest_w; whole = subst (λ k. DoneTo k w) (sym image) d } in
       let rested : Rested free row (Below wide row) (below_on row) (raise_for row) links w = record { good = r.good; fits = below; newest_is = newest_w; links_are = r.links_are; on = r.on } in
       let start : Level free row (Below wide row) (below_on row) (raise_for row) links w r.links_are 0 w = record {
-        whole = λ m e. leb-true (page_count row) (pages_of (store_at w m) row) (within_whole w row m e);
+        whole = λ m e. leb-true (page_count row) (pages_kept (store_at w m) row) (within_whole w row m e);
         far = λ m j one e. omega arith;
       } in
       let p = pipeline_on free row (Below wide row) (below_on row) (raise_for row) links w r.links_are n 0 qs w v es (link_all row) rested h f room start in
@@ -212,7 +212,7 @@ module _ (free : FreeLaw) (law : RoundLaw) (wide : Bool) (links : List (ℕ × �
               let q_is : row ≡ q = cc in
               let there0 : m < length w0.sites = subst (λ k. m < k) (p.4.count ∙ g.count) there in
               let near = within_grows w0 w row newest_0 g enough.0 m (enough.1.all m there0) in
-              let ends : page_count row ≤ pages_of (store_at u m) row = omega (arith, p.5.far m enough.0 enough.1.some near, enough.2, enough.1.some) in
+              let ends : page_count row ≤ pages_kept (store_at u m) row = omega (arith, p.5.far m enough.0 enough.1.some near, enough.2, enough.1.some) in
               subst (λ k. page_count q ≤ count (held (store_at u m) k) q.version) (image ∙ sym e) (subst (λ (x : Row). page_count x ≤ count (held (store_at u m) row.image) x.version) q_is ends)
         ];
       }
@@ -288,7 +288,7 @@ fills free law w v t es i row rests done low high is m j there one near =
     } in
     let rested : Rested free row (Below wide row) (below_on free law wide w.links row) (raise_for free law wide w.links row) w.links w = record { good = rests.good; fits = below; newest_is = newest_w; links_are = refl; on = rests.on } in
     let start : Level free row (Below wide row) (below_on free law wide w.links row) (raise_for free law wide w.links row) w.links w refl 0 w = record {
-      whole = λ n e. leb-true (page_count row) (pages_of (store_at w n) row) (within_whole w row n e);
+      whole = λ n e. leb-true (page_count row) (pages_kept (store_at w n) row) (within_whole w row n e);
       far = λ n k one e. omega arith;
     } in
     let g = free_grows free es w v rests.good (rounds_free (times t (rounds_of w.links)) es rests.rest) rests.run in

@@ -34,7 +34,7 @@ use Rattle.dg_script.specs.declared.report.Cause.{Cause}
 use Rattle.dg_script.specs.declared.report.Cause.TheVariants as cause
 use Rattle.dg_script.specs.declared.report.Report.{Report}
 use Rattle.dg_completion.specs.Rests.{IsFree}
-use Rattle.dg_completion.specs.Completion.{Grows, FreeLaw, IsOn, newest, pages_of}
+use Rattle.dg_completion.specs.Completion.{Grows, FreeLaw, IsOn, newest, pages_kept}
 use Rattle.dg_completion.proofs.StoreLemmas.{Stays, stays_clear, stays_start, stays_heard, StartLaws, ChangeLaws}
 use Rattle.dg_completion.proofs.GrowLemmas.{link_ends}
 
@@ -213,10 +213,10 @@ module _ (laws : Laws) (w : World) (good : WorldAgrees w) where
         | inr n ↦ omega (arith, ap (λ (s : Site). s.store.room) (other j n))
       ]
 
-      pages : (j : ℕ) (row : Row) → newest w.table row.image ≡ Some row → pages_of (store_at w j) row ≤ pages_of (store_at v j) row
+      pages : (j : ℕ) (row : Row) → newest w.table row.image ≡ Some row → pages_kept (store_at w j) row ≤ pages_kept (store_at v j) row
       pages j row n = elim (cases_eq j m) [
-        | inl e ↦ omega (arith, stays.pages row n, ap (λ k. pages_of (store_at v k) row) e, ap (λ (s : Site). pages_of s.store row) here, ap (λ k. pages_of (store_at w k) row) e)
-        | inr k ↦ omega (arith, ap (λ (s : Site). pages_of s.store row) (other j k))
+        | inl e ↦ omega (arith, stays.pages row n, ap (λ k. pages_kept (store_at v k) row) e, ap (λ (s : Site). pages_kept s.store row) here, ap (λ k. pages_kept (store_at w k) row) e)
+        | inr k ↦ omega (arith, ap (λ (s : Site). pages_kept s.store row) (other j k))
       ]
 
   module _ (v : World) (e : Event) (reports : List Report) (free : IsFree e) where

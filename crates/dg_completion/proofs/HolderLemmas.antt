@@ -9,7 +9,7 @@ use Rattle.dg_frame.specs.Sizes.{wide_images}
 use Rattle.dg_mote.specs.Sizes.{shared}
 use Rattle.dg_rounds.specs.Ways.{IsLinked, Way, here, more}
 use Rattle.dg_rules.specs.World.{World, store_at}
-use Rattle.dg_completion.specs.Completion.{newest, page_count, pages_of, within, IsHops, IsEnoughFor, IsEnoughOver}
+use Rattle.dg_completion.specs.Completion.{newest, page_count, pages_kept, within, IsHops, IsEnoughFor, IsEnoughOver}
 use Rattle.dg_completion.specs.Holders.{KeepsWhole, HolderWithin, WithinLaw, ReachesAll, AllReached, EnoughLaw, OneEnoughLaw}
 
 -- ---- links that pass a test
@@ -48,10 +48,10 @@ module _ (w : World) (row : Row) where
   within_way : (h m : ℕ) → within w row h m ≡ true → HolderWithin w row h m
   unfolding within
   within_way zero m e =
-      let parts = and_parts (leb (page_count row) (pages_of (store_at w m) row)) (ltb m (length w.sites)) e in
+      let parts = and_parts (leb (page_count row) (pages_kept (store_at w m) row)) (ltb m (length w.sites)) e in
       record {
         holder = m;
-        keeps = record { there = ltb-true m (length w.sites) parts.1; pages = leb-true (page_count row) (pages_of (store_at w m) row) parts.0 };
+        keeps = record { there = ltb-true m (length w.sites) parts.1; pages = leb-true (page_count row) (pages_kept (store_at w m) row) parts.0 };
         links = 0;
         few = omega arith;
         way = here;
@@ -82,8 +82,8 @@ module _ (w : World) (row : Row) where
   way_within : (holder : ℕ) → KeepsWhole w row holder → (h m : ℕ) → Way w.links holder h m → within w row h m ≡ true
   unfolding within
   way_within holder keeps _ _ here =
-      and_from (leb (page_count row) (pages_of (store_at w holder) row)) (ltb holder (length w.sites))
-      (le-leb (page_count row) (pages_of (store_at w holder) row) keeps.pages) (lt-ltb holder (length w.sites) keeps.there)
+      and_from (leb (page_count row) (pages_kept (store_at w holder) row)) (ltb holder (length w.sites))
+      (le-leb (page_count row) (pages_kept (store_at w holder) row) keeps.pages) (lt-ltb holder (length w.sites) keeps.there)
   way_within holder keeps _ _ (more n mid to way link) =
       or_right (within w row n to) (list_any (leads n to) w.links) (link_leads n mid to (way_within holder keeps n mid way) link)
 

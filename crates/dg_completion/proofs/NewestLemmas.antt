@@ -6,7 +6,7 @@ use Rattle.dg_object.specs.Object.{Row}
 use Rattle.dg_slot.specs.Kept.{Held}
 use Rattle.dg_volume.specs.Changes.{is_version}
 use Rattle.dg_volume.specs.Trails.{done_of}
-use Rattle.dg_volume.specs.Table.{row_at, has_version}
+use Rattle.dg_volume.specs.Table.{row_at, has_image_version}
 use Rattle.dg_completion.specs.Completion.{newest, largest}
 
 -- a row is the newest of its image, and no row of that image has a larger version than it
@@ -21,18 +21,18 @@ found_version [] i n r e = absurd (no_row r e)
   where
     no_row : (r : Row) → None ≡ Some r → ⊥
     no_row r e = cc
-found_version (x ∷ xs) i n r e = by_version (cases_Bool (has_version i n x)) (found_version xs i n r)
+found_version (x ∷ xs) i n r e = by_version (cases_Bool (has_image_version i n x)) (found_version xs i n r)
   where
-    by_version : (has_version i n x ≡ true) ⊎ (has_version i n x ≡ false) → (row_at xs i n ≡ Some r → (r.image ≡ i) × (r.version ≡ n)) → (r.image ≡ i) × (r.version ≡ n)
+    by_version : (has_image_version i n x ≡ true) ⊎ (has_image_version i n x ≡ false) → (row_at xs i n ≡ Some r → (r.image ≡ i) × (r.version ≡ n)) → (r.image ≡ i) × (r.version ≡ n)
     by_version (inl k) rest =
         let parts = and_parts (eqb x.image i) (eqb x.version n) k in
-        let some : Some x ≡ Some r = sym (ap (λ b. cond b (Some x) (find (has_version i n) xs)) k) ∙ e in
+        let some : Some x ≡ Some r = sym (ap (λ b. cond b (Some x) (find (has_image_version i n) xs)) k) ∙ e in
         let same : x ≡ r = cc in
         subst (λ (y : Row). (y.image ≡ i) × (y.version ≡ n)) same (eqb-true x.image i parts.0, eqb-true x.version n parts.1)
-    by_version (inr k) rest = rest (sym (ap (λ b. cond b (Some x) (find (has_version i n) xs)) k) ∙ e)
+    by_version (inr k) rest = rest (sym (ap (λ b. cond b (Some x) (find (has_image_version i n) xs)) k) ∙ e)
 
-skip : (x : Row) (xs : List Row) (i n : ℕ) → has_version i n x ≡ false → row_at (x ∷ xs) i n ≡ row_at xs i n
-skip x xs i n k = ap (λ b. cond b (Some x) (find (has_version i n) xs)) k
+skip : (x : Row) (xs : List Row) (i n : ℕ) → has_image_version i n x ≡ false → row_at (x ∷ xs) i n ≡ row_at xs i n
+skip x xs i n k = ap (λ b. cond b (Some x) (find (has_image_version i n) xs)) k
 
 -- a row of that image version, or nothing was said
 abbrev Attained : List Row → ℕ → ℕ → Type 0
@@ -40,8 +40,8 @@ Attained rows i n = (n ≡ 0) ⊎ ((r : Row) × (row_at rows i n ≡ Some r))
 
 attained_more : (x : Row) (xs : List Row) (i n : ℕ) → Attained xs i n → Attained (x ∷ xs) i n
 attained_more x xs i n (inl e) = inl e
-attained_more x xs i n (inr h) = elim (cases_Bool (has_version i n x)) [
-  | inl k ↦ inr (x, ap (λ b. cond b (Some x) (find (has_version i n) xs)) k)
+attained_more x xs i n (inr h) = elim (cases_Bool (has_image_version i n x)) [
+  | inl k ↦ inr (x, ap (λ b. cond b (Some x) (find (has_image_version i n) xs)) k)
   | inr k ↦ inr (h.0, skip x xs i n k ∙ h.1)
 ]
 
@@ -57,7 +57,7 @@ attained (x ∷ xs) i = by_image (cases_Bool (eqb x.image i)) (attained xs i)
         (elim (cases_lt x.version (largest xs i)) [
           | inl less ↦ let e : max x.version (largest xs i) ≡ largest xs i = omega arith in subst (Attained (x ∷ xs) i) (sym e) (attained_more x xs i (largest xs i) rest)
           | inr more ↦ let e : max x.version (largest xs i) ≡ x.version = omega arith in
-              subst (Attained (x ∷ xs) i) (sym e) (inr (x, ap (λ b. cond b (Some x) (find (has_version i x.version) xs)) (λ j. k j && eq-eqb x.version x.version refl j)))
+              subst (Attained (x ∷ xs) i) (sym e) (inr (x, ap (λ b. cond b (Some x) (find (has_image_version i x.version) xs)) (λ j. k j && eq-eqb x.version x.version refl j)))
         ])
 
 largest_bound : (rows : List Row) (i n : ℕ) (r : Row) → row_at rows i n ≡ Some r → n ≤ largest rows i
@@ -66,12 +66,12 @@ largest_bound [] i n r e = absurd (no_row r e)
   where
     no_row : (r : Row) → None ≡ Some r → ⊥
     no_row r e = cc
-largest_bound (x ∷ xs) i n r e = by_version (cases_Bool (has_version i n x)) (largest_bound xs i n r)
+largest_bound (x ∷ xs) i n r e = by_version (cases_Bool (has_image_version i n x)) (largest_bound xs i n r)
   where
     more : largest xs i ≤ cond (eqb x.image i) (max x.version (largest xs i)) (largest xs i)
     more = cond_both (eqb x.image i) (max x.version (largest xs i)) (largest xs i) (λ m. largest xs i ≤ m) (λ _. omega arith) (λ _. omega arith)
 
-    by_version : (has_version i n x ≡ true) ⊎ (has_version i n x ≡ false) → (row_at xs i n ≡ Some r → n ≤ largest xs i) → n ≤ cond (eqb x.image i) (max x.version (largest xs i)) (largest xs i)
+    by_version : (has_image_version i n x ≡ true) ⊎ (has_image_version i n x ≡ false) → (row_at xs i n ≡ Some r → n ≤ largest xs i) → n ≤ cond (eqb x.image i) (max x.version (largest xs i)) (largest xs i)
     by_version (inr k) rest = omega (arith, rest (sym (skip x xs i n k) ∙ e), more)
     by_version (inl k) rest =
         let parts = and_parts (eqb x.image i) (eqb x.version n) k in

@@ -8,7 +8,7 @@ use Rattle.dg_rules.specs.Premises.{WorldAgrees}
 use Rattle.dg_rounds.specs.Rounds.{round, times, rounds_of}
 use Rattle.dg_base.specs.declared.events.Event.{Event}
 use Rattle.dg_completion.specs.Rests.{HasRounds}
-use Rattle.dg_completion.specs.Completion.{Follows, Grows, FreeLaw, IsOn, HasRoomAt, newest, pages_of, page_count, within}
+use Rattle.dg_completion.specs.Completion.{Follows, Grows, FreeLaw, IsOn, HasRoomAt, newest, pages_kept, page_count, within}
 use Rattle.dg_completion.proofs.GrowLemmas.{grows_none, grows_then, free_grows, follows_split, round_free, rounds_free, all_map, link_ends}
 
 module _ (free : FreeLaw) where
@@ -16,10 +16,10 @@ module _ (free : FreeLaw) where
 
   module _ (row : Row) (Fits : World → Type 0) (fits_on : (w v : World) → Grows w v → Fits w → Fits v)
       (raise : (w v : World) (a b : ℕ) → WorldAgrees w → Fits w → linked w a b ≡ true → IsOn w a → IsOn w b → Follows w (round a b) v
-      → HasRoomAt v a → HasRoomAt v b → min (pages_of (store_at w a) row) (pages_of (store_at w b) row + 1) ≤ pages_of (store_at v b) row)
+      → HasRoomAt v a → HasRoomAt v b → min (pages_kept (store_at w a) row) (pages_kept (store_at w b) row + 1) ≤ pages_kept (store_at v b) row)
       (links : List (ℕ × ℕ)) where
     abbrev p : World → ℕ → ℕ
-    p w m = pages_of (store_at w m) row
+    p w m = pages_kept (store_at w m) row
 
     -- a world of the rest: all are on, and the row is the newest
     pub record Rested (w : World) : Type 0 where

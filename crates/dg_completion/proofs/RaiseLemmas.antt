@@ -13,7 +13,7 @@ use Rattle.dg_frame.specs.Sizes.{known_images}
 use Rattle.dg_rules.specs.World.{World, wide_at, store_at, linked}
 use Rattle.dg_rules.specs.Premises.{WorldAgrees}
 use Rattle.dg_rounds.specs.Rounds.{round}
-use Rattle.dg_completion.specs.Completion.{Follows, FreeLaw, IsOn, HasRoomAt, is_ahead, least_ahead, RoundLaw, RaisedFrom, newest, pages_of, page_count}
+use Rattle.dg_completion.specs.Completion.{Follows, FreeLaw, IsOn, HasRoomAt, is_ahead, least_ahead, RoundLaw, RaisedFrom, newest, pages_kept, page_count}
 use Rattle.dg_completion.proofs.NewestLemmas.{has_newest, newest_in, count}
 use Rattle.dg_completion.proofs.GrowLemmas.{free_grows, round_free, link_ends}
 
@@ -131,8 +131,8 @@ no_newest : (r : Row) → None ≡ Some r → ⊥
 no_newest r e = cc
 
 pub raises : (free : FreeLaw) (law : RoundLaw) (wide : Bool) (row : Row) (w v : World) (a b : ℕ) → WorldAgrees w → Below wide row w → linked w a b ≡ true → IsOn w a → IsOn w b → Follows w (round a b) v
-    → HasRoomAt v a → HasRoomAt v b → min (pages_of (store_at w a) row) (pages_of (store_at w b) row + 1) ≤ pages_of (store_at v b) row
-raises free law wide row w v a b good below link on_a on_b run room_a room_b = elim (cases_lt (pages_of (store_at w b) row) (pages_of (store_at w a) row)) [
+    → HasRoomAt v a → HasRoomAt v b → min (pages_kept (store_at w a) row) (pages_kept (store_at w b) row + 1) ≤ pages_kept (store_at v b) row
+raises free law wide row w v a b good below link on_a on_b run room_a room_b = elim (cases_lt (pages_kept (store_at w b) row) (pages_kept (store_at w a) row)) [
   | inr enough ↦ omega (arith, enough, (free_grows free (round a b) w v good (round_free a b) run).pages b row below.newest_is)
   | inl more ↦
       let i = row.image in

@@ -22,7 +22,7 @@ use Rattle.dg_frame.specs.declared.Entry.{Entry}
 use Rattle.dg_frame.specs.declared.FrameFault.{FrameFault}
 use Rattle.dg_frame.specs.declared.Message.{Message}
 use Rattle.dg_frame.specs.declared.Message.TheVariants as message
-use Rattle.dg_mote.specs.Model.{MoteState, Mode, Maintain, Receive, Transmit, Turn}
+use Rattle.dg_mote.specs.Model.{MoteState, Mode, Maintain, Receive, Transmit, MoteStep}
 use Rattle.dg_mote.specs.Summary.{entry_for, advert_by, is_own, ahead_in}
 use Rattle.dg_mote.specs.Adverts.{outline, better_trail, ask_trail, asks, asking, noting, by_ahead, advert_heard, dropped, on_advert, offer}
 use Rattle.dg_mote.specs.Hears.{by_message, heard_of}
@@ -127,7 +127,7 @@ module _ (laws : TakeLaws) (entries : List Entry) where
   ahead_rests : (o : Option ℕ) (m : MoteState) (timer : Timer) (u : Store) (now draw source : ℕ) (own : Bool) → Rest u (by_ahead o m u now draw (offer source entries) (noting m timer u now draw own)).trail
   ahead_rests None m timer u now draw source own = noting_rests own m timer u now draw
   ahead_rests (Some i) m timer u now draw source own =
-      cond_both (asks m u now i (entry_for entries i)) (asking m u now draw source i (entry_for entries i)) (noting m timer u now draw own) (λ (step : Turn Heard). Rest u step.trail)
+      cond_both (asks m u now i (entry_for entries i)) (asking m u now draw source i (entry_for entries i)) (noting m timer u now draw own) (λ (step : MoteStep Heard). Rest u step.trail)
       (λ _. ask_rests u i) (λ _. noting_rests own m timer u now draw)
 
   advert_spends : (m : MoteState) (timer : Timer) (s : Store) (now draw source : ℕ) (order : Order) → Spends 3 s (last (advert_heard m timer s now draw (offer source entries) order).trail)
@@ -151,7 +151,7 @@ module _ (laws : TakeLaws) (entries : List Entry) where
   heard_advert_spends : (m : MoteState) (s : Store) (now draw source : ℕ) (order : Order)
       → Spends 3 s (last (cond (eqb source m.id) (dropped m s) (on_advert m.mode m s now draw (offer source entries) order)).trail)
   heard_advert_spends m s now draw source order =
-      cond_both (eqb source m.id) (dropped m s) (on_advert m.mode m s now draw (offer source entries) order) (λ (step : Turn Heard). Spends 3 s (last step.trail))
+      cond_both (eqb source m.id) (dropped m s) (on_advert m.mode m s now draw (offer source entries) order) (λ (step : MoteStep Heard). Spends 3 s (last step.trail))
       (λ _. dropped_spends s) (λ _. on_advert_spends m.mode m s now draw source order)
 
   advert_by_spends : (wide : Bool) (m : MoteState) (s : Store) (now draw source : ℕ) (order : Order) → Spends 3 s (last (by_message (Ok (advert_by wide source entries order)) m s now draw).trail)

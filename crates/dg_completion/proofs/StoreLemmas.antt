@@ -35,13 +35,13 @@ use Rattle.dg_mote.specs.Hears.{by_message, heard_of}
 use Rattle.dg_mote.specs.Agreement.{HonestEntry, HonestMessage, IsHonest}
 use Rattle.dg_mote.specs.Changes.{MayClear, IsBehind, TakesAdvert, Completes}
 use Rattle.dg_rules.proofs.BootLemmas.{waits_whole}
-use Rattle.dg_completion.specs.Completion.{newest, pages_of}
+use Rattle.dg_completion.specs.Completion.{newest, pages_kept}
 use Rattle.dg_completion.proofs.NewestLemmas.{has_newest, count}
 
 -- room does not grow, and no page of a newest version is lost
 pub record Stays (table : List Row) (s t : Store) : Type 0 where
   pub room : t.room ≤ s.room
-  pub pages : (row : Row) → newest table row.image ≡ Some row → pages_of s row ≤ pages_of t row
+  pub pages : (row : Row) → newest table row.image ≡ Some row → pages_kept s row ≤ pages_kept t row
 
 pub stays_same : (table : List Row) (s : Store) → Stays table s s
 stays_same table s = record { room = omega arith; pages = λ row n. omega arith }

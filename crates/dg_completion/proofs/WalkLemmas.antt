@@ -6,7 +6,7 @@ use Rattle.dg_nor.specs.Trail.{Trail, last}
 use Rattle.dg_object.specs.Object.{Row}
 use Rattle.dg_frame.specs.declared.Message.{Message}
 use Rattle.dg_frame.specs.Spelling.{frame_of}
-use Rattle.dg_mote.specs.Model.{MoteState, Turn}
+use Rattle.dg_mote.specs.Model.{MoteState, MoteStep}
 use Rattle.dg_mote.specs.Ticks.{tick_of}
 use Rattle.dg_mote.specs.Well.{IsWell}
 use Rattle.dg_mote.specs.Speaking.{Speaks, IsSaid}
@@ -157,7 +157,7 @@ boot_silent : (o : Option Runs) (t : Trail Store) (id : ℕ) (wide : Bool) (now 
 boot_silent None t id wide now draw P = tt
 boot_silent (Some r) t id wide now draw P = tt
 
-effect_said : (wide : Bool) (a : Did) (step : Turn Did) (now draw : ℕ) → IfSome step.sent (Spelled wide) → IfSome (tick_by a step now draw).sent (Spelled wide)
+effect_said : (wide : Bool) (a : Did) (step : MoteStep Did) (now draw : ℕ) → IfSome step.sent (Spelled wide) → IfSome (tick_by a step now draw).sent (Spelled wide)
 effect_said wide did.Sent step now draw i = i
 effect_said wide did.Idle step now draw i = i
 effect_said wide did.Restart step now draw i =

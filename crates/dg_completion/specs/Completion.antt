@@ -47,8 +47,8 @@ abbrev pub page_count : Row → ℕ
 page_count row = pages_for (length row.bytes)
 
 -- the pages of the row that a chip holds
-abbrev pub pages_of : Store → Row → ℕ
-pages_of s row = if is_version (held s row.image) row.version then done_of (held s row.image) else 0
+abbrev pub pages_kept : Store → Row → ℕ
+pages_kept s row = if is_version (held s row.image) row.version then done_of (held s row.image) else 0
 
 -- ---- free events
 
@@ -63,7 +63,7 @@ pub record Grows (w v : World) : Type 0 where
   pub on : (m : ℕ) → IsOn w m → IsOn v m
   pub room : (m : ℕ) → (store_at v m).room ≤ (store_at w m).room
   pub pages : (m : ℕ) (row : Row) → newest w.table row.image ≡ Some row
-      → pages_of (store_at w m) row ≤ pages_of (store_at v m) row
+      → pages_kept (store_at w m) row ≤ pages_kept (store_at v m) row
 
 -- So it is after each tick and each heard frame, at any moment and with any draw, refused ones too.
 abbrev pub FreeLaw : Type 0
@@ -116,7 +116,7 @@ RoundLaw = (w v : World) (a b i : ℕ) → WorldAgrees w → linked w a b ≡ tr
 
 -- mote m is within h links of one that keeps the row whole
 unfoldable pub within : World → Row → ℕ → ℕ → Bool
-within w row zero m = nat_le (page_count row) (pages_of (store_at w m) row) && nat_lt m (length w.sites)
+within w row zero m = nat_le (page_count row) (pages_kept (store_at w m) row) && nat_lt m (length w.sites)
 within w row (suc h) m =
     within w row h m || list_any (λ l. ((l.1 == m) && within w row h l.0) || ((l.0 == m) && within w row h l.1)) w.links
 
@@ -156,7 +156,7 @@ pub record Rests (w : World) (n : ℕ) (es : List Event) (v : World) : Type 0 wh
 -- the newest row of every smaller image is whole at every mote
 abbrev pub DoneBelow : World → ℕ → Type 0
 DoneBelow w i = (j : ℕ) (row : Row) (m : ℕ) → 1 ≤ j → j < i → newest w.table j ≡ Some row → m < length w.sites
-    → pages_of (store_at w m) row ≡ page_count row
+    → pages_kept (store_at w m) row ≡ page_count row
 
 -- Pages go along the links, as in a pipeline: after t sweeps a mote within j links of a whole image has t + 1 - j pages
 -- of it, or all.
@@ -164,7 +164,7 @@ abbrev pub PipelineLaw : Type 0
 PipelineLaw = (w v : World) (t : ℕ) (es : List Event) (i : ℕ) (row : Row) → Rests w t es v → DoneBelow w i → 1 ≤ i
     → i < images → newest w.table i ≡ Some row
     → (m j : ℕ) → m < length w.sites → 1 ≤ j → within w row j m ≡ true
-    → min (page_count row) (t + 1 - j) ≤ pages_of (store_at v m) row
+    → min (page_count row) (t + 1 - j) ≤ pages_kept (store_at v m) row
 
 -- After enough sweeps every mote keeps the newest version of each image whole.
 abbrev pub CompletionLaw : Type 0

@@ -11,7 +11,7 @@ use Rattle.dg_rules.specs.Runs.{Played, Plays}
 use Rattle.dg_rules.specs.Premises.{OneWidth}
 use Rattle.dg_rules.specs.Begins.{PlaysFrom}
 use Rattle.dg_completion.specs.Rests.{IsFree, IsRest}
-use Rattle.dg_completion.specs.Completion.{Follows, IsOn, HasRoomAt, newest, page_count, pages_of, within, DoneBelow, IsEnough}
+use Rattle.dg_completion.specs.Completion.{Follows, IsOn, HasRoomAt, newest, page_count, pages_kept, within, DoneBelow, IsEnough}
 
 -- the event of an item: a declaration is none
 abbrev pub event_in : Item → List Event
@@ -67,7 +67,7 @@ EndsLaw = (u : World) (played : List Played) (w v : World) (n k : ℕ) → Plays
 abbrev pub PagesCome : (w : World) (t : ℕ) (v : World) → Type 0
 PagesCome w t v = (i : ℕ) (row : Row) → DoneBelow w i → 1 ≤ i → i < images → newest w.table i ≡ Some row
     → (m j : ℕ) → m < length w.sites → 1 ≤ j → within w row j m ≡ true
-    → min (page_count row) (t + 1 - j) ≤ pages_of (store_at v m) row
+    → min (page_count row) (t + 1 - j) ≤ pages_kept (store_at v m) row
 
 -- So it is behind a rest, also of fewer sweeps than enough.
 abbrev pub EndsPipelineLaw : Type 0

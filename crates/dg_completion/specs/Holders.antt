@@ -4,12 +4,12 @@ use Rattle.dg_object.specs.Object.{Row}
 use Rattle.dg_volume.specs.Sizes.{images}
 use Rattle.dg_rounds.specs.Ways.{Way}
 use Rattle.dg_rules.specs.World.{World, store_at}
-use Rattle.dg_completion.specs.Completion.{newest, page_count, pages_of, within, IsEnough}
+use Rattle.dg_completion.specs.Completion.{newest, page_count, pages_kept, within, IsEnough}
 
 -- a mote keeps all pages of a row
 pub record KeepsWhole (w : World) (row : Row) (m : ℕ) : Type 0 where
   pub there : m < length w.sites
-  pub pages : page_count row ≤ pages_of (store_at w m) row
+  pub pages : page_count row ≤ pages_kept (store_at w m) row
 
 -- a way of no more than h links leads to a mote from one that keeps the row whole
 pub record HolderWithin (w : World) (row : Row) (h m : ℕ) : Type 0 where

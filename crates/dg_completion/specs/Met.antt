@@ -64,7 +64,7 @@ pub record MayGoOn (motes : ℕ) (w : World) (n : ℕ) (es : List Event) : Type 
   pub room : (m : ℕ) → m < length w.sites → spare_room + sum_by (commits_at m) es ≤ (store_at w m).room
 
 -- What was played before goes on with these events, and so ends with a rest of n sweeps that begins in world w.
-pub record GoesOn (u : World) (before : List Played) (w : World) (n : ℕ) (es : List Event) (reported : Bool) : Type 0 where
+pub record GoesOnInRest (u : World) (before : List Played) (w : World) (n : ℕ) (es : List Event) (reported : Bool) : Type 0 where
   pub rest : List Played
   pub items : map (λ p. p.item) rest ≡ map (applying reported) es
   pub v : World
@@ -74,4 +74,4 @@ pub record GoesOn (u : World) (before : List Played) (w : World) (n : ℕ) (es :
 -- Whatever was played from a world that agrees with its table, with true events, goes on so.
 abbrev pub GoesOnLaw : Type 0
 GoesOnLaw = (u : World) (before : List Played) (w : World) (n : ℕ) (es : List Event) (reported : Bool) → PlaysFrom u before w
-    → MayGoOn (length u.sites) w n es → GoesOn u before w n es reported
+    → MayGoOn (length u.sites) w n es → GoesOnInRest u before w n es reported

@@ -9,7 +9,7 @@ use Rattle.dg_drip_script.specs.Reports.{reported_text}
 use Rattle.dg_drip_script.specs.Scripts.{DripItem, DripScript, with_items, network_of, events_of, report_of}
 use Rattle.dg_drip_script.specs.Sizes.{most_events}
 use Rattle.std.specs.Prelude.{Result, Ok, Err, OnOk, OnErr}
-use Rattle.dg_drip_run.specs.Playing.{Plays, Filled, IsPlaying, GoesOn, DripItemsPlayed}
+use Rattle.dg_drip_run.specs.Playing.{Plays, Filled, IsPlaying, StaysPlaying, DripItemsPlayed}
 use Rattle.dg_drip_run.specs.declared.player.PlayStop.{PlayStop}
 use Rattle.dg_drip_run.specs.declared.player.PlayStop.TheVariants.{TooMany, Memory}
 use Rattle.dg_drip_run.specs.declared.player.Player.{Player}
@@ -82,7 +82,7 @@ apply_ran (Err TooMany) p q e reported told text stop fits short on few does pas
 apply_ran (Err Memory) p q e reported told text stop fits short on few does passes standing events = tt
 
 -- behind events that were all played a player can play on
-pub goes_on : (r : Result (Unit {0}) PlayStop) (p q : Player) (items : List DripItem) → IsPlaying p → q.standing ≡ p.standing → DripItemsPlayed r p q items → OnOk r (GoesOn p q)
+pub goes_on : (r : Result (Unit {0}) PlayStop) (p q : Player) (items : List DripItem) → IsPlaying p → q.standing ≡ p.standing → DripItemsPlayed r p q items → OnOk r (StaysPlaying p q)
 goes_on (Ok u) p q items playing standing ran =
     let k = ran playing.0 playing.1 playing.2 in
     record {

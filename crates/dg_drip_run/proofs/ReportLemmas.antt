@@ -12,7 +12,7 @@ use Rattle.dg_drip_script.specs.Scripts.{DripItem, DripScript, with_drip_line, n
 use Rattle.dg_drip_script.specs.Sizes.{most_events}
 use Rattle.dg_drip_script.specs.declared.line.DripLine.{DripLine}
 use Rattle.dg_drip_run.specs.Playing.{Plays, IsPlaying, LinePlayed}
-use Rattle.dg_drip_run.specs.Dripped.{played, Closed, Tells, LineStops}
+use Rattle.dg_drip_run.specs.Dripped.{played, Closed, TellsMore, LineStops}
 use Rattle.dg_drip_run.specs.declared.player.Player.{Player}
 use Rattle.dg_drip_run.specs.declared.player.PlayStop.{PlayStop}
 use Rattle.dg_drip_run.specs.declared.player.PlayStop.TheVariants.{TooMany}
@@ -74,11 +74,11 @@ pub cleared_playing : (p q : Player) → IsPlaying p → q.network ≡ p.network
 cleared_playing p q h network standing events text = (h.0, report_of h.0, cleared_plays p q h.0 h.1 h.2 network standing events text)
 
 -- what such a player tells of a line that it played
-pub tells : (q : Player) (s t : DripScript) (text : List ℕ) → Plays q t (report_of s) → text ≡ q.text.items → Tells s t text
+pub tells : (q : Player) (s t : DripScript) (text : List ℕ) → Plays q t (report_of s) → text ≡ q.text.items → TellsMore s t text
 tells q s t text h is = ap (λ (u : List ℕ). report_of s ++ u) is ∙ (h.reported ∙ ap report_of (sym (played_all t h.few)))
 
 pub line_ok : (q : Player) (s t : DripScript) (text : List ℕ) (old new : Option (List ℕ)) → Plays q t (report_of s) → text ≡ q.text.items → Puts old new text
-    → ((b : List ℕ) × Plays q t b) × ((more : List ℕ) × Tells s t more × Puts old new more)
+    → ((b : List ℕ) × Plays q t b) × ((more : List ℕ) × TellsMore s t more × Puts old new more)
 line_ok q s t text old new h is put = ((report_of s, h), (text, tells q s t text h is, put))
 
 pub line_cut : (q : Player) (s t : DripScript) (text : List ℕ) (old new : Option (List ℕ)) (failed : Type 0) → Plays q t (report_of s) → text ≡ q.text.items → failed → PutsFront old new text → LineStops statuses.WriteFault s t old new failed

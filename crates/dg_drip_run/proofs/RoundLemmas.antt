@@ -10,7 +10,7 @@ use Rattle.dg_drip.specs.declared.events.DripEvent.TheVariants.{Tick, Last}
 use Rattle.dg_drip.specs.Spread.{drip_round, round_of_key, sweeps}
 use Rattle.dg_rounds.specs.Rounds.{pace, rounds_of}
 use Rattle.dg_drip_script.specs.Scripts.{DripItem, unreported_items, rounds_items}
-use Rattle.dg_drip_run.specs.Playing.{DripItemsPlayed, GoesOn, IsPlaying, AreBelow}
+use Rattle.dg_drip_run.specs.Playing.{DripItemsPlayed, StaysPlaying, IsPlaying, AreBelow}
 use Rattle.dg_drip_run.specs.declared.player.Player.{Player}
 use Rattle.dg_drip_run.specs.declared.player.PlayStop.{PlayStop}
 use Rattle.dg_drip_run.proofs.RangeLemmas.{each_more, each_rest}
@@ -28,10 +28,10 @@ ran_stops r e p q w xs ys zs all is front stop parts =
     subst (λ (x : Result (Unit {0}) PlayStop). DripItemsPlayed x p w all) (halt_is r e is)
     (ran_as (Err e) p w ((xs ++ ys) ++ zs) all parts (ran_short e p w (xs ++ ys) zs (ran_then (Err e) p q w xs ys front stop)))
 
-pub goes_same : (p : Player) → IsPlaying p → GoesOn p p
+pub goes_same : (p : Player) → IsPlaying p → StaysPlaying p p
 goes_same p h = record { playing = h; standing = refl; links = refl }
 
-pub goes_then : (p q w : Player) → GoesOn p q → GoesOn q w → GoesOn p w
+pub goes_then : (p q w : Player) → StaysPlaying p q → StaysPlaying q w → StaysPlaying p w
 goes_then p q w h k = record { playing = k.playing; standing = k.standing ∙ h.standing; links = k.links ∙ h.links }
 
 -- ---- a key

@@ -99,20 +99,20 @@ pub record Dripped (status : Status) (a b : AroundDrip) : Type 0 where
 -- ---- a line
 
 -- these bytes are reported of a line behind a script
-abbrev pub Tells : (s t : DripScript) → (more : List ℕ) → Type 0
-Tells s t more = report_of s ++ more ≡ report_of (played t)
+abbrev pub TellsMore : (s t : DripScript) → (more : List ℕ) → Type 0
+TellsMore s t more = report_of s ++ more ≡ report_of (played t)
 
 abbrev pub LineStops : Status → (s t : DripScript) → (before after : Option (List ℕ)) → (write_failed : Type 0) → Type 0
 LineStops status s t before after failed =
     ((status ≡ statuses.Memory) × (after ≡ before))
-    ⊎ ((more : List ℕ) × Tells s t more × (((status ≡ statuses.WriteFault) × failed × PutsFront before after more)
+    ⊎ ((more : List ℕ) × TellsMore s t more × (((status ≡ statuses.WriteFault) × failed × PutsFront before after more)
     ⊎ ((most_events < length t.items) × Closed status statuses.TooMany more (codes "toomany" ++ 10 ∷ []) before after failed)))
 
 -- a line was played and told, or the replay ends in it
 abbrev pub LineAnswer : Result (Unit {0}) Status → (s t : DripScript) → Player → (before after : Option (List ℕ))
     → (write_failed : Type 0) → Type 0
 LineAnswer (Ok done) s t q before after failed =
-    ((b : List ℕ) × Plays q t b) × ((more : List ℕ) × Tells s t more × Puts before after more)
+    ((b : List ℕ) × Plays q t b) × ((more : List ℕ) × TellsMore s t more × Puts before after more)
 LineAnswer (Err status) s t q before after failed = LineStops status s t before after failed
 
 -- a line as it was read: its text and its number

@@ -33,7 +33,7 @@ abbrev pub IsPlaying : Player → Type 0
 IsPlaying p = (s : DripScript) × (before : List ℕ) × Plays p s before
 
 -- it can play on: nodes and links are as before
-pub record GoesOn (old new : Player) : Type 0 where
+pub record StaysPlaying (old new : Player) : Type 0 where
   pub playing : IsPlaying new
   pub standing : new.standing ≡ old.standing
   pub links : new.network.links.items ≡ old.network.links.items

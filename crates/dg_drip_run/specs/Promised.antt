@@ -6,7 +6,7 @@ use Rattle.dg_drip.specs.declared.entry.Entry.{Entry}
 use Rattle.dg_drip.specs.declared.events.DripEvent.{DripEvent}
 use Rattle.dg_drip.specs.Entries.{none, IsAtMost, IsAmong, IsGreatestOf}
 use Rattle.dg_drip.specs.Network.{start, run, entry_at}
-use Rattle.dg_drip.specs.Spread.{came, made_in, drip_round, sweeps, HasRounds, IsWithin, IsGreatestAt, AreWithin}
+use Rattle.dg_drip.specs.Spread.{all_brought, made_in, drip_round, sweeps, HasRounds, IsWithin, IsGreatestAt, AreWithin}
 use Rattle.dg_base.specs.declared.answers.Status.{Status}
 use Rattle.dg_drip_script.specs.Scripts.{DripScript, events_of, network_of}
 use Rattle.dg_drip_run.specs.AroundDrip.{AroundDrip}
@@ -15,7 +15,7 @@ use Rattle.dg_drip_run.specs.Dripped.{Dripped, played}
 -- each node keeps of a key the greatest among none, what was set there, and what it heard
 abbrev pub GreatestIsKept : DripScript → Type 0
 GreatestIsKept s =
-    (node key : ℕ) → IsGreatestOf (entry_at (network_of s) node key) (came (start s.links) (events_of s.items) node key)
+    (node key : ℕ) → IsGreatestOf (entry_at (network_of s) node key) (all_brought (start s.links) (events_of s.items) node key)
 
 -- what a node keeps never falls
 abbrev pub NothingFalls : DripScript → Type 0

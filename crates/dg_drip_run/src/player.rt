@@ -7,7 +7,7 @@ ghost use Rattle.dg_drip_replay.specs.Standing.{FitsEvent, time_of};
 ghost use Rattle.dg_drip_script.specs.Lines.{FitsDripLine, DripStandsAt};
 ghost use Rattle.dg_drip_script.specs.Reports.{reported_text};
 ghost use Rattle.dg_drip_script.specs.Scripts.{first_script, unreported_items, rounds_items, with_drip_line};
-ghost use Rattle.dg_drip_run.specs.Playing.{Plays, IsPlaying, GoesOn, DripItemsPlayed, LinePlayed};
+ghost use Rattle.dg_drip_run.specs.Playing.{Plays, IsPlaying, StaysPlaying, DripItemsPlayed, LinePlayed};
 
 use dg_drip::{DripEvent, KEYS};
 use dg_drip_replay::{DripNetwork, DripReport};
@@ -89,7 +89,7 @@ impl Player {
         requires begun { self.old.standing.begun ≡ true }
         requires fits { FitsEvent self.old.standing.nodes event.now }
         ensures ran { DripItemsPlayed result self.old self.new (record { event = event.now; reported = reported } ∷ []) }
-        ensures on { OnOk result (GoesOn self.old self.new) }
+        ensures on { OnOk result (StaysPlaying self.old self.new) }
     {
         let _short = dt_of(event);
         if self.events >= MOST_EVENTS {
@@ -109,7 +109,7 @@ impl Player {
         requires begun { self.old.standing.begun ≡ true }
         requires fits { (a < self.old.standing.nodes) × (b < self.old.standing.nodes) × (key < key_count) }
         ensures ran { DripItemsPlayed result self.old self.new (unreported_items (round_of_key a b key)) }
-        ensures on { OnOk result (GoesOn self.old self.new) }
+        ensures on { OnOk result (StaysPlaying self.old self.new) }
     {
         let tick = DripEvent::Tick {
             node: a,
@@ -135,7 +135,7 @@ impl Player {
         requires begun { self.old.standing.begun ≡ true }
         requires fits { (a < self.old.standing.nodes) × (b < self.old.standing.nodes) }
         ensures ran { DripItemsPlayed result self.old self.new (unreported_items (drip_round a b)) }
-        ensures on { OnOk result (GoesOn self.old self.new) }
+        ensures on { OnOk result (StaysPlaying self.old self.new) }
     {
         for key in 0..KEYS as u8 {
             self.play_key(a, b, key)?;
@@ -148,7 +148,7 @@ impl Player {
         requires playing { IsPlaying self.old }
         requires begun { self.old.standing.begun ≡ true }
         ensures ran { DripItemsPlayed result self.old self.new (rounds_items (rounds_of self.old.network.links.items)) }
-        ensures on { OnOk result (GoesOn self.old self.new) }
+        ensures on { OnOk result (StaysPlaying self.old self.new) }
     {
         for at in 0..self.network.link_count() {
             let (a, b) = self.network.link_at(at);

@@ -120,7 +120,7 @@ row_reads b wide size fields k =
 
 kind_reads : (b : List ℕ) (wide : Bool) (o : Option (ℕ × (List ℕ → Message))) → shortest ≤ length b → kind_of wide (slice_index b 0) ≡ o → IsReading b wide (by_kind b wide o)
 kind_reads b wide None h e = (h, e)
-kind_reads b wide (Some k) h e = row_reads b wide k.0 k.1 (record { enough = h; kind = e })
+kind_reads b wide (Some k) h e = row_reads b wide k.0 k.1 (record { least = h; kind = e })
 
 pub reads : (b : List ℕ) (wide : Bool) → IsReading b wide (message_of b wide)
 unfolding message_of
@@ -131,7 +131,7 @@ unfolding message_of
 long_enough b wide h = cond-false _ _ _ (le-ltb (length b) shortest h)
 
 by_row : (b : List ℕ) (wide : Bool) (size : ℕ) (fields : List ℕ → Message) → IsOfKind b wide size fields → message_of b wide ≡ by_kind b wide (Some (size, fields))
-by_row b wide size fields k = long_enough b wide k.enough ∙ ap (by_kind b wide) k.kind
+by_row b wide size fields k = long_enough b wide k.least ∙ ap (by_kind b wide) k.kind
 
 by_fields : (b : List ℕ) (wide : Bool) (size : ℕ) (fields : List ℕ → Message) → IsOfKind b wide size fields → length b ≡ size → IsChecked b → message_of b wide ≡ ranged wide (fields b)
 by_fields b wide size fields k l c =
@@ -152,7 +152,7 @@ read_as b wide r e = subst (IsReading b wide) (sym e) (reads b wide)
 
 -- what a narrow reader reads, a wide one reads too
 wider_reading : (b : List ℕ) (wide : Bool) (m : Message) → IsReading b wide (Ok m) → IsReading b true (Ok m)
-wider_reading b wide m h = (h.0, h.1, record { enough = h.2.enough; kind = wider_kind wide (slice_index b 0) (h.0, h.1) h.2.kind }, h.3, h.4, wider_ranges wide m h.5, h.6)
+wider_reading b wide m h = (h.0, h.1, record { least = h.2.least; kind = wider_kind wide (slice_index b 0) (h.0, h.1) h.2.kind }, h.3, h.4, wider_ranges wide m h.5, h.6)
 
 pub wider : (b : List ℕ) (m : Message) → message_of b false ≡ Ok m → message_of b true ≡ Ok m
 wider b m e = is_read b true (Ok m) (wider_reading b false m (subst (IsReading b false) e (reads b false)))

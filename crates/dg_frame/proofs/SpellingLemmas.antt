@@ -140,7 +140,7 @@ spelled b wide m h r =
     let size = r.0 in
     let k = r.2 in
     let u : unchecked m ≡ part b 0 (size - 2) = ap unchecked r.6 ∙ spelled_again b wide (size, r.1) h k.kind r.3 in
-    let long : length b ≡ (size - 2) + 2 = omega (arith, r.3, k.enough) in
+    let long : length b ≡ (size - 2) + 2 = omega (arith, r.3, k.least) in
     let at : length b - 2 ≡ size - 2 = omega (arith, r.3) in
     with_check b (unchecked m) (size - 2) h long u (ap (half_at b) (sym at) ∙ r.4 ∙ ap (λ n. crc_of (take n b)) at)
 
@@ -368,4 +368,4 @@ written wide m f h =
     let back = read_back wide m f fit c in
     let long : length (u ++ c) ≡ (row m).0 = length-append u c ∙ back.1 in
     let enough : shortest ≤ length (u ++ c) = omega (arith, long_enough m) in
-    ((row m).0, (row m).1, record { enough = enough; kind = back.0 }, long, checked u (unchecked_bytes wide m f h), fit, sym back.2)
+    ((row m).0, (row m).1, record { least = enough; kind = back.0 }, long, checked u (unchecked_bytes wide m f h), fit, sym back.2)

@@ -10,7 +10,7 @@ use Rattle.dg_frame.specs.declared.FrameFault.TheVariants.{Short, Kind, Length, 
 
 -- they are not too short, and the first names a kind for such a reader: its frames have this size, and these fields
 pub record IsOfKind (b : List ℕ) (wide : Bool) (size : ℕ) (fields : List ℕ → Message) : Type 0 where
-  pub enough : shortest ≤ length b
+  pub least : shortest ≤ length b
   pub kind : kind_of wide (slice_index b 0) ≡ Some (size, fields)
 
 -- the last two are the CRC of those before them

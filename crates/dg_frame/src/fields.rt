@@ -16,14 +16,16 @@ use dg_bits::PageBits;
 use dg_control::Order;
 use dg_object::PACKETS;
 
-pub(crate) fn half_at(bytes: &[u8], at: usize) -> u16
+/// The number of two bytes at an offset, the high byte first.
+pub fn half_at(bytes: &[u8], at: usize) -> u16
     requires { at + 2 ≤ length bytes.now }
     ensures { result ≡ half_at bytes.now at }
 {
     BigEndian::read_u16(&bytes[at..])
 }
 
-pub(crate) fn word_at(bytes: &[u8], at: usize) -> u32
+/// The number of four bytes at an offset, the highest byte first.
+pub fn word_at(bytes: &[u8], at: usize) -> u32
     requires { at + 4 ≤ length bytes.now }
     ensures { result ≡ word_at bytes.now at }
 {

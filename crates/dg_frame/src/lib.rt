@@ -18,9 +18,10 @@ use dg_base::LONGEST_FRAME;
 use dg_bits::PageBits;
 use dg_control::Order;
 use dg_object::{PACKET_SIZE, PACKETS};
+pub use fields::{half_at, word_at};
 pub use laws::{one_reading, one_spelling, the_sizes_are_these};
 pub use ranges::in_range;
-pub use reading::{SHORTEST, read};
+pub use reading::{SHORTEST, has_crc_at, read};
 pub use writing::write;
 
 /// The most bytes of a frame, as of what comes from outside.

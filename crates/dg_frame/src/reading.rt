@@ -61,7 +61,7 @@ fn is_checked(kind: Kind, bytes: &[u8]) -> bool
 /// Whether the CRC of the bytes before an offset stands there. It is inlined where the offset is known, so that the
 /// compiler knows the steps of the CRC.
 #[inline(always)]
-fn has_crc_at(bytes: &[u8], at: usize) -> bool
+pub fn has_crc_at(bytes: &[u8], at: usize) -> bool
     requires { at + 2 ≤ length bytes.now }
     ensures { result ≡ (half_at bytes.now at == crc_of (take at bytes.now)) }
 {

@@ -10,7 +10,7 @@ use Rattle.dg_ihex.specs.declared.faults.HexCause.{HexCause}
 use Rattle.dg_ihex.specs.declared.faults.HexCause.TheVariants.{Memory}
 use Rattle.dg_ihex.specs.declared.record.Record.{Record}
 use Rattle.dg_ihex.specs.declared.record.Record.TheVariants as records
-use Rattle.dg_ihex.specs.Sizes.{most_image}
+use Rattle.dg_ihex.specs.Sizes.{longest_image}
 use Rattle.dg_ihex.specs.Blocks.{Block, overlaps, span_of}
 use Rattle.dg_ihex.specs.Files.{base_behind, base_of, block_of, blocks_over, blocks_of, is_end, has_end, first_cause, cause_of_blocks, cause_behind, record_in, records_of, judged, to_list, cause_of}
 use Rattle.dg_ihex.specs.Records.{record_of}
@@ -43,29 +43,29 @@ records_of-more before text = flat_map-append record_in before (text ∷ []) ∙
 
 -- ---- what is wrong with a record
 
-within : (n : ℕ) → n ≤ most_image → nat_lt most_image n ≡ false
+within : (n : ℕ) → n ≤ longest_image → nat_lt longest_image n ≡ false
 within n h = grind (arith, nat_tests)
 
-beyond : (n : ℕ) → most_image < n → nat_lt most_image n ≡ true
+beyond : (n : ℕ) → longest_image < n → nat_lt longest_image n ≡ true
 beyond n h = grind (arith, nat_tests)
 
 -- a record that gives no byte
-pub no_byte : (before : List Record) (next : Record) (end : Bool) → block_of (base_of before) next ≡ [] → span_of (blocks_of before) ≤ most_image → has_end before ≡ end
+pub no_byte : (before : List Record) (next : Record) (end : Bool) → block_of (base_of before) next ≡ [] → span_of (blocks_of before) ≤ longest_image → has_end before ≡ end
     → cause_behind before next ≡ first_cause false false end
 unfolding cause_behind
 no_byte before next end none close h =
     ap (λ own. cause_of_blocks (blocks_of before) own (has_end before)) none
-    ∙ ap (λ t. first_cause false t (has_end before)) (within (span_of (blocks_of before ++ [])) (subst (λ t. span_of t ≤ most_image) (sym (append-nil (blocks_of before))) close))
+    ∙ ap (λ t. first_cause false t (has_end before)) (within (span_of (blocks_of before ++ [])) (subst (λ t. span_of t ≤ longest_image) (sym (append-nil (blocks_of before))) close))
     ∙ ap (first_cause false false) h
 
 -- a record that gives a block
 pub with_block : (before : List Record) (next : Record) (block : Block) (overlap span end : Bool) → block_of (base_of before) next ≡ block ∷ []
-    → overlaps (blocks_of before) block ≡ overlap → nat_lt most_image (span_of (blocks_of before ++ block ∷ [])) ≡ span → has_end before ≡ end
+    → overlaps (blocks_of before) block ≡ overlap → nat_lt longest_image (span_of (blocks_of before ++ block ∷ [])) ≡ span → has_end before ≡ end
     → cause_behind before next ≡ first_cause overlap span end
 unfolding cause_behind
 with_block before next block overlap span end own p q r =
     ap (λ own. cause_of_blocks (blocks_of before) own (has_end before)) own
-    ∙ ap (λ t. first_cause t (nat_lt most_image (span_of (blocks_of before ++ block ∷ []))) (has_end before)) (or_false (overlaps (blocks_of before) block) ∙ p)
+    ∙ ap (λ t. first_cause t (nat_lt longest_image (span_of (blocks_of before ++ block ∷ []))) (has_end before)) (or_false (overlaps (blocks_of before) block) ∙ p)
     ∙ ap (λ t. first_cause overlap t (has_end before)) q ∙ ap (first_cause overlap span) r
 
 -- ---- the state behind a record
@@ -105,10 +105,10 @@ some_bytes n empty is not = grind (arith, nat_tests)
 pub no_bytes : (bytes : List ℕ) (empty : Bool) → empty ≡ (length bytes == 0) → empty ≡ true → bytes ≡ []
 no_bytes bytes empty is sure = empty_data bytes (grind (arith, nat_tests))
 
-pub span_fits : (n m : ℕ) → n ≡ m → n ≤ most_image → nat_lt most_image m ≡ false
+pub span_fits : (n m : ℕ) → n ≡ m → n ≤ longest_image → nat_lt longest_image m ≡ false
 span_fits n m is h = within m (omega arith)
 
-pub span_exceeds : (n m : ℕ) → n ≡ m → most_image < n → nat_lt most_image m ≡ true
+pub span_exceeds : (n m : ℕ) → n ≡ m → longest_image < n → nat_lt longest_image m ≡ true
 span_exceeds n m is h = beyond m (omega arith)
 
 -- ---- lines
@@ -136,7 +136,7 @@ steps_moved (Ok x) d e P Q same move h = (same ∙ h.0, move h.1)
 steps_moved (Err cause) d e P Q same move h = subst (RefusesLine cause) (sym same) h
 
 -- what a record that gives no byte leaves
-pub steps_open : {A : Type 0} (r : Result A HexCause) (before : List Record) (next : Record) (end : Bool) (After : Type 0) → block_of (base_of before) next ≡ [] → span_of (blocks_of before) ≤ most_image → has_end before ≡ end
+pub steps_open : {A : Type 0} (r : Result A HexCause) (before : List Record) (next : Record) (end : Bool) (After : Type 0) → block_of (base_of before) next ≡ [] → span_of (blocks_of before) ≤ longest_image → has_end before ≡ end
     → After → ReaderSteps r (first_cause false false end) ⊤ → ReaderSteps r (cause_behind before next) After
 steps_open r before next end After none close h after s = steps_moved r (first_cause false false end) (cause_behind before next) ⊤ After (no_byte before next end none close h) (λ _. after) s
 

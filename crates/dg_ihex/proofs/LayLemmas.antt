@@ -7,7 +7,7 @@ use Rattle.std.proofs.lemmas.Bool.{cases_lt, cases_eq}
 use Rattle.std.proofs.lemmas.Option.{unwrap_or-slice_get, slice_get_past, slice_get-get_or}
 use Rattle.std.proofs.lemmas.List.{get_or_append_left, length-append}
 use Rattle.std.proofs.lemmas.List.FromFn.{fill_by_all}
-use Rattle.dg_ihex.specs.Sizes.{most_image}
+use Rattle.dg_ihex.specs.Sizes.{longest_image}
 use Rattle.dg_ihex.specs.Blocks.{Block, block_byte, byte_at, is_given, overlaps, lowest_of, past_of, span_of, image_of}
 use Rattle.dg_ihex.proofs.BlockLemmas.{block_byte-inside, byte_at-more, lowest_of-more, past_of-more}
 use Rattle.dg_ihex.proofs.WindowLemmas.{none_behind}
@@ -73,7 +73,7 @@ pub lays_free : (blocks : List Block) (image bytes : List ℕ) (block : Block) �
 lays_free blocks image bytes block h is =
     subst (λ (b : Block). overlaps blocks b ≡ false) (sym is) (none_given blocks (length bytes) (length image) (omega (arith, h.past)))
 
-pub lays_within : (blocks : List Block) (image : List ℕ) → Lays blocks image → length image ≤ most_image → span_of blocks ≤ most_image
+pub lays_within : (blocks : List Block) (image : List ℕ) → Lays blocks image → length image ≤ longest_image → span_of blocks ≤ longest_image
 lays_within blocks image h fits = omega (arith, h.past)
 
 -- their image

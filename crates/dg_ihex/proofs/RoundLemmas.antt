@@ -7,7 +7,7 @@ use Rattle.std.proofs.lemmas.List.{length-append, length-take, length-drop, take
 use Rattle.std.proofs.lemmas.List.Elements.{All-nil, All-cons, All-append, All-take, All-drop}
 use Rattle.dg_ihex.specs.declared.faults.HexCause.TheVariants.{Shape, End}
 use Rattle.dg_ihex.specs.declared.record.Record.TheVariants as records
-use Rattle.dg_ihex.specs.Sizes.{most_image, segment, piece_bytes}
+use Rattle.dg_ihex.specs.Sizes.{longest_image, segment, piece_bytes}
 use Rattle.dg_ihex.specs.Blocks.{Block, image_of}
 use Rattle.dg_ihex.specs.Records.{record_of, typed_record, data_record, linear_record, marker}
 use Rattle.dg_ihex.specs.Files.{base_of, blocks_of, has_end, cause_of, records_of, file_from, hex_file}
@@ -70,7 +70,7 @@ unfolding blocks_of
 laid_nothing = record { over = refl; open_file = refl; lays = lays_nothing }
 
 -- a line of a base
-pub after_base : (before : List (List ℕ)) (base units : ℕ) (image : List ℕ) → Laid before base image → length image ≤ most_image → units < 65536
+pub after_base : (before : List (List ℕ)) (base units : ℕ) (image : List ℕ) → Laid before base image → length image ≤ longest_image → units < 65536
     → (cause_of before (base_line units) ≡ None) × Laid (before ++ base_line units ∷ []) (units * 65536) image
 after_base before base units image h fits small =
     let all = records_of before in
@@ -86,7 +86,7 @@ after_base before base units image h fits small =
 
 -- a line of data
 pub after_data : (before : List (List ℕ)) (base offset : ℕ) (image bytes : List ℕ) → Laid before base image → base + offset ≡ length image → offset < segment → offset + length bytes ≤ segment
-    → 0 < length bytes → length bytes ≤ piece_bytes → All IsByte bytes → length image + length bytes ≤ most_image
+    → 0 < length bytes → length bytes ≤ piece_bytes → All IsByte bytes → length image + length bytes ≤ longest_image
     → (cause_of before (data_line offset bytes) ≡ None) × Laid (before ++ data_line offset bytes ∷ []) base (image ++ bytes)
 after_data before base offset image bytes h there at short some few each fits =
     let all = records_of before in
@@ -105,7 +105,7 @@ after_data before base offset image bytes h there at short some few each fits =
     )
 
 -- the end
-pub after_end : (before : List (List ℕ)) (base : ℕ) (image : List ℕ) → Laid before base image → 0 < length image → length image ≤ most_image → file_from before (end_line ∷ []) ≡ Ok image
+pub after_end : (before : List (List ℕ)) (base : ℕ) (image : List ℕ) → Laid before base image → 0 < length image → length image ≤ longest_image → file_from before (end_line ∷ []) ≡ Ok image
 unfolding file_from
 after_end before base image h some fits =
     let all = records_of before in
@@ -140,7 +140,7 @@ take_piece image k =
 
 pub record Fits (image : List ℕ) : Type 0 where
   pub some : 0 < length image
-  pub fits : length image ≤ most_image
+  pub fits : length image ≤ longest_image
   pub each : All IsByte image
 
 -- the line of the data of a piece, and the lines behind it
@@ -174,7 +174,7 @@ file_pieces (suc n) k image before h count laid =
     let line = data_line (k * piece_bytes % segment) (piece_at image k) in
     let tail = flat_map (lines_at image) (range_with_len (k + 1) n) ++ end_line ∷ [] in
     let left : k + 1 + n ≡ pieces_of (length image) = omega arith in
-    let front : length (take (k * piece_bytes) image) ≤ most_image = omega (arith, length-take (k * piece_bytes) image) in
+    let front : length (take (k * piece_bytes) image) ≤ longest_image = omega (arith, length-take (k * piece_bytes) image) in
     let rest : (texts : List (List ℕ)) → Laid texts (k * piece_bytes / segment * segment) (take (k * piece_bytes) image) → file_from texts (line ∷ tail) ≡ Ok image =
     λ texts there. (let one = one_piece image k texts tail h within there in one.0 ∙ file_pieces n (k + 1) image (texts ++ line ∷ []) h left one.1) in
     ap (file_from before) (regroup_lines (base_lines k) line (flat_map (lines_at image) (range_with_len (k + 1) n)) (end_line ∷ []))

@@ -13,7 +13,7 @@ use Rattle.dg_ihex.specs.declared.reader.Numbered.{Numbered}
 use Rattle.dg_ihex.specs.declared.stream.Stream.{Stream}
 use Rattle.dg_ihex.specs.Files.{cause_of, ended, file_from, hex_file, record_in, records_of, unless}
 use Rattle.dg_ihex.specs.Readers.{Behind, Judges, Stands}
-use Rattle.dg_ihex.specs.Streams.{Advances, FedBy, Going, HasFault, SaysAlike, Stays, Tells}
+use Rattle.dg_ihex.specs.Streams.{Advances, FedBy, Going, HasFault, SaysAlike, Stays, TellsFault}
 use Rattle.dg_ihex.proofs.FileLemmas.{records_of-more}
 use Rattle.dg_ihex.proofs.LongLemmas.{stays_same, stays_trans, stays_more}
 
@@ -245,7 +245,7 @@ last_fine stream numbered input shown g is some fine behind =
 
 -- ---- faults
 
-pub fault_more : (fault : HexFileFault) (input more : List ℕ) → Tells fault input → Tells fault (input ++ more)
+pub fault_more : (fault : HexFileFault) (input more : List ℕ) → TellsFault fault input → TellsFault fault (input ++ more)
 fault_more fault input more h = (λ other rest. ap hex_file (append_assoc input more rest) ∙ h.0 other (more ++ rest), h.1)
 
 pub fault_fed : (fault : HexFileFault) (input more : List ℕ) → HasFault fault input → HasFault fault (input ++ more)
@@ -254,9 +254,9 @@ fault_fed fault input more h rest = ap hex_file (append_assoc input more rest) �
 pub fault_whole : (fault : HexFileFault) (input : List ℕ) → HasFault fault input → hex_file input ≡ Err fault
 fault_whole fault input h = ap hex_file (sym (append-nil input)) ∙ h []
 
-pub fault_piece : (fault : HexFileFault) (input piece : List ℕ) (next : ℕ) → Tells fault (input ++ take next piece) → Tells fault (input ++ piece)
+pub fault_piece : (fault : HexFileFault) (input piece : List ℕ) (next : ℕ) → TellsFault fault (input ++ take next piece) → TellsFault fault (input ++ piece)
 fault_piece fault input piece next h =
-    subst (Tells fault) (append_assoc input (take next piece) (drop next piece) ∙ ap (λ t. input ++ t) (take-append-drop next piece)) (fault_more fault (input ++ take next piece) (drop next piece) h)
+    subst (TellsFault fault) (append_assoc input (take next piece) (drop next piece) ∙ ap (λ t. input ++ t) (take-append-drop next piece)) (fault_more fault (input ++ take next piece) (drop next piece) h)
 
 -- ---- a reader
 

@@ -4,7 +4,7 @@ use Rattle.std.specs.List.{list_any, range_with_len}
 use Rattle.std.specs.Option.{option_or}
 use Rattle.std.proofs.lemmas.List.{take_all, take_more_set, get_or_past}
 use Rattle.std.proofs.lemmas.List.FromFn.{map-range_with_len_more}
-use Rattle.dg_ihex.specs.Sizes.{most_image}
+use Rattle.dg_ihex.specs.Sizes.{longest_image}
 use Rattle.dg_ihex.specs.Blocks.{Block, block_byte, byte_at, is_given, overlaps, lowest_of, past_of, span_of, image_of}
 use Rattle.dg_ihex.specs.Cells.{Keeps, written}
 use Rattle.dg_ihex.proofs.BlockLemmas.{byte_at-more, lowest_of-more, past_of-more, byte_at-within, block_byte-outside, block_byte-inside}
@@ -22,26 +22,26 @@ pub none_behind : (blocks : List Block) (a : ℕ) → past_of blocks ≤ a → N
 none_behind blocks a high = sym (none_unless (byte_at blocks a) (λ y h. let w = byte_at-within blocks a y h in omega (arith, w.1)))
 
 -- Within them the byte is that of its cell.
-in_cell : (blocks : List Block) (a shift : ℕ) (cell byte : Option ℕ) (cells : List (Option ℕ)) → Keeps shift cells (byte_at blocks) → span_of blocks ≤ most_image
-    → lowest_of blocks ≤ a → a < past_of blocks → get_or cells ((a + shift) % most_image) None ≡ cell → byte_at blocks a ≡ byte → cell ≡ byte
+in_cell : (blocks : List Block) (a shift : ℕ) (cell byte : Option ℕ) (cells : List (Option ℕ)) → Keeps shift cells (byte_at blocks) → span_of blocks ≤ longest_image
+    → lowest_of blocks ≤ a → a < past_of blocks → get_or cells ((a + shift) % longest_image) None ≡ cell → byte_at blocks a ≡ byte → cell ≡ byte
 in_cell blocks a shift cell (Some y) cells k close low high at is = sym at ∙ k.there a y is
 in_cell blocks a shift None None cells k close low high at is = refl
 in_cell blocks a shift (Some b) None cells k close low high at is =
-    let o = k.only ((a + shift) % most_image) b at in
+    let o = k.only ((a + shift) % longest_image) b at in
     let w = byte_at-within blocks o.0 b o.2 in
     let apart : o.0 ≢ a = λ same. (let e : Some b ≡ None = sym o.2 ∙ ap (byte_at blocks) same ∙ is in cc) in
     absurd (cells_differ shift o.0 a apart (omega (arith, w.0, w.1)) (omega (arith, w.0, w.1)) o.1)
 
-cell_is : (blocks : List Block) (a shift : ℕ) (cells : List (Option ℕ)) → Keeps shift cells (byte_at blocks) → span_of blocks ≤ most_image
-    → lowest_of blocks ≤ a → a < past_of blocks → get_or cells ((a + shift) % most_image) None ≡ byte_at blocks a
-cell_is blocks a shift cells k close low high = in_cell blocks a shift (get_or cells ((a + shift) % most_image) None) (byte_at blocks a) cells k close low high refl refl
+cell_is : (blocks : List Block) (a shift : ℕ) (cells : List (Option ℕ)) → Keeps shift cells (byte_at blocks) → span_of blocks ≤ longest_image
+    → lowest_of blocks ≤ a → a < past_of blocks → get_or cells ((a + shift) % longest_image) None ≡ byte_at blocks a
+cell_is blocks a shift cells k close low high = in_cell blocks a shift (get_or cells ((a + shift) % longest_image) None) (byte_at blocks a) cells k close low high refl refl
 
 -- the cell of an address, whose number is taken modulo the most bytes of an image before the shift is added
-same_cell : (a shift cell : ℕ) → cell ≡ (a % most_image + shift) % most_image → cell ≡ (a + shift) % most_image
+same_cell : (a shift cell : ℕ) → cell ≡ (a % longest_image + shift) % longest_image → cell ≡ (a + shift) % longest_image
 same_cell a shift cell is = omega (arith, is)
 
-pub told_by_cell : (blocks : List Block) (a shift cell : ℕ) (cells : List (Option ℕ)) → cell ≡ (a % most_image + shift) % most_image
-    → Keeps shift cells (byte_at blocks) → span_of blocks ≤ most_image → lowest_of blocks ≤ a → a < past_of blocks → get_or cells cell None ≡ byte_at blocks a
+pub told_by_cell : (blocks : List Block) (a shift cell : ℕ) (cells : List (Option ℕ)) → cell ≡ (a % longest_image + shift) % longest_image
+    → Keeps shift cells (byte_at blocks) → span_of blocks ≤ longest_image → lowest_of blocks ≤ a → a < past_of blocks → get_or cells cell None ≡ byte_at blocks a
 told_by_cell blocks a shift cell cells is k close low high = ap (λ n. get_or cells n None) (same_cell a shift cell is) ∙ cell_is blocks a shift cells k close low high
 
 -- ---- a block more
@@ -66,8 +66,8 @@ option_or_none None = refl
 option_or_none (Some y) = refl
 
 pub keeps_block : (blocks : List Block) (block : Block) (shift : ℕ) (cells : List (Option ℕ))
-    → ((k : ℕ) → k < length block.bytes → (block.address + shift + k) % most_image < length cells) → block.address < 2 ^ 32
-    → overlaps blocks block ≡ false → span_of (blocks ++ block ∷ []) ≤ most_image → Keeps shift cells (byte_at blocks)
+    → ((k : ℕ) → k < length block.bytes → (block.address + shift + k) % longest_image < length cells) → block.address < 2 ^ 32
+    → overlaps blocks block ≡ false → span_of (blocks ++ block ∷ []) ≤ longest_image → Keeps shift cells (byte_at blocks)
     → Keeps shift (written cells (block.address + shift) block.bytes) (byte_at (blocks ++ block ∷ []))
 keeps_block blocks block shift cells room fits apart close k =
     let low = lowest_of-more blocks block fits in

@@ -1,15 +1,15 @@
 -- Blocks in cells: the byte at an address stands in the cell of its number, and a shift, modulo the most bytes of an image.
 use Rattle.std.specs.Prelude.{◌≡◌, ℕ, ◌+◌, ◌%◌, List, [], ◌∷◌, slice_index_or, slice_set, Option, Some, None}
-use Rattle.dg_ihex.specs.Sizes.{most_image}
+use Rattle.dg_ihex.specs.Sizes.{longest_image}
 
 -- Each byte stands in its cell, and each byte in a cell stands there for an address. A cell that is not there has no byte.
 pub record Keeps (shift : ℕ) (cells : List (Option ℕ)) (bytes : ℕ → Option ℕ) : Type 0 where
   pub there : (address byte : ℕ) → bytes address ≡ Some byte
-      → slice_index_or cells ((address + shift) % most_image) None ≡ Some byte
+      → slice_index_or cells ((address + shift) % longest_image) None ≡ Some byte
   pub only : (cell byte : ℕ) → slice_index_or cells cell None ≡ Some byte → (address : ℕ)
-      × ((address + shift) % most_image ≡ cell) × (bytes address ≡ Some byte)
+      × ((address + shift) % longest_image ≡ cell) × (bytes address ≡ Some byte)
 
 -- cells with bytes, the first of which stands in the cell of this number
 unfoldable pub written : List (Option ℕ) → ℕ → List ℕ → List (Option ℕ)
 written cells from [] = cells
-written cells from (byte ∷ bytes) = written (slice_set cells (from % most_image) (Some byte)) (from + 1) bytes
+written cells from (byte ∷ bytes) = written (slice_set cells (from % longest_image) (Some byte)) (from + 1) bytes

@@ -6,7 +6,7 @@ use Rattle.std.specs.Str.Lines.{lines}
 use Rattle.dg_ihex.specs.declared.faults.HexCause.{HexCause}
 use Rattle.dg_ihex.specs.declared.faults.HexCause.TheVariants.{Overlap, Span, End}
 use Rattle.dg_ihex.specs.declared.faults.HexFileFault.{HexFileFault}
-use Rattle.dg_ihex.specs.Sizes.{most_image, paragraph, segment}
+use Rattle.dg_ihex.specs.Sizes.{longest_image, paragraph, segment}
 use Rattle.dg_ihex.specs.declared.record.Record.{Record}
 use Rattle.dg_ihex.specs.declared.record.Record.TheVariants as records
 use Rattle.dg_ihex.specs.Records.{record_of}
@@ -62,7 +62,7 @@ first_cause overlap span end = if overlap then Some Overlap else if span then So
 -- What is wrong with blocks behind those that are given: an address was given before; the highest address less the lowest,
 -- and 1, is more than an image has bytes; or the end came before.
 abbrev pub cause_of_blocks : List Block → List Block → Bool → Option HexCause
-cause_of_blocks given own end = first_cause (list_any (overlaps given) own) (nat_lt most_image (span_of (given ++ own))) end
+cause_of_blocks given own end = first_cause (list_any (overlaps given) own) (nat_lt longest_image (span_of (given ++ own))) end
 
 -- what is wrong with a record behind others
 unfoldable pub cause_behind : List Record → Record → Option HexCause

@@ -4,8 +4,8 @@ use Rattle.std.specs.Prelude.{ℕ}
 use Rattle.dg_base.specs.Sizes.{most_content, most_input}
 
 -- the bytes of an image, at most, from its lowest address to its highest
-abbrev pub most_image : ℕ
-most_image = most_content
+abbrev pub longest_image : ℕ
+longest_image = most_content
 
 -- the bytes of a text that is read, at most
 abbrev pub most_text : ℕ

@@ -46,18 +46,18 @@ abbrev pub HasFault : HexFileFault → List ℕ → Type 0
 HasFault fault input = (rest : List ℕ) → hex_file (input ++ rest) ≡ Err fault
 
 -- nothing is claimed where memory ran out
-abbrev pub Tells : HexFileFault → List ℕ → Type 0
-Tells fault input = (fault.cause ≢ Memory → HasFault fault input) × (fault.cause ≡ Memory → fault.line ≡ 0)
+abbrev pub TellsFault : HexFileFault → List ℕ → Type 0
+TellsFault fault input = (fault.cause ≢ Memory → HasFault fault input) × (fault.cause ≡ Memory → fault.line ≡ 0)
 
 -- what was told of an input: a fact, or its fault
 abbrev pub Advances : {A : Type 0} → Result A HexFileFault → List ℕ → (After : Type 0) → Type 0
 Advances (Ok x) input After = After
-Advances (Err fault) input After = Tells fault input
+Advances (Err fault) input After = TellsFault fault input
 
 -- the same of a piece behind an input, up to an offset in it
 abbrev pub AdvancesTo : Result ℕ HexFileFault → (input piece : List ℕ) → (ℕ → Type 0) → Type 0
 AdvancesTo (Ok next) input piece After = After next
-AdvancesTo (Err fault) input piece After = Tells fault (input ++ piece)
+AdvancesTo (Err fault) input piece After = TellsFault fault (input ++ piece)
 
 abbrev pub FedBy : Option HexFileFault → Stream → List ℕ → Type 0
 FedBy None stream input = Going stream input

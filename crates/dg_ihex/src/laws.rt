@@ -6,20 +6,20 @@ ghost use Rattle.dg_ihex.specs.Files.{blocks_of, hex_file, records_of};
 ghost use Rattle.dg_ihex.specs.Laws.{IsFirstFault, fault_behind_lines};
 ghost use Rattle.dg_ihex.specs.Written.{written_file};
 ghost use Rattle.dg_ihex.specs.declared.faults.HexFileFault.{HexFileFault};
-ghost use Rattle.dg_ihex.specs.Sizes.{most_image, most_text, paragraph, segment, record_fields, longest_record, piece_bytes};
+ghost use Rattle.dg_ihex.specs.Sizes.{longest_image, most_text, paragraph, segment, record_fields, longest_record, piece_bytes};
 ghost use Rattle.dg_ihex.specs.Sizes.{gap_byte, addresses, highest_base};
 
 use crate::reader::{HIGHEST_BASE, MOST_TEXT, PARAGRAPH};
 use crate::record::{FIELDS, SEGMENT};
 use crate::stream::LONGEST_RECORD;
-use crate::window::{GAP_BYTE, MOST_IMAGE, NO_ADDRESS};
+use crate::window::{GAP_BYTE, LONGEST_IMAGE, NO_ADDRESS};
 use crate::writer::PIECE;
 
 /// The numbers are those of the format and of this profile: images of at most 1,048,576 bytes and texts of at most
 /// 16,777,216, bases in units of 16 and of 65,536 bytes, five bytes of a record beside its data, at most 521 bytes
 /// of its line, 16 data bytes of a record that is written, and the byte ff at addresses that no record gives.
 pub fn the_numbers_are_these()
-    ensures image { MOST_IMAGE ≡ most_image }
+    ensures image { LONGEST_IMAGE ≡ longest_image }
     ensures text { MOST_TEXT ≡ most_text }
     ensures paragraph { PARAGRAPH ≡ paragraph }
     ensures segment { SEGMENT ≡ segment }
@@ -33,7 +33,7 @@ pub fn the_numbers_are_these()
 
 /// A file that is written is read again, and gives the image that was written.
 pub fn a_written_file_is_read_again()
-    ensures { (image : List ℕ) → 1 ≤ length image → length image ≤ most_image → All (λ b. b < 256) image
+    ensures { (image : List ℕ) → 1 ≤ length image → length image ≤ longest_image → All (λ b. b < 256) image
         → hex_file (written_file image) ≡ Ok image }
 {}
 

@@ -17,7 +17,7 @@ pub use laws::{
 };
 pub use reader::MOST_TEXT;
 pub use stream::{HexReader, read_ihex};
-pub use window::MOST_IMAGE;
+pub use window::LONGEST_IMAGE;
 pub use writer::write_ihex;
 
 #[cfg(test)]

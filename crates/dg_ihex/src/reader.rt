@@ -8,7 +8,7 @@ ghost use Rattle.dg_ihex.specs.Sizes.{most_text, highest_base};
 
 use crate::faults::{HexCause, HexFileFault};
 use crate::record::{Record, SEGMENT, read_record};
-use crate::window::{MOST_IMAGE, Window};
+use crate::window::{LONGEST_IMAGE, Window};
 use dg_base::MOST_INPUT;
 use std::alloc::Global;
 
@@ -74,7 +74,7 @@ impl Reader {
         if self.window.overlaps(address, bytes) {
             return Err(HexCause::Overlap);
         }
-        if self.window.span_with(address, bytes) > MOST_IMAGE {
+        if self.window.span_with(address, bytes) > LONGEST_IMAGE {
             return Err(HexCause::Span);
         }
         self.check_open()?;

@@ -149,7 +149,7 @@ fn read(alloc: Global, text: &[u8]) -> Result<Vec<u8>, HexFileFault> {
 }
 
 fn written(alloc: Global, image: &[u8]) -> Result<Vec<u8>, AllocError> {
-    if image.is_empty() || image.len() > MOST_IMAGE {
+    if image.is_empty() || image.len() > LONGEST_IMAGE {
         return Ok(Vec::new(alloc));
     }
     write_ihex(alloc, image)

@@ -3,13 +3,13 @@ ghost use Rattle.std.specs.Prelude.{◌≡◌, ℕ, None, slice_index_or, ◌+�
 ghost use Rattle.std.specs.Prelude.{length, min, max, IfOk, OnOk};
 ghost use Rattle.dg_ihex.specs.Blocks.{Block, byte_at, image_of, overlaps, span_of};
 ghost use Rattle.dg_ihex.specs.Cells.{written};
-ghost use Rattle.dg_ihex.specs.Sizes.{most_image, addresses};
+ghost use Rattle.dg_ihex.specs.Sizes.{longest_image, addresses};
 
 use dg_base::MOST_CONTENT;
 use std::alloc::{AllocError, Global};
 
 /// The most bytes of an image.
-pub const MOST_IMAGE: usize = MOST_CONTENT;
+pub const LONGEST_IMAGE: usize = MOST_CONTENT;
 
 /// An address above all addresses.
 pub(crate) const NO_ADDRESS: usize = 4_294_967_296;
@@ -29,8 +29,8 @@ pub struct Window {
     lowest: usize,
     past: usize,
 
-    ghost few: { cells.len ≤ most_image },
-    ghost shifted: { shift ≤ most_image },
+    ghost few: { cells.len ≤ longest_image },
+    ghost shifted: { shift ≤ longest_image },
     ghost low: { lowest ≤ addresses },
 }
 
@@ -61,7 +61,7 @@ impl Window {
         }
         cell_at(
             &self.cells,
-            (address % MOST_IMAGE + self.shift) % MOST_IMAGE,
+            (address % LONGEST_IMAGE + self.shift) % LONGEST_IMAGE,
         )
     }
 
@@ -94,7 +94,7 @@ impl Window {
         requires { address < addresses }
         ensures { (blocks : List Block) → Holds self.old blocks
             → let block : Block = record { address = address; bytes = bytes.now } in
-            overlaps blocks block ≡ false → span_of (blocks ++ block ∷ []) ≤ most_image
+            overlaps blocks block ≡ false → span_of (blocks ++ block ∷ []) ≤ longest_image
             → OnOk result (Holds self.new (blocks ++ block ∷ [])) }
     {
         self.begin_at(address);
@@ -108,7 +108,7 @@ impl Window {
         ensures { (blocks : List Block) → Holds self.old blocks → Holds self.new blocks }
     {
         if self.cells.is_empty() {
-            self.shift = MOST_IMAGE - address % MOST_IMAGE;
+            self.shift = LONGEST_IMAGE - address % LONGEST_IMAGE;
         }
     }
 
@@ -116,10 +116,10 @@ impl Window {
     fn reach(&mut self, address: usize, count: usize) -> Result<(), AllocError>
         requires { address < addresses }
         ensures holds { (blocks : List Block) → Holds self.old blocks → OnOk result (Holds self.new blocks) }
-        ensures within { OnOk result ((k : ℕ) → k < count → (address + self.new.shift + k) % most_image < self.new.cells.len) }
+        ensures within { OnOk result ((k : ℕ) → k < count → (address + self.new.shift + k) % longest_image < self.new.cells.len) }
     {
-        let first = (address + self.shift) % MOST_IMAGE;
-        let needed = first.saturating_add(count).min(MOST_IMAGE);
+        let first = (address + self.shift) % LONGEST_IMAGE;
+        let needed = first.saturating_add(count).min(LONGEST_IMAGE);
         if needed > self.cells.len() {
             self.cells.resize(needed, None)?;
         }
@@ -129,10 +129,10 @@ impl Window {
     // Writes the bytes of a block, for which there are cells.
     fn put(&mut self, address: usize, bytes: &[u8])
         requires fits { address < addresses }
-        requires within { (k : ℕ) → k < length bytes.now → (address + self.old.shift + k) % most_image < self.old.cells.len }
+        requires within { (k : ℕ) → k < length bytes.now → (address + self.old.shift + k) % longest_image < self.old.cells.len }
         ensures { (blocks : List Block) → Holds self.old blocks
             → let block : Block = record { address = address; bytes = bytes.now } in
-            overlaps blocks block ≡ false → span_of (blocks ++ block ∷ []) ≤ most_image
+            overlaps blocks block ≡ false → span_of (blocks ++ block ∷ []) ≤ longest_image
             → Holds self.new (blocks ++ block ∷ []) }
     {
         self.lowest = self.lowest.min(address);
@@ -173,11 +173,11 @@ fn cell_at(cells: &[Option<u8>], cell: usize) -> Option<u8>
 
 // Writes the bytes of a block into their cells.
 fn write(cells: &mut [Option<u8>], from: usize, bytes: &[u8])
-    requires fits { from < addresses + most_image + 1 }
-    requires within { (k : ℕ) → k < length bytes.now → (from + k) % most_image < length cells.old }
+    requires fits { from < addresses + longest_image + 1 }
+    requires within { (k : ℕ) → k < length bytes.now → (from + k) % longest_image < length cells.old }
     ensures { cells.new ≡ written cells.old from bytes.now }
 {
     for at in 0..bytes.len() {
-        cells[(from + at) % MOST_IMAGE] = Some(bytes[at]);
+        cells[(from + at) % LONGEST_IMAGE] = Some(bytes[at]);
     }
 }

@@ -2,7 +2,7 @@
 ghost use Rattle.std.specs.Prelude.{◌≡◌, ◌+◌, ◌*◌, ◌<◌, ◌≤◌, ◌++◌, length, map, OnOk, IfOk};
 ghost use Rattle.std.specs.Char.{to_ascii_uppercase};
 ghost use Rattle.std.specs.List.{flat_map};
-ghost use Rattle.dg_ihex.specs.Sizes.{most_image, piece_bytes};
+ghost use Rattle.dg_ihex.specs.Sizes.{longest_image, piece_bytes};
 ghost use Rattle.dg_ihex.specs.Written.{base_lines, checksum_of, ended_by_feed, fields_of, line_of, lines_at, upper_hex};
 ghost use Rattle.dg_ihex.specs.Written.{written_file};
 
@@ -25,7 +25,7 @@ const BASE: u8 = 4;
 /// the end record. Its lines are in upper case, and each ends with LF.
 pub fn write_ihex(alloc: Global, bytes: &[u8]) -> Result<Vec<u8>, AllocError>
     requires some { 1 ≤ length bytes.now }
-    requires fits { length bytes.now ≤ most_image }
+    requires fits { length bytes.now ≤ longest_image }
     ensures { IfOk result (λ text. text.items ≡ written_file bytes.now) }
 {
     let mut text = Vec::new(alloc);
@@ -39,7 +39,7 @@ pub fn write_ihex(alloc: Global, bytes: &[u8]) -> Result<Vec<u8>, AllocError>
 // Appends the lines of a piece.
 fn push_piece(text: &mut Vec<u8>, bytes: &[u8], piece: usize) -> Result<(), AllocError>
     requires within { piece * piece_bytes < length bytes.now }
-    requires fits { length bytes.now ≤ most_image }
+    requires fits { length bytes.now ≤ longest_image }
     ensures { OnOk result (text.new.items ≡ text.old.items ++ flat_map ended_by_feed (lines_at bytes.now piece)) }
 {
     let address = piece * PIECE;
@@ -50,7 +50,7 @@ fn push_piece(text: &mut Vec<u8>, bytes: &[u8], piece: usize) -> Result<(), Allo
 
 // Appends the base of the addresses from a piece on, where it is a new one.
 fn push_base(text: &mut Vec<u8>, piece: usize) -> Result<(), AllocError>
-    requires { piece * piece_bytes < most_image }
+    requires { piece * piece_bytes < longest_image }
     ensures { OnOk result (text.new.items ≡ text.old.items ++ flat_map ended_by_feed (base_lines piece)) }
 {
     let address = piece * PIECE;

@@ -24,7 +24,7 @@ use Rattle.dg_volume.specs.Stands.{Stands}
 use Rattle.dg_volume.specs.Acts.{Stops}
 use Rattle.dg_volume.specs.declared.volume.Volume.{Volume}
 use Rattle.dg_frame.specs.declared.Message.{Message}
-use Rattle.dg_mote.specs.Model.{MoteState, Mode, Receive, Transmit, NamesKnown, Receiving, Sending, reception, maintains, Turn}
+use Rattle.dg_mote.specs.Model.{MoteState, Mode, Receive, Transmit, NamesKnown, Receiving, Sending, reception, maintains, MoteStep}
 use Rattle.dg_mote.specs.Ticks.{idle, asked, receive_by, serving, transmit_by, mode_tick}
 use Rattle.dg_mote.specs.Motes.{IsMote, ModeStands, Receives, Transmits, Done}
 use Rattle.dg_mote.specs.declared.mote.Did.{Did}
@@ -34,7 +34,7 @@ use Rattle.dg_mote.specs.declared.mote.Mode.TheVariants as value
 
 -- ---- steps that leave the chip as it is
 
-pub rests_done : (t : Turn Did) (old new : Device) (v : Mote) (n : MoteState) (s : Store) (did : Did) → t.mote ≡ n → t.trail ≡ resting s 0 → did ≡ t.answer → Looked old new → IsMote new.image v n s → Done t old new v did
+pub rests_done : (t : MoteStep Did) (old new : Device) (v : Mote) (n : MoteState) (s : Store) (did : Did) → t.mote ≡ n → t.trail ≡ resting s 0 → did ≡ t.answer → Looked old new → IsMote new.image v n s → Done t old new v did
 rests_done t old new v n s did mote trail answer looked is = record {
   ran = subst (λ (x : Trail Store). Ran (operations x) old new) (sym trail) (subst (λ (k : ℕ). Ran k old new) (sym (operations-resting s 0)) looked.ran);
   mote = subst (λ (x : MoteState). IsMote new.image v x (last t.trail)) (sym mote)
@@ -149,8 +149,8 @@ pub same_mote : (c : List ℕ) (v : Mote) (m : MoteState) (s : Store) (x : ModeV
 same_mote c v m s x e is =
     record { id = is.id; since = is.since; wide = is.wide; noted = is.noted; mounted = is.mounted; mode = subst (λ (y : ModeValue). ModeStands c v.volume s y m.mode) (sym e) is.mode; known = is.known }
 
-pub turn_done : (t : Turn Did) (old new : Device) (v : Mote) (n : MoteState) (s : Store) (sent : Option Message) (did : Did) → t ≡ record { mote = n; trail = resting s 0; sent = sent; answer = did } → Looked old new → IsMote new.image v n s → Done t old new v did
-turn_done t old new v n s sent did e looked is = rests_done t old new v n s did (ap (λ (x : Turn Did). x.mote) e) (ap (λ (x : Turn Did). x.trail) e) (sym (ap (λ (x : Turn Did). x.answer) e)) looked is
+pub turn_done : (t : MoteStep Did) (old new : Device) (v : Mote) (n : MoteState) (s : Store) (sent : Option Message) (did : Did) → t ≡ record { mote = n; trail = resting s 0; sent = sent; answer = did } → Looked old new → IsMote new.image v n s → Done t old new v did
+turn_done t old new v n s sent did e looked is = rests_done t old new v n s did (ap (λ (x : MoteStep Did). x.mote) e) (ap (λ (x : MoteStep Did). x.trail) e) (sym (ap (λ (x : MoteStep Did). x.answer) e)) looked is
 
 -- ---- a read that was stopped
 
@@ -158,8 +158,8 @@ read_leaves : (s : Store) (image : List ℕ) → Stands image s → MayLeave Sta
 unfolding LeavesFrom
 read_leaves s image stands = record { store = s; stands_for = stands; allowed = record { same = refl; room = inl refl } }
 
-pub read_stops : (t : Turn Did) (old new : Device) (n : MoteState) (s : Store) (sent : Option Message) (did : Did) → t ≡ record { mote = n; trail = resting s 0; sent = sent; answer = did } → Stands old.image s → ReadStopped old new → Stops t.trail old new
+pub read_stops : (t : MoteStep Did) (old new : Device) (n : MoteState) (s : Store) (sent : Option Message) (did : Did) → t ≡ record { mote = n; trail = resting s 0; sent = sent; answer = did } → Stands old.image s → ReadStopped old new → Stops t.trail old new
 read_stops t old new n s sent did e stands stopped =
     let May : ℕ → List ℕ → Type 0 = MayLeave Stands IsNear (resting s 0) in
     let here : Halted 0 May old new = Halted_once May stopped.halts (read_leaves s new.image (subst (λ (c : List ℕ). Stands c s) (sym stopped.same_image) stands)) in
-    subst (λ (x : Trail Store). Stops x old new) (sym (ap (λ (x : Turn Did). x.trail) e)) (subst (λ (k : ℕ). Halted k May old new) (sym (operations-resting s 0)) here)
+    subst (λ (x : Trail Store). Stops x old new) (sym (ap (λ (x : MoteStep Did). x.trail) e)) (subst (λ (k : ℕ). Halted k May old new) (sym (operations-resting s 0)) here)

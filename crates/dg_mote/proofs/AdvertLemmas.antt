@@ -27,7 +27,7 @@ use Rattle.dg_volume.specs.Ends.{taken}
 use Rattle.dg_volume.specs.Table.{row_at}
 use Rattle.dg_frame.specs.Ranges.{EntryInRange, TellsVersion}
 use Rattle.dg_frame.specs.declared.Entry.{Entry}
-use Rattle.dg_mote.specs.Model.{MoteState, Mode, Maintain, Receive, Transmit, came, Turn}
+use Rattle.dg_mote.specs.Model.{MoteState, Mode, Maintain, Receive, Transmit, came, MoteStep}
 use Rattle.dg_mote.specs.Summary.{entry_for, is_own, advertiser_ahead, ahead_in}
 use Rattle.dg_mote.specs.Agreement.{ModeAgrees, HonestEntry}
 use Rattle.dg_mote.specs.Adverts.{outline, better_trail, ask_trail, asks, asking, noting, by_ahead, turn_behind, advert_heard, on_advert, offer}
@@ -239,7 +239,7 @@ module _ (table : List Row) (laws : TakeLaws table) (now draw source : ℕ) wher
     unfolding better_trail
     better_well s o w = cond_both (nat_lt s.order.number o.number && nat_le 1 s.room) _ _ (Through (StoreIsWell table)) (λ _. laws.order s o w) (λ _. Through-resting (StoreIsWell table) s 0 w)
 
-    behind_keeps : (s : Store) (t : Trail Store) (step : Turn Heard) → Through (StoreIsWell table) t → BeginsAt (last t) step.trail → Keeps (StoreIsWell table) table step → Keeps (StoreIsWell table) table (turn_behind t step)
+    behind_keeps : (s : Store) (t : Trail Store) (step : MoteStep Heard) → Through (StoreIsWell table) t → BeginsAt (last t) step.trail → Keeps (StoreIsWell table) table step → Keeps (StoreIsWell table) table (turn_behind t step)
     behind_keeps s t step way begins k =
         record {
           way = Through-joined (StoreIsWell table) t step.trail way k.way;

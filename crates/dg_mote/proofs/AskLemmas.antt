@@ -15,7 +15,7 @@ use Rattle.dg_nor.proofs.DeviceLemmas.{Ran-none}
 use Rattle.dg_nor.proofs.TrailLemmas.{last-resting, last-joined, EachWorks-resting, EachWorks-joined, Halted-joined_second}
 use Rattle.dg_trickle.specs.Timer.{Timer}
 use Rattle.dg_recv.specs.Reception.{Reception}
-use Rattle.dg_recv.specs.Steps.{begun}
+use Rattle.dg_recv.specs.Steps.{reception_begun}
 use Rattle.dg_bits.proofs.SetLaws.{same_numbers, contains-none}
 use Rattle.dg_control.specs.declared.snapshot.Order.{Order}
 use Rattle.dg_frame.specs.Sizes.{known_images}
@@ -228,13 +228,13 @@ maintain_free c v m s timer is mode = free_by v.mode (subst (λ (y : Mode). Mode
     free_by (value.Transmit a b d f) stands = absurd stands
 
 pub asking_done : (a b : Device) (v : Mote) (w : Volume) (m : MoteState) (s : Store) (timer : Timer) (now draw source i page : ℕ) (e : Entry) (asks : Reception) (job : PageJob) → IsMote a.image v m s → m.mode ≡ Maintain timer → MayTake s i e → i ≤ known_images m.wide
-    → Acted (ask_trail s i e) a b w → Begun b.image (last (ask_trail s i e)) i e job → is_lent w i ≡ true → ((k : ℕ) → k ≢ i → is_lent w k ≡ is_lent v.volume k) → asks ≡ begun now draw → page ≡ done_told (slot_of job)
+    → Acted (ask_trail s i e) a b w → Begun b.image (last (ask_trail s i e)) i e job → is_lent w i ≡ true → ((k : ℕ) → k ≢ i → is_lent w k ≡ is_lent v.volume k) → asks ≡ reception_begun now draw → page ≡ done_told (slot_of job)
     → Done (asking m s now draw source i e) a b (record v { volume = w; mode = value.Receive e.version source asks job }) (heard.Asks i page)
 asking_done a b v w m s timer now draw source i page e asks job is mode may high acted started lent others asked pages =
     let t = last (ask_trail s i e) in
     let free = maintain_free a.image v m s timer is mode in
     let done : length started.kept.complete ≡ done_of (held t i) = sym (ap done_of started.held_here) in
-    let reception_is : begun now draw ≡ record { got = came no_packets; tries = 0; due = (begun now draw).due } = ap (λ g. record { got = g; tries = 0; due = (begun now draw).due }) (sym none_came) in
+    let reception_is : reception_begun now draw ≡ record { got = came no_packets; tries = 0; due = (reception_begun now draw).due } = ap (λ g. record { got = g; tries = 0; due = (reception_begun now draw).due }) (sym none_came) in
     let none : set.len (came no_packets) ≡ 0 = ap set.len none_came ∙ set.len-empty nat_cmp in
     record {
       ran = acted.ran;

@@ -31,7 +31,7 @@ use Rattle.dg_frame.specs.declared.Entry.{Entry}
 use Rattle.dg_frame.specs.declared.Message.{Message}
 use Rattle.dg_frame.specs.declared.Message.TheVariants.{Advert, Request, Packet, Wide}
 use Rattle.dg_frame.specs.declared.FrameFault.{FrameFault}
-use Rattle.dg_mote.specs.Model.{MoteState, Mode, Maintain, Receive, Transmit, Receiving, Sending, came, reception, Turn}
+use Rattle.dg_mote.specs.Model.{MoteState, Mode, Maintain, Receive, Transmit, Receiving, Sending, came, reception, MoteStep}
 use Rattle.dg_mote.specs.Summary.{entry_for, is_own, ahead_in}
 use Rattle.dg_mote.specs.Ticks.{clears, maintain_by, receive_by, transmit_by, mode_tick, tick_of}
 use Rattle.dg_mote.specs.Adverts.{outline, better_trail, ask_trail, asks, noting, by_ahead, advert_heard, on_advert, offer}
@@ -39,7 +39,7 @@ use Rattle.dg_mote.specs.Requests.{concerns, can_serve, is_served, to_it, on_req
 use Rattle.dg_mote.specs.Packets.{is_wanted, accepted, seal_by, takes, on_packet, page_packet}
 use Rattle.dg_mote.specs.Hears.{source_of, on_message, by_message, heard_of}
 
-abbrev Begins : {A : Type 0} → Store → Turn A → Type 0
+abbrev Begins : {A : Type 0} → Store → MoteStep A → Type 0
 Begins s step = BeginsAt s step.trail
 
 pub resting_begins : (s : Store) (n : ℕ) → BeginsAt s (resting s n)
@@ -58,7 +58,7 @@ module _ (order : (s : Store) (o : Order) → BeginsAt s (order_trail s o)) (cle
 
   maintain_begins : (a : Act) (m : MoteState) (s : Store) → Begins s (maintain_by a m s)
   maintain_begins act.Send m s = resting_begins s 0
-  maintain_begins act.Quiet m s = resting_begins s 0
+  maintain_begins act.Suppressed m s = resting_begins s 0
   maintain_begins act.Expired m s = resting_begins s 0
   maintain_begins act.Nothing m s = resting_begins s 0
 

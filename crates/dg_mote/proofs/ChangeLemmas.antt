@@ -36,7 +36,7 @@ use Rattle.dg_frame.specs.declared.Entry.{Entry}
 use Rattle.dg_frame.specs.declared.FrameFault.{FrameFault}
 use Rattle.dg_frame.specs.declared.Message.{Message}
 use Rattle.dg_frame.specs.declared.Message.TheVariants.{Request, Packet}
-use Rattle.dg_mote.specs.Model.{MoteState, Mode, Maintain, Receive, Transmit, Receiving, Sending, came, reception, Turn}
+use Rattle.dg_mote.specs.Model.{MoteState, Mode, Maintain, Receive, Transmit, Receiving, Sending, came, reception, MoteStep}
 use Rattle.dg_mote.specs.Summary.{entry_for, advert_by, is_own, advertiser_ahead, ahead_in}
 use Rattle.dg_mote.specs.Ticks.{clears, maintain_by, receive_by, transmit_by, mode_tick, tick_of}
 use Rattle.dg_mote.specs.Adverts.{outline, better_trail, ask_trail, asks, noting, by_ahead, advert_heard, on_advert, offer}
@@ -57,12 +57,12 @@ joined_first t u = refl
 
 -- ---- ticks
 
-abbrev Rests : {A : Type 0} → Store → Turn A → Type 0
+abbrev Rests : {A : Type 0} → Store → MoteStep A → Type 0
 Rests s step = step.trail ≡ resting s 0
 
 maintain_rests : (a : Act) (m : MoteState) (s : Store) → Rests s (maintain_by a m s)
 maintain_rests act.Send m s = refl
-maintain_rests act.Quiet m s = refl
+maintain_rests act.Suppressed m s = refl
 maintain_rests act.Expired m s = refl
 maintain_rests act.Nothing m s = refl
 
@@ -84,22 +84,22 @@ mode_rests (Transmit t) m s now draw = transmit_rests (serve_of t.owed now) m t 
 pub tick_clears : (m : MoteState) (s : Store) (now draw : ℕ) → Through (MayClear s) (tick_of m s now draw).trail
 unfolding tick_of
 tick_clears m s now draw =
-    cond_both (clears m s now) _ _ (λ (step : Turn Did). Through (MayClear s) step.trail)
+    cond_both (clears m s now) _ _ (λ (step : MoteStep Did). Through (MayClear s) step.trail)
     (λ _. Through-stepping (MayClear s) s (commit_operations s.room) (gesture_cleared s) (inl refl) (inr refl))
     (λ _. subst (Through (MayClear s)) (sym (mode_rests m.mode m s now draw)) (Through-resting (MayClear s) s 0 (inl refl)))
 
 -- ---- requests
 
 to_it_rests : (mode : Mode) (m : MoteState) (s : Store) (now image version page : ℕ) (want : Numbers) → Rests s (to_it mode m s now (page_request image version page want))
-to_it_rests (Maintain timer) m s now image version page want = cond_both (can_serve s image version page) _ _ (λ (step : Turn Heard). Rests s step) (λ _. refl) (λ _. refl)
-to_it_rests (Transmit t) m s now image version page want = cond_both (is_served t image version page) _ _ (λ (step : Turn Heard). Rests s step) (λ _. refl) (λ _. refl)
+to_it_rests (Maintain timer) m s now image version page want = cond_both (can_serve s image version page) _ _ (λ (step : MoteStep Heard). Rests s step) (λ _. refl) (λ _. refl)
+to_it_rests (Transmit t) m s now image version page want = cond_both (is_served t image version page) _ _ (λ (step : MoteStep Heard). Rests s step) (λ _. refl) (λ _. refl)
 to_it_rests (Receive r) m s now image version page want = refl
 
 request_by_rests : (m : MoteState) (s : Store) (now draw source to image version page : ℕ) (want : Numbers) → Rests s (by_message (Ok (Request source to image version page want)) m s now draw)
 request_by_rests m s now draw source to image version page want =
-    cond_both (source == m.id) _ _ (λ (step : Turn Heard). Rests s step) (λ _. refl)
-    (λ _. cond_both (to == m.id) _ _ (λ (step : Turn Heard). Rests s step) (λ _. to_it_rests m.mode m s now image version page want)
-    (λ _. cond_both (concerns s image version page) _ _ (λ (step : Turn Heard). Rests s step) (λ _. refl) (λ _. refl)))
+    cond_both (source == m.id) _ _ (λ (step : MoteStep Heard). Rests s step) (λ _. refl)
+    (λ _. cond_both (to == m.id) _ _ (λ (step : MoteStep Heard). Rests s step) (λ _. to_it_rests m.mode m s now image version page want)
+    (λ _. cond_both (concerns s image version page) _ _ (λ (step : MoteStep Heard). Rests s step) (λ _. refl) (λ _. refl)))
 
 pub request_rests : (m : MoteState) (s : Store) (now draw : ℕ) (bytes : List ℕ) (source to image version page : ℕ) (want : Numbers)
     → message_of bytes m.wide ≡ Ok (Request source to image version page want) → (heard_of m s now draw bytes).trail ≡ resting s 0
@@ -126,16 +126,16 @@ module _ (m : MoteState) (s : Store) (image version page q : ℕ) where
   seal_turns : (o : Option Held) (r : Receiving) (now draw : ℕ) (content : List ℕ) → Completes m.mode image version page q s (paged r.image content s) → Through Turns (seal_by o m r s now draw content).trail
   seal_turns None r now draw content all = rests_turns 0
   seal_turns (Some h) r now draw content all =
-      cond_both (may_seal r.image h content) _ _ (λ (step : Turn Heard). Through Turns step.trail)
+      cond_both (may_seal r.image h content) _ _ (λ (step : MoteStep Heard). Through Turns step.trail)
       (λ _. Through-joined Turns (resting s 1) (stepping s 1 (paged r.image content s)) (rests_turns 1) (Through-stepping Turns s 1 (paged r.image content s) (inl refl) (inr all)))
       (λ _. rests_turns 1)
 
   packet_turns : (mode : Mode) (now draw : ℕ) (bytes : List ℕ) → m.mode ≡ mode → Through Turns (on_packet mode m s now draw (page_packet image version page q bytes)).trail
   packet_turns (Receive r) now draw bytes is =
       let ps = put_packet r.packets q bytes in
-      cond_both (is_wanted r image version page q) _ _ (λ (step : Turn Heard). Through Turns step.trail)
+      cond_both (is_wanted r image version page q) _ _ (λ (step : MoteStep Heard). Through Turns step.trail)
       (λ w. let known = wanted r image version page q w in
-      cond_both (set.len (came ps) == packets) _ _ (λ (step : Turn Heard). Through Turns step.trail)
+      cond_both (set.len (came ps) == packets) _ _ (λ (step : MoteStep Heard). Through Turns step.trail)
       (λ full. seal_turns (held s r.image) r now draw (page_from ps)
       (record {
         r = r;
@@ -149,12 +149,12 @@ module _ (m : MoteState) (s : Store) (image version page q : ℕ) where
       }))
       (λ _. rests_turns 1))
       (λ _. rests_turns 0)
-  packet_turns (Maintain timer) now draw bytes is = cond_both (concerns s image version page) _ _ (λ (step : Turn Heard). Through Turns step.trail) (λ _. rests_turns 0) (λ _. rests_turns 0)
+  packet_turns (Maintain timer) now draw bytes is = cond_both (concerns s image version page) _ _ (λ (step : MoteStep Heard). Through Turns step.trail) (λ _. rests_turns 0) (λ _. rests_turns 0)
   packet_turns (Transmit t) now draw bytes is = rests_turns 0
 
   packet_by_turns : (now draw source : ℕ) (bytes : List ℕ) → Through Turns (by_message (Ok (Packet source image version page q bytes)) m s now draw).trail
   packet_by_turns now draw source bytes =
-      cond_both (source == m.id) _ _ (λ (step : Turn Heard). Through Turns step.trail) (λ _. rests_turns 0) (λ _. packet_turns m.mode now draw bytes refl)
+      cond_both (source == m.id) _ _ (λ (step : MoteStep Heard). Through Turns step.trail) (λ _. rests_turns 0) (λ _. packet_turns m.mode now draw bytes refl)
 
 pub packet_completes : (m : MoteState) (s : Store) (now draw : ℕ) (bytes : List ℕ) (source image version page q : ℕ) (content : List ℕ)
     → message_of bytes m.wide ≡ Ok (Packet source image version page q content) → Through (λ t. (t ≡ s) ⊎ Completes m.mode image version page q s t) (heard_of m s now draw bytes).trail
@@ -324,11 +324,11 @@ module _ (ends : (s : Store) (p : Outline) → last (take_trail s p) ≡ taken s
   ahead_goes None m timer u now draw source own h known = noting_goes own m timer u now draw h
   ahead_goes (Some i) m timer u now draw source own h known =
       let k = known i refl in
-      cond_both (asks m u now i (entry_for entries i)) _ _ (λ (step : Turn Heard). Goes u step.trail)
+      cond_both (asks m u now i (entry_for entries i)) _ _ (λ (step : MoteStep Heard). Goes u step.trail)
       (λ _. ask_goes u i h k.0 k.1) (λ _. noting_goes own m timer u now draw h)
 
   -- it goes so, and ends so
-  abbrev Both : Turn Heard → Type 0
+  abbrev Both : MoteStep Heard → Type 0
   Both step = Through (TakesThere true) step.trail × TakesThere false (last step.trail)
 
   same_both : Through (TakesThere true) (resting s 0) × TakesThere false (last (resting s 0))

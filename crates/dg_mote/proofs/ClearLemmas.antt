@@ -12,7 +12,7 @@ use Rattle.dg_volume.specs.Stands.{is_lent, Tells, room_of}
 use Rattle.dg_volume.specs.Trails.{clear_trail}
 use Rattle.dg_volume.specs.Acts.{Acted}
 use Rattle.dg_volume.specs.declared.volume.Volume.{Volume}
-use Rattle.dg_mote.specs.Model.{MoteState, Mode, Maintain, Receive, Transmit, Turn}
+use Rattle.dg_mote.specs.Model.{MoteState, Mode, Maintain, Receive, Transmit, MoteStep}
 use Rattle.dg_mote.specs.Ticks.{clears, mode_tick, tick_of}
 use Rattle.dg_mote.specs.Motes.{IsMote, ModeStands, Done}
 use Rattle.dg_mote.specs.declared.mote.Did.{Did}
@@ -23,7 +23,7 @@ use Rattle.dg_mote.specs.declared.mote.Mode.TheVariants as value
 
 -- ---- which row it is
 
-abbrev pub clear_turn : MoteState → Store → Turn Did
+abbrev pub clear_turn : MoteState → Store → MoteStep Did
 clear_turn m s = record { mote = m; trail = clear_trail s; sent = None; answer = Idle }
 
 pub tick_clears : (m : MoteState) (s : Store) (now draw : ℕ) → clears m s now ≡ true → tick_of m s now draw ≡ clear_turn m s

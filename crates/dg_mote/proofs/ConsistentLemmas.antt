@@ -16,7 +16,7 @@ use Rattle.dg_quiet.specs.Noted.{with_packet, with_request}
 use Rattle.dg_recv.specs.Steps.{ask_of}
 use Rattle.dg_recv.specs.declared.Ask.{Ask}
 use Rattle.dg_recv.specs.declared.Ask.TheVariants as ask
-use Rattle.dg_send.specs.Steps.{serve_of, after_next, begun, after_merge}
+use Rattle.dg_send.specs.Steps.{serve_of, after_next, owed_begun, after_merge}
 use Rattle.dg_send.specs.declared.Serve.{Serve}
 use Rattle.dg_send.specs.declared.Serve.TheVariants as serve
 use Rattle.dg_slot.specs.Kept.{Held, with_page}
@@ -39,7 +39,7 @@ use Rattle.dg_frame.specs.declared.Entry.{Entry}
 use Rattle.dg_frame.specs.declared.Message.{Message}
 use Rattle.dg_frame.specs.declared.Message.TheVariants.{Advert, Request, Packet, Wide}
 use Rattle.dg_frame.specs.declared.FrameFault.{FrameFault}
-use Rattle.dg_mote.specs.Model.{MoteState, Mode, Maintain, Receive, Transmit, Receiving, Sending, came, reception, maintains, Turn}
+use Rattle.dg_mote.specs.Model.{MoteState, Mode, Maintain, Receive, Transmit, Receiving, Sending, came, reception, maintains, MoteStep}
 use Rattle.dg_mote.specs.Summary.{entry_for, is_own, ahead_in}
 use Rattle.dg_mote.specs.Ticks.{clears, maintain_by, asked, receive_by, serving, transmit_by, mode_tick, tick_of}
 use Rattle.dg_mote.specs.Adverts.{outline, better_trail, ask_trail, asks, asking, noting, by_ahead, turn_behind, advert_heard, on_advert, offer}
@@ -69,7 +69,7 @@ module _ (golden : Row) (laws : ActLaws golden) (now draw : ℕ) where
   abbrev P : Store → Type 0
   P = StoreIsConsistent golden
 
-  abbrev Turns : {A : Type 0} → Turn A → Type 0
+  abbrev Turns : {A : Type 0} → MoteStep A → Type 0
   Turns step = TurnIsConsistent golden step
 
   -- ---- stores that have their slots too
@@ -100,7 +100,7 @@ module _ (golden : Row) (laws : ActLaws golden) (now draw : ℕ) where
   module _ (s : Store) (here : P s) where
     maintain_turns : (a : Act) (m : MoteState) → AsksForKnown m.mode → Turns (maintain_by a m s)
     maintain_turns act.Send m own = rests m s 0 _ _ here own
-    maintain_turns act.Quiet m own = rests m s 0 None _ here own
+    maintain_turns act.Suppressed m own = rests m s 0 None _ here own
     maintain_turns act.Expired m own = rests m s 0 None _ here own
     maintain_turns act.Nothing m own = rests m s 0 None _ here own
 
@@ -163,7 +163,7 @@ module _ (golden : Row) (laws : ActLaws golden) (now draw : ℕ) where
         (λ _. asking_turns m s i (entry_for entries i) a.low (omega (arith, high, few)) p)
         (λ _. noting_turns own m timer s p)
 
-    behind_turns : (t : Trail Store) (step : Turn Heard) → Through P t → Turns step → Turns (turn_behind t step)
+    behind_turns : (t : Trail Store) (step : MoteStep Heard) → Through P t → Turns step → Turns (turn_behind t step)
     behind_turns t step way k = record { way = Through-joined P t step.trail way k.way; asks = k.asks }
 
     advert_turns : (mode : Mode) (m : MoteState) (s : Store) (order : Order) → P s → AsksForKnown m.mode → Turns (on_advert mode m s now draw (offer source entries) order)
@@ -181,7 +181,7 @@ module _ (golden : Row) (laws : ActLaws golden) (now draw : ℕ) where
     to_it_turns : (mode : Mode) (m : MoteState) (image version page : ℕ) (want : Numbers) → AsksForKnown m.mode → Turns (to_it mode m s now (page_request image version page want))
     to_it_turns (Maintain timer) m image version page want own =
         cond_both (can_serve s image version page) _ _ Turns
-        (λ _. rests (record m { mode = Transmit (record { image = image; version = version; page = page; owed = begun now want }) }) s 0 None _ here tt)
+        (λ _. rests (record m { mode = Transmit (record { image = image; version = version; page = page; owed = owed_begun now want }) }) s 0 None _ here tt)
         (λ _. rests m s 0 None _ here own)
     to_it_turns (Transmit t) m image version page want own =
         cond_both (is_served t image version page) _ _ Turns
@@ -256,7 +256,7 @@ stopped_consistent golden t k s way left = Leaves-through IsNear (StoreIsConsist
 -- ---- over the bytes of a chip
 
 -- a call that did what the rules say
-pub turn_consistent : {T E : Type 0} (golden : Row) (turn : MoteState → Store → Turn T) → ((m : MoteState) (s : Store) → StoreIsConsistent golden s → AsksForKnown m.mode → TurnIsConsistent golden (turn m s))
+pub turn_consistent : {T E : Type 0} (golden : Row) (turn : MoteState → Store → MoteStep T) → ((m : MoteState) (s : Store) → StoreIsConsistent golden s → AsksForKnown m.mode → TurnIsConsistent golden (turn m s))
     → (r : Result T E) (a b : Device) (v u : Mote) → IfOk r (λ x. (m : MoteState) (s : Store) → IsMote a.image v m s → Done (turn m s) a b u x) → OnOk r (MoteIsConsistent golden a.image v → MoteIsConsistent golden b.image u)
 turn_consistent golden turn law (Ok x) a b v u done = λ here.
     let t = law here.state here.store here.consistent here.asks in
@@ -271,7 +271,7 @@ turn_consistent golden turn law (Ok x) a b v u done = λ here.
 turn_consistent golden turn law (Err e) a b v u done = tt
 
 -- one that was stopped
-pub stop_consistent : {T E : Type 0} (golden : Row) (turn : MoteState → Store → Turn T) → ((m : MoteState) (s : Store) → StoreIsConsistent golden s → AsksForKnown m.mode → TurnIsConsistent golden (turn m s))
+pub stop_consistent : {T E : Type 0} (golden : Row) (turn : MoteState → Store → MoteStep T) → ((m : MoteState) (s : Store) → StoreIsConsistent golden s → AsksForKnown m.mode → TurnIsConsistent golden (turn m s))
     → ((t : Trail Store) (k : ℕ) (s : Store) → Through (StoreIsConsistent golden) t → Leaves IsNear t k s → StoreIsConsistent golden s)
     → (r : Result T E) (a b : Device) (v : Mote) → OnErr r ((m : MoteState) (s : Store) → IsMote a.image v m s → Stops (turn m s).trail a b) → OnErr r (MoteIsConsistent golden a.image v → ChipIsConsistent golden b.image)
 stop_consistent golden turn law stopped (Ok x) a b v stops = tt

@@ -33,7 +33,7 @@ use Rattle.dg_volume.specs.Changes.{paged}
 use Rattle.dg_volume.specs.Acts.{Acted, Stops}
 use Rattle.dg_volume.specs.Trails.{BeginsAt, sealing_trail}
 use Rattle.dg_volume.specs.declared.volume.Volume.{Volume}
-use Rattle.dg_mote.specs.Model.{MoteState, Mode, Receive, NamesKnown, Receiving, came, reception, maintains, Turn}
+use Rattle.dg_mote.specs.Model.{MoteState, Mode, Receive, NamesKnown, Receiving, came, reception, maintains, MoteStep}
 use Rattle.dg_mote.specs.Adverts.{turn_behind}
 use Rattle.dg_mote.specs.Packets.{accepted, seal_by, takes}
 use Rattle.dg_mote.specs.Motes.{IsMote, ModeStands, Receives, Done}
@@ -50,42 +50,42 @@ use Rattle.dg_mote.proofs.ServeLemmas.{chosen, passed}
 
 -- ---- a turn that comes behind a trail
 
-pub done_behind : (t : Trail Store) (x : Turn Heard) (a b c : Device) (v : Mote) (answer : Heard) → last t ≡ x.trail.first → Ran (operations t) a b → Done x b c v answer → Done (turn_behind t x) a c v answer
+pub done_behind : (t : Trail Store) (x : MoteStep Heard) (a b c : Device) (v : Mote) (answer : Heard) → last t ≡ x.trail.first → Ran (operations t) a b → Done x b c v answer → Done (turn_behind t x) a c v answer
 done_behind t x a b c v answer same ran done = record {
   ran = Ran-joined t x.trail ran done.ran;
   mote = subst (IsMote c.image v x.mote) (sym (last-joined t x.trail same)) done.mote;
   answers = done.answers;
 }
 
-pub stops_behind : (t : Trail Store) (x : Turn Heard) (a b c : Device) → last t ≡ x.trail.first → Ran (operations t) a b → Stops x.trail b c → Stops (turn_behind t x).trail a c
+pub stops_behind : (t : Trail Store) (x : MoteStep Heard) (a b c : Device) → last t ≡ x.trail.first → Ran (operations t) a b → Stops x.trail b c → Stops (turn_behind t x).trail a c
 stops_behind t x a b c same ran stops = Halted-joined_second Stands IsNear t x.trail same ran stops
 
-pub stops_before : (t : Trail Store) (x : Turn Heard) (a b : Device) → BeginsAt (last t) x.trail → Stops t a b → Stops (turn_behind t x).trail a b
+pub stops_before : (t : Trail Store) (x : MoteStep Heard) (a b : Device) → BeginsAt (last t) x.trail → Stops t a b → Stops (turn_behind t x).trail a b
 stops_before t x a b begins stops = stops_first t x.trail a b begins.works (sym begins.first) stops
 
 -- ---- a whole page is sealed
 
-abbrev ended : MoteState → (now draw : ℕ) → Trail Store → Heard → Turn Heard
+abbrev ended : MoteState → (now draw : ℕ) → Trail Store → Heard → MoteStep Heard
 ended m now draw t answer = record { mote = maintains m now draw; trail = t; sent = None; answer = answer }
 
 sealed_is : (m : MoteState) (r : Receiving) (h : Held) (s : Store) (now draw : ℕ) (page : List ℕ) → seal_by (Some h) m r s now draw page ≡ turn_behind (resting s 1) (page_ends m r h s now draw page)
 unfolding joined delayed rest_of
 sealed_is m r h s now draw page = by_fit (may_seal r.image h page)
   where
-    by_fit : (fits : Bool) → ◌≡◌ {A = Turn Heard} (cond fits (ended m now draw (joined (resting s 1) (stepping s 1 (paged r.image page s))) (heard.Sealed r.image r.page)) (ended m now draw (resting s 1) (heard.Bad r.image r.page)))
+    by_fit : (fits : Bool) → ◌≡◌ {A = MoteStep Heard} (cond fits (ended m now draw (joined (resting s 1) (stepping s 1 (paged r.image page s))) (heard.Sealed r.image r.page)) (ended m now draw (resting s 1) (heard.Bad r.image r.page)))
         (turn_behind (resting s 1) (cond fits (ended m now draw (stepping s 1 (paged r.image page s)) (heard.Sealed r.image r.page)) (ended m now draw (resting s 0) (heard.Bad r.image r.page))))
     by_fit true = refl
     by_fit false = refl
 
-trail_by : (fits : Bool) (x y : Turn Heard) → (cond fits x y).trail ≡ cond fits x.trail y.trail
+trail_by : (fits : Bool) (x y : MoteStep Heard) → (cond fits x y).trail ≡ cond fits x.trail y.trail
 trail_by true x y = refl
 trail_by false x y = refl
 
-mote_by : (fits : Bool) (x y : Turn Heard) → (cond fits x y).mote ≡ cond fits x.mote y.mote
+mote_by : (fits : Bool) (x y : MoteStep Heard) → (cond fits x y).mote ≡ cond fits x.mote y.mote
 mote_by true x y = refl
 mote_by false x y = refl
 
-answer_by : (fits : Bool) (x y : Turn Heard) → (cond fits x y).answer ≡ cond fits x.answer y.answer
+answer_by : (fits : Bool) (x y : MoteStep Heard) → (cond fits x y).answer ≡ cond fits x.answer y.answer
 answer_by true x y = refl
 answer_by false x y = refl
 
@@ -122,7 +122,7 @@ takes_whole m r h s now draw q bytes here all =
     let e : n == packets ≡ true = eq-eqb n packets all in
     chosen (n == packets) _ _ e ∙ ap (λ (o : Option Held). seal_by o m r s now draw page) here ∙ sealed_is m r h s now draw page
 
-abbrev pub took : MoteState → Receiving → Store → (now q : ℕ) → List ℕ → Turn Heard
+abbrev pub took : MoteState → Receiving → Store → (now q : ℕ) → List ℕ → MoteStep Heard
 took m r s now q bytes = record { mote = record m { mode = Receive (accepted r now q bytes) }; trail = resting s 1; sent = None; answer = heard.Took q }
 
 pub takes_part : (m : MoteState) (r : Receiving) (s : Store) (now draw q : ℕ) (bytes : List ℕ) → set.len (came (put_packet r.packets q bytes)) < packets → takes m r s now draw q bytes ≡ took m r s now q bytes
@@ -135,7 +135,7 @@ takes_part m r s now draw q bytes less =
 pub takes_stopped : (m : MoteState) (r : Receiving) (h : Held) (s : Store) (now draw q : ℕ) (bytes : List ℕ) (a b : Device) → held s r.image ≡ Some h → Stops (resting s 1) a b → Stops (takes m r s now draw q bytes).trail a b
 takes_stopped m r h s now draw q bytes a b here stops =
     let ps = put_packet r.packets q bytes in
-    let Goal : Turn Heard → Type 0 = λ x. Stops x.trail a b in
+    let Goal : MoteStep Heard → Type 0 = λ x. Stops x.trail a b in
     ⊎_elim
     (λ all. subst Goal (sym (takes_whole m r h s now draw q bytes here all)) (stops_before (resting s 1) (page_ends m r h s now draw (page_from ps)) a b (subst (λ (x : Store). BeginsAt x (page_ends m r h s now draw (page_from ps)).trail) (sym (last-resting s 1)) (ends_begin m r h s now draw (page_from ps))) stops))
     (λ other. subst Goal (sym (takes_part m r s now draw q bytes (omega (arith, came_few ps, other)))) stops)

@@ -11,13 +11,13 @@ use Rattle.dg_volume.specs.Store.{Store, held}
 use Rattle.dg_volume.specs.Agreement.{KeepsRow, Agrees}
 use Rattle.dg_frame.specs.Sizes.{known_images}
 use Rattle.dg_frame.specs.declared.Message.{Message}
-use Rattle.dg_mote.specs.Model.{MoteState, Mode, Maintain, Receive, Transmit, Turn}
+use Rattle.dg_mote.specs.Model.{MoteState, Mode, Maintain, Receive, Transmit, MoteStep}
 use Rattle.dg_mote.specs.Summary.{no_entry, entry_by, entries_of, advert_of, entry_for}
 use Rattle.dg_mote.specs.Agreement.{ModeAgrees, HonestEntry, HonestMessage}
 use Rattle.dg_mote.specs.Well.{SendsHonest}
 
 -- a step goes through stores of P, leaves a mode that agrees, and sends what is honest
-pub record Keeps {A : Type 0} (P : Store → Type 0) (table : List Row) (step : Turn A) : Type 0 where
+pub record Keeps {A : Type 0} (P : Store → Type 0) (table : List Row) (step : MoteStep A) : Type 0 where
   pub way : Through P step.trail
   pub mode : ModeAgrees table (last step.trail) step.mote.mode
   pub sent : SendsHonest table step.sent

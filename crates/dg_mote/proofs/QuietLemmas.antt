@@ -33,7 +33,7 @@ use Rattle.dg_frame.specs.declared.Entry.{Entry}
 use Rattle.dg_frame.specs.declared.Message.{Message}
 use Rattle.dg_frame.specs.declared.Message.TheVariants.{Advert, Request, Packet, Wide}
 use Rattle.dg_frame.specs.declared.FrameFault.{FrameFault}
-use Rattle.dg_mote.specs.Model.{MoteState, Mode, Maintain, Receive, Transmit, Receiving, Sending, came, reception, maintains, Turn}
+use Rattle.dg_mote.specs.Model.{MoteState, Mode, Maintain, Receive, Transmit, Receiving, Sending, came, reception, maintains, MoteStep}
 use Rattle.dg_mote.specs.Summary.{entries_of, own_order, advert_by, entry_for, is_own, ahead_in}
 use Rattle.dg_mote.specs.Ticks.{clears, maintain_by, receive_by, serving, transmit_by, mode_tick, tick_of}
 use Rattle.dg_mote.specs.Adverts.{better_trail, asks, noting, by_ahead, advert_heard, on_advert, offer}
@@ -103,7 +103,7 @@ module _ (image from until : ℕ) (Noting : Noted → Type 0) (shuts : Shuts ima
 
   -- ---- ticks
 
-  record Stays (step : Turn Did) : Type 0 where
+  record Stays (step : MoteStep Did) : Type 0 where
     quiet : IsQuiet step.mote
     sent : NoRequest image step.sent
 
@@ -113,7 +113,7 @@ module _ (image from until : ℕ) (Noting : Noted → Type 0) (shuts : Shuts ima
 
   maintain_quiet : (a : Act) (m : MoteState) (s : Store) → IsQuiet m → Stays (maintain_by a m s)
   maintain_quiet act.Send m s q = record { quiet = q; sent = no_request m.wide m.id (entries_of m.wide s) (own_order m.wide s) }
-  maintain_quiet act.Quiet m s q = record { quiet = q; sent = tt }
+  maintain_quiet act.Suppressed m s q = record { quiet = q; sent = tt }
   maintain_quiet act.Expired m s q = record { quiet = q; sent = tt }
   maintain_quiet act.Nothing m s q = record { quiet = q; sent = tt }
 
@@ -145,7 +145,7 @@ module _ (image from until : ℕ) (Noting : Noted → Type 0) (shuts : Shuts ima
 
   -- ---- frames
 
-  abbrev Hushed : Turn Heard → Type 0
+  abbrev Hushed : MoteStep Heard → Type 0
   Hushed step = IsQuiet step.mote
 
   module _ (now : ℕ) (begun : from ≤ now) (early : now < until) where

@@ -28,7 +28,7 @@ use Rattle.dg_frame.specs.declared.Entry.{Entry}
 use Rattle.dg_frame.specs.declared.FrameFault.{FrameFault}
 use Rattle.dg_frame.specs.declared.Message.{Message}
 use Rattle.dg_frame.specs.declared.Message.TheVariants.{Advert, Request, Packet, Wide}
-use Rattle.dg_mote.specs.Model.{MoteState, Mode, Maintain, Receive, Transmit, Receiving, Sending, came, reception, Turn}
+use Rattle.dg_mote.specs.Model.{MoteState, Mode, Maintain, Receive, Transmit, Receiving, Sending, came, reception, MoteStep}
 use Rattle.dg_mote.specs.Summary.{entry_for, is_own, ahead_in}
 use Rattle.dg_mote.specs.Ticks.{clears, maintain_by, receive_by, transmit_by, mode_tick, tick_of}
 use Rattle.dg_mote.specs.Adverts.{better_trail, asks, noting, by_ahead, advert_heard, on_advert, offer}
@@ -58,12 +58,12 @@ stays comes old (Transmit t) is = tt
 abbrev NoneComes : (image version page q : ℕ) → Type 0
 NoneComes image version page q = ⊥
 
-abbrev Ticked : MoteState → Turn Did → Type 0
+abbrev Ticked : MoteState → MoteStep Did → Type 0
 Ticked m step = GoesOn m.mode NoneComes step.mote.mode
 
 maintain_goes : (a : Act) (m : MoteState) (timer : Timer) (s : Store) → GoesOn m.mode NoneComes (maintain_by a (record m { mode = Maintain timer }) s).mote.mode
 maintain_goes act.Send m timer s = tt
-maintain_goes act.Quiet m timer s = tt
+maintain_goes act.Suppressed m timer s = tt
 maintain_goes act.Expired m timer s = tt
 maintain_goes act.Nothing m timer s = tt
 
@@ -94,7 +94,7 @@ module _ (comes : (image version page q : ℕ) → Type 0) (m : MoteState) where
   abbrev Here : Receiving → Type 0
   Here r = IsBegun r ⊎ Continues m.mode comes r
 
-  abbrev Hears : Turn Heard → Type 0
+  abbrev Hears : MoteStep Heard → Type 0
   Hears step = IfReceives Here step.mote.mode
 
   same_mode : (mode : Mode) → m.mode ≡ mode → IfReceives Here mode

@@ -8,7 +8,7 @@ use Rattle.std.specs.Ordering.{nat_cmp}
 use Rattle.dg_bits.specs.Sets.{Numbers}
 use Rattle.dg_bits.proofs.SetLaws.{same_numbers, contains-both, contains-none}
 use Rattle.dg_nor.specs.Trail.{resting}
-use Rattle.dg_send.specs.Steps.{begun, after_merge}
+use Rattle.dg_send.specs.Steps.{owed_begun, after_merge}
 use Rattle.dg_object.specs.Object.{Row}
 use Rattle.dg_slot.specs.Kept.{Held}
 use Rattle.dg_volume.specs.Store.{Store, held}
@@ -52,9 +52,9 @@ union_some s t some none =
 
 module _ (P : Store → Type 0) (table : List Row) (s : Store) (here : P s) (now : ℕ) where
   begins_serving : (m : MoteState) (image version page : ℕ) (want : Numbers) (answer : Heard) → PageInRange (known_images m.wide) image version page → want ≢ set.empty → Complete s image version page
-      → Keeps P table (record { mote = record m { mode = Transmit (record { image = image; version = version; page = page; owed = begun now want }) }; trail = resting s 0; sent = None; answer = answer })
+      → Keeps P table (record { mote = record m { mode = Transmit (record { image = image; version = version; page = page; owed = owed_begun now want }) }; trail = resting s 0; sent = None; answer = answer })
   begins_serving m image version page want answer range some c =
-      rests P table (record m { mode = Transmit (record { image = image; version = version; page = page; owed = begun now want }) }) s 0 None answer here
+      rests P table (record m { mode = Transmit (record { image = image; version = version; page = page; owed = owed_begun now want }) }) s 0 None answer here
       (record { not_golden = range.first; kept = c.kept; held_here = c.here; version = c.version_is; complete = c.complete; owed = λ none. some (set.empty_of_len want none) }) tt
 
   to_it_keeps : (mode : Mode) (m : MoteState) (image version page : ℕ) (want : Numbers) → PageInRange (known_images m.wide) image version page → want ≢ set.empty → ModeAgrees table s m.mode → ModeAgrees table s mode

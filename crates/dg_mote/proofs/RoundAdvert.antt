@@ -3,14 +3,14 @@ use Rattle.std.proofs.Common.{◌≡◌, ℕ, zero, suc, ◌+◌, ◌*◌, ◌�
 use Rattle.std.proofs.lemmas.Bool.{le-leb, lt-ltb}
 use Rattle.dg_nor.specs.Trail.{resting}
 use Rattle.dg_trickle.specs.Timer.{Timer}
-use Rattle.dg_trickle.specs.Steps.{IsRunning, begun as begun_timer, after_tick, act_of, is_due, is_over}
+use Rattle.dg_trickle.specs.Steps.{IsRunning, interval_begun, after_tick, act_of, is_due, is_over}
 use Rattle.dg_trickle.specs.Times.{longest_interval, redundancy}
 use Rattle.dg_trickle.specs.declared.Act.{Act}
 use Rattle.dg_trickle.specs.declared.Act.TheVariants as act
 use Rattle.dg_object.specs.Object.{Row}
 use Rattle.dg_volume.specs.Start.{order_waits}
 use Rattle.dg_frame.specs.declared.Message.{Message}
-use Rattle.dg_mote.specs.Model.{MoteState, Maintain, Turn}
+use Rattle.dg_mote.specs.Model.{MoteState, Maintain, MoteStep}
 use Rattle.dg_mote.specs.Summary.{advert_of}
 use Rattle.dg_mote.specs.Ticks.{maintain_by}
 use Rattle.dg_mote.specs.Effects.{Effect, tick_by, tick_effect}
@@ -42,22 +42,22 @@ next x t now = record { store = x.store; mote = record x.mote { mode = Maintain 
 fires : (t : Timer) (now : ℕ) → t.fired ≡ false → t.count ≡ 0 → IsRunning t → t.begin + pace ≤ now → (act_of t now ≡ act.Send) × (after_tick t now 0 ≡ record t { fired = true })
 fires t now f c r h =
     let due : is_due t now ≡ true = λ i. not (f i) && le-leb (t.begin + t.t) now (omega (arith, r.before_end, r.longest)) i in (
-      ap (λ b. cond b (cond (ltb t.count redundancy) act.Send act.Quiet) (cond (is_over t now) act.Expired act.Nothing)) due ∙ ap (λ b. cond b act.Send act.Quiet) (lt-ltb t.count redundancy (omega (arith, c))),
-      ap (λ b. cond b (record t { fired = true }) (cond (is_over t now) (begun_timer (min (2 * t.interval) longest_interval) now 0) t)) due,
+      ap (λ b. cond b (cond (ltb t.count redundancy) act.Send act.Suppressed) (cond (is_over t now) act.Expired act.Nothing)) due ∙ ap (λ b. cond b act.Send act.Suppressed) (lt-ltb t.count redundancy (omega (arith, c))),
+      ap (λ b. cond b (record t { fired = true }) (cond (is_over t now) (interval_begun (min (2 * t.interval) longest_interval) now 0) t)) due,
     )
 
-expires : (t : Timer) (now : ℕ) → t.fired ≡ true → IsRunning t → t.begin + pace ≤ now → (act_of t now ≡ act.Expired) × (after_tick t now 0 ≡ begun_timer (min (2 * t.interval) longest_interval) now 0)
+expires : (t : Timer) (now : ℕ) → t.fired ≡ true → IsRunning t → t.begin + pace ≤ now → (act_of t now ≡ act.Expired) × (after_tick t now 0 ≡ interval_begun (min (2 * t.interval) longest_interval) now 0)
 expires t now f r h =
     let due : is_due t now ≡ false = λ i. not (f i) && leb (t.begin + t.t) now in
     let over : is_over t now ≡ true = λ i. f i && le-leb (t.begin + t.interval) now (omega (arith, r.longest)) i in (
-      ap (λ b. cond b (cond (ltb t.count redundancy) act.Send act.Quiet) (cond (is_over t now) act.Expired act.Nothing)) due ∙ ap (λ b. cond b act.Expired act.Nothing) over,
-      ap (λ b. cond b (record t { fired = true }) (cond (is_over t now) (begun_timer (min (2 * t.interval) longest_interval) now 0) t)) due ∙ ap (λ b. cond b (begun_timer (min (2 * t.interval) longest_interval) now 0) t) over,
+      ap (λ b. cond b (cond (ltb t.count redundancy) act.Send act.Suppressed) (cond (is_over t now) act.Expired act.Nothing)) due ∙ ap (λ b. cond b act.Expired act.Nothing) over,
+      ap (λ b. cond b (record t { fired = true }) (cond (is_over t now) (interval_begun (min (2 * t.interval) longest_interval) now 0) t)) due ∙ ap (λ b. cond b (interval_begun (min (2 * t.interval) longest_interval) now 0) t) over,
     )
 
 tick_is : (x : Spot) (now : ℕ) (t : Timer) → Calm x now t → tick_at x (now + pace) ≡ tick_by (maintain_by (act_of t (now + pace)) (next x t (now + pace)).mote x.store).answer (maintain_by (act_of t (now + pace)) (next x t (now + pace)).mote x.store) (now + pace) 0
 unfolding tick_effect
 tick_is x now t c =
-    ap (λ (s : Turn Did). tick_by s.answer s (now + pace) 0)
+    ap (λ (s : MoteStep Did). tick_by s.answer s (now + pace) 0)
     (tick_by_mode x (now + pace) (Maintain t) (not_clearing x.mote x.store (now + pace) c.gesture) c.maintains
     ∙ ap (λ b. cond b (record { mote = x.mote; trail = resting x.store 0; sent = None; answer = Restart }) (maintain_by (act_of t (now + pace)) (next x t (now + pace)).mote x.store)) c.order)
 

@@ -9,7 +9,7 @@ use Rattle.dg_nor.proofs.TrailLemmas.{last-joined, last-resting}
 use Rattle.dg_bits.specs.Sets.{below}
 use Rattle.dg_bits.proofs.SetLaws.{same_numbers, contains-less, contains-below}
 use Rattle.dg_trickle.specs.Timer.{Timer}
-use Rattle.dg_recv.specs.Steps.{begun, missing}
+use Rattle.dg_recv.specs.Steps.{reception_begun, missing}
 use Rattle.dg_recv.specs.declared.Ask.TheVariants as ask
 use Rattle.dg_recv.specs.Times.{next_wait}
 use Rattle.dg_control.specs.declared.snapshot.Order.{Order}
@@ -26,7 +26,7 @@ use Rattle.dg_volume.specs.Agreement.{Agrees, KeepsRow, HoldsRow}
 use Rattle.dg_frame.specs.declared.Entry.{Entry}
 use Rattle.dg_frame.specs.declared.Message.{Message}
 use Rattle.dg_frame.specs.declared.Message.TheVariants.{Request}
-use Rattle.dg_mote.specs.Model.{MoteState, Maintain, Receive, Receiving, Turn, came, reception}
+use Rattle.dg_mote.specs.Model.{MoteState, Maintain, Receive, Receiving, MoteStep, came, reception}
 use Rattle.dg_mote.specs.Summary.{entry_for, entry_by, entries_of, advertiser_ahead, ahead_in, named, own_order, advert_of, is_own}
 use Rattle.dg_mote.specs.Ticks.{asked, receive_by}
 use Rattle.dg_mote.specs.Adverts.{better_trail, ask_trail, outline, asks, asking, noting, by_ahead, turn_behind, advert_heard, on_advert, dropped, offer}
@@ -34,7 +34,7 @@ use Rattle.dg_mote.specs.Hears.{on_message, by_message}
 use Rattle.dg_mote.specs.Effects.{tick_by, tick_effect}
 use Rattle.dg_mote.specs.Spots.{Spot, SpotIsWell, pace, hears, ticked}
 use Rattle.dg_mote.specs.Drained.{Drained, spare_room, HasRoom}
-use Rattle.dg_mote.specs.Completing.{BeginsWith, KeepsNext, AsksPage, Asked, Requested}
+use Rattle.dg_mote.specs.Completing.{TookProfile, KeepsNext, AsksPage, Asked, Requested}
 use Rattle.dg_mote.specs.declared.mote.Did.{Did}
 use Rattle.dg_mote.proofs.RowLemmas.{few_complete}
 use Rattle.dg_mote.proofs.AdvertLemmas.{no_packets-count, none_came, no_packet}
@@ -46,7 +46,7 @@ use Rattle.dg_mote.proofs.RoundNext.{found, asked_store, IsNext, next_by, can_ke
 
 -- it begins to ask then
 abbrev receiving : (now server i page version : ℕ) → Receiving
-receiving now server i page version = record { image = i; version = version; page = page; server = server; tries = (begun now 0).tries; due = (begun now 0).due; packets = no_packets }
+receiving now server i page version = record { image = i; version = version; page = page; server = server; tries = (reception_begun now 0).tries; due = (reception_begun now 0).due; packets = no_packets }
 
 -- what is promised below of the acts
 pub record ActLaws : Type 0 where
@@ -162,7 +162,7 @@ module _ (laws : ActLaws) where
 
 -- ---- it is well then
 
-begun_row : (table : List Row) (i : ℕ) (ahead g : Held) → BeginsWith ahead g → KeepsRow table i ahead → KeepsRow table i g
+begun_row : (table : List Row) (i : ℕ) (ahead g : Held) → TookProfile ahead g → KeepsRow table i ahead → KeepsRow table i g
 begun_row table i ahead g b a =
     record {
       row = a.row;
@@ -291,7 +291,7 @@ requests_law x now server image kept a to few soon g =
       id_is = refl;
       wide_is = refl;
       sent =
-          ap (λ (s : Turn Did). (tick_by s.answer s later 0).sent) turn
+          ap (λ (s : MoteStep Did). (tick_by s.answer s later 0).sent) turn
           ∙ (λ i. Some (Request x.mote.id (to i) (a.image_is i) (a.version_is i) (a.page_is i) (set.difference (below packets) (came (a.fresh i)))))
           ∙ ap (λ w. Some (Request x.mote.id server image kept.version (length kept.complete) w)) all_missing;
     })

@@ -5,7 +5,7 @@ use Rattle.std.specs.FinSet as set
 use Rattle.std.specs.FinMap as map
 use Rattle.dg_nor.specs.Trail.{last_of}
 use Rattle.dg_trickle.specs.Timer.{Timer}
-use Rattle.dg_trickle.specs.Steps.{IsRunning, begun, after_tick, is_due, is_over}
+use Rattle.dg_trickle.specs.Steps.{IsRunning, interval_begun, after_tick, is_due, is_over}
 use Rattle.dg_trickle.specs.Times.{longest_interval}
 use Rattle.dg_quiet.specs.Noted.{Noted, Moments}
 use Rattle.dg_recv.specs.Times.{most_requests}
@@ -47,7 +47,7 @@ promised s = one_if (leb 1 s.gesture) + 2 * one_if (order_waits s)
 pub timer_falls_by : (t : Timer) (now : ℕ) (fired : Bool) → t.fired ≡ fired → IsRunning t → t.begin + pace ≤ now → timer_debt (after_tick t now 0) ≤ timer_debt t - 1
 timer_falls_by t now false f r h =
     let due : is_due t now ≡ true = λ i. not (f i) && le-leb (t.begin + t.t) now (omega (arith, r.before_end, r.longest)) i in
-    let e : timer_debt (after_tick t now 0) ≡ cond (eqb t.count 0) 0 1 = ap (λ b. timer_debt (cond b (record t { fired = true }) (cond (is_over t now) (begun (min (2 * t.interval) longest_interval) now 0) t))) due in
+    let e : timer_debt (after_tick t now 0) ≡ cond (eqb t.count 0) 0 1 = ap (λ b. timer_debt (cond b (record t { fired = true }) (cond (is_over t now) (interval_begun (min (2 * t.interval) longest_interval) now 0) t))) due in
     let d : timer_debt t ≡ cond (eqb t.count 0) 0 2 = ap (λ b. cond (eqb t.count 0) 0 (cond b 1 2)) f in
     rw (e, d) (less (eqb t.count 0))
   where
@@ -57,7 +57,7 @@ timer_falls_by t now false f r h =
 timer_falls_by t now true f r h =
     let due : is_due t now ≡ false = λ i. not (f i) && leb (t.begin + t.t) now in
     let over : is_over t now ≡ true = λ i. f i && le-leb (t.begin + t.interval) now (omega (arith, r.longest)) i in
-    let next : Timer = begun (min (2 * t.interval) longest_interval) now 0 in
+    let next : Timer = interval_begun (min (2 * t.interval) longest_interval) now 0 in
     let e : timer_debt (after_tick t now 0) ≡ 0 =
     ap (λ b. timer_debt (cond b (record t { fired = true }) (cond (is_over t now) next t))) due ∙ ap (λ b. timer_debt (cond b next t)) over in
     rw e (omega arith)

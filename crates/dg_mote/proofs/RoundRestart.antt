@@ -11,7 +11,7 @@ use Rattle.dg_volume.specs.Start.{Boot, boot, boot_counted, counts, count_trail,
 use Rattle.dg_volume.specs.Ends.{BootEnds, ordered_runs, order_started, blank_commits}
 use Rattle.dg_volume.specs.declared.volume.StartCause.{StartCause}
 use Rattle.dg_volume.specs.declared.volume.StartCause.TheVariants as cause
-use Rattle.dg_mote.specs.Model.{Turn, begun_mote}
+use Rattle.dg_mote.specs.Model.{MoteStep, begun_mote}
 use Rattle.dg_mote.specs.Ticks.{tick_of}
 use Rattle.dg_mote.specs.Effects.{Effect, boot_by}
 use Rattle.dg_mote.specs.Spots.{Spot, ticked}
@@ -46,7 +46,7 @@ module _ (laws : OrderLaws) where
       ∙ ap (λ o. spot_from x.mote (restart (boot_by o b.trail x.mote.id x.mote.wide now 0))) ends.started
       ∙ ap (λ c. record { store = c; mote = begun_mote x.mote.id x.mote.wide now 0 }) (last-joined (resting x.store 0) b.trail (sym (laws.begins cause.Order x.store).first) ∙ ends.ends)
     where
-      step : Turn Did
+      step : MoteStep Did
       step = record { mote = x.mote; trail = resting x.store 0; sent = None; answer = Restart }
 
       b : Boot

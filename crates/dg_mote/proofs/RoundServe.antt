@@ -15,7 +15,7 @@ use Rattle.dg_volume.specs.Store.{held}
 use Rattle.dg_volume.specs.Start.{complete_pages}
 use Rattle.dg_frame.specs.declared.Message.{Message}
 use Rattle.dg_frame.specs.declared.Message.TheVariants.{Packet, Request}
-use Rattle.dg_mote.specs.Model.{MoteState, Maintain, Transmit, Sending, maintains, Turn}
+use Rattle.dg_mote.specs.Model.{MoteState, Maintain, Transmit, Sending, maintains, MoteStep}
 use Rattle.dg_mote.specs.Ticks.{clears, sends_message, serving, stored, transmit_by}
 use Rattle.dg_mote.specs.Effects.{Effect, on, tick_by, tick_effect}
 use Rattle.dg_mote.specs.Spots.{Spot, pace, tick_at, ticked, after_ticks, mote_or, hears}
@@ -182,7 +182,7 @@ hears_request x now sender image page h timer other is kept less =
     message : Message
     message = Request sender x.mote.id image h.version page (below packets)
 
-    serves : Turn Heard
+    serves : MoteStep Heard
     serves = record { mote = record x.mote { mode = Transmit (sending image h.version page (record { left = below packets; due = now })) }; trail = resting x.store 0; sent = None; answer = Serves image page }
 
     can : can_serve x.store image h.version page ≡ true

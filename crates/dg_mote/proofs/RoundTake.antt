@@ -22,7 +22,7 @@ use Rattle.dg_volume.specs.Agreement.{KeepsRow}
 use Rattle.dg_volume.specs.RowLaws.{RowsFit}
 use Rattle.dg_frame.specs.declared.Message.{Message}
 use Rattle.dg_frame.specs.declared.Message.TheVariants.{Packet}
-use Rattle.dg_mote.specs.Model.{Receive, Receiving, Turn, came, maintains}
+use Rattle.dg_mote.specs.Model.{Receive, Receiving, MoteStep, came, maintains}
 use Rattle.dg_mote.specs.Hears.{on_message}
 use Rattle.dg_mote.specs.Adverts.{dropped}
 use Rattle.dg_mote.specs.Packets.{is_wanted, takes, accepted, seal_by, on_packet, page_packet}
@@ -100,7 +100,7 @@ module _ (whole : (page : List ℕ) → length page ≡ page_size → page_from 
   abbrev with_one : Receiving → (now n : ℕ) → Receiving
   with_one r now n = accepted r now n (packet_of page n)
 
-  abbrev part : (x : Spot) → Receiving → (now n : ℕ) → Turn Heard
+  abbrev part : (x : Spot) → Receiving → (now n : ℕ) → MoteStep Heard
   part x r now n = record { mote = record x.mote { mode = Receive (with_one r now n) }; trail = resting x.store 1; sent = None; answer = Took n }
 
   -- it is one that it wants, and the page is sealed where it was the last one

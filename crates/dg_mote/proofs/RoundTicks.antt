@@ -14,7 +14,7 @@ use Rattle.dg_volume.specs.Store.{Store}
 use Rattle.dg_volume.specs.Trails.{clear_trail}
 use Rattle.dg_volume.specs.Start.{order_waits}
 use Rattle.dg_mote.specs.Sizes.{long_run}
-use Rattle.dg_mote.specs.Model.{MoteState, Mode, Maintain, Receiving, reception, Turn}
+use Rattle.dg_mote.specs.Model.{MoteState, Mode, Maintain, Receiving, reception, MoteStep}
 use Rattle.dg_mote.specs.Ticks.{clears, maintain_by, mode_tick, tick_of}
 use Rattle.dg_mote.specs.Effects.{Effect, tick_by, tick_effect}
 use Rattle.dg_mote.specs.Well.{IsWell, EffectIsWell}
@@ -27,12 +27,12 @@ abbrev pub spot_from : MoteState → Effect → Spot
 spot_from before e = record { store = last e.trail; mote = mote_or e.mote before }
 
 -- and the one that a step leaves
-abbrev pub spot_of : {A : Type 0} → Turn A → Spot
+abbrev pub spot_of : {A : Type 0} → MoteStep A → Spot
 spot_of t = record { store = last t.trail; mote = t.mote }
 
-pub ticked_by : (x : Spot) (now : ℕ) (t : Turn Did) → tick_of x.mote x.store now 0 ≡ t → ticked x now ≡ spot_from x.mote (tick_by t.answer t now 0)
+pub ticked_by : (x : Spot) (now : ℕ) (t : MoteStep Did) → tick_of x.mote x.store now 0 ≡ t → ticked x now ≡ spot_from x.mote (tick_by t.answer t now 0)
 unfolding ticked tick_effect
-ticked_by x now t e = ap (λ (t : Turn Did). spot_from x.mote (tick_by t.answer t now 0)) e
+ticked_by x now t e = ap (λ (t : MoteStep Did). spot_from x.mote (tick_by t.answer t now 0)) e
 
 pub not_clearing : (m : MoteState) (s : Store) (now : ℕ) → s.gesture ≡ 0 → clears m s now ≡ false
 not_clearing m s now e = ap (λ g. (leb 1 g && leb (m.since + long_run) now) && leb 1 s.room) e
@@ -49,7 +49,7 @@ tick_by_mode x now mode none is =
 maintain_spot : (a : Act) (m before : MoteState) (s : Store) (now : ℕ) → spot_from before (tick_by (maintain_by a m s).answer (maintain_by a m s) now 0) ≡ record { store = s; mote = m }
 unfolding last_of
 maintain_spot act.Send m before s now = refl
-maintain_spot act.Quiet m before s now = refl
+maintain_spot act.Suppressed m before s now = refl
 maintain_spot act.Expired m before s now = refl
 maintain_spot act.Nothing m before s now = refl
 

@@ -12,7 +12,7 @@ use Rattle.dg_recv.specs.Times.{most_requests}
 use Rattle.dg_recv.specs.Steps.{ask_of, missing}
 use Rattle.dg_recv.specs.declared.Ask.{Ask}
 use Rattle.dg_recv.specs.declared.Ask.TheVariants as ask
-use Rattle.dg_send.specs.Steps.{serve_of, begun, after_merge}
+use Rattle.dg_send.specs.Steps.{serve_of, owed_begun, after_merge}
 use Rattle.dg_send.specs.declared.Serve.{Serve}
 use Rattle.dg_send.specs.declared.Serve.TheVariants as serve
 use Rattle.dg_quiet.specs.Noted.{with_request, with_packet}
@@ -31,7 +31,7 @@ use Rattle.dg_frame.specs.Grammar.{message_of}
 use Rattle.dg_frame.specs.declared.Entry.{Entry}
 use Rattle.dg_frame.specs.declared.Message.{Message}
 use Rattle.dg_frame.specs.declared.Message.TheVariants.{Advert, Request, Packet, Wide}
-use Rattle.dg_mote.specs.Model.{MoteState, Mode, Maintain, Receive, Transmit, Receiving, Sending, came, reception, Turn}
+use Rattle.dg_mote.specs.Model.{MoteState, Mode, Maintain, Receive, Transmit, Receiving, Sending, came, reception, MoteStep}
 use Rattle.dg_mote.specs.Summary.{entries_of, own_order, advert_by, advert_of}
 use Rattle.dg_mote.specs.Ticks.{clears, maintain_by, receive_by, stored, transmit_by, mode_tick, tick_of}
 use Rattle.dg_mote.specs.Adverts.{dropped}
@@ -127,7 +127,7 @@ to_me m s timer now draw bytes source image version page want e other is =
     ∙ ap (λ mode. to_it mode m s now (page_request image version page want)) is
 
 pub page_served : (m : MoteState) (s : Store) (timer : Timer) (now draw : ℕ) (bytes : List ℕ) (source image version page : ℕ) (want : Numbers) → message_of bytes m.wide ≡ Ok (Request source m.id image version page want) → source ≢ m.id → m.mode ≡ Maintain timer → HasPage s image version page
-    → heard_of m s now draw bytes ≡ record { mote = record m { mode = Transmit (record { image = image; version = version; page = page; owed = begun now want }) }; trail = resting s 0; sent = None; answer = Serves image page }
+    → heard_of m s now draw bytes ≡ record { mote = record m { mode = Transmit (record { image = image; version = version; page = page; owed = owed_begun now want }) }; trail = resting s 0; sent = None; answer = Serves image page }
 page_served m s timer now draw bytes source image version page want e other is has =
     to_me m s timer now draw bytes source image version page want e other is
     ∙ cond-true (can_serve s image version page) _ (dropped m s) ((can_serve_is s image version page).1 has)
@@ -145,7 +145,7 @@ page_missing m s timer now draw bytes source image version page want e other is 
 
 no_restart : (a : Act) (m : MoteState) (s : Store) → (maintain_by a m s).answer ≡ Restart → ⊥
 no_restart act.Send m s e = cc
-no_restart act.Quiet m s e = cc
+no_restart act.Suppressed m s e = cc
 no_restart act.Expired m s e = cc
 no_restart act.Nothing m s e = cc
 
@@ -159,10 +159,10 @@ no_restart_serving (serve.Send q) m t s now draw e = cc
 no_restart_serving serve.Done m t s now draw e = cc
 no_restart_serving serve.Wait m t s now draw e = cc
 
-abbrev restarting : MoteState → Store → Turn Did
+abbrev restarting : MoteState → Store → MoteStep Did
 restarting m s = record { mote = m; trail = resting s 0; sent = None; answer = Restart }
 
-record Restarts (m : MoteState) (s : Store) (step : Turn Did) : Type 0 where
+record Restarts (m : MoteState) (s : Store) (step : MoteStep Did) : Type 0 where
   timer : Timer
   maintains : m.mode ≡ Maintain timer
   waits : order_waits s ≡ true
@@ -171,7 +171,7 @@ record Restarts (m : MoteState) (s : Store) (step : Turn Did) : Type 0 where
 mode_restarts : (mode : Mode) (m : MoteState) (s : Store) (now draw : ℕ) → m.mode ≡ mode → (mode_tick mode m s now draw).answer ≡ Restart → Restarts m s (mode_tick mode m s now draw)
 mode_restarts (Maintain timer) m s now draw is =
     let next = record m { mode = Maintain (after_tick timer now draw) } in
-    cond_both (order_waits s) (restarting m s) (maintain_by (act_of timer now) next s) (λ (x : Turn Did). x.answer ≡ Restart → Restarts m s x)
+    cond_both (order_waits s) (restarting m s) (maintain_by (act_of timer now) next s) (λ (x : MoteStep Did). x.answer ≡ Restart → Restarts m s x)
     (λ waits e. record { timer = timer; maintains = is; waits = waits; nothing = refl })
     (λ _ e. absurd (no_restart (act_of timer now) next s e))
 mode_restarts (Receive r) m s now draw is = λ e. absurd (no_restart_asking (ask_of (reception r) now) m r s now draw e)
@@ -181,7 +181,7 @@ tick_restarts : (m : MoteState) (s : Store) (now draw : ℕ) → (tick_of m s no
 unfolding tick_of
 tick_restarts m s now draw =
     cond_both (clears m s now) (record { mote = m; trail = clear_trail s; sent = None; answer = Idle }) (mode_tick m.mode m s now draw)
-    (λ (x : Turn Did). x.answer ≡ Restart → MayRestart m s now × (x ≡ restarting m s))
+    (λ (x : MoteStep Did). x.answer ≡ Restart → MayRestart m s now × (x ≡ restarting m s))
     (λ _ e. cc)
     (λ keeps e. let r = mode_restarts m.mode m s now draw refl e in (record { timer = r.timer; maintains = r.maintains; clears_nothing = keeps; waits = r.waits }, r.nothing))
 
@@ -193,7 +193,7 @@ restarts_now m s now draw may =
     ∙ cond-true (order_waits s) (restarting m s) (maintain_by (act_of may.timer now) (record m { mode = Maintain (after_tick may.timer now draw) }) s) may.waits
 
 pub restart_exactly : (m : MoteState) (s : Store) (now draw : ℕ) → ((tick_of m s now draw).answer ≡ Restart) ↔ MayRestart m s now
-restart_exactly m s now draw = (λ e. (tick_restarts m s now draw e).0, λ may. ap (λ (x : Turn Did). x.answer) (restarts_now m s now draw may))
+restart_exactly m s now draw = (λ e. (tick_restarts m s now draw e).0, λ may. ap (λ (x : MoteStep Did). x.answer) (restarts_now m s now draw may))
 
 pub restart_nothing : (m : MoteState) (s : Store) (now draw : ℕ) → (tick_of m s now draw).answer ≡ Restart → tick_of m s now draw ≡ restarting m s
 restart_nothing m s now draw e = (tick_restarts m s now draw e).1
@@ -227,7 +227,7 @@ module _ (m : MoteState) (s : Store) (now draw source to image version page : �
 
   maintain_told : (a : Act) (x : MoteState) → AsksSo (maintain_by a x s).sent
   maintain_told act.Send x e = advert_told x.id x.wide (entries_of x.wide s) (own_order x.wide s) e
-  maintain_told act.Quiet x e = cc
+  maintain_told act.Suppressed x e = cc
   maintain_told act.Expired x e = cc
   maintain_told act.Nothing x e = cc
 
@@ -258,13 +258,13 @@ module _ (m : MoteState) (s : Store) (now draw source to image version page : �
 
   mode_told : (mode : Mode) → m.mode ≡ mode → AsksSo (mode_tick mode m s now draw).sent
   mode_told (Maintain timer) is =
-      cond_both (order_waits s) _ _ (λ (x : Turn Did). AsksSo x.sent) (λ _ e. cc) (λ _. maintain_told (act_of timer now) (record m { mode = Maintain (after_tick timer now draw) }))
+      cond_both (order_waits s) _ _ (λ (x : MoteStep Did). AsksSo x.sent) (λ _ e. cc) (λ _. maintain_told (act_of timer now) (record m { mode = Maintain (after_tick timer now draw) }))
   mode_told (Receive r) is = receive_told r is
   mode_told (Transmit t) is = transmit_told (serve_of t.owed now) t
 
   pub request_told : AsksSo (tick_of m s now draw).sent
   unfolding tick_of
-  request_told = cond_both (clears m s now) _ _ (λ (x : Turn Did). AsksSo x.sent) (λ _ e. cc) (λ _. mode_told m.mode refl)
+  request_told = cond_both (clears m s now) _ _ (λ (x : MoteStep Did). AsksSo x.sent) (λ _ e. cc) (λ _. mode_told m.mode refl)
 
 -- an advert that is sent is the own summary
 module _ (m : MoteState) (s : Store) (now draw : ℕ) (wide : Bool) (source : ℕ) (entries : List Entry) (order : Order) where
@@ -273,7 +273,7 @@ module _ (m : MoteState) (s : Store) (now draw : ℕ) (wide : Bool) (source : �
 
   maintain_says : (a : Act) (x : MoteState) → x.id ≡ m.id → x.wide ≡ m.wide → Says (maintain_by a x s).sent
   maintain_says act.Send x same alike e = sym (same_Some (advert_of x.id x.wide s) (advert_by wide source entries order) e) ∙ ap (λ n. advert_of n x.wide s) same ∙ ap (λ w. advert_of m.id w s) alike
-  maintain_says act.Quiet x same alike e = cc
+  maintain_says act.Suppressed x same alike e = cc
   maintain_says act.Expired x same alike e = cc
   maintain_says act.Nothing x same alike e = cc
 
@@ -297,10 +297,10 @@ module _ (m : MoteState) (s : Store) (now draw : ℕ) (wide : Bool) (source : �
 
   mode_says : (mode : Mode) → Says (mode_tick mode m s now draw).sent
   mode_says (Maintain timer) =
-      cond_both (order_waits s) _ _ (λ (x : Turn Did). Says x.sent) (λ _ e. cc) (λ _. maintain_says (act_of timer now) (record m { mode = Maintain (after_tick timer now draw) }) refl refl)
+      cond_both (order_waits s) _ _ (λ (x : MoteStep Did). Says x.sent) (λ _ e. cc) (λ _. maintain_says (act_of timer now) (record m { mode = Maintain (after_tick timer now draw) }) refl refl)
   mode_says (Receive r) = receive_says (ask_of (reception r) now) r
   mode_says (Transmit t) = transmit_says (serve_of t.owed now) t
 
   pub advert_says : Says (tick_of m s now draw).sent
   unfolding tick_of
-  advert_says = cond_both (clears m s now) _ _ (λ (x : Turn Did). Says x.sent) (λ _ e. cc) (λ _. mode_says m.mode)
+  advert_says = cond_both (clears m s now) _ _ (λ (x : MoteStep Did). Says x.sent) (λ _ e. cc) (λ _. mode_says m.mode)

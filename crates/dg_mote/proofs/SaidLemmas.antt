@@ -34,7 +34,7 @@ use Rattle.dg_frame.specs.Ranges.{IsInRange, EntryInRange, PageInRange, OrderInR
 use Rattle.dg_frame.specs.Spelling.{frame_of, FitsTypes, EntryFitsTypes}
 use Rattle.dg_frame.specs.declared.Message.{Message}
 use Rattle.dg_frame.specs.declared.Message.TheVariants.{Request, Packet}
-use Rattle.dg_mote.specs.Model.{MoteState, Mode, Maintain, Receive, Transmit, NamesKnown, Receiving, Sending, came, reception, Turn}
+use Rattle.dg_mote.specs.Model.{MoteState, Mode, Maintain, Receive, Transmit, NamesKnown, Receiving, Sending, came, reception, MoteStep}
 use Rattle.dg_mote.specs.Summary.{no_entry, entry_by, entries_of, own_order, advert_of}
 use Rattle.dg_mote.specs.Ticks.{clears, maintain_by, receive_by, stored, transmit_by, mode_tick, tick_of}
 use Rattle.dg_mote.specs.Timely.{ModeTimely}
@@ -204,7 +204,7 @@ module _ (laws : SpellLaws) where
 
     maintain_said : (a : Act) (m : MoteState) → m.id ≡ id → m.wide ≡ wide → OrderFits s.order → IfSome (maintain_by a m s).sent (IsSaid id wide)
     maintain_said act.Send m same alike order = subst (λ n. IsSaid id wide (advert_of n m.wide s)) (sym same) (subst (λ w. IsSaid id wide (advert_of id w s)) (sym alike) (advert_said order))
-    maintain_said act.Quiet m same alike order = tt
+    maintain_said act.Suppressed m same alike order = tt
     maintain_said act.Expired m same alike order = tt
     maintain_said act.Nothing m same alike order = tt
 
@@ -225,7 +225,7 @@ module _ (laws : SpellLaws) where
 
     mode_said : (mode : Mode) (m : MoteState) (now draw : ℕ) → m.id ≡ id → m.wide ≡ wide → OrderFits s.order → ModeAgrees table s mode → ModeTimely mode now → ServerFits mode × NamesKnown wide mode → IfSome (mode_tick mode m s now draw).sent (IsSaid id wide)
     mode_said (Maintain timer) m now draw same alike order a timely fits =
-        cond_both (order_waits s) _ _ (λ (x : Turn Did). IfSome x.sent (IsSaid id wide)) (λ _. tt)
+        cond_both (order_waits s) _ _ (λ (x : MoteStep Did). IfSome x.sent (IsSaid id wide)) (λ _. tt)
         (λ _. maintain_said (act_of timer now) (record m { mode = Maintain (after_tick timer now draw) }) same alike order)
     mode_said (Receive r) m now draw same alike order a timely fits = receive_said m r now draw same a fits
     mode_said (Transmit t) m now draw same alike order a timely fits = transmit_said m t now draw same a fits.1 timely.1
@@ -233,4 +233,4 @@ module _ (laws : SpellLaws) where
     pub tick_said : (m : MoteState) (now draw : ℕ) → m.id ≡ id → m.wide ≡ wide → OrderFits s.order → ModeAgrees table s m.mode → ModeTimely m.mode now → ServerFits m.mode × NamesKnown wide m.mode → IfSome (tick_of m s now draw).sent (IsSaid id wide)
     unfolding tick_of
     tick_said m now draw same alike order a timely fits =
-        cond_both (clears m s now) _ _ (λ (x : Turn Did). IfSome x.sent (IsSaid id wide)) (λ _. tt) (λ _. mode_said m.mode m now draw same alike order a timely fits)
+        cond_both (clears m s now) _ _ (λ (x : MoteStep Did). IfSome x.sent (IsSaid id wide)) (λ _. tt) (λ _. mode_said m.mode m now draw same alike order a timely fits)

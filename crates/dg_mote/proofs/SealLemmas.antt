@@ -19,7 +19,7 @@ use Rattle.dg_frame.specs.declared.Entry.{Entry}
 use Rattle.dg_frame.specs.declared.Message.{Message}
 use Rattle.dg_frame.specs.declared.Message.TheVariants.{Advert, Request, Packet, Wide}
 use Rattle.dg_frame.specs.declared.FrameFault.{FrameFault}
-use Rattle.dg_mote.specs.Model.{MoteState, Mode, Maintain, Receive, Transmit, Receiving, came, Turn}
+use Rattle.dg_mote.specs.Model.{MoteState, Mode, Maintain, Receive, Transmit, Receiving, came, MoteStep}
 use Rattle.dg_mote.specs.Summary.{entry_for, is_own, ahead_in}
 use Rattle.dg_mote.specs.Agreement.{ReceivesRow, ModeAgrees, HonestMessage, IsHonest}
 use Rattle.dg_mote.specs.Adverts.{better_trail, asks, noting, by_ahead, advert_heard, on_advert, offer}
@@ -47,7 +47,7 @@ NotBad (Took packet) = Unit {0}
 NotBad (Sealed image page) = Unit {0}
 NotBad (Bad image page) = ⊥
 
-abbrev Fine : Turn Heard → Type 0
+abbrev Fine : MoteStep Heard → Type 0
 Fine step = NotBad step.answer
 
 noting_fine : (own : Bool) (m : MoteState) (timer : Timer) (s : Store) (now draw : ℕ) → Fine (noting m timer s now draw own)

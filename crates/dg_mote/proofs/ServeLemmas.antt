@@ -12,14 +12,14 @@ use Rattle.dg_bits.specs.Sets.{Numbers}
 use Rattle.dg_bits.proofs.SetLaws.{same_numbers, contains-none, contains-both}
 use Rattle.dg_trickle.specs.Timer.{Timer}
 use Rattle.dg_send.specs.Owed.{Owed}
-use Rattle.dg_send.specs.Steps.{begun, after_merge}
+use Rattle.dg_send.specs.Steps.{owed_begun, after_merge}
 use Rattle.dg_slot.specs.Kept.{Held}
 use Rattle.dg_volume.specs.Store.{Store, held}
 use Rattle.dg_volume.specs.Stands.{NothingLent}
 use Rattle.dg_volume.specs.Changes.{is_version}
 use Rattle.dg_volume.specs.Trails.{done_of}
 use Rattle.dg_frame.specs.Sizes.{known_images}
-use Rattle.dg_mote.specs.Model.{MoteState, Mode, Maintain, Receive, Transmit, NamesKnown, Sending, Turn}
+use Rattle.dg_mote.specs.Model.{MoteState, Mode, Maintain, Receive, Transmit, NamesKnown, Sending, MoteStep}
 use Rattle.dg_mote.specs.Adverts.{dropped}
 use Rattle.dg_mote.specs.Agreement.{Serves}
 use Rattle.dg_mote.specs.Requests.{can_serve, is_served, to_it, page_request}
@@ -40,11 +40,11 @@ chosen b x y e = ap (λ (c : Bool). cond c x y) e
 pub passed : {A : Type 0} (b : Bool) (x y : A) → b ≡ false → cond b x y ≡ y
 passed b x y e = ap (λ (c : Bool). cond c x y) e
 
-pub rests_chosen : (b : Bool) (x y : Turn Heard) (c : List ℕ) (s : Store) (v : Mote) (a : Heard) → b ≡ true → ChipStays x c s v a → ChipStays (cond b x y) c s v a
-rests_chosen b x y c s v a e rests = subst (λ (t : Turn Heard). ChipStays t c s v a) (sym (chosen b x y e)) rests
+pub rests_chosen : (b : Bool) (x y : MoteStep Heard) (c : List ℕ) (s : Store) (v : Mote) (a : Heard) → b ≡ true → ChipStays x c s v a → ChipStays (cond b x y) c s v a
+rests_chosen b x y c s v a e rests = subst (λ (t : MoteStep Heard). ChipStays t c s v a) (sym (chosen b x y e)) rests
 
-pub rests_passed : (b : Bool) (x y : Turn Heard) (c : List ℕ) (s : Store) (v : Mote) (a : Heard) → b ≡ false → ChipStays y c s v a → ChipStays (cond b x y) c s v a
-rests_passed b x y c s v a e rests = subst (λ (t : Turn Heard). ChipStays t c s v a) (sym (passed b x y e)) rests
+pub rests_passed : (b : Bool) (x y : MoteStep Heard) (c : List ℕ) (s : Store) (v : Mote) (a : Heard) → b ≡ false → ChipStays y c s v a → ChipStays (cond b x y) c s v a
+rests_passed b x y c s v a e rests = subst (λ (t : MoteStep Heard). ChipStays t c s v a) (sym (passed b x y e)) rests
 
 pub rests_dropped : (c : List ℕ) (v : Mote) (m : MoteState) (s : Store) → IsMote c v m s → ChipStays (dropped m s) c s v heard.Dropped
 rests_dropped c v m s is = record { trail = refl; mote = is; answers = refl }
@@ -59,11 +59,11 @@ serves_by s (Some h) i version page owed is some can owes =
     record { not_golden = some; kept = h; held_here = is; version = same; complete = less; owed = owes }
 
 pub serving_now : (c : List ℕ) (v : Mote) (m : MoteState) (s : Store) (timer : Timer) (i version page now : ℕ) (want : Numbers) → 1 ≤ i → i ≤ known_images m.wide → want ≢ set.empty → IsMote c v m s → m.mode ≡ Maintain timer → can_serve s i version page ≡ true
-    → ChipStays (to_it (Maintain timer) m s now (page_request i version page want)) c s (record v { mode = value.Transmit i version page (begun now want) }) (heard.Serves i page)
+    → ChipStays (to_it (Maintain timer) m s now (page_request i version page want)) c s (record v { mode = value.Transmit i version page (owed_begun now want) }) (heard.Serves i page)
 serving_now c v m s timer i version page now want some high asks is mode can =
-    let t : Sending = record { image = i; version = version; page = page; owed = begun now want } in
+    let t : Sending = record { image = i; version = version; page = page; owed = owed_begun now want } in
     let free : NothingLent v.volume = free_by v.mode m.mode mode is.mode in
-    rests_chosen (can_serve s i version page) _ _ c s (record v { mode = value.Transmit i version page (begun now want) }) (heard.Serves i page) can (record {
+    rests_chosen (can_serve s i version page) _ _ c s (record v { mode = value.Transmit i version page (owed_begun now want) }) (heard.Serves i page) can (record {
       trail = refl;
       mote = record {
         id = is.id;
@@ -71,7 +71,7 @@ serving_now c v m s timer i version page now want some high asks is mode can =
         wide = is.wide;
         noted = is.noted;
         mounted = is.mounted;
-        mode = (refl, refl, refl, refl, record { free = free; serves = serves_by s (held s i) i version page (begun now want) refl some can (λ e. asks (set.empty_of_len want e)) });
+        mode = (refl, refl, refl, refl, record { free = free; serves = serves_by s (held s i) i version page (owed_begun now want) refl some can (λ e. asks (set.empty_of_len want e)) });
         known = (some, high);
       };
       answers = refl;
@@ -148,7 +148,7 @@ serving_other c v m s t i version page a b d now owed want is mode code other =
 
 -- ---- a call that makes no operation
 
-pub rests_done : (turn : Turn Heard) (a : Device) (s : Store) (v : Mote) (answer : Heard) → ChipStays turn a.image s v answer → Done turn a a v answer
+pub rests_done : (turn : MoteStep Heard) (a : Device) (s : Store) (v : Mote) (answer : Heard) → ChipStays turn a.image s v answer → Done turn a a v answer
 rests_done turn a s v answer rests = record {
   ran = subst (λ (t : Trail Store). Ran (operations t) a a) (sym rests.trail) (subst (λ (n : ℕ). Ran n a a) (sym (operations-resting s 0)) (Ran-none a));
   mote = subst (λ (t : Trail Store). IsMote a.image v turn.mote (last t)) (sym rests.trail) (subst (IsMote a.image v turn.mote) (sym (last-resting s 0)) rests.mote);

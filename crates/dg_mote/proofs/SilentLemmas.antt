@@ -17,7 +17,7 @@ use Rattle.dg_frame.specs.declared.Entry.{Entry}
 use Rattle.dg_frame.specs.declared.Message.{Message}
 use Rattle.dg_frame.specs.declared.Message.TheVariants.{Advert, Request, Packet, Wide}
 use Rattle.dg_frame.specs.declared.FrameFault.{FrameFault}
-use Rattle.dg_mote.specs.Model.{MoteState, Mode, Maintain, Receive, Transmit, Receiving, came, Turn}
+use Rattle.dg_mote.specs.Model.{MoteState, Mode, Maintain, Receive, Transmit, Receiving, came, MoteStep}
 use Rattle.dg_mote.specs.Summary.{entry_for, is_own, ahead_in}
 use Rattle.dg_mote.specs.Adverts.{better_trail, asks, noting, by_ahead, turn_behind, advert_heard, dropped, on_advert, offer}
 use Rattle.dg_mote.specs.Requests.{concerns, can_serve, is_served, to_it, on_request, page_request}
@@ -27,7 +27,7 @@ use Rattle.dg_mote.specs.declared.mote.Heard.{Heard}
 use Rattle.dg_mote.specs.declared.mote.Heard.TheVariants.{Refused, Dropped, Noted, Same, Other, Asks, Serves, Merged, Took, Sealed, Bad}
 
 -- by the answer to a message: it is not Refused, and where it is Dropped nothing changed
-abbrev Unchanged : MoteState → Store → Turn Heard → Heard → Type 0
+abbrev Unchanged : MoteState → Store → MoteStep Heard → Heard → Type 0
 Unchanged m s step (Refused cause) = ⊥
 Unchanged m s step Dropped = (step.mote ≡ m) × (step.trail ≡ resting s 0)
 Unchanged m s step Noted = Unit {0}
@@ -40,7 +40,7 @@ Unchanged m s step (Took packet) = Unit {0}
 Unchanged m s step (Sealed image page) = Unit {0}
 Unchanged m s step (Bad image page) = Unit {0}
 
-pub record IsPlain (m : MoteState) (s : Store) (step : Turn Heard) : Type 0 where
+pub record IsPlain (m : MoteState) (s : Store) (step : MoteStep Heard) : Type 0 where
   pub silent : step.sent ≡ None
   pub unchanged : Unchanged m s step step.answer
 
@@ -54,7 +54,7 @@ noting_plain false m timer s from now draw t = record { silent = refl; unchanged
 ahead_plain : (o : Option ℕ) (m : MoteState) (timer : Timer) (s from : Store) (now draw source : ℕ) (entries : List Entry) (own : Bool) (t : Trail Store) → IsPlain m from (turn_behind t (by_ahead o m s now draw (offer source entries) (noting m timer s now draw own)))
 ahead_plain None m timer s from now draw source entries own t = noting_plain own m timer s from now draw t
 ahead_plain (Some i) m timer s from now draw source entries own t =
-    cond_both (asks m s now i (entry_for entries i)) _ _ (λ (x : Turn Heard). IsPlain m from (turn_behind t x)) (λ _. record { silent = refl; unchanged = tt }) (λ _. noting_plain own m timer s from now draw t)
+    cond_both (asks m s now i (entry_for entries i)) _ _ (λ (x : MoteStep Heard). IsPlain m from (turn_behind t x)) (λ _. record { silent = refl; unchanged = tt }) (λ _. noting_plain own m timer s from now draw t)
 
 advert_plain : (mode : Mode) (m : MoteState) (s : Store) (now draw source : ℕ) (entries : List Entry) (order : Order) → IsPlain m s (on_advert mode m s now draw (offer source entries) order)
 unfolding advert_heard

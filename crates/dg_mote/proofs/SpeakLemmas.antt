@@ -14,7 +14,7 @@ use Rattle.dg_trickle.specs.declared.Act.TheVariants as act
 use Rattle.dg_recv.specs.Steps.{ask_of}
 use Rattle.dg_recv.specs.declared.Ask.{Ask}
 use Rattle.dg_recv.specs.declared.Ask.TheVariants as ask
-use Rattle.dg_send.specs.Steps.{serve_of, after_next, begun, after_merge}
+use Rattle.dg_send.specs.Steps.{serve_of, after_next, owed_begun, after_merge}
 use Rattle.dg_send.specs.declared.Serve.{Serve}
 use Rattle.dg_send.specs.declared.Serve.TheVariants as serve
 use Rattle.dg_quiet.specs.Noted.{with_request, with_packet}
@@ -41,7 +41,7 @@ use Rattle.dg_frame.specs.declared.Entry.{Entry}
 use Rattle.dg_frame.specs.declared.Message.{Message}
 use Rattle.dg_frame.specs.declared.Message.TheVariants.{Advert, Request, Packet, Wide}
 use Rattle.dg_frame.specs.declared.FrameFault.{FrameFault}
-use Rattle.dg_mote.specs.Model.{MoteState, Mode, Maintain, Receive, Transmit, NamesKnown, Receiving, Sending, came, reception, maintains, Turn}
+use Rattle.dg_mote.specs.Model.{MoteState, Mode, Maintain, Receive, Transmit, NamesKnown, Receiving, Sending, came, reception, maintains, MoteStep}
 use Rattle.dg_mote.specs.Summary.{entry_for, is_own, ahead_in}
 use Rattle.dg_mote.specs.Ticks.{clears, maintain_by, asked, receive_by, serving, transmit_by, mode_tick, tick_of}
 use Rattle.dg_mote.specs.Adverts.{outline, better_trail, ask_trail, asks, asking, noting, by_ahead, advert_heard, dropped, on_advert, offer}
@@ -107,13 +107,13 @@ tells_boot k s b o = through_then (OnTheWay s (boot k s).runs) TellsOrder (λ t 
 abbrev pub ModeFits : (wide : Bool) → Mode → Type 0
 ModeFits wide mode = ServerFits mode × NamesKnown wide mode
 
-pub record Says {A : Type 0} (before : MoteState) (step : Turn A) : Type 0 where
+pub record Says {A : Type 0} (before : MoteState) (step : MoteStep A) : Type 0 where
   pub way : Through TellsOrder step.trail
   pub id_is : step.mote.id ≡ before.id
   pub wide_is : step.mote.wide ≡ before.wide
   pub mode : ModeFits before.wide step.mote.mode
 
-pub turn_speaks : {A : Type 0} (before : MoteState) (step : Turn A) → before.id < 2 ^ 16 → Says before step → TurnSpeaks before.id before.wide step
+pub turn_speaks : {A : Type 0} (before : MoteState) (step : MoteStep A) → before.id < 2 ^ 16 → Says before step → TurnSpeaks before.id before.wide step
 turn_speaks before step small says =
     record {
       way = says.way;
@@ -139,7 +139,7 @@ rests_as before m s n sent answer same o server = record { way = Through-resting
 
 maintain_says : (a : Act) (before m : MoteState) (s : Store) → (m.id ≡ before.id) × (m.wide ≡ before.wide) → TellsOrder s → ModeFits before.wide m.mode → Says before (maintain_by a m s)
 maintain_says act.Send before m s same o server = rests_as before m s 0 _ _ same o server
-maintain_says act.Quiet before m s same o server = rests_as before m s 0 None _ same o server
+maintain_says act.Suppressed before m s same o server = rests_as before m s 0 None _ same o server
 maintain_says act.Expired before m s same o server = rests_as before m s 0 None _ same o server
 maintain_says act.Nothing before m s same o server = rests_as before m s 0 None _ same o server
 
@@ -161,7 +161,7 @@ transmit_says serve.Wait m t s now draw o own fits = rests m s 0 None _ o own
 
 mode_says : (mode : Mode) (m : MoteState) (s : Store) (now draw : ℕ) → TellsOrder s → ModeFits m.wide m.mode → ModeFits m.wide mode → Says m (mode_tick mode m s now draw)
 mode_says (Maintain timer) m s now draw o own server =
-    cond_both (order_waits s) _ _ (λ (x : Turn Did). Says m x) (λ _. rests m s 0 None _ o own)
+    cond_both (order_waits s) _ _ (λ (x : MoteStep Did). Says m x) (λ _. rests m s 0 None _ o own)
     (λ _. maintain_says (act_of timer now) m (record m { mode = Maintain (after_tick timer now draw) }) s (refl, refl) o (tt, tt))
 mode_says (Receive r) m s now draw o own server = receive_says (ask_of (reception r) now) m r s now draw o own server
 mode_says (Transmit t) m s now draw o own server = transmit_says (serve_of t.owed now) m t s now draw o own server
@@ -169,7 +169,7 @@ mode_says (Transmit t) m s now draw o own server = transmit_says (serve_of t.owe
 pub tick_says : (m : MoteState) (s : Store) (now draw : ℕ) → TellsOrder s → ModeFits m.wide m.mode → Says m (tick_of m s now draw)
 unfolding tick_of
 tick_says m s now draw o own =
-    cond_both (clears m s now) _ _ (λ (x : Turn Did). Says m x) (λ _. record { way = tells_clear s o; id_is = refl; wide_is = refl; mode = own }) (λ _. mode_says m.mode m s now draw o own own)
+    cond_both (clears m s now) _ _ (λ (x : MoteStep Did). Says m x) (λ _. record { way = tells_clear s o; id_is = refl; wide_is = refl; mode = own }) (λ _. mode_says m.mode m s now draw o own own)
 
 -- ---- frames
 
@@ -182,7 +182,7 @@ ahead_says : (x : Option ℕ) (m : MoteState) (timer : Timer) (s : Store) (now d
 ahead_says None m timer s now draw source entries own small few is o = noting_says own m timer s now draw o
 ahead_says (Some i) m timer s now draw source entries own small few is o =
     let a = is_ahead entries s i is in
-    cond_both (asks m s now i (entry_for entries i)) (asking m s now draw source i (entry_for entries i)) (noting m timer s now draw own) (λ (x : Turn Heard). Says m x)
+    cond_both (asks m s now i (entry_for entries i)) (asking m s now draw source i (entry_for entries i)) (noting m timer s now draw own) (λ (x : MoteStep Heard). Says m x)
     (λ _. record { way = tells_ask s i (entry_for entries i) o; id_is = refl; wide_is = refl; mode = (small, (a.low, omega (arith, a.high, few))) })
     (λ _. noting_says own m timer s now draw o)
 
@@ -198,23 +198,23 @@ advert_says (Transmit t) m s now draw source entries order small few fits o serv
 
 to_it_says : (mode : Mode) (m : MoteState) (s : Store) (now image version page : ℕ) (want : Numbers) → (1 ≤ image) × (image ≤ known_images m.wide) → TellsOrder s → ModeFits m.wide m.mode → ModeFits m.wide mode → Says m (to_it mode m s now (page_request image version page want))
 to_it_says (Maintain timer) m s now image version page want known o server fits =
-    cond_both (can_serve s image version page) _ _ (λ (x : Turn Heard). Says m x)
-    (λ _. rests_as m (record m { mode = Transmit (record { image = image; version = version; page = page; owed = begun now want }) }) s 0 None _ (refl, refl) o (tt, known)) (λ _. rests m s 0 None _ o server)
+    cond_both (can_serve s image version page) _ _ (λ (x : MoteStep Heard). Says m x)
+    (λ _. rests_as m (record m { mode = Transmit (record { image = image; version = version; page = page; owed = owed_begun now want }) }) s 0 None _ (refl, refl) o (tt, known)) (λ _. rests m s 0 None _ o server)
 to_it_says (Transmit t) m s now image version page want known o server fits =
-    cond_both (is_served t image version page) _ _ (λ (x : Turn Heard). Says m x)
+    cond_both (is_served t image version page) _ _ (λ (x : MoteStep Heard). Says m x)
     (λ _. rests_as m (record m { mode = Transmit (record t { owed = after_merge t.owed want }) }) s 0 None _ (refl, refl) o fits) (λ _. rests m s 0 None _ o server)
 to_it_says (Receive r) m s now image version page want known o server fits = rests m s 0 None _ o server
 
 request_says : (m : MoteState) (s : Store) (now to image version page : ℕ) (want : Numbers) → (1 ≤ image) × (image ≤ known_images m.wide) → TellsOrder s → ModeFits m.wide m.mode → Says m (on_request m s now to (page_request image version page want))
 request_says m s now to image version page want known o server =
-    cond_both (to == m.id) _ _ (λ (x : Turn Heard). Says m x) (λ _. to_it_says m.mode m s now image version page want known o server server)
-    (λ _. cond_both (concerns s image version page) _ _ (λ (x : Turn Heard). Says m x)
+    cond_both (to == m.id) _ _ (λ (x : MoteStep Heard). Says m x) (λ _. to_it_says m.mode m s now image version page want known o server server)
+    (λ _. cond_both (concerns s image version page) _ _ (λ (x : MoteStep Heard). Says m x)
     (λ _. rests_as m (record m { noted = with_request m.noted now image }) s 0 None _ (refl, refl) o server) (λ _. rests m s 0 None _ o server))
 
 seal_says : (kept : Option Held) (m : MoteState) (r : Receiving) (s : Store) (now draw : ℕ) (page : List ℕ) → TellsOrder s → ModeFits m.wide m.mode → Says m (seal_by kept m r s now draw page)
 seal_says None m r s now draw page o server = rests m s 0 None _ o server
 seal_says (Some h) m r s now draw page o server =
-    cond_both (may_seal r.image h page) _ _ (λ (x : Turn Heard). Says m x)
+    cond_both (may_seal r.image h page) _ _ (λ (x : MoteStep Heard). Says m x)
     (λ _. record {
       way = Through-joined TellsOrder (resting s 1) (stepping s 1 (paged r.image page s)) (Through-resting TellsOrder s 1 o) (Through-stepping TellsOrder s 1 (paged r.image page s) o o);
       id_is = refl;
@@ -226,13 +226,13 @@ seal_says (Some h) m r s now draw page o server =
 packet_says : (mode : Mode) (m : MoteState) (s : Store) (now draw image version page q : ℕ) (bytes : List ℕ) → TellsOrder s → ModeFits m.wide m.mode → ModeFits m.wide mode → Says m (on_packet mode m s now draw (page_packet image version page q bytes))
 packet_says (Receive r) m s now draw image version page q bytes o own server =
     let a = accepted r now q bytes in
-    cond_both (is_wanted r image version page q) (takes m r s now draw q bytes) (dropped m s) (λ (x : Turn Heard). Says m x)
-    (λ _. cond_both (set.len (came a.packets) == packets) _ _ (λ (x : Turn Heard). Says m x)
+    cond_both (is_wanted r image version page q) (takes m r s now draw q bytes) (dropped m s) (λ (x : MoteStep Heard). Says m x)
+    (λ _. cond_both (set.len (came a.packets) == packets) _ _ (λ (x : MoteStep Heard). Says m x)
     (λ _. seal_says (held s r.image) m r s now draw (page_from a.packets) o own)
     (λ _. rests_as m (record m { mode = Receive a }) s 1 None _ (refl, refl) o server))
     (λ _. rests m s 0 None _ o own)
 packet_says (Maintain timer) m s now draw image version page q bytes o own server =
-    cond_both (concerns s image version page) _ _ (λ (x : Turn Heard). Says m x)
+    cond_both (concerns s image version page) _ _ (λ (x : MoteStep Heard). Says m x)
     (λ _. rests_as m (record m { noted = with_packet m.noted now image }) s 0 None _ (refl, refl) o own) (λ _. rests m s 0 None _ o own)
 packet_says (Transmit t) m s now draw image version page q bytes o own server = rests m s 0 None _ o own
 
@@ -256,7 +256,7 @@ ReadFits r = IfOk r FitsTypes
 frame_says : ((wide : Bool) (m : Message) → in_range wide m ≡ true → IsInRange wide m) → (r : Result Message FrameFault) (m : MoteState) (s : Store) (now draw : ℕ) → IsWellRead m.wide r → ReadFits r → TellsOrder s → ModeFits m.wide m.mode → Says m (by_message r m s now draw)
 frame_says ranges (Err cause) m s now draw read fits o server = rests m s 0 None _ o server
 frame_says ranges (Ok message) m s now draw read fits o server =
-    cond_both (source_of message == m.id) _ _ (λ (x : Turn Heard). Says m x) (λ _. rests m s 0 None _ o server) (λ _. message_says ranges message m s now draw read fits o server)
+    cond_both (source_of message == m.id) _ _ (λ (x : MoteStep Heard). Says m x) (λ _. rests m s 0 None _ o server) (λ _. message_says ranges message m s now draw read fits o server)
 
 pub heard_says : ((wide : Bool) (m : Message) → in_range wide m ≡ true → IsInRange wide m) → (m : MoteState) (s : Store) (now draw : ℕ) (bytes : List ℕ) → ReadFits (message_of bytes m.wide) → TellsOrder s → ModeFits m.wide m.mode → Says m (heard_of m s now draw bytes)
 unfolding heard_of
@@ -292,7 +292,7 @@ speaks_as : (a b : ℕ) (v w : Bool) (e : Effect) → a ≡ b → v ≡ w → Ef
 speaks_as a b v w e same alike speaks = subst (λ n. EffectSpeaks n w e) same (subst (λ u. EffectSpeaks a u e) alike speaks)
 
 module _ (ends : (k : StartCause) (s : Store) → Boots s (boot k s)) (begins : (k : StartCause) (s : Store) → BeginsAt s (boot k s).trail) where
-  tick_by_speaks : (a : Did) (id : ℕ) (wide : Bool) (step : Turn Did) (now draw : ℕ) → TurnSpeaks id wide step → EffectSpeaks id wide (tick_by a step now draw)
+  tick_by_speaks : (a : Did) (id : ℕ) (wide : Bool) (step : MoteStep Did) (now draw : ℕ) → TurnSpeaks id wide step → EffectSpeaks id wide (tick_by a step now draw)
   tick_by_speaks Sent id wide step now draw t = record { way = t.way; mote = (t.id_is, t.wide_is, t.mote) }
   tick_by_speaks Idle id wide step now draw t = record { way = t.way; mote = (t.id_is, t.wide_is, t.mote) }
   tick_by_speaks Restart id wide step now draw t =

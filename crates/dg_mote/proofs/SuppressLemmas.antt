@@ -7,7 +7,7 @@ use Rattle.dg_nor.specs.Trail.{Trail, last, last_of, resting}
 use Rattle.dg_nor.proofs.TrailLemmas.{joined_none, last-resting}
 use Rattle.dg_trickle.specs.Times.{shortest_interval, longest_interval, redundancy}
 use Rattle.dg_trickle.specs.Timer.{Timer}
-use Rattle.dg_trickle.specs.Steps.{begun, is_due, is_over, act_of, after_tick, after_same, after_other}
+use Rattle.dg_trickle.specs.Steps.{interval_begun, is_due, is_over, act_of, after_tick, after_same, after_other}
 use Rattle.dg_trickle.specs.declared.Act.{Act}
 use Rattle.dg_trickle.specs.declared.Act.TheVariants as act
 use Rattle.dg_bits.specs.Sets.{Numbers}
@@ -23,7 +23,7 @@ use Rattle.dg_frame.specs.declared.Entry.{Entry}
 use Rattle.dg_frame.specs.declared.Message.{Message}
 use Rattle.dg_frame.specs.declared.Message.TheVariants.{Advert, Request, Packet, Wide}
 use Rattle.dg_frame.specs.declared.FrameFault.{FrameFault}
-use Rattle.dg_mote.specs.Model.{MoteState, Mode, Maintain, Receive, Transmit, Turn}
+use Rattle.dg_mote.specs.Model.{MoteState, Mode, Maintain, Receive, Transmit, MoteStep}
 use Rattle.dg_mote.specs.Summary.{entry_for, entry_by, named, same_entry, same_order, own_order, advert_by, is_own, advertiser_ahead, ahead_in}
 use Rattle.dg_mote.specs.Ticks.{clears, maintain_by, mode_tick, tick_of}
 use Rattle.dg_mote.specs.Adverts.{better_trail, asks, asking, noting, by_ahead, turn_behind, advert_heard, on_advert, dropped, offer}
@@ -130,7 +130,7 @@ Suppressed timer (Maintain t) = (t.begin ≡ timer.begin) × (t.interval ≡ tim
 Suppressed timer (Receive r) = ⊥
 Suppressed timer (Transmit t) = ⊥
 
-record StaysQuiet (timer : Timer) (step : Turn Did) : Type 0 where
+record StaysQuiet (timer : Timer) (step : MoteStep Did) : Type 0 where
   silent : step.sent ≡ None
   mode : Suppressed timer step.mote.mode
 
@@ -140,19 +140,19 @@ not_over t now early over = omega (arith, early, leb-true (t.begin + t.interval)
 ticks_on : (timer t : Timer) (now draw : ℕ) → Suppressed timer (Maintain t) → now < timer.begin + timer.interval → Suppressed timer (Maintain (after_tick t now draw))
 ticks_on timer t now draw q early =
     cond_both (is_due t now) (record t { fired = true }) _ (λ x. Suppressed timer (Maintain x)) (λ _. q)
-    (λ _. cond_both (is_over t now) (begun (min (2 * t.interval) longest_interval) now draw) t (λ x. Suppressed timer (Maintain x)) (λ over. absurd (not_over t now (omega (arith, early, q.0, q.1)) over)) (λ _. q))
+    (λ _. cond_both (is_over t now) (interval_begun (min (2 * t.interval) longest_interval) now draw) t (λ x. Suppressed timer (Maintain x)) (λ over. absurd (not_over t now (omega (arith, early, q.0, q.1)) over)) (λ _. q))
 
 -- at t it keeps quiet
 no_send : (t : Timer) (now : ℕ) (m : MoteState) (s : Store) → 1 ≤ t.count → (maintain_by (act_of t now) m s).sent ≡ None
 no_send t now m s heard =
     let P : Act → Type 0 = λ a. (maintain_by a m s).sent ≡ None in
     cond_both (is_due t now) _ _ P
-    (λ _. cond_both (nat_lt t.count redundancy) act.Send act.Quiet P (λ few. absurd (omega (arith, heard, ltb-true t.count redundancy few))) (λ _. refl))
+    (λ _. cond_both (nat_lt t.count redundancy) act.Send act.Suppressed P (λ few. absurd (omega (arith, heard, ltb-true t.count redundancy few))) (λ _. refl))
     (λ _. cond_both (is_over t now) act.Expired act.Nothing P (λ _. refl) (λ _. refl))
 
 acts_alike : (a : Act) (m : MoteState) (s : Store) → (maintain_by a m s).mote ≡ m
 acts_alike act.Send m s = refl
-acts_alike act.Quiet m s = refl
+acts_alike act.Suppressed m s = refl
 acts_alike act.Expired m s = refl
 acts_alike act.Nothing m s = refl
 
@@ -173,12 +173,12 @@ tick_quiet timer m s now draw q early =
     cond_both (clears m s now) _ _ (StaysQuiet timer) (λ _. record { silent = refl; mode = q }) (λ _. mode_quiet timer m.mode m s now draw q q early)
 
 -- a frame that leaves it in the interval leaves it so
-abbrev Counts : Timer → Turn Heard → Type 0
+abbrev Counts : Timer → MoteStep Heard → Type 0
 Counts timer step = IsInInterval timer step.mote.mode → Suppressed timer step.mote.mode
 
 other_counts : (timer t : Timer) (now draw : ℕ) → Suppressed timer (Maintain t) → IsInInterval timer (Maintain (after_other t now draw)) → Suppressed timer (Maintain (after_other t now draw))
 other_counts timer t now draw q =
-    cond_both (nat_lt shortest_interval t.interval) (begun shortest_interval now draw) t (λ x. IsInInterval timer (Maintain x) → Suppressed timer (Maintain x))
+    cond_both (nat_lt shortest_interval t.interval) (interval_begun shortest_interval now draw) t (λ x. IsInInterval timer (Maintain x) → Suppressed timer (Maintain x))
     (λ longer within. absurd (omega (arith, ltb-true shortest_interval t.interval longer, within.1, q.1)))
     (λ _ _. q)
 

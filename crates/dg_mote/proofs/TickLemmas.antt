@@ -65,7 +65,7 @@ serving_agrees table s m t now draw v =
 module _ (P : Store → Type 0) (clear : (s : Store) → P s → Through P (clear_trail s)) (table : List Row) (s : Store) (here : P s) (agrees : Agrees table s) (now draw : ℕ) where
   maintain_keeps : (a : Act) (m : MoteState) → ModeAgrees table s m.mode → Keeps P table (maintain_by a m s)
   maintain_keeps act.Send m mode = rests P table m s 0 _ _ here mode (advert_honest table m.wide s m.id agrees)
-  maintain_keeps act.Quiet m mode = rests P table m s 0 None _ here mode tt
+  maintain_keeps act.Suppressed m mode = rests P table m s 0 None _ here mode tt
   maintain_keeps act.Expired m mode = rests P table m s 0 None _ here mode tt
   maintain_keeps act.Nothing m mode = rests P table m s 0 None _ here mode tt
 

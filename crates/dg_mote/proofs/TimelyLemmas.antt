@@ -30,7 +30,7 @@ use Rattle.dg_slot.specs.Layout.{packets}
 use Rattle.dg_slot.specs.Kept.{Held}
 use Rattle.dg_volume.specs.Store.{Store, held}
 use Rattle.dg_volume.specs.Start.{order_waits}
-use Rattle.dg_mote.specs.Model.{MoteState, Mode, Maintain, Receive, Transmit, Receiving, Sending, came, reception, begun_mote, maintains, Turn}
+use Rattle.dg_mote.specs.Model.{MoteState, Mode, Maintain, Receive, Transmit, Receiving, Sending, came, reception, begun_mote, maintains, MoteStep}
 use Rattle.dg_mote.specs.Ticks.{clears, maintain_by, asked, receive_by, serving, transmit_by, mode_tick, tick_of}
 use Rattle.dg_frame.specs.Grammar.{message_of}
 use Rattle.dg_frame.specs.declared.Entry.{Entry}
@@ -103,7 +103,7 @@ timely_maintains m now draw t = timely_mode m (Maintain (started now draw)) now 
 
 maintain_timely : (a : Act) (m : MoteState) (s : Store) (now : ℕ) → Timely m now → Timely (maintain_by a m s).mote now
 maintain_timely act.Send m s now t = t
-maintain_timely act.Quiet m s now t = t
+maintain_timely act.Suppressed m s now t = t
 maintain_timely act.Expired m s now t = t
 maintain_timely act.Nothing m s now t = t
 
@@ -140,14 +140,14 @@ transmit_timely serve.Wait m t s now draw y h = y
 
 tick_timely_by : (mode : Mode) (m : MoteState) (s : Store) (now draw : ℕ) → Timely m now → ModeTimely mode now → Timely (mode_tick mode m s now draw).mote now
 tick_timely_by (Maintain t) m s now draw y h =
-    cond_both (order_waits s) _ _ (λ (x : Turn Did). Timely x.mote now) (λ _. y)
+    cond_both (order_waits s) _ _ (λ (x : MoteStep Did). Timely x.mote now) (λ _. y)
     (λ _. maintain_timely (act_of t now) (record m { mode = Maintain (after_tick t now draw) }) s now (timely_mode m _ now y (timer_ticks t now draw h)))
 tick_timely_by (Receive r) m s now draw y h = receive_timely (ask_of (reception r) now) m r s now draw y h
 tick_timely_by (Transmit t) m s now draw y h = transmit_timely (serve_of t.owed now) m t s now draw y h
 
 pub timely_ticked : (m : MoteState) (s : Store) (now draw : ℕ) → Timely m now → Timely (tick_of m s now draw).mote now
 unfolding tick_of
-timely_ticked m s now draw y = cond_both (clears m s now) _ _ (λ (x : Turn Did). Timely x.mote now) (λ _. y) (λ _. tick_timely_by m.mode m s now draw y y.mode)
+timely_ticked m s now draw y = cond_both (clears m s now) _ _ (λ (x : MoteStep Did). Timely x.mote now) (λ _. y) (λ _. tick_timely_by m.mode m s now draw y y.mode)
 
 -- ---- adverts
 
@@ -158,7 +158,7 @@ noting_timely false m t s now draw y h = timely_mode m (Maintain (after_other t 
 ahead_timely : (o : Option ℕ) (m : MoteState) (t : Timer) (s : Store) (now draw source : ℕ) (entries : List Entry) (own : Bool) → Timely m now → ModeTimely (Maintain t) now → Timely (by_ahead o m s now draw (offer source entries) (noting m t s now draw own)).mote now
 ahead_timely None m t s now draw source entries own y h = noting_timely own m t s now draw y h
 ahead_timely (Some i) m t s now draw source entries own y h =
-    cond_both (asks m s now i (entry_for entries i)) _ _ (λ (x : Turn Heard). Timely x.mote now)
+    cond_both (asks m s now i (entry_for entries i)) _ _ (λ (x : MoteStep Heard). Timely x.mote now)
     (λ _. timely_mode m _ now y (omega arith))
     (λ _. noting_timely own m t s now draw y h)
 
@@ -197,21 +197,21 @@ below_both n s t hs ht q is = ⊎_elim (λ e. hs q e) (λ e. ht q e) (or_both (s
 
 to_it_timely : (mode : Mode) (m : MoteState) (s : Store) (now image version page : ℕ) (want : Numbers) → AllBelow packets want → Timely m now → ModeTimely mode now → Timely (to_it mode m s now (page_request image version page want)).mote now
 to_it_timely (Maintain t) m s now image version page want below y h =
-    cond_both (can_serve s image version page) _ _ (λ (x : Turn Heard). Timely x.mote now) (λ _. timely_mode m _ now y (omega arith, below)) (λ _. y)
+    cond_both (can_serve s image version page) _ _ (λ (x : MoteStep Heard). Timely x.mote now) (λ _. timely_mode m _ now y (omega arith, below)) (λ _. y)
 to_it_timely (Transmit t) m s now image version page want below y h =
-    cond_both (is_served t image version page) _ _ (λ (x : Turn Heard). Timely x.mote now) (λ _. timely_mode m _ now y (h.0, below_both packets t.owed.left want h.1 below)) (λ _. y)
+    cond_both (is_served t image version page) _ _ (λ (x : MoteStep Heard). Timely x.mote now) (λ _. timely_mode m _ now y (h.0, below_both packets t.owed.left want h.1 below)) (λ _. y)
 to_it_timely (Receive r) m s now image version page want below y h = y
 
 request_timely : (m : MoteState) (s : Store) (now to image version page : ℕ) (want : Numbers) → AllBelow packets want → Timely m now → Timely (on_request m s now to (page_request image version page want)).mote now
 request_timely m s now to image version page want below y =
-    cond_both (to == m.id) _ _ (λ (x : Turn Heard). Timely x.mote now) (λ _. to_it_timely m.mode m s now image version page want below y y.mode)
-    (λ _. cond_both (concerns s image version page) _ _ (λ (x : Turn Heard). Timely x.mote now) (λ _. request_noted m now image y) (λ _. y))
+    cond_both (to == m.id) _ _ (λ (x : MoteStep Heard). Timely x.mote now) (λ _. to_it_timely m.mode m s now image version page want below y y.mode)
+    (λ _. cond_both (concerns s image version page) _ _ (λ (x : MoteStep Heard). Timely x.mote now) (λ _. request_noted m now image y) (λ _. y))
 
 -- ---- packets
 
 seal_timely : (o : Option Held) (m : MoteState) (r : Receiving) (s : Store) (now draw : ℕ) (page : List ℕ) → Timely m now → Timely (seal_by o m r s now draw page).mote now
 seal_timely None m r s now draw page y = y
-seal_timely (Some h) m r s now draw page y = cond_both _ _ _ (λ (x : Turn Heard). Timely x.mote now) (λ _. timely_maintains m now draw y) (λ _. timely_maintains m now draw y)
+seal_timely (Some h) m r s now draw page y = cond_both _ _ _ (λ (x : MoteStep Heard). Timely x.mote now) (λ _. timely_maintains m now draw y) (λ _. timely_maintains m now draw y)
 
 accepted_due : (r : Receiving) (now q : ℕ) → r.due ≤ now + next_wait → (after_accept (reception r) now q).due ≤ now + next_wait
 accepted_due r now q h =
@@ -221,14 +221,14 @@ packet_timely : (mode : Mode) (m : MoteState) (s : Store) (now draw image versio
 packet_timely (Receive r) m s now draw image version page q bytes y h =
     let a = accepted r now q bytes in
     let full = seal_by (held s r.image) m r s now draw (page_from a.packets) in
-    let more : Turn Heard = record { mote = record m { mode = Receive a }; trail = resting s 1; sent = None; answer = Took q } in
-    cond_both (is_wanted r image version page q) (takes m r s now draw q bytes) (dropped m s) (λ (x : Turn Heard). Timely x.mote now)
-    (λ _. cond_both (set.len (came a.packets) == packets) full more (λ (x : Turn Heard). Timely x.mote now)
+    let more : MoteStep Heard = record { mote = record m { mode = Receive a }; trail = resting s 1; sent = None; answer = Took q } in
+    cond_both (is_wanted r image version page q) (takes m r s now draw q bytes) (dropped m s) (λ (x : MoteStep Heard). Timely x.mote now)
+    (λ _. cond_both (set.len (came a.packets) == packets) full more (λ (x : MoteStep Heard). Timely x.mote now)
     (λ _. seal_timely (held s r.image) m r s now draw (page_from a.packets) y)
     (λ _. timely_mode m (Receive a) now y (accepted_due r now q h)))
     (λ _. y)
 packet_timely (Maintain t) m s now draw image version page q bytes y h =
-    cond_both (concerns s image version page) _ _ (λ (x : Turn Heard). Timely x.mote now) (λ _. packet_noted m now image y) (λ _. y)
+    cond_both (concerns s image version page) _ _ (λ (x : MoteStep Heard). Timely x.mote now) (λ _. packet_noted m now image y) (λ _. y)
 packet_timely (Transmit t) m s now draw image version page q bytes y h = y
 
 -- ---- frames
@@ -242,7 +242,7 @@ message_timely (Wide source entries order) m s now draw fits y = on_advert_timel
 heard_timely_by : (r : Result Message FrameFault) (m : MoteState) (s : Store) (now draw : ℕ) → IsWellRead m.wide r → Timely m now → Timely (by_message r m s now draw).mote now
 heard_timely_by (Err fault) m s now draw fits y = y
 heard_timely_by (Ok message) m s now draw fits y =
-    cond_both (source_of message == m.id) _ _ (λ (x : Turn Heard). Timely x.mote now) (λ _. y) (λ _. message_timely message m s now draw fits y)
+    cond_both (source_of message == m.id) _ _ (λ (x : MoteStep Heard). Timely x.mote now) (λ _. y) (λ _. message_timely message m s now draw fits y)
 
 pub timely_heard : (m : MoteState) (s : Store) (now draw : ℕ) (bytes : List ℕ) → Timely m now → Timely (heard_of m s now draw bytes).mote now
 unfolding heard_of

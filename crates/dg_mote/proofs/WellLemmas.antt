@@ -13,7 +13,7 @@ use Rattle.dg_volume.specs.Ends.{OnTheWay, Boots}
 use Rattle.dg_volume.specs.Agreement.{Agrees}
 use Rattle.dg_volume.specs.declared.volume.StartCause.{StartCause}
 use Rattle.dg_volume.specs.declared.volume.StartCause.TheVariants as cause
-use Rattle.dg_mote.specs.Model.{MoteState, Turn}
+use Rattle.dg_mote.specs.Model.{MoteState, MoteStep}
 use Rattle.dg_mote.specs.Ticks.{tick_of}
 use Rattle.dg_mote.specs.Hears.{heard_of}
 use Rattle.dg_mote.specs.Agreement.{ModeAgrees}
@@ -31,7 +31,7 @@ use Rattle.dg_mote.proofs.TimelyLemmas.{timely_begins, timely_ticked, timely_hea
 
 -- ---- steps
 
-pub turn_well : {A : Type 0} (table : List Row) (step : Turn A) (now : ℕ) → Keeps (StoreIsWell table) table step → Timely step.mote now → TurnIsWell table step now
+pub turn_well : {A : Type 0} (table : List Row) (step : MoteStep A) (now : ℕ) → Keeps (StoreIsWell table) table step → Timely step.mote now → TurnIsWell table step now
 turn_well table step now k t = record { way = k.way; mote = record { store = Through-last (StoreIsWell table) step.trail k.way; mode = k.mode; timely = t }; sent = k.sent }
 
 pub ticks_well : (table : List Row) → ((s : Store) → Agrees table s → Through (Agrees table) (clear_trail s)) → (m : MoteState) (s : Store) (now draw : ℕ) → IsWell table m s now → TurnIsWell table (tick_of m s now draw) now
@@ -95,7 +95,7 @@ module _ (table : List Row) (laws : StartLaws table) where
         sent = w.sent;
       }
 
-  pub tick_by_well : (a : Did) (step : Turn Did) (now draw : ℕ) → TurnIsWell table step now → EffectIsWell table (tick_by a step now draw) now
+  pub tick_by_well : (a : Did) (step : MoteStep Did) (now draw : ℕ) → TurnIsWell table step now → EffectIsWell table (tick_by a step now draw) now
   tick_by_well Restart step now draw w =
       let s = last step.trail in
       joined_well step.trail (boots cause.Order s step.mote.id step.mote.wide now draw) now w.way
@@ -108,7 +108,7 @@ pub tick_effect_well : (table : List Row) → StartLaws table → (m : MoteState
 unfolding tick_effect
 tick_effect_well table laws m s now draw w = tick_by_well table laws (tick_of m s now draw).answer (tick_of m s now draw) now draw w
 
-silent_well : {A : Type 0} (table : List Row) (step : Turn A) (now : ℕ) → TurnIsWell table step now → EffectIsWell table (silent step) now
+silent_well : {A : Type 0} (table : List Row) (step : MoteStep A) (now : ℕ) → TurnIsWell table step now → EffectIsWell table (silent step) now
 silent_well table step now w = record { way = w.way; mote = w.mote; started = tt; sent = tt }
 
 pub frame_effect_well : (table : List Row) (m : MoteState) (s : Store) (now draw : ℕ) (bytes : List ℕ) → TurnIsWell table (heard_of m s now draw bytes) now → EffectIsWell table (frame_effect m s now draw bytes) now

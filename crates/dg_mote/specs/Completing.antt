@@ -81,7 +81,7 @@ AdvertLaw = (table : List Row) (x : Spot) (now : ℕ) → SpotIsWell table x now
 -- ---- asking
 
 -- the profile of an image that another mote keeps, and no page yet
-pub record BeginsWith (ahead kept : Held) : Type 0 where
+pub record TookProfile (ahead kept : Held) : Type 0 where
   pub version : kept.version ≡ ahead.version
   pub pages : kept.pages ≡ ahead.pages
   pub crc : kept.crc ≡ ahead.crc
@@ -90,8 +90,9 @@ pub record BeginsWith (ahead kept : Held) : Type 0 where
 -- What is kept of an image once a page of this version is asked for: as before where the version is kept,
 -- and else nothing of it yet, in place of an older one.
 abbrev pub KeepsNext : Option Held → Held → Held → Type 0
-KeepsNext None ahead kept = BeginsWith ahead kept
-KeepsNext (Some h) ahead kept = ((h.version ≡ ahead.version) × (kept ≡ h)) ⊎ ((h.version < ahead.version) × BeginsWith ahead kept)
+KeepsNext None ahead kept = TookProfile ahead kept
+KeepsNext (Some h) ahead kept =
+    ((h.version ≡ ahead.version) × (kept ≡ h)) ⊎ ((h.version < ahead.version) × TookProfile ahead kept)
 
 -- it asks for the next page of the image, and none of its packets came
 pub record AsksPage (x : Spot) (image : ℕ) (kept : Held) : Type 0 where

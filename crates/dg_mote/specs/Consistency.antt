@@ -6,7 +6,7 @@ use Rattle.dg_volume.specs.Sizes.{images}
 use Rattle.dg_volume.specs.Store.{Store}
 use Rattle.dg_volume.specs.Stands.{Stands}
 use Rattle.dg_volume.specs.Consistent.{Consistent}
-use Rattle.dg_mote.specs.Model.{MoteState, Mode, Maintain, Receive, Transmit, Turn}
+use Rattle.dg_mote.specs.Model.{MoteState, Mode, Maintain, Receive, Transmit, MoteStep}
 use Rattle.dg_mote.specs.Motes.{IsMote}
 use Rattle.dg_mote.specs.declared.mote.Mote.{Mote}
 
@@ -22,7 +22,7 @@ pub record StoreIsConsistent (golden : Row) (s : Store) : Type 0 where
   pub consistent : Consistent golden s
 
 -- A step goes through such stores, and the mote then asks for a known image, if for any.
-pub record TurnIsConsistent {A : Type 0} (golden : Row) (step : Turn A) : Type 0 where
+pub record TurnIsConsistent {A : Type 0} (golden : Row) (step : MoteStep A) : Type 0 where
   pub way : Through (StoreIsConsistent golden) step.trail
   pub asks : AsksForKnown step.mote.mode
 

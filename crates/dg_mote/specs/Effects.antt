@@ -6,7 +6,7 @@ use Rattle.dg_volume.specs.Start.{Runs, boot}
 use Rattle.dg_volume.specs.declared.volume.StartCause.{StartCause}
 use Rattle.dg_volume.specs.declared.volume.StartCause.TheVariants as cause
 use Rattle.dg_frame.specs.declared.Message.{Message}
-use Rattle.dg_mote.specs.Model.{MoteState, Turn, begun_mote}
+use Rattle.dg_mote.specs.Model.{MoteState, MoteStep, begun_mote}
 use Rattle.dg_mote.specs.Ticks.{tick_of}
 use Rattle.dg_mote.specs.Hears.{heard_of}
 use Rattle.dg_mote.specs.declared.mote.Did.{Did}
@@ -31,15 +31,15 @@ boots k s id wide now draw = let b = boot k s in boot_by b.runs b.trail id wide 
 unfoldable pub reset_effect : Store → (id : ℕ) (wide : Bool) (now draw : ℕ) → Effect
 reset_effect s id wide now draw = boots cause.Power s id wide now draw
 
-abbrev pub on : {A : Type 0} → Turn A → Effect
+abbrev pub on : {A : Type 0} → MoteStep A → Effect
 on step = record { mote = Some step.mote; trail = step.trail; started = None; sent = step.sent }
 
 -- a frame that is heard sends nothing
-abbrev pub silent : {A : Type 0} → Turn A → Effect
+abbrev pub silent : {A : Type 0} → MoteStep A → Effect
 silent step = record { mote = Some step.mote; trail = step.trail; started = None; sent = None }
 
 -- a tick that answers Restart goes on with a start
-abbrev pub tick_by : Did → Turn Did → (now draw : ℕ) → Effect
+abbrev pub tick_by : Did → MoteStep Did → (now draw : ℕ) → Effect
 tick_by Restart step now draw =
     let e = boots cause.Order (last step.trail) step.mote.id step.mote.wide now draw in
     record e { trail = joined step.trail e.trail }

@@ -18,7 +18,7 @@ use Rattle.dg_volume.specs.Store.{Store, held}
 use Rattle.dg_volume.specs.Stands.{Mounted, is_lent}
 use Rattle.dg_volume.specs.Changes.{paged, is_version}
 use Rattle.dg_volume.specs.Trails.{take_trail}
-use Rattle.dg_mote.specs.Model.{MoteState, Receiving, maintains, Turn}
+use Rattle.dg_mote.specs.Model.{MoteState, Receiving, maintains, MoteStep}
 use Rattle.dg_mote.specs.Summary.{advertiser_ahead}
 use Rattle.dg_mote.specs.Adverts.{outline}
 use Rattle.dg_mote.specs.Motes.{IsMote}
@@ -28,7 +28,7 @@ use Rattle.dg_mote.specs.declared.mote.Mote.{Mote}
 use Rattle.dg_mote.specs.declared.mote.Mode.TheVariants as value
 
 -- the chip stays as it is
-pub record ChipStays (turn : Turn Heard) (c : List ℕ) (s : Store) (v : Mote) (answer : Heard) : Type 0 where
+pub record ChipStays (turn : MoteStep Heard) (c : List ℕ) (s : Store) (v : Mote) (answer : Heard) : Type 0 where
   pub trail : turn.trail ≡ resting s 0
   pub mote : IsMote c v turn.mote s
   pub answers : answer ≡ turn.answer
@@ -70,7 +70,7 @@ pub record PageIsWhole (c : List ℕ) (v : Mote) (m : MoteState) (s : Store) (r 
   pub all : (q : ℕ) → q < packets → is_some (packet ps q) ≡ true
 
 -- a whole page is sealed where it fits, and the mote maintains anew
-abbrev pub page_ends : MoteState → Receiving → Held → Store → (now draw : ℕ) → List ℕ → Turn Heard
+abbrev pub page_ends : MoteState → Receiving → Held → Store → (now draw : ℕ) → List ℕ → MoteStep Heard
 page_ends m r h s now draw page =
     if may_seal r.image h page
     then record {

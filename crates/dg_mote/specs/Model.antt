@@ -68,7 +68,7 @@ abbrev pub reception : Receiving → Reception
 reception r = record { got = came r.packets; tries = r.tries; due = r.due }
 
 -- what a step makes of a mote over a store, and what it answers
-pub record Turn (A : Type 0) : Type 0 where
+pub record MoteStep (A : Type 0) : Type 0 where
   pub mote : MoteState
   pub trail : Trail Store
   pub sent : Option Message

@@ -14,7 +14,7 @@ use Rattle.dg_frame.specs.Grammar.{message_of}
 use Rattle.dg_frame.specs.Spelling.{frame_of}
 use Rattle.dg_frame.specs.declared.Message.{Message}
 use Rattle.dg_mote.specs.Model.{MoteState, Mode, Maintain, Receive, Transmit, NamesKnown, Receiving, Sending, came, reception}
-use Rattle.dg_mote.specs.Model.{Turn}
+use Rattle.dg_mote.specs.Model.{MoteStep}
 use Rattle.dg_mote.specs.Agreement.{Serves}
 use Rattle.dg_mote.specs.declared.mote.Mote.{Mote}
 use Rattle.dg_mote.specs.declared.outbox.Outbox.{Outbox}
@@ -75,7 +75,7 @@ abbrev pub IsRead : (wide : Bool) → Message → Type 0
 IsRead wide message = message_of (frame_of message) wide ≡ Ok message
 
 -- a call did what the rules say: the chip went the trail, and the mote is where they say
-pub record Done {A : Type 0} (turn : Turn A) (old new : Device) (v : Mote) (answer : A) : Type 0 where
+pub record Done {A : Type 0} (turn : MoteStep A) (old new : Device) (v : Mote) (answer : A) : Type 0 where
   pub ran : Ran (operations turn.trail) old new
   pub mote : IsMote new.image v turn.mote (last turn.trail)
   pub answers : answer ≡ turn.answer

@@ -9,7 +9,7 @@ use Rattle.dg_frame.specs.Grammar.{message_of}
 use Rattle.dg_frame.specs.Ranges.{OrderInRange}
 use Rattle.dg_frame.specs.Spelling.{frame_of, FitsTypes}
 use Rattle.dg_frame.specs.declared.Message.{Message}
-use Rattle.dg_mote.specs.Model.{MoteState, Mode, Maintain, Receive, Transmit, NamesKnown, Turn}
+use Rattle.dg_mote.specs.Model.{MoteState, Mode, Maintain, Receive, Transmit, NamesKnown, MoteStep}
 use Rattle.dg_mote.specs.Effects.{Effect}
 use Rattle.dg_mote.specs.Hears.{source_of}
 
@@ -33,7 +33,7 @@ pub record Speaks (m : MoteState) (s : Store) : Type 0 where
   pub order : OrderFits s.order
 
 -- the stores of a step tell such orders, and the mote keeps its id and its width, and speaks
-pub record TurnSpeaks {A : Type 0} (id : ℕ) (wide : Bool) (step : Turn A) : Type 0 where
+pub record TurnSpeaks {A : Type 0} (id : ℕ) (wide : Bool) (step : MoteStep A) : Type 0 where
   pub way : Through (λ s. OrderFits s.order) step.trail
   pub id_is : step.mote.id ≡ id
   pub wide_is : step.mote.wide ≡ wide

@@ -8,7 +8,7 @@ use Rattle.dg_volume.specs.Store.{Store}
 use Rattle.dg_volume.specs.Start.{app_of}
 use Rattle.dg_volume.specs.Agreement.{HoldsRow, Agrees}
 use Rattle.dg_frame.specs.declared.Message.{Message}
-use Rattle.dg_mote.specs.Model.{MoteState, Turn}
+use Rattle.dg_mote.specs.Model.{MoteState, MoteStep}
 use Rattle.dg_mote.specs.Effects.{Effect}
 use Rattle.dg_mote.specs.Timely.{Timely}
 use Rattle.dg_mote.specs.Agreement.{ModeAgrees, HonestMessage}
@@ -29,7 +29,7 @@ abbrev pub SendsHonest : List Row → Option Message → Type 0
 SendsHonest table sent = IfSome sent (λ message. HonestMessage table (Ok message))
 
 -- A step goes through such stores, and leaves such a mote.
-pub record TurnIsWell {A : Type 0} (table : List Row) (step : Turn A) (now : ℕ) : Type 0 where
+pub record TurnIsWell {A : Type 0} (table : List Row) (step : MoteStep A) (now : ℕ) : Type 0 where
   pub way : Through (StoreIsWell table) step.trail
   pub mote : IsWell table step.mote (last step.trail) now
   pub sent : SendsHonest table step.sent

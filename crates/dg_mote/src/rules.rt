@@ -8,7 +8,7 @@ ghost use Rattle.dg_trickle.specs.Timer.{Timer};
 ghost use Rattle.dg_trickle.specs.Steps.{after_same};
 ghost use Rattle.dg_quiet.specs.Times.{request_window, packet_window};
 ghost use Rattle.dg_quiet.specs.Noted.{with_request, with_packet};
-ghost use Rattle.dg_send.specs.Steps.{begun};
+ghost use Rattle.dg_send.specs.Steps.{owed_begun};
 ghost use Rattle.dg_control.specs.declared.snapshot.Order.{Order};
 ghost use Rattle.dg_slot.specs.Kept.{Held};
 ghost use Rattle.dg_volume.specs.Store.{Store, held};
@@ -125,7 +125,9 @@ pub fn pages_are_handed_on_before_the_image_is_whole()
         → message_of bytes m.wide ≡ Ok (message.Request source m.id image version page want) → source ≢ m.id
         → m.mode ≡ Maintain timer → HasPage s image version page
         → heard_of m s now draw bytes ≡ record {
-          mote = record m { mode = Transmit (record { image = image; version = version; page = page; owed = begun now want }) };
+          mote = record m {
+            mode = Transmit (record { image = image; version = version; page = page; owed = owed_begun now want });
+          };
           trail = resting s 0;
           sent = None;
           answer = heard.Serves image page;

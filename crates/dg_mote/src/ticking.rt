@@ -5,15 +5,11 @@ ghost use Rattle.dg_frame.specs.Spelling.{frame_of};
 ghost use Rattle.dg_frame.specs.declared.Message.TheVariants as message;
 ghost use Rattle.dg_slot.specs.Layout.{slots, most_pages, packets, page_sector};
 ghost use Rattle.dg_slot.specs.Pages.{packet_in};
-ghost use Rattle.dg_slot.specs.Kept.{Held};
 ghost use Rattle.dg_slot.specs.Jobs.{outline_told, done_told, slot_of};
 ghost use Rattle.dg_object.specs.Object.{Row};
 ghost use Rattle.dg_volume.specs.Store.{Store};
-ghost use Rattle.dg_volume.specs.Told.{told};
 ghost use Rattle.dg_volume.specs.Stands.{Tells, IsMounted};
-ghost use Rattle.dg_volume.specs.Start.{is_whole, order_waits};
 ghost use Rattle.dg_volume.specs.Acts.{Stops};
-ghost use Rattle.dg_order.specs.Pending.{is_some_version};
 ghost use Rattle.dg_mote.specs.Model.{MoteState, Maintain};
 ghost use Rattle.dg_mote.specs.Ticks.{clears, maintain_tick, mode_tick, tick_of};
 ghost use Rattle.dg_mote.specs.Timely.{Timely};
@@ -25,15 +21,15 @@ use crate::laws::a_mote_keeps_consistency;
 use crate::summary::advert_message;
 use crate::{Did, Mode, Mote, Outbox};
 use dg_bits::PageBits;
+use dg_boot::order_waits;
 use dg_frame::Message;
 use dg_nor::{Nor, Stopped};
 use dg_object::{PACKET_SIZE, PACKETS};
-use dg_order::pending;
 use dg_recv::Ask;
 use dg_send::Serve;
 use dg_slot::{PageJob, read_packet};
 use dg_trickle::{Act, Trickle};
-use dg_volume::{Kept, Volume};
+use dg_volume::Volume;
 
 /// A mote that runs so long clears the count of short starts, in milliseconds.
 const LONG_RUN: u64 = 5_000;
@@ -177,7 +173,7 @@ fn maintain(
             out.put(&advert_message(id, wide, volume));
             Did::Sent
         }
-        Act::Quiet | Act::Expired | Act::Nothing => Did::Idle,
+        Act::Suppressed | Act::Expired | Act::Nothing => Did::Idle,
     }
 }
 
@@ -228,21 +224,4 @@ fn packet_message<N: Nor>(
         packet,
         bytes,
     })
-}
-
-/// Whether an order waits to be started.
-fn order_waits(volume: &Volume) -> bool
-    ensures { (s : Store) → Tells volume.now s → result ≡ order_waits s }
-{
-    let snapshot = volume.snapshot();
-    let whole = whole_version(volume.kept(snapshot.order.image));
-    pending(&snapshot, whole, volume.room())
-}
-
-/// The version that is kept whole, if any.
-fn whole_version(kept: Option<Kept>) -> Option<u32>
-    ensures { (h : Option Held) (version : ℕ) → kept ≡ told h → is_some_version result version ≡ is_whole h version }
-{
-    kept.filter(|kept| kept.done == kept.pages)
-        .map(|kept| kept.version)
 }

@@ -5,7 +5,7 @@ use Rattle.dg_bits.specs.Sets.{Numbers}
 use Rattle.dg_recv.specs.declared.Ask.{Ask}
 use Rattle.dg_recv.specs.declared.Ask.TheVariants.{Request, GiveUp, Wait}
 use Rattle.dg_recv.specs.Reception.{Reception}
-use Rattle.dg_recv.specs.Steps.{begun, ask_of, after_ask, after_accept}
+use Rattle.dg_recv.specs.Steps.{reception_begun, ask_of, after_ask, after_accept}
 
 -- the clock is looked at, or a packet of the page comes in
 pub data Call : Type 0 where
@@ -18,7 +18,7 @@ after r (Comes moment packet) = after_accept r moment packet
 
 -- the reception after a history, the newest call first
 abbrev pub reception_after : ℕ → ℕ → List Call → Reception
-reception_after start draw [] = begun start draw
+reception_after start draw [] = reception_begun start draw
 reception_after start draw (call ∷ earlier) = after (reception_after start draw earlier) call
 
 -- the packets that came in

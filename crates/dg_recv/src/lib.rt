@@ -11,7 +11,7 @@ ghost use Rattle.std.specs.FinSet as set;
 ghost use Rattle.dg_bits.specs.Sets.{Numbers, below, AllBelow};
 ghost use Rattle.dg_object.specs.Sizes.{packets};
 ghost use Rattle.dg_recv.specs.Times.{first_wait, next_wait, most_requests};
-ghost use Rattle.dg_recv.specs.Steps.{begun, missing, ask_of, after_ask, accept_of, after_accept};
+ghost use Rattle.dg_recv.specs.Steps.{reception_begun, missing, ask_of, after_ask, accept_of, after_accept};
 ghost use Rattle.dg_recv.specs.Histories.{Call, reception_after, came_in, requests};
 
 use dg_bits::PageBits;
@@ -76,7 +76,7 @@ impl Asking {
     /// milliseconds after `now`.
     pub fn new(now: u64, draw: u32) -> Self
         requires { now < 2 ^ 62 }
-        ensures { result ≡ begun now draw }
+        ensures { result ≡ reception_begun now draw }
     {
         Self {
             got: PageBits::none(),

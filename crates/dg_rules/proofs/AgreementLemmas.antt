@@ -28,7 +28,7 @@ use Rattle.dg_frame.specs.Grammar.{message_of}
 use Rattle.dg_frame.specs.Spelling.{frame_of, FitsTypes}
 use Rattle.dg_frame.specs.declared.FrameFault.{FrameFault}
 use Rattle.dg_frame.specs.declared.Message.{Message}
-use Rattle.dg_mote.specs.Model.{MoteState, begun_mote, maintains, Turn}
+use Rattle.dg_mote.specs.Model.{MoteState, begun_mote, maintains, MoteStep}
 use Rattle.dg_mote.specs.Ticks.{tick_of}
 use Rattle.dg_mote.specs.Hears.{heard_of}
 use Rattle.dg_mote.specs.Agreement.{IsHonest, HonestMessage}
@@ -41,7 +41,7 @@ use Rattle.dg_script.specs.Ranges.{IsDeclared, IsVersion, EventInRange}
 use Rattle.dg_rules.specs.Premises.{RunsWell, SentIsWell, WorldAgrees, TrueEvent}
 use Rattle.dg_base.specs.declared.events.Event.{Event}
 use Rattle.dg_rules.proofs.ThroughLemmas.{Through-map, Through-both}
-use Rattle.dg_rules.proofs.TableLemmas.{row_at-version, row_at-each, row_at-with_row, row_at-added, IsTable-with_row}
+use Rattle.dg_rules.proofs.TableLemmas.{row_at-image_version, row_at-each, row_at-with_row, row_at-added, IsTable-with_row}
 use Rattle.dg_rules.proofs.InjectLemmas.{OnInject, inject_way, refused_not}
 use Rattle.dg_rules.proofs.WiderLemmas.{Wider, wider_same, agrees_wider}
 use Rattle.dg_rules.proofs.EventLemmas.{order_of, running_by, starts, goes_on, hears, RestartLaws, does_cases}
@@ -155,7 +155,7 @@ module _ (w : World) (agrees : WorldAgrees w) where
       → Injected m image version row
   injected m image version row low known same =
       let d = row_at-each IsDeclared w.declared image version row agrees.rows known in
-      let own = row_at-version w.declared image version row known in
+      let own = row_at-image_version w.declared image version row known in
       let old = agrees.sites m low in
       let wider : Wider w.table (with_row w.table row) = λ i v r e. row_at-with_row w.table row r i v e in
       record {
@@ -230,7 +230,7 @@ module _ (laws : Laws) (w : World) (agrees : WorldAgrees w) where
 
   -- ---- steps of a mote
 
-  turn_agrees : {A : Type 0} (m dt : ℕ) (r : Running) (step : Turn A) (sent : Option Message) → r.mote.id ≡ m → r.mote.wide ≡ wide_at w m → TurnIsWell w.table step (w.moment + dt)
+  turn_agrees : {A : Type 0} (m dt : ℕ) (r : Running) (step : MoteStep A) (sent : Option Message) → r.mote.id ≡ m → r.mote.wide ≡ wide_at w m → TurnIsWell w.table step (w.moment + dt)
       → TurnSpeaks r.mote.id r.mote.wide step
       → IfSome sent (λ message. SentIsWell w.table (record { by = m; bytes = frame_of message })) → AgreesDoes w m dt (goes_on w step.trail sent r.image_version step.mote)
   turn_agrees m dt r step sent id wide well speaks told =

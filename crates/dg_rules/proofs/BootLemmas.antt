@@ -20,7 +20,7 @@ use Rattle.dg_volume.specs.Start.{Runs, Boot, behind, counts, count_trail, by_ge
 use Rattle.dg_volume.specs.declared.volume.StartCause.{StartCause}
 use Rattle.dg_volume.specs.declared.volume.StartCause.TheVariants as cause
 use Rattle.dg_base.specs.declared.events.ImageVersion.{ImageVersion}
-use Rattle.dg_rules.specs.Small.{app_version}
+use Rattle.dg_rules.specs.Small.{app_image_version}
 use Rattle.dg_rules.specs.Events.{image_version_of}
 
 abbrev pub golden_image_version : ImageVersion
@@ -35,11 +35,11 @@ pub record IsWaiting (order : Order) (kept : Option Held) (r : Runs) : Type 0 wh
 
 -- golden, what program memory was Set to, or the order's image
 abbrev pub MayRun : Store → Runs → Type 0
-MayRun s r = (image_version_of r ≡ golden_image_version) ⊎ ((option_map app_version s.app ≡ Some (image_version_of r)) ⊎ IsWaiting s.order (held s s.order.image) r)
+MayRun s r = (image_version_of r ≡ golden_image_version) ⊎ ((option_map app_image_version s.app ≡ Some (image_version_of r)) ⊎ IsWaiting s.order (held s s.order.image) r)
 
 -- program memory is Set to what runs, or is blank under golden
 abbrev pub InMemory : Option App → Runs → Type 0
-InMemory app r = (option_map app_version app ≡ Some (image_version_of r)) ⊎ ((app ≡ None) × (image_version_of r ≡ golden_image_version))
+InMemory app r = (option_map app_image_version app ≡ Some (image_version_of r)) ⊎ ((app ≡ None) × (image_version_of r ≡ golden_image_version))
 
 -- a chip whose third short start is counted has no room to choose by it
 abbrev pub IsSettled : Store → Type 0
@@ -165,7 +165,7 @@ set_version app image version is =
     let parts = and_parts (app.image == image) (app.version == version) is in
     (eqb-true app.image image parts.0, eqb-true app.version version parts.1)
 
-same_app_version : (app : App) (image_version : ImageVersion) → app.image ≡ image_version.image → app.version ≡ image_version.version → app_version app ≡ image_version
+same_app_version : (app : App) (image_version : ImageVersion) → app.image ≡ image_version.image → app.version ≡ image_version.version → app_image_version app ≡ image_version
 same_app_version app image_version image version i = record { image = image i; version = version i }
 
 golden_stays_start : (s : Store) (app : App) (three : Bool) → s.app ≡ Some app → is_set_to (Some app) 0 golden_version ≡ true → (three ≡ false → IsSettled s) → IsStart s (golden_stays s app three)
@@ -176,7 +176,7 @@ golden_stays_start s app three here is old =
       first = finish_first s r three;
       chosen = λ q e. inl (ap image_version_of (sym (same_runs r q e)));
       memory = λ q e. subst (InMemory (last (finish_trail s r three)).app) (same_runs r q e)
-          (finish_memory s r three (inl (ap (option_map app_version) here ∙ ap (λ (k : ImageVersion). Some k) (same_app_version app golden_image_version own.0 own.1))));
+          (finish_memory s r three (inl (ap (option_map app_image_version) here ∙ ap (λ (k : ImageVersion). Some k) (same_app_version app golden_image_version own.0 own.1))));
       settled = λ q e. finish_settled s r three old;
       found = λ _ e. not_neither r e;
       row = λ table a q e. subst (λ (x : Runs). HoldsRow table (app_of x)) (same_runs r q e)
@@ -201,7 +201,7 @@ unfolding Rattle.dg_nor.specs.Trail.last_of
 kept_start_by s three None here old = golden_start s three (λ _. old)
 kept_start_by s three (Some app) here old =
     let r : Runs = record { image = app.image; version = app.version; pages = app.pages } in
-    let own : option_map app_version s.app ≡ Some (image_version_of r) = ap (option_map app_version) here in
+    let own : option_map app_image_version s.app ≡ Some (image_version_of r) = ap (option_map app_image_version) here in
     record {
       first = refl;
       chosen = λ q e. subst (MayRun s) (same_runs r q e) (inr (inl own));

@@ -19,7 +19,7 @@ use Rattle.dg_frame.specs.declared.Entry.{Entry}
 use Rattle.dg_frame.specs.declared.FrameFault.{FrameFault}
 use Rattle.dg_frame.specs.declared.Message.{Message}
 use Rattle.dg_frame.specs.declared.Message.TheVariants.{Advert, Request, Packet, Wide}
-use Rattle.dg_mote.specs.Model.{MoteState, Mode, Maintain, Receive, Transmit, Receiving, Turn}
+use Rattle.dg_mote.specs.Model.{MoteState, Mode, Maintain, Receive, Transmit, Receiving, MoteStep}
 use Rattle.dg_mote.specs.Summary.{advert_by}
 use Rattle.dg_mote.specs.Ticks.{tick_of}
 use Rattle.dg_mote.specs.Hears.{heard_of}
@@ -51,7 +51,7 @@ pub record StepLaws : Type 0 where
   pub rows : (row : Row) → IsRow row → RowLaws row
 
 pub refused_trail : ChangeLaws → (m : MoteState) (s : Store) (now draw : ℕ) (bytes : List ℕ) (fault : FrameFault) → message_of bytes m.wide ≡ Err fault → (heard_of m s now draw bytes).trail ≡ resting s 0
-refused_trail laws m s now draw bytes fault is = ap (λ (step : Turn Heard). step.trail) (laws.refusals m s now draw bytes fault is)
+refused_trail laws m s now draw bytes fault is = ap (λ (step : MoteStep Heard). step.trail) (laws.refusals m s now draw bytes fault is)
 
 -- ---- golden
 

@@ -26,7 +26,7 @@ use Rattle.dg_mote.specs.Hears.{heard_of}
 use Rattle.dg_mote.specs.Changes.{MayClear, IfReceives}
 use Rattle.dg_base.specs.declared.events.ImageVersion.{ImageVersion}
 use Rattle.dg_rules.specs.World.{World, Site, Running, Sent, site, store_at, is_wide_mote, wide_at, counted, frame_at, last_frame}
-use Rattle.dg_rules.specs.Small.{Holding, SmallMote, holding, app_version, running_version, small_mote, Small, small, holds, whole}
+use Rattle.dg_rules.specs.Small.{Holding, SmallMote, holding, app_image_version, running_image_version, small_mote, Small, small, holds, whole}
 use Rattle.dg_rules.specs.Events.{Deed, Does, Refuses, Goes, does, mote_of, dt_of, image_version_of, reloaded, acts}
 use Rattle.dg_rules.specs.Steps.{blows, and_sent, StepDoes, WorldStep}
 use Rattle.dg_script.specs.Ranges.{EventInRange, StepInRange}
@@ -99,10 +99,10 @@ larger s order e =
     (λ _ f. cc) (λ low _. leb-false order.number s.order.number low) e
 
 -- a mote goes on with the image version that it ran
-same_running_version : (t : Store) (a b : Option Running) → running_version a ≡ running_version b → mote t a ≡ mote t b
+same_running_version : (t : Store) (a b : Option Running) → running_image_version a ≡ running_image_version b → mote t a ≡ mote t b
 same_running_version t a b e = λ j. record { holdings = (mote t a).holdings; app = (mote t a).app; order = t.order; runs = e j }
 
-reloaded_version : (o : Option Running) (now draw : ℕ) → running_version (reloaded o now draw) ≡ running_version o
+reloaded_version : (o : Option Running) (now draw : ℕ) → running_image_version (reloaded o now draw) ≡ running_image_version o
 reloaded_version None now draw = refl
 reloaded_version (Some r) now draw = refl
 
@@ -115,17 +115,17 @@ none_reloaded None now draw e = refl
 none_reloaded (Some r) now draw e = absurd cc
 
 -- one holding is another
-inject_small : (x : Site) (row : Row) (image : ℕ) (t : Store) (way : OnInject x.store row t) (runs then : Option Running) → row.image ≡ image → running_version runs ≡ running_version then
-    → mote t runs ≡ record (taking (small_mote x) image (option_map holding way.here)) { runs = running_version then }
+inject_small : (x : Site) (row : Row) (image : ℕ) (t : Store) (way : OnInject x.store row t) (runs then : Option Running) → row.image ≡ image → running_image_version runs ≡ running_image_version then
+    → mote t runs ≡ record (taking (small_mote x) image (option_map holding way.here)) { runs = running_image_version then }
 inject_small x row image t way runs then image_is runs_is =
     let f : Option Held → Option Holding = option_map holding in
     let h = f way.here in
     let holdings : map f t.kept ≡ slice_set (map f x.store.kept) image h = ap (map f) way.kept ∙ map-set f x.store.kept row.image way.here ∙ ap (λ (i : ℕ). slice_set (map f x.store.kept) i h) image_is in
-    λ j. record { holdings = holdings j; app = option_map app_version (way.app j); order = way.order j; runs = runs_is j }
+    λ j. record { holdings = holdings j; app = option_map app_image_version (way.app j); order = way.order j; runs = runs_is j }
 
 module _ (laws : StepLaws) (past : Past) (w : World) (agrees : WorldAgrees w) (settled : WorldSettled w) (came : WorldCame past w) where
   is_on : (m : ℕ) (r : Running) → (site w m).runs ≡ Some r → SmallIsOn (small_mote (site w m))
-  is_on m r on = (r.image_version, ap running_version on)
+  is_on m r on = (r.image_version, ap running_image_version on)
 
   settled_here : (m : ℕ) (r : Running) → (site w m).runs ≡ Some r → m < length w.sites → IsSettled (store_at w m)
   settled_here m r on here = running_at (λ q. IsSettled (store_at w m)) (site w m).runs r on (settled m here)
@@ -135,8 +135,8 @@ module _ (laws : StepLaws) (past : Past) (w : World) (agrees : WorldAgrees w) (s
 
   -- it goes on with the image version that it ran
   on_version : (m : ℕ) (r : Running) (n : MoteState) (runs : Option Running) → (site w m).runs ≡ Some r → ◌≡◌ {A = Option (Option Running)} (Some (Some (record { image_version = r.image_version; mote = n }))) (Some runs)
-      → running_version runs ≡ running_version (site w m).runs
-  on_version m r n runs on e = ap running_version (sym (same_running (Some (record { image_version = r.image_version; mote = n })) runs e)) ∙ sym (ap running_version on)
+      → running_image_version runs ≡ running_image_version (site w m).runs
+  on_version m r n runs on e = ap running_image_version (sym (same_running (Some (record { image_version = r.image_version; mote = n })) runs e)) ∙ sym (ap running_image_version on)
 
   -- nothing of the small state changes, but that the mote is off
   stays_cut : (may : ImageVersion → Type 0) (x : Site) (s : Store) → mote s None ≡ record (small_mote x) { runs = None } → CutStart may (small_mote x) (mote s None)
@@ -264,8 +264,8 @@ module _ (laws : StepLaws) (past : Past) (w : World) (agrees : WorldAgrees w) (s
       let is = same_running (reloaded o now draw) runs e in
       if_on (IsSettled (store_at w m)) (IsSettled t) o runs (λ none. reloaded_none o now draw (is ∙ none)) (λ none. sym is ∙ none_reloaded o now draw none) f (settled m here)
 
-  reload_version : (m now draw : ℕ) (runs : Option Running) → Some (reloaded (site w m).runs now draw) ≡ Some runs → running_version runs ≡ running_version (site w m).runs
-  reload_version m now draw runs e = ap running_version (sym (same_running (reloaded (site w m).runs now draw) runs e)) ∙ reloaded_version (site w m).runs now draw
+  reload_version : (m now draw : ℕ) (runs : Option Running) → Some (reloaded (site w m).runs now draw) ≡ Some runs → running_image_version runs ≡ running_image_version (site w m).runs
+  reload_version m now draw runs e = ap running_image_version (sym (same_running (reloaded (site w m).runs now draw) runs e)) ∙ reloaded_version (site w m).runs now draw
 
   order_legal : (m number image version dt draw : ℕ) → order_refusal (store_at w m) (order_of number image version) ≡ None → m < length w.sites
       → LegalDeedDoes past w (OrderEvent m number image version dt draw) (acts w m (order_trail (store_at w m) (order_of number image version)) w.table (w.moment + dt) draw)

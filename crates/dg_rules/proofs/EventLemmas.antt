@@ -17,7 +17,7 @@ use Rattle.dg_volume.specs.declared.volume.InjectFault.{InjectFault}
 use Rattle.dg_volume.specs.declared.volume.OrderFault.{OrderFault}
 use Rattle.dg_volume.specs.Table.{row_at, with_row}
 use Rattle.dg_frame.specs.declared.Message.{Message}
-use Rattle.dg_mote.specs.Model.{MoteState, Turn, begun_mote}
+use Rattle.dg_mote.specs.Model.{MoteState, MoteStep, begun_mote}
 use Rattle.dg_mote.specs.Ticks.{tick_of}
 use Rattle.dg_mote.specs.Hears.{heard_of}
 use Rattle.dg_mote.specs.Effects.{Effect, boot_by, boots, reset_effect, tick_by, tick_effect, frame_effect}
@@ -156,11 +156,11 @@ module _
   tick_answers m dt draw r is did.Restart answer =
       let s = store_at w m in
       let now = w.moment + dt in
-      let none : Turn Did = record { mote = r.mote; trail = resting s 0; sent = None; answer = did.Restart } in
+      let none : MoteStep Did = record { mote = r.mote; trail = resting s 0; sent = None; answer = did.Restart } in
       let e : tick_of r.mote s now draw ≡ none = laws.nothing r.mote s now draw answer in
       let waits = ((laws.exactly r.mote s now draw).0 answer).waits in
       subst (P (Tick m dt draw))
-      (sym (ap (λ (step : Turn Did). of_effect w (tick_by did.Restart step now draw) (Some r.image_version)) e
+      (sym (ap (λ (step : MoteStep Did). of_effect w (tick_by did.Restart step now draw) (Some r.image_version)) e
       ∙ ap (λ (x : Effect). of_effect w x (Some r.image_version)) (restarted s r.mote.id r.mote.wide now draw)
       ∙ boots_starts w (boot start_cause.Order s) r.mote.id r.mote.wide now draw (Some r.image_version)))
       (starting m dt draw r is waits)

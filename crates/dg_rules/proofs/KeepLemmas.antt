@@ -22,7 +22,7 @@ use Rattle.dg_rules.specs.Promises.{LegalDoes, LegalItem, IsLegal, IsKeptIn, Nam
 use Rattle.dg_base.specs.declared.events.Event.{Event}
 use Rattle.dg_base.specs.declared.events.Event.TheVariants.{Tick, Hear, Last, Reset, Inject, Order as OrderEvent, Frame}
 use Rattle.dg_base.specs.declared.events.Step.{Step}
-use Rattle.dg_rules.proofs.TableLemmas.{row_at-version}
+use Rattle.dg_rules.proofs.TableLemmas.{row_at-image_version}
 use Rattle.dg_rules.proofs.MessageLemmas.{same_holding_stays}
 
 same_holding : (a b : Holding) → Some a ≡ Some b → a ≡ b
@@ -70,7 +70,7 @@ module _ (w : World) (declared table after : List Row) (blew : Bool) (m image ve
   may_here = subst (λ (o : Option Holding). MayInject o legal.row) had legal.before
 
   newer : (x : Holding) → x.version < legal.row.version → Replaces w (Inject m image version dt draw) image x
-  newer x low = let at = (row_at-version declared image version legal.row legal.is_declared).1 in (refl, omega (arith, low, at))
+  newer x low = let at = (row_at-image_version declared image version legal.row legal.is_declared).1 in (refl, omega (arith, low, at))
 
   injected_after : After w (Inject m image version dt draw) blew image h (holds mid image)
   injected_after =

@@ -21,11 +21,11 @@ use Rattle.dg_volume.specs.declared.volume.StartCause.TheVariants as cause
 use Rattle.dg_mote.specs.Model.{MoteState}
 use Rattle.dg_base.specs.declared.events.ImageVersion.{ImageVersion}
 use Rattle.dg_rules.specs.World.{Site, Running}
-use Rattle.dg_rules.specs.Small.{Holding, SmallMote, holding, app_version, small_mote, holds, whole}
+use Rattle.dg_rules.specs.Small.{Holding, SmallMote, holding, app_image_version, small_mote, holds, whole}
 use Rattle.dg_rules.specs.Events.{image_version_of}
 use Rattle.dg_rules.specs.Legal.{HoldsWholeRow, MayStart, OrdersWholeRow, LegalStart, LegalTick, CutStart}
 use Rattle.dg_rules.proofs.ThroughLemmas.{Through-map}
-use Rattle.dg_rules.proofs.TableLemmas.{row_at-version, row_at-each}
+use Rattle.dg_rules.proofs.TableLemmas.{row_at-image_version, row_at-each}
 use Rattle.dg_rules.proofs.BootLemmas.{IsWaiting, MayRun, IsSettled, boot_start, order_alone, waits_whole, waits_some}
 
 -- a mote with what runs
@@ -54,7 +54,7 @@ whole_by table image version (Some h) is keeps =
     let all : length h.complete ≡ h.pages = eqb-true (length h.complete) h.pages parts.1 in
     let row = keeps.row in
     let many : length h.complete ≡ length (object row) = all ∙ keeps.pages ∙ sym (length-tabulate (pages_for (length row.bytes)) (page_of_row row)) in
-    let own = row_at-version table image h.version row keeps.in_table in
+    let own = row_at-image_version table image h.version row keeps.in_table in
     record {
       row = row;
       in_table = ap (row_at table image) (sym same) ∙ keeps.in_table;
@@ -109,27 +109,27 @@ module _ (ends : (k : StartCause) (s : Store) → Boots s (boot k s)) (table : L
       let way = Through-last (OnTheWay x.store b.runs) b.trail (ends k x.store).way in
       record {
         image_version = image_version_of r;
-        app = option_map app_version (last b.trail).app;
+        app = option_map app_image_version (last b.trail).app;
         chosen = may_start r (start.chosen r runs);
         memory =
             ⊎_elim
             (λ set. inl set)
-            (λ blank. inr (ap (option_map app_version) blank.0, (ap (λ (q : ImageVersion). q.image) blank.1, ap (λ (q : ImageVersion). q.version) blank.1)))
+            (λ blank. inr (ap (option_map app_image_version) blank.0, (ap (λ (q : ImageVersion). q.image) blank.1, ap (λ (q : ImageVersion). q.version) blank.1)))
             (start.memory r runs);
-        change = λ i. record { holdings = map (option_map holding) (way.kept i); app = option_map app_version (last b.trail).app; order = way.order i; runs = Some (image_version_of r) };
+        change = λ i. record { holdings = map (option_map holding) (way.kept i); app = option_map app_image_version (last b.trail).app; order = way.order i; runs = Some (image_version_of r) };
       }
 
   pub chosen_start : (k : StartCause) (r : Runs) → (boot k x.store).runs ≡ Some r → MayStart table (small_mote x) (image_version_of r)
   chosen_start k r runs = may_start r ((boot_start k x.store).chosen r runs)
 
   cut_app : (k : StartCause) (may : ImageVersion → Type 0) → ((r : Runs) → (boot k x.store).runs ≡ Some r → may (image_version_of r)) → (new : Option App) → AppOnWay x.store.app (boot k x.store).runs new
-      → (option_map app_version new ≡ (small_mote x).app) ⊎ ((option_map app_version new ≡ None) ⊎ ((image_version : ImageVersion) × (option_map app_version new ≡ Some image_version) × may image_version))
+      → (option_map app_image_version new ≡ (small_mote x).app) ⊎ ((option_map app_image_version new ≡ None) ⊎ ((image_version : ImageVersion) × (option_map app_image_version new ≡ Some image_version) × may image_version))
   cut_app k may chosen new way =
       ⊎_elim
-      (λ same. inl (ap (option_map app_version) same))
+      (λ same. inl (ap (option_map app_image_version) same))
       (λ other. ⊎_elim
-      (λ blank. inr (inl (ap (option_map app_version) blank)))
-      (λ set. inr (inr (image_version_of set.0, ap (option_map app_version) set.2, chosen set.0 set.1)))
+      (λ blank. inr (inl (ap (option_map app_image_version) blank)))
+      (λ set. inr (inr (image_version_of set.0, ap (option_map app_image_version) set.2, chosen set.0 set.1)))
       other)
       way
 
@@ -139,9 +139,9 @@ module _ (ends : (k : StartCause) (s : Store) → Boots s (boot k s)) (table : L
       let b = boot k x.store in
       Through-map (OnTheWay x.store b.runs) (λ s. CutStart may (small_mote x) (mote s None))
       (λ s way. record {
-        app = option_map app_version s.app;
+        app = option_map app_image_version s.app;
         how = cut_app k may chosen s.app way.app;
-        change = λ i. record { holdings = map (option_map holding) (way.kept i); app = option_map app_version s.app; order = way.order i; runs = None };
+        change = λ i. record { holdings = map (option_map holding) (way.kept i); app = option_map app_image_version s.app; order = way.order i; runs = None };
       })
       b.trail (ends k x.store).way
 

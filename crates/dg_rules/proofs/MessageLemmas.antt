@@ -15,7 +15,7 @@ use Rattle.dg_mote.specs.Summary.{entry_for}
 use Rattle.dg_mote.specs.Agreement.{ReceivesRow, ModeAgrees}
 use Rattle.dg_mote.specs.Changes.{TakesAdvert, Completes, IfReceives}
 use Rattle.dg_rules.specs.World.{Site}
-use Rattle.dg_rules.specs.Small.{Holding, SmallMote, holding, app_version, running_version, small_mote, holds}
+use Rattle.dg_rules.specs.Small.{Holding, SmallMote, holding, app_image_version, running_image_version, small_mote, holds}
 use Rattle.dg_rules.specs.Legal.{Past, Came, CameTo, AllCame, IsOlder, LegalAdvert, LegalPacket, taking}
 use Rattle.dg_rules.proofs.LegalLemmas.{mote, holds_at}
 
@@ -59,7 +59,7 @@ advert_legal blew entries order x t h =
             ⊎_elim (λ begun. inl (ap f begun)) (λ gone. inr (gone.0, ap f gone.1)) other.1,
           ))
           h.change;
-      change = λ j. record { holdings = holdings j; app = option_map app_version (h.app j); order = t.order; runs = running_version x.runs };
+      change = λ j. record { holdings = holdings j; app = option_map app_image_version (h.app j); order = t.order; runs = running_image_version x.runs };
     }
 
 -- ---- packets
@@ -113,7 +113,7 @@ module _ (past : Past) (m : ℕ) (wide : Bool) (bytes : List ℕ) (x : Site) (so
             ap (λ (o : Option Held). f (option_map (λ (h : Held). with_page h c.content) o)) here ∙ ap (λ (h : Holding). Some h) new_holding,
             all_came,
           );
-          change = λ j. record { holdings = holdings j; app = option_map app_version (app j); order = order j; runs = running_version x.runs };
+          change = λ j. record { holdings = holdings j; app = option_map app_image_version (app j); order = order j; runs = running_image_version x.runs };
         }
 
   pub packet_legal : (table : List Row) (mode : Mode) → ModeAgrees table x.store mode → IfReceives (AllThere m wide past) mode → (t : Store) → (t ≡ x.store) ⊎ Completes mode image version page q x.store t

@@ -26,7 +26,7 @@ use Rattle.dg_base.specs.declared.events.Event.TheVariants.{Tick, Hear, Last, Re
 use Rattle.dg_base.specs.declared.events.Step.{Step}
 use Rattle.dg_script.specs.declared.report.Report.{Report}
 use Rattle.dg_rules.proofs.ThroughLemmas.{Through-each}
-use Rattle.dg_rules.proofs.TableLemmas.{row_at-version, row_at-each, row_at-own, row_at-cons, row_at-of_with_row, row_at-push, IsTable-one, not_none, same_some}
+use Rattle.dg_rules.proofs.TableLemmas.{row_at-image_version, row_at-each, row_at-own, row_at-cons, row_at-of_with_row, row_at-push, IsTable-one, not_none, same_some}
 use Rattle.dg_rules.proofs.WiderLemmas.{all_pushed}
 use Rattle.dg_rules.proofs.SiteLemmas.{site_count}
 use Rattle.dg_rules.proofs.EventLemmas.{RestartLaws, does_cases, all_sent, EndsAs, ended_world, sent_unless, ends_as}
@@ -134,7 +134,7 @@ event_true motes w f (Last from m dt draw) honest = tt
 event_true motes w f (Reset m dt draw) honest = tt
 event_true motes w f (Inject m image version dt draw) honest = λ row kept here there.
     let low = (row_at-each IsDeclared w.declared image version row f.rows here).not_golden in
-    let own = row_at-version w.declared image version row here in
+    let own = row_at-image_version w.declared image version row here in
     same_some kept row (sym (f.known image version kept (subst (λ (n : ℕ). 1 ≤ n) own.0 low) there) ∙ here)
 event_true motes w f (OrderEvent m number image version dt draw) honest = tt
 event_true motes w f (FrameEvent m dt draw bytes) honest = honest

@@ -70,34 +70,34 @@ pub record LegalOrder (blew : Bool) (order : Order) (old new : SmallMote) : Type
   pub larger : old.order.number < order.number
   pub change : (new ≡ record old { order = order }) ⊎ ((blew ≡ true) × (new ≡ old))
 
-abbrev pub IsGoldenVersion : ImageVersion → Type 0
-IsGoldenVersion image_version = (image_version.image ≡ 0) × (image_version.version ≡ golden_version)
+abbrev pub IsGoldenImageVersion : ImageVersion → Type 0
+IsGoldenImageVersion image_version = (image_version.image ≡ 0) × (image_version.version ≡ golden_version)
 
 pub record HoldsWholeRow (table : List Row) (x : SmallMote) (image_version : ImageVersion) : Type 0 where
   pub row : Row
   pub in_table : row_at table image_version.image image_version.version ≡ Some row
   pub whole_row : holds x image_version.image ≡ Some (whole row)
 
-pub record OrdersVersion (x : SmallMote) (image_version : ImageVersion) : Type 0 where
+pub record OrdersImageVersion (x : SmallMote) (image_version : ImageVersion) : Type 0 where
   pub some : x.order.number ≢ 0
   pub image : x.order.image ≡ image_version.image
   pub version : x.order.version ≡ image_version.version
 
 -- a row that the mote holds whole and that its order names
 abbrev pub OrdersWholeRow : List Row → SmallMote → ImageVersion → Type 0
-OrdersWholeRow table x image_version = OrdersVersion x image_version × HoldsWholeRow table x image_version
+OrdersWholeRow table x image_version = OrdersImageVersion x image_version × HoldsWholeRow table x image_version
 
 -- golden, what program memory is Set to, or such a row
 abbrev pub MayStart : List Row → SmallMote → ImageVersion → Type 0
 MayStart table x image_version =
-    IsGoldenVersion image_version ⊎ ((x.app ≡ Some image_version) ⊎ OrdersWholeRow table x image_version)
+    IsGoldenImageVersion image_version ⊎ ((x.app ≡ Some image_version) ⊎ OrdersWholeRow table x image_version)
 
 -- a start that was not stopped
 pub record LegalStart (table : List Row) (old new : SmallMote) : Type 0 where
   pub image_version : ImageVersion
   pub app : Option ImageVersion
   pub chosen : MayStart table old image_version
-  pub memory : (app ≡ Some image_version) ⊎ ((app ≡ None) × IsGoldenVersion image_version)
+  pub memory : (app ≡ Some image_version) ⊎ ((app ≡ None) × IsGoldenImageVersion image_version)
   pub change : new ≡ record old { app = app; runs = Some image_version }
 
 -- one whose cut blew: program memory stays, is blank, or is what was chosen

@@ -25,19 +25,19 @@ pub record Small : Type 0 where
 abbrev pub holding : Held → Holding
 holding h = record { version = h.version; pages = length h.complete }
 
-abbrev pub app_version : App → ImageVersion
-app_version app = record { image = app.image; version = app.version }
+abbrev pub app_image_version : App → ImageVersion
+app_image_version app = record { image = app.image; version = app.version }
 
-abbrev pub running_version : Option Running → Option ImageVersion
-running_version r = option_map (λ (x : Running). x.image_version) r
+abbrev pub running_image_version : Option Running → Option ImageVersion
+running_image_version r = option_map (λ (x : Running). x.image_version) r
 
 abbrev pub small_mote : Site → SmallMote
 small_mote x =
     record {
       holdings = map (option_map holding) x.store.kept;
-      app = option_map app_version x.store.app;
+      app = option_map app_image_version x.store.app;
       order = x.store.order;
-      runs = running_version x.runs;
+      runs = running_image_version x.runs;
     }
 
 abbrev pub small : World → Small

@@ -5,7 +5,7 @@ use Rattle.dg_bits.specs.Sets.{Numbers}
 use Rattle.dg_send.specs.declared.Serve.{Serve}
 use Rattle.dg_send.specs.declared.Serve.TheVariants.{Send, Done, Wait}
 use Rattle.dg_send.specs.Owed.{Owed}
-use Rattle.dg_send.specs.Steps.{begun, after_merge, serve_of, after_next}
+use Rattle.dg_send.specs.Steps.{owed_begun, after_merge, serve_of, after_next}
 
 -- a further request comes in, or the clock is looked at
 pub data Call : Type 0 where
@@ -18,7 +18,7 @@ after o (Next moment) = after_next o moment
 
 -- what is owed after a history that began with a request, the newest call first
 abbrev pub owed : ℕ → Numbers → List Call → Owed
-owed start first [] = begun start first
+owed start first [] = owed_begun start first
 owed start first (call ∷ earlier) = after (owed start first earlier) call
 
 -- the union of all requests

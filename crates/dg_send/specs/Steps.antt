@@ -8,8 +8,8 @@ use Rattle.dg_send.specs.Times.{packet_gap}
 use Rattle.dg_send.specs.Owed.{Owed}
 
 -- what the first request asks for, due at once
-abbrev pub begun : ℕ → Numbers → Owed
-begun moment want = record { left = want; due = moment }
+abbrev pub owed_begun : ℕ → Numbers → Owed
+owed_begun moment want = record { left = want; due = moment }
 
 -- a further request adds what it asks for
 abbrev pub after_merge : Owed → Numbers → Owed

@@ -10,7 +10,7 @@ ghost use Rattle.dg_bits.specs.Sets.{Numbers, IsLeast};
 ghost use Rattle.dg_object.specs.Sizes.{packets};
 ghost use Rattle.dg_send.specs.Times.{packet_gap};
 ghost use Rattle.dg_send.specs.Owed.{Owed};
-ghost use Rattle.dg_send.specs.Steps.{begun, after_merge, serve_of, after_next};
+ghost use Rattle.dg_send.specs.Steps.{owed_begun, after_merge, serve_of, after_next};
 ghost use Rattle.dg_send.specs.Histories.{Call, owed, all_asked, sent, times_asked, times_sent};
 
 use dg_bits::PageBits;
@@ -54,7 +54,7 @@ impl Serving {
     /// Begins with what a request asks for, and is due at once.
     pub fn new(now: u64, want: PageBits<PACKETS>) -> Self
         requires { want ≢ set.empty }
-        ensures { result ≡ begun now want }
+        ensures { result ≡ owed_begun now want }
     {
         Self {
             left: want,

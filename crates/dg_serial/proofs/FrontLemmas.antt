@@ -3,18 +3,18 @@ use Rattle.std.proofs.Common.{◌≡◌, ℕ, List, [], ◌∷◌, ◌++◌, ref
 use Rattle.std.specs.List.{flat_map, AllByRecursion}
 use Rattle.std.proofs.lemmas.List.Concat.{flat_map-append}
 use Rattle.dg_serial.specs.Sizes.{flag_byte}
-use Rattle.dg_serial.specs.Line.{Cut, cut_of, pieces_of, rest_of, HasNoFlag, flagged, Item, item_of, items}
+use Rattle.dg_serial.specs.Line.{Split, split_of, pieces_of, rest_of, HasNoFlag, flagged, Item, item_of, items}
 use Rattle.dg_serial.proofs.CutLemmas.{cut_piece, is_cut}
 
 -- pieces that are ended stay pieces
-cut_front : (pieces : List (List ℕ)) (more : List ℕ) → AllByRecursion HasNoFlag pieces → cut_of (flagged pieces ++ more) ≡ record { pieces = pieces ++ pieces_of more; rest = rest_of more }
+cut_front : (pieces : List (List ℕ)) (more : List ℕ) → AllByRecursion HasNoFlag pieces → split_of (flagged pieces ++ more) ≡ record { pieces = pieces ++ pieces_of more; rest = rest_of more }
 cut_front [] more h = refl
 cut_front (piece ∷ pieces) more h =
     let rest : List ℕ = flagged pieces ++ more in
     let same : ((piece ++ flag_byte ∷ []) ++ flagged pieces) ++ more ≡ piece ++ flag_byte ∷ rest =
     append_assoc (piece ++ flag_byte ∷ []) (flagged pieces) more ∙ append_assoc piece (flag_byte ∷ []) rest in
-    ap cut_of same ∙ cut_piece piece rest h.0
-    ∙ ap (λ (c : Cut). record { pieces = piece ∷ c.pieces; rest = c.rest }) (cut_front pieces more h.1)
+    ap split_of same ∙ cut_piece piece rest h.0
+    ∙ ap (λ (c : Split). record { pieces = piece ∷ c.pieces; rest = c.rest }) (cut_front pieces more h.1)
 
 pub front_stays : (stream more : List ℕ) → (later : List Item) × (items (stream ++ more) ≡ items stream ++ later)
 unfolding items
@@ -25,6 +25,6 @@ front_stays stream more =
     ap (λ (xs : List ℕ). xs ++ more) cut.whole ∙ append_assoc (flagged (pieces_of stream)) (rest_of stream) more in (
       flat_map item_of (pieces_of tail),
       ap (λ (xs : List ℕ). flat_map item_of (pieces_of xs)) same
-          ∙ ap (λ (c : Cut). flat_map item_of c.pieces) (cut_front (pieces_of stream) tail cut.pieces)
+          ∙ ap (λ (c : Split). flat_map item_of c.pieces) (cut_front (pieces_of stream) tail cut.pieces)
           ∙ flat_map-append item_of (pieces_of stream) (pieces_of tail),
     )

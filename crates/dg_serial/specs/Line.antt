@@ -33,26 +33,26 @@ pub record IsOnLine (bytes : List ℕ) : Type 0 where
 -- ---- a stream is cut at its flags
 
 -- the pieces that flags end, and what follows the last flag
-pub record Cut : Type 0 where
+pub record Split : Type 0 where
   pub pieces : List (List ℕ)
   pub rest : List ℕ
 
-abbrev pub onto_first : ℕ → List (List ℕ) → List ℕ → Cut
+abbrev pub onto_first : ℕ → List (List ℕ) → List ℕ → Split
 onto_first b [] rest = record { pieces = []; rest = b ∷ rest }
 onto_first b (piece ∷ pieces) rest = record { pieces = (b ∷ piece) ∷ pieces; rest = rest }
 
-abbrev pub cut_behind : ℕ → Cut → Cut
-cut_behind b c = if b == flag_byte then record { pieces = [] ∷ c.pieces; rest = c.rest } else onto_first b c.pieces c.rest
+abbrev pub split_behind : ℕ → Split → Split
+split_behind b c = if b == flag_byte then record { pieces = [] ∷ c.pieces; rest = c.rest } else onto_first b c.pieces c.rest
 
-unfoldable pub cut_of : List ℕ → Cut
-cut_of [] = record { pieces = []; rest = [] }
-cut_of (b ∷ bs) = cut_behind b (cut_of bs)
+unfoldable pub split_of : List ℕ → Split
+split_of [] = record { pieces = []; rest = [] }
+split_of (b ∷ bs) = split_behind b (split_of bs)
 
 abbrev pub pieces_of : List ℕ → List (List ℕ)
-pieces_of stream = (cut_of stream).pieces
+pieces_of stream = (split_of stream).pieces
 
 abbrev pub rest_of : List ℕ → List ℕ
-rest_of stream = (cut_of stream).rest
+rest_of stream = (split_of stream).rest
 
 abbrev pub HasNoFlag : List ℕ → Type 0
 HasNoFlag bytes = AllByRecursion (λ b. b ≢ flag_byte) bytes
@@ -62,7 +62,7 @@ abbrev pub flagged : List (List ℕ) → List ℕ
 flagged pieces = flat_map (λ piece. piece ++ flag_byte ∷ []) pieces
 
 -- The stream is these pieces, each ended by a flag, and a rest. There is no other flag.
-pub record IsCut (stream : List ℕ) (c : Cut) : Type 0 where
+pub record IsSplit (stream : List ℕ) (c : Split) : Type 0 where
   pub whole : stream ≡ flagged c.pieces ++ c.rest
   pub pieces : AllByRecursion HasNoFlag c.pieces
   pub rest : HasNoFlag c.rest
@@ -132,6 +132,6 @@ unfoldable pub items : List ℕ → List Item
 items stream = flat_map item_of (pieces_of stream)
 
 -- the stream is made of pieces that aren't empty, and has no rest
-pub record IsWhole (stream : List ℕ) : Type 0 where
+pub record IsWholeStream (stream : List ℕ) : Type 0 where
   pub pieces : AllByRecursion (λ piece. piece ≢ []) (pieces_of stream)
   pub ended : rest_of stream ≡ []

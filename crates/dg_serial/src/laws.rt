@@ -1,13 +1,14 @@
 //! What holds of streams.
 ghost use Rattle.std.specs.Prelude.{◌≡◌, ◌↔◌, ◌++◌, ℕ, true, List, map};
 ghost use Rattle.std.specs.List.{AllByRecursion};
-ghost use Rattle.dg_serial.specs.Line.{IsOnLine, IsWhole, IsCut, Cut, HasLoneEscape, cut_of, is_broken, line_of, items, Item};
+ghost use Rattle.dg_serial.specs.Line.{IsOnLine, IsWholeStream, IsSplit, Split, HasLoneEscape, split_of, is_broken, line_of};
+ghost use Rattle.dg_serial.specs.Line.{items, Item};
 ghost use Rattle.dg_serial.specs.Line.{Frame};
 
 /// A stream is its pieces, each ended by a flag, and a rest, in one way.
 pub fn streams_are_cut()
-    ensures cut { (stream : List ℕ) → IsCut stream (cut_of stream) }
-    ensures only { (stream : List ℕ) (other : Cut) → IsCut stream other → other ≡ cut_of stream }
+    ensures cut { (stream : List ℕ) → IsSplit stream (split_of stream) }
+    ensures only { (stream : List ℕ) (other : Split) → IsSplit stream other → other ≡ split_of stream }
 {}
 
 /// What a stream gave stays given, whatever follows it.
@@ -23,6 +24,6 @@ pub fn broken_pieces_have_a_lone_escape()
 /// Frames come back from their stuffed forms, and no other stream without empty pieces and without a rest gives them.
 pub fn frames_come_back()
     ensures read { (frames : List (List ℕ)) → AllByRecursion IsOnLine frames → items (line_of frames) ≡ map Frame frames }
-    ensures only { (stream : List ℕ) (frames : List (List ℕ)) → IsWhole stream → items stream ≡ map Frame frames
+    ensures only { (stream : List ℕ) (frames : List (List ℕ)) → IsWholeStream stream → items stream ≡ map Frame frames
         → stream ≡ line_of frames }
 {}

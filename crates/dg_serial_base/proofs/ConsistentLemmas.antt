@@ -19,7 +19,7 @@ use Rattle.dg_volume.specs.RowLaws.{RowLaws}
 use Rattle.dg_volume.specs.Consistent.{Consistent, IsSoundApp}
 use Rattle.dg_volume.specs.declared.volume.StartCause.{StartCause}
 use Rattle.dg_volume.specs.declared.volume.StartCause.TheVariants as cause
-use Rattle.dg_mote.specs.Model.{MoteState, Turn}
+use Rattle.dg_mote.specs.Model.{MoteState, MoteStep}
 use Rattle.dg_mote.specs.Ticks.{tick_of}
 use Rattle.dg_mote.specs.Hears.{heard_of}
 use Rattle.dg_mote.specs.Effects.{Effect, boot_by, boots, reset_effect, silent, tick_by, tick_effect, frame_effect}
@@ -83,7 +83,7 @@ module _ (golden : Row) (laws : Laws golden) where
   joined_holds : (t : Trail Store) (e : Effect) → Through P t → Holds e → Holds (record e { trail = joined t e.trail })
   joined_holds t e way h = record { way = Through-joined P t e.trail way h.way; starts = h.starts; mote = h.mote }
 
-  tick_by_holds : (a : Did) (step : Turn Did) (now draw : ℕ) → TurnIsConsistent golden step → Holds (tick_by a step now draw)
+  tick_by_holds : (a : Did) (step : MoteStep Did) (now draw : ℕ) → TurnIsConsistent golden step → Holds (tick_by a step now draw)
   tick_by_holds Restart step now draw h =
       let s = last step.trail in
       joined_holds step.trail (boots cause.Order s step.mote.id step.mote.wide now draw) h.way
@@ -95,7 +95,7 @@ module _ (golden : Row) (laws : Laws golden) where
   unfolding tick_effect
   tick_holds m s now draw p asks = tick_by_holds (tick_of m s now draw).answer (tick_of m s now draw) now draw (laws.ticked m s now draw p asks)
 
-  silent_holds : {A : Type 0} (step : Turn A) → TurnIsConsistent golden step → Holds (silent step)
+  silent_holds : {A : Type 0} (step : MoteStep A) → TurnIsConsistent golden step → Holds (silent step)
   silent_holds step h = record { way = h.way; starts = tt; mote = h.asks }
 
   frame_holds : (m : MoteState) (s : Store) (now draw : ℕ) (bytes : List ℕ) → P s → AsksForKnown m.mode → Holds (frame_effect m s now draw bytes)

@@ -16,7 +16,7 @@ use Rattle.dg_serial.specs.Line.{line_of}
 use Rattle.dg_serial.specs.Reading.{Reading}
 use Rattle.dg_serial_base.specs.Deeds.{Base, deeds_of, powered, said}
 use Rattle.dg_serial_base.specs.Based.{Outside, closing, Came, AtPower, Later, Based, Refused, Causes}
-use Rattle.dg_serial_base.specs.Standing.{Calm, WhyStopped, Outset, code_on_line, Played, DeedsHalted, InputEnds, Counts, WriteCounts, ReadCounts}
+use Rattle.dg_serial_base.specs.Standing.{Calm, WhyStopped, Outset, code_on_line, StreamPlayed, DeedsHalted, InputEnds, Counts, WriteCounts, ReadCounts}
 use Rattle.dg_serial_base.specs.Ending.{TellsStatus, TellsStop, TellsResult, outset_of, FailsAtPower, LineEnds, LineRefused}
 use Rattle.dg_serial_base.specs.declared.running.Running.{Running}
 use Rattle.dg_serial_base.specs.declared.stop.Stop.{Stop}
@@ -51,7 +51,7 @@ module _ (b : Base) (s : Store) (before after : Outside) (now : Option (List ℕ
   Ends answer = Based answer b s before after
 
   -- all was played
-  abbrev came_all : (input : List ℕ) (v : Running) (line : Reading) → Played a (take most_input input) (code_on_line now v line new) → Came b s input
+  abbrev came_all : (input : List ℕ) (v : Running) (line : Reading) → StreamPlayed a (take most_input input) (code_on_line now v line new) → Came b s input
   came_all input v line p =
       record { done = deeds_of (take most_input input); rest = []; parts = append-nil (deeds_of (take most_input input)); there = p.went.there; run = p.went.stood.run }
 
@@ -59,7 +59,7 @@ module _ (b : Base) (s : Store) (before after : Outside) (now : Option (List ℕ
   came_some why input h = record { done = h.done; rest = h.rest; parts = h.parts; there = h.there; run = h.run }
 
   -- the input ended, and nothing is told of it
-  done_ends : (input : List ℕ) → Takes left_old left_new input → length input ≤ most_input + 1 → (v : Running) (line : Reading) → Played a (take most_input input) (code_on_line now v line new) → AtEnd left_new → length input ≤ most_input
+  done_ends : (input : List ℕ) → Takes left_old left_new input → length input ≤ most_input + 1 → (v : Running) (line : Reading) → StreamPlayed a (take most_input input) (code_on_line now v line new) → AtEnd left_new → length input ≤ most_input
       → last ≡ now → Ends status.Done
   done_ends input taken few v line p at_end most same =
       record {
@@ -71,7 +71,7 @@ module _ (b : Base) (s : Store) (before after : Outside) (now : Option (List ℕ
         ends = (came_all input v line p, ((refl, (p.went.stood.state, p.went.stood.on)), refl, at_end, most), p.went.stood.mote.mounted.stands);
       }
 
-  read_ends : (input : List ℕ) → Takes left_old left_new input → length input ≤ most_input + 1 → (v : Running) (line : Reading) → Played a (take most_input input) (code_on_line now v line new) → length input ≤ most_input → last ≡ now
+  read_ends : (input : List ℕ) → Takes left_old left_new input → length input ≤ most_input + 1 → (v : Running) (line : Reading) → StreamPlayed a (take most_input input) (code_on_line now v line new) → length input ≤ most_input → last ≡ now
       → Ends status.ReadFault
   read_ends input taken few v line p most same =
       record {
@@ -90,7 +90,7 @@ module _ (b : Base) (s : Store) (before after : Outside) (now : Option (List ℕ
       let x = puts_front_then first now last (said c.there) (closing wanted) put front in
       record { input = input; taken = taken; few = few; text = x.text; put = x.put; ends = (c, (wanted, x.front), stands) }
 
-  long_ends : (input : List ℕ) → Takes left_old left_new input → length input ≤ most_input + 1 → (v : Running) (line : Reading) → Played a (take most_input input) (code_on_line now v line new) → most_input < length input
+  long_ends : (input : List ℕ) → Takes left_old left_new input → length input ≤ most_input + 1 → (v : Running) (line : Reading) → StreamPlayed a (take most_input input) (code_on_line now v line new) → most_input < length input
       → (answer : Status) (f g : ℕ) → TellsStatus answer status.TooLong (closing status.TooLong) now last f g → Ends answer
   long_ends input taken few v line p more answer f g (inl x) =
       subst Ends (sym x.0)

@@ -6,22 +6,22 @@ use Rattle.dg_nor.specs.Device.{Device}
 use Rattle.dg_volume.specs.Store.{Store}
 use Rattle.dg_frame.specs.Spelling.{frame_of}
 use Rattle.dg_frame.specs.declared.Message.{Message}
-use Rattle.dg_serial.specs.Line.{cut_of, items, line_of}
+use Rattle.dg_serial.specs.Line.{split_of, items, line_of}
 use Rattle.dg_serial.specs.Reading.{Reading, reading_behind}
 use Rattle.dg_serial_base.specs.Deeds.{Base, Deed, deeds_of, powered}
 use Rattle.dg_serial_base.specs.Based.{Outside}
-use Rattle.dg_serial_base.specs.Standing.{Outset, code_on_line, Stood, Played, InputEnds}
+use Rattle.dg_serial_base.specs.Standing.{Outset, code_on_line, Stood, StreamPlayed, InputEnds}
 use Rattle.dg_serial_base.specs.Ending.{outset_of, LineEnds}
 use Rattle.dg_serial_base.specs.declared.running.Running.{Running}
 use Rattle.dg_serial_base.specs.declared.stop.Stop.{Stop}
 use Rattle.dg_serial_base.proofs.WriteLemmas.{puts_nothing}
 
 none_told : deeds_of [] ≡ []
-unfolding items cut_of
+unfolding items split_of
 none_told = refl
 
 pub first_played : (a : Outset) (v : Running) (line : Reading) (new : Device) → line ≡ reading_behind [] → Stood a.base a.store [] v new.image (powered a.base a.store) → (powered a.base a.store).sent ≡ []
-    → Played a [] (code_on_line a.written v line new)
+    → StreamPlayed a [] (code_on_line a.written v line new)
 first_played a v line new l stood silent =
     let there = powered a.base a.store in
     record {

@@ -7,7 +7,7 @@ use Rattle.dg_base.specs.Sizes.{most_input}
 use Rattle.dg_base.proofs.OutsideLemmas.{Takes-join}
 use Rattle.dg_nor.specs.Device.{Device}
 use Rattle.dg_serial_base.specs.Deeds.{deeds_of}
-use Rattle.dg_serial_base.specs.Standing.{Calm, Counts, Outset, LineAt, WriteCounts, DeedsHalted, Played, PieceRead, PieceHalted, PieceFails, LastEnds, Consumed, InputBy, InputEnds}
+use Rattle.dg_serial_base.specs.Standing.{Calm, Counts, Outset, LineAt, WriteCounts, DeedsHalted, StreamPlayed, PieceRead, PieceHalted, PieceFails, LastEnds, Consumed, InputBy, InputEnds}
 use Rattle.dg_serial_base.specs.declared.stop.Stop.{Stop}
 use Rattle.dg_serial_base.specs.declared.stop.Stop.TheVariants as stop
 use Rattle.dg_serial_base.proofs.PlayLemmas.{played_along}
@@ -19,7 +19,7 @@ takes_nothing (Some rest) = refl
 -- ---- a piece
 
 pub piece_read : (a : Outset) (stream bytes more : List ℕ) (most count : ℕ) (left_old left_now : Option (List ℕ)) (now : LineAt) → bytes ≡ more → Takes left_old left_now more → length more ≤ most
-    → count ≡ length more → (count ≡ 0 → AtEnd left_now) → Played a (stream ++ bytes) now → PieceRead a stream most count left_old left_now now
+    → count ≡ length more → (count ≡ 0 → AtEnd left_now) → StreamPlayed a (stream ++ bytes) now → PieceRead a stream most count left_old left_now now
 piece_read a stream bytes more most count left_old left_now now e taken few count_is ended p =
     record {
       more = more;
@@ -46,13 +46,13 @@ piece_halts why a stream bytes more most left_old left_now now e taken few h =
     (record { more = more; taken = taken; few = few; halted = subst (λ (x : List ℕ). DeedsHalted why a (deeds_of (stream ++ x)) now.code.written now.code.chip) e h })
 
 pub piece_unread : (why : Stop) (a : Outset) (stream more : List ℕ) (most : ℕ) (left_old left_now : Option (List ℕ)) (now : LineAt) → why ≡ stop.Read → more ≡ [] → Takes left_old left_now more
-    → Played a stream now → PieceFails why a stream most left_old left_now now
+    → StreamPlayed a stream now → PieceFails why a stream most left_old left_now now
 piece_unread why a stream more most left_old left_now now is none taken p =
     subst (λ (x : Stop). PieceFails x a stream most left_old left_now now) (sym is) (subst (λ (x : List ℕ). Takes left_old left_now x) none taken, p)
 
 -- ---- pieces one behind the other
 
-pub consumed_none : (a : Outset) (left : Option (List ℕ)) (now : LineAt) → Played a [] now → Consumed a 0 left left now
+pub consumed_none : (a : Outset) (left : Option (List ℕ)) (now : LineAt) → StreamPlayed a [] now → Consumed a 0 left left now
 consumed_none a left now p = record { stream = []; counted = refl; taken = takes_nothing left; played = p }
 
 module _ (a : Outset) (used : ℕ) (left_old left_mid left_now : Option (List ℕ)) (mid now : LineAt) (c : Consumed a used left_old left_mid mid) where
@@ -65,7 +65,7 @@ module _ (a : Outset) (used : ℕ) (left_old left_mid left_now : Option (List �
         played = x.played;
       }
 
-  used_all : (input : List ℕ) → length input ≤ most_input → Played a input now → Played a (take most_input input) now
+  used_all : (input : List ℕ) → length input ≤ most_input → StreamPlayed a input now → StreamPlayed a (take most_input input) now
   used_all input few p = played_along a input (take most_input input) now (sym (take_all most_input input few)) p
 
   -- no byte came
@@ -119,7 +119,7 @@ module _ (a : Outset) (left_old left_mid left_now : Option (List ℕ)) (now : Li
       let all : length c.stream ≤ most_input = omega (arith, c.counted) in
       take-append-le most_input c.stream more le ∙ take_all most_input c.stream all
 
-  played_whole : (more : List ℕ) → Played a (take most_input (c.stream ++ more)) now
+  played_whole : (more : List ℕ) → StreamPlayed a (take most_input (c.stream ++ more)) now
   played_whole more = played_along a c.stream (take most_input (c.stream ++ more)) now (sym (used_whole more)) c.played
 
   -- the bytes that are used were all played, and what stands behind them was looked for

@@ -8,7 +8,7 @@ use Rattle.dg_serial.specs.Line.{line_of}
 use Rattle.dg_serial.specs.Reading.{Reading, told, Feeds}
 use Rattle.dg_serial.specs.declared.unstuffing.Fed.{Fed}
 use Rattle.dg_serial_base.specs.Deeds.{Base, At, Deed, Ticks, deeds_of_items, deeds_of}
-use Rattle.dg_serial_base.specs.Standing.{Calm, CountsBy, Counts, Outset, CodeAt, code_at, LineAt, DeedLeft, WritesBy, ReadsBy, ReadCounts, one_if, DoneOne, DeedFails, SendFails, SendEnds, DeedsHalted, WentOn, GoesEnds, Played, PlayEnds}
+use Rattle.dg_serial_base.specs.Standing.{Calm, CountsBy, Counts, Outset, CodeAt, code_at, LineAt, DeedLeft, WritesBy, ReadsBy, ReadCounts, one_if, DoneOne, DeedFails, SendFails, SendEnds, DeedsHalted, WentOn, GoesEnds, StreamPlayed, StreamEnds}
 use Rattle.dg_serial_base.specs.declared.stop.Stop.{Stop}
 use Rattle.dg_serial_base.specs.declared.stop.Stop.TheVariants as stop
 use Rattle.dg_serial_base.proofs.DeedLemmas.{sent_goes, send_fails}
@@ -71,14 +71,14 @@ send_reads (Err why) text before now n w = send_unread why text before now n w
 -- ---- a byte
 
 pub byte_goes : (r : Result (Unit {0}) Stop) (a : Outset) (stream : List ℕ) (byte : ℕ) (now : LineAt) (before : Reading) (fed : Fed) → Feeds stream byte fed before → now.reading ≡ before
-    → GoesEnds r a (deeds_of stream ++ deeds_of_items (told fed)) now.code → PlayEnds r a (stream ++ byte ∷ []) now
+    → GoesEnds r a (deeds_of stream ++ deeds_of_items (told fed)) now.code → StreamEnds r a (stream ++ byte ∷ []) now
 byte_goes (Ok x) a stream byte now before fed f l g =
     record { line = l ∙ f.behind; went = went_along a (deeds_of stream ++ deeds_of_items (told fed)) (deeds_of (stream ++ byte ∷ [])) now.code (deeds_longer stream byte fed before f) g }
 byte_goes (Err why) a stream byte now before fed f l g =
     halted_along why a (deeds_of stream ++ deeds_of_items (told fed)) (deeds_of (stream ++ byte ∷ [])) now.code.written now.code.chip (deeds_longer stream byte fed before f) g
 
-pub played_along : (a : Outset) (x y : List ℕ) (now : LineAt) → x ≡ y → Played a x now → Played a y now
-played_along a x y now e p = subst (λ (stream : List ℕ). Played a stream now) e p
+pub played_along : (a : Outset) (x y : List ℕ) (now : LineAt) → x ≡ y → StreamPlayed a x now → StreamPlayed a y now
+played_along a x y now e p = subst (λ (stream : List ℕ). StreamPlayed a stream now) e p
 
 -- ---- bytes one after the other
 

@@ -14,7 +14,7 @@ use Rattle.dg_volume.proofs.BeginLemmas.{boot_begins}
 use Rattle.dg_frame.specs.Spelling.{frame_of}
 use Rattle.dg_boot.specs.Started.{Starts, Lacks}
 use Rattle.dg_boot.specs.declared.Started.{Started}
-use Rattle.dg_mote.specs.Model.{MoteState, Turn, begun_mote}
+use Rattle.dg_mote.specs.Model.{MoteState, MoteStep, begun_mote}
 use Rattle.dg_mote.specs.Ticks.{tick_of}
 use Rattle.dg_mote.specs.Hears.{heard_of}
 use Rattle.dg_mote.specs.Effects.{Effect, boot_by, boots, on, tick_by, tick_effect, frame_effect, reset_effect}
@@ -83,14 +83,14 @@ module _ (k : StartCause) (s : Store) (id : ℕ) (wide : Bool) (now draw : ℕ) 
 
 -- ---- ticks
 
-by_answer : Turn Did → (now draw : ℕ) → Did → Effect
+by_answer : MoteStep Did → (now draw : ℕ) → Did → Effect
 by_answer step now draw d = tick_by d step now draw
 
-acted_on : (step : Turn Did) (now draw : ℕ) (d : Did) → (d ≡ did.Sent) ⊎ (d ≡ did.Idle) → d ≡ step.answer → tick_by step.answer step now draw ≡ on step
+acted_on : (step : MoteStep Did) (now draw : ℕ) (d : Did) → (d ≡ did.Sent) ⊎ (d ≡ did.Idle) → d ≡ step.answer → tick_by step.answer step now draw ≡ on step
 unfolding by_answer
 acted_on step now draw d is same = ap (by_answer step now draw) (sym same) ∙ ⊎_elim (λ e. ap (by_answer step now draw) e) (λ e. ap (by_answer step now draw) e) is
 
-abbrev rested : MoteState → Store → Turn Did
+abbrev rested : MoteState → Store → MoteStep Did
 rested m s = record { mote = m; trail = resting s 0; sent = None; answer = did.Restart }
 
 effect_rested : (m : MoteState) (s : Store) (now draw : ℕ) → tick_by did.Restart (rested m s) now draw ≡ boots cause.Order s m.id m.wide now draw
@@ -105,10 +105,10 @@ effect_rested m s now draw =
 
 pub restart_is : (m : MoteState) (s : Store) (now draw : ℕ) → tick_of m s now draw ≡ rested m s → tick_effect m s now draw ≡ boots cause.Order s m.id m.wide now draw
 unfolding tick_effect
-restart_is m s now draw is = ap (λ (x : Turn Did). tick_by x.answer x now draw) is ∙ effect_rested m s now draw
+restart_is m s now draw is = ap (λ (x : MoteStep Did). tick_by x.answer x now draw) is ∙ effect_rested m s now draw
 
 module _ (m : MoteState) (s : Store) (now draw : ℕ) where
-  abbrev step : Turn Did
+  abbrev step : MoteStep Did
   step = tick_of m s now draw
 
   ticks_on : (d : Did) → (d ≡ did.Sent) ⊎ (d ≡ did.Idle) → d ≡ step.answer → tick_effect m s now draw ≡ on step
@@ -140,7 +140,7 @@ module _ (m : MoteState) (s : Store) (now draw : ℕ) where
   -- the chip stands for the same store as it starts for an order
   pub restart_mote : (a b : Device) (v : Mote) → step ≡ rested m s → Done step a b v did.Restart → IsMote b.image v m s
   unfolding last_of
-  restart_mote a b v is done = subst (λ (x : Turn Did). IsMote b.image v x.mote (last x.trail)) is done.mote
+  restart_mote a b v is done = subst (λ (x : MoteStep Did). IsMote b.image v x.mote (last x.trail)) is done.mote
 
   pub restart_ends : {T : Type 0} (r : Result T Stop) (b c : Device) (v u : Mote) (id : ℕ) (wide : Bool) → id ≡ v.id → wide ≡ v.wide → step ≡ rested m s → IsMote b.image v m s
       → EffectEnds r s (boots cause.Order s id wide now draw) now c u → EffectEnds r s (tick_effect m s now draw) now c u
@@ -154,7 +154,7 @@ module _ (m : MoteState) (s : Store) (now draw : ℕ) where
 -- ---- frames
 
 module _ (m : MoteState) (s : Store) (now draw : ℕ) (bytes : List ℕ) where
-  abbrev heard : Turn Heard
+  abbrev heard : MoteStep Heard
   heard = heard_of m s now draw bytes
 
   pub hear_leaves : (a b : Device) (v : Mote) (d : Heard) → Done heard a b v d → Timely heard.mote now → IsLeft (frame_effect m s now draw bytes) b.image v now

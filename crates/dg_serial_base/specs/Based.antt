@@ -36,8 +36,8 @@ closing answer = []
 abbrev pub IsFront : (front whole : List ℕ) → Type 0
 IsFront front whole = (more : List ℕ) × (front ++ more ≡ whole)
 
-abbrev pub IsOn : At → Type 0
-IsOn a = (m : MoteState) × (a.mote ≡ Some m)
+abbrev pub HasMote : At → Type 0
+HasMote a = (m : MoteState) × (a.mote ≡ Some m)
 
 -- From a chip that stood for s, by the rules: what happened to the mote, what was left of the items of the bytes that were
 -- taken, and where the mote stands then. No byte but the first 16,777,216 is used.
@@ -50,7 +50,7 @@ pub record Came (b : Base) (s : Store) (input : List ℕ) : Type 0 where
 
 -- All items were played.
 abbrev pub PlayedAll : {b : Base} {s : Store} {input : List ℕ} → Came b s input → Type 0
-PlayedAll c = (c.rest ≡ []) × IsOn c.there
+PlayedAll c = (c.rest ≡ []) × HasMote c.there
 
 -- what was written, by the status
 abbrev pub WroteBy : Status → {b : Base} {s : Store} {input : List ℕ} → Came b s input → (text : List ℕ)

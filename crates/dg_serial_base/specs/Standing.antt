@@ -285,13 +285,13 @@ GoesEnds (Err why) a all now = DeedsHalted why a all now.written now.chip
 -- ---- the line
 
 -- The bytes of the line were played.
-pub record Played (a : Outset) (stream : List ℕ) (now : LineAt) : Type 0 where
+pub record StreamPlayed (a : Outset) (stream : List ℕ) (now : LineAt) : Type 0 where
   pub line : now.reading ≡ reading_behind stream
   pub went : WentOn a (deeds_of stream) now.code
 
-abbrev pub PlayEnds : {T : Type 0} → Result T Stop → Outset → (stream : List ℕ) → LineAt → Type 0
-PlayEnds (Ok x) a stream now = Played a stream now
-PlayEnds (Err why) a stream now = DeedsHalted why a (deeds_of stream) now.code.written now.code.chip
+abbrev pub StreamEnds : {T : Type 0} → Result T Stop → Outset → (stream : List ℕ) → LineAt → Type 0
+StreamEnds (Ok x) a stream now = StreamPlayed a stream now
+StreamEnds (Err why) a stream now = DeedsHalted why a (deeds_of stream) now.code.written now.code.chip
 
 -- ---- the input
 
@@ -302,7 +302,7 @@ pub record PieceRead (a : Outset) (stream : List ℕ) (most count : ℕ)
   pub taken : Takes left_old left_now more
   pub few : length more ≤ most
   pub counted : length more ≡ count
-  pub played : Played a (stream ++ more) now
+  pub played : StreamPlayed a (stream ++ more) now
   pub ended : count ≡ 0 → AtEnd left_now
 
 -- The mote halted in a piece.
@@ -314,7 +314,7 @@ pub record PieceHalted (why : Stop) (a : Outset) (stream : List ℕ) (most : ℕ
   pub halted : DeedsHalted why a (deeds_of (stream ++ more)) now.written now.chip
 
 abbrev pub PieceFails : Stop → Outset → (stream : List ℕ) (most : ℕ) (left_old left_now : Option (List ℕ)) → LineAt → Type 0
-PieceFails stop.Read a stream most left_old left_now now = Takes left_old left_now [] × Played a stream now
+PieceFails stop.Read a stream most left_old left_now now = Takes left_old left_now [] × StreamPlayed a stream now
 PieceFails why a stream most left_old left_now now = PieceHalted why a stream most left_old left_now now.code
 
 abbrev pub PieceEnds : Result ℕ Stop → Outset → (stream : List ℕ) (most : ℕ) (left_old left_now : Option (List ℕ)) → LineAt
@@ -327,7 +327,7 @@ pub record Consumed (a : Outset) (used : ℕ) (left_old left_now : Option (List 
   pub stream : List ℕ
   pub counted : length stream ≡ used
   pub taken : Takes left_old left_now stream
-  pub played : Played a stream now
+  pub played : StreamPlayed a stream now
 
 -- The bytes behind those that are used were looked for.
 abbrev pub LastEnds : Result (Unit {0}) Stop → (left_old left_now : Option (List ℕ)) → Type 0
@@ -342,9 +342,9 @@ LastEnds (Err stop.NotAVolume) left_old left_now = ⊥
 
 -- how the input ended, of which these bytes were taken
 abbrev pub InputBy : Result (Unit {0}) Stop → Outset → (input : List ℕ) (left : Option (List ℕ)) → LineAt → Type 0
-InputBy (Ok x) a input left now = Played a (take most_input input) now × AtEnd left × (length input ≤ most_input)
-InputBy (Err stop.Read) a input left now = Played a (take most_input input) now × (length input ≤ most_input)
-InputBy (Err stop.TooLong) a input left now = Played a (take most_input input) now × (most_input < length input)
+InputBy (Ok x) a input left now = StreamPlayed a (take most_input input) now × AtEnd left × (length input ≤ most_input)
+InputBy (Err stop.Read) a input left now = StreamPlayed a (take most_input input) now × (length input ≤ most_input)
+InputBy (Err stop.TooLong) a input left now = StreamPlayed a (take most_input input) now × (most_input < length input)
 InputBy (Err why) a input left now = DeedsHalted why a (deeds_of (take most_input input)) now.code.written now.code.chip
 
 pub record InputEnds (r : Result (Unit {0}) Stop) (a : Outset) (left_old left_now : Option (List ℕ)) (now : LineAt) : Type 0 where

@@ -4,7 +4,7 @@ ghost use Rattle.dg_base.specs.Sizes.{longest_frame};
 ghost use Rattle.dg_serial.specs.Reading.{told};
 ghost use Rattle.dg_serial_base.specs.Deeds.{Deed, Hears, Ticks, deeds_of_items};
 ghost use Rattle.dg_serial_base.specs.Standing.{Counts, WriteCounts, ReadCounts, Outset, code_at, code_on_line};
-ghost use Rattle.dg_serial_base.specs.Standing.{IsStood, WentOn, GoesEnds, Played, PlayEnds};
+ghost use Rattle.dg_serial_base.specs.Standing.{IsStood, WentOn, GoesEnds, StreamPlayed, StreamEnds};
 
 use crate::running::Running;
 use crate::sending::send;
@@ -105,8 +105,8 @@ impl Player {
         requires early { self.old.running.timeline.moment < 2 ^ 60 }
         requires little { self.old.running.timeline.step ≤ 60000 }
         ensures ends { (a : Outset) (stream : List ℕ)
-            → Played a stream (code_on_line (K.written out.old) self.old.running self.old.line (N.device nor.old))
-            → PlayEnds result a (stream ++ byte ∷ [])
+            → StreamPlayed a stream (code_on_line (K.written out.old) self.old.running self.old.line (N.device nor.old))
+            → StreamEnds result a (stream ++ byte ∷ [])
             (code_on_line (K.written out.new) self.new.running self.new.line (N.device nor.new)) }
         ensures stood { OnOk result (IsStood self.new.running (N.device nor.new).image) }
         ensures counts { Counts result (N.device nor.old) (N.device nor.new) }
@@ -130,8 +130,8 @@ impl Player {
         requires early { self.old.running.timeline.moment + 120000 * length bytes.now < 2 ^ 60 }
         requires little { self.old.running.timeline.step ≤ 60000 }
         ensures ends { (a : Outset) (stream : List ℕ)
-            → Played a stream (code_on_line (K.written out.old) self.old.running self.old.line (N.device nor.old))
-            → PlayEnds result a (stream ++ bytes.now)
+            → StreamPlayed a stream (code_on_line (K.written out.old) self.old.running self.old.line (N.device nor.old))
+            → StreamEnds result a (stream ++ bytes.now)
             (code_on_line (K.written out.new) self.new.running self.new.line (N.device nor.new)) }
         ensures stood { OnOk result (IsStood self.new.running (N.device nor.new).image) }
         ensures counts { Counts result (N.device nor.old) (N.device nor.new) }

@@ -3,7 +3,7 @@ ghost use Rattle.std.specs.Prelude.{◌≡◌, ℕ, ◌+◌, ◌-◌, ◌*◌, �
 ghost use Rattle.dg_base.specs.Outside.{Takes, AtEnd};
 ghost use Rattle.dg_base.specs.Sizes.{most_input};
 ghost use Rattle.dg_serial_base.specs.Standing.{Counts, WriteCounts, ReadCounts, Outset, code_on_line};
-ghost use Rattle.dg_serial_base.specs.Standing.{IsStood, Played, PieceEnds, InputEnds, LastEnds};
+ghost use Rattle.dg_serial_base.specs.Standing.{IsStood, StreamPlayed, PieceEnds, InputEnds, LastEnds};
 
 use crate::playing::Player;
 use crate::stop::Stop;
@@ -56,7 +56,7 @@ impl Player {
         requires early { self.old.running.timeline.moment + 120000 * most < 2 ^ 60 }
         requires little { self.old.running.timeline.step ≤ 60000 }
         ensures ends { (a : Outset) (stream : List ℕ)
-            → Played a stream (code_on_line (K.written out.old) self.old.running self.old.line (N.device nor.old))
+            → StreamPlayed a stream (code_on_line (K.written out.old) self.old.running self.old.line (N.device nor.old))
             → PieceEnds result a stream most (S.left input.old) (S.left input.new)
             (code_on_line (K.written out.new) self.new.running self.new.line (N.device nor.new)) }
         ensures few { IfOk result (λ count. count ≤ most) }
@@ -90,7 +90,7 @@ impl Player {
         requires early { self.old.running.timeline.moment ≤ 60000 }
         requires little { self.old.running.timeline.step ≤ 60000 }
         ensures ends { (a : Outset)
-            → Played a [] (code_on_line (K.written out.old) self.old.running self.old.line (N.device nor.old))
+            → StreamPlayed a [] (code_on_line (K.written out.old) self.old.running self.old.line (N.device nor.old))
             → InputEnds result a (S.left input.old) (S.left input.new)
             (code_on_line (K.written out.new) self.new.running self.new.line (N.device nor.new)) }
         ensures counts { Counts result (N.device nor.old) (N.device nor.new) }

@@ -31,18 +31,18 @@ Spells view (Ok image) text = (length text ≤ most_input) × (hex_file text ≡
 Spells view (Err stop) text = SpellsNone stop text
 
 -- so much of an input was taken
-abbrev pub IsEnough : List ℕ → (at_end : Type 0) → Type 0
-IsEnough input at_end = at_end ⊎ (most_input < length input)
+abbrev pub TakenToEnd : List ℕ → (at_end : Type 0) → Type 0
+TakenToEnd input at_end = at_end ⊎ (most_input < length input)
 
 -- what an input that gives no image comes to, of which these bytes were taken
 abbrev pub ReadsNone : Stop → List ℕ → (at_end failed : Type 0) → Type 0
 ReadsNone stops.Memory input at_end failed = Unit {0}
 ReadsNone stops.ReadFault input at_end failed = failed
-ReadsNone stop input at_end failed = SpellsNone stop input × IsEnough input at_end
+ReadsNone stop input at_end failed = SpellsNone stop input × TakenToEnd input at_end
 
 -- what an input comes to
 abbrev pub ReadsImage : {T : Type 0} → (T → List ℕ) → Result T Stop → List ℕ → (at_end failed : Type 0) → Type 0
-ReadsImage view (Ok image) input at_end failed = Spells view (Ok image) input × IsEnough input at_end
+ReadsImage view (Ok image) input at_end failed = Spells view (Ok image) input × TakenToEnd input at_end
 ReadsImage view (Err stop) input at_end failed = ReadsNone stop input at_end failed
 
 -- the image of an input was read

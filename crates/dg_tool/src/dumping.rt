@@ -8,7 +8,7 @@ ghost use Rattle.dg_volume.specs.Store.{Store, held};
 ghost use Rattle.dg_volume.specs.Stands.{Mounted, IsMounted};
 ghost use Rattle.dg_volume.specs.Told.{told_held};
 ghost use Rattle.dg_ihex.specs.Written.{written_file};
-ghost use Rattle.dg_ihex.specs.Sizes.{most_image};
+ghost use Rattle.dg_ihex.specs.Sizes.{longest_image};
 ghost use Rattle.dg_tool.specs.Pages.{kept_bytes};
 ghost use Rattle.dg_tool.specs.Endings.{StandsAs, FirstAs, Ends};
 ghost use Rattle.dg_tool.specs.Verbs.{dump_by, dump_on, dump_ending};
@@ -28,7 +28,7 @@ use std::alloc::{AllocError, Global};
 /// The HEX file of bytes.
 fn file_of(alloc: Global, bytes: &[u8]) -> Result<Vec<u8>, Stop>
     requires some { 1 ≤ length bytes.now }
-    requires fits { length bytes.now ≤ most_image }
+    requires fits { length bytes.now ≤ longest_image }
     ensures { Makes (λ text. text.items) result (written_file bytes.now) }
 {
     or_memory(write_ihex(alloc, bytes))

@@ -33,7 +33,7 @@ use Rattle.dg_rules.specs.Begins.{PlaysFrom}
 use Rattle.dg_script.specs.Ranges.{IsDeclared}
 use Rattle.dg_rules.specs.Premises.{WorldAgrees, IsHonestThen, TrueEvent}
 use Rattle.dg_rules.proofs.SiteLemmas.{site_there, site_other, site_count}
-use Rattle.dg_completion.specs.Completion.{page_count, pages_of}
+use Rattle.dg_completion.specs.Completion.{page_count, pages_kept}
 use Rattle.dg_trial.specs.Schedule.{line, size_by, row_by}
 use Rattle.dg_trial.specs.Playing.{golden, chip, first}
 use Rattle.dg_trial.proofs.BeginLemmas.{golden_is}
@@ -127,7 +127,7 @@ module _ (name bytes : List ℕ) where
     pub narrow : v.narrow ≡ u.narrow
     pub count : length v.sites ≡ length u.sites
     pub room : (j c : ℕ) → c + 5 ≤ (store_at u j).room → c ≤ (store_at v j).room
-    pub whole : page_count row ≤ pages_of (store_at v 0) row
+    pub whole : page_count row ≤ pages_kept (store_at v 0) row
 
   table_more : with_row (golden ∷ []) row ≡ row ∷ golden ∷ []
   table_more = refl
@@ -192,7 +192,7 @@ module _ (name bytes : List ℕ) where
     held_here : held y.store 1 ≡ Some (held_whole row)
     held_here = ap (λ (t : Store). held t 1) ends ∙ get_or-set_same s.kept 1 (Some (held_whole row)) None count
 
-    pages_here : pages_of y.store row ≡ page_count row
+    pages_here : pages_kept y.store row ≡ page_count row
     pages_here = ap (λ (o : Option Held). if is_version o 1 then done_of o else 0) held_here ∙ length-object row
 
     rooms : (j c : ℕ) → c + 5 ≤ (store_at u j).room → c ≤ (store_at v j).room
@@ -212,5 +212,5 @@ module _ (name bytes : List ℕ) where
       narrow = ap (λ (z : World). z.narrow) world_is.1;
       count = ap (λ (z : World). length z.sites) world_is.1 ∙ site_count mid 0 y;
       room = rooms;
-      whole = let a : pages_of (store_at v 0) row ≡ pages_of y.store row = ap (λ (z : Site). pages_of z.store row) here in let b = pages_here in omega (arith, a, b);
+      whole = let a : pages_kept (store_at v 0) row ≡ pages_kept y.store row = ap (λ (z : Site). pages_kept z.store row) here in let b = pages_here in omega (arith, a, b);
     }

@@ -20,7 +20,7 @@ use Rattle.dg_script.specs.Ranges.{StepInRange, EventInRange}
 use Rattle.dg_rules.specs.Premises.{WorldAgrees, TrueEvent}
 use Rattle.dg_rules.proofs.SiteLemmas.{site_there, site_other, site_count}
 use Rattle.dg_completion.specs.Rests.{IsFree}
-use Rattle.dg_completion.specs.Completion.{FreeLaw, IsOn, newest, pages_of}
+use Rattle.dg_completion.specs.Completion.{FreeLaw, IsOn, newest, pages_kept}
 use Rattle.dg_completion.specs.Met.{SpendLaw}
 use Rattle.dg_trial.specs.Schedule.{Part, always, resets}
 use Rattle.dg_trial.specs.Playing.{LeadsTo, PartFits}
@@ -43,7 +43,7 @@ pub record Moves (spent : ℕ) (w v : World) : Type 0 where
   pub narrow : v.narrow ≡ w.narrow
   pub count : length v.sites ≡ length w.sites
   pub room : (j c : ℕ) → c + spent ≤ (store_at w j).room → c ≤ (store_at v j).room
-  pub pages : (j : ℕ) (row : Row) → newest w.table row.image ≡ Some row → pages_of (store_at w j) row ≤ pages_of (store_at v j) row
+  pub pages : (j : ℕ) (row : Row) → newest w.table row.image ≡ Some row → pages_kept (store_at w j) row ≤ pages_kept (store_at v j) row
 
 pub moves_none : (n : ℕ) (w v : World) → WorldAgrees w → w ≡ v → Moves n w v
 moves_none n w v good e =
@@ -65,8 +65,8 @@ moves_then a b n w u v sum x y = record {
 
 -- ---- resets
 
-pages_kept : (s t : Store) (row : Row) → t.kept ≡ s.kept → pages_of t row ≡ pages_of s row
-pages_kept s t row e =
+pages_unchanged : (s t : Store) (row : Row) → t.kept ≡ s.kept → pages_kept t row ≡ pages_kept s row
+pages_unchanged s t row e =
     ap (λ (kept : List (Option Held)). if is_version (slice_index_or kept row.image None) row.version then done_of (slice_index_or kept row.image None) else 0) e
 
 -- what holds of the other site at the mote, and of each site as it was, holds of each then
@@ -92,8 +92,8 @@ module _ (w v : World) (m dt : ℕ) (cut : Option Cut) (r : Restarted w m dt cut
     narrow = ap (λ (u : World). u.narrow) r.world;
     count = ap (λ (u : World). length u.sites) r.world ∙ site_count mid m r.there;
     room = each (λ j y. (c : ℕ) → c + 5 ≤ (store_at w j).room → c ≤ y.store.room) (λ c h. r.room c h) (λ j other c h. omega (arith, h));
-    pages = λ j row is. each (λ k y. pages_of (store_at w k) row ≤ pages_of y.store row)
-        (let e = pages_kept (store_at w m) r.there.store row r.kept in omega (arith, e)) (λ k other. omega arith) j;
+    pages = λ j row is. each (λ k y. pages_kept (store_at w k) row ≤ pages_kept y.store row)
+        (let e = pages_unchanged (store_at w m) r.there.store row r.kept in omega (arith, e)) (λ k other. omega arith) j;
   }
 
 -- ---- free events

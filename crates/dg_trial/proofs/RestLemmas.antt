@@ -18,7 +18,7 @@ use Rattle.dg_script.specs.Places.{none_narrow}
 use Rattle.dg_rules.specs.World.{World, Site, is_wide_mote, wide_at, store_at, no_site}
 use Rattle.dg_rules.specs.Premises.{WorldAgrees}
 use Rattle.dg_completion.specs.Rests.{IsFree, IsRest}
-use Rattle.dg_completion.specs.Completion.{Follows, FreeLaw, IsOn, newest, largest, page_count, pages_of, IsEnoughFor, IsEnoughOver, IsEnough, AllWithin, CompletionLaw}
+use Rattle.dg_completion.specs.Completion.{Follows, FreeLaw, IsOn, newest, largest, page_count, pages_kept, IsEnoughFor, IsEnoughOver, IsEnough, AllWithin, CompletionLaw}
 use Rattle.dg_completion.specs.Holders.{KeepsWhole, WithinLaw, ReachesAll, AllReached, EnoughLaw}
 use Rattle.dg_completion.specs.Met.{SpendLaw, commits_at}
 use Rattle.dg_completion.proofs.GrowLemmas.{rounds_free}
@@ -69,7 +69,7 @@ module _ (name bytes : List ℕ) where
       ap (λ (b : Bool). cond (b && (image.version == v)) (Some image) (base (golden.image == i))) not_image ∙ ap base not_golden
 
   module _ (within_law : WithinLaw) (motes : ℕ) (w : World) (some : 2 ≤ motes) (count : length w.sites ≡ motes) (links : w.links ≡ line motes) (table : w.table ≡ rows)
-      (narrow : w.narrow ≡ none_narrow) (whole : page_count image ≤ pages_of (store_at w 0) image) where
+      (narrow : w.narrow ≡ none_narrow) (whole : page_count image ≤ pages_kept (store_at w 0) image) where
     keeps : KeepsWhole w image 0
     keeps = record { there = omega (arith, count, some); pages = whole }
 
@@ -157,8 +157,8 @@ module _ (name bytes : List ℕ) where
 
   keeps_held : (x : Site) → held x.store 1 ≡ Some (held_whole image) → keeps_all image x ≡ true
   keeps_held x is =
-      let e : pages_of x.store image ≡ page_count image = ap (λ (o : Option Held). if is_version o 1 then done_of o else 0) is ∙ length-object image in
-      le-leb (page_count image) (pages_of x.store image) (omega (arith, e))
+      let e : pages_kept x.store image ≡ page_count image = ap (λ (o : Option Held). if is_version o 1 then done_of o else 0) is ∙ length-object image in
+      le-leb (page_count image) (pages_kept x.store image) (omega (arith, e))
 
   pub count_whole : (xs : List Site) → ((k : ℕ) → k < length xs → held (slice_index_or xs k no_site).store 1 ≡ Some (held_whole image)) → count_by (keeps_all image) xs ≡ length xs
   count_whole [] each = refl

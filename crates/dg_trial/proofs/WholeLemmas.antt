@@ -17,7 +17,7 @@ use Rattle.dg_rules.specs.Premises.{WorldAgrees}
 use Rattle.dg_script.specs.Places.{none_narrow}
 use Rattle.dg_script.specs.declared.report.Report.{Report}
 use Rattle.dg_completion.specs.Rests.{IsRest}
-use Rattle.dg_completion.specs.Completion.{newest, page_count, pages_of, CompletionLaw}
+use Rattle.dg_completion.specs.Completion.{newest, page_count, pages_kept, CompletionLaw}
 use Rattle.dg_completion.specs.Holders.{WithinLaw, EnoughLaw}
 use Rattle.dg_seed.specs.Draws.{first_generator}
 use Rattle.dg_trial.specs.Schedule.{Part, always, line, resets, beside, cut_reset, disturbed_at, disturbances, opening, schedule, sweep_count, row_by, row_of_seed}
@@ -183,7 +183,7 @@ module _ (laws : WholeLaws) (motes pages seed draw : ℕ) (g : Lcg) (some : 2 �
     newest_in : (w : World) → w.table ≡ image ∷ golden ∷ [] → newest w.table 1 ≡ Some image
     newest_in w is = ap (λ (rs : List Row). newest rs 1) is ∙ newest_one image.name image.bytes
 
-    whole_four : page_count image ≤ pages_of (store_at p.again 0) image
+    whole_four : page_count image ≤ pages_kept (store_at p.again 0) image
     whole_four =
         let a = two.whole in
         let b = three.pages 0 image (newest_in p.injected two.table) in

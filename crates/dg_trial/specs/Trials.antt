@@ -13,7 +13,7 @@ use Rattle.dg_volume.specs.Stands.{Stands}
 use Rattle.dg_object.specs.Sizes.{most_pages}
 use Rattle.dg_rules.specs.Sizes.{most_motes}
 use Rattle.dg_rules.specs.World.{World, Site, store_at}
-use Rattle.dg_completion.specs.Completion.{page_count, pages_of}
+use Rattle.dg_completion.specs.Completion.{page_count, pages_kept}
 use Rattle.dg_world.specs.Counts.{NoneRose}
 use Rattle.dg_world.specs.Formatted.{FirstBoards, FormatStops}
 use Rattle.dg_world.specs.Worlds.{IsWorld}
@@ -38,7 +38,7 @@ TrialRun motes pages seed v = LeadsTo (begins motes pages seed) (schedule motes 
 
 -- a site keeps all pages of a row
 abbrev pub keeps_all : Row → Site → Bool
-keeps_all row x = nat_le (page_count row) (pages_of x.store row)
+keeps_all row x = nat_le (page_count row) (pages_kept x.store row)
 
 -- how many motes keep all pages of a row
 abbrev pub wholes : Row → World → ℕ

@@ -3,15 +3,15 @@ use Rattle.std.specs.Prelude.{◌≡◌, ℕ, zero, suc, not, ◌&&◌, ◌*◌,
 use Rattle.std.proofs.Common.{refl, sym, ap, inl, inr, arith}
 use Rattle.std.proofs.lemmas.Bool.{cond_both, ltb-true, ltb-false, true≢false}
 use Rattle.std.proofs.lemmas.List.Elements.{Contains-append_right}
-use Rattle.dg_trickle.specs.declared.Act.TheVariants.{Send, Quiet, Expired, Nothing}
+use Rattle.dg_trickle.specs.declared.Act.TheVariants.{Send, Suppressed, Expired, Nothing}
 use Rattle.dg_trickle.specs.Times.{shortest_interval, longest_interval, redundancy}
 use Rattle.dg_trickle.specs.Timer.{Timer}
-use Rattle.dg_trickle.specs.Steps.{begun, after_same, after_other, after_tick, act_of, is_due, is_over, IsRunning}
+use Rattle.dg_trickle.specs.Steps.{interval_begun, after_same, after_other, after_tick, act_of, is_due, is_over, IsRunning}
 use Rattle.dg_trickle.specs.Runs.{Call, Same, Other, Tick, after, timer, Mark, Heard, Kept, noted_of, noted, current, sends, IsDoubled, DoublesOrFalls}
 
 -- ---- the bounds of an interval and of t
 
-pub IsRunning-begun : (size moment draw : ℕ) → shortest_interval ≤ size → size ≤ longest_interval → IsRunning (begun size moment draw)
+pub IsRunning-begun : (size moment draw : ℕ) → shortest_interval ≤ size → size ≤ longest_interval → IsRunning (interval_begun size moment draw)
 IsRunning-begun size moment draw low high =
     let half : draw % (size / 2) < size / 2 = omega arith in
     record { shortest = low; longest = high; second_half = omega arith; before_end = omega arith }
@@ -27,7 +27,7 @@ IsRunning-other s moment draw r =
 pub IsRunning-tick : (s : Timer) (moment draw : ℕ) → IsRunning s → IsRunning (after_tick s moment draw)
 IsRunning-tick s moment draw r =
     let fires : Timer = record s { fired = true } in
-    let longer : Timer = begun (min (2 * s.interval) longest_interval) moment draw in
+    let longer : Timer = interval_begun (min (2 * s.interval) longest_interval) moment draw in
     cond_both (is_due s moment) fires _ IsRunning
     (λ _. record { shortest = r.shortest; longest = r.longest; second_half = r.second_half; before_end = r.before_end })
     (λ _.
@@ -58,7 +58,7 @@ twice size (suc (suc (suc (suc (suc (suc zero)))))) h e = (7, omega arith, omega
 twice size (suc (suc (suc (suc (suc (suc (suc zero))))))) h e = (7, omega arith, omega arith)
 twice size (suc (suc (suc (suc (suc (suc (suc (suc k)))))))) h e = absurd (omega arith)
 
-IsDoubled-shortest : (moment draw : ℕ) → IsDoubled (begun shortest_interval moment draw)
+IsDoubled-shortest : (moment draw : ℕ) → IsDoubled (interval_begun shortest_interval moment draw)
 IsDoubled-shortest moment draw = (0, omega arith, refl)
 
 IsDoubled-after : (s : Timer) (call : Call) → IsDoubled s → IsDoubled (after s call)
@@ -67,7 +67,7 @@ IsDoubled-after s (Other moment draw) d =
     cond_both (nat_lt shortest_interval s.interval) _ s IsDoubled (λ _. IsDoubled-shortest moment draw) (λ _. d)
 IsDoubled-after s (Tick moment draw) d =
     let fires : Timer = record s { fired = true } in
-    let longer : Timer = begun (min (2 * s.interval) longest_interval) moment draw in
+    let longer : Timer = interval_begun (min (2 * s.interval) longest_interval) moment draw in
     cond_both (is_due s moment) fires _ IsDoubled (λ _. d) (λ _.
     cond_both (is_over s moment) longer s IsDoubled (λ _. twice s.interval d.0 d.1 d.2) (λ _. d))
 
@@ -92,7 +92,7 @@ doubles_or_falls s (Other moment draw) d =
     cond_both (nat_lt shortest_interval s.interval) _ s (DoublesOrFalls s) (λ _. inr (inr refl)) (λ _. inl refl)
 doubles_or_falls s (Tick moment draw) d =
     let fires : Timer = record s { fired = true } in
-    let longer : Timer = begun (min (2 * s.interval) longest_interval) moment draw in
+    let longer : Timer = interval_begun (min (2 * s.interval) longest_interval) moment draw in
     cond_both (is_due s moment) fires _ (DoublesOrFalls s) (λ _. inl refl) (λ _.
     cond_both (is_over s moment) longer s (DoublesOrFalls s)
     (λ _. elim (twice_or_same s.interval d.0 d.1 d.2) [ inl e ↦ inl e | inr e ↦ inr (inl e) ])
@@ -106,7 +106,7 @@ pub record Remembers (s : Timer) (marks : List Mark) : Type 0 where
   heard : 0 < s.count → Contains marks Heard
   once : sends marks ≤ (if s.fired then 1 else 0)
 
-Remembers-begun : (size moment draw : ℕ) → Remembers (begun size moment draw) []
+Remembers-begun : (size moment draw : ℕ) → Remembers (interval_begun size moment draw) []
 Remembers-begun size moment draw =
     record { untouched = λ _ _. refl; heard = λ h. absurd (omega arith); once = omega arith }
 
@@ -122,7 +122,7 @@ Remembers-same s marks m =
 
 Remembers-other : (s : Timer) (moment draw : ℕ) (marks : List Mark) → Remembers s marks → Remembers (after_other s moment draw) (noted s (Other moment draw) marks)
 Remembers-other s moment draw marks m =
-    elim (nat_lt shortest_interval s.interval) as (λ b. Remembers (if b then begun shortest_interval moment draw else s) (if b then [] else marks)) [
+    elim (nat_lt shortest_interval s.interval) as (λ b. Remembers (if b then interval_begun shortest_interval moment draw else s) (if b then [] else marks)) [
       | true ↦ Remembers-begun shortest_interval moment draw
       | false ↦ m
     ]
@@ -137,7 +137,7 @@ few_sends false n h = omega arith
 
 -- due: the timer fires, and sends or keeps quiet. Over: the next interval begins
 Remembers-tick : (s next : Timer) (marks : List Mark) (due over few : Bool) → (due ≡ true → s.fired ≡ false) → few ≡ nat_lt s.count redundancy → Remembers next [] → Remembers s marks
-    → Remembers (if due then record s { fired = true } else (if over then next else s)) (noted_of (if due then (if few then Send else Quiet) else (if over then Expired else Nothing)) marks)
+    → Remembers (if due then record s { fired = true } else (if over then next else s)) (noted_of (if due then (if few then Send else Suppressed) else (if over then Expired else Nothing)) marks)
 Remembers-tick s next marks true over true unfired e n m =
     let none : s.count ≡ 0 = omega (arith, ltb-true s.count redundancy (sym e)) in
     let empty : marks ≡ [] = m.untouched none (unfired refl) in
@@ -151,7 +151,7 @@ Remembers-after : (s : Timer) (call : Call) (marks : List Mark) → Remembers s 
 Remembers-after s Same marks m = Remembers-same s marks m
 Remembers-after s (Other moment draw) marks m = Remembers-other s moment draw marks m
 Remembers-after s (Tick moment draw) marks m =
-    Remembers-tick s (begun (min (2 * s.interval) longest_interval) moment draw) marks (is_due s moment) (is_over s moment) (nat_lt s.count redundancy) (not_fired s.fired _) refl (Remembers-begun _ moment draw) m
+    Remembers-tick s (interval_begun (min (2 * s.interval) longest_interval) moment draw) marks (is_due s moment) (is_over s moment) (nat_lt s.count redundancy) (not_fired s.fired _) refl (Remembers-begun _ moment draw) m
 
 Remembers-timer : (start draw : ℕ) (calls : List Call) → Remembers (timer start draw calls) (current start draw calls)
 Remembers-timer start draw [] = Remembers-begun shortest_interval start draw
@@ -159,7 +159,7 @@ Remembers-timer start draw (call ∷ earlier) =
     Remembers-after (timer start draw earlier) call (current start draw earlier) (Remembers-timer start draw earlier)
 
 sends_untouched : (s : Timer) (marks : List Mark) (due over few : Bool) → (due ≡ true → s.fired ≡ false) → few ≡ nat_lt s.count redundancy → Remembers s marks
-    → (if due then (if few then Send else Quiet) else (if over then Expired else Nothing)) ≡ Send → marks ≡ []
+    → (if due then (if few then Send else Suppressed) else (if over then Expired else Nothing)) ≡ Send → marks ≡ []
 sends_untouched s marks true over true unfired e m is = m.untouched (omega (arith, ltb-true s.count redundancy (sym e))) (unfired refl)
 sends_untouched s marks true over false unfired e m is = cc
 sends_untouched s marks false true few unfired e m is = cc
@@ -172,15 +172,15 @@ sends_if_untouched start draw earlier moment is =
     sends_untouched s (current start draw earlier) (is_due s moment) (is_over s moment) (nat_lt s.count redundancy) (not_fired s.fired _) refl (Remembers-timer start draw earlier) is
 
 quiet_heard : (s : Timer) (marks : List Mark) (due over few : Bool) → few ≡ nat_lt s.count redundancy → Remembers s marks
-    → (if due then (if few then Send else Quiet) else (if over then Expired else Nothing)) ≡ Quiet → Contains marks Heard
+    → (if due then (if few then Send else Suppressed) else (if over then Expired else Nothing)) ≡ Suppressed → Contains marks Heard
 quiet_heard s marks true over true e m is = cc
 quiet_heard s marks true over false e m is = m.heard (omega (arith, ltb-false s.count redundancy (sym e)))
 quiet_heard s marks false true few e m is = cc
 quiet_heard s marks false false few e m is = cc
 
 -- a timer keeps quiet only where something equal was heard since the interval began
-pub quiet_if_heard : (start draw : ℕ) (earlier : List Call) (moment : ℕ) → act_of (timer start draw earlier) moment ≡ Quiet → Contains (current start draw earlier) Heard
-quiet_if_heard start draw earlier moment is =
+pub suppressed_if_heard : (start draw : ℕ) (earlier : List Call) (moment : ℕ) → act_of (timer start draw earlier) moment ≡ Suppressed → Contains (current start draw earlier) Heard
+suppressed_if_heard start draw earlier moment is =
     let s = timer start draw earlier in
     quiet_heard s (current start draw earlier) (is_due s moment) (is_over s moment) (nat_lt s.count redundancy) refl (Remembers-timer start draw earlier) is
 

@@ -1,7 +1,7 @@
 -- Whole runs of a Trickle timer: any calls, at any moments.
 use Rattle.std.specs.Prelude.{◌≡◌, ℕ, ◌+◌, ◌*◌, ◌^◌, ◌≤◌, ◌⊎◌, List, [], ◌∷◌, nat_lt, if◌then◌else◌}
 use Rattle.dg_trickle.specs.declared.Act.{Act}
-use Rattle.dg_trickle.specs.declared.Act.TheVariants.{Send, Quiet, Expired, Nothing}
+use Rattle.dg_trickle.specs.declared.Act.TheVariants.{Send, Suppressed, Expired, Nothing}
 use Rattle.dg_trickle.specs.Times.{shortest_interval}
 use Rattle.dg_trickle.specs.Timer.{Timer}
 use Rattle.dg_trickle.specs.Steps.{started, after_same, after_other, after_tick, act_of}
@@ -30,7 +30,7 @@ pub data Mark : Type 0 where
 
 abbrev pub noted_of : Act → List Mark → List Mark
 noted_of Send marks = Sent ∷ marks
-noted_of Quiet marks = Kept ∷ marks
+noted_of Suppressed marks = Kept ∷ marks
 noted_of Expired marks = []
 noted_of Nothing marks = marks
 

@@ -1,4 +1,4 @@
-//! The Trickle timer of RFC 6206: when to send, when to keep quiet, and when to begin anew.
+//! The Trickle timer of RFC 6206: when to send, when a transmission is suppressed, and when to begin anew.
 //!
 //! Moments are milliseconds, and a draw stands for a random number. Section 4.1 of the RFC leaves
 //! three parameters open: here Imin is 500 ms, Imax is Imin doubled seven times, and k is 1.
@@ -7,7 +7,7 @@
 ghost use Rattle.std.specs.Prelude.{◌≡◌, ℕ, ◌<◌, ◌≤◌, ◌^◌, List, [], ◌∷◌, Contains};
 ghost use Rattle.dg_trickle.specs.Times.{shortest_interval, longest_interval, redundancy};
 ghost use Rattle.dg_trickle.specs.Timer.{Timer};
-ghost use Rattle.dg_trickle.specs.Steps.{begun, started, after_same, after_other, after_tick, act_of, IsRunning};
+ghost use Rattle.dg_trickle.specs.Steps.{interval_begun, started, after_same, after_other, after_tick, act_of, IsRunning};
 ghost use Rattle.dg_trickle.specs.Runs.{Call, after, timer, Heard, current, sends, IsDoubled, DoublesOrFalls};
 
 use std::marker::Model;
@@ -27,7 +27,7 @@ pub enum Act {
     /// The timer fired: transmit.
     Send,
     /// The timer fired, and enough was heard: transmit nothing.
-    Quiet,
+    Suppressed,
     /// The interval is over, and the next one began.
     Expired,
     /// Neither moment is reached.
@@ -121,7 +121,7 @@ impl Trickle {
             return if self.heard < REDUNDANCY {
                 Act::Send
             } else {
-                Act::Quiet
+                Act::Suppressed
             };
         }
         if now < self.begin + u64::from(self.interval) {
@@ -137,7 +137,7 @@ impl Trickle {
         requires shortest { shortest_interval ≤ interval }
         requires longest { interval ≤ longest_interval }
         requires moment { now < 2 ^ 62 }
-        ensures value { result ≡ begun interval now draw }
+        ensures value { result ≡ interval_begun interval now draw }
         ensures running { IsRunning result }
     {
         let half = interval / 2;
@@ -170,13 +170,13 @@ pub fn interval_bounds()
 {}
 
 /// Suppression, in every run: a tick sends only where nothing was heard and nothing was sent since
-/// the interval began, keeps quiet only where something equal was heard, and so sends at most once
+/// the interval began, is suppressed only where something equal was heard, and so sends at most once
 /// an interval.
 pub fn suppression()
     ensures untouched { (start draw : ℕ) (earlier : List Call) (moment : ℕ)
         → act_of (timer start draw earlier) moment ≡ Act.Send → current start draw earlier ≡ [] }
     ensures heard { (start draw : ℕ) (earlier : List Call) (moment : ℕ)
-        → act_of (timer start draw earlier) moment ≡ Act.Quiet
+        → act_of (timer start draw earlier) moment ≡ Act.Suppressed
         → Contains (current start draw earlier) Heard }
     ensures once { (start draw : ℕ) (calls : List Call) → sends (current start draw calls) ≤ 1 }
 {}
@@ -186,10 +186,10 @@ mod tests {
     use super::*;
 
     #[test]
-    fn an_equal_transmission_quiets_one_interval(rt: HostRuntime) {
+    fn an_equal_transmission_suppresses_one_interval(rt: HostRuntime) {
         let mut timer = Trickle::new(0, 0);
         timer.heard_same();
-        assert_eq!(rt; timer.tick(250, 0), Act::Quiet);
+        assert_eq!(rt; timer.tick(250, 0), Act::Suppressed);
         assert_eq!(rt; timer.tick(500, 7), Act::Expired);
         assert_eq!(rt; timer.interval, 1000);
         assert_eq!(rt; timer.fires_after, 507);

@@ -8,7 +8,7 @@ use Rattle.dg_slot.specs.Fits.{may_seal}
 use Rattle.dg_volume.specs.Store.{held_to}
 use Rattle.dg_volume.specs.Table.{IsTable}
 use Rattle.dg_volume.specs.RowLaws.{SoundRows, RowsFit}
-use Rattle.dg_volume.proofs.TableLemmas.{row_at-version, row_at-each}
+use Rattle.dg_volume.proofs.TableLemmas.{row_at-image_version, row_at-each}
 use Rattle.dg_volume.proofs.AgreedLemmas.{same_held}
 use Rattle.dg_volume.proofs.RowLemmas.{Tested, next_fits}
 use Rattle.dg_volume.proofs.WholeLemmas.{object_is_sound}
@@ -18,7 +18,7 @@ rows_sound table t image version row e = object_is_sound row (row_at-each IsRow 
 
 pub rows_fit : Tested → (table : List Row) → IsTable table → RowsFit table
 rows_fit tested table t image row h e pages crc front more =
-    let own = row_at-version table image h.version row e in
+    let own = row_at-image_version table image h.version row e in
     let is : IsRow row = row_at-each IsRow table image h.version row t.each e in
     let n = length h.complete in
     let page = get_or (object row) n [] in

@@ -3,7 +3,7 @@ use Rattle.std.proofs.Common.{◌≡◌, ℕ, Bool, true, false, ◌==◌, List,
 use Rattle.std.specs.List.{AllByRecursion}
 use Rattle.std.proofs.lemmas.Bool.{cases_Bool, and_parts, cond-true, cond-false}
 use Rattle.dg_object.specs.Object.{Row}
-use Rattle.dg_volume.specs.Table.{has_version, row_at}
+use Rattle.dg_volume.specs.Table.{has_image_version, row_at}
 
 pub same_some : {A : Type 0} (x y : A) → Some x ≡ Some y → x ≡ y
 same_some x y e = cc
@@ -37,15 +37,15 @@ find_each P p (y ∷ ys) x all e =
 
 -- ---- the row of an image version
 
-pub version_parts : (image version : ℕ) (row : Row) → has_version image version row ≡ true → (row.image ≡ image) × (row.version ≡ version)
-version_parts image version row e =
+pub image_version_parts : (image version : ℕ) (row : Row) → has_image_version image version row ≡ true → (row.image ≡ image) × (row.version ≡ version)
+image_version_parts image version row e =
     let parts = and_parts (row.image == image) (row.version == version) e in
     (eqb-true row.image image parts.0, eqb-true row.version version parts.1)
 
 -- it is of this image version
-pub row_at-version : (rows : List Row) (image version : ℕ) (row : Row) → row_at rows image version ≡ Some row → (row.image ≡ image) × (row.version ≡ version)
-row_at-version rows image version row e = version_parts image version row (find_passes (has_version image version) rows row e)
+pub row_at-image_version : (rows : List Row) (image version : ℕ) (row : Row) → row_at rows image version ≡ Some row → (row.image ≡ image) × (row.version ≡ version)
+row_at-image_version rows image version row e = image_version_parts image version row (find_passes (has_image_version image version) rows row e)
 
 -- what holds of each row holds of it
 pub row_at-each : (P : Row → Type 0) (rows : List Row) (image version : ℕ) (row : Row) → AllByRecursion P rows → row_at rows image version ≡ Some row → P row
-row_at-each P rows image version row all e = find_each P (has_version image version) rows row all e
+row_at-each P rows image version row all e = find_each P (has_image_version image version) rows row all e

@@ -17,52 +17,52 @@ use Rattle.dg_base.specs.declared.events.Event.TheVariants.{Tick, Reset, Frame}
 use Rattle.std.specs.Prelude.{None}
 use Rattle.dg_script.specs.declared.report.Report.{Report}
 use Rattle.dg_world.specs.Alone.{uncut as uncut_step, PlaysAlone, Powers}
-use Rattle.dg_world.specs.Outcomes.{turn_of, halt_of}
-use Rattle.dg_world.specs.Turns.{turn_lines, TurnEnds}
+use Rattle.dg_world.specs.Outcomes.{outcome_of, halt_of}
+use Rattle.dg_world.specs.OutcomeEndings.{outcome_lines, OutcomeEnds}
 use Rattle.dg_world.specs.Hosts.{host}
 use Rattle.dg_world.specs.Worlds.{SiteStands}
 use Rattle.dg_world.specs.declared.outcome.Fault.{Fault}
 use Rattle.dg_world.specs.declared.outcome.Fault.TheVariants as fault
 use Rattle.dg_world.specs.declared.outcome.Outcome.{Outcome}
 use Rattle.dg_world.specs.declared.world.RunningMote.{RunningMote}
-use Rattle.dg_world.specs.Turn.{EventTurn, Halt, Stopped, NoImage}
+use Rattle.dg_world.specs.EventOutcomes.{EventOutcome, Halt, Stopped, NoImage}
 use Rattle.dg_world.proofs.CutLemmas.{uncut}
-use Rattle.dg_world.proofs.DoneLemmas.{step_turn}
+use Rattle.dg_world.proofs.DoneLemmas.{step_outcome}
 use Rattle.dg_world.proofs.OutcomeLemmas.{frame_told}
 
 -- ---- which event it is
 
-abbrev pub AppliesAlone : Result EventTurn Halt → RuleWorld → (v u : Option RunningMote) → ℕ → Device → Device → Event → Type 0
-AppliesAlone r w v u now a b event = SiteStands a v (site w (mote_of event)) → now ≡ w.moment + dt_of event → wide_at w (mote_of event) ≡ true → TurnEnds r w (mote_of event) (does w event) (host a v) (host b u)
+abbrev pub AppliesAlone : Result EventOutcome Halt → RuleWorld → (v u : Option RunningMote) → ℕ → Device → Device → Event → Type 0
+AppliesAlone r w v u now a b event = SiteStands a v (site w (mote_of event)) → now ≡ w.moment + dt_of event → wide_at w (mote_of event) ≡ true → OutcomeEnds r w (mote_of event) (does w event) (host a v) (host b u)
 
-module _ (r : Result EventTurn Halt) (w : RuleWorld) (v u : Option RunningMote) (now : ℕ) (a b : Device) where
-  at_moment : (m : ℕ) (D : ℕ → Does) (moment : ℕ) → now ≡ moment → TurnEnds r w m (D now) (host a v) (host b u) → TurnEnds r w m (D moment) (host a v) (host b u)
-  at_moment m D moment e ends = subst (λ (n : ℕ). TurnEnds r w m (D n) (host a v) (host b u)) e ends
+module _ (r : Result EventOutcome Halt) (w : RuleWorld) (v u : Option RunningMote) (now : ℕ) (a b : Device) where
+  at_moment : (m : ℕ) (D : ℕ → Does) (moment : ℕ) → now ≡ moment → OutcomeEnds r w m (D now) (host a v) (host b u) → OutcomeEnds r w m (D moment) (host a v) (host b u)
+  at_moment m D moment e ends = subst (λ (n : ℕ). OutcomeEnds r w m (D n) (host a v) (host b u)) e ends
 
-  pub alone_ticks : (m dt draw : ℕ) → (SiteStands a v (site w m) → TurnEnds r w m (tick_does w (store_at w m) (site w m).runs now draw) (host a v) (host b u)) → AppliesAlone r w v u now a b (Tick m dt draw)
+  pub alone_ticks : (m dt draw : ℕ) → (SiteStands a v (site w m) → OutcomeEnds r w m (tick_does w (store_at w m) (site w m).runs now draw) (host a v) (host b u)) → AppliesAlone r w v u now a b (Tick m dt draw)
   unfolding does
   alone_ticks m dt draw ends = λ stands at wide. at_moment m (λ n. tick_does w (store_at w m) (site w m).runs n draw) _ at (ends stands)
 
-  pub alone_hears : (m dt draw : ℕ) (bytes : List ℕ) → (SiteStands a v (site w m) → TurnEnds r w m (hear_by w (store_at w m) (site w m).runs now draw bytes) (host a v) (host b u)) → AppliesAlone r w v u now a b (Frame m dt draw bytes)
+  pub alone_hears : (m dt draw : ℕ) (bytes : List ℕ) → (SiteStands a v (site w m) → OutcomeEnds r w m (hear_by w (store_at w m) (site w m).runs now draw bytes) (host a v) (host b u)) → AppliesAlone r w v u now a b (Frame m dt draw bytes)
   unfolding does
   alone_hears m dt draw bytes ends = λ stands at wide. at_moment m (λ n. hear_by w (store_at w m) (site w m).runs n draw bytes) _ at (ends stands)
 
-  pub alone_starts : (m dt draw : ℕ) → (Stands a.image (store_at w m) → TurnEnds r w m (of_effect w (reset_effect (store_at w m) m true now draw) None) (host a v) (host b u)) → AppliesAlone r w v u now a b (Reset m dt draw)
+  pub alone_starts : (m dt draw : ℕ) → (Stands a.image (store_at w m) → OutcomeEnds r w m (of_effect w (reset_effect (store_at w m) m true now draw) None) (host a v) (host b u)) → AppliesAlone r w v u now a b (Reset m dt draw)
   unfolding does
   alone_starts m dt draw ends = λ stands at wide.
       let D : Bool → ℕ → Does = λ x n. of_effect w (reset_effect (store_at w m) m x n draw) None in
-      at_moment m (D (wide_at w m)) _ at (subst (λ (x : Bool). TurnEnds r w m (D x now) (host a v) (host b u)) (sym wide) (ends stands.stands))
+      at_moment m (D (wide_at w m)) _ at (subst (λ (x : Bool). OutcomeEnds r w m (D x now) (host a v) (host b u)) (sym wide) (ends stands.stands))
 
 -- ---- how it ends
 
-pub alone_done : (t : Outcome) (w : RuleWorld) (e : Event) (v u : Option RunningMote) (a b : Device) → mote_of e < length w.sites → SiteStands a v (site w (mote_of e)) → TurnEnds (Ok (turn_of t)) w (mote_of e) (does w e) (host a v) (host b u)
+pub alone_done : (t : Outcome) (w : RuleWorld) (e : Event) (v u : Option RunningMote) (a b : Device) → mote_of e < length w.sites → SiteStands a v (site w (mote_of e)) → OutcomeEnds (Ok (outcome_of t)) w (mote_of e) (does w e) (host a v) (host b u)
     → PlaysAlone (Ok t.outbox) w e u a b
 alone_done t w e v u a b known stands ends =
-    let told : List Report = filter (is_reported true) (turn_lines (mote_of e) (turn_of t)) in
-    let s = step_turn w (uncut_step e) true v u (sent_in t.outbox) (turn_of t) a b [] told known stands (uncut (Ok (turn_of t)) w (mote_of e) (does w e) v u a b ends) (frame_told t) refl in
+    let told : List Report = filter (is_reported true) (outcome_lines (mote_of e) (outcome_of t)) in
+    let s = step_outcome w (uncut_step e) true v u (sent_in t.outbox) (outcome_of t) a b [] told known stands (uncut (Ok (outcome_of t)) w (mote_of e) (does w e) v u a b ends) (frame_told t) refl in
     record { ends = record { reported = told; done = s.ends }; endures = s.endures; count = s.count }
 
-pub alone_fails : (f : Fault) (t : Outcome) (w : RuleWorld) (e : Event) (v u : Option RunningMote) (a b : Device) → TurnEnds (Err (halt_of f t.before)) w (mote_of e) (does w e) (host a v) (host b u) → PlaysAlone (Err f) w e u a b
+pub alone_fails : (f : Fault) (t : Outcome) (w : RuleWorld) (e : Event) (v u : Option RunningMote) (a b : Device) → OutcomeEnds (Err (halt_of f t.before)) w (mote_of e) (does w e) (host a v) (host b u) → PlaysAlone (Err f) w e u a b
 alone_fails fault.Stopped t w e v u a b ends =
     let p = uncut (Err (Stopped t.before)) w (mote_of e) (does w e) v u a b ends in
     record { ends = p.ends; endures = p.endures; count = tt }

@@ -14,7 +14,7 @@ use Rattle.dg_rules.specs.Changes.{same_held, order_change, have_change, changes
 use Rattle.dg_script.specs.declared.report.Report.{Report}
 use Rattle.dg_script.specs.declared.report.Report.TheVariants.{Order as OrderLine, Lost, Have, Start, Off, SentAdvert, SentRequest, SentData, Refused, Taken, End, MoteOn, MoteOff, Kept as KeptLine}
 use Rattle.dg_world.specs.ChipReports.{IsReportOf, have_line, have_lines, change_lines}
-use Rattle.dg_world.specs.Turns.{SameReport}
+use Rattle.dg_world.specs.OutcomeEndings.{SameReport}
 use Rattle.dg_world.specs.declared.chip_report.ChipReport.{ChipReport}
 use Rattle.dg_mote.specs.Summary.{same_order}
 

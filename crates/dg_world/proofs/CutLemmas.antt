@@ -16,21 +16,21 @@ use Rattle.dg_volume.specs.Stands.{Stands}
 use Rattle.dg_rules.specs.World.{World as RuleWorld, store_at}
 use Rattle.dg_rules.specs.Events.{Does, Refuses, Goes, trail_of}
 use Rattle.dg_base.specs.declared.events.Cut.{Cut as PowerCut}
-use Rattle.dg_world.specs.Turns.{TellsDeed, DeedWent, StoppedOn, TurnEnds}
+use Rattle.dg_world.specs.OutcomeEndings.{TellsDeed, DeedWent, StoppedOn, OutcomeEnds}
 use Rattle.dg_world.specs.Cuts.{ended, EventIsWhole, EventIsCut, IsStopped, EventPlayed}
 use Rattle.dg_world.specs.Hosts.{host}
 use Rattle.dg_world.specs.declared.chip_report.ChipReport.{ChipReport}
 use Rattle.dg_world.specs.declared.world.RunningMote.{RunningMote}
-use Rattle.dg_world.specs.Turn.{EventTurn, Refused, Rests, Sends, Changes, Starts, TurnEnded, Halt, Stopped, NotAVolume, NoImage}
+use Rattle.dg_world.specs.EventOutcomes.{EventOutcome, Refused, Unreported, Sends, Changes, Starts, EventEnded, Halt, Stopped, NotAVolume, NoImage}
 
 -- ---- without a cut
 
-went_whole : (w : RuleWorld) (m : ℕ) (does : Does) (u : Option RunningMote) (a b : Device) (turn : EventTurn) → DeedWent w m does u a b turn → EventIsWhole w m does None u b.image turn
-went_whole w m does u a b turn x = record { deed = x.deed; goes = x.goes; whole = refl; tells = x.tells }
+went_whole : (w : RuleWorld) (m : ℕ) (does : Does) (u : Option RunningMote) (a b : Device) (outcome : EventOutcome) → DeedWent w m does u a b outcome → EventIsWhole w m does None u b.image outcome
+went_whole w m does u a b outcome x = record { deed = x.deed; goes = x.goes; whole = refl; tells = x.tells }
 
-pub uncut : (r : Result EventTurn Halt) (w : RuleWorld) (m : ℕ) (does : Does) (v u : Option RunningMote) (a b : Device) → TurnEnds r w m does (host a v) (host b u) → EventPlayed (ended false r) w m does None (host a v) (host b u)
+pub uncut : (r : Result EventOutcome Halt) (w : RuleWorld) (m : ℕ) (does : Does) (v u : Option RunningMote) (a b : Device) → OutcomeEnds r w m does (host a v) (host b u) → EventPlayed (ended false r) w m does None (host a v) (host b u)
 uncut (Ok (Refused why)) w m does v u a b x = record { ends = (x.0, x.1.same_image, x.2); endures = Endures_ran x.1.ran; count = x.1.ran.faults }
-uncut (Ok Rests) w m does v u a b x = record { ends = went_whole w m does u a b Rests x; endures = Endures_ran x.ran; count = x.ran.faults }
+uncut (Ok Unreported) w m does v u a b x = record { ends = went_whole w m does u a b Unreported x; endures = Endures_ran x.ran; count = x.ran.faults }
 uncut (Ok (Sends frame)) w m does v u a b x = record { ends = went_whole w m does u a b (Sends frame) x; endures = Endures_ran x.ran; count = x.ran.faults }
 uncut (Ok (Changes p q)) w m does v u a b x = record { ends = went_whole w m does u a b (Changes p q) x; endures = Endures_ran x.ran; count = x.ran.faults }
 uncut (Ok (Starts p)) w m does v u a b x = record { ends = went_whole w m does u a b (Starts p) x; endures = Endures_ran x.ran; count = x.ran.faults }
@@ -76,12 +76,12 @@ fused_count cut a b x y f r = sym (f.faults_then (r.blown ∙ f.whole)) ∙ r.fa
 fused_halts : {n done : ℕ} (cut : PowerCut) (a b x y : Device) → IsFused cut a b x y → Halts n done x y → Endures (beneath_of a) (beneath_of b)
 fused_halts cut a b x y f h = endures_by (beneath_of a) (beneath_of b) x.beneath y.beneath f.beneath f.beneath_then h.beneath
 
-fused_whole : (cut : PowerCut) (w : RuleWorld) (m : ℕ) (does : Does) (u : Option RunningMote) (a b x y : Device) (turn : EventTurn) → IsFused cut a b x y → DeedWent w m does u x y turn → EventIsWhole w m does (Some cut) u b.image turn
-fused_whole cut w m does u a b x y turn f g = record {
+fused_whole : (cut : PowerCut) (w : RuleWorld) (m : ℕ) (does : Does) (u : Option RunningMote) (a b x y : Device) (outcome : EventOutcome) → IsFused cut a b x y → DeedWent w m does u x y outcome → EventIsWhole w m does (Some cut) u b.image outcome
+fused_whole cut w m does u a b x y outcome f g = record {
   deed = g.deed;
   goes = g.goes;
   whole = not_reached cut (operations g.deed.trail) a b x y f g.ran;
-  tells = subst (TellsDeed w m g.deed turn u) f.image_then g.tells;
+  tells = subst (TellsDeed w m g.deed outcome u) f.image_then g.tells;
 }
 
 -- a refused event makes no operation, so that no cut blows in it
@@ -123,9 +123,9 @@ fused_stopped cut w m does v u a b x y before true true blew stopped f s = recor
 fused_stopped cut w m does v u a b x y before false stopped whole is f s =
     record { ends = stopped_itself cut w m does a b x y before (f.stopped whole s.stops.halts.stopped) f s; endures = fused_halts cut a b x y f s.stops.halts; count = tt }
 
-pub fused : (r : Result EventTurn Halt) (cut : PowerCut) (w : RuleWorld) (m : ℕ) (does : Does) (v u : Option RunningMote) (a b x y : Device) → IsFused cut a b x y → TurnEnds r w m does (host x v) (host y u) → EventPlayed (ended (y.blown && not b.stopped) r) w m does (Some cut) (host a v) (host b u)
+pub fused : (r : Result EventOutcome Halt) (cut : PowerCut) (w : RuleWorld) (m : ℕ) (does : Does) (v u : Option RunningMote) (a b x y : Device) → IsFused cut a b x y → OutcomeEnds r w m does (host x v) (host y u) → EventPlayed (ended (y.blown && not b.stopped) r) w m does (Some cut) (host a v) (host b u)
 fused (Ok (Refused why)) cut w m does v u a b x y f t = record { ends = (t.0, sym f.image_then ∙ t.1.same_image ∙ f.image, t.2); endures = fused_ran cut a b x y f t.1.ran; count = fused_count cut a b x y f t.1.ran }
-fused (Ok Rests) cut w m does v u a b x y f t = record { ends = fused_whole cut w m does u a b x y Rests f t; endures = fused_ran cut a b x y f t.ran; count = fused_count cut a b x y f t.ran }
+fused (Ok Unreported) cut w m does v u a b x y f t = record { ends = fused_whole cut w m does u a b x y Unreported f t; endures = fused_ran cut a b x y f t.ran; count = fused_count cut a b x y f t.ran }
 fused (Ok (Sends frame)) cut w m does v u a b x y f t = record { ends = fused_whole cut w m does u a b x y (Sends frame) f t; endures = fused_ran cut a b x y f t.ran; count = fused_count cut a b x y f t.ran }
 fused (Ok (Changes p q)) cut w m does v u a b x y f t = record { ends = fused_whole cut w m does u a b x y (Changes p q) f t; endures = fused_ran cut a b x y f t.ran; count = fused_count cut a b x y f t.ran }
 fused (Ok (Starts p)) cut w m does v u a b x y f t = record { ends = fused_whole cut w m does u a b x y (Starts p) f t; endures = fused_ran cut a b x y f t.ran; count = fused_count cut a b x y f t.ran }
@@ -167,7 +167,7 @@ is_fused device cut a f g name counted made = record {
   stopped = λ whole stopped. or_second g.blown (device (inner_of g)).stopped whole stopped;
 }
 
-pub played_as : (r q : Result TurnEnded Halt) (cut other : Option PowerCut) (w : RuleWorld) (m : ℕ) (does : Does) (v u : Option RunningMote) (a b : Device) → r ≡ q → cut ≡ other → EventPlayed q w m does other (host a v) (host b u) → EventPlayed r w m does cut (host a v) (host b u)
+pub played_as : (r q : Result EventEnded Halt) (cut other : Option PowerCut) (w : RuleWorld) (m : ℕ) (does : Does) (v u : Option RunningMote) (a b : Device) → r ≡ q → cut ≡ other → EventPlayed q w m does other (host a v) (host b u) → EventPlayed r w m does cut (host a v) (host b u)
 played_as r q cut other w m does v u a b e f p =
-    let P : Result TurnEnded Halt → Option PowerCut → Type 0 = λ x y. EventPlayed x w m does y (host a v) (host b u) in
+    let P : Result EventEnded Halt → Option PowerCut → Type 0 = λ x y. EventPlayed x w m does y (host a v) (host b u) in
     subst (λ x. P x cut) (sym e) (subst (λ y. P q y) (sym f) p)

@@ -20,36 +20,36 @@ use Rattle.dg_script.specs.declared.report.Cause.{Cause}
 use Rattle.dg_script.specs.declared.report.Cause.TheVariants as cause
 use Rattle.dg_world.specs.Shareds.{IsShared}
 use Rattle.dg_world.specs.Worlds.{MoteStands, SiteStands}
-use Rattle.dg_world.specs.Turns.{TurnEnds}
+use Rattle.dg_world.specs.OutcomeEndings.{OutcomeEnds}
 use Rattle.dg_world.specs.Hosts.{host}
 use Rattle.dg_world.specs.declared.starting.Begun.{Begun}
 use Rattle.dg_world.specs.Occasions.{AppliesIn}
 use Rattle.dg_world.specs.declared.occasion.Occasion.{Occasion}
 use Rattle.dg_world.specs.declared.world.RunningMote.{RunningMote}
-use Rattle.dg_world.specs.Turn.{EventTurn, Refused, Starts, Halt}
+use Rattle.dg_world.specs.EventOutcomes.{EventOutcome, Refused, Starts, Halt}
 
 -- what `apply_event` ensures
-abbrev pub ApplyEnsures : Result EventTurn Halt → RuleWorld → Occasion → (v u : Option RunningMote) → Device → Device → Event → Type 0
-ApplyEnsures r w o v u a b event = AppliesIn o w event a v → TurnEnds r w (mote_of event) (does w event) (host a v) (host b u)
+abbrev pub ApplyEnsures : Result EventOutcome Halt → RuleWorld → Occasion → (v u : Option RunningMote) → Device → Device → Event → Type 0
+ApplyEnsures r w o v u a b event = AppliesIn o w event a v → OutcomeEnds r w (mote_of event) (does w event) (host a v) (host b u)
 
-module _ (r : Result EventTurn Halt) (w : RuleWorld) (o : Occasion) (v u : Option RunningMote) (a b : Device) where
+module _ (r : Result EventOutcome Halt) (w : RuleWorld) (o : Occasion) (v u : Option RunningMote) (a b : Device) where
   -- at the mote and the moment of the event
   placed : (m moment : ℕ) (D : ℕ → ℕ → Does) → o.mote ≡ m → o.moment ≡ moment
-      → (SiteStands a v (site w o.mote) → TurnEnds r w o.mote (D o.mote o.moment) (host a v) (host b u)) → SiteStands a v (site w m) → TurnEnds r w m (D m moment) (host a v) (host b u)
+      → (SiteStands a v (site w o.mote) → OutcomeEnds r w o.mote (D o.mote o.moment) (host a v) (host b u)) → SiteStands a v (site w m) → OutcomeEnds r w m (D m moment) (host a v) (host b u)
   placed m moment D here at ends =
-      subst (λ (k : ℕ). SiteStands a v (site w k) → TurnEnds r w k (D k moment) (host a v) (host b u)) here
-      (subst (λ (n : ℕ). SiteStands a v (site w o.mote) → TurnEnds r w o.mote (D o.mote n) (host a v) (host b u)) at ends)
+      subst (λ (k : ℕ). SiteStands a v (site w k) → OutcomeEnds r w k (D k moment) (host a v) (host b u)) here
+      (subst (λ (n : ℕ). SiteStands a v (site w o.mote) → OutcomeEnds r w o.mote (D o.mote n) (host a v) (host b u)) at ends)
 
   -- at the moment of the event
-  at_moment : (m : ℕ) (D : ℕ → Does) (moment : ℕ) → o.moment ≡ moment → TurnEnds r w m (D o.moment) (host a v) (host b u) → TurnEnds r w m (D moment) (host a v) (host b u)
-  at_moment m D moment e ends = subst (λ (n : ℕ). TurnEnds r w m (D n) (host a v) (host b u)) e ends
+  at_moment : (m : ℕ) (D : ℕ → Does) (moment : ℕ) → o.moment ≡ moment → OutcomeEnds r w m (D o.moment) (host a v) (host b u) → OutcomeEnds r w m (D moment) (host a v) (host b u)
+  at_moment m D moment e ends = subst (λ (n : ℕ). OutcomeEnds r w m (D n) (host a v) (host b u)) e ends
 
-  pub tick_applies : (m dt draw : ℕ) → (SiteStands a v (site w m) → TurnEnds r w m (tick_does w (store_at w m) (site w m).runs o.moment draw) (host a v) (host b u)) → ApplyEnsures r w o v u a b (Tick m dt draw)
+  pub tick_applies : (m dt draw : ℕ) → (SiteStands a v (site w m) → OutcomeEnds r w m (tick_does w (store_at w m) (site w m).runs o.moment draw) (host a v) (host b u)) → ApplyEnsures r w o v u a b (Tick m dt draw)
   unfolding does
   tick_applies m dt draw ends = λ on. at_moment m (λ n. tick_does w (store_at w m) (site w m).runs n draw) _ on.moment (ends on.stands)
 
   pub hear_applies : (m dt draw number : ℕ) → o.mote ≡ m
-      → (IsShared o.shared.now w → SiteStands a v (site w o.mote) → TurnEnds r w o.mote (unless_off (site w o.mote).runs (heard_sent w o.mote o.moment draw (frame_at w number))) (host a v) (host b u))
+      → (IsShared o.shared.now w → SiteStands a v (site w o.mote) → OutcomeEnds r w o.mote (unless_off (site w o.mote).runs (heard_sent w o.mote o.moment draw (frame_at w number))) (host a v) (host b u))
       → ApplyEnsures r w o v u a b (Hear m dt draw number)
   unfolding does
   hear_applies m dt draw number here ends = λ on.
@@ -57,26 +57,26 @@ module _ (r : Result EventTurn Halt) (w : RuleWorld) (o : Occasion) (v u : Optio
 
   pub last_applies : (from to dt draw : ℕ) → o.mote ≡ to
       → (IsShared o.shared.now w → SiteStands a v (site w o.mote)
-      → TurnEnds r w o.mote (unless_off (site w o.mote).runs (if linked w from o.mote then heard_last w from o.mote o.moment draw (last_frame w from) else Refuses cause.Link)) (host a v) (host b u))
+      → OutcomeEnds r w o.mote (unless_off (site w o.mote).runs (if linked w from o.mote then heard_last w from o.mote o.moment draw (last_frame w from) else Refuses cause.Link)) (host a v) (host b u))
       → ApplyEnsures r w o v u a b (Last from to dt draw)
   unfolding does
   last_applies from to dt draw here ends = λ on.
       placed to _ (λ k n. unless_off (site w k).runs (if linked w from k then heard_last w from k n draw (last_frame w from) else Refuses cause.Link)) here on.moment (ends on.shared) on.stands
 
-  pub frame_applies : (m dt draw : ℕ) (bytes : List ℕ) → (SiteStands a v (site w m) → TurnEnds r w m (hear_by w (store_at w m) (site w m).runs o.moment draw bytes) (host a v) (host b u)) → ApplyEnsures r w o v u a b (Frame m dt draw bytes)
+  pub frame_applies : (m dt draw : ℕ) (bytes : List ℕ) → (SiteStands a v (site w m) → OutcomeEnds r w m (hear_by w (store_at w m) (site w m).runs o.moment draw bytes) (host a v) (host b u)) → ApplyEnsures r w o v u a b (Frame m dt draw bytes)
   unfolding does
   frame_applies m dt draw bytes ends = λ on. at_moment m (λ n. hear_by w (store_at w m) (site w m).runs n draw bytes) _ on.moment (ends on.stands)
 
   pub reset_applies : (m dt draw : ℕ) → o.mote ≡ m
       → (IsShared o.shared.now w → Stands a.image (store_at w o.mote)
-      → TurnEnds r w o.mote (of_effect w (reset_effect (store_at w o.mote) o.mote (wide_at w o.mote) o.moment draw) None) (host a v) (host b u))
+      → OutcomeEnds r w o.mote (of_effect w (reset_effect (store_at w o.mote) o.mote (wide_at w o.mote) o.moment draw) None) (host a v) (host b u))
       → ApplyEnsures r w o v u a b (Reset m dt draw)
   unfolding does
   reset_applies m dt draw here ends = λ on.
       placed m _ (λ k n. of_effect w (reset_effect (store_at w k) k (wide_at w k) n draw) None) here on.moment (λ stands. ends on.shared stands.stands) on.stands
 
   pub inject_applies : (m image version dt draw : ℕ) → o.mote ≡ m
-      → (IsShared o.shared.now w → SiteStands a v (site w o.mote) → TurnEnds r w o.mote (if knows (wide_at w o.mote) image then injects w o.mote image version o.moment draw else Refuses cause.Image) (host a v) (host b u))
+      → (IsShared o.shared.now w → SiteStands a v (site w o.mote) → OutcomeEnds r w o.mote (if knows (wide_at w o.mote) image then injects w o.mote image version o.moment draw else Refuses cause.Image) (host a v) (host b u))
       → ApplyEnsures r w o v u a b (Inject m image version dt draw)
   unfolding does
   inject_applies m image version dt draw here ends = λ on.
@@ -84,7 +84,7 @@ module _ (r : Result EventTurn Halt) (w : RuleWorld) (o : Occasion) (v u : Optio
 
   pub order_applies : (m number image version dt draw : ℕ) → o.mote ≡ m
       → (let order : Order = record { number = number; image = image; version = version } in
-      IsShared o.shared.now w → SiteStands a v (site w o.mote) → TurnEnds r w o.mote (if knows (wide_at w o.mote) image then orders w o.mote order o.moment draw else Refuses cause.Image) (host a v) (host b u))
+      IsShared o.shared.now w → SiteStands a v (site w o.mote) → OutcomeEnds r w o.mote (if knows (wide_at w o.mote) image then orders w o.mote order o.moment draw else Refuses cause.Image) (host a v) (host b u))
       → ApplyEnsures r w o v u a b (OrderEvent m number image version dt draw)
   unfolding does
   order_applies m number image version dt draw here ends = λ on.
@@ -92,8 +92,8 @@ module _ (r : Result EventTurn Halt) (w : RuleWorld) (o : Occasion) (v u : Optio
       placed m _ (λ k n. if knows (wide_at w k) image then orders w k order n draw else Refuses cause.Image) here on.moment (ends on.shared) on.stands
 
   -- a mote that is on does what is asked of it
-  pub not_off : (m : ℕ) (D : Does) (c : List ℕ) (s : Store) (y : Option Running) → MoteStands c v s y → is_none v ≡ false → TurnEnds r w m D (host a v) (host b u) → TurnEnds r w m (unless_off y D) (host a v) (host b u)
-  not_off m D c s y stands on ends = subst (λ (x : Does). TurnEnds r w m x (host a v) (host b u)) (sym (is_on v y stands on)) ends
+  pub not_off : (m : ℕ) (D : Does) (c : List ℕ) (s : Store) (y : Option Running) → MoteStands c v s y → is_none v ≡ false → OutcomeEnds r w m D (host a v) (host b u) → OutcomeEnds r w m (unless_off y D) (host a v) (host b u)
+  not_off m D c s y stands on ends = subst (λ (x : Does). OutcomeEnds r w m x (host a v) (host b u)) (sym (is_on v y stands on)) ends
     where
       is_on : (x : Option RunningMote) (y : Option Running) → MoteStands c x s y → is_none x ≡ false → unless_off y D ≡ D
       is_on None y stands on = absurd cc
@@ -101,29 +101,29 @@ module _ (r : Result EventTurn Halt) (w : RuleWorld) (o : Occasion) (v u : Optio
       is_on (Some x) (Some y) stands on = refl
 
 -- one that is off refuses it
-pub is_off : (w : RuleWorld) (m : ℕ) (D : Does) (v : Option RunningMote) (c : List ℕ) (s : Store) (o : Option Running) (a : Device) → MoteStands c v s o → is_none v ≡ true → Looked a a → TurnEnds (Ok (Refused cause.Off)) w m (unless_off o D) (host a v) (host a v)
+pub is_off : (w : RuleWorld) (m : ℕ) (D : Does) (v : Option RunningMote) (c : List ℕ) (s : Store) (o : Option Running) (a : Device) → MoteStands c v s o → is_none v ≡ true → Looked a a → OutcomeEnds (Ok (Refused cause.Off)) w m (unless_off o D) (host a v) (host a v)
 is_off w m D None c s None a stands off looked = (refl, looked, refl)
 is_off w m D None c s (Some r) a stands off looked = absurd stands
 is_off w m D (Some v) c s o a stands off looked = absurd cc
 
 -- which frame is heard
-pub refuses_at : {A : Type 0} (D : A → Does) (x y : A) (why : Cause) (w : RuleWorld) (m : ℕ) (v : Option RunningMote) (a : Device) → x ≡ y → D y ≡ Refuses why → Looked a a → TurnEnds (Ok (Refused why)) w m (D x) (host a v) (host a v)
+pub refuses_at : {A : Type 0} (D : A → Does) (x y : A) (why : Cause) (w : RuleWorld) (m : ℕ) (v : Option RunningMote) (a : Device) → x ≡ y → D y ≡ Refuses why → Looked a a → OutcomeEnds (Ok (Refused why)) w m (D x) (host a v) (host a v)
 refuses_at D x y why w m v a e is looked = (ap D e ∙ is, looked, refl)
 
-pub ends_at : {A : Type 0} (D : A → Does) (x y : A) (r : Result EventTurn Halt) (w : RuleWorld) (m : ℕ) (v u : Option RunningMote) (a b : Device) → x ≡ y → TurnEnds r w m (D y) (host a v) (host b u) → TurnEnds r w m (D x) (host a v) (host b u)
-ends_at D x y r w m v u a b e ends = subst (λ z. TurnEnds r w m (D z) (host a v) (host b u)) (sym e) ends
+pub ends_at : {A : Type 0} (D : A → Does) (x y : A) (r : Result EventOutcome Halt) (w : RuleWorld) (m : ℕ) (v u : Option RunningMote) (a b : Device) → x ≡ y → OutcomeEnds r w m (D y) (host a v) (host b u) → OutcomeEnds r w m (D x) (host a v) (host b u)
+ends_at D x y r w m v u a b e ends = subst (λ z. OutcomeEnds r w m (D z) (host a v) (host b u)) (sym e) ends
 
 -- ---- starts by power
 
-pub reset_starts : (x : Begun) (w : RuleWorld) (m id : ℕ) (wide : Bool) (now draw : ℕ) (v : Option RunningMote) (a b : Device) → m ≡ id → TurnEnds (Ok (Starts x.line)) w m (of_effect w (boots start_cause.Power (store_at w m) id wide now draw) None) (host a v) (host b (Some x.running))
-    → TurnEnds (Ok (Starts x.line)) w m (of_effect w (reset_effect (store_at w m) m wide now draw) None) (host a v) (host b (Some x.running))
+pub reset_starts : (x : Begun) (w : RuleWorld) (m id : ℕ) (wide : Bool) (now draw : ℕ) (v : Option RunningMote) (a b : Device) → m ≡ id → OutcomeEnds (Ok (Starts x.line)) w m (of_effect w (boots start_cause.Power (store_at w m) id wide now draw) None) (host a v) (host b (Some x.running))
+    → OutcomeEnds (Ok (Starts x.line)) w m (of_effect w (reset_effect (store_at w m) m wide now draw) None) (host a v) (host b (Some x.running))
 unfolding reset_effect
-reset_starts x w m id wide now draw v a b at ends = subst (λ (n : ℕ). TurnEnds (Ok (Starts x.line)) w m (of_effect w (boots start_cause.Power (store_at w m) n wide now draw) None) (host a v) (host b (Some x.running))) (sym at) ends
+reset_starts x w m id wide now draw v a b at ends = subst (λ (n : ℕ). OutcomeEnds (Ok (Starts x.line)) w m (of_effect w (boots start_cause.Power (store_at w m) n wide now draw) None) (host a v) (host b (Some x.running))) (sym at) ends
 
-pub reset_halts : (h : Halt) (w : RuleWorld) (m id : ℕ) (wide : Bool) (now draw : ℕ) (v u : Option RunningMote) (a b : Device) → m ≡ id → TurnEnds (Err h) w m (of_effect w (boots start_cause.Power (store_at w m) id wide now draw) None) (host a v) (host b u)
-    → TurnEnds (Err h) w m (of_effect w (reset_effect (store_at w m) m wide now draw) None) (host a v) (host b u)
+pub reset_halts : (h : Halt) (w : RuleWorld) (m id : ℕ) (wide : Bool) (now draw : ℕ) (v u : Option RunningMote) (a b : Device) → m ≡ id → OutcomeEnds (Err h) w m (of_effect w (boots start_cause.Power (store_at w m) id wide now draw) None) (host a v) (host b u)
+    → OutcomeEnds (Err h) w m (of_effect w (reset_effect (store_at w m) m wide now draw) None) (host a v) (host b u)
 unfolding reset_effect
-reset_halts h w m id wide now draw v u a b at ends = subst (λ (n : ℕ). TurnEnds (Err h) w m (of_effect w (boots start_cause.Power (store_at w m) n wide now draw) None) (host a v) (host b u)) (sym at) ends
+reset_halts h w m id wide now draw v u a b at ends = subst (λ (n : ℕ). OutcomeEnds (Err h) w m (of_effect w (boots start_cause.Power (store_at w m) n wide now draw) None) (host a v) (host b u)) (sym at) ends
 
 -- ---- reloading
 
@@ -146,11 +146,11 @@ none_told o result b told is = ap not told ∙ twice result ∙ is
 -- ---- images that a narrow mote does not know
 
 -- what it knows is done, and all else refused
-pub known_ends : (D : Does) (r : Result EventTurn Halt) (w : RuleWorld) (m : ℕ) (v u : Option RunningMote) (a b : Device) (x known : Bool) → x ≡ known → known ≡ true → TurnEnds r w m D (host a v) (host b u)
-    → TurnEnds r w m (if x then D else Refuses cause.Image) (host a v) (host b u)
-known_ends D r w m v u a b x known same is ends = subst (λ (y : Bool). TurnEnds r w m (if y then D else Refuses cause.Image) (host a v) (host b u)) (sym (same ∙ is)) ends
+pub known_ends : (D : Does) (r : Result EventOutcome Halt) (w : RuleWorld) (m : ℕ) (v u : Option RunningMote) (a b : Device) (x known : Bool) → x ≡ known → known ≡ true → OutcomeEnds r w m D (host a v) (host b u)
+    → OutcomeEnds r w m (if x then D else Refuses cause.Image) (host a v) (host b u)
+known_ends D r w m v u a b x known same is ends = subst (λ (y : Bool). OutcomeEnds r w m (if y then D else Refuses cause.Image) (host a v) (host b u)) (sym (same ∙ is)) ends
 
-pub unknown_ends : (D : Does) (w : RuleWorld) (m : ℕ) (v : Option RunningMote) (a : Device) (x known : Bool) → x ≡ known → known ≡ false → Looked a a → TurnEnds (Ok (Refused cause.Image)) w m (if x then D else Refuses cause.Image) (host a v) (host a v)
+pub unknown_ends : (D : Does) (w : RuleWorld) (m : ℕ) (v : Option RunningMote) (a : Device) (x known : Bool) → x ≡ known → known ≡ false → Looked a a → OutcomeEnds (Ok (Refused cause.Image)) w m (if x then D else Refuses cause.Image) (host a v) (host a v)
 unknown_ends D w m v a x known same is looked = (ap (λ (y : Bool). if y then D else Refuses cause.Image) (same ∙ is), looked, refl)
 
 -- which images a mote knows, by its width

@@ -29,7 +29,7 @@ use Rattle.dg_script.specs.declared.report.Report.{Report}
 use Rattle.dg_script.specs.declared.report.Report.TheVariants.{Off, Refused as RefusedLine}
 use Rattle.dg_world.specs.Airs.{sent_now}
 use Rattle.dg_world.specs.Worlds.{MoteStands, SiteStands}
-use Rattle.dg_world.specs.Turns.{turn_frame, turn_lines}
+use Rattle.dg_world.specs.OutcomeEndings.{outcome_frame, outcome_lines}
 use Rattle.dg_world.specs.Cuts.{EventIsWhole, EventIsCut, EventPlayed}
 use Rattle.dg_world.specs.Hosts.{host}
 use Rattle.dg_world.specs.Stepped.{CutChangesAre, StepDone, Stepped, station}
@@ -41,7 +41,7 @@ use Rattle.dg_world.specs.declared.outcome.Fault.TheVariants as fault
 use Rattle.dg_world.specs.Outcomes.{halt_of, stepped}
 use Rattle.dg_world.proofs.ChipReportLemmas.{cut_told}
 use Rattle.dg_world.proofs.StepLemmas.{ReadAndTold}
-use Rattle.dg_world.specs.Turn.{EventTurn, Refused, Rests, Sends, Changes, Starts, Whole, Cut, Halt, Stopped, NotAVolume, NoImage}
+use Rattle.dg_world.specs.EventOutcomes.{EventOutcome, Refused, Unreported, Sends, Changes, Starts, Whole, Cut, Halt, Stopped, NotAVolume, NoImage}
 
 same_deed : (d e : Deed) → Goes d ≡ Goes e → d ≡ e
 same_deed d e h = cc
@@ -95,7 +95,7 @@ none_sent w m (Some frame) e = absurd cc
 -- ---- what ended the event
 
 pub refused_done : (w : RuleWorld) (x : Step) (reported : Bool) (v u : Option RunningMote) (frame : Option (List ℕ)) (why : Cause) (a b : Device) (start end : List Report) → mote_of x.event < length w.sites
-    → SiteStands a v (site w (mote_of x.event)) → does w x.event ≡ Refuses why → b.image ≡ a.image → u ≡ v → frame ≡ turn_frame (Refused why) → end ≡ start ++ filter (is_reported reported) (turn_lines (mote_of x.event) (Refused why))
+    → SiteStands a v (site w (mote_of x.event)) → does w x.event ≡ Refuses why → b.image ≡ a.image → u ≡ v → frame ≡ outcome_frame (Refused why) → end ≡ start ++ filter (is_reported reported) (outcome_lines (mote_of x.event) (Refused why))
     → StepDone w x reported frame start (station b u end)
 refused_done w x reported v u frame why a b start end known stands is same at none told =
     let here = site w (mote_of x.event) in
@@ -118,9 +118,9 @@ refused_done w x reported v u frame why a b start end known stands is same at no
       memory = λ d r goes whole some. absurd (refuses_goes why d (sym is ∙ goes));
     }
 
-pub whole_done : (w : RuleWorld) (x : Step) (reported : Bool) (u : Option RunningMote) (frame : Option (List ℕ)) (turn : EventTurn) (b : Device) (start end : List Report)
-    → EventIsWhole w (mote_of x.event) (does w x.event) x.cut u b.image turn → frame ≡ turn_frame turn → end ≡ start ++ filter (is_reported reported) (turn_lines (mote_of x.event) turn) → StepDone w x reported frame start (station b u end)
-whole_done w x reported u frame turn b start end is sends told =
+pub whole_done : (w : RuleWorld) (x : Step) (reported : Bool) (u : Option RunningMote) (frame : Option (List ℕ)) (outcome : EventOutcome) (b : Device) (start end : List Report)
+    → EventIsWhole w (mote_of x.event) (does w x.event) x.cut u b.image outcome → frame ≡ outcome_frame outcome → end ≡ start ++ filter (is_reported reported) (outcome_lines (mote_of x.event) outcome) → StepDone w x reported frame start (station b u end)
+whole_done w x reported u frame outcome b start end is sends told =
     let m = mote_of x.event in
     let d = is.deed in
     let here : Site = record { store = last d.trail; runs = is.tells.runs } in
@@ -173,15 +173,15 @@ cut_done w x reported before b c start mid end is lines off same =
 
 -- ---- what the step ends with
 
-pub step_turn : (w : RuleWorld) (x : Step) (reported : Bool) (v u : Option RunningMote) (frame : Option (List ℕ)) (turn : EventTurn) (a b : Device) (start end : List Report) → mote_of x.event < length w.sites → SiteStands a v (site w (mote_of x.event))
-    → EventPlayed (Ok (Whole turn)) w (mote_of x.event) (does w x.event) x.cut (host a v) (host b u) → frame ≡ turn_frame turn → end ≡ start ++ filter (is_reported reported) (turn_lines (mote_of x.event) turn)
+pub step_outcome : (w : RuleWorld) (x : Step) (reported : Bool) (v u : Option RunningMote) (frame : Option (List ℕ)) (outcome : EventOutcome) (a b : Device) (start end : List Report) → mote_of x.event < length w.sites → SiteStands a v (site w (mote_of x.event))
+    → EventPlayed (Ok (Whole outcome)) w (mote_of x.event) (does w x.event) x.cut (host a v) (host b u) → frame ≡ outcome_frame outcome → end ≡ start ++ filter (is_reported reported) (outcome_lines (mote_of x.event) outcome)
     → Stepped (Ok frame) w x reported (station a v start) (station b u end)
-step_turn w x reported v u frame (Refused why) a b start end known stands p sends told =
+step_outcome w x reported v u frame (Refused why) a b start end known stands p sends told =
     record { ends = refused_done w x reported v u frame why a b start end known stands p.ends.0 p.ends.1 p.ends.2 sends told; endures = p.endures; count = p.count }
-step_turn w x reported v u frame Rests a b start end known stands p sends told = record { ends = whole_done w x reported u frame Rests b start end p.ends sends told; endures = p.endures; count = p.count }
-step_turn w x reported v u frame (Sends f) a b start end known stands p sends told = record { ends = whole_done w x reported u frame (Sends f) b start end p.ends sends told; endures = p.endures; count = p.count }
-step_turn w x reported v u frame (Changes k l) a b start end known stands p sends told = record { ends = whole_done w x reported u frame (Changes k l) b start end p.ends sends told; endures = p.endures; count = p.count }
-step_turn w x reported v u frame (Starts k) a b start end known stands p sends told = record { ends = whole_done w x reported u frame (Starts k) b start end p.ends sends told; endures = p.endures; count = p.count }
+step_outcome w x reported v u frame Unreported a b start end known stands p sends told = record { ends = whole_done w x reported u frame Unreported b start end p.ends sends told; endures = p.endures; count = p.count }
+step_outcome w x reported v u frame (Sends f) a b start end known stands p sends told = record { ends = whole_done w x reported u frame (Sends f) b start end p.ends sends told; endures = p.endures; count = p.count }
+step_outcome w x reported v u frame (Changes k l) a b start end known stands p sends told = record { ends = whole_done w x reported u frame (Changes k l) b start end p.ends sends told; endures = p.endures; count = p.count }
+step_outcome w x reported v u frame (Starts k) a b start end known stands p sends told = record { ends = whole_done w x reported u frame (Starts k) b start end p.ends sends told; endures = p.endures; count = p.count }
 
 -- the operations before a cut that blows are some of the event's
 blown_within : (cut : Option PowerCut) (t : Trail Store) → blows cut t ≡ true → before_cut cut ≤ operations t

@@ -5,7 +5,7 @@ use Rattle.std.specs.Map.{lookup}
 use Rattle.std.specs.BTreeMap.{get, is_at}
 use Rattle.std.proofs.lemmas.Bool.Decides.{nat_tests}
 use Rattle.dg_object.specs.Object.{Row}
-use Rattle.dg_volume.specs.Table.{row_at, has_version}
+use Rattle.dg_volume.specs.Table.{row_at, has_image_version}
 use Rattle.dg_rules.specs.Changes.{same_row, is_taken}
 use Rattle.dg_base.specs.declared.events.ImageVersion.{ImageVersion}
 use Rattle.dg_base.specs.contracts.events.ImageVersionOrd.TheImpl.{cmp-value}
@@ -14,15 +14,15 @@ use Rattle.dg_world.specs.declared.images.Image.{Image}
 use Rattle.dg_world.specs.declared.images.Images.{Images}
 
 -- the order of image versions
-abbrev pub version_cmp : ImageVersion → ImageVersion → Ordering
-version_cmp = cmp-value.it
+abbrev pub image_version_cmp : ImageVersion → ImageVersion → Ordering
+image_version_cmp = cmp-value.it
 
-same_test : (k q : ImageVersion) → is_at (version_cmp k) q ≡ is_image_version k q
+same_test : (k q : ImageVersion) → is_at (image_version_cmp k) q ≡ is_image_version k q
 same_test k q = grind (arith, nat_tests)
 
-same_found : (q : ImageVersion) (es : List (ImageVersion × Image)) → lookup (is_at (version_cmp q)) es ≡ lookup (is_image_version q) es
+same_found : (q : ImageVersion) (es : List (ImageVersion × Image)) → lookup (is_at (image_version_cmp q)) es ≡ lookup (is_image_version q) es
 same_found q [] = refl
-same_found q (e ∷ es) = ap (λ (b : Bool). cond b (Some e.1) (lookup (is_at (version_cmp q)) es)) (same_test q e.0) ∙ ap (λ (r : Option Image). cond (is_image_version q e.0) (Some e.1) r) (same_found q es)
+same_found q (e ∷ es) = ap (λ (b : Bool). cond b (Some e.1) (lookup (is_at (image_version_cmp q)) es)) (same_test q e.0) ∙ ap (λ (r : Option Image). cond (is_image_version q e.0) (Some e.1) r) (same_found q es)
 
 -- what is found where a row stands behind the others
 behind : Option Row → Bool → Row → Option Row
@@ -34,10 +34,10 @@ unfolding behind
 behind_step true c x row r s e = refl
 behind_step false c x row r s e = e
 
-row_behind : (rows : List Row) (row : Row) (i v : ℕ) → row_at (rows ++ row ∷ []) i v ≡ behind (row_at rows i v) (has_version i v row) row
+row_behind : (rows : List Row) (row : Row) (i v : ℕ) → row_at (rows ++ row ∷ []) i v ≡ behind (row_at rows i v) (has_image_version i v row) row
 unfolding behind
 row_behind [] row i v = refl
-row_behind (x ∷ rows) row i v = behind_step (has_version i v x) (has_version i v row) x row _ _ (row_behind rows row i v)
+row_behind (x ∷ rows) row i v = behind_step (has_image_version i v x) (has_image_version i v row) x row _ _ (row_behind rows row i v)
 
 behind_other : (s : Option Row) (row : Row) → behind s false row ≡ s
 unfolding behind
@@ -60,8 +60,8 @@ and-right : (a b : Bool) → (a && b) ≡ true → b ≡ true
 and-right true b e = e
 and-right false b e = cc
 
-same_version_is : (k : ImageVersion) (i v : ℕ) → is_image_version k (record { image = i; version = v }) ≡ true → record { image = i; version = v } ≡ k
-same_version_is k i v is =
+same_image_version_is : (k : ImageVersion) (i v : ℕ) → is_image_version k (record { image = i; version = v }) ≡ true → record { image = i; version = v } ≡ k
+same_image_version_is k i v is =
     let e : i ≡ k.image = sym (eqb-true k.image i (and-left (k.image == i) (k.version == v) is)) in
     let f : v ≡ k.version = sym (eqb-true k.version v (and-right (k.image == i) (k.version == v) is)) in
     let P : ℕ → ℕ → ImageVersion = λ a b. record { image = a; version = b } in
@@ -69,26 +69,26 @@ same_version_is k i v is =
 
 -- an image that is added is declared behind the others
 pub added : (old new : Images) (image_version : ImageVersion) (image : Image) (rows : List Row)
-    → ((q : ImageVersion) → get version_cmp new.by_version q ≡ cond (is_at (version_cmp image_version) q) (Some image) (get version_cmp old.by_version q))
+    → ((q : ImageVersion) → get image_version_cmp new.by_image_version q ≡ cond (is_at (image_version_cmp image_version) q) (Some image) (get image_version_cmp old.by_image_version q))
     → found old image_version ≡ None → Declares old rows → Declares new (rows ++ row_of_image image_version image ∷ [])
 added old new image_version image rows put fresh declares =
     let at : (q : ImageVersion) → found new q ≡ cond (is_image_version image_version q) (Some image) (found old q) =
-    λ q. sym (same_found q new.by_version.entries) ∙ put q ∙ ap (λ (b : Bool). cond b (Some image) (get version_cmp old.by_version q)) (same_test image_version q)
-    ∙ ap (λ (r : Option Image). cond (is_image_version image_version q) (Some image) r) (same_found q old.by_version.entries) in
+    λ q. sym (same_found q new.by_image_version.entries) ∙ put q ∙ ap (λ (b : Bool). cond b (Some image) (get image_version_cmp old.by_image_version q)) (same_test image_version q)
+    ∙ ap (λ (r : Option Image). cond (is_image_version image_version q) (Some image) r) (same_found q old.by_image_version.entries) in
     record {
       each = λ i v. let q : ImageVersion = record { image = i; version = v } in
           ap (option_map (row_of_image q)) (at q)
           ∙ put_at (is_image_version image_version q) image_version q image (found old q) (row_at rows i v) (declares.each i v)
-          (λ is. sym (declares.each i v) ∙ ap (option_map (row_of_image q)) (ap (found old) (same_version_is image_version i v is) ∙ fresh))
-          (λ is. same_version_is image_version i v is)
+          (λ is. sym (declares.each i v) ∙ ap (option_map (row_of_image q)) (ap (found old) (same_image_version_is image_version i v is) ∙ fresh))
+          (λ is. same_image_version_is image_version i v is)
           ∙ sym (row_behind rows (row_of_image image_version image) i v);
     }
 
-same_entries : (old new : Images) → new.by_version.entries ≡ old.by_version.entries → (q : ImageVersion) → found new q ≡ found old q
+same_entries : (old new : Images) → new.by_image_version.entries ≡ old.by_image_version.entries → (q : ImageVersion) → found new q ≡ found old q
 same_entries old new same q = ap (lookup (is_image_version q)) same
 
 -- where nothing changed the same rows are declared
-pub still_declared : (old new : Images) (rows : List Row) → new.by_version.entries ≡ old.by_version.entries → Declares old rows → Declares new rows
+pub still_declared : (old new : Images) (rows : List Row) → new.by_image_version.entries ≡ old.by_image_version.entries → Declares old rows → Declares new rows
 still_declared old new rows same declares = record { each = λ i v. let q : ImageVersion = record { image = i; version = v } in ap (option_map (row_of_image q)) (same_entries old new same q) ∙ declares.each i v }
 
 -- ---- what is found

@@ -22,11 +22,11 @@ use Rattle.std.proofs.lemmas.Option.{same_Some}
 use Rattle.dg_base.specs.declared.events.Cut.{Cut as PowerCut}
 use Rattle.dg_base.specs.declared.events.Event.TheVariants.{Tick, Hear, Last, Reset, Inject, Order as OrderEvent, Frame}
 use Rattle.dg_world.specs.Worlds.{MoteStands}
-use Rattle.dg_world.specs.Turn.{EventTurn, Refused, Rests, Sends, Changes, Starts, Whole}
-use Rattle.dg_world.specs.Turns.{TurnEnds}
+use Rattle.dg_world.specs.EventOutcomes.{EventOutcome, Refused, Unreported, Sends, Changes, Starts, Whole}
+use Rattle.dg_world.specs.OutcomeEndings.{OutcomeEnds}
 use Rattle.dg_world.specs.Cuts.{PlayEnds, ended}
 use Rattle.dg_world.specs.Hosts.{host}
-use Rattle.dg_world.specs.Outcomes.{turn_by, turn_of, halt_of, turned, ended_as}
+use Rattle.dg_world.specs.Outcomes.{outcome_by, outcome_of, halt_of, as_outcome, ended_as}
 use Rattle.dg_world.specs.declared.chip_report.ChipReport.{ChipReport}
 use Rattle.dg_world.specs.declared.outcome.StartLine.{StartLine}
 use Rattle.dg_world.specs.declared.outcome.Power.{Power}
@@ -144,7 +144,7 @@ when_ok (Err f) x ok = absurd ok
 
 -- ---- what a step sees
 
-undeclared : (turn : EventTurn) (D : Does) → IsUndeclared turn → ((why : Cause) → turn ≡ Refused why → D ≡ Refuses why) → IsLookedInto D → ⊥
+undeclared : (outcome : EventOutcome) (D : Does) → IsUndeclared outcome → ((why : Cause) → outcome ≡ Refused why → D ≡ Refuses why) → IsLookedInto D → ⊥
 undeclared (Refused cause.Image) D x refused made = made.declared (refused cause.Image refl)
 undeclared (Refused cause.Reserved) D x refused made = made.not_reserved (refused cause.Reserved refl)
 undeclared (Refused cause.Off) D x refused made = x
@@ -156,40 +156,40 @@ undeclared (Refused (cause.Stale version)) D x refused made = x
 undeclared (Refused cause.Taken) D x refused made = x
 undeclared (Refused (cause.Worn room)) D x refused made = x
 undeclared (Refused (cause.OldOrder number)) D x refused made = x
-undeclared Rests D x refused made = x
+undeclared Unreported D x refused made = x
 undeclared (Sends bytes) D x refused made = x
 undeclared (Changes old new) D x refused made = x
 undeclared (Starts line) D x refused made = x
 
 module _ (w : RuleWorld) (known : Bool) (u : Option RunningMote) (c d : List ℕ) where
-  inject_sees : (m image version dt draw : ℕ) (o : Option Bool) (turn : EventTurn) → SeesInjected o turn c d → ((why : Cause) → turn ≡ Refused why → does w (Inject m image version dt draw) ≡ Refuses why) → StepSees w (Inject m image version dt draw) known o u c d
-  inject_sees m image version dt draw (Some o) turn x refused = x
-  inject_sees m image version dt draw None turn x refused = λ off. (λ is. x.0, λ made. undeclared turn (does w (Inject m image version dt draw)) x.1 refused made)
+  inject_sees : (m image version dt draw : ℕ) (o : Option Bool) (outcome : EventOutcome) → SeesInjected o outcome c d → ((why : Cause) → outcome ≡ Refused why → does w (Inject m image version dt draw) ≡ Refuses why) → StepSees w (Inject m image version dt draw) known o u c d
+  inject_sees m image version dt draw (Some o) outcome x refused = x
+  inject_sees m image version dt draw None outcome x refused = λ off. (λ is. x.0, λ made. undeclared outcome (does w (Inject m image version dt draw)) x.1 refused made)
 
-  order_sees : (m number image version dt draw : ℕ) (o : Option Bool) (turn : EventTurn) → SeesInjected o turn c d → ((why : Cause) → turn ≡ Refused why → does w (OrderEvent m number image version dt draw) ≡ Refuses why) → StepSees w (OrderEvent m number image version dt draw) known o u c d
-  order_sees m number image version dt draw (Some o) turn x refused = x
-  order_sees m number image version dt draw None turn x refused = λ off. (λ is. x.0, λ made. undeclared turn (does w (OrderEvent m number image version dt draw)) x.1 refused made)
+  order_sees : (m number image version dt draw : ℕ) (o : Option Bool) (outcome : EventOutcome) → SeesInjected o outcome c d → ((why : Cause) → outcome ≡ Refused why → does w (OrderEvent m number image version dt draw) ≡ Refuses why) → StepSees w (OrderEvent m number image version dt draw) known o u c d
+  order_sees m number image version dt draw (Some o) outcome x refused = x
+  order_sees m number image version dt draw None outcome x refused = λ off. (λ is. x.0, λ made. undeclared outcome (does w (OrderEvent m number image version dt draw)) x.1 refused made)
 
-  pub step_sees : (e : Event) (t : Outcome) → EventSees e t u c d → ((why : Cause) → turn_of t ≡ Refused why → does w e ≡ Refuses why) → StepSees w e known t.orderly u c d
+  pub step_sees : (e : Event) (t : Outcome) → EventSees e t u c d → ((why : Cause) → outcome_of t ≡ Refused why → does w e ≡ Refuses why) → StepSees w e known t.orderly u c d
   step_sees (Tick m dt draw) t x refused = subst (λ (o : Option Bool). StepSees w (Tick m dt draw) known o u c d) (sym x.untold) (λ off. (λ is. x.off off, λ made. made))
   step_sees (Hear m dt draw frame) t x refused = subst (λ (o : Option Bool). StepSees w (Hear m dt draw frame) known o u c d) (sym x.untold) (λ off. (λ is. x.off off, λ made. made))
   step_sees (Last from to dt draw) t x refused = subst (λ (o : Option Bool). StepSees w (Last from to dt draw) known o u c d) (sym x.untold) (λ off. (λ is. x.off off, λ made. made))
   step_sees (Frame m dt draw bytes) t x refused = subst (λ (o : Option Bool). StepSees w (Frame m dt draw bytes) known o u c d) (sym x.untold) (λ off. (λ is. x.off off, λ made. made))
   step_sees (Reset m dt draw) t x refused = subst (λ (o : Option Bool). StepSees w (Reset m dt draw) known o u c d) (sym x.untold) (λ off. absurd (x.on off))
-  step_sees (Inject m image version dt draw) t x refused = inject_sees m image version dt draw t.orderly (turn_of t) x refused
-  step_sees (OrderEvent m number image version dt draw) t x refused = order_sees m number image version dt draw t.orderly (turn_of t) x refused
+  step_sees (Inject m image version dt draw) t x refused = inject_sees m image version dt draw t.orderly (outcome_of t) x refused
+  step_sees (OrderEvent m number image version dt draw) t x refused = order_sees m number image version dt draw t.orderly (outcome_of t) x refused
 
   -- behind a cut that blew: the board was looked at, or was neither known nor made so
   pub cut_sees : (e : Event) (o : Option Bool) → SeesCut w e known o d → StepSees w e known o u c d
   cut_sees e (Some o) x = x
   cut_sees e None x = λ off. (λ is. absurd (x.0 is), x.1)
 
--- which turn a refusal is
-pub turn_refused : (w : RuleWorld) (m : ℕ) (D : Does) (v u : Option RunningMote) (a b : Device) (turn : EventTurn) → TurnEnds (Ok turn) w m D (host a v) (host b u) → (why : Cause) → turn ≡ Refused why → D ≡ Refuses why
-turn_refused w m D v u a b turn ends why is = let x : TurnEnds (Ok (Refused why)) w m D (host a v) (host b u) = subst (λ (y : EventTurn). TurnEnds (Ok y) w m D (host a v) (host b u)) is ends in x.0
+-- which outcome a refusal is
+pub outcome_refused : (w : RuleWorld) (m : ℕ) (D : Does) (v u : Option RunningMote) (a b : Device) (outcome : EventOutcome) → OutcomeEnds (Ok outcome) w m D (host a v) (host b u) → (why : Cause) → outcome ≡ Refused why → D ≡ Refuses why
+outcome_refused w m D v u a b outcome ends why is = let x : OutcomeEnds (Ok (Refused why)) w m D (host a v) (host b u) = subst (λ (y : EventOutcome). OutcomeEnds (Ok y) w m D (host a v) (host b u)) is ends in x.0
 
-pub play_refused : (w : RuleWorld) (m : ℕ) (D : Does) (cut : Option PowerCut) (v u : Option RunningMote) (a b : Device) (turn : EventTurn) → PlayEnds (Ok (Whole turn)) w m D cut (host a v) (host b u) → (why : Cause) → turn ≡ Refused why → D ≡ Refuses why
-play_refused w m D cut v u a b turn ends why is = let x : PlayEnds (Ok (Whole (Refused why))) w m D cut (host a v) (host b u) = subst (λ (y : EventTurn). PlayEnds (Ok (Whole y)) w m D cut (host a v) (host b u)) is ends in x.0
+pub play_refused : (w : RuleWorld) (m : ℕ) (D : Does) (cut : Option PowerCut) (v u : Option RunningMote) (a b : Device) (outcome : EventOutcome) → PlayEnds (Ok (Whole outcome)) w m D cut (host a v) (host b u) → (why : Cause) → outcome ≡ Refused why → D ≡ Refuses why
+play_refused w m D cut v u a b outcome ends why is = let x : PlayEnds (Ok (Whole (Refused why))) w m D cut (host a v) (host b u) = subst (λ (y : EventOutcome). PlayEnds (Ok (Whole y)) w m D cut (host a v) (host b u)) is ends in x.0
 
 pub refuses_goes : (A : Type 0) (D : Does) (why : Cause) → (d : Deed) → D ≡ Goes d → D ≡ Refuses why → A
 refuses_goes A D why d goes refuses = let e : Goes d ≡ Refuses why = sym goes ∙ refuses in absurd cc
@@ -197,21 +197,21 @@ refuses_goes A D why d goes refuses = let e : Goes d ≡ Refuses why = sym goes 
 same_refusal : (x y : Cause) → Refuses x ≡ Refuses y → x ≡ y
 same_refusal x y e = cc
 
-pub refused_turn : (w : RuleWorld) (m : ℕ) (D : Does) (v u : Option RunningMote) (a b : Device) (turn : EventTurn) → TurnEnds (Ok turn) w m D (host a v) (host b u) → (why : Cause) → D ≡ Refuses why → turn ≡ Refused why
-refused_turn w m D v u a b (Refused x) ends why is = ap Refused (same_refusal x why (sym ends.0 ∙ is))
-refused_turn w m D v u a b Rests ends why is = refuses_goes _ D why ends.deed ends.goes is
-refused_turn w m D v u a b (Sends bytes) ends why is = refuses_goes _ D why ends.deed ends.goes is
-refused_turn w m D v u a b (Changes p q) ends why is = refuses_goes _ D why ends.deed ends.goes is
-refused_turn w m D v u a b (Starts x) ends why is = refuses_goes _ D why ends.deed ends.goes is
+pub refused_outcome : (w : RuleWorld) (m : ℕ) (D : Does) (v u : Option RunningMote) (a b : Device) (outcome : EventOutcome) → OutcomeEnds (Ok outcome) w m D (host a v) (host b u) → (why : Cause) → D ≡ Refuses why → outcome ≡ Refused why
+refused_outcome w m D v u a b (Refused x) ends why is = ap Refused (same_refusal x why (sym ends.0 ∙ is))
+refused_outcome w m D v u a b Unreported ends why is = refuses_goes _ D why ends.deed ends.goes is
+refused_outcome w m D v u a b (Sends bytes) ends why is = refuses_goes _ D why ends.deed ends.goes is
+refused_outcome w m D v u a b (Changes p q) ends why is = refuses_goes _ D why ends.deed ends.goes is
+refused_outcome w m D v u a b (Starts x) ends why is = refuses_goes _ D why ends.deed ends.goes is
 
-pub refused_play : (w : RuleWorld) (m : ℕ) (D : Does) (cut : Option PowerCut) (v u : Option RunningMote) (a b : Device) (turn : EventTurn) → PlayEnds (Ok (Whole turn)) w m D cut (host a v) (host b u) → (why : Cause) → D ≡ Refuses why → turn ≡ Refused why
+pub refused_play : (w : RuleWorld) (m : ℕ) (D : Does) (cut : Option PowerCut) (v u : Option RunningMote) (a b : Device) (outcome : EventOutcome) → PlayEnds (Ok (Whole outcome)) w m D cut (host a v) (host b u) → (why : Cause) → D ≡ Refuses why → outcome ≡ Refused why
 refused_play w m D cut v u a b (Refused x) ends why is = ap Refused (same_refusal x why (sym ends.0 ∙ is))
-refused_play w m D cut v u a b Rests ends why is = refuses_goes _ D why ends.deed ends.goes is
+refused_play w m D cut v u a b Unreported ends why is = refuses_goes _ D why ends.deed ends.goes is
 refused_play w m D cut v u a b (Sends bytes) ends why is = refuses_goes _ D why ends.deed ends.goes is
 refused_play w m D cut v u a b (Changes p q) ends why is = refuses_goes _ D why ends.deed ends.goes is
 refused_play w m D cut v u a b (Starts x) ends why is = refuses_goes _ D why ends.deed ends.goes is
 
-told_by : (o : Option (List ℕ)) (r : Option Cause) (x : Option StartLine) (a b : Option ChipReport) (why : Cause) → turn_by o r x a b ≡ Refused why → r ≡ Some why
+told_by : (o : Option (List ℕ)) (r : Option Cause) (x : Option StartLine) (a b : Option ChipReport) (why : Cause) → outcome_by o r x a b ≡ Refused why → r ≡ Some why
 told_by (Some bytes) r x a b why e = absurd cc
 told_by None (Some y) x a b why e = cc
 told_by None None (Some x) a b why e = absurd cc
@@ -219,7 +219,7 @@ told_by None None None (Some p) (Some q) why e = absurd cc
 told_by None None None (Some p) None why e = absurd cc
 told_by None None None None b why e = absurd cc
 
-pub refused_told : (t : Outcome) (why : Cause) → turn_of t ≡ Refused why → t.refused ≡ Some why
+pub refused_told : (t : Outcome) (why : Cause) → outcome_of t ≡ Refused why → t.refused ≡ Some why
 refused_told t why e = told_by (sent_in t.outbox) t.refused t.started t.before t.after why e
 
 -- ---- what a step reads
@@ -276,16 +276,16 @@ reads_over (OrderEvent m number image version dt draw) known p q o x y a b done 
   bytes = λ n k here after. r.bytes n k (subst (λ (c : List ℕ). RemountBytes c n) (sym is) here) (subst (λ (c : List ℕ). RemountBytes c k) (sym js) after);
 }
 
-stays_by : (f : Fault) (b : Bool) (before : Option ChipReport) (turn : EventTurn) → Ok (Whole turn) ≡ ended b (Err (halt_of f before)) → ⊥
-stays_by fault.Stopped true before turn e = cc
-stays_by fault.Stopped false before turn e = cc
-stays_by fault.NotAVolume b before turn e = cc
-stays_by fault.NoImage b before turn e = cc
+stays_by : (f : Fault) (b : Bool) (before : Option ChipReport) (outcome : EventOutcome) → Ok (Whole outcome) ≡ ended b (Err (halt_of f before)) → ⊥
+stays_by fault.Stopped true before outcome e = cc
+stays_by fault.Stopped false before outcome e = cc
+stays_by fault.NotAVolume b before outcome e = cc
+stays_by fault.NoImage b before outcome e = cc
 
 -- where the power stays on, the event was done
-pub stays_done : (r : Result Power Fault) (done : Result (Unit {0}) Fault) (b : Bool) (t : Outcome) → ended_as r t ≡ ended b (turned done t) → r ≡ Ok power.Stays → OnErr done ⊥
+pub stays_done : (r : Result Power Fault) (done : Result (Unit {0}) Fault) (b : Bool) (t : Outcome) → ended_as r t ≡ ended b (as_outcome done t) → r ≡ Ok power.Stays → OnErr done ⊥
 stays_done r (Ok y) b t e is = tt
-stays_done r (Err f) b t e is = stays_by f b t.before (turn_of t) (sym (ap (λ (q : Result Power Fault). ended_as q t) is) ∙ e)
+stays_done r (Err f) b t e is = stays_by f b t.before (outcome_of t) (sym (ap (λ (q : Result Power Fault). ended_as q t) is) ∙ e)
 
 -- ---- what is known then
 

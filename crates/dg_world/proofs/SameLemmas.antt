@@ -24,7 +24,7 @@ use Rattle.dg_frame.specs.declared.FrameFault.{FrameFault}
 use Rattle.dg_frame.specs.declared.Message.{Message}
 use Rattle.dg_frame.specs.declared.Message.TheVariants.{Advert, Request, Packet, Wide}
 use Rattle.dg_bits.specs.Sets.{Numbers}
-use Rattle.dg_mote.specs.Model.{MoteState, Mode, Maintain, Receive, Transmit, Receiving, came, maintains, Turn}
+use Rattle.dg_mote.specs.Model.{MoteState, Mode, Maintain, Receive, Transmit, Receiving, came, maintains, MoteStep}
 use Rattle.dg_mote.specs.Summary.{is_own, own_order, same_order, same_entry, entry_for, entry_by, named, ahead_in}
 use Rattle.dg_mote.specs.Adverts.{better_trail, asks, asking, noting, by_ahead, advert_heard, dropped, on_advert, offer}
 use Rattle.dg_mote.specs.Requests.{overheard, to_it, on_request, page_request}
@@ -32,7 +32,7 @@ use Rattle.dg_mote.specs.Packets.{is_wanted, accepted, seal_by, takes, on_packet
 use Rattle.dg_mote.specs.Hears.{source_of, on_message, by_message, heard_of}
 use Rattle.dg_mote.specs.declared.mote.Heard.{Heard}
 use Rattle.dg_mote.specs.declared.mote.Heard.TheVariants.{Asks, Sealed, Bad}
-use Rattle.dg_world.specs.Turns.{SameReport, LeavesChip}
+use Rattle.dg_world.specs.OutcomeEndings.{SameReport, LeavesChip}
 use Rattle.dg_world.proofs.StartLemmas.{same_report}
 
 asks_other : (i : ℕ) (answer : Heard) {p : ℕ} → answer ≡ Asks i p → LeavesChip answer → ⊥
@@ -42,8 +42,8 @@ sealed_other : (i p : ℕ) → LeavesChip (Sealed i p) → ⊥
 sealed_other i p is = is
 
 -- an answer that is quiet comes with a trail of stores of which the same is reported
-abbrev IsCalm : Store → Turn Heard → Type 0
-IsCalm s turn = LeavesChip turn.answer → Through (SameReport s) turn.trail
+abbrev IsCalm : Store → MoteStep Heard → Type 0
+IsCalm s outcome = LeavesChip outcome.answer → Through (SameReport s) outcome.trail
 
 module _ (s : Store) where
   rests : (n : ℕ) → Through (SameReport s) (resting s n)
@@ -72,8 +72,8 @@ module _ (s : Store) where
       subst (Through (SameReport s)) (sym (ap (λ (b : Bool). cond (b && nat_le 1 s.room) (order_trail s order) (resting s 0)) (le-ltb s.order.number order.number (omega (arith, same))))) (rests 0)
 
   -- what is said of an advert that is heard behind this
-  abbrev IsOwn : Store → Bool → Turn Heard → Type 0
-  IsOwn x own turn = LeavesChip turn.answer → (own ≡ true) × (turn.trail ≡ resting x 0)
+  abbrev IsOwn : Store → Bool → MoteStep Heard → Type 0
+  IsOwn x own outcome = LeavesChip outcome.answer → (own ≡ true) × (outcome.trail ≡ resting x 0)
 
   noting_own : (m : MoteState) (timer : Timer) (x : Store) (now draw : ℕ) (own : Bool) → IsOwn x own (noting m timer x now draw own)
   noting_own m timer x now draw true = λ is. (refl, refl)
@@ -117,8 +117,8 @@ module _ (s : Store) where
   seal_calm : (o : Option Held) (m : MoteState) (r : Receiving) (now draw : ℕ) (page : List ℕ) → IsCalm s (seal_by o m r s now draw page)
   seal_calm None m r now draw page = λ is. rests 0
   seal_calm (Some h) m r now draw page =
-      let sealed : Turn Heard = record { mote = maintains m now draw; trail = joined (resting s 1) (stepping s 1 (paged r.image page s)); sent = None; answer = Sealed r.image r.page } in
-      let bad : Turn Heard = record { mote = maintains m now draw; trail = resting s 1; sent = None; answer = Bad r.image r.page } in
+      let sealed : MoteStep Heard = record { mote = maintains m now draw; trail = joined (resting s 1) (stepping s 1 (paged r.image page s)); sent = None; answer = Sealed r.image r.page } in
+      let bad : MoteStep Heard = record { mote = maintains m now draw; trail = resting s 1; sent = None; answer = Bad r.image r.page } in
       cond_both (may_seal r.image h page) sealed bad (IsCalm s) (λ _. λ is. absurd (sealed_other r.image r.page is)) (λ _. λ is. rests 1)
 
   takes_calm : (m : MoteState) (r : Receiving) (now draw q : ℕ) (bytes : List ℕ) → IsCalm s (takes m r s now draw q bytes)

@@ -31,7 +31,7 @@ use Rattle.dg_frame.specs.Spelling.{frame_of}
 use Rattle.dg_frame.specs.declared.Message.{Message}
 use Rattle.dg_boot.specs.Started.{Starts as BootStarts, Lacks}
 use Rattle.dg_boot.specs.declared.Started.{Started}
-use Rattle.dg_mote.specs.Model.{MoteState, Mode, Maintain, Receive, Transmit, Receiving, Sending, Turn, reception, begun_mote}
+use Rattle.dg_mote.specs.Model.{MoteState, Mode, Maintain, Receive, Transmit, Receiving, Sending, MoteStep, reception, begun_mote}
 use Rattle.dg_mote.specs.Ticks.{clears, maintain_by, receive_by, transmit_by, mode_tick, tick_of}
 use Rattle.dg_mote.specs.Hears.{heard_of}
 use Rattle.dg_mote.specs.Effects.{Effect, boot_by, boots, on, tick_by, tick_effect, frame_effect}
@@ -48,7 +48,7 @@ use Rattle.dg_script.specs.declared.report.Report.{Report}
 use Rattle.dg_script.specs.declared.report.Report.TheVariants.{Start}
 use Rattle.dg_world.specs.ChipReports.{IsReportOf}
 use Rattle.dg_world.specs.Worlds.{MoteStands}
-use Rattle.dg_world.specs.Turns.{SameReport, LeavesChip, BeginsOver, turn_frame, turn_sent, turn_lines, frame_lines, DeedWent, Lacked, TurnEnds}
+use Rattle.dg_world.specs.OutcomeEndings.{SameReport, LeavesChip, BeginsOver, outcome_frame, outcome_sent, outcome_lines, frame_lines, DeedWent, Lacked, OutcomeEnds}
 use Rattle.dg_world.specs.Hosts.{host}
 use Rattle.dg_world.specs.declared.starting.Begun.{Begun}
 use Rattle.dg_world.specs.declared.chip_report.ChipReport.{ChipReport}
@@ -60,14 +60,14 @@ use Rattle.dg_world.specs.Outcomes.{halt_of}
 use Rattle.dg_world.proofs.ChipReportLemmas.{changes_same, changes_are_reported}
 use Rattle.dg_world.proofs.StartLemmas.{boot_same, boot_same_from, clear_same, same_report, leaves_same}
 use Rattle.dg_world.proofs.SameLemmas.{heard_calm}
-use Rattle.dg_world.proofs.TurnLemmas.{failed, same_fault, start_after, halt_after}
-use Rattle.dg_world.specs.Turn.{EventTurn, Refused, Changes, Starts, Halt, Stopped, Rests}
+use Rattle.dg_world.proofs.OutcomeEndLemmas.{failed, same_fault, start_after, halt_after}
+use Rattle.dg_world.specs.EventOutcomes.{EventOutcome, Refused, Changes, Starts, Halt, Stopped, Unreported}
 
 -- ---- acts that are not reported
 
 -- a stop on a trail of stores of which the same is reported
 pub stopped_same : (w : RuleWorld) (m : ℕ) (does : Does) (v u : Option RunningMote) (a b : Device) → Through (SameReport (store_at w m)) (trail_of does (store_at w m)) → Stops (trail_of does (store_at w m)) a b
-    → TurnEnds (Err (Stopped None)) w m does (host a v) (host b u)
+    → OutcomeEnds (Err (Stopped None)) w m does (host a v) (host b u)
 stopped_same w m does v u a b through stops = record { stops = stops; is_report = λ whole blown k t l. leaves_same (store_at w m) (trail_of does (store_at w m)) k t through l }
 
 -- ---- starts
@@ -77,8 +77,8 @@ line_is : (m : ℕ) (x : StartLine) (told : Started) (r : Runs) → x.image_vers
     → Start m x.image_version.image x.image_version.version x.length x.crc ∷ [] ≡ start_line m (Some r)
 line_is m x told r image_version long crc i v l c = cc
 
-line_version_is : (x : StartLine) (told : Started) (r : Runs) → x.image_version ≡ record { image = told.image; version = told.version } → told.image ≡ r.image → told.version ≡ r.version → x.image_version ≡ image_version_of r
-line_version_is x told r image_version i v = cc
+line_image_version_is : (x : StartLine) (told : Started) (r : Runs) → x.image_version ≡ record { image = told.image; version = told.version } → told.image ≡ r.image → told.version ≡ r.version → x.image_version ≡ image_version_of r
+line_image_version_is x told r image_version i v = cc
 
 boot_trail : (o : Option Runs) (t : Trail Store) (id : ℕ) (wide : Bool) (now draw : ℕ) → (boot_by o t id wide now draw).trail ≡ t
 boot_trail None t id wide now draw = refl
@@ -95,7 +95,7 @@ module _ (w : RuleWorld) (m : ℕ) (k : StartCause) (id : ℕ) (wide : Bool) (no
   starts o = of_effect w (boot_by o t id wide now draw) old
 
   pub started : (v : Option RunningMote) (a b : Device) (told : Started) (x : Begun) → BeginsOver told id wide now draw x → BootStarts (boot k s) a b told
-      → TurnEnds (Ok (Starts x.line)) w m (of_effect w (boots k s id wide now draw) old) (host a v) (host b (Some x.running))
+      → OutcomeEnds (Ok (Starts x.line)) w m (of_effect w (boots k s id wide now draw) old) (host a v) (host b (Some x.running))
   started v a b told x over g =
       let r = g.runs in
       let e : changes m s (last t) ≡ [] = changes_same m s (last t) (Through-last (SameReport s) t (boot_same k s)) in
@@ -106,15 +106,15 @@ module _ (w : RuleWorld) (m : ℕ) (k : StartCause) (id : ℕ) (wide : Bool) (no
         tells = record {
           runs = Some (record { image_version = image_version_of r; mote = begun_mote id wide now draw });
           runs_then = refl;
-          mote = (over.image_version ∙ line_version_is x.line told r over.line_version g.image g.version, over.mote b.image (last t) g.acted.mounted);
-          lines = line_is m x.line told r over.line_version over.length over.crc g.image g.version g.length g.crc ∙ ap (λ (l : List Report). (l ++ start_line m (Some r)) ++ []) (sym e);
+          mote = (over.image_version ∙ line_image_version_is x.line told r over.line_image_version g.image g.version, over.mote b.image (last t) g.acted.mounted);
+          lines = line_is m x.line told r over.line_image_version over.length over.crc g.image g.version g.length g.crc ∙ ap (λ (l : List Report). (l ++ start_line m (Some r)) ++ []) (sym e);
           sent = refl;
           stands = g.acted.mounted.stands;
           memory = ap (program b.image) (sym g.pages) ∙ g.memory;
         };
       }
 
-  start_stopped : (v u : Option RunningMote) (a b : Device) → Stops t a b → TurnEnds (Err (Stopped None)) w m (of_effect w (boots k s id wide now draw) old) (host a v) (host b u)
+  start_stopped : (v u : Option RunningMote) (a b : Device) → Stops t a b → OutcomeEnds (Err (Stopped None)) w m (of_effect w (boots k s id wide now draw) old) (host a v) (host b u)
   start_stopped v u a b stops =
       let e : t ≡ (boots k s id wide now draw).trail = sym (boot_trail (boot k s).runs t id wide now draw) in
       stopped_same w m (of_effect w (boots k s id wide now draw) old) v u a b (subst (Through (SameReport s)) e (boot_same k s)) (subst (λ (x : Trail Store). Stops x a b) e stops)
@@ -129,7 +129,7 @@ module _ (w : RuleWorld) (m : ℕ) (k : StartCause) (id : ℕ) (wide : Bool) (no
   }
 
   abbrev Ends : (v u : Option RunningMote) (a b : Device) → Fault → Type 0
-  Ends v u a b f = TurnEnds (Err (halt_of f None)) w m (of_effect w (boots k s id wide now draw) old) (host a v) (host b u)
+  Ends v u a b f = OutcomeEnds (Err (halt_of f None)) w m (of_effect w (boots k s id wide now draw) old) (host a v) (host b u)
 
   pub begin_stopped : (T : Type 0) (f : Fault) (v u : Option RunningMote) (a b : Device) → failed T fault.Stopped ≡ failed T f → Stops t a b → Ends v u a b f
   begin_stopped T f v u a b is stops = subst (Ends v u a b) (same_fault T fault.Stopped f is) (start_stopped v u a b stops)
@@ -140,7 +140,7 @@ module _ (w : RuleWorld) (m : ℕ) (k : StartCause) (id : ℕ) (wide : Bool) (no
 -- ---- ticks
 
 module _ (s : Store) (now draw : ℕ) where
-  abbrev Same : Turn Did → Type 0
+  abbrev Same : MoteStep Did → Type 0
   Same step = Through (SameReport s) step.trail
 
   rests : Through (SameReport s) (resting s 0)
@@ -148,7 +148,7 @@ module _ (s : Store) (now draw : ℕ) where
 
   maintain_same : (a : Act) (m : MoteState) → Same (maintain_by a m s)
   maintain_same act.Send m = rests
-  maintain_same act.Quiet m = rests
+  maintain_same act.Suppressed m = rests
   maintain_same act.Expired m = rests
   maintain_same act.Nothing m = rests
 
@@ -172,10 +172,10 @@ module _ (s : Store) (now draw : ℕ) where
   unfolding tick_of
   tick_same m = cond_both (clears m s now) _ _ Same (λ _. clear_same s) (λ _. mode_same m.mode m)
 
-abbrev by_answer : Turn Did → (now draw : ℕ) → Did → Effect
+abbrev by_answer : MoteStep Did → (now draw : ℕ) → Did → Effect
 by_answer step now draw d = tick_by d step now draw
 
-acted_on : (step : Turn Did) (now draw : ℕ) (d : Did) → (d ≡ did.Sent) ⊎ (d ≡ did.Idle) → d ≡ step.answer → tick_by step.answer step now draw ≡ on step
+acted_on : (step : MoteStep Did) (now draw : ℕ) (d : Did) → (d ≡ did.Sent) ⊎ (d ≡ did.Idle) → d ≡ step.answer → tick_by step.answer step now draw ≡ on step
 acted_on step now draw d is same = ap (by_answer step now draw) (sym same) ∙ ⊎_elim (λ e. ap (by_answer step now draw) e) (λ e. ap (by_answer step now draw) e) is
 
 pub ticks_on : (m : MoteState) (s : Store) (now draw : ℕ) (d : Did) → (d ≡ did.Sent) ⊎ (d ≡ did.Idle) → d ≡ (tick_of m s now draw).answer → tick_effect m s now draw ≡ on (tick_of m s now draw)
@@ -192,30 +192,30 @@ reads_wider wide None wider read = read
 reads_wider wide (Some message) wider read = read_wider wide message wider read
 
 -- a frame in the outbox is told as the message that was sent
-sent_lines : (m : ℕ) (o : Option Message) → IfSome o (IsRead true) → turn_lines m (turn_sent (option_map frame_of o)) ≡ sent_line m o
+sent_lines : (m : ℕ) (o : Option Message) → IfSome o (IsRead true) → outcome_lines m (outcome_sent (option_map frame_of o)) ≡ sent_line m o
 sent_lines m None read = refl
 sent_lines m (Some message) read = ap (frame_lines m) read
 
-sent_frame : (o : Option (List ℕ)) → turn_frame (turn_sent o) ≡ o
+sent_frame : (o : Option (List ℕ)) → outcome_frame (outcome_sent o) ≡ o
 sent_frame None = refl
 sent_frame (Some bytes) = refl
 
-sent_turn : (o : Option (List ℕ)) (w : RuleWorld) (m : ℕ) (does : Does) (v u : Option RunningMote) (a b : Device) → DeedWent w m does u a b (turn_sent o) → TurnEnds (Ok (turn_sent o)) w m does (host a v) (host b u)
-sent_turn None w m does v u a b x = x
-sent_turn (Some bytes) w m does v u a b x = x
+sent_outcome : (o : Option (List ℕ)) (w : RuleWorld) (m : ℕ) (does : Does) (v u : Option RunningMote) (a b : Device) → DeedWent w m does u a b (outcome_sent o) → OutcomeEnds (Ok (outcome_sent o)) w m does (host a v) (host b u)
+sent_outcome None w m does v u a b x = x
+sent_outcome (Some bytes) w m does v u a b x = x
 
 module _ (w : RuleWorld) (m : ℕ) (r : Running) (now draw : ℕ) where
   abbrev here : Store
   here = store_at w m
 
-  abbrev step : Turn Did
+  abbrev step : MoteStep Did
   step = tick_of r.mote here now draw
 
   abbrev ticks : Does
   ticks = of_effect w (tick_effect r.mote here now draw) (Some r.image_version)
 
   tick_went : (v u : RunningMote) (a b : Device) (d : Did) (o : Option (List ℕ)) → (d ≡ did.Sent) ⊎ (d ≡ did.Idle) → v.image_version ≡ r.image_version → u.image_version ≡ v.image_version → Done step a b u.mote d → o ≡ option_map frame_of step.sent → IfSome step.sent (IsRead true)
-      → DeedWent w m ticks (Some u) a b (turn_sent o)
+      → DeedWent w m ticks (Some u) a b (outcome_sent o)
   tick_went v u a b d o is image_version same done sent read =
       let e : changes m here (last step.trail) ≡ [] = changes_same m here (last step.trail) (Through-last (SameReport here) step.trail (tick_same here now draw r.mote)) in
       record {
@@ -226,7 +226,7 @@ module _ (w : RuleWorld) (m : ℕ) (r : Running) (now draw : ℕ) where
           runs = Some (record { image_version = r.image_version; mote = step.mote });
           runs_then = refl;
           mote = (same ∙ image_version, done.mote);
-          lines = ap (λ (x : Option (List ℕ)). turn_lines m (turn_sent x)) sent ∙ sent_lines m step.sent read ∙ ap (λ (l : List Report). (l ++ []) ++ sent_line m step.sent) (sym e);
+          lines = ap (λ (x : Option (List ℕ)). outcome_lines m (outcome_sent x)) sent ∙ sent_lines m step.sent read ∙ ap (λ (l : List Report). (l ++ []) ++ sent_line m step.sent) (sym e);
           sent = sent_frame o ∙ sent;
           stands = done.mote.mounted.stands;
           memory = tt;
@@ -234,10 +234,10 @@ module _ (w : RuleWorld) (m : ℕ) (r : Running) (now draw : ℕ) where
       }
 
   -- it sends a frame, or rests
-  pub tick_acts : (v u : RunningMote) (a b : Device) (d : Did) (o : Option (List ℕ)) (turn : EventTurn) → turn ≡ turn_sent o → (d ≡ did.Sent) ⊎ (d ≡ did.Idle) → v.image_version ≡ r.image_version → u.image_version ≡ v.image_version → Done step a b u.mote d → o ≡ option_map frame_of step.sent
-      → IfSome step.sent (IsRead true) → TurnEnds (Ok turn) w m ticks (host a (Some v)) (host b (Some u))
-  tick_acts v u a b d o turn is_turn is image_version same done sent read =
-      subst (λ (x : EventTurn). TurnEnds (Ok x) w m ticks (host a (Some v)) (host b (Some u))) (sym is_turn) (sent_turn o w m ticks (Some v) (Some u) a b (tick_went v u a b d o is image_version same done sent read))
+  pub tick_acts : (v u : RunningMote) (a b : Device) (d : Did) (o : Option (List ℕ)) (outcome : EventOutcome) → outcome ≡ outcome_sent o → (d ≡ did.Sent) ⊎ (d ≡ did.Idle) → v.image_version ≡ r.image_version → u.image_version ≡ v.image_version → Done step a b u.mote d → o ≡ option_map frame_of step.sent
+      → IfSome step.sent (IsRead true) → OutcomeEnds (Ok outcome) w m ticks (host a (Some v)) (host b (Some u))
+  tick_acts v u a b d o outcome is_outcome is image_version same done sent read =
+      subst (λ (x : EventOutcome). OutcomeEnds (Ok x) w m ticks (host a (Some v)) (host b (Some u))) (sym is_outcome) (sent_outcome o w m ticks (Some v) (Some u) a b (tick_went v u a b d o is image_version same done sent read))
 
   -- ---- it is stopped
 
@@ -263,13 +263,13 @@ module _ (w : RuleWorld) (m : ℕ) (r : Running) (now draw : ℕ) where
       subst (λ (x : Trail Store). Stops (joined step.trail x) a b) (sym (boot_trail (boot start_cause.Order at).runs t step.mote.id step.mote.wide now draw))
       (Halted-joined_first Stands IsNear step.trail t begins.works (sym begins.first) stops)
 
-  pub tick_stopped : (v u : Option RunningMote) (a b : Device) → Stops step.trail a b → TurnEnds (Err (Stopped None)) w m ticks (host a v) (host b u)
+  pub tick_stopped : (v u : Option RunningMote) (a b : Device) → Stops step.trail a b → OutcomeEnds (Err (Stopped None)) w m ticks (host a v) (host b u)
   unfolding tick_effect
   tick_stopped v u a b stops = stopped_same w m ticks v u a b (first_same step.answer) (stops_first step.answer a b stops)
 
   -- ---- it restarts
 
-  abbrev rested : Turn Did
+  abbrev rested : MoteStep Did
   rested = record { mote = r.mote; trail = resting here 0; sent = None; answer = did.Restart }
 
   abbrev restarts : Does
@@ -287,45 +287,45 @@ module _ (w : RuleWorld) (m : ℕ) (r : Running) (now draw : ℕ) where
 
   restarts_is : step ≡ rested → ticks ≡ restarts
   unfolding tick_effect
-  restarts_is is = ap (λ (x : Effect). of_effect w x (Some r.image_version)) (ap (λ (x : Turn Did). tick_by x.answer x now draw) is ∙ effect_rested)
+  restarts_is is = ap (λ (x : Effect). of_effect w x (Some r.image_version)) (ap (λ (x : MoteStep Did). tick_by x.answer x now draw) is ∙ effect_rested)
 
   -- the chip stands for the same store when it starts
   pub restart_stands : (u : RunningMote) (a b : Device) → step ≡ rested → Done step a b u.mote did.Restart → Stands b.image here
   unfolding last_of
-  restart_stands u a b is done = subst (λ (x : Turn Did). Stands b.image (last x.trail)) is done.mote.mounted.stands
+  restart_stands u a b is done = subst (λ (x : MoteStep Did). Stands b.image (last x.trail)) is done.mote.mounted.stands
 
   ran_none : (u : RunningMote) (a b : Device) → step ≡ rested → Done step a b u.mote did.Restart → Ran 0 a b
-  ran_none u a b is done = subst (λ (n : ℕ). Ran n a b) (operations-resting here 0) (subst (λ (x : Turn Did). Ran (operations x.trail) a b) is done.ran)
+  ran_none u a b is done = subst (λ (n : ℕ). Ran n a b) (operations-resting here 0) (subst (λ (x : MoteStep Did). Ran (operations x.trail) a b) is done.ran)
 
   -- it starts with the number and the width that it had
   same_start : (u : RunningMote) (a b : Device) (id : ℕ) (wide : Bool) → id ≡ u.mote.id → wide ≡ u.mote.wide → step ≡ rested → Done step a b u.mote did.Restart → of_effect w (boots start_cause.Order here id wide now draw) (Some r.image_version) ≡ restarts
   same_start u a b id wide at width is done =
-      ap (λ (n : ℕ). of_effect w (boots start_cause.Order here n wide now draw) (Some r.image_version)) (at ∙ done.mote.id ∙ ap (λ (t : Turn Did). t.mote.id) is)
-      ∙ ap (λ (x : Bool). of_effect w (boots start_cause.Order here r.mote.id x now draw) (Some r.image_version)) (width ∙ done.mote.wide ∙ ap (λ (t : Turn Did). t.mote.wide) is)
+      ap (λ (n : ℕ). of_effect w (boots start_cause.Order here n wide now draw) (Some r.image_version)) (at ∙ done.mote.id ∙ ap (λ (t : MoteStep Did). t.mote.id) is)
+      ∙ ap (λ (x : Bool). of_effect w (boots start_cause.Order here r.mote.id x now draw) (Some r.image_version)) (width ∙ done.mote.wide ∙ ap (λ (t : MoteStep Did). t.mote.wide) is)
 
   pub restart_starts : (u : RunningMote) (x : Begun) (v : Option RunningMote) (a b c : Device) (id : ℕ) (wide : Bool) → id ≡ u.mote.id → wide ≡ u.mote.wide → step ≡ rested → Done step a b u.mote did.Restart
-      → TurnEnds (Ok (Starts x.line)) w m (of_effect w (boots start_cause.Order here id wide now draw) (Some r.image_version)) (host b v) (host c (Some x.running)) → TurnEnds (Ok (Starts x.line)) w m ticks (host a v) (host c (Some x.running))
+      → OutcomeEnds (Ok (Starts x.line)) w m (of_effect w (boots start_cause.Order here id wide now draw) (Some r.image_version)) (host b v) (host c (Some x.running)) → OutcomeEnds (Ok (Starts x.line)) w m ticks (host a v) (host c (Some x.running))
   restart_starts u x v a b c id wide at width is done ends =
-      subst (λ (y : Does). TurnEnds (Ok (Starts x.line)) w m y (host a v) (host c (Some x.running))) (same_start u a b id wide at width is done ∙ sym (restarts_is is))
+      subst (λ (y : Does). OutcomeEnds (Ok (Starts x.line)) w m y (host a v) (host c (Some x.running))) (same_start u a b id wide at width is done ∙ sym (restarts_is is))
       (start_after w m (of_effect w (boots start_cause.Order here id wide now draw) (Some r.image_version)) (Some x.running) a b c x.line (ran_none u a b is done) ends)
 
   pub restart_halts : (u : RunningMote) (h : Halt) (v n : Option RunningMote) (a b c : Device) (id : ℕ) (wide : Bool) → id ≡ u.mote.id → wide ≡ u.mote.wide → step ≡ rested → Done step a b u.mote did.Restart
-      → TurnEnds (Err h) w m (of_effect w (boots start_cause.Order here id wide now draw) (Some r.image_version)) (host b v) (host c n) → TurnEnds (Err h) w m ticks (host a v) (host c n)
+      → OutcomeEnds (Err h) w m (of_effect w (boots start_cause.Order here id wide now draw) (Some r.image_version)) (host b v) (host c n) → OutcomeEnds (Err h) w m ticks (host a v) (host c n)
   restart_halts u h v n a b c id wide at width is done ends =
-      subst (λ (y : Does). TurnEnds (Err h) w m y (host a v) (host c n)) (same_start u a b id wide at width is done ∙ sym (restarts_is is))
+      subst (λ (y : Does). OutcomeEnds (Err h) w m y (host a v) (host c n)) (same_start u a b id wide at width is done ∙ sym (restarts_is is))
       (halt_after h w m (of_effect w (boots start_cause.Order here id wide now draw) (Some r.image_version)) v n a b c (ran_none u a b is done) ends)
 
 -- ---- heard frames
 
 module _ (w : RuleWorld) (m : ℕ) (r : Running) (now draw : ℕ) (bytes : List ℕ) where
-  abbrev heard : Turn Heard
+  abbrev heard : MoteStep Heard
   heard = heard_of r.mote (store_at w m) now draw bytes
 
   abbrev hears : Does
   hears = of_effect w (frame_effect r.mote (store_at w m) now draw bytes) (Some r.image_version)
 
   pub hear_changes : (v u : RunningMote) (a b : Device) (d : Heard) (before after : ChipReport) → v.image_version ≡ r.image_version → u.image_version ≡ v.image_version → Done heard a b u.mote d → IsReportOf before (store_at w m) → IsReportOf after (last heard.trail)
-      → TurnEnds (Ok (Changes before after)) w m hears (host a (Some v)) (host b (Some u))
+      → OutcomeEnds (Ok (Changes before after)) w m hears (host a (Some v)) (host b (Some u))
   unfolding frame_effect
   hear_changes v u a b d before after image_version same done is_report is_report_after = record {
     deed = record { trail = heard.trail; table = w.table; started = None; sent = None; runs = Some (Some (record { image_version = r.image_version; mote = heard.mote })) };
@@ -343,7 +343,7 @@ module _ (w : RuleWorld) (m : ℕ) (r : Running) (now draw : ℕ) (bytes : List 
   }
 
   -- nothing changed that is reported
-  pub hear_rests : (v u : RunningMote) (a b : Device) (d : Heard) → v.image_version ≡ r.image_version → u.image_version ≡ v.image_version → Done heard a b u.mote d → LeavesChip d → TurnEnds (Ok Rests) w m hears (host a (Some v)) (host b (Some u))
+  pub hear_rests : (v u : RunningMote) (a b : Device) (d : Heard) → v.image_version ≡ r.image_version → u.image_version ≡ v.image_version → Done heard a b u.mote d → LeavesChip d → OutcomeEnds (Ok Unreported) w m hears (host a (Some v)) (host b (Some u))
   unfolding frame_effect
   hear_rests v u a b d image_version same done is =
       let through = heard_calm (store_at w m) r.mote now draw bytes (subst LeavesChip done.answers is) in
@@ -363,28 +363,28 @@ module _ (w : RuleWorld) (m : ℕ) (r : Running) (now draw : ℕ) (bytes : List 
         };
       }
 
-  pub hear_stopped : (v u : Option RunningMote) (a b : Device) (before : ChipReport) → Stops heard.trail a b → IsReportOf before (store_at w m) → TurnEnds (Err (Stopped (Some before))) w m hears (host a v) (host b u)
+  pub hear_stopped : (v u : Option RunningMote) (a b : Device) (before : ChipReport) → Stops heard.trail a b → IsReportOf before (store_at w m) → OutcomeEnds (Err (Stopped (Some before))) w m hears (host a v) (host b u)
   unfolding frame_effect
   hear_stopped v u a b before stops is_report = record { stops = stops; is_report = λ whole blown. is_report }
 
 -- ---- motes that are on or off
 
 -- a mote that is off refuses
-when_off : (D : Option Running → Does) (w : RuleWorld) (m : ℕ) (c : List ℕ) (s : Store) (o : Option Running) (a : Device) → D None ≡ Refuses cause.Off → MoteStands c None s o → TurnEnds (Ok (Refused cause.Off)) w m (D o) (host a None) (host a None)
+when_off : (D : Option Running → Does) (w : RuleWorld) (m : ℕ) (c : List ℕ) (s : Store) (o : Option Running) (a : Device) → D None ≡ Refuses cause.Off → MoteStands c None s o → OutcomeEnds (Ok (Refused cause.Off)) w m (D o) (host a None) (host a None)
 when_off D w m c s None a is stands = (is, Looked-none a, refl)
 when_off D w m c s (Some r) a is stands = absurd stands
 
-pub off_as : (D : Option Running → Does) (w : RuleWorld) (m : ℕ) (c : List ℕ) (s : Store) (o : Option Running) (v : Option RunningMote) (a : Device) → D None ≡ Refuses cause.Off → v ≡ None → MoteStands c v s o → TurnEnds (Ok (Refused cause.Off)) w m (D o) (host a v) (host a v)
+pub off_as : (D : Option Running → Does) (w : RuleWorld) (m : ℕ) (c : List ℕ) (s : Store) (o : Option Running) (v : Option RunningMote) (a : Device) → D None ≡ Refuses cause.Off → v ≡ None → MoteStands c v s o → OutcomeEnds (Ok (Refused cause.Off)) w m (D o) (host a v) (host a v)
 off_as D w m c s o v a refuses is stands =
-    subst (λ (x : Option RunningMote). TurnEnds (Ok (Refused cause.Off)) w m (D o) (host a x) (host a x)) (sym is)
+    subst (λ (x : Option RunningMote). OutcomeEnds (Ok (Refused cause.Off)) w m (D o) (host a x) (host a x)) (sym is)
     (when_off D w m c s o a refuses (subst (λ (x : Option RunningMote). MoteStands c x s o) is stands))
 
-when_on : (D : Option Running → Does) (r : Result EventTurn Halt) (w : RuleWorld) (m : ℕ) (v : RunningMote) (u : Option RunningMote) (c : List ℕ) (s : Store) (o : Option Running) (a b : Device) → MoteStands c (Some v) s o
-    → ((x : Running) → MoteStands c (Some v) s (Some x) → TurnEnds r w m (D (Some x)) (host a (Some v)) (host b u)) → TurnEnds r w m (D o) (host a (Some v)) (host b u)
+when_on : (D : Option Running → Does) (r : Result EventOutcome Halt) (w : RuleWorld) (m : ℕ) (v : RunningMote) (u : Option RunningMote) (c : List ℕ) (s : Store) (o : Option Running) (a b : Device) → MoteStands c (Some v) s o
+    → ((x : Running) → MoteStands c (Some v) s (Some x) → OutcomeEnds r w m (D (Some x)) (host a (Some v)) (host b u)) → OutcomeEnds r w m (D o) (host a (Some v)) (host b u)
 when_on D r w m v u c s None a b stands on = absurd stands
 when_on D r w m v u c s (Some x) a b stands on = on x stands
 
-pub on_as : (D : Option Running → Does) (r : Result EventTurn Halt) (w : RuleWorld) (m : ℕ) (p : Option RunningMote) (v : RunningMote) (u : Option RunningMote) (c : List ℕ) (s : Store) (o : Option Running) (a b : Device) → p ≡ Some v → MoteStands c p s o
-    → ((x : Running) → MoteStands c (Some v) s (Some x) → TurnEnds r w m (D (Some x)) (host a (Some v)) (host b u)) → TurnEnds r w m (D o) (host a p) (host b u)
+pub on_as : (D : Option Running → Does) (r : Result EventOutcome Halt) (w : RuleWorld) (m : ℕ) (p : Option RunningMote) (v : RunningMote) (u : Option RunningMote) (c : List ℕ) (s : Store) (o : Option Running) (a b : Device) → p ≡ Some v → MoteStands c p s o
+    → ((x : Running) → MoteStands c (Some v) s (Some x) → OutcomeEnds r w m (D (Some x)) (host a (Some v)) (host b u)) → OutcomeEnds r w m (D o) (host a p) (host b u)
 on_as D r w m p v u c s o a b is stands on =
-    subst (λ (x : Option RunningMote). TurnEnds r w m (D o) (host a x) (host b u)) (sym is) (when_on D r w m v u c s o a b (subst (λ (x : Option RunningMote). MoteStands c x s o) is stands) on)
+    subst (λ (x : Option RunningMote). OutcomeEnds r w m (D o) (host a x) (host b u)) (sym is) (when_on D r w m v u c s o a b (subst (λ (x : Option RunningMote). MoteStands c x s o) is stands) on)

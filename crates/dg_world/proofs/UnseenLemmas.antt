@@ -20,9 +20,9 @@ use Rattle.dg_script.specs.declared.report.Cause.TheVariants as cause
 use Rattle.dg_world.specs.Shareds.{IsShared}
 use Rattle.dg_world.specs.Worlds.{MoteStands, SiteStands}
 use Rattle.dg_world.specs.Unseen.{RefusesUnseen}
-use Rattle.dg_world.specs.Turn.{Whole, Cut}
+use Rattle.dg_world.specs.EventOutcomes.{Whole, Cut}
 use Rattle.dg_world.specs.Cuts.{ended}
-use Rattle.dg_world.specs.Outcomes.{turn_of, halt_of, turned, ended_as}
+use Rattle.dg_world.specs.Outcomes.{outcome_of, halt_of, as_outcome, ended_as}
 use Rattle.dg_world.specs.Occasions.{AppliesIn}
 use Rattle.dg_world.specs.declared.occasion.Occasion.{Occasion}
 use Rattle.dg_world.specs.declared.outcome.Fault.{Fault}
@@ -67,14 +67,14 @@ module _ (w : RuleWorld) (m now draw : ℕ) (row : Row) (s : Store) where
   by_other true unseen = not_true unseen
   by_other false unseen = absurd unseen
 
-  by_version : {A : Type 0} (h : Held) (older same : Bool) → Unseen (cond older (Some (inject.Stale h.version)) (cond same (cond (is_other h row) (Some inject.Taken) None) (cond (ltb s.room 2) (Some (inject.Worn s.room)) None))) → A
-  by_version h true same unseen = not_true unseen
-  by_version h false true unseen = by_other (is_other h row) unseen
-  by_version h false false unseen = by_room (ltb s.room 2) unseen
+  by_image_version : {A : Type 0} (h : Held) (older same : Bool) → Unseen (cond older (Some (inject.Stale h.version)) (cond same (cond (is_other h row) (Some inject.Taken) None) (cond (ltb s.room 2) (Some (inject.Worn s.room)) None))) → A
+  by_image_version h true same unseen = not_true unseen
+  by_image_version h false true unseen = by_other (is_other h row) unseen
+  by_image_version h false false unseen = by_room (ltb s.room 2) unseen
 
   by_kept : {A : Type 0} (o : Option Held) → Unseen (refusal_by o s row) → A
   by_kept None unseen = by_room (ltb s.room 2) unseen
-  by_kept (Some h) unseen = by_version h (ltb row.version h.version) (eqb h.version row.version) unseen
+  by_kept (Some h) unseen = by_image_version h (ltb row.version h.version) (eqb h.version row.version) unseen
 
   by_size : {A : Type 0} (empty large golden : Bool) → golden ≡ false → Unseen (cond empty (Some inject.Empty) (cond large (Some inject.TooLarge) (cond golden (Some inject.Reserved) (refusal_by (held s row.image) s row)))) → A
   by_size true large golden other unseen = not_true unseen
@@ -175,10 +175,10 @@ module _ {N E : Type 0} (r : Result (Unit {0}) E) (old new : N) (w : RuleWorld) 
 -- ---- over a fuse
 
 -- where nothing stopped, no power was cut
-pub ended_on : (r : Result Power Fault) (done : Result (Unit {0}) Fault) (b : Bool) (t : Outcome) → ended_as r t ≡ ended b (turned done t) → OnErr done ⊥ → r ≡ Ok power.Stays
+pub ended_on : (r : Result Power Fault) (done : Result (Unit {0}) Fault) (b : Bool) (t : Outcome) → ended_as r t ≡ ended b (as_outcome done t) → OnErr done ⊥ → r ≡ Ok power.Stays
 ended_on (Ok power.Stays) (Ok u) b t e on = refl
-ended_on (Ok power.Cut) (Ok u) b t e on = absurd (let f : Ok (Cut t.before) ≡ Ok (Whole (turn_of t)) = e in cc)
-ended_on (Err f) (Ok u) b t e on = absurd (let f : Err (halt_of f t.before) ≡ Ok (Whole (turn_of t)) = e in cc)
+ended_on (Ok power.Cut) (Ok u) b t e on = absurd (let f : Ok (Cut t.before) ≡ Ok (Whole (outcome_of t)) = e in cc)
+ended_on (Err f) (Ok u) b t e on = absurd (let f : Err (halt_of f t.before) ≡ Ok (Whole (outcome_of t)) = e in cc)
 ended_on r (Err f) b t e on = absurd on
 
 -- which arm of a step it is not

@@ -11,22 +11,22 @@ use Rattle.dg_world.specs.Cuts.{ended}
 use Rattle.dg_world.specs.Known.{EventSees, EventReads}
 use Rattle.dg_world.specs.Occasions.{AppliesIn, step_of}
 use Rattle.dg_world.specs.Stepped.{StepDid, Station, station}
-use Rattle.dg_world.specs.Outcomes.{turn_of, halt_of, turned}
-use Rattle.dg_world.specs.Turn.{Whole}
-use Rattle.dg_world.specs.Turns.{turn_lines, TurnEnds}
+use Rattle.dg_world.specs.Outcomes.{outcome_of, halt_of, as_outcome}
+use Rattle.dg_world.specs.EventOutcomes.{Whole}
+use Rattle.dg_world.specs.OutcomeEndings.{outcome_lines, OutcomeEnds}
 use Rattle.dg_world.specs.Hosts.{host}
 use Rattle.dg_world.specs.Unseen.{RefusesUnseen}
 use Rattle.dg_world.specs.declared.occasion.Occasion.{Occasion}
 use Rattle.dg_world.specs.declared.outcome.Fault.{Fault}
 use Rattle.dg_world.specs.declared.outcome.Outcome.{Outcome}
 use Rattle.dg_world.proofs.CutLemmas.{uncut, halted, played_as}
-use Rattle.dg_world.proofs.DoneLemmas.{step_turn, step_fails, event_mote}
-use Rattle.dg_world.proofs.KnownLemmas.{step_sees, turn_refused, refused_turn, refused_told, inject_takes, order_takes}
+use Rattle.dg_world.proofs.DoneLemmas.{step_outcome, step_fails, event_mote}
+use Rattle.dg_world.proofs.KnownLemmas.{step_sees, outcome_refused, refused_outcome, refused_told, inject_takes, order_takes}
 use Rattle.dg_world.proofs.OutcomeLemmas.{frame_told}
 
 -- what the clauses of `apply_event` say
 pub record AppliedSo (r : Result (Unit {0}) Fault) (o : Occasion) (event : Event) (t : Outcome) (a b : Station) : Type 0 where
-  pub ends : (w : RuleWorld) → AppliesIn o w event a.board a.runs → TurnEnds (turned r t) w (mote_of event) (does w event) (host a.board a.runs) (host b.board b.runs)
+  pub ends : (w : RuleWorld) → AppliesIn o w event a.board a.runs → OutcomeEnds (as_outcome r t) w (mote_of event) (does w event) (host a.board a.runs) (host b.board b.runs)
   pub unseen : (w : RuleWorld) → AppliesIn o w event a.board a.runs → RefusesUnseen (does w event) → (b.board ≡ a.board) × OnErr r ⊥
   pub sees : OnOk r (EventSees event t b.runs a.board.image b.board.image)
   pub reads : EventReads event o.known (OnErr r ⊥) t.refused a.board b.board
@@ -39,21 +39,21 @@ failed f = Err f
 
 module _ (o : Occasion) (event : Event) (t : Outcome) (a b : Station) (cut : Option PowerCut) (none : cut ≡ None) where
   -- its lines were told
-  pub whole_did : AppliedSo done o event t a b → o.mote ≡ mote_of event → b.reported ≡ a.reported ++ filter (is_reported o.reported) (turn_lines o.mote (turn_of t)) → StepDid done o (step_of event cut) t a b
+  pub whole_did : AppliedSo done o event t a b → o.mote ≡ mote_of event → b.reported ≡ a.reported ++ filter (is_reported o.reported) (outcome_lines o.mote (outcome_of t)) → StepDid done o (step_of event cut) t a b
   whole_did h here told =
       let x = step_of event cut in
       let m = mote_of event in
       record {
         steps = λ w fits on.
-            let p = played_as (Ok (Whole (turn_of t))) (ended false (turned done t)) cut None w m (does w event) a.runs b.runs a.board b.board refl none
-            (uncut (turned done t) w m (does w event) a.runs b.runs a.board b.board (h.ends w on)) in
-            step_turn w x o.reported _ _ _ (turn_of t) _ _ a.reported b.reported (event_mote _ event fits.event) on.stands p (frame_told t)
-            (told ∙ ap (λ k. a.reported ++ filter (is_reported o.reported) (turn_lines k (turn_of t))) here);
-        sees = λ w on. step_sees w o.known b.runs a.board.image b.board.image event t h.sees (turn_refused w m (does w event) _ _ a.board b.board (turn_of t) (h.ends w on));
+            let p = played_as (Ok (Whole (outcome_of t))) (ended false (as_outcome done t)) cut None w m (does w event) a.runs b.runs a.board b.board refl none
+            (uncut (as_outcome done t) w m (does w event) a.runs b.runs a.board b.board (h.ends w on)) in
+            step_outcome w x o.reported _ _ _ (outcome_of t) _ _ a.reported b.reported (event_mote _ event fits.event) on.stands p (frame_told t)
+            (told ∙ ap (λ k. a.reported ++ filter (is_reported o.reported) (outcome_lines k (outcome_of t))) here);
+        sees = λ w on. step_sees w o.known b.runs a.board.image b.board.image event t h.sees (outcome_refused w m (does w event) _ _ a.board b.board (outcome_of t) (h.ends w on));
         order_reads = λ known. order_takes event o.known _ t.refused _ _ known h.reads;
         inject_reads = λ known w on.
             inject_takes w event o.known _ t.refused a.board b.board known tt h.reads
-            (λ why refuses. refused_told t why (refused_turn w m (does w event) _ _ a.board b.board (turn_of t) (h.ends w on) why refuses));
+            (λ why refuses. refused_told t why (refused_outcome w m (does w event) _ _ a.board b.board (outcome_of t) (h.ends w on) why refuses));
         unseen = h.unseen;
       }
 
@@ -65,8 +65,8 @@ module _ (o : Occasion) (event : Event) (t : Outcome) (a b : Station) (cut : Opt
       let m = mote_of event in
       record {
         steps = λ w fits on.
-            let p = played_as (Err (halt_of f t.before)) (ended false (turned (failed f) t)) cut None w m (does w event) a.runs b.runs a.board b.board (sym (halted (halt_of f t.before))) none
-            (uncut (turned (failed f) t) w m (does w event) a.runs b.runs a.board b.board (h.ends w on)) in
+            let p = played_as (Err (halt_of f t.before)) (ended false (as_outcome (failed f) t)) cut None w m (does w event) a.runs b.runs a.board b.board (sym (halted (halt_of f t.before))) none
+            (uncut (as_outcome (failed f) t) w m (does w event) a.runs b.runs a.board b.board (h.ends w on)) in
             step_fails (Err e) f t w x o.reported _ _ _ _ a.reported is p;
         sees = tt;
         order_reads = λ known. order_takes event o.known _ t.refused _ _ known h.reads;

@@ -25,7 +25,7 @@ use Rattle.dg_world.specs.declared.world.World.{World}
 use Rattle.dg_world.specs.Worlds.{IsWorld}
 use Rattle.dg_world.specs.Deployments.{Deployment}
 use Rattle.dg_world.specs.Counts.{NoneRose}
-use Rattle.dg_world.specs.Turn.{Halt, Stopped, NotAVolume, NoImage}
+use Rattle.dg_world.specs.EventOutcomes.{Halt, Stopped, NotAVolume, NoImage}
 
 -- No board but this one was used. No count fell, and a board is stopped only where it was, or where its count rose.
 pub record OneBoard (board : ℕ) (old new : List Device) : Type 0 where

@@ -1,7 +1,7 @@
 -- Boards whose counts of faults stay.
 use Rattle.std.specs.Prelude.{◌≡◌, ℕ, List, slice_get, Some, Result, Ok, Err}
 use Rattle.dg_nor.specs.Device.{Device}
-use Rattle.dg_world.specs.Turn.{Halt, Stopped, NotAVolume, NoImage}
+use Rattle.dg_world.specs.EventOutcomes.{Halt, Stopped, NotAVolume, NoImage}
 
 -- no board's count rose
 abbrev pub NoneRose : List Device → List Device → Type 0

@@ -9,17 +9,18 @@ use Rattle.dg_rules.specs.World.{World as RuleWorld, store_at}
 use Rattle.dg_rules.specs.Events.{Deed, Does, Refuses, Goes, trail_of}
 use Rattle.dg_rules.specs.Steps.{blows, before_cut}
 use Rattle.dg_base.specs.declared.events.Cut.{Cut as PowerCut}
-use Rattle.dg_world.specs.Turns.{TellsDeed, BeforeReports}
+use Rattle.dg_world.specs.OutcomeEndings.{TellsDeed, BeforeReports}
 use Rattle.dg_world.specs.Counts.{CountStays}
 use Rattle.dg_world.specs.Hosts.{Host}
 use Rattle.dg_world.specs.declared.chip_report.ChipReport.{ChipReport}
 use Rattle.dg_world.specs.declared.world.RunningMote.{RunningMote}
-use Rattle.dg_world.specs.Turn.{EventTurn, Refused, Rests, Sends, Changes, Starts, Halt, Stopped, NotAVolume, NoImage, TurnEnded}
-use Rattle.dg_world.specs.Turn.{Whole, Cut}
+use Rattle.dg_world.specs.EventOutcomes.{EventOutcome, Refused, Unreported, Sends, Changes, Starts, EventEnded}
+use Rattle.dg_world.specs.EventOutcomes.{Halt, Stopped, NotAVolume, NoImage}
+use Rattle.dg_world.specs.EventOutcomes.{Whole, Cut}
 
 -- how an event ended that answered this, where a cut blew over a board that is not stopped itself, or not
-abbrev pub ended : Bool → Result EventTurn Halt → Result TurnEnded Halt
-ended blown (Ok turn) = Ok (Whole turn)
+abbrev pub ended : Bool → Result EventOutcome Halt → Result EventEnded Halt
+ended blown (Ok outcome) = Ok (Whole outcome)
 ended true (Err (Stopped before)) = Ok (Cut before)
 ended false (Err (Stopped before)) = Err (Stopped before)
 ended blown (Err NotAVolume) = Err NotAVolume
@@ -27,11 +28,11 @@ ended blown (Err NoImage) = Err NoImage
 
 -- the whole event was done, and no cut blew
 pub record EventIsWhole (w : RuleWorld) (m : ℕ) (does : Does) (cut : Option PowerCut) (u : Option RunningMote)
-    (image : List ℕ) (turn : EventTurn) : Type 0 where
+    (image : List ℕ) (outcome : EventOutcome) : Type 0 where
   pub deed : Deed
   pub goes : does ≡ Goes deed
   pub whole : blows cut deed.trail ≡ false
-  pub tells : TellsDeed w m deed turn u image
+  pub tells : TellsDeed w m deed outcome u image
 
 -- the cut blew in the operation with its number
 pub record EventIsCut (w : RuleWorld) (m : ℕ) (does : Does) (cut : Option PowerCut) (image : List ℕ)
@@ -59,9 +60,9 @@ pub record IsLacking (does : Does) (cut : Option PowerCut) (image : List ℕ) : 
   pub stands : Stands image (last deed.trail)
 
 -- What an event answers whose power may have been cut. The host was a and is b.
-abbrev pub PlayEnds : Result TurnEnded Halt → RuleWorld → (m : ℕ) → Does → Option PowerCut → (a b : Host) → Type 0
+abbrev pub PlayEnds : Result EventEnded Halt → RuleWorld → (m : ℕ) → Does → Option PowerCut → (a b : Host) → Type 0
 PlayEnds (Ok (Whole (Refused why))) w m does cut a b = (does ≡ Refuses why) × (b.board.image ≡ a.board.image) × (b.runs ≡ a.runs)
-PlayEnds (Ok (Whole Rests)) w m does cut a b = EventIsWhole w m does cut b.runs b.board.image Rests
+PlayEnds (Ok (Whole Unreported)) w m does cut a b = EventIsWhole w m does cut b.runs b.board.image Unreported
 PlayEnds (Ok (Whole (Sends frame))) w m does cut a b = EventIsWhole w m does cut b.runs b.board.image (Sends frame)
 PlayEnds (Ok (Whole (Changes old new))) w m does cut a b = EventIsWhole w m does cut b.runs b.board.image (Changes old new)
 PlayEnds (Ok (Whole (Starts x))) w m does cut a b = EventIsWhole w m does cut b.runs b.board.image (Starts x)
@@ -72,7 +73,7 @@ PlayEnds (Err NotAVolume) w m does cut a b = ⊥
 
 -- The event ended so, and the board's count did not fall: it is stopped only where it was, or where its count rose. The count
 -- stays unless the board stopped, also where a cut blew.
-pub record EventPlayed (r : Result TurnEnded Halt) (w : RuleWorld) (m : ℕ) (does : Does) (cut : Option PowerCut)
+pub record EventPlayed (r : Result EventEnded Halt) (w : RuleWorld) (m : ℕ) (does : Does) (cut : Option PowerCut)
     (a b : Host) : Type 0 where
   pub ends : PlayEnds r w m does cut a b
   pub endures : Endures (beneath_of a.board) (beneath_of b.board)

@@ -15,7 +15,7 @@ is_image_version a b = (a.image == b.image) && (a.version == b.version)
 
 -- the image that was declared with an image version
 abbrev pub found : Images → ImageVersion → Option Image
-found images image_version = lookup (is_image_version image_version) images.by_version.entries
+found images image_version = lookup (is_image_version image_version) images.by_image_version.entries
 
 -- the images are the declared rows
 pub record Declares (images : Images) (rows : List Row) : Type 0 where

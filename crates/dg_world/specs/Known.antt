@@ -15,8 +15,8 @@ use Rattle.dg_base.specs.declared.events.Event.{Event}
 use Rattle.dg_base.specs.declared.events.Event.TheVariants.{Tick, Hear, Last, Reset, Inject, Order as OrderEvent, Frame}
 use Rattle.dg_script.specs.declared.report.Cause.{Cause}
 use Rattle.dg_script.specs.declared.report.Cause.TheVariants as cause
-use Rattle.dg_world.specs.Turn.{EventTurn, Refused, Rests, Sends, Changes, Starts}
-use Rattle.dg_world.specs.Outcomes.{turn_of}
+use Rattle.dg_world.specs.EventOutcomes.{EventOutcome, Refused, Unreported, Sends, Changes, Starts}
+use Rattle.dg_world.specs.Outcomes.{outcome_of}
 use Rattle.dg_world.specs.declared.outcome.Outcome.{Outcome}
 use Rattle.dg_world.specs.declared.world.RunningMote.{RunningMote}
 use Rattle.dg_world.specs.declared.world.World.{World}
@@ -53,7 +53,7 @@ abbrev pub SeesOrder : Bool → List ℕ → Type 0
 SeesOrder orderly c = (orderly ≡ true) ↔ IsOrderlyChip c
 
 -- refused without a look at the chip, as an injection or an order may be
-abbrev pub IsUndeclared : EventTurn → Type 0
+abbrev pub IsUndeclared : EventOutcome → Type 0
 IsUndeclared (Refused cause.Image) = Unit {0}
 IsUndeclared (Refused cause.Reserved) = Unit {0}
 IsUndeclared (Refused cause.Off) = ⊥
@@ -65,15 +65,15 @@ IsUndeclared (Refused (cause.Stale version)) = ⊥
 IsUndeclared (Refused cause.Taken) = ⊥
 IsUndeclared (Refused (cause.Worn room)) = ⊥
 IsUndeclared (Refused (cause.OldOrder number)) = ⊥
-IsUndeclared Rests = ⊥
+IsUndeclared Unreported = ⊥
 IsUndeclared (Sends bytes) = ⊥
 IsUndeclared (Changes old new) = ⊥
 IsUndeclared (Starts line) = ⊥
 
 -- an injection or an order tells whether the chip is orderly, or did not look at it
-abbrev pub SeesInjected : Option Bool → EventTurn → List ℕ → List ℕ → Type 0
-SeesInjected (Some orderly) turn c d = SeesOrder orderly d
-SeesInjected None turn c d = (d ≡ c) × IsUndeclared turn
+abbrev pub SeesInjected : Option Bool → EventOutcome → List ℕ → List ℕ → Type 0
+SeesInjected (Some orderly) outcome c d = SeesOrder orderly d
+SeesInjected None outcome c d = (d ≡ c) × IsUndeclared outcome
 
 -- what a mote does by itself is told by the mote: one that is off does nothing
 pub record SeesMote (t : Outcome) (u : Option RunningMote) (c d : List ℕ) : Type 0 where
@@ -90,8 +90,8 @@ EventSees (Hear mote dt draw frame) t u c d = SeesMote t u c d
 EventSees (Last from to dt draw) t u c d = SeesMote t u c d
 EventSees (Frame mote dt draw bytes) t u c d = SeesMote t u c d
 EventSees (Reset mote dt draw) t u c d = SeesStart t u
-EventSees (Inject mote image version dt draw) t u c d = SeesInjected t.orderly (turn_of t) c d
-EventSees (OrderEvent mote number image version dt draw) t u c d = SeesInjected t.orderly (turn_of t) c d
+EventSees (Inject mote image version dt draw) t u c d = SeesInjected t.orderly (outcome_of t) c d
+EventSees (OrderEvent mote number image version dt draw) t u c d = SeesInjected t.orderly (outcome_of t) c d
 
 -- A step tells whether the chip is orderly, or a mote is off after it whose board is as it was where it was known,
 -- and was not made known.

@@ -13,8 +13,8 @@ pub mod Applied
 pub mod Applying
 pub mod Formatted
 pub mod ChipReports
-pub mod Turn
-pub mod Turns
+pub mod EventOutcomes
+pub mod OutcomeEndings
 pub mod Outcomes
 pub mod Known
 pub mod Cuts

@@ -2,8 +2,9 @@
 use Rattle.std.specs.Prelude.{◌≡◌, ℕ, List, Option, Some, None, Result, Ok, Err}
 use Rattle.dg_mote.specs.Motes.{sent_in}
 use Rattle.dg_script.specs.declared.report.Cause.{Cause}
-use Rattle.dg_world.specs.Turn.{EventTurn, Refused, Rests, Sends, Changes, Starts, Halt, Stopped, NotAVolume, NoImage, TurnEnded}
-use Rattle.dg_world.specs.Turn.{Whole, Cut}
+use Rattle.dg_world.specs.EventOutcomes.{EventOutcome, Refused, Unreported, Sends, Changes, Starts, EventEnded}
+use Rattle.dg_world.specs.EventOutcomes.{Halt, Stopped, NotAVolume, NoImage}
+use Rattle.dg_world.specs.EventOutcomes.{Whole, Cut}
 use Rattle.dg_world.specs.declared.chip_report.ChipReport.{ChipReport}
 use Rattle.dg_world.specs.declared.outcome.StartLine.{StartLine}
 use Rattle.dg_world.specs.declared.outcome.Outcome.{Outcome}
@@ -21,17 +22,17 @@ pub record IsNothing (t : Outcome) : Type 0 where
   pub sent : sent_in t.outbox ≡ None
   pub orderly : t.orderly ≡ None
 
-abbrev pub turn_by : Option (List ℕ) → Option Cause → Option StartLine → Option ChipReport → Option ChipReport → EventTurn
-turn_by (Some bytes) why x a b = Sends bytes
-turn_by None (Some why) x a b = Refused why
-turn_by None None (Some x) a b = Starts x
-turn_by None None None (Some a) (Some b) = Changes a b
-turn_by None None None (Some a) None = Rests
-turn_by None None None None b = Rests
+abbrev pub outcome_by : Option (List ℕ) → Option Cause → Option StartLine → Option ChipReport → Option ChipReport → EventOutcome
+outcome_by (Some bytes) why x a b = Sends bytes
+outcome_by None (Some why) x a b = Refused why
+outcome_by None None (Some x) a b = Starts x
+outcome_by None None None (Some a) (Some b) = Changes a b
+outcome_by None None None (Some a) None = Unreported
+outcome_by None None None None b = Unreported
 
 -- what an event did that has this outcome
-abbrev pub turn_of : Outcome → EventTurn
-turn_of t = turn_by (sent_in t.outbox) t.refused t.started t.before t.after
+abbrev pub outcome_of : Outcome → EventOutcome
+outcome_of t = outcome_by (sent_in t.outbox) t.refused t.started t.before t.after
 
 -- why an event was not done that answers this, where this was reported of the chip before
 abbrev pub halt_of : Fault → Option ChipReport → Halt
@@ -39,12 +40,12 @@ halt_of fault.Stopped before = Stopped before
 halt_of fault.NotAVolume before = NotAVolume
 halt_of fault.NoImage before = NoImage
 
-abbrev pub turned : {T : Type 0} → Result T Fault → Outcome → Result EventTurn Halt
-turned (Ok x) t = Ok (turn_of t)
-turned (Err f) t = Err (halt_of f t.before)
+abbrev pub as_outcome : {T : Type 0} → Result T Fault → Outcome → Result EventOutcome Halt
+as_outcome (Ok x) t = Ok (outcome_of t)
+as_outcome (Err f) t = Err (halt_of f t.before)
 
-abbrev pub ended_as : Result Power Fault → Outcome → Result TurnEnded Halt
-ended_as (Ok power.Stays) t = Ok (Whole (turn_of t))
+abbrev pub ended_as : Result Power Fault → Outcome → Result EventEnded Halt
+ended_as (Ok power.Stays) t = Ok (Whole (outcome_of t))
 ended_as (Ok power.Cut) t = Ok (Cut t.before)
 ended_as (Err f) t = Err (halt_of f t.before)
 

@@ -24,12 +24,12 @@ use Rattle.dg_world.specs.Unseen.{RefusesUnseen}
 use Rattle.dg_world.specs.Worlds.{MoteStands}
 use Rattle.dg_world.specs.Counts.{CountStays}
 use Rattle.dg_world.specs.Cuts.{IsStopped, IsLacking}
-use Rattle.dg_world.specs.Turns.{BeforeReports}
+use Rattle.dg_world.specs.OutcomeEndings.{BeforeReports}
 use Rattle.dg_world.specs.declared.occasion.Occasion.{Occasion}
 use Rattle.dg_world.specs.declared.chip_report.ChipReport.{ChipReport}
 use Rattle.dg_world.specs.declared.outcome.Outcome.{Outcome}
 use Rattle.dg_world.specs.declared.world.RunningMote.{RunningMote}
-use Rattle.dg_world.specs.Turn.{Halt, Stopped, NotAVolume, NoImage}
+use Rattle.dg_world.specs.EventOutcomes.{Halt, Stopped, NotAVolume, NoImage}
 use Rattle.dg_world.specs.declared.outcome.Fault.{Fault}
 use Rattle.dg_world.specs.declared.outcome.Fault.TheVariants as fault
 

@@ -3,8 +3,8 @@ ghost use Rattle.std.specs.Prelude.{◌≡◌, ◌+◌, ◌^◌, ◌<◌, true, 
 ghost use Rattle.dg_rules.specs.World.{World as RuleWorld, site, wide_at};
 ghost use Rattle.dg_rules.specs.Events.{does, mote_of, dt_of};
 ghost use Rattle.dg_world.specs.Alone.{IsAlone, IsReset, PlaysAlone, Powers};
-ghost use Rattle.dg_world.specs.Outcomes.{IsNothing, turned};
-ghost use Rattle.dg_world.specs.Turns.{TurnEnds};
+ghost use Rattle.dg_world.specs.Outcomes.{IsNothing, as_outcome};
+ghost use Rattle.dg_world.specs.OutcomeEndings.{OutcomeEnds};
 ghost use Rattle.dg_world.specs.Hosts.{host};
 ghost use Rattle.dg_world.specs.Worlds.{SiteStands, MayRun};
 
@@ -57,7 +57,7 @@ fn apply_alone<N: Nor>(
     requires nothing { IsNothing outcome.old }
     ensures ends { (w : RuleWorld) → SiteStands (N.device board.old) runs.old (site w (mote_of event.now))
         → now ≡ w.moment + dt_of event.now
-        → wide_at w (mote_of event.now) ≡ true → TurnEnds (turned result outcome.new) w (mote_of event.now)
+        → wide_at w (mote_of event.now) ≡ true → OutcomeEnds (as_outcome result outcome.new) w (mote_of event.now)
         (does w event.now) (host (N.device board.old) runs.old) (host (N.device board.new) runs.new) }
     ensures powers { IsReset event.now → Powers result (N.device board.old) (N.device board.new) }
 {

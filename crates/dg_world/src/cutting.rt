@@ -8,7 +8,7 @@ ghost use Rattle.dg_script.specs.Ranges.{EventInRange, CutInRange};
 ghost use Rattle.dg_world.specs.Occasions.{MayApply, AppliesIn};
 ghost use Rattle.dg_world.specs.Cuts.{ended, EventPlayed};
 ghost use Rattle.dg_world.specs.Hosts.{host};
-ghost use Rattle.dg_world.specs.Outcomes.{IsNothing, turned, ended_as};
+ghost use Rattle.dg_world.specs.Outcomes.{IsNothing, as_outcome, ended_as};
 ghost use Rattle.dg_world.specs.Unseen.{RefusesUnseen};
 ghost use Rattle.dg_world.specs.Known.{EventReads, EventSees};
 
@@ -20,8 +20,8 @@ use dg_nor::{Fused, Nor};
 use dg_rules::{Cut, Event};
 
 /// How an event ended whose cut blew or not, at a board that is stopped itself or not.
-fn end_turn(blown: bool, stopped: bool, done: Result<(), Fault>) -> Result<Power, Fault>
-    ensures { (t : Outcome) → ended_as result t ≡ ended (blown && not stopped) (turned done t) }
+fn end_outcome(blown: bool, stopped: bool, done: Result<(), Fault>) -> Result<Power, Fault>
+    ensures { (t : Outcome) → ended_as result t ≡ ended (blown && not stopped) (as_outcome done t) }
 {
     match done {
         Ok(()) => Ok(Power::Stays),
@@ -78,5 +78,5 @@ pub(crate) fn play_cut<N: Nor>(
     let done = apply_event(occasion, runs, event, &mut fused, outcome);
     let blown = fused.blown();
     let stopped = board.is_stopped();
-    end_turn(blown, stopped, done)
+    end_outcome(blown, stopped, done)
 }

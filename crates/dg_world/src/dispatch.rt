@@ -4,10 +4,10 @@ ghost use Rattle.dg_rules.specs.World.{World as RuleWorld};
 ghost use Rattle.dg_rules.specs.Events.{does, mote_of};
 ghost use Rattle.dg_script.specs.Ranges.{EventInRange};
 ghost use Rattle.dg_rules.specs.Sizes.{most_motes};
-ghost use Rattle.dg_world.specs.Turns.{TurnEnds};
+ghost use Rattle.dg_world.specs.OutcomeEndings.{OutcomeEnds};
 ghost use Rattle.dg_world.specs.Hosts.{host};
 ghost use Rattle.dg_world.specs.Unseen.{RefusesUnseen};
-ghost use Rattle.dg_world.specs.Outcomes.{IsNothing, turned};
+ghost use Rattle.dg_world.specs.Outcomes.{IsNothing, as_outcome};
 ghost use Rattle.dg_world.specs.Known.{EventSees, EventReads};
 ghost use Rattle.dg_world.specs.Occasions.{MayApply, AppliesIn};
 
@@ -34,7 +34,7 @@ pub(crate) fn apply_event<N: Nor>(
     requires may { MayApply occasion.now event.now (N.device board.old) runs.old }
     requires nothing { IsNothing outcome.old }
     ensures ends { (w : RuleWorld) → AppliesIn occasion.now w event.now (N.device board.old) runs.old
-        → TurnEnds (turned result outcome.new) w (mote_of event.now) (does w event.now)
+        → OutcomeEnds (as_outcome result outcome.new) w (mote_of event.now) (does w event.now)
         (host (N.device board.old) runs.old) (host (N.device board.new) runs.new) }
     // an event that is refused without a look at the chip uses no board
     ensures unseen { (w : RuleWorld) → AppliesIn occasion.now w event.now (N.device board.old) runs.old

@@ -5,10 +5,10 @@ ghost use Rattle.dg_rules.specs.Events.{Refuses, hear_by, heard_sent, heard_last
 ghost use Rattle.dg_rules.specs.Sizes.{most_motes};
 ghost use Rattle.dg_world.specs.Shareds.{IsShared};
 ghost use Rattle.dg_world.specs.Worlds.{SiteStands, MayRun};
-ghost use Rattle.dg_world.specs.Turns.{LeavesChip, TurnEnds};
+ghost use Rattle.dg_world.specs.OutcomeEndings.{LeavesChip, OutcomeEnds};
 ghost use Rattle.dg_world.specs.Hosts.{host};
 ghost use Rattle.dg_world.specs.Unseen.{RefusesUnseen};
-ghost use Rattle.dg_world.specs.Outcomes.{IsNothing, turned};
+ghost use Rattle.dg_world.specs.Outcomes.{IsNothing, as_outcome};
 ghost use Rattle.dg_world.specs.Known.{SeesMote};
 
 use crate::chip_report::report_chip;
@@ -49,7 +49,7 @@ pub(crate) fn hear<N: Nor>(
     requires moment { now < 2 ^ 62 }
     requires nothing { IsNothing outcome.old }
     ensures ends { (w : RuleWorld) (m : ℕ) → SiteStands (N.device board.old) runs.old (site w m)
-        → TurnEnds (turned result outcome.new) w m (hear_by w (store_at w m)
+        → OutcomeEnds (as_outcome result outcome.new) w m (hear_by w (store_at w m)
         (site w m).runs now draw bytes.now) (host (N.device board.old) runs.old) (host (N.device board.new) runs.new) }
     ensures unseen { (w : RuleWorld) (m : ℕ) → SiteStands (N.device board.old) runs.old (site w m)
         → RefusesUnseen (hear_by w (store_at w m) (site w m).runs now draw bytes.now)
@@ -87,7 +87,7 @@ pub(crate) fn hear_numbered<N: Nor>(
     requires nothing { IsNothing outcome.old }
     ensures ends { (w : RuleWorld) → IsShared occasion.now.shared.now w
         → SiteStands (N.device board.old) runs.old (site w occasion.now.mote)
-        → TurnEnds (turned result outcome.new) w occasion.now.mote
+        → OutcomeEnds (as_outcome result outcome.new) w occasion.now.mote
         (unless_off (site w occasion.now.mote).runs (heard_sent w occasion.now.mote occasion.now.moment draw
         (frame_at w number)))
         (host (N.device board.old) runs.old) (host (N.device board.new) runs.new) }
@@ -140,7 +140,7 @@ pub(crate) fn hear_last<N: Nor>(
     requires nothing { IsNothing outcome.old }
     ensures ends { (w : RuleWorld) → IsShared occasion.now.shared.now w
         → SiteStands (N.device board.old) runs.old (site w occasion.now.mote)
-        → TurnEnds (turned result outcome.new) w occasion.now.mote
+        → OutcomeEnds (as_outcome result outcome.new) w occasion.now.mote
         (unless_off (site w occasion.now.mote).runs (if linked w from occasion.now.mote
         then heard_last w from occasion.now.mote occasion.now.moment draw (last_frame w from) else Refuses Cause.Link))
         (host (N.device board.old) runs.old) (host (N.device board.new) runs.new) }

@@ -20,7 +20,7 @@ pub struct Image {
 /// The images, by their image versions.
 #[derive(Drop)]
 pub struct Images {
-    pub(crate) by_version: BTreeMap<ImageVersion, Image>,
+    pub(crate) by_image_version: BTreeMap<ImageVersion, Image>,
 }
 
 impl Images {
@@ -32,7 +32,7 @@ impl Images {
         ensures { NothingDeclared result }
     {
         Images {
-            by_version: BTreeMap::new(alloc),
+            by_image_version: BTreeMap::new(alloc),
         }
     }
 
@@ -40,7 +40,7 @@ impl Images {
     pub(crate) fn get(&self, image_version: ImageVersion) -> Option<&Image>
         ensures { option_map (λ i. i.now) result ≡ found self.now image_version }
     {
-        self.by_version.get(&image_version)
+        self.by_image_version.get(&image_version)
     }
 
     /// Declares an image whose version was not declared. Without memory nothing is declared.
@@ -54,7 +54,7 @@ impl Images {
             → Declares self.new (rows ++ row_of_image image_version image ∷ [])) }
         ensures unchanged { OnErr result ((rows : List Row) → Declares self.old rows → Declares self.new rows) }
     {
-        match self.by_version.insert(image_version, image) {
+        match self.by_image_version.insert(image_version, image) {
             Ok(_) => Ok(()),
             Err(_failed) => Err(AllocError),
         }

@@ -11,10 +11,10 @@ ghost use Rattle.dg_rules.specs.Events.{Refuses, reloaded, inject_cause, inject_
 ghost use Rattle.dg_world.specs.Images.{Declares, row_of_image};
 ghost use Rattle.dg_world.specs.Shareds.{IsShared};
 ghost use Rattle.dg_world.specs.Worlds.{MoteStands, SiteStands, MayRun};
-ghost use Rattle.dg_world.specs.Turns.{TurnEnds};
+ghost use Rattle.dg_world.specs.OutcomeEndings.{OutcomeEnds};
 ghost use Rattle.dg_world.specs.Hosts.{host};
 ghost use Rattle.dg_world.specs.Unseen.{RefusesUnseen};
-ghost use Rattle.dg_world.specs.Outcomes.{IsNothing, turned, turn_of};
+ghost use Rattle.dg_world.specs.Outcomes.{IsNothing, as_outcome, outcome_of};
 ghost use Rattle.dg_world.specs.Known.{IsKnownChip, SeesOrder, SeesInjected, InjectReads};
 
 use crate::chip_report::report_chip;
@@ -57,7 +57,7 @@ fn inject_image<N: Nor>(
     requires known_chip { IsTrue occasion.now.known → IsKnownChip (N.device board.old).image }
     requires nothing { IsNothing outcome.old }
     ensures ends { (w : RuleWorld) (m : ℕ) → SiteStands (N.device board.old) runs.old (site w m)
-        → TurnEnds (turned result outcome.new) w m
+        → OutcomeEnds (as_outcome result outcome.new) w m
         (inject_row w m (Some (row_of_image image_version image.now)) occasion.now.moment draw)
         (host (N.device board.old) runs.old) (host (N.device board.new) runs.new) }
     ensures sees { OnOk result (IsSomeAnd outcome.new.orderly (λ orderly. SeesOrder orderly (N.device board.new).image)) }
@@ -125,7 +125,7 @@ fn inject<N: Nor>(
     requires nothing { IsNothing outcome.old }
     ensures ends { (w : RuleWorld) (m : ℕ) → Declares occasion.now.shared.now.images w.declared
         → SiteStands (N.device board.old) runs.old (site w m)
-        → TurnEnds (turned result outcome.new) w m
+        → OutcomeEnds (as_outcome result outcome.new) w m
         (if image_version.image == 0 then Refuses Cause.Reserved else inject_row w m
         (row_at w.declared image_version.image image_version.version) occasion.now.moment draw)
         (host (N.device board.old) runs.old) (host (N.device board.new) runs.new) }
@@ -134,7 +134,7 @@ fn inject<N: Nor>(
         (if image_version.image == 0 then Refuses Cause.Reserved else inject_row w m
         (row_at w.declared image_version.image image_version.version) occasion.now.moment draw)
         → (board.new ≡ board.old) × OnErr result ⊥ }
-    ensures sees { OnOk result (SeesInjected outcome.new.orderly (turn_of outcome.new) (N.device board.old).image
+    ensures sees { OnOk result (SeesInjected outcome.new.orderly (outcome_of outcome.new) (N.device board.old).image
         (N.device board.new).image) }
     ensures reads { OnOk result (InjectReads occasion.now.known outcome.new.refused (N.device board.old) (N.device board.new)) }
     ensures same_reference { (N.device board.new).references ≡ (N.device board.old).references }
@@ -175,7 +175,8 @@ pub(crate) fn inject_known<N: Nor>(
     requires nothing { IsNothing outcome.old }
     ensures ends { (w : RuleWorld) → IsShared occasion.now.shared.now w
         → SiteStands (N.device board.old) runs.old (site w occasion.now.mote)
-        → TurnEnds (turned result outcome.new) w occasion.now.mote (if knows (wide_at w occasion.now.mote) image_version.image
+        → OutcomeEnds (as_outcome result outcome.new) w occasion.now.mote
+        (if knows (wide_at w occasion.now.mote) image_version.image
         then injects w occasion.now.mote image_version.image image_version.version occasion.now.moment draw
         else Refuses Cause.Image)
         (host (N.device board.old) runs.old) (host (N.device board.new) runs.new) }
@@ -184,7 +185,7 @@ pub(crate) fn inject_known<N: Nor>(
         then injects w occasion.now.mote image_version.image image_version.version occasion.now.moment draw
         else Refuses Cause.Image)
         → (board.new ≡ board.old) × OnErr result ⊥ }
-    ensures sees { OnOk result (SeesInjected outcome.new.orderly (turn_of outcome.new) (N.device board.old).image
+    ensures sees { OnOk result (SeesInjected outcome.new.orderly (outcome_of outcome.new) (N.device board.old).image
         (N.device board.new).image) }
     ensures reads { OnOk result (InjectReads occasion.now.known outcome.new.refused (N.device board.old) (N.device board.new)) }
     ensures same_reference { (N.device board.new).references ≡ (N.device board.old).references }

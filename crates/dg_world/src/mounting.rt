@@ -8,7 +8,7 @@ ghost use Rattle.dg_volume.specs.Remount.{RemountBytes};
 ghost use Rattle.dg_volume.specs.Trails.{BeginsAt};
 ghost use Rattle.dg_rules.specs.World.{World as RuleWorld, store_at};
 ghost use Rattle.dg_rules.specs.Events.{Does, trail_of};
-ghost use Rattle.dg_world.specs.Turns.{TurnEnds};
+ghost use Rattle.dg_world.specs.OutcomeEndings.{OutcomeEnds};
 ghost use Rattle.dg_world.specs.Hosts.{host};
 ghost use Rattle.dg_world.specs.Outcomes.{halt_of};
 ghost use Rattle.dg_world.specs.Known.{IsKnownChip};
@@ -32,7 +32,7 @@ fn mount<N: Nor>(board: &mut N) -> Result<Volume, Fault>
     ensures halts { (f : Fault) → result ≡ Err f → (w : RuleWorld) (m : ℕ) (does : Does) (v u : Option RunningMote)
         → Stands (N.device board.old).image (store_at w m)
         → BeginsAt (store_at w m) (trail_of does (store_at w m))
-        → TurnEnds (Err (halt_of f None)) w m does (host (N.device board.old) v) (host (N.device board.new) u) }
+        → OutcomeEnds (Err (halt_of f None)) w m does (host (N.device board.old) v) (host (N.device board.new) u) }
 {
     match Volume::mount(board) {
         Ok(volume) => Ok(volume),
@@ -56,7 +56,7 @@ fn mount_again<N: Nor>(board: &mut N) -> Result<Volume, Fault>
     ensures halts { (f : Fault) → result ≡ Err f → (w : RuleWorld) (m : ℕ) (does : Does) (v u : Option RunningMote)
         → Stands (N.device board.old).image (store_at w m)
         → BeginsAt (store_at w m) (trail_of does (store_at w m))
-        → TurnEnds (Err (halt_of f None)) w m does (host (N.device board.old) v) (host (N.device board.new) u) }
+        → OutcomeEnds (Err (halt_of f None)) w m does (host (N.device board.old) v) (host (N.device board.new) u) }
     ensures took { (n : ℕ) → RemountBytes (N.device board.old).image n → Took n (N.device board.old) (N.device board.new) }
 {
     match Volume::remount(board) {
@@ -80,7 +80,7 @@ pub(crate) fn mount_known<N: Nor>(board: &mut N, known: bool) -> Result<Volume, 
     ensures halts { (f : Fault) → result ≡ Err f → (w : RuleWorld) (m : ℕ) (does : Does) (v u : Option RunningMote)
         → Stands (N.device board.old).image (store_at w m)
         → BeginsAt (store_at w m) (trail_of does (store_at w m))
-        → TurnEnds (Err (halt_of f None)) w m does (host (N.device board.old) v) (host (N.device board.new) u) }
+        → OutcomeEnds (Err (halt_of f None)) w m does (host (N.device board.old) v) (host (N.device board.new) u) }
     ensures took { IsTrue known → (n : ℕ) → RemountBytes (N.device board.old).image n
         → Took n (N.device board.old) (N.device board.new) }
 {

@@ -6,10 +6,10 @@ ghost use Rattle.dg_rules.specs.World.{World as RuleWorld, site, store_at, wide_
 ghost use Rattle.dg_rules.specs.Events.{Refuses, order_cause, order_unless, knows, orders};
 ghost use Rattle.dg_world.specs.Shareds.{IsShared};
 ghost use Rattle.dg_world.specs.Worlds.{SiteStands, MayRun};
-ghost use Rattle.dg_world.specs.Turns.{TurnEnds};
+ghost use Rattle.dg_world.specs.OutcomeEndings.{OutcomeEnds};
 ghost use Rattle.dg_world.specs.Hosts.{host};
 ghost use Rattle.dg_world.specs.Unseen.{RefusesUnseen};
-ghost use Rattle.dg_world.specs.Outcomes.{IsNothing, turned, turn_of};
+ghost use Rattle.dg_world.specs.Outcomes.{IsNothing, as_outcome, outcome_of};
 ghost use Rattle.dg_world.specs.Known.{IsKnownChip, SeesOrder, SeesInjected, OrderReads};
 
 use crate::chip_report::report_chip;
@@ -39,7 +39,7 @@ fn order<N: Nor>(
     requires known_chip { IsTrue occasion.now.known → IsKnownChip (N.device board.old).image }
     requires nothing { IsNothing outcome.old }
     ensures ends { (w : RuleWorld) (m : ℕ) → SiteStands (N.device board.old) runs.old (site w m)
-        → TurnEnds (turned result outcome.new) w m
+        → OutcomeEnds (as_outcome result outcome.new) w m
         (order_unless (order_refusal (store_at w m)
         (record { number = number; image = image_version.image; version = image_version.version })) w m
         (record { number = number; image = image_version.image; version = image_version.version }) occasion.now.moment draw)
@@ -84,7 +84,8 @@ pub(crate) fn order_known<N: Nor>(
     requires nothing { IsNothing outcome.old }
     ensures ends { (w : RuleWorld) → IsShared occasion.now.shared.now w
         → SiteStands (N.device board.old) runs.old (site w occasion.now.mote)
-        → TurnEnds (turned result outcome.new) w occasion.now.mote (if knows (wide_at w occasion.now.mote) image_version.image
+        → OutcomeEnds (as_outcome result outcome.new) w occasion.now.mote
+        (if knows (wide_at w occasion.now.mote) image_version.image
         then orders w occasion.now.mote
         (record { number = number; image = image_version.image; version = image_version.version }) occasion.now.moment draw
         else Refuses Cause.Image)
@@ -95,7 +96,7 @@ pub(crate) fn order_known<N: Nor>(
         (record { number = number; image = image_version.image; version = image_version.version }) occasion.now.moment draw
         else Refuses Cause.Image)
         → (board.new ≡ board.old) × OnErr result ⊥ }
-    ensures sees { OnOk result (SeesInjected outcome.new.orderly (turn_of outcome.new) (N.device board.old).image
+    ensures sees { OnOk result (SeesInjected outcome.new.orderly (outcome_of outcome.new) (N.device board.old).image
         (N.device board.new).image) }
     ensures reads { OrderReads occasion.now.known (N.device board.old) (N.device board.new) }
     ensures same_reference { (N.device board.new).references ≡ (N.device board.old).references }

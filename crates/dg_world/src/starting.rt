@@ -6,11 +6,11 @@ ghost use Rattle.dg_rules.specs.World.{World as RuleWorld, store_at, wide_at};
 ghost use Rattle.dg_rules.specs.Events.{of_effect};
 ghost use Rattle.dg_base.specs.declared.events.ImageVersion.{ImageVersion as KeyValue};
 ghost use Rattle.dg_world.specs.Shareds.{IsShared};
-ghost use Rattle.dg_world.specs.Turn.{Starts};
-ghost use Rattle.dg_world.specs.Turns.{BeginsOver, TurnEnds};
+ghost use Rattle.dg_world.specs.EventOutcomes.{Starts};
+ghost use Rattle.dg_world.specs.OutcomeEndings.{BeginsOver, OutcomeEnds};
 ghost use Rattle.dg_world.specs.Hosts.{host};
 ghost use Rattle.dg_world.specs.Alone.{Powers};
-ghost use Rattle.dg_world.specs.Outcomes.{IsNothing, halt_of, turned};
+ghost use Rattle.dg_world.specs.Outcomes.{IsNothing, halt_of, as_outcome};
 ghost use Rattle.dg_world.specs.Known.{SeesStart};
 
 use crate::occasion::Occasion;
@@ -40,11 +40,11 @@ fn begin<N: Nor>(
     requires moment { now < 2 ^ 62 }
     ensures begun { IfOk result (λ b. (w : RuleWorld) (m : ℕ) (old : Option KeyValue) (v : Option RunningMote)
         → Stands (N.device board.old).image (store_at w m)
-        → TurnEnds (Ok (Starts b.line)) w m (of_effect w (boots cause (store_at w m) id wide now draw) old)
+        → OutcomeEnds (Ok (Starts b.line)) w m (of_effect w (boots cause (store_at w m) id wide now draw) old)
         (host (N.device board.old) v) (host (N.device board.new) (Some b.running))) }
     ensures halts { (f : Fault) → result ≡ Err f → (w : RuleWorld) (m : ℕ) (old : Option KeyValue) (v u : Option RunningMote)
         → Stands (N.device board.old).image (store_at w m)
-        → TurnEnds (Err (halt_of f None)) w m (of_effect w (boots cause (store_at w m) id wide now draw) old)
+        → OutcomeEnds (Err (halt_of f None)) w m (of_effect w (boots cause (store_at w m) id wide now draw) old)
         (host (N.device board.old) v) (host (N.device board.new) u) }
     ensures powers { Powers result (N.device board.old) (N.device board.new) }
     ensures same_reference { (N.device board.new).references ≡ (N.device board.old).references }
@@ -101,7 +101,7 @@ pub(crate) fn reset<N: Nor>(
     requires moment { now < 2 ^ 62 }
     requires nothing { IsNothing outcome.old }
     ensures ends { (w : RuleWorld) (m : ℕ) → m ≡ id → Stands (N.device board.old).image (store_at w m)
-        → TurnEnds (turned result outcome.new) w m (of_effect w (reset_effect
+        → OutcomeEnds (as_outcome result outcome.new) w m (of_effect w (reset_effect
         (store_at w m) m wide now draw) None) (host (N.device board.old) runs.old) (host (N.device board.new) runs.new) }
     ensures powers { Powers result (N.device board.old) (N.device board.new) }
     ensures sees { OnOk result (SeesStart outcome.new runs.new) }
@@ -124,7 +124,7 @@ pub(crate) fn reset_here<N: Nor>(
     requires nothing { IsNothing outcome.old }
     ensures ends { (w : RuleWorld) → IsShared occasion.now.shared.now w
         → Stands (N.device board.old).image (store_at w occasion.now.mote)
-        → TurnEnds (turned result outcome.new) w occasion.now.mote (of_effect w
+        → OutcomeEnds (as_outcome result outcome.new) w occasion.now.mote (of_effect w
         (reset_effect (store_at w occasion.now.mote) occasion.now.mote
         (wide_at w occasion.now.mote) occasion.now.moment draw) None)
         (host (N.device board.old) runs.old) (host (N.device board.new) runs.new) }
@@ -155,11 +155,11 @@ pub(crate) fn restart<N: Nor>(
     requires moment { now < 2 ^ 62 }
     ensures begun { IfOk result (λ line. (w : RuleWorld) (m : ℕ) (old : Option KeyValue) (v : Option RunningMote)
         → Stands (N.device board.old).image (store_at w m)
-        → TurnEnds (Ok (Starts line)) w m (of_effect w (boots StartCause.Order (store_at w m) id wide now draw) old)
+        → OutcomeEnds (Ok (Starts line)) w m (of_effect w (boots StartCause.Order (store_at w m) id wide now draw) old)
         (host (N.device board.old) v) (host (N.device board.new) (Some running.new))) }
     ensures halts { (f : Fault) → result ≡ Err f → (w : RuleWorld) (m : ℕ) (old : Option KeyValue) (v u : Option RunningMote)
         → Stands (N.device board.old).image (store_at w m)
-        → TurnEnds (Err (halt_of f None)) w m (of_effect w (boots StartCause.Order (store_at w m) id wide now draw) old)
+        → OutcomeEnds (Err (halt_of f None)) w m (of_effect w (boots StartCause.Order (store_at w m) id wide now draw) old)
         (host (N.device board.old) v) (host (N.device board.new) u) }
     ensures same_reference { (N.device board.new).references ≡ (N.device board.old).references }
 {

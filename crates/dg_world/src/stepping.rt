@@ -13,9 +13,9 @@ ghost use Rattle.dg_rules.specs.World.{World as RuleWorld};
 ghost use Rattle.dg_rules.specs.Changes.{sent_line, is_reported};
 ghost use Rattle.dg_script.specs.Ranges.{StepInRange};
 ghost use Rattle.dg_world.specs.Occasions.{step_of, MayApply};
-ghost use Rattle.dg_world.specs.Turn.{Refused, Starts};
-ghost use Rattle.dg_world.specs.Turns.{turn_lines, frame_lines};
-ghost use Rattle.dg_world.specs.Outcomes.{IsNothing, turn_of};
+ghost use Rattle.dg_world.specs.EventOutcomes.{Refused, Starts};
+ghost use Rattle.dg_world.specs.OutcomeEndings.{outcome_lines, frame_lines};
+ghost use Rattle.dg_world.specs.Outcomes.{IsNothing, outcome_of};
 ghost use Rattle.dg_world.specs.Stepped.{CutChangesAre, CutReported, CutRead, StepDid, station};
 ghost use Rattle.dg_world.specs.Known.{IsKnownChip, IsOrder, MakesKnown, SeesOrder, SeesCut};
 
@@ -38,7 +38,7 @@ pub(crate) const MOST_LINES: usize = MOST_CHANGES + 1;
 /// Appends the lines of what is reported. There is capacity for them.
 fn push_outcome(mote: u8, outcome: &Outcome, reported: bool, out: &mut Vec<Report>)
     requires capacity { vec_len out.old + MOST_CHANGES ≤ vec_capacity out.old }
-    ensures { out.new.items ≡ out.old.items ++ filter (is_reported reported) (turn_lines mote (turn_of outcome.now)) }
+    ensures { out.new.items ≡ out.old.items ++ filter (is_reported reported) (outcome_lines mote (outcome_of outcome.now)) }
 {
     if let Some(frame) = outcome.outbox.frame() {
         push_sent(mote, frame, reported, out);
@@ -112,7 +112,7 @@ fn message_line(mote: u8, message: &Message) -> Report
 
 fn push_refused(mote: u8, cause: Cause, out: &mut Vec<Report>)
     requires capacity { vec_len out.old + 1 ≤ vec_capacity out.old }
-    ensures reported { out.new.items ≡ out.old.items ++ turn_lines mote (Refused cause) }
+    ensures reported { out.new.items ≡ out.old.items ++ outcome_lines mote (Refused cause) }
     ensures capacity { vec_capacity out.new ≡ vec_capacity out.old }
     ensures few { vec_len out.new ≤ vec_len out.old + 1 }
 {
@@ -121,7 +121,7 @@ fn push_refused(mote: u8, cause: Cause, out: &mut Vec<Report>)
 
 fn push_start(mote: u8, line: StartLine, out: &mut Vec<Report>)
     requires capacity { vec_len out.old + 1 ≤ vec_capacity out.old }
-    ensures reported { out.new.items ≡ out.old.items ++ turn_lines mote (Starts line) }
+    ensures reported { out.new.items ≡ out.old.items ++ outcome_lines mote (Starts line) }
     ensures capacity { vec_capacity out.new ≡ vec_capacity out.old }
     ensures few { vec_len out.new ≤ vec_len out.old + 1 }
 {

@@ -5,10 +5,10 @@ ghost use Rattle.dg_mote.specs.Effects.{tick_effect};
 ghost use Rattle.dg_rules.specs.World.{World as RuleWorld, Running, site, store_at};
 ghost use Rattle.dg_rules.specs.Events.{of_effect, tick_does};
 ghost use Rattle.dg_world.specs.Worlds.{MoteStands, SiteStands, IsTimelyMote, MayRun};
-ghost use Rattle.dg_world.specs.Turns.{TurnEnds};
+ghost use Rattle.dg_world.specs.OutcomeEndings.{OutcomeEnds};
 ghost use Rattle.dg_world.specs.Hosts.{host};
 ghost use Rattle.dg_world.specs.Unseen.{RefusesUnseen};
-ghost use Rattle.dg_world.specs.Outcomes.{IsNothing, turned};
+ghost use Rattle.dg_world.specs.Outcomes.{IsNothing, as_outcome};
 ghost use Rattle.dg_world.specs.Known.{SeesMote};
 
 use crate::outcome::{Fault, Outcome};
@@ -32,7 +32,7 @@ fn tick_on<N: Nor>(
     requires nothing { IsNothing outcome.old }
     ensures ends { (w : RuleWorld) (m : ℕ) (r : Running) → Stands (N.device board.old).image (store_at w m)
         → MoteStands (N.device board.old).image (Some running.old) (store_at w m) (Some r)
-        → TurnEnds (turned result outcome.new) w m
+        → OutcomeEnds (as_outcome result outcome.new) w m
         (of_effect w (tick_effect r.mote (store_at w m) now draw) (Some r.image_version))
         (host (N.device board.old) (Some running.old)) (host (N.device board.new) (Some running.new)) }
     ensures sees { OnOk result (outcome.new.orderly ≡ None) }
@@ -67,7 +67,7 @@ pub(crate) fn tick<N: Nor>(
     requires moment { now < 2 ^ 62 }
     requires nothing { IsNothing outcome.old }
     ensures ends { (w : RuleWorld) (m : ℕ) → SiteStands (N.device board.old) runs.old (site w m)
-        → TurnEnds (turned result outcome.new) w m (tick_does w (store_at w m) (site w m).runs now draw)
+        → OutcomeEnds (as_outcome result outcome.new) w m (tick_does w (store_at w m) (site w m).runs now draw)
         (host (N.device board.old) runs.old) (host (N.device board.new) runs.new) }
     ensures unseen { (w : RuleWorld) (m : ℕ) → SiteStands (N.device board.old) runs.old (site w m)
         → RefusesUnseen (tick_does w (store_at w m) (site w m).runs now draw)

@@ -17,7 +17,7 @@ fn main(rt: HostRuntime) -> Result<()> {
         }
         match timer.tick(now, 0) {
             Act::Send => println!(rt; "{now} send")?,
-            Act::Quiet => println!(rt; "{now} quiet")?,
+            Act::Suppressed => println!(rt; "{now} suppressed")?,
             Act::Expired => println!(rt; "{now} expired")?,
             Act::Nothing => {}
         }

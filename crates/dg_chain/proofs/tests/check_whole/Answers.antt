@@ -3,10 +3,10 @@ use Rattle.dg_object.specs.Object.{Outline}
 use Rattle.dg_slot.specs.Kept.{Held, KeepsImage}
 use Rattle.dg_slot.specs.Jobs.{IsOpen, outline_told, done_told}
 use Rattle.dg_slot.specs.declared.states.OpenSlot.{OpenSlot}
-use Rattle.dg_chain.specs.Answers.{IsWhole}
+use Rattle.dg_chain.specs.Answers.{IsKeptWhole}
 use Rattle.dg_chain.proofs.tests.check_whole.Goals as goal
 
-whole : (c d : List ℕ) (o : OpenSlot) (i : ℕ) → d ≡ c → (h : Held) × IsOpen c o h → (outline_told o).image ≡ i → done_told o ≡ (outline_told o).pages → IsWhole d i
+whole : (c d : List ℕ) (o : OpenSlot) (i : ℕ) → d ≡ c → (h : Held) × IsOpen c o h → (outline_told o).image ≡ i → done_told o ≡ (outline_told o).pages → IsKeptWhole d i
 whole c d o i e opened is full =
     let opens = opened.1.opens in
     (opened.0, subst (λ (k : ℕ). KeepsImage d k opened.0) is (subst (λ (x : List ℕ). KeepsImage x (outline_told o).image opened.0) (sym e) opened.1.keeps), omega (arith, opens.done, opens.pages, full))

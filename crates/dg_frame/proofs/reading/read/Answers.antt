@@ -18,7 +18,7 @@ use Rattle.dg_frame.proofs.reading.read.Goals as goal
 
 -- the first byte names this kind
 of_kind : (b : List ℕ) (wide : Bool) (o : Option Kind) (k : Kind) → shortest ≤ length b → option_map kind_row o ≡ kind_of wide (slice_index b 0) → o ≡ Some k → IsOfKind b wide (kind_row k).0 (kind_row k).1
-of_kind b wide o k long e is = record { enough = long; kind = sym e ∙ ap (option_map kind_row) is }
+of_kind b wide o k long e is = record { least = long; kind = sym e ∙ ap (option_map kind_row) is }
 
 checked_by : (b : List ℕ) (r : Bool) → r ≡ (half_at b (length b - 2) == crc_of (take (length b - 2) b)) → r ≡ true → IsChecked b
 checked_by b r e is = eqb-true _ _ (sym e ∙ is)

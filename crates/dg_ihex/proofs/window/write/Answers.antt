@@ -1,6 +1,6 @@
 use Rattle.std.proofs.Common.{◌≡◌, ◌+◌, ◌%◌, get_or, set, drop, Some, sym, ap, ◌∙◌, arith}
 use Rattle.std.proofs.lemmas.List.{drop_more, drop_all}
-use Rattle.dg_ihex.specs.Sizes.{most_image}
+use Rattle.dg_ihex.specs.Sizes.{longest_image}
 use Rattle.dg_ihex.specs.Cells.{written}
 use Rattle.dg_ihex.proofs.window.write.Goals as goal
 
@@ -11,7 +11,7 @@ loop-at-preserved c =
     let bytes = c.args.bytes.now in
     let a = c.args.from in
     let next : a + (at + 1) ≡ a + at + 1 = omega arith in
-    ap (λ n. written (set c.loop-at.cells ((a + at) % most_image) (Some (get_or bytes at 0))) n (drop (at + 1) bytes)) next
+    ap (λ n. written (set c.loop-at.cells ((a + at) % longest_image) (Some (get_or bytes at 0))) n (drop (at + 1) bytes)) next
     ∙ sym (ap (written c.loop-at.cells (a + at)) (drop_more bytes at 0 (omega arith)))
     ∙ c.loop-at.invariant
 

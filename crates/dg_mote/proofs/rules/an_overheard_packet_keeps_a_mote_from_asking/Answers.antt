@@ -1,7 +1,7 @@
 use Rattle.std.proofs.Common.{ℕ, ◌+◌, sym, subst, arith}
 use Rattle.dg_quiet.specs.Times.{packet_window}
 use Rattle.dg_quiet.specs.Noted.{Noted, with_packet}
-use Rattle.dg_mote.specs.Model.{Turn}
+use Rattle.dg_mote.specs.Model.{MoteStep}
 use Rattle.dg_mote.specs.Hears.{heard_of}
 use Rattle.dg_mote.specs.Rules.{AsksNotFor}
 use Rattle.dg_mote.specs.declared.mote.Heard.{Heard}
@@ -19,4 +19,4 @@ returns-clause-after c m s timer now draw bytes source image version page q cont
     let x = record m { noted = with_packet m.noted now image } in
     let quiet : IsQuiet image now (now + packet_window) Noting (packet_shuts image now) x = record { noted = (now, got_noted m.noted.packets image now, omega arith); mode = subst (AsksNotFor image) (sym is) tt } in
     after_noted image now (now + packet_window) Noting (packet_shuts image now) m s now draw bytes events
-    (subst (λ (t : Turn Heard). IsQuiet image now (now + packet_window) Noting (packet_shuts image now) t.mote) (sym (packet_overheard m s timer now draw bytes source image version page q content e other is of_use)) quiet) between
+    (subst (λ (t : MoteStep Heard). IsQuiet image now (now + packet_window) Noting (packet_shuts image now) t.mote) (sym (packet_overheard m s timer now draw bytes source image version page q content e other is of_use)) quiet) between

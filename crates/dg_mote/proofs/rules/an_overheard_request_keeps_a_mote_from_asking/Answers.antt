@@ -1,7 +1,7 @@
 use Rattle.std.proofs.Common.{ℕ, ◌+◌, sym, subst, arith}
 use Rattle.dg_quiet.specs.Times.{request_window}
 use Rattle.dg_quiet.specs.Noted.{Noted, with_request}
-use Rattle.dg_mote.specs.Model.{Turn}
+use Rattle.dg_mote.specs.Model.{MoteStep}
 use Rattle.dg_mote.specs.Hears.{heard_of}
 use Rattle.dg_mote.specs.declared.mote.Heard.{Heard}
 use Rattle.dg_mote.proofs.QuietLemmas.{IsQuiet, IsNoted, got_noted, request_shuts}
@@ -18,4 +18,4 @@ returns-clause-after c m s now draw bytes source to image version page want even
     let x = record m { noted = with_request m.noted now image } in
     let quiet : IsQuiet image now (now + request_window) Noting (request_shuts image now) x = record { noted = (now, got_noted m.noted.requests image now, omega arith); mode = asks } in
     after_noted image now (now + request_window) Noting (request_shuts image now) m s now draw bytes events
-    (subst (λ (t : Turn Heard). IsQuiet image now (now + request_window) Noting (request_shuts image now) t.mote) (sym (request_overheard m s now draw bytes source to image version page want e other not_me of_use)) quiet) between
+    (subst (λ (t : MoteStep Heard). IsQuiet image now (now + request_window) Noting (request_shuts image now) t.mote) (sym (request_overheard m s now draw bytes source to image version page want e other not_me of_use)) quiet) between

@@ -17,6 +17,6 @@ returns-in-Send c m s id alike is tells =
     (c.put.ensures.sent ∙ ap (λ (x : Message). Some (frame_of x)) said)
     (subst (λ (w : Bool). IsRead w (advert_of m.id m.wide s)) (sym alike) (subst (IsRead c.args.wide) said (c.put.ensures.read c.args.wide c.advert_message.ensures.fits)))
 
-pub returns-in-Quiet : goal.returns-in-Quiet
-returns-in-Quiet c m s id alike is tells =
-    idle_shows m s c.args.trickle.now c.tick.new.self c.tick.result c.args.now c.args.draw c.args.out.now (sym (c.order_waits.ensures s tells) ∙ c.if-order_waits.false) c.tick.ensures.act c.in-Quiet.is c.tick.ensures.value c.requires.empty
+pub returns-in-Suppressed : goal.returns-in-Suppressed
+returns-in-Suppressed c m s id alike is tells =
+    idle_shows m s c.args.trickle.now c.tick.new.self c.tick.result c.args.now c.args.draw c.args.out.now (sym (c.order_waits.ensures s tells) ∙ c.if-order_waits.false) c.tick.ensures.act c.in-Suppressed.is c.tick.ensures.value c.requires.empty

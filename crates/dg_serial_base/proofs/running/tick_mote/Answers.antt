@@ -2,7 +2,7 @@ use Rattle.std.proofs.Common.{ap, sym, subst, ◌∙◌}
 use Rattle.std.specs.Prelude.{option_map}
 use Rattle.dg_nor.specs.Trail.{last}
 use Rattle.dg_frame.specs.Spelling.{frame_of}
-use Rattle.dg_mote.specs.Model.{Turn}
+use Rattle.dg_mote.specs.Model.{MoteStep}
 use Rattle.dg_mote.specs.Ticks.{tick_of}
 use Rattle.dg_mote.specs.Motes.{Done, sent_in}
 use Rattle.dg_mote.specs.declared.mote.Did.{Did}
@@ -48,7 +48,7 @@ returns-in-Restart-clause-sent g c = on_ok c.restart.result (λ m s mote timely.
     let b = g.N.Nor.device c.tick.new.nor in
     let done = subst (λ d. Done (tick_of m s now draw) a b c.tick.new.self d) c.in-Restart.is (c.in-Ok.ensures.done m s mote) in
     let is = c.a_restart_is_for_the_order.ensures.nothing m s now draw (sym done.answers) in
-    c.in-Ok.ensures.sent m s mote ∙ ap (λ (t : Turn Did). option_map frame_of t.sent) is ∙ ap (λ o. option_map frame_of o) (sym (restart_silent m s now draw is)))
+    c.in-Ok.ensures.sent m s mote ∙ ap (λ (t : MoteStep Did). option_map frame_of t.sent) is ∙ ap (λ o. option_map frame_of o) (sym (restart_silent m s now draw is)))
 
 pub returns-in-Restart-clause-counts : goal.returns-in-Restart-clause-counts
 returns-in-Restart-clause-counts g c =

@@ -10,7 +10,7 @@ use Rattle.dg_world.specs.Worlds.{MoteStands, SiteStands, MayRun}
 use Rattle.dg_world.specs.declared.world.RunningMote.{RunningMote}
 use Rattle.dg_world.specs.Cuts.{ended, EventPlayed}
 use Rattle.dg_world.specs.Hosts.{host}
-use Rattle.dg_world.specs.Outcomes.{turned, ended_as}
+use Rattle.dg_world.specs.Outcomes.{as_outcome, ended_as}
 use Rattle.dg_world.proofs.CutLemmas.{is_fused, fused, played_as}
 use Rattle.dg_world.proofs.UnseenLemmas.{ended_on}
 use Rattle.std.proofs.Common.{Ok}
@@ -50,13 +50,13 @@ returns-clause-played g c = λ w on.
     let last = c.board-1.given.1 name in
     let here = begun (device c.args.board.now) _ v (site w m) (ap (λ (d : Device). d.image) made) on.stands in
     let f = is_fused device cut (device c.args.board.now) c.fuse_of-fused.result c.apply_event-done.new.board _ c.requires.cut.counted made in
-    let p = fused (turned c.apply_event-done.result t) cut w m (does w c.args.event.now) v u _ _ _ _ f (c.apply_event-done.ensures.ends w (record { shared = on.shared; stands = here; moment = on.moment })) in
+    let p = fused (as_outcome c.apply_event-done.result t) cut w m (does w c.args.event.now) v u _ _ _ _ f (c.apply_event-done.ensures.ends w (record { shared = on.shared; stands = here; moment = on.moment })) in
     let awake = c.is_stopped-stopped.ensures ∙ ap (λ (x : g.row.N.Denot). (device x).stopped) last in
-    let e = c.end_turn.ensures t
-    ∙ ap (λ b. ended (b && not c.is_stopped-stopped.result) (turned c.apply_event-done.result t)) c.blown-blown.ensures
-    ∙ ap (λ b. ended (c.apply_event-done.new.board.blown && not b) (turned c.apply_event-done.result t)) awake in
-    let P : g.row.N.Denot → Type 0 = λ x. EventPlayed (ended_as c.end_turn.result t) w m (does w c.args.event.now) (Some cut) (host (device c.args.board.now) v) (host (device x) u) in
-    subst P (sym last) (played_as (ended_as c.end_turn.result t) _ (Some cut) (Some cut) w m (does w c.args.event.now) v u _ _ e refl p)
+    let e = c.end_outcome.ensures t
+    ∙ ap (λ b. ended (b && not c.is_stopped-stopped.result) (as_outcome c.apply_event-done.result t)) c.blown-blown.ensures
+    ∙ ap (λ b. ended (c.apply_event-done.new.board.blown && not b) (as_outcome c.apply_event-done.result t)) awake in
+    let P : g.row.N.Denot → Type 0 = λ x. EventPlayed (ended_as c.end_outcome.result t) w m (does w c.args.event.now) (Some cut) (host (device c.args.board.now) v) (host (device x) u) in
+    subst P (sym last) (played_as (ended_as c.end_outcome.result t) _ (Some cut) (Some cut) w m (does w c.args.event.now) v u _ _ e refl p)
 
 pub returns-clause-unseen : goal.returns-clause-unseen
 returns-clause-unseen g c = λ w on unseen.
@@ -66,7 +66,7 @@ returns-clause-unseen g c = λ w on unseen.
     let last = c.board-1.given.1 name in
     let here = begun (device c.args.board.now) _ c.args.runs.now (site w (mote_of c.args.event.now)) (ap (λ (d : Device). d.image) made) on.stands in
     let stays = c.apply_event-done.ensures.unseen w (record { shared = on.shared; stands = here; moment = on.moment }) unseen in
-    (last ∙ ap inner_of stays.0 ∙ c.fuse_of-fused.ensures.inner, ended_on c.end_turn.result c.apply_event-done.result _ c.apply_event-done.new.outcome (c.end_turn.ensures c.apply_event-done.new.outcome) stays.1)
+    (last ∙ ap inner_of stays.0 ∙ c.fuse_of-fused.ensures.inner, ended_on c.end_outcome.result c.apply_event-done.result _ c.apply_event-done.new.outcome (c.end_outcome.ensures c.apply_event-done.new.outcome) stays.1)
 
 pub returns-clause-reads : goal.returns-clause-reads
 returns-clause-reads g c =
@@ -76,9 +76,9 @@ returns-clause-reads g c =
     let name = sym (same_reference device c.fuse_of-fused.result c.apply_event-done.new.board c.apply_event-done.ensures.same_reference ∙ c.fuse_of-fused.ensures.same_reference) in
     let last = c.board-1.given.1 name in
     let y = c.apply_event-done.new.board in
-    let P : g.row.N.Denot → Type 0 = λ x. EventReads c.args.event.now c.args.occasion.now.known (c.end_turn.result ≡ Ok power.Stays) t.refused (device c.args.board.now) (device x) in
+    let P : g.row.N.Denot → Type 0 = λ x. EventReads c.args.event.now c.args.occasion.now.known (c.end_outcome.result ≡ Ok power.Stays) t.refused (device c.args.board.now) (device x) in
     subst P (sym last)
-    (reads_over c.args.event.now c.args.occasion.now.known _ (c.end_turn.result ≡ Ok power.Stays) t.refused _ (fused_device device y) (device c.args.board.now) (device (inner_of y)) (λ is. stays_done c.end_turn.result c.apply_event-done.result _ t (c.end_turn.ensures t) is)
+    (reads_over c.args.event.now c.args.occasion.now.known _ (c.end_outcome.result ≡ Ok power.Stays) t.refused _ (fused_device device y) (device c.args.board.now) (device (inner_of y)) (λ is. stays_done c.end_outcome.result c.apply_event-done.result _ t (c.end_outcome.ensures t) is)
     (ap (λ (d : Device). d.image) made) refl (ap (λ (d : Device). d.taken) made) refl c.apply_event-done.ensures.reads)
 
 pub returns-clause-sees : goal.returns-clause-sees
@@ -91,5 +91,5 @@ returns-clause-sees g c = λ is.
     let y = c.apply_event-done.new.board in
     let u = c.apply_event-done.new.runs in
     let P : g.row.N.Denot → Type 0 = λ x. EventSees c.args.event.now t u (device c.args.board.now).image (device x).image in
-    let sees = when_ok c.apply_event-done.result c.apply_event-done.ensures.sees (stays_done c.end_turn.result c.apply_event-done.result _ t (c.end_turn.ensures t) is) in
+    let sees = when_ok c.apply_event-done.result c.apply_event-done.ensures.sees (stays_done c.end_outcome.result c.apply_event-done.result _ t (c.end_outcome.ensures t) is) in
     subst P (sym last) (subst (λ (i : List ℕ). EventSees c.args.event.now t u i (device (inner_of y)).image) (ap (λ (d : Device). d.image) made) sees)

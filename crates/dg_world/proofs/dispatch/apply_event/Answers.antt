@@ -1,7 +1,7 @@
 use Rattle.std.proofs.Common.{subst, sym, ap, ◌∙◌}
 use Rattle.dg_rules.specs.World.{site, store_at}
 use Rattle.dg_rules.specs.Events.{hear_by, mote_of}
-use Rattle.dg_world.specs.Outcomes.{turned}
+use Rattle.dg_world.specs.Outcomes.{as_outcome}
 use Rattle.dg_world.proofs.DispatchLemmas.{ApplyEnsures, tick_applies, hear_applies, last_applies, frame_applies, reset_applies, inject_applies, order_applies, ends_at}
 use Rattle.dg_world.proofs.UnseenLemmas.{StaysUnused, unseen_at, tick_unseen, hear_unseen, last_unseen, frame_unseen, reset_unseen, inject_unseen, order_unseen}
 use Rattle.dg_world.proofs.KnownLemmas.{sees_at, reads_at, when_ok}
@@ -11,46 +11,46 @@ pub returns-in-Tick-clause-ends : goal.returns-in-Tick-clause-ends
 returns-in-Tick-clause-ends g c = λ w.
     let e = c.in-Tick in
     let x = c.tick in
-    subst (ApplyEnsures (turned x.result x.new.outcome) w c.args.occasion.now c.args.runs.now x.new.runs _ _) (sym e.is) (tick_applies (turned x.result x.new.outcome) w c.args.occasion.now c.args.runs.now x.new.runs _ _ e.mote e.dt e.draw (x.ensures.ends w e.mote))
+    subst (ApplyEnsures (as_outcome x.result x.new.outcome) w c.args.occasion.now c.args.runs.now x.new.runs _ _) (sym e.is) (tick_applies (as_outcome x.result x.new.outcome) w c.args.occasion.now c.args.runs.now x.new.runs _ _ e.mote e.dt e.draw (x.ensures.ends w e.mote))
 
 pub returns-in-Hear-clause-ends : goal.returns-in-Hear-clause-ends
 returns-in-Hear-clause-ends g c = λ w.
     let e = c.in-Hear in
     let x = c.hear_numbered in
-    subst (ApplyEnsures (turned x.result x.new.outcome) w c.args.occasion.now c.args.runs.now x.new.runs _ _) (sym e.is) (hear_applies (turned x.result x.new.outcome) w c.args.occasion.now c.args.runs.now x.new.runs _ _ e.mote e.dt e.draw e.frame (c.requires.may.here ∙ ap mote_of e.is) (x.ensures.ends w))
+    subst (ApplyEnsures (as_outcome x.result x.new.outcome) w c.args.occasion.now c.args.runs.now x.new.runs _ _) (sym e.is) (hear_applies (as_outcome x.result x.new.outcome) w c.args.occasion.now c.args.runs.now x.new.runs _ _ e.mote e.dt e.draw e.frame (c.requires.may.here ∙ ap mote_of e.is) (x.ensures.ends w))
 
 pub returns-in-Last-clause-ends : goal.returns-in-Last-clause-ends
 returns-in-Last-clause-ends g c = λ w.
     let e = c.in-Last in
     let x = c.hear_last in
-    subst (ApplyEnsures (turned x.result x.new.outcome) w c.args.occasion.now c.args.runs.now x.new.runs _ _) (sym e.is) (last_applies (turned x.result x.new.outcome) w c.args.occasion.now c.args.runs.now x.new.runs _ _ e.from e.to e.dt e.draw (c.requires.may.here ∙ ap mote_of e.is) (x.ensures.ends w))
+    subst (ApplyEnsures (as_outcome x.result x.new.outcome) w c.args.occasion.now c.args.runs.now x.new.runs _ _) (sym e.is) (last_applies (as_outcome x.result x.new.outcome) w c.args.occasion.now c.args.runs.now x.new.runs _ _ e.from e.to e.dt e.draw (c.requires.may.here ∙ ap mote_of e.is) (x.ensures.ends w))
 
 pub returns-in-Frame-clause-ends : goal.returns-in-Frame-clause-ends
 returns-in-Frame-clause-ends g c = λ w.
     let e = c.in-Frame in
     let x = c.hear in
-    subst (ApplyEnsures (turned x.result x.new.outcome) w c.args.occasion.now c.args.runs.now x.new.runs _ _) (sym e.is)
-    (frame_applies (turned x.result x.new.outcome) w c.args.occasion.now c.args.runs.now x.new.runs _ _ e.mote e.dt e.draw e.bytes (λ stands.
-    ends_at (λ bytes. hear_by w (store_at w e.mote) (site w e.mote).runs c.args.occasion.now.moment e.draw bytes) e.bytes c.as_slice-frame.result.now (turned x.result x.new.outcome) w e.mote c.args.runs.now x.new.runs _ _ (sym c.as_slice-frame.ensures) (x.ensures.ends w e.mote stands)))
+    subst (ApplyEnsures (as_outcome x.result x.new.outcome) w c.args.occasion.now c.args.runs.now x.new.runs _ _) (sym e.is)
+    (frame_applies (as_outcome x.result x.new.outcome) w c.args.occasion.now c.args.runs.now x.new.runs _ _ e.mote e.dt e.draw e.bytes (λ stands.
+    ends_at (λ bytes. hear_by w (store_at w e.mote) (site w e.mote).runs c.args.occasion.now.moment e.draw bytes) e.bytes c.as_slice-frame.result.now (as_outcome x.result x.new.outcome) w e.mote c.args.runs.now x.new.runs _ _ (sym c.as_slice-frame.ensures) (x.ensures.ends w e.mote stands)))
 
 pub returns-in-Reset-clause-ends : goal.returns-in-Reset-clause-ends
 returns-in-Reset-clause-ends g c = λ w.
     let e = c.in-Reset in
     let x = c.reset_here in
-    subst (ApplyEnsures (turned x.result x.new.outcome) w c.args.occasion.now c.args.runs.now x.new.runs _ _) (sym e.is)
-    (reset_applies (turned x.result x.new.outcome) w c.args.occasion.now c.args.runs.now x.new.runs _ _ e.mote e.dt e.draw (c.requires.may.here ∙ ap mote_of e.is) (x.ensures.ends w))
+    subst (ApplyEnsures (as_outcome x.result x.new.outcome) w c.args.occasion.now c.args.runs.now x.new.runs _ _) (sym e.is)
+    (reset_applies (as_outcome x.result x.new.outcome) w c.args.occasion.now c.args.runs.now x.new.runs _ _ e.mote e.dt e.draw (c.requires.may.here ∙ ap mote_of e.is) (x.ensures.ends w))
 
 pub returns-in-Inject-clause-ends : goal.returns-in-Inject-clause-ends
 returns-in-Inject-clause-ends g c = λ w.
     let e = c.in-Inject in
     let x = c.inject_known in
-    subst (ApplyEnsures (turned x.result x.new.outcome) w c.args.occasion.now c.args.runs.now x.new.runs _ _) (sym e.is) (inject_applies (turned x.result x.new.outcome) w c.args.occasion.now c.args.runs.now x.new.runs _ _ e.mote e.image e.version e.dt e.draw (c.requires.may.here ∙ ap mote_of e.is) (x.ensures.ends w))
+    subst (ApplyEnsures (as_outcome x.result x.new.outcome) w c.args.occasion.now c.args.runs.now x.new.runs _ _) (sym e.is) (inject_applies (as_outcome x.result x.new.outcome) w c.args.occasion.now c.args.runs.now x.new.runs _ _ e.mote e.image e.version e.dt e.draw (c.requires.may.here ∙ ap mote_of e.is) (x.ensures.ends w))
 
 pub returns-in-Order-clause-ends : goal.returns-in-Order-clause-ends
 returns-in-Order-clause-ends g c = λ w.
     let e = c.in-Order in
     let x = c.order_known in
-    subst (ApplyEnsures (turned x.result x.new.outcome) w c.args.occasion.now c.args.runs.now x.new.runs _ _) (sym e.is) (order_applies (turned x.result x.new.outcome) w c.args.occasion.now c.args.runs.now x.new.runs _ _ e.mote e.number e.image e.version e.dt e.draw (c.requires.may.here ∙ ap mote_of e.is) (x.ensures.ends w))
+    subst (ApplyEnsures (as_outcome x.result x.new.outcome) w c.args.occasion.now c.args.runs.now x.new.runs _ _) (sym e.is) (order_applies (as_outcome x.result x.new.outcome) w c.args.occasion.now c.args.runs.now x.new.runs _ _ e.mote e.number e.image e.version e.dt e.draw (c.requires.may.here ∙ ap mote_of e.is) (x.ensures.ends w))
 
 pub returns-in-Tick-clause-unseen : goal.returns-in-Tick-clause-unseen
 returns-in-Tick-clause-unseen g c = λ w.

@@ -4,7 +4,7 @@ use Rattle.dg_volume.specs.Stands.{Tells}
 use Rattle.dg_rules.specs.World.{site, store_at}
 use Rattle.dg_rules.specs.Events.{hear_by}
 use Rattle.dg_mote.specs.Hears.{heard_of}
-use Rattle.dg_world.specs.Turn.{Rests, Changes, Stopped}
+use Rattle.dg_world.specs.EventOutcomes.{Unreported, Changes, Stopped}
 use Rattle.dg_world.specs.declared.world.RunningMote.{RunningMote}
 use Rattle.dg_world.proofs.OutcomeLemmas.{told_as, is_refused, is_begun, is_changed}
 use Rattle.dg_world.proofs.TickLemmas.{off_as, on_as, hear_changes, hear_rests, hear_stopped}
@@ -37,7 +37,7 @@ returns-then-leaves_chip-clause-ends g c = λ w m stands.
     let u : RunningMote = record { image_version = v.image_version; mote = c.hear.new.self } in
     let n = c.requires.nothing in
     told_as w m _ _ _ _ _ _ _ (is_begun _ _ _ c.report_chip.result _ n.sent n.refused n.started n.after)
-    (on_as (λ o. hear_by w s o c.args.now c.args.draw c.args.bytes.now) (Ok Rests) w m c.args.runs.now v (Some u) _ s (site w m).runs _ _ c.in-Some.is stands.mote
+    (on_as (λ o. hear_by w s o c.args.now c.args.draw c.args.bytes.now) (Ok Unreported) w m c.args.runs.now v (Some u) _ s (site w m).runs _ _ c.in-Some.is stands.mote
     (λ r mote. hear_rests w m r c.args.now c.args.draw c.args.bytes.now v u _ _ _ mote.0 refl (c.in-Ok.ensures.done r.mote s mote.1) (c.leaves_chip.ensures c.if-leaves_chip.true)))
 
 pub returns-in-Err-clause-ends : goal.returns-in-Err-clause-ends

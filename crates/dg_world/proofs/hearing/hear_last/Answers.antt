@@ -4,12 +4,12 @@ use Rattle.dg_nor.proofs.ReadLemmas.{Looked-none}
 use Rattle.dg_rules.specs.World.{Sent, site, store_at, last_frame, linked}
 use Rattle.dg_rules.specs.Events.{Does, Refuses, hear_by, heard_last}
 use Rattle.dg_script.specs.declared.report.Cause.TheVariants as cause
-use Rattle.dg_world.specs.Outcomes.{turned}
+use Rattle.dg_world.specs.Outcomes.{as_outcome}
 use Rattle.dg_world.proofs.OutcomeLemmas.{told_as, is_refused}
 use Rattle.dg_world.proofs.DispatchLemmas.{not_off, is_off, refuses_at, ends_at, none_told}
 use Rattle.dg_world.proofs.UnseenLemmas.{unless_unseen, unseen_at}
 use Rattle.dg_world.proofs.hearing.hear_last.Goals as goal
-use Rattle.dg_world.specs.Turn.{Refused}
+use Rattle.dg_world.specs.EventOutcomes.{Refused}
 
 pub returns-then-is_none-clause-ends : goal.returns-then-is_none-clause-ends
 returns-then-is_none-clause-ends g c = λ w is stands.
@@ -51,10 +51,10 @@ returns-in-Some-clause-ends g c = λ w is stands.
     let D : Option Sent → Does = λ x. heard_last w c.args.from m c.args.occasion.now.moment c.args.draw x in
     let L : Bool → Does = λ b. if b then D (last_frame w c.args.from) else Refuses cause.Link in
     let near : linked w c.args.from m ≡ true = sym (c.are_joined.ensures w.links is.links) ∙ c.if-not-are_joined.false in
-    not_off (turned c.hear.result c.hear.new.outcome) w c.args.occasion.now v u a _ m (L (linked w c.args.from m)) a.image (store_at w m) (site w m).runs stands.mote (none_told c.args.runs.now c.is_none.result false c.is_none.ensures c.if-is_none.false)
-    (ends_at L (linked w c.args.from m) true (turned c.hear.result c.hear.new.outcome) w m v u a _ near
-    (ends_at D (last_frame w c.args.from) (Some sent) (turned c.hear.result c.hear.new.outcome) w m v u a _ (sym (c.in-Some.ensures w.sent is.sent))
-    (ends_at H f.frame.items c.as_slice.result.now (turned c.hear.result c.hear.new.outcome) w m v u a _ (sym c.as_slice.ensures.value) (c.hear.ensures.ends w m stands))))
+    not_off (as_outcome c.hear.result c.hear.new.outcome) w c.args.occasion.now v u a _ m (L (linked w c.args.from m)) a.image (store_at w m) (site w m).runs stands.mote (none_told c.args.runs.now c.is_none.result false c.is_none.ensures c.if-is_none.false)
+    (ends_at L (linked w c.args.from m) true (as_outcome c.hear.result c.hear.new.outcome) w m v u a _ near
+    (ends_at D (last_frame w c.args.from) (Some sent) (as_outcome c.hear.result c.hear.new.outcome) w m v u a _ (sym (c.in-Some.ensures w.sent is.sent))
+    (ends_at H f.frame.items c.as_slice.result.now (as_outcome c.hear.result c.hear.new.outcome) w m v u a _ (sym c.as_slice.ensures.value) (c.hear.ensures.ends w m stands))))
 
 pub returns-in-Some-clause-unseen : goal.returns-in-Some-clause-unseen
 returns-in-Some-clause-unseen g c = λ w is stands unseen.

@@ -4,12 +4,12 @@ use Rattle.dg_nor.proofs.ReadLemmas.{Looked-none}
 use Rattle.dg_rules.specs.World.{Sent, site, store_at, frame_at, linked}
 use Rattle.dg_rules.specs.Events.{Does, Refuses, hear_by, heard_sent}
 use Rattle.dg_script.specs.declared.report.Cause.TheVariants as cause
-use Rattle.dg_world.specs.Outcomes.{turned}
+use Rattle.dg_world.specs.Outcomes.{as_outcome}
 use Rattle.dg_world.proofs.OutcomeLemmas.{told_as, is_refused}
 use Rattle.dg_world.proofs.DispatchLemmas.{not_off, is_off, refuses_at, ends_at, none_told}
 use Rattle.dg_world.proofs.UnseenLemmas.{unless_unseen, unseen_at}
 use Rattle.dg_world.proofs.hearing.hear_numbered.Goals as goal
-use Rattle.dg_world.specs.Turn.{Refused}
+use Rattle.dg_world.specs.EventOutcomes.{Refused}
 
 pub returns-then-is_none-clause-ends : goal.returns-then-is_none-clause-ends
 returns-then-is_none-clause-ends g c = λ w is stands.
@@ -37,10 +37,10 @@ returns-then-are_joined-clause-ends g c = λ w is stands.
     let H : List ℕ → Does = λ bytes. hear_by w (store_at w m) (site w m).runs c.args.occasion.now.moment c.args.draw bytes in
     let L : Bool → Does = λ b. if b then H f.frame.items else Refuses cause.Link in
     let near : linked w f.by m ≡ true = sym (c.are_joined.ensures w.links is.links) ∙ c.if-are_joined.true in
-    not_off (turned c.hear.result c.hear.new.outcome) w c.args.occasion.now v c.hear.new.runs a _ m (D (frame_at w c.args.number)) a.image (store_at w m) (site w m).runs stands.mote (none_told c.args.runs.now c.is_none.result false c.is_none.ensures c.if-is_none.false)
-    (ends_at D (frame_at w c.args.number) (Some sent) (turned c.hear.result c.hear.new.outcome) w m v c.hear.new.runs a _ (sym (c.in-Some.ensures w.sent is.sent))
-    (ends_at L (linked w f.by m) true (turned c.hear.result c.hear.new.outcome) w m v c.hear.new.runs a _ near
-    (ends_at H f.frame.items c.as_slice.result.now (turned c.hear.result c.hear.new.outcome) w m v c.hear.new.runs a _ (sym c.as_slice.ensures.value) (c.hear.ensures.ends w m stands))))
+    not_off (as_outcome c.hear.result c.hear.new.outcome) w c.args.occasion.now v c.hear.new.runs a _ m (D (frame_at w c.args.number)) a.image (store_at w m) (site w m).runs stands.mote (none_told c.args.runs.now c.is_none.result false c.is_none.ensures c.if-is_none.false)
+    (ends_at D (frame_at w c.args.number) (Some sent) (as_outcome c.hear.result c.hear.new.outcome) w m v c.hear.new.runs a _ (sym (c.in-Some.ensures w.sent is.sent))
+    (ends_at L (linked w f.by m) true (as_outcome c.hear.result c.hear.new.outcome) w m v c.hear.new.runs a _ near
+    (ends_at H f.frame.items c.as_slice.result.now (as_outcome c.hear.result c.hear.new.outcome) w m v c.hear.new.runs a _ (sym c.as_slice.ensures.value) (c.hear.ensures.ends w m stands))))
 
 pub returns-else-are_joined-clause-ends : goal.returns-else-are_joined-clause-ends
 returns-else-are_joined-clause-ends g c = λ w is stands.

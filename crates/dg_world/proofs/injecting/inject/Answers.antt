@@ -1,6 +1,6 @@
 use Rattle.dg_volume.specs.Table.{row_at}
 use Rattle.dg_world.specs.Images.{row_of_image}
-use Rattle.dg_world.specs.Outcomes.{turned}
+use Rattle.dg_world.specs.Outcomes.{as_outcome}
 use Rattle.dg_world.proofs.ImageLemmas.{known_row}
 use Rattle.dg_world.proofs.InjectLemmas.{known_image, not_zero}
 use Rattle.std.proofs.Common.{refl}
@@ -10,7 +10,7 @@ use Rattle.dg_world.proofs.injecting.inject.Goals as goal
 pub returns-in-Some-clause-ends : goal.returns-in-Some-clause-ends
 returns-in-Some-clause-ends g c = λ w m declares stands.
     let image_version = c.args.image_version in
-    known_image (turned c.inject_image.result c.inject_image.new.outcome) w m c.args.occasion.now.moment c.args.draw image_version.image (row_at w.declared image_version.image image_version.version) (row_of_image image_version c.in-Some.image.now) c.args.runs.now c.inject_image.new.runs _ _ (not_zero image_version.image c.if-image_version-eq0.false)
+    known_image (as_outcome c.inject_image.result c.inject_image.new.outcome) w m c.args.occasion.now.moment c.args.draw image_version.image (row_at w.declared image_version.image image_version.version) (row_of_image image_version c.in-Some.image.now) c.args.runs.now c.inject_image.new.runs _ _ (not_zero image_version.image c.if-image_version-eq0.false)
     (known_row c.args.occasion.now.shared.now.images w.declared image_version c.in-Some.image.now declares c.in-Some.ensures) (c.inject_image.ensures.ends w m stands)
 
 pub returns-in-Some-clause-unseen : goal.returns-in-Some-clause-unseen

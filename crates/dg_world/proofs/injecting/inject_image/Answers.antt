@@ -5,12 +5,12 @@ use Rattle.dg_volume.specs.declared.volume.InjectFault.TheVariants as inject
 use Rattle.dg_rules.specs.World.{store_at, site}
 use Rattle.dg_rules.specs.Events.{inject_row, inject_cause}
 use Rattle.dg_world.specs.Images.{row_of_image}
-use Rattle.dg_world.specs.Turn.{Changes}
-use Rattle.dg_world.specs.Turns.{TurnEnds}
+use Rattle.dg_world.specs.EventOutcomes.{Changes}
+use Rattle.dg_world.specs.OutcomeEndings.{OutcomeEnds}
 use Rattle.dg_world.specs.Hosts.{host}
-use Rattle.dg_world.specs.Outcomes.{turn_of, turned}
+use Rattle.dg_world.specs.Outcomes.{outcome_of, as_outcome}
 use Rattle.dg_world.specs.declared.outcome.Outcome.{Outcome}
-use Rattle.dg_world.proofs.OutcomeLemmas.{turned_err, told_as, is_changed, is_refused}
+use Rattle.dg_world.proofs.OutcomeLemmas.{as_outcome_err, told_as, is_changed, is_refused}
 use Rattle.dg_world.proofs.InjectLemmas.{inject_begun, injected, inject_faulted, cause_stopped, cause_refused, stop_stopped, stop_refused}
 use Rattle.dg_world.proofs.KnownLemmas.{not_stopped, found_cause, same_order, inject_same, not_refused, inject_reads}
 use Rattle.dg_world.proofs.injecting.inject_image.Goals as goal
@@ -18,7 +18,7 @@ use Rattle.dg_world.proofs.injecting.inject_image.Goals as goal
 pub returns-in_err-volume-clause-ends : goal.returns-in_err-volume-clause-ends
 returns-in_err-volume-clause-ends g c = λ w m stands.
     let row = row_of_image c.args.image_version c.args.image.now in
-    turned_err w m _ _ _ _ _ c.from_residual.result c.in_err-volume.field-0.0 c.args.outcome.now None c.from_residual.ensures.1 c.requires.nothing.before
+    as_outcome_err w m _ _ _ _ _ c.from_residual.result c.in_err-volume.field-0.0 c.args.outcome.now None c.from_residual.ensures.1 c.requires.nothing.before
     (c.in_err-volume.ensures.halts _ refl w m _ _ _ stands.stands (inject_begun w m c.args.occasion.now.moment c.args.draw row))
 
 pub reload-requires-clause-mote : goal.reload-requires-clause-mote
@@ -41,7 +41,7 @@ returns-in-Ok-clause-ends g c = λ w m stands.
     let e = c.in-Ok.ensures in
     let ends = e.ends s mounted in
     let acted = ends.acted in
-    let P : Row → Type 0 = λ x. TurnEnds (Ok (Changes c.report_chip.result c.report_chip-in-Ok.result)) w m (inject_row w m (Some x) c.args.occasion.now.moment c.args.draw) (host a c.args.runs.now) (host b u) in
+    let P : Row → Type 0 = λ x. OutcomeEnds (Ok (Changes c.report_chip.result c.report_chip-in-Ok.result)) w m (inject_row w m (Some x) c.args.occasion.now.moment c.args.draw) (host a c.args.runs.now) (host b u) in
     told_as w m _ _ _ _ _ _ _ (is_changed _ _ _ c.report_chip.result c.report_chip-in-Ok.result n.sent n.refused n.started)
     (subst P same
     (injected w m c.args.occasion.now.moment c.args.draw row _ c.args.runs.now u a _ b c.report_chip.result c.report_chip-in-Ok.result (inject_refusal s row) ends.allowed c.in_ok-volume.ensures.looked acted
@@ -64,11 +64,11 @@ returns-in_err-inject_fault-in-Err-clause-ends g c = λ w m stands.
     let told = c.inject_fault.ensures in
     let from = c.from_residual-in_err-inject_fault-in-Err in
     let t : Outcome = record c.args.outcome.now { before = Some c.report_chip.result } in
-    let P : Row → Type 0 = λ x. TurnEnds (turned from.result t) w m (inject_row w m (Some x) c.args.occasion.now.moment c.args.draw) (host a v) (host b v) in
+    let P : Row → Type 0 = λ x. OutcomeEnds (as_outcome from.result t) w m (inject_row w m (Some x) c.args.occasion.now.moment c.args.draw) (host a v) (host b v) in
     subst P same
-    (inject_faulted w m c.args.occasion.now.moment c.args.draw row v a _ b c.report_chip.result fault (turned from.result t)
+    (inject_faulted w m c.args.occasion.now.moment c.args.draw row v a _ b c.report_chip.result fault (as_outcome from.result t)
     (stop_stopped (fault ≡ inject.Stopped) c.inject_fault.result q.field-0.0 from.result t c.report_chip.result q.was from.ensures.1 refl told.stopped)
-    (stop_refused (fault ≢ inject.Stopped) c.inject_fault.result q.field-0.0 (inject_cause row fault) (turned from.result t) q.was (λ other. told.refused other row refl))
+    (stop_refused (fault ≢ inject.Stopped) c.inject_fault.result q.field-0.0 (inject_cause row fault) (as_outcome from.result t) q.was (λ other. told.refused other row refl))
     ends.allowed (λ other. ends.refused fault refl other) c.in_ok-volume.ensures.looked
     (λ other not_taken. (e.unchanged fault refl other not_taken).0) (λ is. (e.taken (ap (λ e. Err e) is)).0) (λ is. ends.stopped (ap (λ e. Err e) is))
     (c.report_chip.ensures s mounted.tells))
@@ -89,11 +89,11 @@ returns-in_ok-inject_fault-in-Err-clause-ends g c = λ w m stands.
     let q = c.in_ok-inject_fault-in-Err in
     let told = c.inject_fault.ensures in
     let t : Outcome = record c.args.outcome.now { refused = Some q.field-0; before = Some c.report_chip.result } in
-    let P : Row → Type 0 = λ x. TurnEnds (Ok (turn_of t)) w m (inject_row w m (Some x) c.args.occasion.now.moment c.args.draw) (host a v) (host b v) in
+    let P : Row → Type 0 = λ x. OutcomeEnds (Ok (outcome_of t)) w m (inject_row w m (Some x) c.args.occasion.now.moment c.args.draw) (host a v) (host b v) in
     subst P same
-    (inject_faulted w m c.args.occasion.now.moment c.args.draw row v a _ b c.report_chip.result fault (Ok (turn_of t))
-    (cause_stopped (fault ≡ inject.Stopped) c.inject_fault.result q.field-0 (Ok (turn_of t)) c.report_chip.result q.was told.stopped)
-    (cause_refused (fault ≢ inject.Stopped) c.inject_fault.result q.field-0 (inject_cause row fault) (turn_of t) q.was (λ other. told.refused other row refl) (is_refused _ q.field-0 _ _ _ c.requires.nothing.sent))
+    (inject_faulted w m c.args.occasion.now.moment c.args.draw row v a _ b c.report_chip.result fault (Ok (outcome_of t))
+    (cause_stopped (fault ≡ inject.Stopped) c.inject_fault.result q.field-0 (Ok (outcome_of t)) c.report_chip.result q.was told.stopped)
+    (cause_refused (fault ≢ inject.Stopped) c.inject_fault.result q.field-0 (inject_cause row fault) (outcome_of t) q.was (λ other. told.refused other row refl) (is_refused _ q.field-0 _ _ _ c.requires.nothing.sent))
     ends.allowed (λ other. ends.refused fault refl other) c.in_ok-volume.ensures.looked
     (λ other not_taken. (e.unchanged fault refl other not_taken).0) (λ is. (e.taken (ap (λ e. Err e) is)).0) (λ is. ends.stopped (ap (λ e. Err e) is))
     (c.report_chip.ensures s mounted.tells))

@@ -1,7 +1,7 @@
 use Rattle.dg_nor.proofs.ReadLemmas.{Looked-none}
 use Rattle.dg_rules.specs.World.{wide_at}
 use Rattle.dg_rules.specs.Events.{knows, injects}
-use Rattle.dg_world.specs.Outcomes.{turned}
+use Rattle.dg_world.specs.Outcomes.{as_outcome}
 use Rattle.dg_world.proofs.OutcomeLemmas.{told_as, is_refused}
 use Rattle.dg_world.proofs.DispatchLemmas.{knows_by, known_ends, unknown_ends}
 use Rattle.dg_world.proofs.UnseenLemmas.{known_unseen}
@@ -18,7 +18,7 @@ pub returns-clause-ends : goal.returns-clause-ends
 returns-clause-ends g c = λ w is stands.
     let m = c.args.occasion.now.mote in
     let image_version = c.args.image_version in
-    known_ends (injects w m image_version.image image_version.version c.args.occasion.now.moment c.args.draw) (turned c.inject.result c.inject.new.outcome) w m c.args.runs.now c.inject.new.runs _ _ (knows (wide_at w m) image_version.image) c.knows.result
+    known_ends (injects w m image_version.image image_version.version c.args.occasion.now.moment c.args.draw) (as_outcome c.inject.result c.inject.new.outcome) w m c.args.runs.now c.inject.new.runs _ _ (knows (wide_at w m) image_version.image) c.knows.result
     (knows_by c.is_wide.result (wide_at w m) c.knows.result image_version.image (c.is_wide.ensures w is) c.knows.ensures) c.if-not-knows.false (c.inject.ensures.ends w m is.declared stands)
 
 pub returns-clause-unseen : goal.returns-clause-unseen

@@ -1,5 +1,5 @@
 use Rattle.std.proofs.Common.{ap, sym, Err}
-use Rattle.dg_world.proofs.TurnLemmas.{read_halts, same_fault}
+use Rattle.dg_world.proofs.OutcomeEndLemmas.{read_halts, same_fault}
 use Rattle.dg_world.proofs.mounting.mount.Goals as goal
 
 pub returns-in-Err-Stopped-clause-halts : goal.returns-in-Err-Stopped-clause-halts

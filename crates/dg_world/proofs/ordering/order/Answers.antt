@@ -4,9 +4,9 @@ use Rattle.dg_volume.specs.Changes.{order_refusal}
 use Rattle.dg_volume.specs.declared.volume.OrderFault.TheVariants as order_fault
 use Rattle.dg_rules.specs.World.{store_at, site}
 use Rattle.dg_rules.specs.Events.{order_cause}
-use Rattle.dg_world.specs.Outcomes.{turn_of, turned}
+use Rattle.dg_world.specs.Outcomes.{outcome_of, as_outcome}
 use Rattle.dg_world.specs.declared.outcome.Outcome.{Outcome}
-use Rattle.dg_world.proofs.OutcomeLemmas.{turned_err, told_as, is_changed, is_refused}
+use Rattle.dg_world.proofs.OutcomeLemmas.{as_outcome_err, told_as, is_changed, is_refused}
 use Rattle.dg_world.proofs.InjectLemmas.{order_begins, ordered, order_faulted, cause_stopped, cause_refused, stop_stopped, stop_refused}
 use Rattle.dg_nor.specs.Device.{Device}
 use Rattle.dg_world.proofs.KnownLemmas.{not_stopped, same_order, order_reads, mount_reads, order_volume}
@@ -15,7 +15,7 @@ use Rattle.dg_world.proofs.ordering.order.Goals as goal
 pub returns-in_err-volume-clause-ends : goal.returns-in_err-volume-clause-ends
 returns-in_err-volume-clause-ends g c = λ w m stands.
     let o : Order = record { number = c.args.number; image = c.args.image_version.image; version = c.args.image_version.version } in
-    turned_err w m _ _ _ _ _ c.from_residual.result c.in_err-volume.field-0.0 c.args.outcome.now None c.from_residual.ensures.1 c.requires.nothing.before
+    as_outcome_err w m _ _ _ _ _ c.from_residual.result c.in_err-volume.field-0.0 c.args.outcome.now None c.from_residual.ensures.1 c.requires.nothing.before
     (c.in_err-volume.ensures.halts _ refl w m _ _ _ stands.stands (order_begins w m c.args.occasion.now.moment c.args.draw o (order_refusal (store_at w m) o)))
 
 pub reload-requires-clause-mote : goal.reload-requires-clause-mote
@@ -48,9 +48,9 @@ returns-in_err-order_fault-in-Err-clause-ends g c = λ w m stands.
     let told = c.order_fault.ensures in
     let from = c.from_residual-in_err-order_fault-in-Err in
     let t : Outcome = record c.args.outcome.now { before = Some c.report_chip.result } in
-    order_faulted w m c.args.occasion.now.moment c.args.draw o c.args.runs.now _ _ _ c.report_chip.result fault (turned from.result t)
+    order_faulted w m c.args.occasion.now.moment c.args.draw o c.args.runs.now _ _ _ c.report_chip.result fault (as_outcome from.result t)
     (stop_stopped (fault ≡ order_fault.Stopped) c.order_fault.result q.field-0.0 from.result t c.report_chip.result q.was from.ensures.1 refl told.stopped)
-    (stop_refused (fault ≢ order_fault.Stopped) c.order_fault.result q.field-0.0 (order_cause fault) (turned from.result t) q.was told.refused)
+    (stop_refused (fault ≢ order_fault.Stopped) c.order_fault.result q.field-0.0 (order_cause fault) (as_outcome from.result t) q.was told.refused)
     (e.allowed s mounted) (λ other. e.refused fault refl other s mounted) c.in_ok-volume.ensures.looked
     (λ other. (e.unchanged fault refl other).0) (λ is. e.stopped (ap (λ e. Err e) is) s mounted) (c.report_chip.ensures s mounted.tells)
 
@@ -64,9 +64,9 @@ returns-in_ok-order_fault-in-Err-clause-ends g c = λ w m stands.
     let q = c.in_ok-order_fault-in-Err in
     let told = c.order_fault.ensures in
     let t : Outcome = record c.args.outcome.now { refused = Some q.field-0; before = Some c.report_chip.result } in
-    order_faulted w m c.args.occasion.now.moment c.args.draw o c.args.runs.now _ _ _ c.report_chip.result fault (Ok (turn_of t))
-    (cause_stopped (fault ≡ order_fault.Stopped) c.order_fault.result q.field-0 (Ok (turn_of t)) c.report_chip.result q.was told.stopped)
-    (cause_refused (fault ≢ order_fault.Stopped) c.order_fault.result q.field-0 (order_cause fault) (turn_of t) q.was told.refused (is_refused _ q.field-0 _ _ _ c.requires.nothing.sent))
+    order_faulted w m c.args.occasion.now.moment c.args.draw o c.args.runs.now _ _ _ c.report_chip.result fault (Ok (outcome_of t))
+    (cause_stopped (fault ≡ order_fault.Stopped) c.order_fault.result q.field-0 (Ok (outcome_of t)) c.report_chip.result q.was told.stopped)
+    (cause_refused (fault ≢ order_fault.Stopped) c.order_fault.result q.field-0 (order_cause fault) (outcome_of t) q.was told.refused (is_refused _ q.field-0 _ _ _ c.requires.nothing.sent))
     (e.allowed s mounted) (λ other. e.refused fault refl other s mounted) c.in_ok-volume.ensures.looked
     (λ other. (e.unchanged fault refl other).0) (λ is. e.stopped (ap (λ e. Err e) is) s mounted) (c.report_chip.ensures s mounted.tells)
 

@@ -2,7 +2,7 @@ use Rattle.dg_control.specs.declared.snapshot.Order.{Order}
 use Rattle.dg_nor.proofs.ReadLemmas.{Looked-none}
 use Rattle.dg_rules.specs.World.{wide_at}
 use Rattle.dg_rules.specs.Events.{knows, orders}
-use Rattle.dg_world.specs.Outcomes.{turned}
+use Rattle.dg_world.specs.Outcomes.{as_outcome}
 use Rattle.dg_world.proofs.OutcomeLemmas.{told_as, is_refused}
 use Rattle.dg_world.proofs.DispatchLemmas.{knows_by, known_ends, unknown_ends}
 use Rattle.dg_world.proofs.UnseenLemmas.{known_unseen, order_seen}
@@ -24,7 +24,7 @@ returns-clause-ends g c = λ w is stands.
     let m = c.args.occasion.now.mote in
     let image_version = c.args.image_version in
     let o : Order = record { number = c.args.number; image = image_version.image; version = image_version.version } in
-    known_ends (orders w m o c.args.occasion.now.moment c.args.draw) (turned c.order.result c.order.new.outcome) w m c.args.runs.now c.order.new.runs _ _ (knows (wide_at w m) image_version.image) c.knows.result
+    known_ends (orders w m o c.args.occasion.now.moment c.args.draw) (as_outcome c.order.result c.order.new.outcome) w m c.args.runs.now c.order.new.runs _ _ (knows (wide_at w m) image_version.image) c.knows.result
     (knows_by c.is_wide.result (wide_at w m) c.knows.result image_version.image (c.is_wide.ensures w is) c.knows.ensures) c.if-not-knows.false (c.order.ensures.ends w m stands)
 
 pub returns-clause-unseen : goal.returns-clause-unseen

@@ -4,13 +4,13 @@ use Rattle.dg_rules.specs.Changes.{is_reported}
 use Rattle.dg_rules.specs.Events.{does, mote_of}
 use Rattle.dg_script.specs.declared.report.Report.TheVariants.{Off}
 use Rattle.dg_world.specs.Occasions.{step_of}
-use Rattle.dg_world.specs.Turns.{turn_lines}
-use Rattle.dg_world.specs.Outcomes.{turn_of, ended_as}
+use Rattle.dg_world.specs.OutcomeEndings.{outcome_lines}
+use Rattle.dg_world.specs.Outcomes.{outcome_of, ended_as}
 use Rattle.dg_world.specs.Stepped.{Stepped, station}
 use Rattle.dg_world.specs.declared.outcome.Power.{Power}
 use Rattle.dg_world.proofs.CutLemmas.{played_as}
 use Rattle.dg_world.proofs.OutcomeLemmas.{frame_told}
-use Rattle.dg_world.proofs.DoneLemmas.{step_turn, step_cut, step_cut_halts, step_fails, event_mote, told_at}
+use Rattle.dg_world.proofs.DoneLemmas.{step_outcome, step_cut, step_cut_halts, step_fails, event_mote, told_at}
 use Rattle.dg_world.proofs.UnseenLemmas.{not_stays, not_cut}
 use Rattle.dg_world.proofs.KnownLemmas.{step_sees, cut_sees, play_refused, refused_play, refused_told, refuses_goes, inject_takes, order_takes, order_again, reads_order}
 use Rattle.dg_world.proofs.stepping.step_cut.Goals as goal
@@ -53,15 +53,15 @@ returns-in-Stays g c =
     record {
       steps = λ w fits on.
           let p = played_as _ (ended_as c.play_cut.result t) x.cut (Some c.args.cut.now) w m (does w event) _ _ a b (sym (ap (λ r. ended_as r t) was)) refl (c.play_cut.ensures.played w on) in
-          step_turn w x o.reported _ _ _ (turn_of t) _ _ told c.push_outcome.new.out.items (event_mote _ event fits.event) on.stands p (frame_told t)
-          (c.push_outcome.ensures ∙ ap (λ m. told ++ filter (is_reported o.reported) (turn_lines m (turn_of t))) c.requires.may.here);
+          step_outcome w x o.reported _ _ _ (outcome_of t) _ _ told c.push_outcome.new.out.items (event_mote _ event fits.event) on.stands p (frame_told t)
+          (c.push_outcome.ensures ∙ ap (λ m. told ++ filter (is_reported o.reported) (outcome_lines m (outcome_of t))) c.requires.may.here);
       sees = λ w on.
           let p = played_as _ (ended_as c.play_cut.result t) x.cut (Some c.args.cut.now) w m (does w event) _ _ a b (sym (ap (λ r. ended_as r t) was)) refl (c.play_cut.ensures.played w on) in
-          step_sees w o.known c.play_cut.new.runs a.image b.image event t (c.play_cut.ensures.sees was) (play_refused w m (does w event) x.cut _ _ a b (turn_of t) p.ends);
+          step_sees w o.known c.play_cut.new.runs a.image b.image event t (c.play_cut.ensures.sees was) (play_refused w m (does w event) x.cut _ _ a b (outcome_of t) p.ends);
       order_reads = λ known. order_takes event o.known _ t.refused _ _ known c.play_cut.ensures.reads;
       inject_reads = λ known w on.
           let p = played_as _ (ended_as c.play_cut.result t) x.cut (Some c.args.cut.now) w m (does w event) _ _ a b (sym (ap (λ r. ended_as r t) was)) refl (c.play_cut.ensures.played w on) in
-          inject_takes w event o.known _ t.refused a b known was c.play_cut.ensures.reads (λ why refuses. refused_told t why (refused_play w m (does w event) x.cut _ _ a b (turn_of t) p.ends why refuses));
+          inject_takes w event o.known _ t.refused a b known was c.play_cut.ensures.reads (λ why refuses. refused_told t why (refused_play w m (does w event) x.cut _ _ a b (outcome_of t) p.ends why refuses));
       unseen = λ w on unseen. (ap g.N.Nor.device (c.play_cut.ensures.unseen w on unseen).0, tt);
     }
 

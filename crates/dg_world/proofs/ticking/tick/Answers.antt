@@ -1,7 +1,7 @@
 use Rattle.std.proofs.Common.{refl}
 use Rattle.dg_rules.specs.World.{site, store_at}
 use Rattle.dg_rules.specs.Events.{tick_does}
-use Rattle.dg_world.specs.Outcomes.{turned}
+use Rattle.dg_world.specs.Outcomes.{as_outcome}
 use Rattle.dg_world.proofs.OutcomeLemmas.{told_as, is_refused}
 use Rattle.dg_world.proofs.TickLemmas.{off_as, on_as}
 use Rattle.dg_world.proofs.UnseenLemmas.{on_unseen}
@@ -14,7 +14,7 @@ returns-in-None-clause-ends g c = λ w m stands.
 
 pub returns-in-Some-clause-ends : goal.returns-in-Some-clause-ends
 returns-in-Some-clause-ends g c = λ w m stands.
-    on_as (λ o. tick_does w (store_at w m) o c.args.now c.args.draw) (turned c.tick_on.result c.tick_on.new.outcome) w m c.args.runs.now c.in-Some.running _ _ (store_at w m) (site w m).runs _ _ c.in-Some.is stands.mote
+    on_as (λ o. tick_does w (store_at w m) o c.args.now c.args.draw) (as_outcome c.tick_on.result c.tick_on.new.outcome) w m c.args.runs.now c.in-Some.running _ _ (store_at w m) (site w m).runs _ _ c.in-Some.is stands.mote
     (λ x is. c.tick_on.ensures.ends w m x stands.stands is)
 
 pub returns-in-Some-clause-unseen : goal.returns-in-Some-clause-unseen

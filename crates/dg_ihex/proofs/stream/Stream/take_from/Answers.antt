@@ -1,7 +1,7 @@
 use Rattle.std.proofs.Common.{arith, refl, subst, take, drop, ◌-◌, ◌++◌}
 use Rattle.std.proofs.lemmas.Result.{err_from_is_err_and}
 use Rattle.dg_ihex.specs.Sizes.{most_text}
-use Rattle.dg_ihex.specs.Streams.{Going, Tells}
+use Rattle.dg_ihex.specs.Streams.{Going, TellsFault}
 use Rattle.dg_ihex.proofs.StreamLemmas.{going_more, last_bare, front_bare, line_piece, piece_more, fault_piece, room_before}
 use Rattle.dg_ihex.proofs.stream.Stream.take_from.Goals as goal
 
@@ -27,7 +27,7 @@ returns-in_err-end_line-clause-goes c input g few =
     let p = err_from_is_err_and c.from_residual-in_err-end_line.result c.from_residual-in_err-end_line.ensures.1 in
     let fault = c.in_err-end_line.field-0.0 in
     rw (p.1, p.2) (fault_piece fault input piece n
-    (subst (Tells fault) (line_piece input piece from l.result.0 n goes l.ensures.within ended l.ensures.text)
+    (subst (TellsFault fault) (line_piece input piece from l.result.0 n goes l.ensures.within ended l.ensures.text)
     (c.in_err-end_line.ensures (input ++ take from piece) g (room_before input piece from most_text c.requires few) bare)))
 
 pub returns-clause-goes : goal.returns-clause-goes

@@ -1,5 +1,5 @@
 use Rattle.std.proofs.Common.{ℕ, ◌+◌, ◌%◌, ◌∙◌, None, get_or, ap, refl, arith}
-use Rattle.dg_ihex.specs.Sizes.{most_image}
+use Rattle.dg_ihex.specs.Sizes.{longest_image}
 use Rattle.dg_ihex.proofs.WindowLemmas.{none_below, none_behind, told_by_cell}
 use Rattle.dg_ihex.proofs.window.Window.byte_at.Goals as goal
 
@@ -17,6 +17,6 @@ pub returns : goal.returns
 returns c blocks h =
     let low = h.lowest in
     let high = h.past in
-    let cell : ℕ = (c.args.address % most_image + c.args.self.now.shift) % most_image in
+    let cell : ℕ = (c.args.address % longest_image + c.args.self.now.shift) % longest_image in
     c.cell_at.ensures ∙ ap (λ cells. get_or cells cell None) c.deref.ensures.value
     ∙ told_by_cell blocks c.args.address c.args.self.now.shift cell c.args.self.now.cells.items refl h.cells h.close (omega (arith, low)) (omega (arith, high))

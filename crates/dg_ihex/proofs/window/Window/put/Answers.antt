@@ -1,6 +1,6 @@
 use Rattle.std.proofs.Common.{◌≡◌, ℕ, ◌+◌, ◌%◌, ◌<◌, ◌++◌, ◌∷◌, [], length, take, drop, sym, ap, ◌∙◌, subst, arith}
 use Rattle.std.proofs.lemmas.List.{take_at}
-use Rattle.dg_ihex.specs.Sizes.{most_image}
+use Rattle.dg_ihex.specs.Sizes.{longest_image}
 use Rattle.dg_ihex.specs.Blocks.{Block, byte_at}
 use Rattle.dg_ihex.specs.Cells.{Keeps, written}
 use Rattle.dg_ihex.proofs.BlockLemmas.{lowest_of-more, past_of-more}
@@ -18,7 +18,7 @@ returns c blocks h apart close =
     let new = c.write.new.cells in
     let is : new ≡ written old from c.args.bytes.now = c.write.ensures ∙ ap (λ cells. written cells from c.args.bytes.now) c.deref_mut.ensures.value in
     let long : length new ≡ c.args.self.now.cells.len = c.write.auto.cells ∙ c.deref_mut.ensures.len in
-    let within : (k : ℕ) → k < length c.args.bytes.now → (from + k) % most_image < length old = λ k within. subst (λ n. (from + k) % most_image < n) c.args.self.now.cells.ok.0 (c.requires.within k within) in
+    let within : (k : ℕ) → k < length c.args.bytes.now → (from + k) % longest_image < length old = λ k within. subst (λ n. (from + k) % longest_image < n) c.args.self.now.cells.ok.0 (c.requires.within k within) in
     let same : take c.args.self.now.cells.len (new ++ drop (length new) old) ≡ new = take_at new (drop (length new) old) c.args.self.now.cells.len long in
     record {
       lowest = omega (arith, low, h.lowest);

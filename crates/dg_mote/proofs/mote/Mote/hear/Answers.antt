@@ -4,7 +4,7 @@ use Rattle.dg_frame.specs.declared.Message.{Message}
 use Rattle.dg_frame.specs.declared.FrameFault.{FrameFault}
 use Rattle.dg_volume.specs.Store.{Store}
 use Rattle.dg_volume.specs.Acts.{Stops}
-use Rattle.dg_mote.specs.Model.{MoteState, Turn}
+use Rattle.dg_mote.specs.Model.{MoteState, MoteStep}
 use Rattle.dg_mote.specs.Hears.{by_message, heard_of}
 use Rattle.dg_mote.specs.Motes.{Done}
 use Rattle.dg_nor.specs.declared.device.Stopped.{Stopped}
@@ -27,20 +27,20 @@ returns-in-Err-clause-done g c m s is =
     let a = g.N.Nor.device c.args.nor.now in
     let v = c.args.self.now in
     let fault = c.in-Err.fault in
-    subst (λ (t : Turn Heard). Done t a a v (heard.Refused fault)) (heard_is m s c.args.now c.args.draw c.args.bytes.now (Err fault) (read_is c.args.bytes.now c.args.self.now.wide m.wide (Err fault) c.read.result (sym c.in-Err.is) c.read.ensures.value is.wide))
+    subst (λ (t : MoteStep Heard). Done t a a v (heard.Refused fault)) (heard_is m s c.args.now c.args.draw c.args.bytes.now (Err fault) (read_is c.args.bytes.now c.args.self.now.wide m.wide (Err fault) c.read.result (sym c.in-Err.is) c.read.ensures.value is.wide))
     (rests_done (by_message (Err fault) m s c.args.now c.args.draw) a s v (heard.Refused fault) (record { trail = refl; mote = is; answers = refl }))
 
 pub returns-in-Ok-clause-done : goal.returns-in-Ok-clause-done
 returns-in-Ok-clause-done g c = if_ok c.hear_message.result c.hear_message.ensures.done (λ answer done m s is.
     let a = g.N.Nor.device c.args.nor.now in
     let b = g.N.Nor.device c.hear_message.new.nor in
-    subst (λ (t : Turn Heard). Done t a b c.hear_message.new.self answer) (heard_is m s c.args.now c.args.draw c.args.bytes.now (Ok c.in-Ok.message) (read_is c.args.bytes.now c.args.self.now.wide m.wide (Ok c.in-Ok.message) c.read.result (sym c.in-Ok.is) c.read.ensures.value is.wide)) (done m s is))
+    subst (λ (t : MoteStep Heard). Done t a b c.hear_message.new.self answer) (heard_is m s c.args.now c.args.draw c.args.bytes.now (Ok c.in-Ok.message) (read_is c.args.bytes.now c.args.self.now.wide m.wide (Ok c.in-Ok.message) c.read.result (sym c.in-Ok.is) c.read.ensures.value is.wide)) (done m s is))
 
 pub returns-in-Ok-clause-stopped : goal.returns-in-Ok-clause-stopped
 returns-in-Ok-clause-stopped g c = on_err c.hear_message.result c.hear_message.ensures.stopped (λ stopped m s is.
     let a = g.N.Nor.device c.args.nor.now in
     let b = g.N.Nor.device c.hear_message.new.nor in
-    subst (λ (t : Turn Heard). Stops t.trail a b) (heard_is m s c.args.now c.args.draw c.args.bytes.now (Ok c.in-Ok.message) (read_is c.args.bytes.now c.args.self.now.wide m.wide (Ok c.in-Ok.message) c.read.result (sym c.in-Ok.is) c.read.ensures.value is.wide)) (stopped m s is))
+    subst (λ (t : MoteStep Heard). Stops t.trail a b) (heard_is m s c.args.now c.args.draw c.args.bytes.now (Ok c.in-Ok.message) (read_is c.args.bytes.now c.args.self.now.wide m.wide (Ok c.in-Ok.message) c.read.result (sym c.in-Ok.is) c.read.ensures.value is.wide)) (stopped m s is))
 
 pub returns-in-Err-clause-consistent : goal.returns-in-Err-clause-consistent
 returns-in-Err-clause-consistent g c = λ golden.

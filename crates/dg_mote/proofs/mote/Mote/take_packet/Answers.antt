@@ -11,7 +11,7 @@ use Rattle.dg_slot.specs.declared.states.PageJob.{PageJob}
 use Rattle.dg_volume.specs.Store.{Store}
 use Rattle.dg_volume.specs.Acts.{Stops}
 use Rattle.dg_volume.specs.declared.volume.Volume.{Volume}
-use Rattle.dg_mote.specs.Model.{Mode, Receive, NamesKnown, Receiving, Turn}
+use Rattle.dg_mote.specs.Model.{Mode, Receive, NamesKnown, Receiving, MoteStep}
 use Rattle.dg_mote.specs.Adverts.{dropped}
 use Rattle.dg_mote.specs.Packets.{is_wanted, takes}
 use Rattle.dg_mote.specs.Motes.{ModeStands, Done}
@@ -48,9 +48,9 @@ returns-then-not-is_wanted-clause-done g c m s r is mode =
     let this = asks_this a.image v m s r x.version x.server x.asking x.job is mode x.is in
     let e = sym (c.is_wanted.ensures.value a.image this.receives.kept r this.receives.stands this.receives.image this.of_version this.receives.next) ∙ c.if-not-is_wanted.true in
     let full = takes m r s c.args.now c.args.draw c.args.packet c.args.bytes.now in
-    let turn : Turn Heard = cond (is_wanted r n.image n.version n.page c.args.packet) full (dropped m s) in
+    let turn : MoteStep Heard = cond (is_wanted r n.image n.version n.page c.args.packet) full (dropped m s) in
     subst (λ (y : ModeValue). Done turn a a (record v { mode = y }) heard.Dropped) x.is
-    (subst (λ (t : Turn Heard). Done t a a v heard.Dropped) (sym (passed (is_wanted r n.image n.version n.page c.args.packet) full (dropped m s) e)) (dropped_done a v m s is))
+    (subst (λ (t : MoteStep Heard). Done t a a v heard.Dropped) (sym (passed (is_wanted r n.image n.version n.page c.args.packet) full (dropped m s) e)) (dropped_done a v m s is))
 
 pub returns-in_err-put-clause-stopped : goal.returns-in_err-put-clause-stopped
 returns-in_err-put-clause-stopped g c = OnErr_from c.from_residual.result (λ m s r is mode.
@@ -63,7 +63,7 @@ returns-in_err-put-clause-stopped g c = OnErr_from c.from_residual.result (λ m 
     let e = sym (c.is_wanted.ensures.value a.image this.receives.kept r this.receives.stands this.receives.image this.of_version this.receives.next) ∙ c.if-not-is_wanted.false in
     let inside = in_slot c.what_stands_behind_the_commits.ensures.same a.image b.image v.volume s x.job r this.receives is.mounted c.put.ensures.touches (λ h o. c.put.ensures.kept h o) in
     let stops = put_stops c.a_lent_slot_is_filled.ensures.filling_stopped a b v.volume s x.job r this.receives is.mounted inside c.in_err-put.ensures.stopped in
-    subst (λ (t : Turn Heard). Stops t.trail a b) (sym (chosen (is_wanted r n.image n.version n.page c.args.packet) (takes m r s c.args.now c.args.draw c.args.packet c.args.bytes.now) (dropped m s) e))
+    subst (λ (t : MoteStep Heard). Stops t.trail a b) (sym (chosen (is_wanted r n.image n.version n.page c.args.packet) (takes m r s c.args.now c.args.draw c.args.packet c.args.bytes.now) (dropped m s) e))
     (takes_stopped m r this.receives.kept s c.args.now c.args.draw c.args.packet c.args.bytes.now a b this.receives.held_here stops))
 
 pub returns-then-from-lt-PACKETS-clause-done : goal.returns-then-from-lt-PACKETS-clause-done
@@ -86,8 +86,8 @@ returns-then-from-lt-PACKETS-clause-done g c m s r is mode =
     let done = took_done a b v m s r x.version x.server c.args.now q x.asking new x.job c.put.new.job bytes known (subst (NamesKnown m.wide) mode is.known) is this inside missing c.in_ok-put.ensures.asking c.put.ensures.same_slot (λ h ps j. c.in_ok-put.ensures.put h ps j) c.in_ok-put.ensures.ran less in
     let full = takes m r s c.args.now c.args.draw q bytes in
     let after : Mote = record v { mode = value.Receive x.version x.server new c.put.new.job } in
-    subst (λ (t : Turn Heard). Done t a b after (heard.Took q)) (sym (chosen (is_wanted r n.image n.version n.page q) full (dropped m s) e))
-    (subst (λ (t : Turn Heard). Done t a b after (heard.Took q)) (sym (takes_part m r s c.args.now c.args.draw q bytes done.few)) done.done)
+    subst (λ (t : MoteStep Heard). Done t a b after (heard.Took q)) (sym (chosen (is_wanted r n.image n.version n.page q) full (dropped m s) e))
+    (subst (λ (t : MoteStep Heard). Done t a b after (heard.Took q)) (sym (takes_part m r s c.args.now c.args.draw q bytes done.few)) done.done)
 
 pub end_page-requires-clause-whole : goal.end_page-requires-clause-whole
 end_page-requires-clause-whole g c =
@@ -138,7 +138,7 @@ returns-clause-done g c = if_ok c.end_page.result c.end_page.ensures.done (λ an
     let turn = chosen (is_wanted r n.image n.version n.page q) full (dropped m s) e ∙ takes_whole m r h s c.args.now c.args.draw q bytes made.held_here made.all in
     let ran = subst (λ (k : ℕ). Ran k a b) (sym (operations-resting s 1)) c.in_ok-put.ensures.ran in
     let same = last-resting s 1 ∙ sym (ends_begin m r h s c.args.now c.args.draw page).first in
-    subst (λ (t : Turn Heard). Done t a d c.end_page.new.self answer) (sym turn)
+    subst (λ (t : MoteStep Heard). Done t a d c.end_page.new.self answer) (sym turn)
     (done_behind (resting s 1) ends a b d c.end_page.new.self answer same ran (done m s r h ps made.whole)))
 
 pub returns-clause-stopped : goal.returns-clause-stopped
@@ -168,7 +168,7 @@ returns-clause-stopped g c = on_err c.end_page.result c.end_page.ensures.stopped
     let turn = chosen (is_wanted r n.image n.version n.page q) full (dropped m s) e ∙ takes_whole m r h s c.args.now c.args.draw q bytes made.held_here made.all in
     let ran = subst (λ (k : ℕ). Ran k a b) (sym (operations-resting s 1)) c.in_ok-put.ensures.ran in
     let same = last-resting s 1 ∙ sym (ends_begin m r h s c.args.now c.args.draw page).first in
-    subst (λ (t : Turn Heard). Stops t.trail a d) (sym turn)
+    subst (λ (t : MoteStep Heard). Stops t.trail a d) (sym turn)
     (stops_behind (resting s 1) ends a b d same ran (stopped m s r h ps made.whole)))
 
 pub returns-clause-unchanged : goal.returns-clause-unchanged

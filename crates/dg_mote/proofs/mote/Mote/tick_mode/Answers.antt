@@ -16,7 +16,7 @@ use Rattle.dg_frame.specs.Spelling.{frame_of}
 use Rattle.dg_slot.specs.Jobs.{outline_told, done_told, slot_of}
 use Rattle.dg_frame.specs.declared.Message.{Message}
 use Rattle.dg_frame.specs.declared.Message.TheVariants.{Request, Packet}
-use Rattle.dg_mote.specs.Model.{MoteState, Mode, Maintain, Receive, NamesKnown, Turn, maintains}
+use Rattle.dg_mote.specs.Model.{MoteState, Mode, Maintain, Receive, NamesKnown, MoteStep, maintains}
 use Rattle.dg_mote.specs.Ticks.{asked, mode_tick}
 use Rattle.dg_mote.specs.Motes.{IsMote, ModeStands, IsRead}
 use Rattle.dg_mote.specs.declared.mote.Did.{Did}
@@ -204,7 +204,7 @@ returns-in-Done g c =
           c.requires.empty ∙ sym (ap (λ t. option_map frame_of t.sent) (idle_turn m s at.t arm.serving next.result c.args.now c.args.draw at.is at.owes c.in-Done.is next.ensures.serve));
       read = λ m s h.
           let at = transmitting a.image v m s arm.image arm.version arm.page arm.serving arm.is h in
-          subst (λ (t : Turn Did). IfSome t.sent (IsRead m.wide)) (sym (idle_turn m s at.t arm.serving next.result c.args.now c.args.draw at.is at.owes c.in-Done.is next.ensures.serve)) tt;
+          subst (λ (t : MoteStep Did). IfSome t.sent (IsRead m.wide)) (sym (idle_turn m s at.t arm.serving next.result c.args.now c.args.draw at.is at.owes c.in-Done.is next.ensures.serve)) tt;
       same_reference = refl;
       stopped = tt;
       nothing_sent = tt;
@@ -224,7 +224,7 @@ returns-then-left-eq0-clause-read g c m s h =
     let a = g.N.Nor.device c.args.nor.now in
     let arm = c.in-Transmit in
     let at = says a.image c.args.self.now m s arm.image arm.version arm.page c.in-Send.packet arm.serving arm.is h (c.in-Send.ensures.of_page c.in-Send.packet refl) in
-    subst (λ (t : Turn Did). IfSome t.sent (IsRead m.wide)) (sym (transmit_turn m s at.0.t arm.serving _ c.args.now c.args.draw at.0.is at.0.owes c.in-Send.ensures.serve))
+    subst (λ (t : MoteStep Did). IfSome t.sent (IsRead m.wide)) (sym (transmit_turn m s at.0.t arm.serving _ c.args.now c.args.draw at.0.is at.0.owes c.in-Send.ensures.serve))
     (subst (IsRead m.wide) (c.in_ok-message-in-Send.ensures.message ∙ at.1.is c.args.self.now.id m.id h.id)
     (c.put-in-Send.ensures.read m.wide
     (said_fits a.image c.args.self.now m s arm.image arm.version arm.page c.in-Send.packet arm.serving c.in_ok-message-in-Send.message arm.is h (c.in-Send.ensures.of_page c.in-Send.packet refl) c.in_ok-message-in-Send.ensures.message)))
@@ -234,7 +234,7 @@ returns-else-left-eq0-clause-read g c m s h =
     let a = g.N.Nor.device c.args.nor.now in
     let arm = c.in-Transmit in
     let at = says a.image c.args.self.now m s arm.image arm.version arm.page c.in-Send.packet arm.serving arm.is h (c.in-Send.ensures.of_page c.in-Send.packet refl) in
-    subst (λ (t : Turn Did). IfSome t.sent (IsRead m.wide)) (sym (transmit_turn m s at.0.t arm.serving _ c.args.now c.args.draw at.0.is at.0.owes c.in-Send.ensures.serve))
+    subst (λ (t : MoteStep Did). IfSome t.sent (IsRead m.wide)) (sym (transmit_turn m s at.0.t arm.serving _ c.args.now c.args.draw at.0.is at.0.owes c.in-Send.ensures.serve))
     (subst (IsRead m.wide) (c.in_ok-message-in-Send.ensures.message ∙ at.1.is c.args.self.now.id m.id h.id)
     (c.put-in-Send.ensures.read m.wide
     (said_fits a.image c.args.self.now m s arm.image arm.version arm.page c.in-Send.packet arm.serving c.in_ok-message-in-Send.message arm.is h (c.in-Send.ensures.of_page c.in-Send.packet refl) c.in_ok-message-in-Send.ensures.message)))
@@ -248,6 +248,6 @@ returns-in-Request-clause-read g c m s h =
     let x = at.receives in
     let said : Request v.id arm.server (outline_told (slot_of arm.job)).image arm.version (done_told (slot_of arm.job)) c.in-Request.want ≡ Request m.id at.r.server at.r.image at.r.version at.r.page c.in-Request.want =
     λ i. Request (h.id i) (at.from_server i) (x.image i) (at.of_version i) ((x.stands.slot.opens.done ∙ x.next) i) c.in-Request.want in
-    subst (λ (t : Turn Did). IfSome t.sent (IsRead m.wide)) (sym (receive_turn m s at.r arm.asking _ c.args.now c.args.draw at.is at.asks c.in-Request.ensures.ask))
+    subst (λ (t : MoteStep Did). IfSome t.sent (IsRead m.wide)) (sym (receive_turn m s at.r arm.asking _ c.args.now c.args.draw at.is at.asks c.in-Request.ensures.ask))
     (subst (IsRead m.wide) (c.request_message.ensures ∙ said)
     (c.put.ensures.read m.wide (asked_fits a.image v m s arm.version arm.server c.args.now arm.asking arm.job c.in-Request.want c.request_message.result arm.is h c.in-Request.ensures.ask c.request_message.ensures)))

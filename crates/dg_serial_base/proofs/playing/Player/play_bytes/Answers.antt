@@ -1,6 +1,6 @@
 use Rattle.std.proofs.Common.{ℕ, ◌≤◌, List, ◌++◌, length, take, refl, ap, sym, ◌∙◌, append-nil, arith}
 use Rattle.std.proofs.lemmas.List.{take_all}
-use Rattle.dg_serial_base.specs.Standing.{code_on_line, PlayEnds, Counts, ReadCounts}
+use Rattle.dg_serial_base.specs.Standing.{code_on_line, StreamEnds, Counts, ReadCounts}
 use Rattle.dg_serial_base.proofs.StartLemmas.{calm_same, calm_then}
 use Rattle.dg_serial_base.proofs.ResultLemmas.{handed, counts_by_after}
 use Rattle.dg_serial_base.proofs.PlayLemmas.{played_along, next_byte, halted_bytes}
@@ -15,7 +15,7 @@ play_byte-requires-clause-stood g c = c.loop-byte.invariant.0
 pub returns-in_err-play_byte-clause-ends : goal.returns-in_err-play_byte-clause-ends
 returns-in_err-play_byte-clause-ends g c = λ a stream p.
     let i = c.loop-byte.byte-index in
-    handed (λ r. PlayEnds r a (stream ++ c.args.bytes.now) (code_on_line (g.K.Sink.written c.play_byte.new.out) c.play_byte.new.self.running c.play_byte.new.self.line (g.N.Nor.device c.play_byte.new.nor)))
+    handed (λ r. StreamEnds r a (stream ++ c.args.bytes.now) (code_on_line (g.K.Sink.written c.play_byte.new.out) c.play_byte.new.self.running c.play_byte.new.self.line (g.N.Nor.device c.play_byte.new.nor)))
     c.from_residual.result c.in_err-play_byte.field-0.0 c.from_residual.ensures.1
     (halted_bytes c.streams_go_on.ensures c.in_err-play_byte.field-0.0 a stream c.args.bytes.now i (g.K.Sink.written c.play_byte.new.out) (g.N.Nor.device c.play_byte.new.nor) c.loop-byte-test.true
     (c.in_err-play_byte.ensures.ends a (stream ++ take i c.args.bytes.now) (c.loop-byte.invariant.5 a stream p)))

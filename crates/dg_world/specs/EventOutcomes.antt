@@ -4,15 +4,15 @@ use Rattle.dg_script.specs.declared.report.Cause.{Cause}
 use Rattle.dg_world.specs.declared.chip_report.ChipReport.{ChipReport}
 use Rattle.dg_world.specs.declared.outcome.StartLine.{StartLine}
 
-pub data EventTurn : Type 0 where
-  Refused : (why : Cause) → EventTurn
+pub data EventOutcome : Type 0 where
+  Refused : (why : Cause) → EventOutcome
   -- nothing that is reported
-  Rests : EventTurn
+  Unreported : EventOutcome
   -- a frame of these bytes is sent, and the chip stays as it is
-  Sends : (bytes : List ℕ) → EventTurn
+  Sends : (bytes : List ℕ) → EventOutcome
   -- what is reported of the chip may be something else
-  Changes : (before after : ChipReport) → EventTurn
-  Starts : (line : StartLine) → EventTurn
+  Changes : (before after : ChipReport) → EventOutcome
+  Starts : (line : StartLine) → EventOutcome
 
 -- why an event was not done
 pub data Halt : Type 0 where
@@ -22,7 +22,7 @@ pub data Halt : Type 0 where
   NoImage : Halt
 
 -- how an event ended whose power may have been cut
-pub data TurnEnded : Type 0 where
-  Whole : (turn : EventTurn) → TurnEnded
+pub data EventEnded : Type 0 where
+  Whole : (outcome : EventOutcome) → EventEnded
   -- The cut blew. What is reported of the chip was this before, and is the same after it where this is None.
-  Cut : (before : Option ChipReport) → TurnEnded
+  Cut : (before : Option ChipReport) → EventEnded

@@ -11,14 +11,14 @@ use Rattle.dg_volume.specs.Stands.{Stands}
 use Rattle.dg_volume.specs.Trails.{BeginsAt}
 use Rattle.dg_rules.specs.World.{World as RuleWorld, store_at}
 use Rattle.dg_rules.specs.Events.{Does, trail_of}
-use Rattle.dg_world.specs.Turns.{DeedWent, TurnEnds}
+use Rattle.dg_world.specs.OutcomeEndings.{DeedWent, OutcomeEnds}
 use Rattle.dg_world.specs.Hosts.{host}
 use Rattle.dg_world.specs.declared.outcome.StartLine.{StartLine}
 use Rattle.dg_world.specs.declared.world.RunningMote.{RunningMote}
 use Rattle.dg_world.specs.declared.outcome.Fault.{Fault}
 use Rattle.dg_world.specs.declared.outcome.Fault.TheVariants as fault
 use Rattle.dg_world.specs.Outcomes.{halt_of}
-use Rattle.dg_world.specs.Turn.{EventTurn, Refused, Rests, Sends, Changes, Starts, Halt, Stopped, NotAVolume, NoImage}
+use Rattle.dg_world.specs.EventOutcomes.{EventOutcome, Refused, Unreported, Sends, Changes, Starts, Halt, Stopped, NotAVolume, NoImage}
 
 -- ---- before the first operation
 
@@ -49,7 +49,7 @@ read_whole : (a b : Device) → ReadStopped a b → a.blown ≡ false → b.blow
 read_whole a b r whole blown = ⊎_elim (λ was. both_ways a.blown whole was) (λ out. omega (arith, out.0)) (r.halts.blew blown)
 
 pub read_stopped : (w : RuleWorld) (m : ℕ) (does : Does) (v u : Option RunningMote) (a b : Device) → BeginsAt (store_at w m) (trail_of does (store_at w m)) → Stands a.image (store_at w m) → ReadStopped a b
-    → TurnEnds (Err (Stopped None)) w m does (host a v) (host b u)
+    → OutcomeEnds (Err (Stopped None)) w m does (host a v) (host b u)
 read_stopped w m does v u a b begins stands r =
     record { stops = read_stops (store_at w m) (trail_of does (store_at w m)) a b begins stands r; is_report = λ whole blown. absurd (read_whole a b r whole blown) }
 
@@ -67,24 +67,24 @@ stops_after t a b c l s =
     subst (λ (n : ℕ). Halted n (MayLeave Stands IsNear t) a c) e
     (Halted_second (MayLeave Stands IsNear t) l (λ k within x. let f : k ≡ 0 + k = omega arith in subst (λ (j : ℕ). MayLeave Stands IsNear t j c.image) f x) s)
 
-went_after : (w : RuleWorld) (m : ℕ) (does : Does) (u : Option RunningMote) (a b c : Device) (turn : EventTurn) → Ran 0 a b → DeedWent w m does u b c turn → DeedWent w m does u a c turn
-went_after w m does u a b c turn l x = record { deed = x.deed; goes = x.goes; ran = ran_after (operations x.deed.trail) a b c l x.ran; tells = x.tells }
+went_after : (w : RuleWorld) (m : ℕ) (does : Does) (u : Option RunningMote) (a b c : Device) (outcome : EventOutcome) → Ran 0 a b → DeedWent w m does u b c outcome → DeedWent w m does u a c outcome
+went_after w m does u a b c outcome l x = record { deed = x.deed; goes = x.goes; ran = ran_after (operations x.deed.trail) a b c l x.ran; tells = x.tells }
 
 pub start_after : (w : RuleWorld) (m : ℕ) (does : Does) (u : Option RunningMote) (a b c : Device) (x : StartLine) → Ran 0 a b → DeedWent w m does u b c (Starts x) → DeedWent w m does u a c (Starts x)
 start_after w m does u a b c x l went = went_after w m does u a b c (Starts x) l went
 
-pub halt_after : (h : Halt) (w : RuleWorld) (m : ℕ) (does : Does) (v u : Option RunningMote) (a b c : Device) → Ran 0 a b → TurnEnds (Err h) w m does (host b v) (host c u) → TurnEnds (Err h) w m does (host a v) (host c u)
+pub halt_after : (h : Halt) (w : RuleWorld) (m : ℕ) (does : Does) (v u : Option RunningMote) (a b c : Device) → Ran 0 a b → OutcomeEnds (Err h) w m does (host b v) (host c u) → OutcomeEnds (Err h) w m does (host a v) (host c u)
 halt_after (Stopped before) w m does v u a b c l x = record { stops = stops_after (trail_of does (store_at w m)) a b c l x.stops; is_report = λ whole blown. x.is_report (l.blown ∙ whole) blown }
 halt_after NoImage w m does v u a b c l x = record { deed = x.deed; goes = x.goes; none = x.none; ran = ran_after (operations x.deed.trail) a b c l x.ran; stands = x.stands }
 halt_after NotAVolume w m does v u a b c l x = x
 
-pub turn_after : (r : Result EventTurn Halt) (w : RuleWorld) (m : ℕ) (does : Does) (v u : Option RunningMote) (a b c : Device) → Looked a b → TurnEnds r w m does (host b v) (host c u) → TurnEnds r w m does (host a v) (host c u)
-turn_after (Ok (Refused why)) w m does v u a b c l x = (x.0, looked_after a b c l x.1, x.2)
-turn_after (Ok Rests) w m does v u a b c l x = went_after w m does u a b c Rests l.ran x
-turn_after (Ok (Sends frame)) w m does v u a b c l x = went_after w m does u a b c (Sends frame) l.ran x
-turn_after (Ok (Changes p q)) w m does v u a b c l x = went_after w m does u a b c (Changes p q) l.ran x
-turn_after (Ok (Starts p)) w m does v u a b c l x = went_after w m does u a b c (Starts p) l.ran x
-turn_after (Err h) w m does v u a b c l x = halt_after h w m does v u a b c l.ran x
+pub outcome_after : (r : Result EventOutcome Halt) (w : RuleWorld) (m : ℕ) (does : Does) (v u : Option RunningMote) (a b c : Device) → Looked a b → OutcomeEnds r w m does (host b v) (host c u) → OutcomeEnds r w m does (host a v) (host c u)
+outcome_after (Ok (Refused why)) w m does v u a b c l x = (x.0, looked_after a b c l x.1, x.2)
+outcome_after (Ok Unreported) w m does v u a b c l x = went_after w m does u a b c Unreported l.ran x
+outcome_after (Ok (Sends frame)) w m does v u a b c l x = went_after w m does u a b c (Sends frame) l.ran x
+outcome_after (Ok (Changes p q)) w m does v u a b c l x = went_after w m does u a b c (Changes p q) l.ran x
+outcome_after (Ok (Starts p)) w m does v u a b c l x = went_after w m does u a b c (Starts p) l.ran x
+outcome_after (Err h) w m does v u a b c l x = halt_after h w m does v u a b c l.ran x
 
 abbrev pub failed : (T : Type 0) → Fault → Result T Fault
 failed T f = Err f
@@ -93,7 +93,7 @@ pub same_fault : (T : Type 0) (x y : Fault) → failed T x ≡ failed T y → x 
 same_fault T x y e = cc
 
 pub read_halts : (T : Type 0) (w : RuleWorld) (m : ℕ) (does : Does) (v u : Option RunningMote) (a b : Device) (f : Fault) → failed T fault.Stopped ≡ failed T f → BeginsAt (store_at w m) (trail_of does (store_at w m)) → Stands a.image (store_at w m) → ReadStopped a b
-    → TurnEnds (Err (halt_of f None)) w m does (host a v) (host b u)
+    → OutcomeEnds (Err (halt_of f None)) w m does (host a v) (host b u)
 read_halts T w m does v u a b f is begins stands r =
-    let P : Fault → Type 0 = λ x. TurnEnds (Err (halt_of x None)) w m does (host a v) (host b u) in
+    let P : Fault → Type 0 = λ x. OutcomeEnds (Err (halt_of x None)) w m does (host a v) (host b u) in
     subst P (same_fault T fault.Stopped f is) (read_stopped w m does v u a b begins stands r)

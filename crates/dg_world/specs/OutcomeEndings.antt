@@ -28,59 +28,60 @@ use Rattle.dg_world.specs.Hosts.{Host}
 use Rattle.dg_world.specs.declared.starting.Begun.{Begun}
 use Rattle.dg_world.specs.declared.world.RunningMote.{RunningMote}
 use Rattle.dg_world.specs.declared.chip_report.ChipReport.{ChipReport}
-use Rattle.dg_world.specs.Turn.{EventTurn, Refused, Rests, Sends, Changes, Starts, Halt, Stopped, NotAVolume, NoImage}
+use Rattle.dg_world.specs.EventOutcomes.{EventOutcome, Refused, Unreported, Sends, Changes, Starts}
+use Rattle.dg_world.specs.EventOutcomes.{Halt, Stopped, NotAVolume, NoImage}
 
--- the frame of a turn, and the turn of what a tick sent, if anything
-abbrev pub turn_frame : EventTurn → Option (List ℕ)
-turn_frame (Refused why) = None
-turn_frame Rests = None
-turn_frame (Sends bytes) = Some bytes
-turn_frame (Changes old new) = None
-turn_frame (Starts x) = None
+-- the frame of a outcome, and the outcome of what a tick sent, if anything
+abbrev pub outcome_frame : EventOutcome → Option (List ℕ)
+outcome_frame (Refused why) = None
+outcome_frame Unreported = None
+outcome_frame (Sends bytes) = Some bytes
+outcome_frame (Changes old new) = None
+outcome_frame (Starts x) = None
 
-abbrev pub turn_sent : Option (List ℕ) → EventTurn
-turn_sent None = Rests
-turn_sent (Some bytes) = Sends bytes
+abbrev pub outcome_sent : Option (List ℕ) → EventOutcome
+outcome_sent None = Unreported
+outcome_sent (Some bytes) = Sends bytes
 
 -- the line on a frame, which a wide reader reads
 abbrev pub frame_lines : ℕ → Result Message FrameFault → List Report
 frame_lines m (Err fault) = []
 frame_lines m (Ok message) = sent_line m (Some message)
 
-abbrev pub turn_lines : ℕ → EventTurn → List Report
-turn_lines m (Refused why) = RefusedLine m why ∷ []
-turn_lines m Rests = []
-turn_lines m (Sends bytes) = frame_lines m (message_of bytes true)
-turn_lines m (Changes old new) = change_lines m old new
-turn_lines m (Starts x) = Start m x.image_version.image x.image_version.version x.length x.crc ∷ []
+abbrev pub outcome_lines : ℕ → EventOutcome → List Report
+outcome_lines m (Refused why) = RefusedLine m why ∷ []
+outcome_lines m Unreported = []
+outcome_lines m (Sends bytes) = frame_lines m (message_of bytes true)
+outcome_lines m (Changes old new) = change_lines m old new
+outcome_lines m (Starts x) = Start m x.image_version.image x.image_version.version x.length x.crc ∷ []
 
 -- a mote that was started over the volume of its chip, and the line of that
 pub record BeginsOver (started : Started) (id : ℕ) (wide : Bool) (now draw : ℕ) (b : Begun) : Type 0 where
   pub image_version : b.running.image_version ≡ b.line.image_version
-  pub line_version : b.line.image_version ≡ record { image = started.image; version = started.version }
+  pub line_image_version : b.line.image_version ≡ record { image = started.image; version = started.version }
   pub length : b.line.length ≡ started.length
   pub crc : b.line.crc ≡ started.crc
   pub mote : (c : List ℕ) (s : Store) → Mounted c started.volume s → IsMote c b.running.mote (begun_mote id wide now draw) s
 
--- The turn is the deed: the mote, the report and what is sent are the rules', the chip stands for the last store,
+-- The outcome is the deed: the mote, the report and what is sent are the rules', the chip stands for the last store,
 -- and what was started stands in program memory.
-pub record TellsDeed (w : RuleWorld) (m : ℕ) (d : Deed) (turn : EventTurn) (u : Option RunningMote)
+pub record TellsDeed (w : RuleWorld) (m : ℕ) (d : Deed) (outcome : EventOutcome) (u : Option RunningMote)
     (image : List ℕ) : Type 0 where
   pub runs : Option Running
   pub runs_then : d.runs ≡ Some runs
   pub mote : MoteStands image u (last d.trail) runs
-  pub lines : turn_lines m turn ≡ done_reports w m d
-  pub sent : turn_frame turn ≡ option_map frame_of d.sent
+  pub lines : outcome_lines m outcome ≡ done_reports w m d
+  pub sent : outcome_frame outcome ≡ option_map frame_of d.sent
   pub stands : Stands image (last d.trail)
   pub memory : IfSome d.started (λ r. program image (length r.pages) ≡ r.pages)
 
 -- an event that is not refused was done
 pub record DeedWent (w : RuleWorld) (m : ℕ) (does : Does) (u : Option RunningMote) (old new : Device)
-    (turn : EventTurn) : Type 0 where
+    (outcome : EventOutcome) : Type 0 where
   pub deed : Deed
   pub goes : does ≡ Goes deed
   pub ran : Ran (operations deed.trail) old new
-  pub tells : TellsDeed w m deed turn u new.image
+  pub tells : TellsDeed w m deed outcome u new.image
 
 -- neither the order nor what is kept is another
 pub record SameReport (s t : Store) : Type 0 where
@@ -112,12 +113,12 @@ pub record Lacked (does : Does) (old new : Device) : Type 0 where
   pub stands : Stands new.image (last deed.trail)
 
 -- What an event answers that does this at mote m, from a board that stood for the mote's store: the host was a and is b.
-abbrev pub TurnEnds : Result EventTurn Halt → RuleWorld → (m : ℕ) → Does → (a b : Host) → Type 0
-TurnEnds (Ok (Refused why)) w m does a b = (does ≡ Refuses why) × Looked a.board b.board × (b.runs ≡ a.runs)
-TurnEnds (Ok Rests) w m does a b = DeedWent w m does b.runs a.board b.board Rests
-TurnEnds (Ok (Sends bytes)) w m does a b = DeedWent w m does b.runs a.board b.board (Sends bytes)
-TurnEnds (Ok (Changes old new)) w m does a b = DeedWent w m does b.runs a.board b.board (Changes old new)
-TurnEnds (Ok (Starts x)) w m does a b = DeedWent w m does b.runs a.board b.board (Starts x)
-TurnEnds (Err (Stopped before)) w m does a b = StoppedOn does (store_at w m) a.board b.board before
-TurnEnds (Err NoImage) w m does a b = Lacked does a.board b.board
-TurnEnds (Err NotAVolume) w m does a b = ⊥
+abbrev pub OutcomeEnds : Result EventOutcome Halt → RuleWorld → (m : ℕ) → Does → (a b : Host) → Type 0
+OutcomeEnds (Ok (Refused why)) w m does a b = (does ≡ Refuses why) × Looked a.board b.board × (b.runs ≡ a.runs)
+OutcomeEnds (Ok Unreported) w m does a b = DeedWent w m does b.runs a.board b.board Unreported
+OutcomeEnds (Ok (Sends bytes)) w m does a b = DeedWent w m does b.runs a.board b.board (Sends bytes)
+OutcomeEnds (Ok (Changes old new)) w m does a b = DeedWent w m does b.runs a.board b.board (Changes old new)
+OutcomeEnds (Ok (Starts x)) w m does a b = DeedWent w m does b.runs a.board b.board (Starts x)
+OutcomeEnds (Err (Stopped before)) w m does a b = StoppedOn does (store_at w m) a.board b.board before
+OutcomeEnds (Err NoImage) w m does a b = Lacked does a.board b.board
+OutcomeEnds (Err NotAVolume) w m does a b = ⊥
