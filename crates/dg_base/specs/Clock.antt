@@ -1,4 +1,4 @@
--- What a clock tells of its answers.
+-- What a clock tells of its answers (the trait `Clock` of this crate).
 use Rattle.std.specs.Prelude.{◌≡◌, ℕ, zero, suc, ◌+◌, ◌-◌, ◌^◌, min, Option, Some, None}
 
 -- the next answer, and by how much each further one is greater

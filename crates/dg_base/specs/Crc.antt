@@ -1,6 +1,6 @@
--- The checksum of 16 bits by the polynomial x^16 + x^12 + x^5 + 1, start 0, most significant bit
--- first, no final change, which is also known as CRC-16/XMODEM. Polynomials over GF(2) are numbers:
--- bit k is the coefficient of x^k, a sum is `bit_xor`, and `2 *` is the product with x.
+-- The checksum of 16 bits by the polynomial x^16 + x^12 + x^5 + 1, start 0, most significant bit first, no final change, which
+-- is also known as CRC-16/XMODEM. Polynomials over GF(2) are numbers: bit k is the coefficient of x^k, a sum is `bit_xor`, and
+-- `2 *` is the product with x.
 use Rattle.std.specs.Prelude.{ℕ, zero, suc, ◌*◌, ◌/◌, ◌+◌, ◌^◌, bit_xor, Bool, List, [], ◌∷◌, fold, if◌then◌else◌}
 
 abbrev pub generator : ℕ

@@ -1,4 +1,4 @@
--- The texts of faults.
+-- The texts of the faults of numbers, names and hex digits (the `Display` of this crate's types).
 use Rattle.std.specs.Prelude.{ℕ, List, codes}
 use Rattle.dg_base.specs.declared.hexadecimal.HexFault.{HexFault}
 use Rattle.dg_base.specs.declared.hexadecimal.HexFault.TheVariants.{Odd, Digit, Memory}

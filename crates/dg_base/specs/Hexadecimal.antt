@@ -1,4 +1,4 @@
--- Bytes as hex digits, two a byte, the high four bits first.
+-- Bytes as hex digits, two a byte, the high four bits first (docs/SCRIPTS.md, "The script").
 use Rattle.std.specs.Prelude.{ℕ, ◌+◌, ◌-◌, ◌*◌, ◌/◌, ◌%◌, nat_lt, Bool, List, [], ◌∷◌, Option, Some, None, is_some, if◌then◌else◌}
 use Rattle.std.specs.Int.{is_in_range}
 

@@ -1,4 +1,4 @@
--- An input and an output in memory, as contracts see them.
+-- An input and an output in memory, as contracts see them (`MemSource` and `MemSink` of this crate).
 use Rattle.std.specs.Prelude.{ℕ, List}
 
 -- The bytes left, the numbers of the calls that fail, how many calls were made, and how many failed.

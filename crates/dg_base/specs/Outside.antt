@@ -1,4 +1,5 @@
--- What reads and writes do to the bytes of an input and an output, where those are told.
+-- What reads and writes do to the bytes of an input and an output, where those are told (the traits `Source` and `Sink` of this
+-- crate).
 use Rattle.std.specs.Prelude.{◌≡◌, ℕ, ◌≤◌, List, [], ◌++◌, length, take, Option, None, Some}
 
 -- bytes, and then the bytes that are told

@@ -1,4 +1,4 @@
--- A source over a reader of std, and a sink over a writer.
+-- A source over a reader of std, and a sink over a writer (`Read` and `Write` of std).
 use Rattle.std.specs.Prelude.{ℕ, ◌≤◌, List, length, take, Option}
 use Rattle.std.specs.Io.KnownBytes.{Appends}
 use Rattle.dg_base.specs.declared.standard.StdSource.{StdSource}

@@ -1,4 +1,4 @@
--- The exit status of each answer of a command.
+-- The exit status of each answer of a command (docs/COMMANDS.md, "How a command ends").
 use Rattle.std.specs.Prelude.{ℕ}
 use Rattle.dg_base.specs.declared.answers.Status.{Status}
 use Rattle.dg_base.specs.declared.answers.Status.TheVariants.{Done, Memory, Usage, BadInput, ReadFault, WriteFault, FlashFault}

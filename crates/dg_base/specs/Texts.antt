@@ -1,4 +1,4 @@
--- Lines and names.
+-- Lines and names (docs/SCRIPTS.md, "The script").
 use Rattle.std.specs.Prelude.{◌≡◌, ℕ, ◌==◌, ◌&&◌, ◌||◌, ◌⊎◌, nat_le, Bool, List, [], ◌∷◌, ◌++◌, length}
 use Rattle.std.specs.Char.{is_ascii_alphanumeric}
 use Rattle.std.specs.List.{list_all}

@@ -1,4 +1,5 @@
--- A set of numbers as bytes: number n is bit 7 − (n mod 8) of byte n / 8, so the first bit is the highest of the first byte.
+-- A set of numbers as bytes: number n is bit 7 − (n mod 8) of byte n / 8, so the first bit is the highest of the first byte
+-- (the form in which a request names packets: docs/PARTS.md, "The codec").
 use Rattle.std.specs.Prelude.{◌≡◌, ℕ, ◌+◌, ◌-◌, ◌*◌, ◌/◌, ◌%◌, ◌≤◌, ◌<◌, Bool, false, ◌==◌, if◌then◌else◌, List, map, filter}
 use Rattle.std.specs.Prelude.{length, slice_index}
 use Rattle.std.specs.List.{range_with_len}

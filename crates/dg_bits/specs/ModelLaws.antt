@@ -1,4 +1,5 @@
--- What the models of sets owe: sets with the same numbers are equal, and bytes are the byte form of the set that they make.
+-- What the models of sets owe: sets with the same numbers are equal, and bytes are the byte form of the set that they make (the
+-- laws that std asks of a `Model`).
 use Rattle.std.proofs.Common.{◌≡◌, ℕ, zero, suc, ◌+◌, ◌-◌, ◌*◌, ◌/◌, ◌%◌, ◌<◌, ◌≤◌, Bool, true, false, Decides, ◌&&◌, ◌||◌, cond}
 use Rattle.std.proofs.Common.{List, length, get_or, eqb, leb, ltb, refl, sym, ap, ◌∙◌, inl, inr, arith}
 use Rattle.std.proofs.lemmas.Bool.{and_parts, and_from, cases_lt, eqb-true, false≢true}

@@ -1,4 +1,4 @@
--- How the parts of a start end.
+-- How the parts of a start end (docs/IMAGES.md, "The start").
 use Rattle.std.specs.Prelude.{◌≡◌, ℕ, ◌==◌, ◌&&◌, ◌||◌, nat_lt, not, is_some, if◌then◌else◌, Bool, Some, Result, Ok, Err}
 use Rattle.dg_nor.specs.Device.{Device}
 use Rattle.dg_nor.specs.Trail.{Trail, operations, last, joined}

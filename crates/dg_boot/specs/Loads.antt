@@ -1,4 +1,4 @@
--- What is told of the pages in program memory.
+-- What is told of the pages in program memory (docs/IMAGES.md, "The start").
 use Rattle.std.specs.Prelude.{◌≡◌, ℕ, List, [], length, slice_index_or}
 use Rattle.dg_base.specs.Crc.{crc_of}
 use Rattle.dg_object.specs.Object.{content}

@@ -1,4 +1,4 @@
--- What the code answers, beside the answer by the rules.
+-- What the code answers, beside the answer by the rules (docs/COMMANDS.md, "Hash-chained images").
 use Rattle.std.specs.Prelude.{◌≡◌, ◌≢◌, ⊤, ℕ, if◌then◌else◌, List, length, Some, None, Result, Ok, Err}
 use Rattle.sha2.specs.Sha256.{sha256}
 use Rattle.dg_nor.specs.Device.{Device}

@@ -1,5 +1,5 @@
--- What the pages of a slot say of a root: the payload's length, the first page that isn't the one named before it,
--- or that they have another shape.
+-- What the pages of a slot say of a root: the payload's length, the first page that isn't the one named before it, or that they
+-- have another shape (docs/COMMANDS.md, "Hash-chained images").
 use Rattle.std.specs.Prelude.{◌≡◌, ◌≢◌, ℕ, ◌+◌, ◌<◌, ◌==◌, ◌&&◌, nat_le, nat_eq, Bool, if◌then◌else◌, List, [], ◌∷◌, length, map}
 use Rattle.std.specs.Prelude.{take, drop, slice_index_or, Option, Some, None}
 use Rattle.std.specs.List.{range_with_len}

@@ -1,4 +1,5 @@
--- A data page that is received: it is filled packet by packet, and then sealed where it is the expected one.
+-- A data page that is received: it is filled packet by packet, and then sealed where it is the expected one (docs/COMMANDS.md,
+-- "Hash-chained images").
 use Rattle.std.specs.Prelude.{◌≡◌, ◌≢◌, ◌+◌, ◌&&◌, true, ℕ, if◌then◌else◌, List}
 use Rattle.sha2.specs.Sha256.{sha256}
 use Rattle.dg_base.specs.Crc.{crc_of}

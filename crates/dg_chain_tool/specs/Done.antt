@@ -1,4 +1,4 @@
--- What the verbs of chained images did.
+-- What the verbs of chained images did (docs/COMMANDS.md, "Hash-chained images").
 use Rattle.std.specs.Prelude.{◌≡◌, ℕ, List, [], Option, Result, Ok, Err}
 use Rattle.dg_base.specs.Outside.{Puts}
 use Rattle.dg_base.specs.declared.answers.Status.{Status}

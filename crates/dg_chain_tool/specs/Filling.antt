@@ -1,4 +1,4 @@
--- How the pages of an image that is received are filled.
+-- How the pages of an image that is received are filled (docs/COMMANDS.md, "Hash-chained images").
 use Rattle.std.specs.Prelude.{◌≡◌, ℕ, ◌-◌, ◌≤◌, true, false, Bool, if◌then◌else◌, List, take, length, Option, Some, None, Result}
 use Rattle.std.specs.Prelude.{Ok, Err}
 use Rattle.sha2.specs.Sha256.{sha256}

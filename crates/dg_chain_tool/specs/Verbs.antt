@@ -1,4 +1,5 @@
--- What the verbs of chained images do, by the bytes of the input and by what the board stands for.
+-- What the verbs of chained images do, by the bytes of the input and by what the board stands for (docs/COMMANDS.md,
+-- "Hash-chained images").
 use Rattle.std.specs.Prelude.{ℕ, ◌==◌, nat_lt, if◌then◌else◌, List, [], ◌∷◌, ◌++◌, length, drop, codes, Option, Some, None}
 use Rattle.dg_base.specs.Hexadecimal.{hex_text}
 use Rattle.dg_ihex.specs.Written.{written_file}

@@ -1,4 +1,4 @@
--- What the commands of hash-chained images did.
+-- What the commands of hash-chained images did (docs/COMMANDS.md, "Hash-chained images").
 use Rattle.std.specs.Prelude.{◌≡◌, ◌⊎◌, ℕ, ◌≤◌, List, [], length, drop, Option, Some, None}
 use Rattle.dg_words.specs.Counts.{Rose}
 use Rattle.dg_base.specs.Hexadecimal.{hex_bytes}

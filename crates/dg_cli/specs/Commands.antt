@@ -1,4 +1,4 @@
--- What the program does, by what its words ask for.
+-- What the program does, by what its words ask for (docs/COMMANDS.md, "How a command ends").
 use Rattle.std.specs.Prelude.{◌≡◌, ◌≢◌, ◌⊎◌, ℕ, List, length, Option}
 use Rattle.dg_words.specs.Counts.{Rose}
 use Rattle.dg_base.specs.declared.answers.Status.{Status}

@@ -1,4 +1,4 @@
--- What the command did that writes an older chip's snapshot in today's form.
+-- What the command did that writes an older chip's snapshot in today's form (docs/COMMANDS.md, "Over one chip").
 use Rattle.std.specs.Prelude.{ℕ, length}
 use Rattle.dg_base.specs.declared.answers.Status.{Status}
 use Rattle.dg_volume.specs.Trails.{migrate_trail}

@@ -1,4 +1,5 @@
--- What stands around the program: its input, its output and its boards, the link to other programs, and the clock.
+-- What stands around the program: its input, its output and its boards, the link to other programs, and the clock (the
+-- arguments of `run`).
 use Rattle.std.specs.Prelude.{ℕ, Option}
 use Rattle.dg_base.specs.Clock.{Answers}
 use Rattle.dg_link.specs.Inboxes.{Inboxes}

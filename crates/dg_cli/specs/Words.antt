@@ -1,4 +1,4 @@
--- What is told of words that are no command, or that ask for help.
+-- What is told of words that are no command, or that ask for help (docs/COMMANDS.md, "How a command ends").
 use Rattle.std.specs.Prelude.{◌≡◌, ◌⊎◌, ℕ, List, [], ◌∷◌, ◌++◌, codes, Option}
 use Rattle.dg_words.specs.Counts.{Rose}
 use Rattle.dg_base.specs.Outside.{Puts, PutsFront}

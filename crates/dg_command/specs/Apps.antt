@@ -1,4 +1,4 @@
--- The commands of `clap`, one for each verb, and the one for words without a verb.
+-- The commands of `clap`, one for each verb, and the one for words without a verb (the words of docs/COMMANDS.md).
 use Rattle.std.specs.Prelude.{ℕ, true, List, [], ◌∷◌, Option, Some, None, codes, pos}
 use Rattle.clap.specs.Words.{App, Rule, Text, new_rule}
 use Rattle.clap.specs.Simple.{new_shape}

@@ -1,4 +1,4 @@
--- What words ask for.
+-- What words ask for (the words of docs/COMMANDS.md).
 use Rattle.std.specs.Prelude.{ℕ, Bool, true, ◌&&◌, if◌then◌else◌, List, [], ◌∷◌, map, Option, Some, None, codes, string_bytes}
 use Rattle.dg_base.specs.Texts.{spells_name}
 use Rattle.clap.specs.Words.{Kinds, Row, Text, fault_of, matches_of}

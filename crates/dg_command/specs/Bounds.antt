@@ -1,4 +1,4 @@
--- The ranges of a command's values.
+-- The ranges of a command's values (the words of docs/COMMANDS.md).
 use Rattle.std.specs.Prelude.{◌≡◌, ◌⊎◌, ◌≤◌, ⊤, true}
 use Rattle.dg_command.specs.Asking.{Said, Replay, Serve, Format, Inject, Order, Boot, Ping, Dump, Migrate, Trial, Wrap, Check}
 use Rattle.dg_command.specs.Asking.{Receive, Drip, Base, Asking, Asks, Helps, Misuses, is_well_formed}

@@ -1,4 +1,4 @@
--- Words as an operator writes them.
+-- Words as an operator writes them (the words of docs/COMMANDS.md).
 use Rattle.std.specs.Prelude.{ℕ, ◌==◌, if◌then◌else◌, List, [], ◌∷◌}
 use Rattle.clap.specs.Words.{Text}
 

@@ -1,4 +1,4 @@
--- The root of a chain, as a text.
+-- The root of a chain, as a text (the words of docs/COMMANDS.md).
 use Rattle.std.specs.Prelude.{ℕ, ◌==◌, ◌&&◌, Bool, List, length}
 use Rattle.std.specs.List.{list_all}
 use Rattle.dg_base.specs.Hexadecimal.{is_hex_digit}

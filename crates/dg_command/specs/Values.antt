@@ -1,4 +1,4 @@
--- The values of a command that `clap` read, by the names of its options.
+-- The values of a command that `clap` read, by the names of its options (the words of docs/COMMANDS.md).
 use Rattle.std.specs.Prelude.{ℕ, ◌^◌, ◌==◌, ◌&&◌, nat_lt, if◌then◌else◌, List, [], Option, Some, None, option_and_then, unwrap_or}
 use Rattle.std.specs.Str.Parse.{digits_value, without_leading_plus}
 use Rattle.clap.specs.ValueTests.{is_numeral}

@@ -1,4 +1,4 @@
--- The verbs of the program, and their words.
+-- The verbs of the program, and their words (the words of docs/COMMANDS.md).
 use Rattle.std.specs.Prelude.{ℕ, if◌then◌else◌, List, [], ◌∷◌, codes, bytes_eq, Option, Some, None}
 use Rattle.dg_command.specs.declared.verbs.Verb.{Verb}
 use Rattle.dg_command.specs.declared.verbs.Verb.TheVariants.{Replay, Serve, Format, Inject, Order, Boot, Ping, Dump, Migrate}

@@ -1,4 +1,5 @@
--- Bounded completion: what free events keep, what a round brings, and how many sweeps bring every page to every mote.
+-- Bounded completion: what free events keep, what a round brings, and how many sweeps bring every page to every mote
+-- (docs/SCRIPTS.md, "Sweeps that are enough").
 use Rattle.std.specs.Prelude.{◌≡◌, ◌≢◌, ℕ, zero, suc, ◌+◌, ◌-◌, ◌<◌, ◌≤◌, ◌==◌, ◌&&◌, ◌||◌, nat_le, nat_lt, min, max, Bool, true}
 use Rattle.std.specs.Prelude.{false, if◌then◌else◌, List, [], ◌∷◌, length, Option, Some, None}
 use Rattle.std.specs.List.{list_any, find}

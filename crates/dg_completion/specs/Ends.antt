@@ -1,4 +1,4 @@
--- Runs that end with a rest.
+-- Runs that end with an undisturbed rest, and how many sweeps it has (docs/SCRIPTS.md, "Sweeps that are enough").
 use Rattle.std.specs.Prelude.{◌≡◌, ℕ, ◌+◌, ◌-◌, ◌<◌, ◌≤◌, min, true, List, [], ◌∷◌, ◌++◌, length, None, Some}
 use Rattle.std.specs.List.{AllByRecursion}
 use Rattle.dg_base.specs.declared.events.Event.{Event}

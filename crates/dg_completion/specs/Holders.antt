@@ -1,4 +1,5 @@
--- Who keeps a row whole, how far all motes are from there, and when a number of sweeps is enough.
+-- Who keeps a row whole, how far all motes are from there, and when a number of sweeps is enough (docs/SCRIPTS.md, "Sweeps that
+-- are enough").
 use Rattle.std.specs.Prelude.{◌≡◌, ℕ, ◌<◌, ◌≤◌, true, length, Some}
 use Rattle.dg_object.specs.Object.{Row}
 use Rattle.dg_volume.specs.Sizes.{images}

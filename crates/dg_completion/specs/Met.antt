@@ -1,4 +1,4 @@
--- Rests whose premises are met: what a world needs so that a rest may follow.
+-- Rests whose premises are met: what a world needs so that a rest may follow (docs/SCRIPTS.md, "Sweeps that are enough").
 use Rattle.std.specs.Prelude.{◌≡◌, ℕ, ◌+◌, ◌<◌, ◌≤◌, ◌==◌, Bool, if◌then◌else◌, List, ◌++◌, length, map, None}
 use Rattle.std.specs.List.{AllByRecursion, sum_by}
 use Rattle.dg_base.specs.declared.events.Event.{Event}

@@ -1,4 +1,5 @@
--- Rounds that were played, wherever they stand in a run, and what they bring.
+-- Rounds that were played, wherever they stand in a run, and what they bring (docs/PROMISES.md, "The report and what it
+-- tells").
 use Rattle.std.specs.Prelude.{◌≡◌, ◌≢◌, ℕ, ◌<◌, true, List, ◌++◌, length, replicate, Some}
 use Rattle.std.specs.List.{AllByRecursion}
 use Rattle.dg_base.specs.declared.events.Event.{Event}

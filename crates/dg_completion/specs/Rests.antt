@@ -1,4 +1,5 @@
--- Rests that nothing disturbs: sweeps, with ticks and heard frames between their rounds.
+-- Rests that nothing disturbs: sweeps, with ticks and heard frames between their rounds (docs/SCRIPTS.md, "Sweeps that are
+-- enough").
 use Rattle.std.specs.Prelude.{◌≡◌, ℕ, true, false, Bool, List, [], ◌∷◌, ◌++◌}
 use Rattle.std.specs.List.{AllByRecursion}
 use Rattle.dg_base.specs.declared.events.Event.{Event}

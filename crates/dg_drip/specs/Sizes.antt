@@ -1,4 +1,4 @@
--- The numbers of this profile.
+-- The numbers of nodes and of their frames, which are of this profile.
 use Rattle.std.specs.Prelude.{ℕ}
 
 -- the keys are the numbers below this one

@@ -1,4 +1,4 @@
--- What is reported of an event.
+-- What is reported of an event at a node (docs/SCRIPTS.md, "Scripts of nodes").
 use Rattle.std.specs.Prelude.{ℕ, ◌+◌, ◌&&◌, Bool, if◌then◌else◌, Option, Some, None}
 use Rattle.dg_drip.specs.declared.entry.Entry.{Entry}
 use Rattle.dg_drip.specs.declared.frame.Said.{Said}

@@ -1,4 +1,4 @@
--- What the code keeps of a network.
+-- What the code keeps of a network (docs/SCRIPTS.md, "Scripts of nodes").
 use Rattle.std.specs.Prelude.{◌≡◌, ℕ, ◌+◌, ◌<◌, Bool, List, length, slice_index_or, Option, Some, All, if◌then◌else◌, ◌++◌, ◌∷◌}
 use Rattle.std.specs.Prelude.{[]}
 use Rattle.dg_drip.specs.Sizes.{key_count}

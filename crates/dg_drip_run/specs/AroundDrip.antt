@@ -1,4 +1,4 @@
--- What stands around a replay of nodes: its source and its sink.
+-- What stands around a replay of nodes: its source and its sink (the arguments of `drip`).
 use Rattle.std.specs.Prelude.{ℕ, List, Option}
 
 -- what is left of the input, where that is told, how many reads failed, what was written, where that is told,

@@ -1,4 +1,4 @@
--- What the replay of a script of nodes did.
+-- What the replay of a script of nodes did (docs/SCRIPTS.md, "Scripts of nodes").
 use Rattle.std.specs.Prelude.{◌≡◌, ◌⊎◌, ℕ, ◌+◌, ◌-◌, ◌<◌, ◌≤◌, Bool, true, false, List, [], ◌∷◌, ◌++◌, length, take, codes}
 use Rattle.std.specs.Prelude.{Option, Some, Result, Ok, Err}
 use Rattle.dg_words.specs.Counts.{Rose}

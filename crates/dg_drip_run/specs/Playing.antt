@@ -1,4 +1,4 @@
--- What a player of a script keeps, and what it does with events.
+-- What a player of a script keeps, and what it does with events (docs/SCRIPTS.md, "Scripts of nodes").
 use Rattle.std.specs.Prelude.{◌≡◌, ℕ, ◌*◌, ◌^◌, ◌<◌, ◌≤◌, false, List, [], ◌∷◌, ◌++◌, length, take, Result, Ok, Err}
 use Rattle.dg_drip_replay.specs.Standing.{Stands, AreKeyed}
 use Rattle.dg_drip_script.specs.Scripts.{DripItem, DripScript, standing_of, with_items, with_drip_line, network_of, report_of}

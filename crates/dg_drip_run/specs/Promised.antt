@@ -1,4 +1,4 @@
--- What holds of every run of a script of nodes.
+-- What holds of every run of a script of nodes (docs/SCRIPTS.md, "Scripts of nodes").
 use Rattle.std.specs.Prelude.{◌≡◌, ◌⊎◌, ℕ, ◌<◌, List, ◌++◌}
 use Rattle.std.specs.List.{AllByRecursion}
 use Rattle.dg_drip.specs.Sizes.{key_count}

@@ -1,4 +1,4 @@
--- The fields of a line: all are numbers.
+-- The fields of a line: all are numbers (docs/SCRIPTS.md, "Scripts of nodes").
 use Rattle.std.specs.Prelude.{ℕ, nat_le, nat_lt, ◌&&◌, List, [], ◌∷◌, map, Option, Some, None, option_map}
 use Rattle.dg_base.specs.Numbers.{number_of}
 use Rattle.dg_script.specs.Results.{◌>>?◌, kept_if}

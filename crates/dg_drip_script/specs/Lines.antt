@@ -1,4 +1,4 @@
--- The lines of a script of nodes.
+-- The lines of a script of nodes (docs/SCRIPTS.md, "Scripts of nodes").
 use Rattle.std.specs.Prelude.{◌≡◌, false, ℕ, ◌<◌, ◌≤◌, ◌==◌, ◌&&◌, not, nat_lt, Bool, if◌then◌else◌, List, [], ◌∷◌, length, codes}
 use Rattle.std.specs.Prelude.{Option, Some, None, Result, Ok, Err}
 use Rattle.dg_script.specs.Lines.{is_comment}

@@ -1,4 +1,4 @@
--- The lines of a report.
+-- The lines of a report (docs/SCRIPTS.md, "Scripts of nodes").
 use Rattle.std.specs.Prelude.{ℕ, ◌==◌, if◌then◌else◌, List, [], ◌∷◌, ◌++◌, codes, Option, Some, None}
 use Rattle.std.specs.List.{flat_map, range_with_len}
 use Rattle.std.specs.Fmt.{decimal}

@@ -1,4 +1,4 @@
--- What the lines of a script say, and the report of a script.
+-- What the lines of a script say, and the report of a script (docs/SCRIPTS.md, "Scripts of nodes").
 use Rattle.std.specs.Prelude.{ℕ, Bool, true, false, if◌then◌else◌, List, [], ◌∷◌, ◌++◌, map, Option, Some, None, Result, Ok, Err}
 use Rattle.std.specs.List.{flat_map}
 use Rattle.dg_drip.specs.declared.events.DripEvent.{DripEvent}

@@ -1,5 +1,6 @@
--- The message that bytes spell for a reader that is wide or narrow, or why they spell none: by their length, their kind,
--- that kind's length, the CRC, and the ranges of the fields.
+-- The message that bytes spell for a reader that is wide or narrow, or why they spell none: by their length, their kind, that
+-- kind's length, the CRC, and the ranges of the fields (docs/PARTS.md, "The codec"; the messages are those of Deluge: Hui and
+-- Culler, SenSys 2004).
 use Rattle.std.specs.Prelude.{ℕ, ◌+◌, ◌-◌, ◌==◌, ◌&&◌, ◌||◌, not, nat_le, nat_lt, Bool, if◌then◌else◌, List, length, take, drop}
 use Rattle.std.specs.Prelude.{map, slice_index, Option, Some, None, Result, Ok, Err}
 use Rattle.std.specs.List.{list_all}

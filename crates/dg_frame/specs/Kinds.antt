@@ -1,4 +1,5 @@
--- The rows of the table of kinds.
+-- The table of the kinds of frames: the length of each, and how its fields are read (docs/PARTS.md, "The codec"; the messages
+-- are those of Deluge: Hui and Culler, SenSys 2004).
 use Rattle.std.specs.Prelude.{ℕ, List}
 use Rattle.dg_frame.specs.Sizes.{advert_kind, request_kind, packet_kind, wide_kind, advert_frame_size, request_frame_size}
 use Rattle.dg_frame.specs.Sizes.{packet_frame_size, wide_frame_size}

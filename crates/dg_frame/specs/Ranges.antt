@@ -1,4 +1,5 @@
--- The ranges of the fields of a message, as relations.
+-- The ranges of the fields of a message, as relations (docs/PARTS.md, "The codec"; the messages are those of Deluge: Hui and
+-- Culler, SenSys 2004).
 use Rattle.std.specs.Prelude.{◌≡◌, ◌≢◌, ◌⊎◌, ℕ, ◌≤◌, Bool, true, All}
 use Rattle.std.specs.FinSet as set
 use Rattle.dg_control.specs.declared.snapshot.Order.{Order}

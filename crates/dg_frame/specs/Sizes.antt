@@ -1,5 +1,5 @@
--- The bounds of frames. They are the frames' own: a chip may have more slots, and a volume more images.
--- The format is of this profile.
+-- The bounds of frames. They are the frames' own: a chip may have more slots, and a volume more images. The format is of this
+-- profile.
 use Rattle.std.specs.Prelude.{ℕ, zero, suc, ◌+◌, ◌-◌, ◌*◌, Bool, if◌then◌else◌, List, [], ◌∷◌}
 use Rattle.dg_base.specs.Sizes.{longest_frame}
 pub use Rattle.dg_object.specs.Sizes.{packets, packet_size, fewest_pages, most_pages}

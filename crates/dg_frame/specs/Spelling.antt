@@ -1,4 +1,4 @@
--- The bytes of a message.
+-- The bytes of a message (docs/PARTS.md, "The codec"; the messages are those of Deluge: Hui and Culler, SenSys 2004).
 use Rattle.std.specs.Prelude.{◌≡◌, ℕ, ◌+◌, ◌^◌, ◌<◌, List, ◌∷◌, ◌++◌, length}
 use Rattle.std.specs.List.{flat_map, AllByRecursion}
 use Rattle.std.specs.Int.{to_be_bytes, w16, w32}

@@ -1,4 +1,5 @@
--- The map from addresses to bytes that records give, and its image.
+-- The map from addresses to bytes that records give, and its image (Intel Hexadecimal Object File Format Specification,
+-- revision A).
 use Rattle.std.specs.Prelude.{ℕ, ◌+◌, ◌-◌, ◌^◌, nat_le, min, max, Bool, if◌then◌else◌, List, [], ◌∷◌, length, slice_get, Option}
 use Rattle.std.specs.Prelude.{None, is_some, unwrap_or}
 use Rattle.std.specs.List.{list_any, range_with_len}

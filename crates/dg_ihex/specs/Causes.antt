@@ -1,4 +1,4 @@
--- The causes of refusals.
+-- The causes of refusals (Intel Hexadecimal Object File Format Specification, revision A).
 use Rattle.std.specs.Prelude.{ℕ, List, codes}
 use Rattle.dg_ihex.specs.declared.faults.HexCause.{HexCause}
 use Rattle.dg_ihex.specs.declared.faults.HexCause.TheVariants.{Start, Hex, Count, Check, Kind, Shape, Overlap, Span, End, Memory}

@@ -1,4 +1,5 @@
--- Blocks in cells: the byte at an address stands in the cell of its number, and a shift, modulo the most bytes of an image.
+-- Blocks in cells: the byte at an address stands in the cell of its number, and a shift, modulo the most bytes of an image
+-- (Intel Hexadecimal Object File Format Specification, revision A).
 use Rattle.std.specs.Prelude.{◌≡◌, ℕ, ◌+◌, ◌%◌, List, [], ◌∷◌, slice_index_or, slice_set, Option, Some, None}
 use Rattle.dg_ihex.specs.Sizes.{longest_image}
 

@@ -1,4 +1,5 @@
--- HEX files: their records, their first fault, and their image.
+-- HEX files: their records, their first fault, and their image (Intel Hexadecimal Object File Format Specification, revision
+-- A).
 use Rattle.std.specs.Prelude.{ℕ, ◌+◌, ◌*◌, nat_lt, Bool, true, false, if◌then◌else◌, List, [], ◌∷◌, ◌++◌, length, fold, Option}
 use Rattle.std.specs.Prelude.{Some, None, Result, Ok, Err}
 use Rattle.std.specs.List.{list_any, flat_map}

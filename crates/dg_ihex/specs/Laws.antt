@@ -1,4 +1,4 @@
--- HEX files, address by address.
+-- HEX files, address by address (Intel Hexadecimal Object File Format Specification, revision A).
 use Rattle.std.specs.Prelude.{◌≡◌, ℕ, ◌+◌, ◌<◌, ◌≤◌, nat_lt, if◌then◌else◌, List, [], length, take, slice_index_or, Option, Some}
 use Rattle.std.specs.Prelude.{None}
 use Rattle.dg_ihex.specs.declared.faults.HexCause.{HexCause}

@@ -1,4 +1,4 @@
--- The state of a reader.
+-- The state of a reader (Intel Hexadecimal Object File Format Specification, revision A).
 use Rattle.std.specs.Prelude.{◌≡◌, ◌≢◌, ◌+◌, ℕ, List, length, None, Result, Ok, Err}
 use Rattle.dg_ihex.specs.declared.faults.HexFileFault.{HexFileFault}
 use Rattle.dg_ihex.specs.declared.faults.HexCause.TheVariants.{Memory}

@@ -1,4 +1,4 @@
--- What a reader tells.
+-- What a reader tells (Intel Hexadecimal Object File Format Specification, revision A).
 use Rattle.std.specs.Prelude.{◌≡◌, ◌≢◌, ℕ, List, Option, Some, None, Result, Ok, Err}
 use Rattle.dg_ihex.specs.declared.faults.HexCause.{HexCause}
 use Rattle.dg_ihex.specs.declared.faults.HexFileFault.{HexFileFault}

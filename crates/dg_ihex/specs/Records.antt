@@ -1,4 +1,4 @@
--- Records, and the lines that spell them.
+-- Records, and the lines that spell them (Intel Hexadecimal Object File Format Specification, revision A).
 use Rattle.std.specs.Prelude.{ℕ, ◌+◌, ◌-◌, ◌*◌, ◌%◌, ◌==◌, nat_lt, if◌then◌else◌, List, [], ◌∷◌, length, sum, slice_index}
 use Rattle.std.specs.Prelude.{slice_range, Option, Some, None, Result, Ok, Err}
 use Rattle.dg_base.specs.Hexadecimal.{hex_bytes}

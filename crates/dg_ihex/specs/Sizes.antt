@@ -1,5 +1,5 @@
--- The numbers of HEX files. Those of records are of the Intel Hexadecimal Object File Format Specification, revision A;
--- the limits are of this profile.
+-- The numbers of HEX files. Those of records are of the Intel Hexadecimal Object File Format Specification, revision A; the
+-- limits are of this profile.
 use Rattle.std.specs.Prelude.{ℕ}
 use Rattle.dg_base.specs.Sizes.{most_content, most_input}
 

@@ -1,4 +1,4 @@
--- Files that come by pieces.
+-- Files that come by pieces (Intel Hexadecimal Object File Format Specification, revision A).
 use Rattle.std.specs.Prelude.{◌≡◌, ◌≢◌, ℕ, ◌≤◌, ◌<◌, ◌==◌, false, List, ◌++◌, length, All, Option, Some, None, Result, Ok, Err}
 use Rattle.std.specs.Str.Lines.{lines, strip_carriage_return}
 use Rattle.dg_ihex.specs.declared.faults.HexFileFault.{HexFileFault}

@@ -1,4 +1,4 @@
--- Windows.
+-- A window of cells, which holds the blocks that came so far (Intel Hexadecimal Object File Format Specification, revision A).
 use Rattle.std.specs.Prelude.{◌≡◌, ◌≤◌, List}
 use Rattle.dg_ihex.specs.Sizes.{longest_image}
 use Rattle.dg_ihex.specs.declared.window.Window.{Window}

@@ -1,4 +1,4 @@
--- The HEX file of an image.
+-- The HEX file of an image (Intel Hexadecimal Object File Format Specification, revision A).
 use Rattle.std.specs.Prelude.{ℕ, ◌+◌, ◌-◌, ◌*◌, ◌/◌, ◌%◌, ◌==◌, ◌&&◌, nat_lt, if◌then◌else◌, List, [], ◌∷◌, ◌++◌, length, sum}
 use Rattle.std.specs.Prelude.{map, take, drop}
 use Rattle.std.specs.Char.{to_ascii_uppercase}

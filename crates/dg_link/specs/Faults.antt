@@ -1,4 +1,4 @@
--- The texts of faults.
+-- The texts of the faults of a link (docs/COMMANDS.md, "Serve").
 use Rattle.std.specs.Prelude.{ℕ, List, codes}
 use Rattle.dg_link.specs.declared.link.OpenFault.{OpenFault}
 use Rattle.dg_link.specs.declared.link.OpenFault.TheVariants.{Memory, LinkFailed}

@@ -1,4 +1,4 @@
--- The frames that wait at motes, where a link tells them.
+-- The frames that wait at motes, where a link tells them (docs/COMMANDS.md, "Serve").
 use Rattle.std.specs.Prelude.{◌≡◌, ℕ, ◌-◌, List, [], ◌∷◌, ◌++◌, length, take, drop, replicate, slice_index_or, slice_set, Option}
 use Rattle.std.specs.Prelude.{Some, None}
 

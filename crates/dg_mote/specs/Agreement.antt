@@ -1,4 +1,4 @@
--- Motes that agree with a table, and frames that are honest by it.
+-- Motes that agree with a table, and frames that are honest by it (docs/PROMISES.md, "The report and what it tells").
 use Rattle.std.specs.Prelude.{◌≡◌, ◌≢◌, ◌⊎◌, ℕ, ◌<◌, ◌≤◌, List, length, slice_index_or, [], Some, Result, Ok, Err, true}
 use Rattle.std.specs.FinSet as set
 use Rattle.dg_object.specs.Object.{Row, object, profile}

@@ -1,4 +1,5 @@
--- What a tick and a frame may change of what a chip keeps, and of the page that is asked for.
+-- What a tick and a frame may change of what a chip keeps, and of the page that is asked for (docs/PROMISES.md, "The report and
+-- what it tells").
 use Rattle.std.specs.Prelude.{◌≡◌, ◌⊎◌, ℕ, ◌<◌, ◌≤◌, Bool, true, List, slice_set, Option, Some, None, IfSome, is_some, Ok}
 use Rattle.dg_control.specs.declared.snapshot.Order.{Order}
 use Rattle.dg_slot.specs.Layout.{packets}

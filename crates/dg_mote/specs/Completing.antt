@@ -1,5 +1,5 @@
--- What a round does at each of its two motes: they are drained, one tells what it keeps, the other asks for a page,
--- and the page goes over.
+-- What a round does at each of its two motes: they are drained, one tells what it keeps, the other asks for a page, and the
+-- page goes over (docs/PROMISES.md, "Laws over the definitions alone").
 use Rattle.std.specs.Prelude.{◌≡◌, ◌≢◌, ◌⊎◌, Bool, ℕ, ◌+◌, ◌*◌, ◌<◌, ◌≤◌, List, [], ◌∷◌, length, map, slice_index_or, Option}
 use Rattle.std.specs.Prelude.{Some, None}
 use Rattle.std.specs.List.{range_with_len}

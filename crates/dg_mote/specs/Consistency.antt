@@ -1,4 +1,4 @@
--- Motes over consistent stores, whatever frames they hear.
+-- Motes over consistent stores, whatever frames they hear (docs/PROMISES.md, "The report and what it tells").
 use Rattle.std.specs.Prelude.{◌≡◌, ℕ, ◌<◌, ◌≤◌, List, length}
 use Rattle.dg_nor.specs.Through.{Through}
 use Rattle.dg_object.specs.Object.{Row}

@@ -1,4 +1,5 @@
--- Motes that are drained: nothing is left to be done but to tell what they keep.
+-- Motes that are drained: nothing is left to be done but to tell what they keep (docs/PROMISES.md, "Laws over the definitions
+-- alone").
 use Rattle.std.specs.Prelude.{◌≡◌, ◌≢◌, ℕ, ◌≤◌, true, false}
 use Rattle.dg_trickle.specs.Timer.{Timer}
 use Rattle.dg_quiet.specs.Noted.{may_ask}

@@ -1,4 +1,5 @@
--- The effect of an event at one mote, over the store of its chip: what a world and a service share.
+-- The effect of an event at one mote, over the store of its chip: what a world and a service share (docs/SCRIPTS.md, "What
+-- events do").
 use Rattle.std.specs.Prelude.{ℕ, Bool, List, Option, Some, None}
 use Rattle.dg_nor.specs.Trail.{Trail, last, joined}
 use Rattle.dg_volume.specs.Store.{Store}

@@ -1,4 +1,4 @@
--- How the steps of hearing a frame end.
+-- How the steps of hearing a frame end (docs/SCRIPTS.md, "What events do", after Deluge: Hui and Culler, SenSys 2004).
 use Rattle.std.specs.Prelude.{◌≡◌, ◌≢◌, ℕ, ◌<◌, ◌≤◌, ◌||◌, nat_le, Bool, true, false, if◌then◌else◌, List, length, Some, None}
 use Rattle.std.specs.Prelude.{is_some}
 use Rattle.dg_nor.specs.Trail.{Trail, resting, stepping}

@@ -1,4 +1,5 @@
--- A mote as the rules see it: beside the store of its chip.
+-- A mote as the rules see it: beside the store of its chip (docs/SCRIPTS.md, "What events do", after Deluge: Hui and Culler,
+-- SenSys 2004).
 use Rattle.std.specs.Prelude.{ℕ, ◌≤◌, Bool, Option, is_some}
 use Rattle.std.specs.List.{filter, range_with_len}
 use Rattle.std.specs.FinSet as set

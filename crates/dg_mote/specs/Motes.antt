@@ -1,4 +1,4 @@
--- How the code's mote and its chip stand for a mote by the rules and a store.
+-- How the code's mote and its chip stand for a mote by the rules and a store (the type `Mote` of this crate).
 use Rattle.std.specs.Prelude.{◌≡◌, ◌≢◌, ℕ, ◌<◌, ◌≤◌, Bool, true, false, List, length, Option, Some, Ok, option_map}
 use Rattle.std.specs.FinSet as set
 use Rattle.dg_nor.specs.Device.{Device, Ran}

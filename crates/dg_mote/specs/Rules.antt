@@ -1,4 +1,5 @@
--- The rules of asking and serving in the words of Deluge, and what happens to a mote in a row.
+-- The rules of asking and serving in the words of Deluge, and what happens to a mote in a row (docs/SCRIPTS.md, "What events
+-- do", after Deluge: Hui and Culler, SenSys 2004).
 use Rattle.std.specs.Prelude.{◌≡◌, ◌≢◌, ◌⊎◌, ◌↔◌, true, false, ℕ, ◌+◌, ◌<◌, ◌≤◌, List, [], ◌∷◌, length, Option, Some, None}
 use Rattle.std.specs.List.{AllByRecursion}
 use Rattle.std.specs.FinSet as set

@@ -1,4 +1,4 @@
--- The numbers of a mote's rules and of its buffers.
+-- The numbers of a mote's rules and of its buffers (docs/SCRIPTS.md, "Times").
 use Rattle.std.specs.Prelude.{ℕ, ◌+◌, ◌*◌, ◌≤◌, Bool, List}
 use Rattle.std.specs.List.{range_with_len}
 use Rattle.dg_object.specs.Sizes.{head_size, name_size, descriptor_piece_size}

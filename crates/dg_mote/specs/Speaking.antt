@@ -1,4 +1,4 @@
--- Motes whose messages fit into frames: what they say is read as they say it.
+-- Motes whose messages fit into frames: what they say is read as they say it (the type `Mote` of this crate).
 use Rattle.std.specs.Prelude.{◌≡◌, ℕ, ◌<◌, ◌^◌, Bool, Ok, IfSome}
 use Rattle.dg_nor.specs.Trail.{last}
 use Rattle.dg_nor.specs.Through.{Through}

@@ -1,4 +1,5 @@
--- One mote over the store of its chip, and what ticks and messages make of the two.
+-- One mote over the store of its chip, and what ticks and messages make of the two (docs/PROMISES.md, "Laws over the
+-- definitions alone").
 use Rattle.std.specs.Prelude.{ℕ, zero, suc, ◌+◌, List, [], ◌∷◌, Option, Some, None, Ok}
 use Rattle.dg_nor.specs.Trail.{last}
 use Rattle.dg_object.specs.Object.{Row}

@@ -1,4 +1,4 @@
--- Motes that agree with a table and are in time, and what keeps them so.
+-- Motes that agree with a table and are in time, and what keeps them so (docs/PROMISES.md, "The report and what it tells").
 use Rattle.std.specs.Prelude.{◌≡◌, ℕ, List, length, Option, Ok, IfSome, IsSomeAnd}
 use Rattle.dg_nor.specs.Trail.{last}
 use Rattle.dg_nor.specs.Through.{Through}

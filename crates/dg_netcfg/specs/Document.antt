@@ -1,4 +1,4 @@
--- What a network profile reads of a TOML document, as `toml` defines documents.
+-- What a network profile reads of a TOML document, as `toml` defines documents (docs/COMMANDS.md, "Serve").
 use Rattle.std.specs.Prelude.{ℕ, ◌&&◌, nat_le, if◌then◌else◌, ℤ, pos, negsuc, List, [], ◌∷◌, Option, Some, None, option_map}
 use Rattle.std.specs.Prelude.{option_and_then}
 use Rattle.std.specs.Str.{is_utf8}

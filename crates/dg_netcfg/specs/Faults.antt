@@ -1,4 +1,4 @@
--- The texts of faults.
+-- The texts of the faults of a network profile (docs/COMMANDS.md, "Serve").
 use Rattle.std.specs.Prelude.{ℕ, List, codes}
 use Rattle.dg_netcfg.specs.declared.profile.ProfileFault.{ProfileFault}
 use Rattle.dg_netcfg.specs.declared.profile.ProfileFault.TheVariants.{NotToml, Key, Id, Link, Port, Memory}

@@ -1,4 +1,4 @@
--- The network profile that a TOML document is, or why it is none.
+-- The network profile that a TOML document is, or why it is none (docs/COMMANDS.md, "Serve").
 use Rattle.std.specs.Prelude.{ℕ, ◌-◌, ◌==◌, ◌&&◌, ◌||◌, Bool, false, if◌then◌else◌, codes, ℤ, List, [], ◌∷◌, map, Option, Some}
 use Rattle.std.specs.Prelude.{None, option_and_then, Result, Ok, Err, bytes_eq}
 use Rattle.std.specs.List.{list_all, list_any}

@@ -1,4 +1,5 @@
--- What holds of bytes that are read as a network profile, or refused. A cause is told only where none before it is there.
+-- What holds of bytes that are read as a network profile, or refused (docs/COMMANDS.md, "Serve"). A cause is told only where
+-- none before it is there.
 use Rattle.std.specs.Prelude.{◌≡◌, ◌≢◌, ◌⊎◌, ℕ, ◌<◌, ◌≤◌, ℤ, pos, codes, List, All, AllPairs, Some, Result, Ok, Err, IsUtf8}
 use Rattle.std.specs.List.{AllZip}
 use Rattle.toml.specs.Data.{Data, integer, array, Items, no_items, item, Members, get_member}

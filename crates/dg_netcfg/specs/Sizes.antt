@@ -1,4 +1,4 @@
--- The numbers of a network profile.
+-- The numbers of a network profile (docs/COMMANDS.md, "Serve").
 use Rattle.std.specs.Prelude.{ℕ}
 pub use Rattle.dg_base.specs.Sizes.{most_motes, greatest_port}
 

@@ -1,4 +1,4 @@
--- What a page says as a descriptor.
+-- What a page says as a descriptor (docs/IMAGES.md, "Objects and descriptors").
 use Rattle.std.specs.Prelude.{◌≡◌, ℕ, ◌+◌, ◌-◌, ◌*◌, ◌^◌, ◌<◌, ◌≤◌, IsTrue, List, length, take, slice_index}
 use Rattle.dg_base.specs.Texts.{spells_name}
 use Rattle.dg_object.specs.Sizes.{most_bytes, slots, head_size}

@@ -1,4 +1,4 @@
--- The texts of faults.
+-- The texts of the faults of images and descriptors (docs/IMAGES.md, "Objects and descriptors").
 use Rattle.std.specs.Prelude.{ℕ, List, codes}
 use Rattle.dg_object.specs.declared.descriptor.DescriptorFault.{DescriptorFault}
 use Rattle.dg_object.specs.declared.descriptor.DescriptorFault.TheVariants.{Tag, Range}

@@ -1,4 +1,5 @@
--- An image as the pages that are stored and sent: its descriptor, and then its bytes.
+-- An image as the pages that are stored and sent: its descriptor, and then its bytes (docs/IMAGES.md, "Objects and
+-- descriptors").
 use Rattle.std.specs.Prelude.{ℕ, ◌+◌, ◌-◌, ◌*◌, ◌/◌, ◌^◌, ◌<◌, ◌≤◌, IsTrue, List, ◌∷◌, ◌++◌, length, take, drop, suc, zero}
 use Rattle.std.specs.List.{flat_map, range_with_len}
 use Rattle.std.specs.Int.{to_be_bytes, w16, w32}

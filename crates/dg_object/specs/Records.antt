@@ -1,4 +1,4 @@
--- What the records of the code say.
+-- What the records of the code say (docs/IMAGES.md, "Objects and descriptors").
 use Rattle.dg_object.specs.Object.{Outline}
 use Rattle.dg_object.specs.Descriptor.{Details}
 use Rattle.dg_object.specs.declared.profile.Profile.{Profile}

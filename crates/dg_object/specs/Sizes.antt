@@ -1,6 +1,5 @@
--- The sizes of images, and of the pages and packets that they are cut into. Each number stands here alone. Pages of
--- 1,104 bytes in 48 packets of 23 are those of Deluge (Hui and Culler, SenSys 2004); the others are this project's own
--- profile.
+-- The sizes of images, and of the pages and packets that they are cut into. Each number stands here alone. Pages of 1,104 bytes
+-- in 48 packets of 23 are those of Deluge (Hui and Culler, SenSys 2004); the others are this project's own profile.
 use Rattle.std.specs.Prelude.{ℕ}
 
 -- the bytes of a page

@@ -1,4 +1,4 @@
--- Whether a page is a descriptor, as a test.
+-- Whether a page is a descriptor, as a test (docs/IMAGES.md, "Objects and descriptors").
 use Rattle.std.specs.Prelude.{ℕ, ◌==◌, ◌&&◌, nat_le, nat_lt, Bool, if◌then◌else◌, List, [], ◌∷◌, take, drop, slice_index}
 use Rattle.std.specs.List.{list_all}
 use Rattle.std.specs.Int.{from_be_bytes, w32}

@@ -1,4 +1,4 @@
--- When an order waits to be started, by what a volume tells.
+-- When an order waits to be started, by what a volume tells (docs/IMAGES.md, "The start").
 use Rattle.std.specs.Prelude.{◌≡◌, ◌≢◌, ℕ, ◌≤◌, ◌==◌, ◌&&◌, nat_le, Bool, false, not, Option, Some, None}
 use Rattle.dg_control.specs.declared.snapshot.Program.{Program}
 use Rattle.dg_control.specs.declared.snapshot.Program.TheVariants.{Blank, Set}

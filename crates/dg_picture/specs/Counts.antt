@@ -1,4 +1,4 @@
--- What a map keeps of the counts of versions.
+-- What a map keeps of the counts of versions (docs/COMMANDS.md, "A picture of a report").
 use Rattle.std.specs.Prelude.{ℕ, ◌==◌, Option, Some, None, unwrap_or, if◌then◌else◌}
 use Rattle.std.specs.Ordering.{nat_cmp}
 use Rattle.std.specs.BTreeMap as tree

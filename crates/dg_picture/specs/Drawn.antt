@@ -1,4 +1,4 @@
--- What the call that draws a report does.
+-- What the call that draws a report does (docs/COMMANDS.md, "A picture of a report").
 use Rattle.std.specs.Prelude.{◌≡◌, ℕ, ◌<◌, List, length, Option, Result, Ok, Err, Vec}
 use Rattle.dg_base.specs.Outside.{Takes, Puts, PutsFront, AtEnd}
 use Rattle.dg_script.specs.Sizes.{most_used_bytes}

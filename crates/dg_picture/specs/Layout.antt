@@ -1,4 +1,4 @@
--- Where what is told stands: a row for each mote, columns from left to right.
+-- Where what is told stands: a row for each mote, columns from left to right (docs/COMMANDS.md, "A picture of a report").
 use Rattle.std.specs.Prelude.{ℕ, ◌+◌, ◌*◌, ◌/◌, max, min, zero, suc, List, [], ◌++◌, take, drop}
 use Rattle.std.specs.List.{fold}
 use Rattle.dg_script.specs.declared.report.Report.{Report}

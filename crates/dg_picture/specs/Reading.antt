@@ -1,4 +1,4 @@
--- How a report is read.
+-- How a report is read (docs/COMMANDS.md, "A picture of a report").
 use Rattle.std.specs.Prelude.{◌≡◌, ◌≢◌, ◌⊎◌, ℕ, ◌+◌, ◌≤◌, List, [], ◌∷◌, ◌++◌, length}
 use Rattle.std.specs.List.{AllByRecursion}
 use Rattle.dg_base.specs.Sizes.{most_motes}

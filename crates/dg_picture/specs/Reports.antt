@@ -1,4 +1,4 @@
--- What a report tells of motes.
+-- What a report tells of motes (docs/COMMANDS.md, "A picture of a report").
 use Rattle.std.specs.Prelude.{ℕ, ◌+◌, ◌==◌, ◌&&◌, max, Bool, true, false, List, Option, Some, None, if◌then◌else◌}
 use Rattle.std.specs.List.{fold, filter}
 use Rattle.dg_script.specs.declared.report.Report.{Report}

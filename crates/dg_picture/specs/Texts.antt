@@ -1,4 +1,4 @@
--- The texts that are the same in each picture.
+-- The texts that are the same in each picture (docs/COMMANDS.md, "A picture of a report").
 use Rattle.std.specs.Prelude.{ℕ, ◌+◌, ◌*◌, List, [], ◌∷◌, ◌++◌, codes}
 use Rattle.std.specs.Fmt.{decimal}
 use Rattle.std.specs.List.{flat_map}

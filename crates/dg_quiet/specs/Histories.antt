@@ -1,4 +1,4 @@
--- Whole histories of overheard frames.
+-- Whole histories of overheard frames (the suppression of Deluge: Hui and Culler, SenSys 2004).
 use Rattle.std.specs.Prelude.{ℕ, ◌==◌, if◌then◌else◌, Option, None, Some, List, [], ◌∷◌}
 use Rattle.dg_quiet.specs.Noted.{Noted, nothing_noted, with_request, with_packet}
 

@@ -1,4 +1,5 @@
--- What was overheard of each image, and when a mote may ask for it again.
+-- What was overheard of each image, and when a mote may ask for it again (the suppression of Deluge: Hui and Culler, SenSys
+-- 2004).
 use Rattle.std.specs.Prelude.{ℕ, ◌+◌, ◌≤◌, Bool, true, ◌&&◌, nat_le, Option, None, Some, IfSome, List, [], ◌∷◌, refl}
 use Rattle.std.specs.Coded.{Coded, code_by, coded×, coded_ℕ}
 use Rattle.std.specs.Ordering.{nat_cmp}

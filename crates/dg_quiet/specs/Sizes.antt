@@ -1,4 +1,4 @@
--- How many images have windows.
+-- How many images have windows (those of `dg_frame`).
 use Rattle.std.specs.Prelude.{ℕ}
 
 -- the images from 1 to this number. A network may name fewer

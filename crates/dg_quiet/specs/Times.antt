@@ -1,5 +1,5 @@
--- How long what a mote overhears keeps it from asking. That it does is in Hui and Culler, SenSys 2004;
--- the times are of this profile.
+-- How long what a mote overhears keeps it from asking. That it does is in Hui and Culler, SenSys 2004; the times are of this
+-- profile.
 use Rattle.std.specs.Prelude.{ℕ}
 
 -- after a request of the image, in milliseconds

@@ -1,4 +1,5 @@
--- What a mote that asks for a page keeps: what it has, and how far its asking is.
+-- What a mote that asks for a page keeps: what it has, and how far its asking is (the state RX of Deluge: Hui and Culler,
+-- SenSys 2004).
 use Rattle.std.specs.Prelude.{ℕ, refl}
 use Rattle.std.specs.Coded.{Coded, code_by, coded×, coded_ℕ}
 use Rattle.std.specs.FinSet as set

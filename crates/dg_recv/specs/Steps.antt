@@ -1,4 +1,4 @@
--- What each call makes of a reception, and what it answers.
+-- What each call makes of a reception, and what it answers (the state RX of Deluge: Hui and Culler, SenSys 2004).
 use Rattle.std.specs.Prelude.{ℕ, ◌+◌, ◌%◌, nat_le, nat_lt, if◌then◌else◌}
 use Rattle.std.specs.FinSet as set
 use Rattle.dg_bits.specs.Sets.{Numbers, below}

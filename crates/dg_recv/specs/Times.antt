@@ -1,5 +1,5 @@
--- When a page is asked for, and how often. The states and the requests are in Hui and Culler, SenSys 2004;
--- the numbers are of this profile.
+-- When a page is asked for, and how often. The states and the requests are in Hui and Culler, SenSys 2004; the numbers are of
+-- this profile.
 use Rattle.std.specs.Prelude.{ℕ}
 
 -- the first request waits for 1 to so many milliseconds

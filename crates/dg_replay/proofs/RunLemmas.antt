@@ -20,7 +20,7 @@ use Rattle.dg_replay.specs.Ending.{Ending, Ends, Over, ending_from, ending_of, e
 use Rattle.dg_replay.specs.Around.{Around, around}
 use Rattle.dg_replay.specs.Promised.{Headline}
 use Rattle.dg_replay.specs.Done.{IsUnfailed, ReplaysAll, ReplayDone}
-use Rattle.dg_replay.specs.Replayed.{Progress, RunsTo, played_text, Wrote, BoardsLeft, NoVolumeThere, NoImageThere, IsComplete, AreVolumes, IsSettled, AreWhole, AllWhole, NextIsWhole, ReadFor, IsCaused, Replayed}
+use Rattle.dg_replay.specs.Replayed.{Progress, RunsTo, played_text, Wrote, BoardsLeft, NoVolumeThere, NoImageThere, IsComplete, AreVolumes, IsSettled, AreWhole, AllWhole, NextIsWhole, RestsOnTaken, IsCaused, Replayed}
 use Rattle.dg_replay.specs.Replaying.{Reached, PlayedUpTo, InputAnswer, StopEnds, EndsWith, ScriptReplayed}
 use Rattle.dg_replay.specs.declared.halt.Halt.{Halt}
 use Rattle.dg_replay.specs.declared.halt.Halt.TheVariants as halts
@@ -31,7 +31,7 @@ use Rattle.dg_replay.proofs.EndLemmas.{over_not, is_over-true, over_ends, stoppe
 use Rattle.dg_replay.proofs.TakenLemmas.{over_settled, over_done, none_whole, stopped_of_script, known_in_script}
 
 -- where an input is at its end, the bytes are enough
-at_end_for : {table : List Row} {script : Script} (s : Status) (n : ℕ) (input : List ℕ) (at_end : Type 0) (c : Progress table script) (text : List ℕ) → at_end → ReadFor s n (bytes_taken input ⊤) c text → ReadFor s n (bytes_taken input at_end) c text
+at_end_for : {table : List Row} {script : Script} (s : Status) (n : ℕ) (input : List ℕ) (at_end : Type 0) (c : Progress table script) (text : List ℕ) → at_end → RestsOnTaken s n (bytes_taken input ⊤) c text → RestsOnTaken s n (bytes_taken input at_end) c text
 at_end_for ReadFault n input at_end c text e enough = enough
 at_end_for Memory n input at_end c text e read = inl e
 at_end_for WriteFault n input at_end c text e read = inl e
@@ -158,7 +158,7 @@ memory_unread bytes lb la wb rb ra k old taken few reads =
     record { input = bytes; taken = taken; few_bytes = few; came = none_played (script_of bytes); text = []; written = Puts-nil wb; report = record { more = []; front = refl }; read = inr (none_whole bytes); near = tt; limits = none_bound (length old); stood = λ uses. absurd (cc); boards = refl; caused = tt; read_faults = λ other. reads; write_faults = λ other. refl }
 
 -- the status of an ending that is the script's
-by_status : {table : List Row} (s : Status) (input : List ℕ) (at_end : Type 0) (c : Progress table (script_of input)) (text : List ℕ) (r w b v i uses : Type 0) (n : ℕ) → ReadFor s n (bytes_taken input at_end) c text → IsCaused s (ending_of n input) r w b v i → (r → ⊥) → (w → ⊥)
+by_status : {table : List Row} (s : Status) (input : List ℕ) (at_end : Type 0) (c : Progress table (script_of input)) (text : List ℕ) (r w b v i uses : Type 0) (n : ℕ) → RestsOnTaken s n (bytes_taken input at_end) c text → IsCaused s (ending_of n input) r w b v i → (r → ⊥) → (w → ⊥)
     → (b → at_end ⊎ NextIsWhole input c.done c.rest → ⊥) → (v → at_end ⊎ NextIsWhole input c.done c.rest → ⊥) → (i → at_end ⊎ NextIsWhole input c.done c.rest → uses) → (at_end ⊎ IsSettled n input → ending_of n input ≡ Ends) → IsComplete uses s
 by_status Memory input at_end c text r w b v i uses n enough caused reads writes stops none lacks ends = inr (inl refl)
 by_status ReadFault input at_end c text r w b v i uses n enough caused reads writes stops none lacks ends = absurd (reads caused)

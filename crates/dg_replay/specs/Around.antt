@@ -1,4 +1,4 @@
--- What stands around a program: its source, its sink and its boards.
+-- What stands around a program: its source, its sink and its boards (the arguments of `replay`).
 use Rattle.std.specs.Prelude.{ℕ, List, Option}
 use Rattle.dg_nor.specs.Device.{Device}
 

@@ -1,4 +1,4 @@
--- What a replay leaves of the boards.
+-- What a replay leaves of the boards (docs/PROMISES.md, "The report and what it tells").
 use Rattle.std.specs.Prelude.{◌≡◌, ◌≢◌, ℕ, ◌-◌, ◌<◌, ◌≤◌, Bool, false, List, [], ◌∷◌, length, slice_get, Option, Some}
 use Rattle.std.specs.Prelude.{None, IfSome}
 use Rattle.dg_nor.specs.Device.{Device}

@@ -1,4 +1,5 @@
--- All that is promised of a replay.
+-- All that is promised of a replay: what it did, how it ended, how it left the boards, and the headline (docs/PROMISES.md, "The
+-- report and what it tells").
 use Rattle.std.specs.Prelude.{◌≡◌, ◌≢◌, ◌⊎◌, ℕ, List, length, Some}
 use Rattle.dg_words.specs.Counts.{Rose}
 use Rattle.dg_base.specs.declared.answers.Status.{Status}

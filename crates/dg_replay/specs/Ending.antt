@@ -1,4 +1,4 @@
--- How the rules say that a script ends, by its bytes and the number of boards alone.
+-- How the rules say that a script ends, by its bytes and the number of boards alone (docs/PROMISES.md, "How it ends").
 use Rattle.std.specs.Prelude.{◌≡◌, ℕ, ◌≤◌, ◌==◌, nat_lt, Bool, true, false, not, if◌then◌else◌, List, [], ◌∷◌, ◌++◌, length, take}
 use Rattle.std.specs.Prelude.{codes, Option, Some, None}
 use Rattle.std.specs.Fmt.{decimal}

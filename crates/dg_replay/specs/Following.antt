@@ -1,4 +1,4 @@
--- What reading the next line and playing it answers.
+-- What reading the next line and playing it answers (docs/ARCHITECTURE.md, "The way of a script line").
 use Rattle.std.specs.Prelude.{◌≡◌, ℕ, ◌+◌, ◌≤◌, Bool, true, false, List, length, Option, Result, Ok, Err}
 use Rattle.dg_nor.specs.Device.{Device}
 use Rattle.dg_script.specs.LineReading.{Reading, most_kept, most_used_bytes, HasNoEnd, FirstLine, Gives, IsAtEnd, IsTooLong}

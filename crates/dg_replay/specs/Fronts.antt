@@ -1,4 +1,4 @@
--- What the first lines of a script settle, whatever comes behind them.
+-- What the first lines of a script settle, whatever comes behind them (docs/PROMISES.md, "How it ends").
 use Rattle.std.specs.Prelude.{◌≡◌, ◌⊎◌, ℕ, Bool, List, [], ◌∷◌, ◌++◌, Some}
 use Rattle.dg_script.specs.Places.{first_place}
 use Rattle.dg_script.specs.Script.{Script, script_from}

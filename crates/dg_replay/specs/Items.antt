@@ -1,4 +1,4 @@
--- What the lines of a script say of its run: where it begins, and what may come of it.
+-- What the lines of a script say of its run: where it begins, and what may come of it (docs/SCRIPTS.md, "The script").
 use Rattle.std.specs.Prelude.{◌≡◌, ℕ, nat_lt, Bool, true, false, if◌then◌else◌, List, [], ◌∷◌, ◌++◌, replicate, slice_set, Option}
 use Rattle.std.specs.Prelude.{Some, None, option_map}
 use Rattle.std.specs.List.{count_by, list_any}

@@ -1,4 +1,4 @@
--- How far behind a line bytes go.
+-- How far behind a line bytes go (docs/PROMISES.md, "How it ends").
 use Rattle.std.specs.Prelude.{ℕ, zero, suc, ◌≤◌, ◌==◌, if◌then◌else◌, List, [], ◌∷◌, length}
 use Rattle.dg_script.specs.Sizes.{most_kept}
 

@@ -1,4 +1,5 @@
--- What is promised of a script that was played so far, each with its premises.
+-- What is promised of a script that was played so far, each with its premises (docs/PROMISES.md, "The report and what it
+-- tells").
 use Rattle.std.specs.Prelude.{◌≡◌, ◌≤◌, ℕ, Bool, List, [], ◌∷◌, Option, Some, IfSome}
 use Rattle.std.specs.List.{AllByRecursion}
 use Rattle.dg_base.specs.declared.events.Step.{Step}

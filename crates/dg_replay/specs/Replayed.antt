@@ -1,4 +1,5 @@
--- What a replay did: the items that it played, what it wrote, and how it left the boards.
+-- What a replay did: the items that it played, what it wrote, and how it left the boards (docs/PROMISES.md, "The report and
+-- what it tells").
 use Rattle.std.specs.Prelude.{◌≡◌, ◌≢◌, ◌⊎◌, ℕ, ◌+◌, ◌<◌, ◌≤◌, false, List, [], ◌∷◌, ◌++◌, length, map, take, codes, slice_get}
 use Rattle.std.specs.Prelude.{Option, Some, None}
 use Rattle.std.specs.Str.Lines.{lines}
@@ -219,21 +220,21 @@ pub record AllRead (texts : List (List ℕ)) (done : List Line) : Type 0 where
 abbrev pub AllWhole : List ℕ → List Line → Type 0
 AllWhole input done = AllRead (lines (whole_lines input)) done
 
--- What was taken of the input is enough for what was done.
+-- What was done rests on what was taken of the input alone.
 -- A status of the rules is that of every input that begins with these bytes, or the input is at its end.
 -- A read that failed leaves all whole lines done. Another fault and want of memory leave only whole lines done and begun, or the
 -- input is at its end; the line in which a board stopped is whole too.
-abbrev pub ReadFor : {table : List Row} {script : Script} → Status → (boards : ℕ) → BytesTaken → Progress table script
+abbrev pub RestsOnTaken : {table : List Row} {script : Script} → Status → (boards : ℕ) → BytesTaken → Progress table script
     → (text : List ℕ) → Type 0
-ReadFor Memory boards taken c text = taken.at_end ⊎ DoneIsWhole taken.bytes c.done c.rest c.begun
-ReadFor ReadFault boards taken c text = AreWhole taken.bytes c.done × AllWhole taken.bytes c.done
-ReadFor WriteFault boards taken c text = taken.at_end ⊎ (IsSettled boards taken.bytes
+RestsOnTaken Memory boards taken c text = taken.at_end ⊎ DoneIsWhole taken.bytes c.done c.rest c.begun
+RestsOnTaken ReadFault boards taken c text = AreWhole taken.bytes c.done × AllWhole taken.bytes c.done
+RestsOnTaken WriteFault boards taken c text = taken.at_end ⊎ (IsSettled boards taken.bytes
     ⊎ ((DoneIsWhole taken.bytes c.done c.rest c.begun × IsFrontOfLines c.played text)
     ⊎ ((line : List ℕ) × BoardsEndIt c line × NextIsWhole taken.bytes c.done c.rest)))
-ReadFor FlashFault boards taken c text = taken.at_end ⊎ NextIsWhole taken.bytes c.done c.rest
-ReadFor NotAVolume boards taken c text = taken.at_end ⊎ NextIsWhole taken.bytes c.done c.rest
-ReadFor NoImage boards taken c text = taken.at_end ⊎ NextIsWhole taken.bytes c.done c.rest
-ReadFor status boards taken c text = taken.at_end ⊎ IsSettled boards taken.bytes
+RestsOnTaken FlashFault boards taken c text = taken.at_end ⊎ NextIsWhole taken.bytes c.done c.rest
+RestsOnTaken NotAVolume boards taken c text = taken.at_end ⊎ NextIsWhole taken.bytes c.done c.rest
+RestsOnTaken NoImage boards taken c text = taken.at_end ⊎ NextIsWhole taken.bytes c.done c.rest
+RestsOnTaken status boards taken c text = taken.at_end ⊎ IsSettled boards taken.bytes
 
 -- what is reported of so many lines, the first of those that were done
 abbrev pub report_of_lines : {table : List Row} {script : Script} → ℕ → Progress table script → List ℕ
@@ -282,7 +283,7 @@ pub record Replayed (table : List Row) (status : Status) (a b : Around) : Type 0
   pub text : List ℕ
   pub written : Puts a.written b.written text
   pub report : Wrote status (ending_of (length a.boards) input) came text
-  pub read : ReadFor status (length a.boards) (bytes_taken input (AtEnd b.left)) came text
+  pub read : RestsOnTaken status (length a.boards) (bytes_taken input (AtEnd b.left)) came text
   pub near : ReadsNear status (ending_of (length a.boards) input) input came text
   -- nothing behind the ending was done
   pub limits : InBounds (length a.boards) came.done (map item_played came.played)

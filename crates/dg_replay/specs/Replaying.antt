@@ -1,4 +1,4 @@
--- What the steps of a replay do, text by text.
+-- What the steps of a replay do, text by text (docs/ARCHITECTURE.md, "The way of a script line").
 use Rattle.std.specs.Prelude.{◌≡◌, ◌≢◌, ◌⊎◌, ℕ, ◌+◌, ◌<◌, ◌≤◌, Bool, true, false, List, [], ◌∷◌, ◌++◌, length, map, Option, Some}
 use Rattle.std.specs.Prelude.{None, Result, Ok, Err}
 use Rattle.dg_base.specs.Outside.{Puts, PutsFront}
@@ -27,7 +27,7 @@ use Rattle.dg_replay.specs.Near.{behind_lines, FewBytesBehind}
 use Rattle.dg_replay.specs.Replayed.{Progress, ReachesEnding, AtTooMany, closing, Wrote, BoardsLeft, BoardStoppedThere, IsCaused}
 use Rattle.dg_replay.specs.Replayed.{RunsTo, item_played, played_text, report_of_lines, IsSettled, AreWhole, AllWhole}
 use Rattle.dg_replay.specs.Replayed.{NextIsWhole}
-use Rattle.dg_replay.specs.Replayed.{DoneIsWhole, ReadFor, ReadsNear, NoVolumeThere, NoImageThere, no_volume_line}
+use Rattle.dg_replay.specs.Replayed.{DoneIsWhole, RestsOnTaken, ReadsNear, NoVolumeThere, NoImageThere, no_volume_line}
 use Rattle.dg_replay.specs.Replayed.{no_image_line}
 use Rattle.dg_replay.specs.Stages.{Basis, DoneSoFar, ReplayState, LineRead, Span, BytesTaken, Failures, boards_reported, span}
 use Rattle.dg_replay.specs.Playing.{Stood, PlayedLine, LineBegun, IsOneTooMany, LacksBoards, Grounded}
@@ -247,7 +247,7 @@ IsWholeAt NoImage input done rest begun = NextIsWhole input done rest
 IsWholeAt NotAVolume input done rest begun = NextIsWhole input done rest
 IsWholeAt stop input done rest begun = DoneIsWhole input done rest begun
 
--- the same where these bytes were taken, which are enough for what was done
+-- the same where these bytes were taken, on which alone rests what was done
 abbrev pub StopsInTaken : (table : List Row) → Stop → (script : Script) → BytesTaken → (number : ℕ) → Span
     → (write_failed : Type 0) → Type 0
 StopsInTaken table stop script taken number s failed =
@@ -325,7 +325,7 @@ pub record ScriptReplayed (table : List Row) (status : Status) (script : Script)
   pub text : List ℕ
   pub written : Puts s.before s.after text
   pub report : Wrote status ending came text
-  pub read : ReadFor status (length s.initial) taken came text
+  pub read : RestsOnTaken status (length s.initial) taken came text
   pub near : ReadsNear status ending taken.bytes came text
   pub limits : InBounds (length s.initial) came.done (map item_played came.played)
   pub stood : UsesBoards came.done → StandFor (motes_in came.done) came.ground.stores s.initial

@@ -1,4 +1,5 @@
--- Where a replay stands: what it is held against, how far it came, what stands outside then, and what may have failed there.
+-- Where a replay stands: what it is held against, how far it came, what stands outside then, and what may have failed there
+-- (docs/ARCHITECTURE.md, "The way of a script line").
 use Rattle.std.specs.Prelude.{ℕ, List, Option}
 use Rattle.dg_nor.specs.Device.{Device}
 use Rattle.dg_object.specs.Object.{Row}

@@ -1,4 +1,4 @@
--- What the whole lines of bytes are, told of the bytes as a whole.
+-- What the whole lines of bytes are, told of the bytes as a whole (docs/SCRIPTS.md, "The script").
 use Rattle.std.specs.Prelude.{◌≡◌, ◌≢◌, ◌⊎◌, ℕ, List, [], ◌∷◌, ◌++◌}
 use Rattle.std.specs.List.{AllByRecursion}
 

@@ -1,4 +1,4 @@
--- How the levels of motes are marked, one level after the other.
+-- How the levels of motes are marked, one level after the other (docs/SCRIPTS.md, "Sweeps that are enough").
 use Rattle.std.specs.Prelude.{◌≡◌, ◌⊎◌, ℕ, ◌+◌, Bool, true, false, is_none, IsSome, List, length, slice_index_or, slice_set}
 use Rattle.std.specs.Prelude.{count_by, Option, Some, None}
 

@@ -1,4 +1,4 @@
--- Rounds and sweeps as lists of events.
+-- Rounds and sweeps as lists of events (docs/SCRIPTS.md, "Sweeps that are enough").
 use Rattle.std.specs.Prelude.{ℕ, zero, suc, List, [], ◌∷◌, ◌++◌, replicate}
 use Rattle.std.specs.List.{flat_map}
 use Rattle.dg_base.specs.declared.events.Event.{Event}

@@ -1,4 +1,5 @@
--- Ways between motes over links, which lead in both directions, and how far one mote is from another.
+-- Ways between motes over links, which lead in both directions, and how far one mote is from another (docs/SCRIPTS.md, "Sweeps
+-- that are enough").
 use Rattle.std.specs.Prelude.{◌⊎◌, ℕ, zero, suc, ◌≤◌, List, Contains, Option, Some, None}
 
 abbrev pub IsLinked : List (ℕ × ℕ) → ℕ → ℕ → Type 0

@@ -1,4 +1,5 @@
--- What is played from worlds that agree with their tables, and over chips as they stand.
+-- What is played from worlds that agree with their tables, and over chips as they stand (docs/PROMISES.md, "The report and what
+-- it tells").
 use Rattle.std.specs.Prelude.{◌≡◌, ℕ, ◌<◌, ◌≤◌, Bool, List, length, slice_index_or, Some}
 use Rattle.std.specs.List.{AllByRecursion}
 use Rattle.dg_object.specs.Object.{Row}

@@ -1,4 +1,4 @@
--- What is reported of a chip that changed.
+-- What is reported of a chip that changed (docs/SCRIPTS.md, "The report").
 use Rattle.std.specs.Prelude.{ℕ, ◌-◌, ◌==◌, ◌&&◌, Bool, true, false, if◌then◌else◌, List, [], ◌∷◌, ◌++◌, length, not, Option}
 use Rattle.std.specs.Prelude.{Some, None}
 use Rattle.std.specs.List.{filter_map, flat_map, range_with_len}

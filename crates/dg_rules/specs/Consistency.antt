@@ -1,4 +1,4 @@
--- Worlds whose stores are consistent, whatever frames were brought.
+-- Worlds whose stores are consistent, whatever frames were brought (docs/PROMISES.md, "The report and what it tells").
 use Rattle.std.specs.Prelude.{ℕ, ◌<◌, length, IfSome}
 use Rattle.std.specs.List.{AllByRecursion}
 use Rattle.dg_nor.specs.Trail.{Leaves}

@@ -1,4 +1,5 @@
--- What events do by the rules: each is refused, or its mote's chip goes through the stores of a trail.
+-- What events do by the rules: each is refused, or its mote's chip goes through the stores of a trail (docs/SCRIPTS.md, "What
+-- events do").
 use Rattle.std.specs.Prelude.{ℕ, ◌+◌, ◌==◌, ◌||◌, nat_le, Bool, if◌then◌else◌, List, length, Option, Some, None, option_map}
 use Rattle.dg_nor.specs.Trail.{Trail, resting}
 use Rattle.dg_object.specs.Object.{Row}

@@ -1,4 +1,4 @@
--- Worlds in which golden is kept whole, and what is found there.
+-- Worlds in which golden is kept whole, and what is found there (docs/PROMISES.md, "The report and what it tells").
 use Rattle.std.specs.Prelude.{◌≡◌, ◌≢◌, ℕ, ◌<◌, ◌≤◌, Bool, List, [], ◌∷◌, length, replicate, Some, None, IfSome}
 use Rattle.std.specs.List.{AllByRecursion}
 use Rattle.dg_object.specs.Object.{Row, IsRow}

@@ -1,4 +1,4 @@
--- What a step may change of the small state.
+-- What a step may change of the small state (docs/PROMISES.md, "The report and what it tells").
 use Rattle.std.specs.Prelude.{◌≡◌, ◌≢◌, ◌⊎◌, ℕ, ◌+◌, ◌<◌, ◌≤◌, Bool, true, false, List, length, slice_set, Option, Some, None}
 use Rattle.std.specs.Prelude.{Result, Ok, Err}
 use Rattle.dg_object.specs.Object.{Row}

@@ -1,4 +1,4 @@
--- The past of a step: the frames that were brought to motes, and the starts.
+-- The past of a step: the frames that were brought to motes, and the starts (docs/PROMISES.md, "The report and what it tells").
 use Rattle.std.specs.Prelude.{ℕ, Bool, true, false, List, [], ◌∷◌, Option, Some, None, option_map}
 use Rattle.dg_volume.specs.Start.{Runs}
 use Rattle.dg_rules.specs.World.{World, Sent, frame_at, last_frame}

@@ -1,4 +1,5 @@
--- Worlds that agree with their table, and runs over honest frames and true injections.
+-- Worlds that agree with their table, and runs over honest frames and true injections (docs/PROMISES.md, "The report and what
+-- it tells").
 use Rattle.std.specs.Prelude.{◌≡◌, ℕ, ◌<◌, ◌≤◌, ◌⊎◌, Bool, true, false, List, length, Some, None, IfSome, Ok}
 use Rattle.std.specs.List.{AllByRecursion}
 use Rattle.dg_object.specs.Object.{Row}

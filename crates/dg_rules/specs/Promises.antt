@@ -1,5 +1,5 @@
 -- What holds of each item of a run: it is legal, what is kept stays, what starts is one row of the table, byte for byte, and
--- wherever it is stopped, the chip agrees with the table.
+-- wherever it is stopped, the chip agrees with the table (docs/PROMISES.md, "The report and what it tells").
 use Rattle.std.specs.Prelude.{◌≡◌, ◌⊎◌, ℕ, ◌<◌, ◌≤◌, true, List, length, Option, Some, None, IfSome, Bool, Ok}
 use Rattle.dg_nor.specs.Trail.{Leaves}
 use Rattle.dg_object.specs.Object.{Row, object}

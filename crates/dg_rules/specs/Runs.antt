@@ -1,4 +1,4 @@
--- Runs: steps that follow one another, and what holds of each with those before it.
+-- Runs: steps that follow one another, and what holds of each with those before it (docs/SCRIPTS.md, "What events do").
 use Rattle.std.specs.Prelude.{◌≡◌, List, [], ◌∷◌}
 use Rattle.std.specs.List.{filter}
 use Rattle.dg_rules.specs.World.{World}

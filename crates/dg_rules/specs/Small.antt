@@ -1,4 +1,5 @@
--- The small state: the table and page counts, without pages, moments or flash.
+-- The small state: the table and page counts, without pages, moments or flash (docs/PROMISES.md, "The report and what it
+-- tells").
 use Rattle.std.specs.Prelude.{ℕ, List, length, map, slice_index_or, Option, None, option_map}
 use Rattle.dg_object.specs.Object.{Row, pages_for}
 use Rattle.dg_control.specs.declared.snapshot.Order.{Order}

@@ -1,4 +1,4 @@
--- The step of a world: whole, or cut in one of its operations.
+-- The step of a world: whole, or cut in one of its operations (docs/SCRIPTS.md, "Cuts").
 use Rattle.std.specs.Prelude.{◌≡◌, ℕ, ◌-◌, nat_le, Bool, true, false, List, [], ◌∷◌, ◌++◌, Option, Some, None}
 use Rattle.dg_nor.specs.Trail.{Trail, operations, last, Leaves}
 use Rattle.dg_object.specs.Object.{Row}

@@ -1,4 +1,5 @@
--- A world: its motes with their chips, the images, the links, and the frames that were sent.
+-- A world: its motes with their chips, the images, the links, and the frames that were sent (docs/SCRIPTS.md, "What events
+-- do").
 use Rattle.std.specs.Prelude.{ℕ, ◌+◌, ◌-◌, ◌==◌, ◌&&◌, ◌||◌, nat_le, not, Bool, if◌then◌else◌, List, [], ◌∷◌, map, slice_get}
 use Rattle.std.specs.Prelude.{slice_index_or, slice_set, Option, Some, None}
 use Rattle.std.specs.List.{list_any}

@@ -1,4 +1,4 @@
--- Names, contents and masks.
+-- Names, contents and masks: the fields of a line that are bytes (docs/SCRIPTS.md, "The script").
 use Rattle.std.specs.Prelude.{ℕ, ◌+◌, ◌*◌, ◌/◌, ◌%◌, nat_le, ◌&&◌, if◌then◌else◌, List, length, take, drop, codes, Option, None}
 use Rattle.std.specs.Prelude.{Result}
 use Rattle.dg_words.specs.Lists.{tabulate}

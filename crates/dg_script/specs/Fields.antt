@@ -1,4 +1,4 @@
--- The fields of lines, with the fault of each.
+-- The fields of lines, with the fault of each (docs/SCRIPTS.md, "The script").
 use Rattle.std.specs.Prelude.{ℕ, ◌==◌, nat_le, nat_lt, ◌&&◌, not, List, Result}
 use Rattle.dg_base.specs.Numbers.{number_of}
 use Rattle.dg_script.specs.Sizes.{most_motes, most_image, most_used, most_sweeps, most_number}

@@ -1,4 +1,4 @@
--- What is known of lines that were read, and where they may stand.
+-- What is known of lines that were read, and where they may stand (docs/SCRIPTS.md, "The script").
 use Rattle.std.specs.Prelude.{◌≡◌, ℕ, ◌<◌, ◌≤◌, ◌^◌, IsTrue, true, false, length, List}
 use Rattle.dg_words.specs.Cells.{AreBytes}
 use Rattle.dg_base.specs.Texts.{spells_name}

@@ -1,4 +1,4 @@
--- What the lines of a script do, one item after the other.
+-- What the lines of a script do, one item after the other (docs/SCRIPTS.md, "The script").
 use Rattle.std.specs.Prelude.{Bool, true, false, List, [], ◌∷◌, ◌++◌, map, None}
 use Rattle.dg_base.specs.declared.events.Event.{Event}
 use Rattle.dg_base.specs.declared.events.Step.{Step}

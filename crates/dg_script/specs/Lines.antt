@@ -1,5 +1,5 @@
--- The line that a text spells at a place, or its first fault: first those of the whole line,
--- then the faults of its fields from left to right.
+-- The line that a text spells at a place, or its first fault: first those of the whole line, then the faults of its fields from
+-- left to right (docs/SCRIPTS.md, "The script").
 use Rattle.std.specs.Prelude.{◌≡◌, refl, ℕ, ◌==◌, ◌≤◌, nat_le, not, Bool, true, false, if◌then◌else◌, List, [], ◌∷◌, length}
 use Rattle.std.specs.Prelude.{Result, Ok, Err}
 use Rattle.std.proofs.lemmas.Bool.{leb-true}

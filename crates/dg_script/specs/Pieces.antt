@@ -1,4 +1,4 @@
--- What the words of a text are, told of the text as a whole.
+-- What the words of a text are, told of the text as a whole (docs/SCRIPTS.md, "The script").
 use Rattle.std.specs.Prelude.{◌≡◌, ◌≢◌, ◌⊎◌, ℕ, List, [], ◌∷◌, ◌++◌}
 use Rattle.std.specs.List.{AllByRecursion}
 

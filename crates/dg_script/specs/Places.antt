@@ -1,4 +1,4 @@
--- Where a line stands, and how that changes behind it.
+-- Where a line stands, and how that changes behind it (docs/SCRIPTS.md, "The script").
 use Rattle.std.specs.Prelude.{ℕ, ◌==◌, ◌&&◌, ◌||◌, not, Bool, true, false, if◌then◌else◌, List, [], ◌∷◌, ◌++◌, replicate}
 use Rattle.std.specs.Prelude.{slice_index_or, slice_set, Option, Some, None, is_some}
 use Rattle.std.specs.List.{list_any}

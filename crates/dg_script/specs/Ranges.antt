@@ -1,5 +1,5 @@
--- The ranges of what is declared and of what is applied: of rows, events, cuts and steps. Each of these stands here alone;
--- that the other numbers of a line are of 32 bits is said in Fitting.
+-- The ranges of what is declared and of what is applied: of rows, events, cuts and steps (docs/SCRIPTS.md, "The script"). Each
+-- of these stands here alone; that the other numbers of a line are of 32 bits is said in Fitting.
 use Rattle.std.specs.Prelude.{◌≢◌, ℕ, ◌<◌, ◌≤◌, ◌^◌, IsTrue, List, length, IfSome}
 use Rattle.dg_words.specs.Cells.{AreBytes}
 use Rattle.dg_base.specs.Texts.{spells_name}

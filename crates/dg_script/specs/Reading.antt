@@ -1,4 +1,4 @@
--- What a reader answers for a text that spells something, or has a fault.
+-- What a reader answers for a text that spells something, or has a fault (docs/SCRIPTS.md, "The script").
 use Rattle.std.specs.Prelude.{◌≡◌, ◌≢◌, Result, Ok, Err}
 use Rattle.dg_script.specs.declared.fault.LineFault.{LineFault}
 use Rattle.dg_script.specs.declared.fault.LineFault.TheVariants.{Memory}

@@ -1,4 +1,4 @@
--- Values that may be there, and what a text spells or the first fault that it has.
+-- Values that may be there, and what a text spells or the first fault that it has (docs/SCRIPTS.md, "The script").
 use Rattle.std.specs.Prelude.{Bool, Option, Some, None, Result, Ok, Err, if◌then◌else◌}
 use Rattle.dg_script.specs.declared.fault.LineFault.{LineFault}
 

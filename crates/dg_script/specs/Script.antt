@@ -1,4 +1,4 @@
--- Whole scripts: their lines, or the first fault with the number of its line.
+-- Whole scripts: their lines, or the first fault with the number of its line (docs/SCRIPTS.md, "The script").
 use Rattle.std.specs.Prelude.{ℕ, ◌+◌, Bool, true, false, List, [], ◌∷◌, Option, Some, None, Result, Ok, Err}
 use Rattle.dg_script.specs.Lines.{line_of}
 use Rattle.dg_script.specs.Places.{place_after, fault_at_end}

@@ -1,5 +1,5 @@
--- The ranges of the numbers in a script. They are this project's own profile, and each number stands here alone, but for
--- those of the crates below.
+-- The ranges of the numbers in a script. They are this project's own profile, and each number stands here alone, but for those
+-- of the crates below.
 use Rattle.std.specs.Prelude.{ℕ, ◌+◌, ◌-◌}
 use Rattle.dg_base.specs.Sizes.{most_input}
 use Rattle.dg_control.specs.Sizes.{most_room}

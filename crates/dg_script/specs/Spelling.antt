@@ -1,4 +1,4 @@
--- The text by which a line is written.
+-- The text by which a line is written (docs/SCRIPTS.md, "The script").
 use Rattle.std.specs.Prelude.{◌≡◌, ℕ, ◌≤◌, List, [], ◌∷◌, ◌++◌, length, take, codes}
 use Rattle.std.specs.List.{flat_map}
 use Rattle.std.specs.Fmt.{decimal}

@@ -1,4 +1,4 @@
--- The table of the verbs: the word of each, where its lines stand, and whether they are played.
+-- The table of the verbs: the word of each, where its lines stand, and whether they are played (docs/SCRIPTS.md, "The script").
 use Rattle.std.specs.Prelude.{ℕ, ◌==◌, nat_lt, ◌&&◌, not, Bool, true, false, if◌then◌else◌, List, [], ◌∷◌, codes, Option, Some}
 use Rattle.std.specs.Prelude.{None, is_some, Result}
 use Rattle.dg_script.specs.Results.{◌>>=◌, allowed_if}

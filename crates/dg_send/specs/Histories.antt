@@ -1,4 +1,4 @@
--- Whole histories of a serving: any calls, at any moments.
+-- Whole histories of a serving: any calls, at any moments (the state TX of Deluge: Hui and Culler, SenSys 2004).
 use Rattle.std.specs.Prelude.{ℕ, ◌+◌, ◌==◌, if◌then◌else◌, List, [], ◌∷◌}
 use Rattle.std.specs.FinSet as set
 use Rattle.dg_bits.specs.Sets.{Numbers}

@@ -1,4 +1,5 @@
--- What a mote that serves a page keeps: the packets that are still to be sent, and when the next one is due.
+-- What a mote that serves a page keeps: the packets that are still to be sent, and when the next one is due (the state TX of
+-- Deluge: Hui and Culler, SenSys 2004).
 use Rattle.std.specs.Prelude.{ℕ, refl}
 use Rattle.std.specs.Coded.{Coded, code_by, coded×, coded_ℕ}
 use Rattle.std.specs.FinSet as set

@@ -1,4 +1,4 @@
--- What each call makes of what is owed, and what it answers.
+-- What each call makes of what is owed, and what it answers (the state TX of Deluge: Hui and Culler, SenSys 2004).
 use Rattle.std.specs.Prelude.{ℕ, ◌+◌, Bool, true, false, nat_lt, Option, None, Some}
 use Rattle.std.specs.FinSet as set
 use Rattle.dg_bits.specs.Sets.{Numbers, least}

@@ -1,4 +1,4 @@
--- Frames on a line of bytes, and the items of a stream.
+-- Frames on a line of bytes, and the items of a stream (RFC 1662, section 4.2).
 use Rattle.std.specs.Prelude.{◌≡◌, ◌≢◌, ◌⊎◌, ℕ, ◌==◌, ◌&&◌, ◌||◌, ◌≤◌, not, nat_lt, Bool, true, false, if◌then◌else◌, List, []}
 use Rattle.std.specs.Prelude.{◌∷◌, ◌++◌, length}
 use Rattle.std.specs.List.{flat_map, AllByRecursion}

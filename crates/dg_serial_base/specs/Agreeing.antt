@@ -1,4 +1,4 @@
--- Base motes whose line brings honest frames.
+-- Base motes whose line brings honest frames (docs/PROMISES.md, "A base mote on a serial line").
 use Rattle.std.specs.Prelude.{ℕ, ◌*◌, List, take, IsSomeAnd}
 use Rattle.std.specs.List.{AllByRecursion}
 use Rattle.dg_base.specs.Sizes.{most_input}

@@ -1,4 +1,4 @@
--- Base motes over consistent chips, whatever bytes their lines bring.
+-- Base motes over consistent chips, whatever bytes their lines bring (docs/PROMISES.md, "A base mote on a serial line").
 use Rattle.std.specs.Prelude.{◌≡◌, ◌≢◌, List, [], ◌∷◌, take, ℕ, Some, IfSome}
 use Rattle.dg_base.specs.Sizes.{most_input}
 use Rattle.dg_base.specs.declared.answers.Status.{Status}

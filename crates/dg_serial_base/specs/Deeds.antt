@@ -1,5 +1,5 @@
--- What happens to a base mote: its power comes, and then for each item of its line it hears the frame, if the item is one,
--- and ticks.
+-- What happens to a base mote: its power comes, and then for each item of its line it hears the frame, if the item is one, and
+-- ticks (docs/COMMANDS.md, "Base").
 use Rattle.std.specs.Prelude.{◌≡◌, ℕ, suc, ◌*◌, true, List, [], ◌∷◌, ◌++◌, map, Option, Some, None}
 use Rattle.std.specs.List.{flat_map}
 use Rattle.dg_nor.specs.Trail.{last}

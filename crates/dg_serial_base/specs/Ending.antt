@@ -1,4 +1,4 @@
--- How a base mote that ended tells it, and how its line went.
+-- How a base mote that ended tells it, and how its line went (docs/COMMANDS.md, "Base").
 use Rattle.std.specs.Prelude.{◌≡◌, ◌⊎◌, ℕ, ◌≤◌, List, [], Option, Result, Ok, Err}
 use Rattle.dg_words.specs.Counts.{Rose}
 use Rattle.dg_base.specs.Outside.{Puts, PutsFront}

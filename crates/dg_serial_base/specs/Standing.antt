@@ -1,4 +1,4 @@
--- Where the code of a base mote stands, and how its calls go on from there.
+-- Where the code of a base mote stands, and how its calls go on from there (docs/COMMANDS.md, "Base").
 use Rattle.std.specs.Prelude.{◌≡◌, ◌⊎◌, ℕ, ◌+◌, ◌*◌, ◌<◌, ◌≤◌, true, List, [], ◌∷◌, ◌++◌, length, take, map, Option, Some, None}
 use Rattle.std.specs.Prelude.{Result, Ok, Err}
 use Rattle.dg_words.specs.Counts.{Rose}

@@ -1,4 +1,4 @@
--- What is done for each number in turn.
+-- What is done for each number in turn (docs/COMMANDS.md, "Serve").
 use Rattle.std.specs.Prelude.{ℕ, zero, suc, List, [], ◌++◌}
 
 -- what a number gives, for each number below n, in rising order

@@ -1,4 +1,4 @@
--- How a service leaves its boards, its link and its clock, where it ends.
+-- How a service leaves its boards, its link and its clock, where it ends (docs/COMMANDS.md, "Serve").
 use Rattle.std.specs.Prelude.{◌≡◌, ◌⊎◌, ℕ, ◌<◌, ◌≤◌, true, List, [], ◌∷◌, ◌++◌, length, take, slice_get, slice_index_or, Option}
 use Rattle.std.specs.Prelude.{Some, option_map}
 use Rattle.dg_base.specs.Clock.{Answers, Answered}

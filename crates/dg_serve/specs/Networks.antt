@@ -1,4 +1,4 @@
--- A service of the network that an input spells.
+-- A service of the network that an input spells (docs/COMMANDS.md, "Serve").
 use Rattle.std.specs.Prelude.{◌≡◌, ◌⊎◌, ℕ, ◌+◌, ◌<◌, ◌≤◌, nat_lt, if◌then◌else◌, List, [], ◌∷◌, ◌++◌, length, codes, Option}
 use Rattle.std.specs.Prelude.{Result, Ok, Err}
 use Rattle.dg_words.specs.Counts.{Rose}

@@ -1,4 +1,4 @@
--- What is promised of what a service did, each with its premises.
+-- What is promised of what a service did, each with its premises (docs/PROMISES.md, "The service").
 use Rattle.std.specs.Prelude.{◌≡◌, ℕ, ◌<◌, true, List, [], ◌∷◌, length, map}
 use Rattle.std.specs.List.{AllByRecursion}
 use Rattle.dg_base.specs.declared.events.Event.{Event}

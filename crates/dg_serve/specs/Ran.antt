@@ -1,4 +1,4 @@
--- What the calls of a service did before its last line was written.
+-- What the calls of a service did before its last line was written (docs/COMMANDS.md, "Serve").
 use Rattle.std.specs.Prelude.{◌≡◌, ◌≢◌, ◌⊎◌, ℕ, ◌≤◌, List, [], ◌++◌, length, take, slice_get, slice_index_or, Option, Some}
 use Rattle.std.specs.Prelude.{None, option_map, Result, Ok, Err}
 use Rattle.dg_words.specs.Counts.{Rose}

@@ -1,4 +1,5 @@
--- What a service did: the events that were applied, what it wrote, and how it left the boards, the link and the clock.
+-- What a service did: the events that were applied, what it wrote, and how it left the boards, the link and the clock
+-- (docs/COMMANDS.md, "Serve").
 use Rattle.std.specs.Prelude.{◌≡◌, ◌≢◌, ◌⊎◌, ℕ, ◌≤◌, List, [], ◌++◌, length, take, slice_get, Option, Some, None, option_map}
 use Rattle.dg_words.specs.Counts.{Rose}
 use Rattle.dg_base.specs.Clock.{Answers, Answered}

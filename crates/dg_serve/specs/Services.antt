@@ -1,4 +1,4 @@
--- A service by the rules: motes over a link, by a clock, with the draws of a seed.
+-- A service by the rules: motes over a link, by a clock, with the draws of a seed (docs/COMMANDS.md, "Serve").
 use Rattle.std.specs.Prelude.{◌≡◌, ◌⊎◌, ℕ, ◌-◌, ◌^◌, ◌≤◌, min, if◌then◌else◌, List, [], ◌∷◌, ◌++◌, length, drop, Option}
 use Rattle.std.specs.Prelude.{option_map}
 use Rattle.rand_pcg.specs.Lcg.{Lcg}

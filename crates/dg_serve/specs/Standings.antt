@@ -1,4 +1,4 @@
--- Where the code of a service stands, and how its calls go on from there.
+-- Where the code of a service stands, and how its calls go on from there (docs/COMMANDS.md, "Serve").
 use Rattle.std.specs.Prelude.{◌≡◌, ◌≢◌, ◌⊎◌, ℕ, ◌+◌, ◌-◌, ◌*◌, ◌^◌, ◌<◌, ◌≤◌, true, List, [], ◌∷◌, ◌++◌, length, take, slice_get}
 use Rattle.std.specs.Prelude.{slice_index_or, slice_set, option_map, Option, Some, None, Result, Ok, Err}
 use Rattle.dg_words.specs.Counts.{Rose}

@@ -1,4 +1,4 @@
--- The trace of a service: a script that tells what happened.
+-- The trace of a service: a script that tells what happened (docs/COMMANDS.md, "Serve").
 use Rattle.std.specs.Prelude.{◌≡◌, ℕ, true, List, [], ◌∷◌, ◌++◌, map, take, codes, None}
 use Rattle.std.specs.List.{flat_map}
 use Rattle.std.specs.Fmt.{decimal}

@@ -1,4 +1,4 @@
--- What a verb over the first board did.
+-- What a verb over the first board did (docs/COMMANDS.md, "Over one chip").
 use Rattle.std.specs.Prelude.{◌≡◌, ◌≢◌, ◌⊎◌, ℕ, zero, suc, ◌+◌, ◌<◌, ◌≤◌, true, List, [], length, drop, take, slice_get, Option}
 use Rattle.std.specs.Prelude.{Some, None, IfSome}
 use Rattle.dg_words.specs.Counts.{Rose}

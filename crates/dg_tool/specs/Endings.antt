@@ -1,4 +1,4 @@
--- How a verb over the first board ends by the rules, and what it writes then.
+-- How a verb over the first board ends by the rules, and what it writes then (docs/COMMANDS.md, "Over one chip").
 use Rattle.std.specs.Prelude.{ℕ, nat_lt, if◌then◌else◌, List, [], ◌∷◌, ◌++◌, length, codes, Option, Some, None, Result, Ok, Err}
 use Rattle.dg_base.specs.Sizes.{most_input}
 use Rattle.dg_base.specs.declared.answers.Status.{Status}

@@ -1,4 +1,4 @@
--- What the pages of an image tell of it.
+-- What the pages of an image tell of it (docs/COMMANDS.md, "Over one chip").
 use Rattle.std.specs.Prelude.{ℕ, ◌==◌, not, List, [], take, drop, take_while, slice_index_or}
 use Rattle.dg_object.specs.Object.{content}
 use Rattle.dg_object.specs.Sizes.{name_size}

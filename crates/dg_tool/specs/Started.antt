@@ -1,4 +1,4 @@
--- What a start tells of the image that runs.
+-- What a start tells of the image that runs (docs/COMMANDS.md, "Over one chip").
 use Rattle.std.specs.Prelude.{◌≡◌}
 use Rattle.dg_boot.specs.declared.Started.{Started}
 use Rattle.dg_volume.specs.Start.{Runs, runs_length, runs_crc}

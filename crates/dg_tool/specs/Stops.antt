@@ -1,4 +1,4 @@
--- What a verb comes to before anything is written.
+-- What a verb comes to before anything is written (docs/COMMANDS.md, "Over one chip").
 use Rattle.std.specs.Prelude.{◌≡◌, ◌⊎◌, ℕ, true, List, [], Option, Result, Ok, Err}
 use Rattle.dg_words.specs.Counts.{Rose}
 use Rattle.dg_base.specs.Outside.{Puts, PutsFront}

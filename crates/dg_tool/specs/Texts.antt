@@ -1,4 +1,4 @@
--- Lines of words and numbers.
+-- Lines of words and numbers, which the verbs write (docs/COMMANDS.md, "Over one chip").
 use Rattle.std.specs.Prelude.{ℕ, List, [], ◌∷◌, ◌++◌}
 use Rattle.std.specs.List.{flat_map}
 use Rattle.std.specs.Fmt.{decimal}

@@ -1,4 +1,5 @@
--- What the verbs over the first board do, by the bytes of the input and by what the board stands for.
+-- What the verbs over the first board do, by the bytes of the input and by what the board stands for (docs/COMMANDS.md, "Over
+-- one chip").
 use Rattle.std.specs.Prelude.{ℕ, ◌==◌, ◌&&◌, ◌-◌, nat_lt, Bool, true, false, if◌then◌else◌, List, [], ◌∷◌, ◌++◌, length, codes}
 use Rattle.std.specs.Prelude.{◌/◌, ◌%◌, Option, Some, None}
 use Rattle.std.specs.List.{flat_map, range_with_len}

@@ -51,8 +51,8 @@ trial_told law r motes pages seed before after fb fa old new s some few some_pag
     let all = law motes pages seed run.0.last some few some_pages few_pages run.0.run in
     let E : Status → Type 0 = λ x. TrialEnds x motes pages seed (around_trial before old) (around_trial after new) in
     let at = subst (λ (t : List ℕ). LineEnds r status.Done t before after fb fa) (told_is motes pages seed old new s run.0 run.1) h in
-    ⊎_elim (λ a. subst E (sym a.0) (record { counted = enough; played = run.0; kept = all.0; whole = all.1; written = a.1 }))
-    (λ x. ⊎_elim (λ b. subst E (sym b.0) (inl (record { counted = enough; played = run.0; written = b.1 })))
+    ⊎_elim (λ a. subst E (sym a.0) (record { boards = enough; played = run.0; kept = all.0; whole = all.1; written = a.1 }))
+    (λ x. ⊎_elim (λ b. subst E (sym b.0) (inl (record { boards = enough; played = run.0; written = b.1 })))
     (λ c. subst E (sym c.0) (unread motes pages seed old new run.0, c.1)) x) at
 
 -- where it was played and told, the line says that every mote keeps the image whole

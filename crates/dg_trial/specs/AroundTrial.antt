@@ -1,4 +1,4 @@
--- What stands around a trial: its sink and its boards.
+-- What stands around a trial: its sink and its boards (docs/COMMANDS.md, "Trial").
 use Rattle.std.specs.Prelude.{ℕ, List, Option}
 use Rattle.dg_nor.specs.Device.{Device}
 

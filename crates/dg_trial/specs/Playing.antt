@@ -1,4 +1,4 @@
--- Playing a schedule: runs of its parts, and the boards meanwhile.
+-- Playing a schedule: runs of its parts, and the boards meanwhile (docs/COMMANDS.md, "Trial").
 use Rattle.std.specs.Prelude.{◌≡◌, ◌≢◌, ℕ, ◌+◌, ◌-◌, ◌<◌, ◌≤◌, List, [], ◌∷◌, ◌++◌, length, replicate}
 use Rattle.std.specs.Prelude.{slice_get, codes, Some, IfSome, Result, Ok, Err}
 use Rattle.std.specs.List.{AllByRecursion}

@@ -1,5 +1,5 @@
--- The schedule of a trial: its steps in their order, made from a seed.
--- A disturbance may look at how many frames were sent before it.
+-- The schedule of a trial: its steps in their order, made from a seed (docs/COMMANDS.md, "Trial"). A disturbance may look at
+-- how many frames were sent before it.
 use Rattle.std.specs.Prelude.{ℕ, zero, suc, ◌+◌, ◌-◌, ◌*◌, ◌/◌, ◌%◌, ◌==◌, nat_lt, if◌then◌else◌, List, [], ◌∷◌, ◌++◌, map, codes}
 use Rattle.std.specs.Prelude.{Some}
 use Rattle.std.proofs.Common.{lit≤}

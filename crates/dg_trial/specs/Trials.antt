@@ -1,4 +1,4 @@
--- What a trial did, and what it tells.
+-- What a trial did, and what it tells (docs/COMMANDS.md, "Trial").
 use Rattle.std.specs.Prelude.{◌≡◌, ◌⊎◌, ℕ, ◌<◌, ◌≤◌, nat_le, Bool, false, List, [], ◌∷◌, ◌++◌, length, codes, slice_get, count_by}
 use Rattle.std.specs.Prelude.{Option, Some, Result, Ok, Err}
 use Rattle.std.specs.Fmt.{decimal}
@@ -152,7 +152,7 @@ pub record LacksBoards (motes : ℕ) (old new : List Device) : Type 0 where
 
 -- The trial was played and told, and every mote keeps the image whole.
 pub record TrialComplete (motes pages seed : ℕ) (a b : AroundTrial) : Type 0 where
-  pub counted : motes ≤ length a.boards
+  pub boards : motes ≤ length a.boards
   pub played : TrialPlayed motes pages seed a.boards b.boards
   pub kept : AllKeep motes (row_of_seed pages seed) played.last
   pub whole : wholes (row_of_seed pages seed) played.last ≡ motes
@@ -160,7 +160,7 @@ pub record TrialComplete (motes pages seed : ℕ) (a b : AroundTrial) : Type 0 w
 
 -- It was played, and its line was written in part.
 pub record TrialCut (motes pages seed : ℕ) (a b : AroundTrial) : Type 0 where
-  pub counted : motes ≤ length a.boards
+  pub boards : motes ≤ length a.boards
   pub played : TrialPlayed motes pages seed a.boards b.boards
   pub written : PutsFront a.written b.written (trial_text motes pages seed played.last)
 

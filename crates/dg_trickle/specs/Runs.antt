@@ -1,4 +1,4 @@
--- Whole runs of a Trickle timer: any calls, at any moments.
+-- Whole runs of a Trickle timer: any calls, at any moments (RFC 6206, section 4.2).
 use Rattle.std.specs.Prelude.{◌≡◌, ℕ, ◌+◌, ◌*◌, ◌^◌, ◌≤◌, ◌⊎◌, List, [], ◌∷◌, nat_lt, if◌then◌else◌}
 use Rattle.dg_trickle.specs.declared.Act.{Act}
 use Rattle.dg_trickle.specs.declared.Act.TheVariants.{Send, Suppressed, Expired, Nothing}

@@ -1,4 +1,4 @@
--- How acts on a volume end.
+-- How acts on a volume end (docs/IMAGES.md, "Takes, injections and orders").
 use Rattle.std.specs.Prelude.{◌≡◌, ℕ, ◌<◌, ◌≤◌, List}
 use Rattle.dg_nor.specs.Sizes.{sectors}
 use Rattle.dg_nor.specs.Chip.{sector}

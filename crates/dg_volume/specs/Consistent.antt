@@ -1,4 +1,4 @@
--- Stores that are consistent, whatever frames made them.
+-- Stores that are consistent, whatever frames made them (docs/PROMISES.md, "The report and what it tells").
 use Rattle.std.specs.Prelude.{◌≡◌, ℕ, ◌<◌, ◌≤◌, List, [], length, slice_index_or, Some, IfSome}
 use Rattle.dg_base.specs.Crc.{crc_of}
 use Rattle.dg_object.specs.Object.{Row, object}

@@ -1,4 +1,4 @@
--- Where acts and starts end, and what they leave as it is.
+-- Where acts and starts end, and what they leave as it is (docs/IMAGES.md, "Takes, injections and orders").
 use Rattle.std.specs.Prelude.{◌≡◌, ◌≢◌, ◌⊎◌, ℕ, ◌+◌, ◌-◌, ◌<◌, ◌≤◌, ◌&&◌, ◌||◌, not, nat_lt, if◌then◌else◌, Bool, true, List, []}
 use Rattle.std.specs.Prelude.{◌++◌, length, slice_index_or, Option, Some, None, IfSome}
 use Rattle.dg_nor.specs.Trail.{last}

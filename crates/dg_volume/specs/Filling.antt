@@ -1,4 +1,4 @@
--- Pages that are filled packet by packet.
+-- Pages that are filled packet by packet (docs/IMAGES.md, "Takes, injections and orders").
 use Rattle.std.specs.Prelude.{ℕ, ◌*◌, List}
 use Rattle.dg_words.specs.Cells.{part}
 use Rattle.dg_slot.specs.Layout.{packet_size, page_operations}

@@ -1,4 +1,4 @@
--- A chip that is being formatted.
+-- A chip that is being formatted (docs/IMAGES.md, "The flash map").
 use Rattle.std.specs.Prelude.{ℕ, ◌+◌, ◌*◌, ◌/◌, ◌%◌, ◌⊎◌, List}
 use Rattle.dg_nor.specs.Chip.{Touches}
 use Rattle.dg_object.specs.Object.{Row, pages_for}

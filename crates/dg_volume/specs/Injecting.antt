@@ -1,4 +1,4 @@
--- How an injection ends.
+-- How an injection ends (docs/IMAGES.md, "Takes, injections and orders").
 use Rattle.std.specs.Prelude.{◌≡◌, ◌≢◌, Result, Some, Err, OnOk, IsErrOf}
 use Rattle.dg_nor.specs.Device.{Device}
 use Rattle.dg_object.specs.Object.{Row}

@@ -1,4 +1,4 @@
--- What the parts of a mount find, and how they end.
+-- What the parts of a mount find, and how they end (docs/IMAGES.md, "Stores").
 use Rattle.std.specs.Prelude.{◌≡◌, ℕ, List, Option, IfSome, Result, Ok, Err}
 use Rattle.dg_nor.specs.Device.{Device}
 use Rattle.dg_nor.specs.Reads.{Looked, ReadStopped}

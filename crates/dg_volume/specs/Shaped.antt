@@ -1,4 +1,4 @@
--- The shape of whatever a chip stands for, whether it agrees with a table or not.
+-- The shape of whatever a chip stands for, whether it agrees with a table or not (docs/IMAGES.md, "Stores").
 use Rattle.std.specs.Prelude.{◌≡◌, IsTrue, length}
 use Rattle.dg_control.specs.Ranges.{order_fits}
 use Rattle.dg_volume.specs.Sizes.{images}

@@ -1,5 +1,5 @@
--- How many images a volume keeps, how many commits it makes, and how a page is copied, by this project's own profile.
--- Each number stands here alone, or in the crate that is cited.
+-- How many images a volume keeps, how many commits it makes, and how a page is copied, by this project's own profile. Each
+-- number stands here alone, or in the crate that is cited.
 use Rattle.std.specs.Prelude.{ℕ, ◌+◌}
 use Rattle.dg_control.specs.Sizes.{control_end}
 pub use Rattle.dg_control.specs.Sizes.{images, golden_image, golden_version, short_starts, places, most_room, old_form, new_form}

@@ -1,4 +1,4 @@
--- Stores: what a chip stands for, without sectors or bits.
+-- Stores: what a chip stands for, without sectors or bits (docs/IMAGES.md, "Stores").
 use Rattle.std.specs.Prelude.{◌≡◌, ◌⊎◌, ℕ, ◌+◌, ◌-◌, Bool, false, List, ◌∷◌, length, replicate, take, slice_index_or, Option}
 use Rattle.std.specs.Prelude.{Some, None, IsSomeAnd}
 use Rattle.dg_object.specs.Object.{Row, object, profile}

@@ -1,4 +1,4 @@
--- The texts of faults.
+-- The texts of the faults of a volume (docs/IMAGES.md, "Stores").
 use Rattle.std.specs.Prelude.{ℕ, List, ◌++◌, codes, decimal}
 use Rattle.dg_volume.specs.declared.volume.FormatFault.{FormatFault}
 use Rattle.dg_volume.specs.declared.volume.FormatFault.TheVariants as format_fault

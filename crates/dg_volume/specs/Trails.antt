@@ -1,4 +1,4 @@
--- The stores that the acts of a volume go through.
+-- The stores that the acts of a volume go through (docs/IMAGES.md, "Takes, injections and orders").
 use Rattle.std.specs.Prelude.{ℕ, ◌==◌, if◌then◌else◌, Bool, List, [], ◌∷◌, ◌≡◌, length, drop, Option, Some, None}
 use Rattle.dg_nor.specs.Trail.{Trail, last, joined, resting, stepping, EachWorks}
 use Rattle.dg_control.specs.Store.{commit_operations}

@@ -1,4 +1,4 @@
--- Bits that are cleared one after another, as counters and gates on flash are kept.
+-- Bits that are cleared one after another, as counters and gates on flash are kept (docs/FLASH.md, "One bit").
 use Rattle.std.specs.Prelude.{ℕ, ◌-◌, ◌*◌, ◌/◌, ◌%◌, ◌^◌, min, List, slice_index}
 use Rattle.std.specs.Int.{bit_at}
 use Rattle.dg_words.specs.Lists.{tabulate}

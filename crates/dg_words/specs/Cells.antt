@@ -1,5 +1,5 @@
--- A part of a list, and one list written over another from an offset on. Both are opaque in proofs: the
--- lists are long, and `proofs/CellLemmas.antt` has what follows.
+-- A part of a list, and one list written over another from an offset on (docs/FLASH.md, "The chip"). Both are opaque in proofs:
+-- the lists are long, and `proofs/CellLemmas.antt` has what follows.
 use Rattle.std.specs.Prelude.{ℕ, ◌+◌, ◌<◌, List, ◌++◌, length, take, drop, slice_index}
 
 -- the n elements from offset `at` on

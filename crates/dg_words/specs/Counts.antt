@@ -1,4 +1,4 @@
--- Counts of faults. A count never falls, and stands still at the end of a `u64`.
+-- Counts of faults (docs/FLASH.md, "The device"). A count never falls, and stands still at the end of a `u64`.
 use Rattle.std.specs.Prelude.{ℕ, ◌+◌, ◌-◌, ◌^◌, ◌≤◌, min}
 
 -- The count rose, or it stands at the end of a `u64`.

@@ -1,4 +1,4 @@
--- Lists that are told by a function of the position, and lists that are filled up.
+-- Lists that are told by a function of the position, and lists that are filled up (beside the lists of std).
 use Rattle.std.specs.Prelude.{ℕ, ◌-◌, List, ◌++◌, length, map, replicate}
 use Rattle.std.specs.List.{range_with_len, flat_map}
 

@@ -1,4 +1,4 @@
--- The frames that the code keeps are those that were sent.
+-- The frames that the code keeps are those that were sent (docs/ARCHITECTURE.md, "The way of a script line").
 use Rattle.std.specs.Prelude.{◌≡◌, ℕ, ◌-◌, ◌<◌, ◌≤◌, nat_le, if◌then◌else◌, List, [], ◌∷◌, length, map, slice_get, slice_index_or}
 use Rattle.std.specs.Prelude.{Option, Some, None}
 use Rattle.dg_rules.specs.Sizes.{most_motes}

@@ -1,4 +1,5 @@
--- Events that a mote takes part in alone, over its board: its power comes, it ticks, or a frame comes to it.
+-- Events that a mote takes part in alone, over its board: its power comes, it ticks, or a frame comes to it
+-- (docs/ARCHITECTURE.md, "The way of a script line").
 use Rattle.std.specs.Prelude.{◌≡◌, ℕ, true, List, [], Option, None, Result, Ok, Err}
 use Rattle.dg_nor.specs.Device.{Device, Endures}
 use Rattle.dg_nor.specs.Fuse.{beneath_of}

@@ -1,4 +1,4 @@
--- What a step does to a world and its boards.
+-- What a step does to a world and its boards (docs/PROMISES.md, "What other calls promise").
 use Rattle.std.specs.Prelude.{◌≡◌, ◌≢◌, ◌⊎◌, ℕ, ◌-◌, ◌<◌, ◌≤◌, Bool, true, false, List, ◌++◌, length, slice_get, Some, IfSome}
 use Rattle.std.specs.List.{filter}
 use Rattle.dg_words.specs.Counts.{Rose}

@@ -1,4 +1,4 @@
--- All that is promised of a step of a world.
+-- All that is promised of a step of a world (docs/PROMISES.md, "What other calls promise").
 use Rattle.std.specs.Prelude.{◌≡◌, ◌⊎◌, ℕ, true, Bool, slice_get, Some, IfSome, OnOk, OnErr, Result, Err}
 use Rattle.dg_nor.specs.Device.{Device}
 use Rattle.dg_object.specs.Object.{Row}

@@ -1,4 +1,4 @@
--- The boards behind many steps: how they stand, and one that stopped.
+-- The boards behind many steps: how they stand, and one that stopped (docs/ARCHITECTURE.md, "The way of a script line").
 use Rattle.std.specs.Prelude.{◌≡◌, ◌⊎◌, ℕ, ◌<◌, ◌≤◌, true, false, List, length, slice_get, Some}
 use Rattle.dg_words.specs.Counts.{Rose}
 use Rattle.dg_nor.specs.Device.{Device, Endures}

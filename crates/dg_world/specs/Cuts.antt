@@ -1,4 +1,4 @@
--- How an event ends at a board whose power may be cut.
+-- How an event ends at a board whose power may be cut (docs/ARCHITECTURE.md, "The way of a script line").
 use Rattle.std.specs.Prelude.{◌≡◌, ℕ, ◌-◌, ◌≤◌, Bool, true, false, List, Option, None, IfSome, Result, Ok, Err}
 use Rattle.dg_nor.specs.Device.{Device, Endures}
 use Rattle.dg_nor.specs.Fuse.{beneath_of}

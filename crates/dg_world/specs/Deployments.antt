@@ -1,4 +1,4 @@
--- Worlds with their boards, and what was reported so far.
+-- Worlds with their boards, and what was reported so far (docs/ARCHITECTURE.md, "The way of a script line").
 use Rattle.std.specs.Prelude.{List}
 use Rattle.dg_nor.specs.Device.{Device}
 use Rattle.dg_script.specs.declared.report.Report.{Report}

@@ -1,4 +1,4 @@
--- What an event did, as it is reported.
+-- What an event did, as it is reported (docs/SCRIPTS.md, "The report").
 use Rattle.std.specs.Prelude.{ℕ, List, Option}
 use Rattle.dg_script.specs.declared.report.Cause.{Cause}
 use Rattle.dg_world.specs.declared.chip_report.ChipReport.{ChipReport}

@@ -1,4 +1,4 @@
--- What formatting does to the boards of motes.
+-- What formatting does to the boards of motes (docs/IMAGES.md, "The flash map").
 use Rattle.std.specs.Prelude.{◌≡◌, ◌⊎◌, ℕ, ◌<◌, ◌≤◌, true, false, List, length, slice_get, Some}
 use Rattle.dg_words.specs.Counts.{Rose}
 use Rattle.dg_nor.specs.Device.{Device, Endures}

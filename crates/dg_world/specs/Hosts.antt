@@ -1,4 +1,4 @@
--- Boards with what their motes run.
+-- Boards with what their motes run (docs/ARCHITECTURE.md, "The way of a script line").
 use Rattle.std.specs.Prelude.{Option}
 use Rattle.dg_nor.specs.Device.{Device}
 use Rattle.dg_world.specs.declared.world.RunningMote.{RunningMote}

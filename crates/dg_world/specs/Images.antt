@@ -1,4 +1,4 @@
--- What the images that were declared stand for.
+-- What the images that were declared stand for (docs/ARCHITECTURE.md, "The way of a script line").
 use Rattle.std.specs.Prelude.{◌≡◌, ℕ, ◌==◌, ◌&&◌, Bool, List, Option, None, option_map}
 use Rattle.std.specs.Map.{lookup}
 use Rattle.dg_object.specs.Object.{Row, row_of}

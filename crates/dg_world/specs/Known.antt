@@ -1,4 +1,4 @@
--- Boards that are known: they may be mounted again by halving.
+-- Boards that are known: they may be mounted again by halving (docs/IMAGES.md, "Mounting again").
 use Rattle.std.specs.Prelude.{◌≡◌, ◌≢◌, ◌↔◌, ◌+◌, ◌*◌, ◌≤◌, ℕ, Bool, true, List, Option, Some, None}
 use Rattle.std.specs.FinSet as set
 use Rattle.dg_nor.specs.Device.{Device, Took}

@@ -1,4 +1,4 @@
--- Which boards a world knows after an event.
+-- Which boards a world knows after an event (docs/ARCHITECTURE.md, "The way of a script line").
 use Rattle.std.specs.Prelude.{◌≡◌, ◌↔◌, ◌⊎◌, ℕ, ◌<◌, true, List, length, slice_get, Some}
 use Rattle.dg_nor.specs.Device.{Device}
 use Rattle.dg_control.specs.Store.{IsOrderlyChip}

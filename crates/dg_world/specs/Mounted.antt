@@ -1,4 +1,4 @@
--- Boards of motes that are mounted one after the other, as they stand.
+-- Boards of motes that are mounted one after the other, as they stand (docs/IMAGES.md, "Mounting again").
 use Rattle.std.specs.Prelude.{◌≡◌, ◌⊎◌, ℕ, ◌<◌, true, false, List, length, slice_get, Some}
 use Rattle.dg_words.specs.Counts.{Rose}
 use Rattle.dg_nor.specs.Device.{Device}

@@ -1,4 +1,4 @@
--- The neighbours of each mote, by the pairs of motes that are neighbours.
+-- The neighbours of each mote, by the pairs of motes that are neighbours (docs/ARCHITECTURE.md, "The way of a script line").
 use Rattle.std.specs.Prelude.{◌≡◌, ℕ, ◌<◌, Bool, List, slice_index_or}
 use Rattle.std.specs.FinSet as set
 use Rattle.dg_bits.specs.Sets.{Numbers}

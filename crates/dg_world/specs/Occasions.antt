@@ -1,4 +1,4 @@
--- An event, with the cut that waits for it and what it has at hand.
+-- An event, with the cut that waits for it and what it has at hand (docs/ARCHITECTURE.md, "The way of a script line").
 use Rattle.std.specs.Prelude.{◌≡◌, ◌+◌, IsTrue, Option}
 use Rattle.dg_nor.specs.Device.{Device}
 use Rattle.dg_rules.specs.World.{World as RuleWorld, site}

@@ -1,4 +1,4 @@
--- What an event does at a board, by the rules.
+-- What an event does at a board, by the rules (docs/ARCHITECTURE.md, "The way of a script line").
 use Rattle.std.specs.Prelude.{◌≡◌, ℕ, Bool, true, false, List, [], ◌∷◌, length, Option, Some, None, option_map, IfSome, Result}
 use Rattle.std.specs.Prelude.{Ok, Err}
 use Rattle.dg_nor.specs.Device.{Device, Ran}

@@ -1,4 +1,4 @@
--- What an event did, by the code's answer and its outcome.
+-- What an event did, by the code's answer and its outcome (docs/ARCHITECTURE.md, "The way of a script line").
 use Rattle.std.specs.Prelude.{◌≡◌, ℕ, List, Option, Some, None, Result, Ok, Err}
 use Rattle.dg_mote.specs.Motes.{sent_in}
 use Rattle.dg_script.specs.declared.report.Cause.{Cause}

@@ -1,4 +1,4 @@
--- What the motes of a world share, by the rules.
+-- What the motes of a world share, by the rules (docs/ARCHITECTURE.md, "The way of a script line").
 use Rattle.std.specs.Prelude.{◌≡◌}
 use Rattle.dg_rules.specs.World.{World as RuleWorld}
 use Rattle.dg_world.specs.Airs.{Carries}

@@ -1,4 +1,4 @@
--- What is reported of a step, and where it leaves the board.
+-- What is reported of a step, and where it leaves the board (docs/ARCHITECTURE.md, "The way of a script line").
 use Rattle.std.specs.Prelude.{◌≡◌, ℕ, ◌+◌, Bool, true, false, slice_set, length, List, ◌++◌, Option, Some, Result, Ok, Err, OnOk}
 use Rattle.std.specs.Prelude.{OnErr, IsTrue}
 use Rattle.std.specs.List.{filter}

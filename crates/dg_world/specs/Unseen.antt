@@ -1,4 +1,4 @@
--- Refusals that look at no chip.
+-- Refusals that look at no chip (docs/ARCHITECTURE.md, "The way of a script line").
 use Rattle.std.specs.Prelude.{◌≡◌, Bool, true, false}
 use Rattle.dg_rules.specs.Events.{Does, Refuses, Goes}
 use Rattle.dg_script.specs.declared.report.Cause.{Cause}

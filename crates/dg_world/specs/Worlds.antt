@@ -1,4 +1,4 @@
--- How the code's world and the boards stand for a world by the rules.
+-- How the code's world and the boards stand for a world by the rules (docs/ARCHITECTURE.md, "The way of a script line").
 use Rattle.std.specs.Prelude.{◌≡◌, ℕ, ◌-◌, ◌*◌, ◌^◌, ◌<◌, ◌≤◌, true, List, length, slice_get, slice_index_or, Option, Some, None}
 use Rattle.std.specs.Prelude.{IfSome}
 use Rattle.dg_nor.specs.Device.{Device}

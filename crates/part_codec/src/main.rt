@@ -1,4 +1,4 @@
-//! A message as a frame, as it stands on a serial line, read back from there, and cut short.
+//! A message as a frame, as it stands on a serial line, read back from there, and truncated.
 #![tactic(auto)]
 
 use anyhow::Result;
@@ -40,6 +40,6 @@ fn main(rt: HostRuntime) -> Result<()> {
 
     let _ = frame.pop();
     let refused = read(frame.as_slice(), true) == Err(FrameFault::Length);
-    println!(rt; "cut short, refused: {refused}")?;
+    println!(rt; "truncated, refused: {refused}")?;
     Ok(())
 }
