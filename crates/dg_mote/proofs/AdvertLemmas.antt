@@ -97,11 +97,11 @@ names_row rows table i e range honest some =
     ⊎_elim
     (λ nothing. absurd (omega (arith, some, ap (λ (x : Entry). x.have) nothing)))
     (λ (named : (row : Row) × (row_at table i e.version ≡ Some row) × (e.pages ≡ (profile row).pages) × (e.crc ≡ (profile row).crc)).
-    let own = rows.image_version table i e.version named.0 named.1 in
+    let ids = rows.image_version table i e.version named.0 named.1 in
     record {
       row = named.0;
       in_table = named.1;
-      is_profile = same_outline i e (profile named.0) (sym own.0) (sym own.1) named.2 named.3;
+      is_profile = same_outline i e (profile named.0) (sym ids.0) (sym ids.1) named.2 named.3;
       some = some;
       within = ⊎_elim (λ u. absurd (omega (arith, some, ap (λ (x : Entry). x.have) u))) (λ (t : TellsVersion e). t.have) range;
     })
@@ -159,10 +159,10 @@ module _ (table : List Row) (laws : TakeLaws table) (now draw source : ℕ) wher
       let p = outline i e in
       let t = take_trail s p in
       let u = joined t (resting (last t) 1) in
-      let own = laws.rows.image_version table i e.version n.row n.in_table in
+      let ids = laws.rows.image_version table i e.version n.row n.in_table in
       let own = row_own laws.rows table i e.version n.row n.in_table in
       let way : Through (StoreIsWell table) t =
-      subst (λ (o : Outline). Through (StoreIsWell table) (take_trail s o)) (sym n.is_profile) (laws.take s n.row (omega (arith, own.0, low)) (omega (arith, own.0, high)) own w) in
+      subst (λ (o : Outline). Through (StoreIsWell table) (take_trail s o)) (sym n.is_profile) (laws.take s n.row (omega (arith, ids.0, low)) (omega (arith, ids.0, high)) own w) in
       let is : ask_trail s i e ≡ u = cond-false (is_version (held s i) e.version) (resting s 1) u other in
       let ends : last u ≡ taken s p = last-joined t (resting (last t) 1) refl ∙ last-resting (last t) 1 ∙ laws.end s p in
       record {

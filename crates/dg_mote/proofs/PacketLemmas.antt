@@ -99,18 +99,18 @@ pub record ReceivesPage (table : List Row) (s : Store) (r : Receiving) (row : Ro
 module _ (table : List Row) (is_table : IsTable table) (laws : PageLaws table) (s : Store) (well : StoreIsWell table s) (now draw : ℕ) where
   pub receives_page : (r : Receiving) → (a : ReceivesRow table s r) → ReceivesPage table s r a.row
   receives_page r a =
-      let own = laws.rows.image_version table r.image r.version a.row a.in_table in
+      let ids = laws.rows.image_version table r.image r.version a.row a.in_table in
       let own = row_own laws.rows table r.image r.version a.row a.in_table in
-      let here : held s a.row.image ≡ Some a.kept = ap (held s) own.0 ∙ a.held_here in
+      let here : held s a.row.image ≡ Some a.kept = ap (held s) ids.0 ∙ a.held_here in
       let kept : KeepsPagesOf a.row a.kept = subst (λ (o : Option Held). IfSome o (KeepsPagesOf a.row)) here (laws.kept s a.row own well.agrees) in
-      let to = kept (a.version ∙ sym own.1) in
+      let to = kept (a.version ∙ sym ids.1) in
       let count : length a.kept.complete ≡ min to.0 (length (object a.row)) = ap (λ (h : Held). length h.complete) to.2 ∙ length-take to.0 (object a.row) in
       let n : to.0 ≡ r.page = omega (arith, count, to.1, a.next) in
       let pages : a.kept.pages ≡ (profile a.row).pages = ap (λ (h : Held). h.pages) to.2 in
       record {
         in_table = own;
-        image_is = own.0;
-        version_is = own.1;
+        image_is = ids.0;
+        version_is = ids.1;
         kept = here ∙ ap Some to.2 ∙ ap (λ k. Some (held_to a.row k)) n;
         more = omega (arith, a.more, pages, laws.count a.row);
         packets_are = a.honest;

@@ -90,9 +90,9 @@ module _ (laws : SpellLaws) where
     entry_in i None k = inl refl
     entry_in i (Some h) k =
         let is = laws.rows.row table i h.version k.row is_table k.in_table in
-        let own = laws.rows.image_version table i h.version k.row k.in_table in
+        let ids = laws.rows.image_version table i h.version k.row k.in_table in
         inr (record {
-          version = omega (arith, is.version, own.1);
+          version = omega (arith, is.version, ids.1);
           pages = omega (arith, laws.some k.row is, k.pages);
           most = omega (arith, laws.most k.row is, k.pages);
           have = omega (arith, few_complete table i h k, laws.count k.row, k.pages);
@@ -102,8 +102,8 @@ module _ (laws : SpellLaws) where
     entry_small i None k = record { version = omega arith; crc = omega arith }
     entry_small i (Some h) k =
         let is = laws.rows.row table i h.version k.row is_table k.in_table in
-        let own = laws.rows.image_version table i h.version k.row k.in_table in
-        record { version = omega (arith, is.version_fits, own.1); crc = omega (arith, k.crc, crc_small k.row is) }
+        let ids = laws.rows.image_version table i h.version k.row k.in_table in
+        record { version = omega (arith, is.version_fits, ids.1); crc = omega (arith, k.crc, crc_small k.row is) }
 
     entries_in : All EntryInRange (entries_of wide s)
     entries_in =
@@ -134,19 +134,19 @@ module _ (laws : SpellLaws) where
     page_in : (image page : ℕ) (h : Held) → (k : KeepsRow table image h) → held s image ≡ Some h → (1 ≤ image) × (image ≤ known_images wide) → page < length (object k.row) → PageInRange (known_images wide) image h.version page
     page_in image page h k here named less =
         let is = laws.rows.row table image h.version k.row is_table k.in_table in
-        let own = laws.rows.image_version table image h.version k.row k.in_table in
+        let ids = laws.rows.image_version table image h.version k.row k.in_table in
         record {
           first = named.0;
           last = named.1;
-          of_version = omega (arith, is.version, own.1);
+          of_version = omega (arith, is.version, ids.1);
           in_object = omega (arith, less, laws.count k.row, laws.most k.row is);
         }
 
     version_small : (image : ℕ) (h : Held) → (k : KeepsRow table image h) → h.version < 2 ^ 32
     version_small image h k =
         let is = laws.rows.row table image h.version k.row is_table k.in_table in
-        let own = laws.rows.image_version table image h.version k.row k.in_table in
-        omega (arith, is.version_fits, own.1)
+        let ids = laws.rows.image_version table image h.version k.row k.in_table in
+        omega (arith, is.version_fits, ids.1)
 
     -- ---- a request
 

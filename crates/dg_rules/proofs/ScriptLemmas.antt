@@ -134,8 +134,8 @@ event_true motes w f (Last from m dt draw) honest = tt
 event_true motes w f (Reset m dt draw) honest = tt
 event_true motes w f (Inject m image version dt draw) honest = λ row kept here there.
     let low = (row_at-each IsDeclared w.declared image version row f.rows here).not_golden in
-    let own = row_at-image_version w.declared image version row here in
-    same_some kept row (sym (f.known image version kept (subst (λ (n : ℕ). 1 ≤ n) own.0 low) there) ∙ here)
+    let ids = row_at-image_version w.declared image version row here in
+    same_some kept row (sym (f.known image version kept (subst (λ (n : ℕ). 1 ≤ n) ids.0 low) there) ∙ here)
 event_true motes w f (OrderEvent m number image version dt draw) honest = tt
 event_true motes w f (FrameEvent m dt draw bytes) honest = honest
 

@@ -45,9 +45,9 @@ behind_new : (rows : List Row) (row r : Row) (image version : ℕ) → known row
 behind_new rows row r image version new e =
     elim (cases_Bool (has_image_version image version row)) [
       | inl same ↦
-          let own = image_version_parts image version row same in
+          let ids = image_version_parts image version row same in
           let none : row_at rows row.image row.version ≡ None = find_none (same_image_version row) rows new in
-          absurd (not_none (row_at rows image version) r e (ap (λ i. row_at rows i version) (sym own.0) ∙ ap (λ v. row_at rows row.image v) (sym own.1) ∙ none))
+          absurd (not_none (row_at rows image version) r e (ap (λ i. row_at rows i version) (sym ids.0) ∙ ap (λ v. row_at rows row.image v) (sym ids.1) ∙ none))
       | inr other ↦ other
     ]
 
@@ -78,8 +78,8 @@ pub row_at-cons : (rows : List Row) (row r : Row) (image version : ℕ) → row_
 row_at-cons rows row r image version e =
     elim (cases_Bool (has_image_version image version row)) [
       | inl here ↦
-          let own = image_version_parts image version row here in
-          inl (same_some r row (sym e ∙ find_here (has_image_version image version) row rows here), own.0, own.1)
+          let ids = image_version_parts image version row here in
+          inl (same_some r row (sym e ∙ find_here (has_image_version image version) row rows here), ids.0, ids.1)
       | inr later ↦ inr (sym (find_later (has_image_version image version) row rows later) ∙ e)
     ]
 
@@ -96,8 +96,8 @@ pub row_at-kept : (rows : List Row) (row r : Row) (image version : ℕ) → row_
 row_at-kept rows row r image version none e =
     elim (cases_Bool (has_image_version image version row)) [
       | inl same ↦
-          let own = image_version_parts image version row same in
-          absurd (not_none (row_at rows image version) r e (ap (λ i. row_at rows i version) (sym own.0) ∙ ap (λ v. row_at rows row.image v) (sym own.1) ∙ none))
+          let ids = image_version_parts image version row same in
+          absurd (not_none (row_at rows image version) r e (ap (λ i. row_at rows i version) (sym ids.0) ∙ ap (λ v. row_at rows row.image v) (sym ids.1) ∙ none))
       | inr later ↦ find_later (has_image_version image version) row rows later ∙ e
     ]
 
@@ -179,4 +179,4 @@ all_push P (x ∷ xs) row all p = (all.0, all_push P xs row all.1 p)
 -- the row of its own image version
 pub row_at-own : (rows : List Row) (image version : ℕ) (row : Row) → row_at rows image version ≡ Some row → row_at rows row.image row.version ≡ Some row
 row_at-own rows image version row e =
-    let own = row_at-image_version rows image version row e in ap (λ i. row_at rows i row.version) own.0 ∙ ap (row_at rows image) own.1 ∙ e
+    let ids = row_at-image_version rows image version row e in ap (λ i. row_at rows i row.version) ids.0 ∙ ap (row_at rows image) ids.1 ∙ e
