@@ -39,7 +39,7 @@ use Rattle.dg_replay.proofs.LinesReadLemmas.{LinesRead, PlaysText, joined, joine
 -- where nothing was played
 pub reached_same : {table : List Row} (ends : Bool) (script : Script) (n : ℕ) (p q : Player) (initial was now : List Device) (before mid after : Option (List ℕ)) → AllAsBefore p q was now mid after → Reached table ends script [] n p (span initial was before mid) → Reached table ends script [] n q (span initial now before after)
 reached_same {table} ends script n p q initial was now before mid after same r =
-    subst (λ (o : Option (List ℕ)). Reached table ends script [] n q (span initial now before o)) (sym same.told)
+    subst (λ (o : Option (List ℕ)). Reached table ends script [] n q (span initial now before o)) (sym same.written)
     (subst (λ (ds : List Device). Reached table ends script [] n q (span initial ds before mid)) (sym same.boards) (subst (λ (x : Player). Reached table ends script [] n x (span initial was before mid)) (sym same.player) r))
 
 -- no line was left

@@ -85,7 +85,7 @@ taken_step None w row e taken = absurd (let f : false ≡ true = taken in cc)
 taken_step (Some k) w row e taken =
     record {
       world = sym (ap (λ (o : Option Row). declared_as o w row) e);
-      reported = sym (ap (λ (o : Option Row). declared_lines o row) e ∙ ap (λ (b : Bool). if b then report.Taken row.image row.version ∷ [] else []) taken);
+      told = sym (ap (λ (o : Option Row). declared_lines o row) e ∙ ap (λ (b : Bool). if b then report.Taken row.image row.version ∷ [] else []) taken);
     }
 
 -- a world with as many sites, in which so many more events were applied

@@ -214,7 +214,7 @@ pub declared_step : (o : Option Row) (w : World) (row : Row) → row_at w.declar
 declared_step o w row e free =
     record {
       world = ap (λ (x : Option Row). declared_as x w row) (sym e);
-      reported = sym (ap (λ (x : Option Row). declared_lines x row) e ∙ untold o free);
+      told = sym (ap (λ (x : Option Row). declared_lines x row) e ∙ untold o free);
     }
   where
     untold : (x : Option Row) → is_taken x row ≡ false → declared_lines x row ≡ []

@@ -261,7 +261,7 @@ item_set f s (Declares row) w v reports is step =
     let same : row_at (f w).declared row.image row.version ≡ row_at w.declared row.image row.version = ap (λ (rows : List Row). row_at rows row.image row.version) (s.declared w) in
     record {
       world = ap f step.world ∙ s.rows (row_at w.declared row.image row.version) w row ∙ ap (λ (o : Option Row). declared_as o (f w) row) (sym same);
-      reported = step.reported ∙ ap (λ (o : Option Row). declared_lines o row) (sym same);
+      told = step.told ∙ ap (λ (o : Option Row). declared_lines o row) (sym same);
     }
 item_set f s (Applies x reported) w v reports is step = absurd is
 

@@ -65,7 +65,7 @@ module _ (profile : NetProfile) (seed turns : ℕ) (b : Outside) (p q : Standing
   ran_all w = record {
     origin = p.service.timeline.reading;
     clock = p.clock;
-    first = o.written;
+    first = o.told;
     events = w.events;
     done = plan profile.motes turns;
     left = [];
@@ -93,7 +93,7 @@ module _ (profile : NetProfile) (seed turns : ℕ) (b : Outside) (p q : Standing
   ran_some why h = record {
     origin = p.service.timeline.reading;
     clock = p.clock;
-    first = o.written;
+    first = o.told;
     events = h.events;
     done = h.done;
     left = h.left;
