@@ -85,7 +85,7 @@ fn writes_within(taken: usize) -> usize {
 }
 
 /// How many writes stay within the limit, up to the first that does not.
-fn writes_within(limit: usize) -> usize {
+fn writes_that_fit(limit: usize) -> usize {
     let mut rest = limit;
     for (made, piece) in WRITES.iter().enumerate() {
         if piece.len() > rest {
@@ -169,7 +169,7 @@ fn an_output_ends_at_each_byte(rt: HostRuntime) -> Result<(), Fail> {
             Status::Done
         };
         assert_eq!(rt; answered.status, status, "{limit}");
-        let report = first_writes(alloc, writes_within(limit))?;
+        let report = first_writes(alloc, writes_that_fit(limit))?;
         assert!(rt; answered.written.as_slice() == report.as_slice(), "{limit}");
     }
     Ok(())
