@@ -1,4 +1,4 @@
--- What a chip in memory that never stops shows as a device.
+-- What a chip in memory that never stops shows as a device (docs/PARTS.md, "The flash store").
 use Rattle.std.specs.Prelude.{false, [], None}
 use Rattle.dg_nor.specs.Device.{Device}
 use Rattle.part_store.specs.declared.device.RamChip.{RamChip}

@@ -10,4 +10,4 @@ write-frame-requires c = refl
 pub stuff-requires-clause-some : goal.stuff-requires-clause-some
 unfolding frame_of
 stuff-requires-clause-some c =
-    subst (λ (bytes : List ℕ). 1 ≤ length bytes) (sym (c.as_slice-2.ensures.value ∙ c.write-frame.ensures.spelled)) (omega arith)
+    subst (λ (bytes : List ℕ). 1 ≤ length bytes) (sym (c.as_slice.ensures.value ∙ c.write-frame.ensures.spelled)) (omega arith)
