@@ -25,11 +25,11 @@ pub record Stands (d : DripNetwork) (w : Network) : Type 0 where
   pub cells : (m k : ℕ) → m < length d.nodes.items → k < key_count → cell_of (node_at d.nodes.items m) k ≡ w.cells m k
 
 -- an event is at some of so many nodes, and of a key
-abbrev pub FitsEvent : (nodes : ℕ) → DripEvent → Type 0
-FitsEvent nodes (Set node key value dt draw) = (node < nodes) × (key < key_count)
-FitsEvent nodes (Tick node key dt draw) = (node < nodes) × (key < key_count)
-FitsEvent nodes (Hear node dt draw frame) = node < nodes
-FitsEvent nodes (Last from to key) = (from < nodes) × (to < nodes) × (key < key_count)
+abbrev pub FitsDripEvent : (nodes : ℕ) → DripEvent → Type 0
+FitsDripEvent nodes (Set node key value dt draw) = (node < nodes) × (key < key_count)
+FitsDripEvent nodes (Tick node key dt draw) = (node < nodes) × (key < key_count)
+FitsDripEvent nodes (Hear node dt draw frame) = node < nodes
+FitsDripEvent nodes (Last from to key) = (from < nodes) × (to < nodes) × (key < key_count)
 
 -- frames that were sent are of keys
 abbrev pub AreKeyed : List Said → Type 0

@@ -7,7 +7,8 @@ ghost use Rattle.dg_drip.specs.Network.{Network, start, entry_at, is_linked, fra
 ghost use Rattle.dg_drip.specs.Nodes.{cell_of, with_cell, set_answer, after_set, told_by, node_after_tick};
 ghost use Rattle.dg_drip.specs.declared.events.DripEvent.TheVariants.{Set, Tick, Hear, Last};
 ghost use Rattle.dg_drip_replay.specs.Reports.{report_of_event};
-ghost use Rattle.dg_drip_replay.specs.Standing.{Stands, FitsEvent, AreKeyed, Does, Hears, Passes, node_at, time_of, with_link};
+ghost use Rattle.dg_drip_replay.specs.Standing.{Stands, FitsDripEvent, AreKeyed, Does, Hears, Passes, node_at, time_of};
+ghost use Rattle.dg_drip_replay.specs.Standing.{with_link};
 
 use crate::report::{DripCause, DripReport};
 use dg_drip::{DripEvent, DripHeard, DripNode, Entry, Said, SetFault};
@@ -250,7 +251,7 @@ impl DripNetwork {
         event: &DripEvent,
         reported: bool,
     ) -> Result<Option<DripReport>, AllocError>
-        requires fits { FitsEvent (length self.old.nodes.items) event.now }
+        requires fits { FitsDripEvent (length self.old.nodes.items) event.now }
         requires moment { self.old.moment + time_of event.now < 2 ^ 62 }
         requires keyed { AreKeyed self.old.sent.items }
         ensures does { (w : Network) → Stands self.old w → IfOk result (Does self.new w reported event.now) }

@@ -3,7 +3,7 @@ use Rattle.std.proofs.Common.{◌≡◌, ◌∙◌, ℕ, ◌<◌, ◌≤◌, ◌
 use Rattle.dg_drip.specs.declared.events.DripEvent.{DripEvent}
 use Rattle.dg_drip.specs.declared.events.DripEvent.TheVariants.{Set, Tick, Hear, Last}
 use Rattle.dg_drip.specs.Network.{Network, start}
-use Rattle.dg_drip_replay.specs.Standing.{Stands, FitsEvent, Does, Passes, time_of}
+use Rattle.dg_drip_replay.specs.Standing.{Stands, FitsDripEvent, Does, Passes, time_of}
 use Rattle.dg_drip_replay.specs.declared.report.DripReport.{DripReport}
 use Rattle.dg_drip_script.specs.Reports.{reported_text}
 use Rattle.dg_drip_script.specs.Scripts.{DripItem, DripScript, with_items, network_of, events_of, report_of}
@@ -17,7 +17,7 @@ use Rattle.dg_drip_run.proofs.ScriptLemmas.{run_more, told_more, run_links}
 use Rattle.dg_drip_run.proofs.RanLemmas.{no_items}
 
 -- an event is at a node, so that there is one
-pub some_node : (n : ℕ) (e : DripEvent) → FitsEvent n e → 0 < n
+pub some_node : (n : ℕ) (e : DripEvent) → FitsDripEvent n e → 0 < n
 some_node n (Set node key value dt draw) h = let l = h.0 in omega (arith, l)
 some_node n (Tick node key dt draw) h = let l = h.0 in omega (arith, l)
 some_node n (Hear node dt draw frame) h = omega (arith, h)
@@ -30,7 +30,7 @@ later : (m dt n : ℕ) → m ≤ n * 2 ^ 32 → dt < 2 ^ 32 → m + dt ≤ (n + 
 later m dt n h l = omega (arith, h, l)
 
 pub event_applied : (p q : Player) (s : DripScript) (before : List ℕ) (e : DripEvent) (reported : Bool) (told : Option DripReport) → Plays p s before
-    → FitsEvent p.standing.nodes e → time_of e < 2 ^ 32 → p.standing.begun ≡ true → p.events < most_events
+    → FitsDripEvent p.standing.nodes e → time_of e < 2 ^ 32 → p.standing.begun ≡ true → p.events < most_events
     → Does q.network (network_of s) reported e told → Passes p.network q.network (time_of e)
     → q.standing ≡ p.standing → q.events ≡ p.events + 1 → q.text.items ≡ p.text.items ++ reported_text told
     → Plays q (with_items s (record { event = e; reported = reported } ∷ [])) before
@@ -73,7 +73,7 @@ links_of_player p s before h = h.stands.links ∙ run_links (start s.links) (eve
 -- what is reported of an event was kept, or memory ran out
 pub apply_ran : (r : Result (Unit {0}) PlayStop) (p q : Player) (e : DripEvent) (reported : Bool) (told : Option DripReport)
     → OnOk r (q.text.items ≡ p.text.items ++ reported_text told) → OnErr r (r ≡ Err Memory)
-    → FitsEvent p.standing.nodes e → time_of e < 2 ^ 32 → p.standing.begun ≡ true → p.events < most_events
+    → FitsDripEvent p.standing.nodes e → time_of e < 2 ^ 32 → p.standing.begun ≡ true → p.events < most_events
     → ((w : Network) → Stands p.network w → Does q.network w reported e told) → Passes p.network q.network (time_of e)
     → q.standing ≡ p.standing → q.events ≡ p.events + 1 → DripItemsPlayed r p q (record { event = e; reported = reported } ∷ [])
 apply_ran (Ok u) p q e reported told text stop fits short on few does passes standing events = λ s before h.

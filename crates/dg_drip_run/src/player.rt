@@ -3,7 +3,7 @@ ghost use Rattle.std.specs.Prelude.{◌≡◌, ℕ, ◌+◌, ◌∷◌, ◌++◌
 ghost use Rattle.dg_drip.specs.Sizes.{key_count};
 ghost use Rattle.dg_drip.specs.Spread.{drip_round, round_of_key, sweeps};
 ghost use Rattle.dg_rounds.specs.Rounds.{rounds_of};
-ghost use Rattle.dg_drip_replay.specs.Standing.{FitsEvent, time_of};
+ghost use Rattle.dg_drip_replay.specs.Standing.{FitsDripEvent, time_of};
 ghost use Rattle.dg_drip_script.specs.Lines.{FitsDripLine, DripStandsAt};
 ghost use Rattle.dg_drip_script.specs.Reports.{reported_text};
 ghost use Rattle.dg_drip_script.specs.Scripts.{first_script, unreported_items, rounds_items, with_drip_line};
@@ -87,7 +87,7 @@ impl Player {
     fn apply_event(&mut self, event: &DripEvent, reported: bool) -> Result<(), PlayStop>
         requires playing { IsPlaying self.old }
         requires begun { self.old.standing.begun ≡ true }
-        requires fits { FitsEvent self.old.standing.nodes event.now }
+        requires fits { FitsDripEvent self.old.standing.nodes event.now }
         ensures ran { DripItemsPlayed result self.old self.new (record { event = event.now; reported = reported } ∷ []) }
         ensures on { OnOk result (StaysPlaying self.old self.new) }
     {

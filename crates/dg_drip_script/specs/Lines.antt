@@ -6,7 +6,7 @@ use Rattle.dg_script.specs.Results.{◌>>?◌, kept_if}
 use Rattle.dg_script.specs.Words.{words_of, same}
 use Rattle.dg_drip.specs.declared.events.DripEvent.{DripEvent}
 use Rattle.dg_drip.specs.declared.events.DripEvent.TheVariants as event
-use Rattle.dg_drip_replay.specs.Standing.{FitsEvent}
+use Rattle.dg_drip_replay.specs.Standing.{FitsDripEvent}
 use Rattle.dg_drip_script.specs.Fields.{Field, numbers_of_words, one_number, two_numbers, four_numbers, five_numbers, field_below}
 use Rattle.dg_drip_script.specs.Fields.{from_one_to}
 use Rattle.dg_drip_script.specs.Sizes.{most_nodes, most_sweeps, most_line, most_number, key_count}
@@ -106,7 +106,7 @@ abbrev pub FitsDripLine : (nodes : ℕ) → DripLine → Type 0
 FitsDripLine nodes Nothing = Unit {0}
 FitsDripLine nodes (Nodes count) = (1 ≤ count) × (count ≤ most_nodes)
 FitsDripLine nodes (Link a b) = (a < nodes) × (b < nodes)
-FitsDripLine nodes (EventLine event) = FitsEvent nodes event
+FitsDripLine nodes (EventLine event) = FitsDripEvent nodes event
 FitsDripLine nodes (Round a b) = (a < nodes) × (b < nodes)
 FitsDripLine nodes (Sweeps count) = 1 ≤ count
 

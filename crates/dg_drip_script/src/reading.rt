@@ -5,7 +5,7 @@ ghost use Rattle.dg_drip_script.specs.Fields.{numbers_of_words};
 ghost use Rattle.dg_drip_script.specs.Lines.{has_nodes, may_link, pair_of, drip_tick_of, drip_hear_of, set_of, nodes_line};
 ghost use Rattle.dg_drip_script.specs.Lines.{sweeps_line, link_line, round_line, tick_line, hear_line, set_line, event_line};
 ghost use Rattle.dg_drip_script.specs.Lines.{verb_line, drip_line_of, FitsDripLine, DripStandsAt};
-ghost use Rattle.dg_drip_replay.specs.Standing.{FitsEvent};
+ghost use Rattle.dg_drip_replay.specs.Standing.{FitsDripEvent};
 
 use crate::MOST_NODES;
 use crate::fields::{
@@ -42,7 +42,7 @@ fn pair(nodes: u8, fields: (Field, Field)) -> Option<(u8, u8)>
 
 fn tick(nodes: u8, fields: (Field, Field, Field, Field)) -> Option<DripEvent>
     ensures is { result ≡ drip_tick_of nodes fields }
-    ensures fits { IfSome result (λ e. FitsEvent nodes e) }
+    ensures fits { IfSome result (λ e. FitsDripEvent nodes e) }
 {
     let node = below(fields.0, nodes)?;
     let key = below(fields.1, KEYS as u8)?;
@@ -58,7 +58,7 @@ fn tick(nodes: u8, fields: (Field, Field, Field, Field)) -> Option<DripEvent>
 
 fn hear(nodes: u8, fields: (Field, Field, Field, Field)) -> Option<DripEvent>
     ensures is { result ≡ drip_hear_of nodes fields }
-    ensures fits { IfSome result (λ e. FitsEvent nodes e) }
+    ensures fits { IfSome result (λ e. FitsDripEvent nodes e) }
 {
     let node = below(fields.0, nodes)?;
     let dt = fields.1?;
@@ -74,7 +74,7 @@ fn hear(nodes: u8, fields: (Field, Field, Field, Field)) -> Option<DripEvent>
 
 fn set(nodes: u8, fields: (Field, Field, Field, Field, Field)) -> Option<DripEvent>
     ensures is { result ≡ set_of nodes fields }
-    ensures fits { IfSome result (λ e. FitsEvent nodes e) }
+    ensures fits { IfSome result (λ e. FitsDripEvent nodes e) }
 {
     let node = below(fields.0, nodes)?;
     let key = below(fields.1, KEYS as u8)?;

@@ -16,7 +16,7 @@ const PATIENCE: u64 = 1;
 
 /// A link of which each mote has a socket on 127.0.0.1. Mote m has the first mote's port and m more.
 ///
-/// What comes to a socket is received, whoever sent it. A datagram of more than 64 bytes is cut to 64. What is sent may
+/// What comes to a socket is received, whoever sent it. Of a datagram the first 64 bytes are kept. What is sent may
 /// be lost.
 #[derive(Drop)]
 pub struct UdpLink<'r, R> {

@@ -1,4 +1,4 @@
--- A mote that runs over its chip.
+-- A mote that runs over its chip (the laws of `dg_mote`, for the tests of this crate).
 use Rattle.std.specs.Prelude.{ℕ, List}
 use Rattle.dg_volume.specs.Store.{Store}
 use Rattle.dg_mote.specs.Model.{MoteState}
