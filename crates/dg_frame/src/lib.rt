@@ -11,6 +11,7 @@ mod kind;
 mod laws;
 mod ranges;
 mod reading;
+mod sent;
 mod writing;
 
 use arrayvec::ArrayVec;
@@ -22,6 +23,7 @@ pub use fields::{half_at, word_at};
 pub use laws::{one_reading, one_spelling, the_sizes_are_these};
 pub use ranges::in_range;
 pub use reading::{SHORTEST, has_crc_at, read};
+pub use sent::{is_read_back, refusal};
 pub use writing::write;
 
 /// The most bytes of a frame, as of what comes from outside.

@@ -66,9 +66,9 @@ wide_told v = v.wide
 abbrev pub volume_of : Mote → Volume
 volume_of v = v.volume
 
--- the bytes of the frame that waits in an outbox
+-- the bytes of the frame that waits in an outbox, which keeps its message
 abbrev pub sent_in : Outbox → Option (List ℕ)
-sent_in o = option_map (λ f. f.items) o.frame
+sent_in o = option_map frame_of o.message
 
 -- the frame of a message is read as the message by a reader of this width
 abbrev pub IsRead : (wide : Bool) → Message → Type 0

@@ -22,7 +22,7 @@ long_run = 5000
 -- They hold frames, packet sets, packets, and pieces of pages and of snapshots. What a mote knows of time and of its chip is
 -- in numbers, and not counted among them.
 
--- the bytes of the outbox, which holds a frame
+-- the bytes of the outbox: it keeps a message, and counts as the longest frame
 abbrev pub outbox_bytes : ℕ
 outbox_bytes = frame_bytes
 
@@ -71,7 +71,7 @@ pub record BuffersFit : Type 0 where
 abbrev pub most_mote_size : ℕ
 most_mote_size = 464
 
--- the bytes of an outbox in memory: a frame, how long it is, and whether there is one
+-- the bytes of an outbox in memory: a message, and whether there is one
 abbrev pub most_outbox_size : ℕ
 most_outbox_size = 80
 

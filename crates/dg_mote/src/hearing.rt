@@ -1,6 +1,8 @@
 //! What a mote does that hears a frame.
-ghost use Rattle.std.specs.Prelude.{◌≡◌, ℕ, ◌<◌, ◌^◌, Ok, IfOk, OnOk, OnErr};
+ghost use Rattle.std.specs.Prelude.{◌≡◌, ℕ, ◌<◌, ◌^◌, true, Ok, IfOk, OnOk, OnErr};
+ghost use Rattle.dg_frame.specs.Grammar.{in_range};
 ghost use Rattle.dg_frame.specs.Ranges.{IsInRange};
+ghost use Rattle.dg_frame.specs.Spelling.{frame_of};
 ghost use Rattle.dg_object.specs.Object.{Row};
 ghost use Rattle.dg_volume.specs.Store.{Store};
 ghost use Rattle.dg_volume.specs.Acts.{Stops};
@@ -14,7 +16,7 @@ ghost use Rattle.dg_mote.specs.Hearing.{StaysIf};
 use crate::laws::a_mote_keeps_consistency;
 use crate::requests::PageName;
 use crate::{Heard, Mote};
-use dg_frame::{Message, read};
+use dg_frame::{Message, read, refusal};
 use dg_nor::{Nor, Stopped};
 
 impl Mote {
@@ -52,7 +54,37 @@ impl Mote {
         a_mote_keeps_consistency();
         match read(bytes, self.wide) {
             Err(fault) => Ok(Heard::Refused(fault)),
-            Ok(message) => self.hear_message(nor, now, draw, message),
+            Ok(message) => self.hear_message(nor, now, draw, &message),
+        }
+    }
+
+    /// Hears the frame of a message, which was sent in the same memory: it does what [`Mote::hear`] does with the bytes of that
+    /// frame, and needs none of them. The fields of the message are in the ranges of a wide reader.
+    pub fn hear_sent<N: Nor>(
+        &mut self,
+        nor: &mut N,
+        now: u64,
+        draw: u32,
+        message: &Message,
+    ) -> Result<Heard, Stopped>
+        requires mote { (m : MoteState) × (s : Store) × IsMote (N.device nor.old).image self.old m s × Timely m now }
+        requires moment { now < 2 ^ 62 }
+        requires range { in_range true message.now ≡ true }
+        ensures done { IfOk result (λ heard. (m : MoteState) (s : Store) → IsMote (N.device nor.old).image self.old m s
+            → Done (heard_of m s now draw (frame_of message.now)) (N.device nor.old) (N.device nor.new) self.new heard) }
+        ensures unchanged { IfOk result (λ heard. StaysIf heard ((N.device nor.new ≡ N.device nor.old) × (self.new ≡ self.old))) }
+        ensures same_reference { (N.device nor.new).references ≡ (N.device nor.old).references }
+        ensures stopped { OnErr result ((m : MoteState) (s : Store) → IsMote (N.device nor.old).image self.old m s
+            → Stops (heard_of m s now draw (frame_of message.now)).trail (N.device nor.old) (N.device nor.new)) }
+        ensures consistent { OnOk result ((golden : Row) → MoteIsConsistent golden (N.device nor.old).image self.old
+            → MoteIsConsistent golden (N.device nor.new).image self.new) }
+        ensures stops_consistent { OnErr result ((golden : Row) → MoteIsConsistent golden (N.device nor.old).image self.old
+            → ChipIsConsistent golden (N.device nor.new).image) }
+    {
+        a_mote_keeps_consistency();
+        match refusal(message, self.wide) {
+            Some(fault) => Ok(Heard::Refused(fault)),
+            None => self.hear_message(nor, now, draw, message),
         }
     }
 
@@ -62,19 +94,19 @@ impl Mote {
         nor: &mut N,
         now: u64,
         draw: u32,
-        message: Message,
+        message: &Message,
     ) -> Result<Heard, Stopped>
         requires mote { (m : MoteState) × (s : Store) × IsMote (N.device nor.old).image self.old m s }
         requires moment { now < 2 ^ 62 }
-        requires range { IsInRange self.old.wide message }
+        requires range { IsInRange self.old.wide message.now }
         ensures done { IfOk result (λ heard. (m : MoteState) (s : Store) → IsMote (N.device nor.old).image self.old m s
-            → Done (by_message (Ok message) m s now draw) (N.device nor.old) (N.device nor.new) self.new heard) }
+            → Done (by_message (Ok message.now) m s now draw) (N.device nor.old) (N.device nor.new) self.new heard) }
         ensures unchanged { IfOk result (λ heard. StaysIf heard ((N.device nor.new ≡ N.device nor.old) × (self.new ≡ self.old))) }
         ensures same_reference { (N.device nor.new).references ≡ (N.device nor.old).references }
         ensures stopped { OnErr result ((m : MoteState) (s : Store) → IsMote (N.device nor.old).image self.old m s
-            → Stops (by_message (Ok message) m s now draw).trail (N.device nor.old) (N.device nor.new)) }
+            → Stops (by_message (Ok message.now) m s now draw).trail (N.device nor.old) (N.device nor.new)) }
     {
-        if source(&message) == self.id {
+        if source(message) == self.id {
             return Ok(Heard::Dropped);
         }
         match message {
@@ -82,12 +114,12 @@ impl Mote {
                 source,
                 entries,
                 order,
-            } => self.hear_advert(nor, now, draw, source, &entries, &order),
+            } => self.hear_advert(nor, now, draw, *source, entries, order),
             Message::Wide {
                 source,
                 entries,
                 order,
-            } => self.hear_advert(nor, now, draw, source, &entries, &order),
+            } => self.hear_advert(nor, now, draw, *source, entries, order),
             Message::Request {
                 to,
                 image,
@@ -96,8 +128,8 @@ impl Mote {
                 want,
                 ..
             } => {
-                let name = PageName::new(image, version, page);
-                Ok(self.hear_request(now, to, name, want))
+                let name = PageName::new(*image, *version, *page);
+                Ok(self.hear_request(now, *to, name, *want))
             }
             Message::Packet {
                 image,
@@ -107,8 +139,8 @@ impl Mote {
                 bytes,
                 ..
             } => {
-                let name = PageName::new(image, version, page);
-                self.hear_packet(nor, now, draw, name, packet, &bytes)
+                let name = PageName::new(*image, *version, *page);
+                self.hear_packet(nor, now, draw, name, *packet, bytes)
             }
         }
     }

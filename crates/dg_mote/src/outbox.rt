@@ -1,41 +1,58 @@
 //! The frame that a mote sends.
-ghost use Rattle.std.specs.Prelude.{◌≡◌, Bool, true, Some, None, option_map};
+ghost use Rattle.std.specs.Prelude.{◌≡◌, true, IfSome};
+ghost use Rattle.std.proofs.Props.{props};
 ghost use Rattle.dg_frame.specs.Grammar.{in_range};
-ghost use Rattle.dg_frame.specs.Spelling.{frame_of};
-ghost use Rattle.dg_mote.specs.Motes.{sent_in, IsRead};
 
-use dg_frame::{Frame, Message, write};
+use dg_frame::{Frame, Message, is_read_back, write};
 use std::mem::size_of;
 
 /// The bytes that the value of an outbox takes in memory.
 pub const OUTBOX_SIZE: usize = size_of::<Outbox>();
 
-/// At most one frame.
+/// At most one frame. It is kept as its message, and its bytes are made where they are asked for: motes that hear it in the
+/// same memory need none.
 #[derive(Drop)]
 pub struct Outbox {
-    pub(crate) frame: Option<Frame>,
+    pub(crate) message: Option<Message>,
+    ghost ranged: { IfSome message (λ m. in_range true m ≡ true) } by { Prim.hlevel props },
 }
 
 impl Outbox {
+    ghost use Rattle.std.specs.Prelude.{◌≡◌, Bool, true, Some, None, IfSome, option_map};
+    ghost use Rattle.dg_frame.specs.Spelling.{frame_of};
+    ghost use Rattle.dg_mote.specs.Motes.{sent_in, IsRead};
+
     pub fn new() -> Outbox
         ensures { sent_in result ≡ None }
     {
-        Outbox { frame: None }
+        Outbox { message: None }
     }
 
     /// The frame, if there is one.
-    pub fn frame(&self) -> Option<&Frame>
-        ensures { option_map (λ f. f.now.items) result ≡ sent_in self.now }
+    pub fn frame(&self) -> Option<Frame>
+        ensures { option_map (λ f. f.items) result ≡ sent_in self.now }
     {
-        self.frame.as_ref()
+        match &self.message {
+            Some(message) => Some(write(message)),
+            None => None,
+        }
     }
 
-    /// Takes the frame out, if there is one.
-    pub fn take(&mut self) -> Option<Frame>
-        ensures taken { option_map (λ f. f.items) result ≡ sent_in self.old }
+    /// The message of the frame, if there is one.
+    pub fn message(&self) -> Option<&Message>
+        ensures value { option_map (λ m. frame_of m.now) result ≡ sent_in self.now }
+        ensures range { IfSome result (λ m. in_range true m.now ≡ true) }
+    {
+        self.message.as_ref()
+    }
+
+    /// Takes the frame out as its message, if there is one.
+    pub fn take(&mut self) -> Option<Message>
+        ensures taken { option_map frame_of result ≡ sent_in self.old }
+        ensures range { IfSome result (λ m. in_range true m ≡ true) }
         ensures empty { sent_in self.new ≡ None }
     {
-        self.frame.take()
+        self.message.take()
     }
 
     /// Puts the frame of a message in.
@@ -44,6 +61,9 @@ impl Outbox {
         ensures sent { sent_in self.new ≡ Some (frame_of message.now) }
         ensures read { (wide : Bool) → in_range wide message.now ≡ true → IsRead wide message.now }
     {
-        self.frame = Some(write(message));
+        is_read_back(message);
+        *self = Outbox {
+            message: Some(*message),
+        };
     }
 }

@@ -75,7 +75,7 @@ impl Node {
         a_mote_stays_timely();
         let mut out = Outbox::new();
         let did = self.mote.tick(&mut self.board, self.now, 0, &mut out)?;
-        Ok((did, out.take()))
+        Ok((did, out.frame()))
     }
 
     /// Hears a frame at a moment.

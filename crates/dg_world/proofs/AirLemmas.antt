@@ -4,7 +4,9 @@ use Rattle.std.specs.Prelude.{◌-◌, ◌==◌, slice_get, Option, Some, None}
 use Rattle.std.proofs.Math.ListN.{length-set}
 use Rattle.std.proofs.lemmas.Bool.{both_ways, le-leb}
 use Rattle.std.proofs.lemmas.List.{get_or-set_same, get_or-set_other, length-map, map-append, length-append}
-use Rattle.arrayvec.specs.ArrayVec.{ArrayVec}
+use Rattle.dg_frame.specs.Grammar.{in_range}
+use Rattle.dg_frame.specs.Spelling.{frame_of}
+use Rattle.dg_frame.specs.declared.Message.{Message}
 use Rattle.dg_rules.specs.Sizes.{most_motes}
 use Rattle.dg_rules.specs.World.{Sent, last_by}
 use Rattle.dg_world.specs.Airs.{Carries, sent_of, sent_now, frame_in, last_number}
@@ -70,11 +72,11 @@ module _ (old new : Air) (by n : ℕ) (before : List Sent) (s : Sent) (is_by : s
       ap (frame_in (before ++ s ∷ [])) n_is ∙ in_before before (s ∷ []) (last_number old m) (carries.numbers m h) ∙ carries.last m h
       ∙ ap (λ (b : Bool). cond b (Some s) (last_by m before None)) (sym (ap (λ (k : ℕ). k == m) is_by ∙ other)) ∙ sym (last_behind m before s None)
 
-pub pushed : (old new : Air) (by n : ℕ) (frame : ArrayVec ℕ) (before : List Sent) → (known : by < most_motes) → new.frames.items ≡ old.frames.items ++ record { by = by; frame = frame; known = known } ∷ [] → n ≡ length new.frames.items → new.last ≡ set old.last by n
-    → Carries old before → Carries new (before ++ sent_now by (Some frame.items))
-pushed old new by n frame before known is count last carries =
-    let s : Sent = record { by = by; bytes = frame.items } in
-    let f : SentFrame = record { by = by; frame = frame; known = known } in
+pub pushed : (old new : Air) (by n : ℕ) (message : Message) (before : List Sent) → (known : by < most_motes) → (ranged : in_range true message ≡ true) → new.frames.items ≡ old.frames.items ++ record { by = by; message = message; known = known; ranged = ranged } ∷ [] → n ≡ length new.frames.items → new.last ≡ set old.last by n
+    → Carries old before → Carries new (before ++ sent_now by (Some (frame_of message)))
+pushed old new by n message before known ranged is count last carries =
+    let s : Sent = record { by = by; bytes = frame_of message } in
+    let f : SentFrame = record { by = by; message = message; known = known; ranged = ranged } in
     let long : length before ≡ length old.frames.items = ap length (sym carries.frames) ∙ length-map old.frames.items sent_of in
     let longer : n ≡ suc (length before) = omega (arith, count, ap length is, length-append old.frames.items (f ∷ []), long) in
     record {

@@ -1,13 +1,14 @@
 -- The frames that the code keeps are those that were sent (docs/ARCHITECTURE.md, "The way of a script line").
 use Rattle.std.specs.Prelude.{◌≡◌, ℕ, ◌-◌, ◌<◌, ◌≤◌, nat_le, if◌then◌else◌, List, [], ◌∷◌, length, map, slice_get, slice_index_or}
 use Rattle.std.specs.Prelude.{Option, Some, None}
+use Rattle.dg_frame.specs.Spelling.{frame_of}
 use Rattle.dg_rules.specs.Sizes.{most_motes}
 use Rattle.dg_rules.specs.World.{Sent, last_by}
 use Rattle.dg_world.specs.declared.sent.SentFrame.{SentFrame}
 use Rattle.dg_world.specs.declared.air.Air.{Air}
 
 abbrev pub sent_of : SentFrame → Sent
-sent_of f = record { by = f.by; bytes = f.frame.items }
+sent_of f = record { by = f.by; bytes = frame_of f.message }
 
 -- a frame that a mote sends, if it does
 abbrev pub sent_now : ℕ → Option (List ℕ) → List Sent

@@ -1,6 +1,8 @@
 //! The frames that were sent.
-ghost use Rattle.std.specs.Prelude.{◌≡◌, ◌+◌, ◌<◌, ◌≤◌, ◌++◌, List, [], Some, None, length, vec_len, OnOk, option_map};
+ghost use Rattle.std.specs.Prelude.{◌≡◌, true, ◌+◌, ◌<◌, ◌≤◌, ◌++◌, List, [], Some, None, length, vec_len, OnOk, option_map};
 ghost use Rattle.std.specs.Vec.{vec_capacity};
+ghost use Rattle.dg_frame.specs.Grammar.{in_range};
+ghost use Rattle.dg_frame.specs.Spelling.{frame_of};
 ghost use Rattle.dg_mote.specs.Motes.{sent_in};
 ghost use Rattle.dg_rules.specs.Sizes.{most_motes};
 ghost use Rattle.dg_rules.specs.World.{Sent, last_by};
@@ -8,7 +10,7 @@ ghost use Rattle.dg_world.specs.Airs.{Carries, sent_of, sent_now, frame_in};
 
 use crate::links::MOST_MOTES;
 use crate::sent::SentFrame;
-use dg_frame::Frame;
+use dg_frame::Message;
 use dg_mote::Outbox;
 use std::alloc::{AllocError, Global};
 
@@ -42,23 +44,25 @@ impl Air {
     }
 
     /// A mote sends the frame of its outbox, if there is one, which gets the next number. There is capacity for it.
-    pub(crate) fn send(&mut self, by: u8, outbox: &mut Outbox)
+    pub(crate) fn send(&mut self, by: u8, outbox: &Outbox)
         requires known { by < most_motes }
         requires capacity { vec_len self.old.frames + 1 ≤ vec_capacity self.old.frames }
-        ensures { (before : List Sent) → Carries self.old before → Carries self.new (before ++ sent_now by (sent_in outbox.old)) }
+        ensures { (before : List Sent) → Carries self.old before → Carries self.new (before ++ sent_now by (sent_in outbox.now)) }
     {
-        if let Some(frame) = outbox.take() {
-            self.push(by, frame);
+        if let Some(message) = outbox.message() {
+            self.push(by, *message);
         }
     }
 
-    /// A mote sends a frame. There is capacity for it.
-    fn push(&mut self, by: u8, frame: Frame)
+    /// A mote sends the frame of a message. There is capacity for it.
+    fn push(&mut self, by: u8, message: Message)
         requires known { by < most_motes }
+        requires range { in_range true message ≡ true }
         requires capacity { vec_len self.old.frames + 1 ≤ vec_capacity self.old.frames }
-        ensures { (before : List Sent) → Carries self.old before → Carries self.new (before ++ sent_now by (Some frame.items)) }
+        ensures { (before : List Sent) → Carries self.old before
+            → Carries self.new (before ++ sent_now by (Some (frame_of message))) }
     {
-        self.frames.push_reserved(SentFrame { by, frame });
+        self.frames.push_reserved(SentFrame { by, message });
         self.last[usize::from(by)] = self.frames.len();
     }
 

@@ -67,7 +67,7 @@ impl World {
             Ok(()) => {
                 self.moment = moment;
                 self.events += 1;
-                self.shared.air.send(mote, &mut self.outcome.outbox);
+                self.shared.air.send(mote, &self.outcome.outbox);
                 let orderly = known_after(runs, self.outcome.orderly, is_watched(known, makes));
                 note(&mut self.known, mote, orderly);
                 Ok(())

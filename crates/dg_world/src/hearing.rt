@@ -1,5 +1,7 @@
 //! A mote hears a frame.
-ghost use Rattle.std.specs.Prelude.{◌≡◌, ◌^◌, ◌<◌, ℕ, if◌then◌else◌, Option, Some, None, OnOk, OnErr, IsTrue};
+ghost use Rattle.std.specs.Prelude.{◌≡◌, ◌^◌, ◌<◌, ℕ, true, if◌then◌else◌, Option, Some, None, OnOk, OnErr, IsTrue};
+ghost use Rattle.dg_frame.specs.Grammar.{in_range};
+ghost use Rattle.dg_frame.specs.Spelling.{frame_of};
 ghost use Rattle.dg_rules.specs.World.{World as RuleWorld, site, store_at, frame_at, linked, last_frame};
 ghost use Rattle.dg_rules.specs.Events.{Refuses, hear_by, heard_sent, heard_last, unless_off};
 ghost use Rattle.dg_rules.specs.Sizes.{most_motes};
@@ -15,6 +17,7 @@ use crate::chip_report::report_chip;
 use crate::occasion::Occasion;
 use crate::outcome::{Fault, Outcome};
 use crate::world::RunningMote;
+use dg_frame::Message;
 use dg_mote::Heard;
 use dg_nor::{Nor, Stopped};
 use dg_rules::Cause;
@@ -74,6 +77,46 @@ pub(crate) fn hear<N: Nor>(
     }
 }
 
+/// The frame of a message that was sent is heard in the same way.
+pub(crate) fn hear_sent<N: Nor>(
+    runs: &mut Option<RunningMote>,
+    now: u64,
+    draw: u32,
+    message: &Message,
+    board: &mut N,
+    outcome: &mut Outcome,
+) -> Result<(), Fault>
+    requires mote { MayRun (N.device board.old).image now runs.old }
+    requires moment { now < 2 ^ 62 }
+    requires range { in_range true message.now ≡ true }
+    requires nothing { IsNothing outcome.old }
+    ensures ends { (w : RuleWorld) (m : ℕ) → SiteStands (N.device board.old) runs.old (site w m)
+        → OutcomeEnds (as_outcome result outcome.new) w m
+        (hear_by w (store_at w m) (site w m).runs now draw (frame_of message.now))
+        (host (N.device board.old) runs.old) (host (N.device board.new) runs.new) }
+    ensures unseen { (w : RuleWorld) (m : ℕ) → SiteStands (N.device board.old) runs.old (site w m)
+        → RefusesUnseen (hear_by w (store_at w m) (site w m).runs now draw (frame_of message.now))
+        → (board.new ≡ board.old) × OnErr result ⊥ }
+    ensures sees { OnOk result (SeesMote outcome.new runs.new (N.device board.old).image (N.device board.new).image) }
+    ensures same_reference { (N.device board.new).references ≡ (N.device board.old).references }
+{
+    let Some(running) = runs else {
+        outcome.refused = Some(Cause::Off);
+        return Ok(());
+    };
+    outcome.before = Some(report_chip(running.mote.volume()));
+    match running.mote.hear_sent(board, now, draw, message) {
+        Ok(heard) => {
+            if leaves_chip(heard) {
+                return Ok(());
+            }
+            outcome.after = Some(report_chip(running.mote.volume()));
+            Ok(())
+        }
+        Err(Stopped) => Err(Fault::Stopped),
+    }
+}
+
 /// The frame with a number is heard, if it was sent, and by a neighbour.
 pub(crate) fn hear_numbered<N: Nor>(
     occasion: &Occasion<'_>,
@@ -110,14 +153,7 @@ pub(crate) fn hear_numbered<N: Nor>(
         }
         Some(sent) => {
             if occasion.shared.links.are_joined(sent.by, occasion.mote) {
-                hear(
-                    runs,
-                    occasion.moment,
-                    draw,
-                    sent.frame.as_slice(),
-                    board,
-                    outcome,
-                )
+                hear_sent(runs, occasion.moment, draw, &sent.message, board, outcome)
             } else {
                 outcome.refused = Some(Cause::Link);
                 Ok(())
@@ -165,13 +201,6 @@ pub(crate) fn hear_last<N: Nor>(
             outcome.refused = Some(Cause::Frame);
             Ok(())
         }
-        Some(sent) => hear(
-            runs,
-            occasion.moment,
-            draw,
-            sent.frame.as_slice(),
-            board,
-            outcome,
-        ),
+        Some(sent) => hear_sent(runs, occasion.moment, draw, &sent.message, board, outcome),
     }
 }

@@ -71,7 +71,7 @@ fn clear_value<T: Copy>(value: &mut Option<T>)
 fn clear_outbox(outbox: &mut Outbox)
     ensures { sent_in outbox.new ≡ None }
 {
-    if outbox.frame().is_some() {
+    if outbox.message().is_some() {
         *outbox = Outbox::new();
     }
 }

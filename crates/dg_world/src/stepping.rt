@@ -7,7 +7,8 @@ ghost use Rattle.dg_nor.specs.Device.{Took};
 ghost use Rattle.dg_volume.specs.Remount.{RemountBytes};
 ghost use Rattle.dg_volume.specs.Store.{Store};
 ghost use Rattle.dg_volume.specs.Stands.{Stands, Tells};
-ghost use Rattle.dg_frame.specs.Grammar.{message_of};
+ghost use Rattle.dg_frame.specs.Grammar.{in_range, message_of};
+ghost use Rattle.dg_frame.specs.Spelling.{frame_of};
 ghost use Rattle.dg_rules.specs.Sizes.{most_motes};
 ghost use Rattle.dg_rules.specs.World.{World as RuleWorld};
 ghost use Rattle.dg_rules.specs.Changes.{sent_line, is_reported};
@@ -26,7 +27,7 @@ use crate::mounting::mount_known;
 use crate::occasion::Occasion;
 use crate::outcome::{Fault, Outcome, Power, StartLine};
 use crate::world::RunningMote;
-use dg_frame::{Frame, Message, read};
+use dg_frame::{Message, is_read_back};
 use dg_mote::Outbox;
 use dg_nor::Nor;
 use dg_rules::{Cause, Cut, Event, Report};
@@ -40,8 +41,8 @@ fn push_outcome(mote: u8, outcome: &Outcome, reported: bool, out: &mut Vec<Repor
     requires capacity { vec_len out.old + MOST_CHANGES ≤ vec_capacity out.old }
     ensures { out.new.items ≡ out.old.items ++ filter (is_reported reported) (outcome_lines mote (outcome_of outcome.now)) }
 {
-    if let Some(frame) = outcome.outbox.frame() {
-        push_sent(mote, frame, reported, out);
+    if let Some(message) = outcome.outbox.message() {
+        push_sent(mote, message, reported, out);
     } else if let Some(cause) = outcome.refused {
         push_refused(mote, cause, out);
     } else if let Some(line) = outcome.started {
@@ -51,27 +52,27 @@ fn push_outcome(mote: u8, outcome: &Outcome, reported: bool, out: &mut Vec<Repor
     }
 }
 
-/// Appends the line on a frame where it is wanted.
-fn push_sent(mote: u8, frame: &Frame, reported: bool, out: &mut Vec<Report>)
+/// Appends the line on the frame of a message where it is wanted.
+fn push_sent(mote: u8, message: &Message, reported: bool, out: &mut Vec<Report>)
+    requires range { in_range true message.now ≡ true }
     requires capacity { vec_len out.old + 1 ≤ vec_capacity out.old }
-    ensures reported { out.new.items
-        ≡ out.old.items ++ filter (is_reported reported) (frame_lines mote (message_of frame.now.items true)) }
+    ensures reported { out.new.items ≡ out.old.items
+        ++ filter (is_reported reported) (frame_lines mote (message_of (frame_of message.now) true)) }
     ensures capacity { vec_capacity out.new ≡ vec_capacity out.old }
     ensures few { vec_len out.new ≤ vec_len out.old + 1 }
 {
     if reported {
-        push_line(sent_line(mote, frame), out);
+        push_line(sent_line(mote, message), out);
     }
 }
 
-/// The line on a frame.
-fn sent_line(mote: u8, frame: &Frame) -> Option<Report>
-    ensures { option_to_list result ≡ frame_lines mote (message_of frame.now.items true) }
+/// The line on the frame of a message.
+fn sent_line(mote: u8, message: &Message) -> Option<Report>
+    requires { in_range true message.now ≡ true }
+    ensures { option_to_list result ≡ frame_lines mote (message_of (frame_of message.now) true) }
 {
-    match read(frame.as_slice(), true) {
-        Ok(message) => Some(message_line(mote, &message)),
-        Err(_) => None,
-    }
+    is_read_back(message);
+    Some(message_line(mote, message))
 }
 
 fn message_line(mote: u8, message: &Message) -> Report

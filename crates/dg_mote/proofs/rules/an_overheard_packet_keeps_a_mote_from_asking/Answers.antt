@@ -1,8 +1,7 @@
-use Rattle.std.proofs.Common.{ℕ, ◌+◌, sym, subst, arith}
+use Rattle.std.proofs.Common.{◌+◌, sym, subst, arith}
 use Rattle.dg_quiet.specs.Times.{packet_window}
 use Rattle.dg_quiet.specs.Noted.{Noted, with_packet}
 use Rattle.dg_mote.specs.Model.{MoteStep}
-use Rattle.dg_mote.specs.Hears.{heard_of}
 use Rattle.dg_mote.specs.Rules.{AsksNotFor}
 use Rattle.dg_mote.specs.declared.mote.Heard.{Heard}
 use Rattle.dg_mote.proofs.QuietLemmas.{IsQuiet, IsNoted, got_noted, packet_shuts}

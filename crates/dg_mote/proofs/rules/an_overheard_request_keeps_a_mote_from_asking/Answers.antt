@@ -1,8 +1,7 @@
-use Rattle.std.proofs.Common.{ℕ, ◌+◌, sym, subst, arith}
+use Rattle.std.proofs.Common.{◌+◌, sym, subst, arith}
 use Rattle.dg_quiet.specs.Times.{request_window}
 use Rattle.dg_quiet.specs.Noted.{Noted, with_request}
 use Rattle.dg_mote.specs.Model.{MoteStep}
-use Rattle.dg_mote.specs.Hears.{heard_of}
 use Rattle.dg_mote.specs.declared.mote.Heard.{Heard}
 use Rattle.dg_mote.proofs.QuietLemmas.{IsQuiet, IsNoted, got_noted, request_shuts}
 use Rattle.dg_mote.proofs.OverheardLemmas.{after_noted}

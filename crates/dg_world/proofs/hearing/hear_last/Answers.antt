@@ -1,6 +1,7 @@
 use Rattle.std.proofs.Common.{◌≡◌, Bool, true, false, List, ℕ, Some, Ok, refl, sym, ap, ◌∙◌}
 use Rattle.std.specs.Prelude.{if◌then◌else◌, Option}
 use Rattle.dg_nor.proofs.ReadLemmas.{Looked-none}
+use Rattle.dg_frame.specs.Spelling.{frame_of}
 use Rattle.dg_rules.specs.World.{Sent, site, store_at, last_frame, linked}
 use Rattle.dg_rules.specs.Events.{Does, Refuses, hear_by, heard_last}
 use Rattle.dg_script.specs.declared.report.Cause.TheVariants as cause
@@ -43,28 +44,27 @@ pub returns-in-Some-clause-ends : goal.returns-in-Some-clause-ends
 returns-in-Some-clause-ends g c = λ w is stands.
     let m = c.args.occasion.now.mote in
     let v = c.args.runs.now in
-    let u = c.hear.new.runs in
+    let u = c.hear_sent.new.runs in
     let a = g.N.Nor.device c.args.board.now in
     let f = c.in-Some.sent.now in
-    let sent : Sent = record { by = f.by; bytes = f.frame.items } in
+    let sent : Sent = record { by = f.by; bytes = (frame_of f.message) } in
     let H : List ℕ → Does = λ bytes. hear_by w (store_at w m) (site w m).runs c.args.occasion.now.moment c.args.draw bytes in
     let D : Option Sent → Does = λ x. heard_last w c.args.from m c.args.occasion.now.moment c.args.draw x in
     let L : Bool → Does = λ b. if b then D (last_frame w c.args.from) else Refuses cause.Link in
     let near : linked w c.args.from m ≡ true = sym (c.are_joined.ensures w.links is.links) ∙ c.if-not-are_joined.false in
-    not_off (as_outcome c.hear.result c.hear.new.outcome) w c.args.occasion.now v u a _ m (L (linked w c.args.from m)) a.image (store_at w m) (site w m).runs stands.mote (none_told c.args.runs.now c.is_none.result false c.is_none.ensures c.if-is_none.false)
-    (ends_at L (linked w c.args.from m) true (as_outcome c.hear.result c.hear.new.outcome) w m v u a _ near
-    (ends_at D (last_frame w c.args.from) (Some sent) (as_outcome c.hear.result c.hear.new.outcome) w m v u a _ (sym (c.in-Some.ensures w.sent is.sent))
-    (ends_at H f.frame.items c.as_slice.result.now (as_outcome c.hear.result c.hear.new.outcome) w m v u a _ (sym c.as_slice.ensures.value) (c.hear.ensures.ends w m stands))))
+    not_off (as_outcome c.hear_sent.result c.hear_sent.new.outcome) w c.args.occasion.now v u a _ m (L (linked w c.args.from m)) a.image (store_at w m) (site w m).runs stands.mote (none_told c.args.runs.now c.is_none.result false c.is_none.ensures c.if-is_none.false)
+    (ends_at L (linked w c.args.from m) true (as_outcome c.hear_sent.result c.hear_sent.new.outcome) w m v u a _ near
+    (ends_at D (last_frame w c.args.from) (Some sent) (as_outcome c.hear_sent.result c.hear_sent.new.outcome) w m v u a _ (sym (c.in-Some.ensures w.sent is.sent))
+    (c.hear_sent.ensures.ends w m stands)))
 
 pub returns-in-Some-clause-unseen : goal.returns-in-Some-clause-unseen
 returns-in-Some-clause-unseen g c = λ w is stands unseen.
     let m = c.args.occasion.now.mote in
     let f = c.in-Some.sent.now in
-    let sent : Sent = record { by = f.by; bytes = f.frame.items } in
+    let sent : Sent = record { by = f.by; bytes = (frame_of f.message) } in
     let H : List ℕ → Does = λ bytes. hear_by w (store_at w m) (site w m).runs c.args.occasion.now.moment c.args.draw bytes in
     let D : Option Sent → Does = λ x. heard_last w c.args.from m c.args.occasion.now.moment c.args.draw x in
     let L : Bool → Does = λ b. if b then D (last_frame w c.args.from) else Refuses cause.Link in
     let near : linked w c.args.from m ≡ true = sym (c.are_joined.ensures w.links is.links) ∙ c.if-not-are_joined.false in
     let on = unless_unseen (L (linked w c.args.from m)) c.args.runs.now _ (store_at w m) (site w m).runs stands.mote (none_told c.args.runs.now c.is_none.result false c.is_none.ensures c.if-is_none.false) unseen in
-    c.hear.ensures.unseen w m stands (unseen_at H f.frame.items c.as_slice.result.now (sym c.as_slice.ensures.value)
-    (unseen_at D (last_frame w c.args.from) (Some sent) (sym (c.in-Some.ensures w.sent is.sent)) (unseen_at L (linked w c.args.from m) true near on)))
+    c.hear_sent.ensures.unseen w m stands ((unseen_at D (last_frame w c.args.from) (Some sent) (sym (c.in-Some.ensures w.sent is.sent)) (unseen_at L (linked w c.args.from m) true near on)))

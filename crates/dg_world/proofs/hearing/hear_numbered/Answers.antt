@@ -1,6 +1,7 @@
 use Rattle.std.proofs.Common.{◌≡◌, Bool, true, false, List, ℕ, Some, None, Ok, refl, sym, ap, ◌∙◌}
 use Rattle.std.specs.Prelude.{if◌then◌else◌, Option}
 use Rattle.dg_nor.proofs.ReadLemmas.{Looked-none}
+use Rattle.dg_frame.specs.Spelling.{frame_of}
 use Rattle.dg_rules.specs.World.{Sent, site, store_at, frame_at, linked}
 use Rattle.dg_rules.specs.Events.{Does, Refuses, hear_by, heard_sent}
 use Rattle.dg_script.specs.declared.report.Cause.TheVariants as cause
@@ -33,14 +34,14 @@ returns-then-are_joined-clause-ends g c = λ w is stands.
     let a = g.N.Nor.device c.args.board.now in
     let D : Option Sent → Does = λ x. heard_sent w m c.args.occasion.now.moment c.args.draw x in
     let f = c.in-Some.sent.now in
-    let sent : Sent = record { by = f.by; bytes = f.frame.items } in
+    let sent : Sent = record { by = f.by; bytes = (frame_of f.message) } in
     let H : List ℕ → Does = λ bytes. hear_by w (store_at w m) (site w m).runs c.args.occasion.now.moment c.args.draw bytes in
-    let L : Bool → Does = λ b. if b then H f.frame.items else Refuses cause.Link in
+    let L : Bool → Does = λ b. if b then H (frame_of f.message) else Refuses cause.Link in
     let near : linked w f.by m ≡ true = sym (c.are_joined.ensures w.links is.links) ∙ c.if-are_joined.true in
-    not_off (as_outcome c.hear.result c.hear.new.outcome) w c.args.occasion.now v c.hear.new.runs a _ m (D (frame_at w c.args.number)) a.image (store_at w m) (site w m).runs stands.mote (none_told c.args.runs.now c.is_none.result false c.is_none.ensures c.if-is_none.false)
-    (ends_at D (frame_at w c.args.number) (Some sent) (as_outcome c.hear.result c.hear.new.outcome) w m v c.hear.new.runs a _ (sym (c.in-Some.ensures w.sent is.sent))
-    (ends_at L (linked w f.by m) true (as_outcome c.hear.result c.hear.new.outcome) w m v c.hear.new.runs a _ near
-    (ends_at H f.frame.items c.as_slice.result.now (as_outcome c.hear.result c.hear.new.outcome) w m v c.hear.new.runs a _ (sym c.as_slice.ensures.value) (c.hear.ensures.ends w m stands))))
+    not_off (as_outcome c.hear_sent.result c.hear_sent.new.outcome) w c.args.occasion.now v c.hear_sent.new.runs a _ m (D (frame_at w c.args.number)) a.image (store_at w m) (site w m).runs stands.mote (none_told c.args.runs.now c.is_none.result false c.is_none.ensures c.if-is_none.false)
+    (ends_at D (frame_at w c.args.number) (Some sent) (as_outcome c.hear_sent.result c.hear_sent.new.outcome) w m v c.hear_sent.new.runs a _ (sym (c.in-Some.ensures w.sent is.sent))
+    (ends_at L (linked w f.by m) true (as_outcome c.hear_sent.result c.hear_sent.new.outcome) w m v c.hear_sent.new.runs a _ near
+    (c.hear_sent.ensures.ends w m stands)))
 
 pub returns-else-are_joined-clause-ends : goal.returns-else-are_joined-clause-ends
 returns-else-are_joined-clause-ends g c = λ w is stands.
@@ -49,8 +50,8 @@ returns-else-are_joined-clause-ends g c = λ w is stands.
     let a = g.N.Nor.device c.args.board.now in
     let D : Option Sent → Does = λ x. heard_sent w m c.args.occasion.now.moment c.args.draw x in
     let f = c.in-Some.sent.now in
-    let sent : Sent = record { by = f.by; bytes = f.frame.items } in
-    let L : Bool → Does = λ b. if b then hear_by w (store_at w m) (site w m).runs c.args.occasion.now.moment c.args.draw f.frame.items else Refuses cause.Link in
+    let sent : Sent = record { by = f.by; bytes = (frame_of f.message) } in
+    let L : Bool → Does = λ b. if b then hear_by w (store_at w m) (site w m).runs c.args.occasion.now.moment c.args.draw (frame_of f.message) else Refuses cause.Link in
     let far : linked w f.by m ≡ false = sym (c.are_joined.ensures w.links is.links) ∙ c.if-are_joined.false in
     told_as w c.args.occasion.now.mote _ _ _ _ _ _ _ (is_refused _ _ _ _ _ c.requires.nothing.sent)
     (not_off (Ok (Refused cause.Link)) w c.args.occasion.now v v a a m (D (frame_at w c.args.number)) a.image (store_at w m) (site w m).runs stands.mote (none_told c.args.runs.now c.is_none.result false c.is_none.ensures c.if-is_none.false)
@@ -61,10 +62,9 @@ returns-then-are_joined-clause-unseen g c = λ w is stands unseen.
     let m = c.args.occasion.now.mote in
     let D : Option Sent → Does = λ x. heard_sent w m c.args.occasion.now.moment c.args.draw x in
     let f = c.in-Some.sent.now in
-    let sent : Sent = record { by = f.by; bytes = f.frame.items } in
+    let sent : Sent = record { by = f.by; bytes = (frame_of f.message) } in
     let H : List ℕ → Does = λ bytes. hear_by w (store_at w m) (site w m).runs c.args.occasion.now.moment c.args.draw bytes in
-    let L : Bool → Does = λ b. if b then H f.frame.items else Refuses cause.Link in
+    let L : Bool → Does = λ b. if b then H (frame_of f.message) else Refuses cause.Link in
     let near : linked w f.by m ≡ true = sym (c.are_joined.ensures w.links is.links) ∙ c.if-are_joined.true in
     let on = unless_unseen (D (frame_at w c.args.number)) c.args.runs.now _ (store_at w m) (site w m).runs stands.mote (none_told c.args.runs.now c.is_none.result false c.is_none.ensures c.if-is_none.false) unseen in
-    c.hear.ensures.unseen w m stands (unseen_at H f.frame.items c.as_slice.result.now (sym c.as_slice.ensures.value)
-    (unseen_at L (linked w f.by m) true near (unseen_at D (frame_at w c.args.number) (Some sent) (sym (c.in-Some.ensures w.sent is.sent)) on)))
+    c.hear_sent.ensures.unseen w m stands ((unseen_at L (linked w f.by m) true near (unseen_at D (frame_at w c.args.number) (Some sent) (sym (c.in-Some.ensures w.sent is.sent)) on)))

@@ -1,6 +1,7 @@
 use Rattle.std.proofs.Common.{◌≡◌, List, ◌++◌, ap, sym, ◌∙◌}
 use Rattle.std.specs.Prelude.{option_map}
 use Rattle.std.specs.List.{filter}
+use Rattle.dg_frame.specs.Spelling.{frame_of}
 use Rattle.dg_rules.specs.Changes.{is_reported}
 use Rattle.dg_script.specs.declared.report.Report.{Report}
 use Rattle.dg_world.specs.EventOutcomes.{EventOutcome, Changes}
@@ -14,7 +15,7 @@ pub returns-in-Some-Some : goal.returns-in-Some-Some
 returns-in-Some-Some c =
     let e = c.in-Some-Some in
     let t = c.args.outcome.now in
-    let outcome : outcome_of t ≡ Changes e.before e.after = changes_of t e.before e.after (sym c.frame.ensures ∙ ap (λ f. option_map (λ x. x.now.items) f) c.in_default.is) c.in_default-refused.is c.in_default-started.is e.is-0 e.is-1 in
+    let outcome : outcome_of t ≡ Changes e.before e.after = changes_of t e.before e.after (sym c.message.ensures.value ∙ ap (λ f. option_map (λ x. frame_of x.now) f) c.in_default.is) c.in_default-refused.is c.in_default-started.is e.is-0 e.is-1 in
     c.push_changes.ensures.reported
     ∙ ap (λ (l : List Report). c.args.out.now.items ++ l) (sym (changes_reported c.args.reported c.args.mote e.before e.after))
     ∙ ap (λ (x : EventOutcome). c.args.out.now.items ++ filter (is_reported c.args.reported) (outcome_lines c.args.mote x)) (sym outcome)

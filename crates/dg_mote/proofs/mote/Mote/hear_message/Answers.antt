@@ -38,24 +38,24 @@ pub returns-then-source-self-clause-done : goal.returns-then-source-self-clause-
 returns-then-source-self-clause-done g c m s is =
     let a = g.N.Nor.device c.args.nor.now in
     let v = c.args.self.now in
-    let e = own_source _ (source_of c.args.message) _ m.id c.source.ensures is.id c.if-source-self.true in
-    subst (λ (t : MoteStep Heard). Done t a a v heard.Dropped) (sym (chosen (source_of c.args.message == m.id) (dropped m s) (on_message m s c.args.now c.args.draw c.args.message) e)) (dropped_done a v m s is)
+    let e = own_source _ (source_of c.args.message.now) _ m.id c.source.ensures is.id c.if-source-self.true in
+    subst (λ (t : MoteStep Heard). Done t a a v heard.Dropped) (sym (chosen (source_of c.args.message.now == m.id) (dropped m s) (on_message m s c.args.now c.args.draw c.args.message.now) e)) (dropped_done a v m s is)
 
 pub returns-in-Advert-clause-done : goal.returns-in-Advert-clause-done
 returns-in-Advert-clause-done g c = if_ok c.hear_advert.result c.hear_advert.ensures.done (λ answer done m s is.
     let a = g.N.Nor.device c.args.nor.now in
     let b = g.N.Nor.device c.hear_advert.new.nor in
     let v = c.hear_advert.new.self in
-    let e = other_source _ (source_of c.args.message) _ m.id c.source.ensures is.id c.if-source-self.false in
-    subst (λ (t : MoteStep Heard). Done t a b v answer) (sym (passed (source_of c.args.message == m.id) (dropped m s) (on_message m s c.args.now c.args.draw c.args.message) e))
+    let e = other_source _ (source_of c.args.message.now) _ m.id c.source.ensures is.id c.if-source-self.false in
+    subst (λ (t : MoteStep Heard). Done t a b v answer) (sym (passed (source_of c.args.message.now == m.id) (dropped m s) (on_message m s c.args.now c.args.draw c.args.message.now) e))
     (subst (λ (y : Message). Done (on_message m s c.args.now c.args.draw y) a b v answer) (sym c.in-Advert.is) (done m s is)))
 
 pub returns-in-Advert-clause-stopped : goal.returns-in-Advert-clause-stopped
 returns-in-Advert-clause-stopped g c = on_err c.hear_advert.result c.hear_advert.ensures.stopped (λ stopped m s is.
     let a = g.N.Nor.device c.args.nor.now in
     let b = g.N.Nor.device c.hear_advert.new.nor in
-    let e = other_source _ (source_of c.args.message) _ m.id c.source.ensures is.id c.if-source-self.false in
-    subst (λ (t : MoteStep Heard). Stops t.trail a b) (sym (passed (source_of c.args.message == m.id) (dropped m s) (on_message m s c.args.now c.args.draw c.args.message) e))
+    let e = other_source _ (source_of c.args.message.now) _ m.id c.source.ensures is.id c.if-source-self.false in
+    subst (λ (t : MoteStep Heard). Stops t.trail a b) (sym (passed (source_of c.args.message.now == m.id) (dropped m s) (on_message m s c.args.now c.args.draw c.args.message.now) e))
     (subst (λ (y : Message). Stops (on_message m s c.args.now c.args.draw y).trail a b) (sym c.in-Advert.is) (stopped m s is)))
 
 pub returns-in-Request-clause-done : goal.returns-in-Request-clause-done
@@ -63,8 +63,8 @@ returns-in-Request-clause-done g c m s is =
     let x = c.in-Request in
     let a = g.N.Nor.device c.args.nor.now in
     let v = c.hear_request.new.self in
-    let e = other_source _ (source_of c.args.message) _ m.id c.source.ensures is.id c.if-source-self.false in
-    subst (λ (t : MoteStep Heard). Done t a a v c.hear_request.result) (sym (passed (source_of c.args.message == m.id) (dropped m s) (on_message m s c.args.now c.args.draw c.args.message) e))
+    let e = other_source _ (source_of c.args.message.now) _ m.id c.source.ensures is.id c.if-source-self.false in
+    subst (λ (t : MoteStep Heard). Done t a a v c.hear_request.result) (sym (passed (source_of c.args.message.now == m.id) (dropped m s) (on_message m s c.args.now c.args.draw c.args.message.now) e))
     (subst (λ (y : Message). Done (on_message m s c.args.now c.args.draw y) a a v c.hear_request.result) (sym c.in-Request.is) (rests_done (on_request m s c.args.now x.to (page_request x.image x.version x.page x.want)) a s v c.hear_request.result (subst (λ (n : PageName). ChipStays (on_request m s c.args.now x.to (page_request n.image n.version n.page x.want)) a.image s v c.hear_request.result) c.new-name.ensures (c.hear_request.ensures.rests a.image m s is))))
 
 pub returns-in-Packet-clause-done : goal.returns-in-Packet-clause-done
@@ -73,8 +73,8 @@ returns-in-Packet-clause-done g c = if_ok c.hear_packet.result c.hear_packet.ens
     let a = g.N.Nor.device c.args.nor.now in
     let b = g.N.Nor.device c.hear_packet.new.nor in
     let v = c.hear_packet.new.self in
-    let e = other_source _ (source_of c.args.message) _ m.id c.source.ensures is.id c.if-source-self.false in
-    subst (λ (t : MoteStep Heard). Done t a b v answer) (sym (passed (source_of c.args.message == m.id) (dropped m s) (on_message m s c.args.now c.args.draw c.args.message) e))
+    let e = other_source _ (source_of c.args.message.now) _ m.id c.source.ensures is.id c.if-source-self.false in
+    subst (λ (t : MoteStep Heard). Done t a b v answer) (sym (passed (source_of c.args.message.now == m.id) (dropped m s) (on_message m s c.args.now c.args.draw c.args.message.now) e))
     (subst (λ (y : Message). Done (on_message m s c.args.now c.args.draw y) a b v answer) (sym c.in-Packet.is) (subst (λ (n : PageName). Done (on_packet m.mode m s c.args.now c.args.draw (page_packet n.image n.version n.page x.packet x.bytes)) a b v answer) c.new-name-in-Packet.ensures (done m s is))))
 
 pub returns-in-Packet-clause-stopped : goal.returns-in-Packet-clause-stopped
@@ -82,8 +82,8 @@ returns-in-Packet-clause-stopped g c = on_err c.hear_packet.result c.hear_packet
     let x = c.in-Packet in
     let a = g.N.Nor.device c.args.nor.now in
     let b = g.N.Nor.device c.hear_packet.new.nor in
-    let e = other_source _ (source_of c.args.message) _ m.id c.source.ensures is.id c.if-source-self.false in
-    subst (λ (t : MoteStep Heard). Stops t.trail a b) (sym (passed (source_of c.args.message == m.id) (dropped m s) (on_message m s c.args.now c.args.draw c.args.message) e))
+    let e = other_source _ (source_of c.args.message.now) _ m.id c.source.ensures is.id c.if-source-self.false in
+    subst (λ (t : MoteStep Heard). Stops t.trail a b) (sym (passed (source_of c.args.message.now == m.id) (dropped m s) (on_message m s c.args.now c.args.draw c.args.message.now) e))
     (subst (λ (y : Message). Stops (on_message m s c.args.now c.args.draw y).trail a b) (sym c.in-Packet.is) (subst (λ (n : PageName). Stops (on_packet m.mode m s c.args.now c.args.draw (page_packet n.image n.version n.page x.packet x.bytes)).trail a b) c.new-name-in-Packet.ensures (stopped m s is))))
 
 pub returns-in-Wide-clause-done : goal.returns-in-Wide-clause-done
@@ -91,14 +91,14 @@ returns-in-Wide-clause-done g c = if_ok c.hear_advert-in-Wide.result c.hear_adve
     let a = g.N.Nor.device c.args.nor.now in
     let b = g.N.Nor.device c.hear_advert-in-Wide.new.nor in
     let v = c.hear_advert-in-Wide.new.self in
-    let e = other_source _ (source_of c.args.message) _ m.id c.source.ensures is.id c.if-source-self.false in
-    subst (λ (t : MoteStep Heard). Done t a b v answer) (sym (passed (source_of c.args.message == m.id) (dropped m s) (on_message m s c.args.now c.args.draw c.args.message) e))
+    let e = other_source _ (source_of c.args.message.now) _ m.id c.source.ensures is.id c.if-source-self.false in
+    subst (λ (t : MoteStep Heard). Done t a b v answer) (sym (passed (source_of c.args.message.now == m.id) (dropped m s) (on_message m s c.args.now c.args.draw c.args.message.now) e))
     (subst (λ (y : Message). Done (on_message m s c.args.now c.args.draw y) a b v answer) (sym c.in-Wide.is) (done m s is)))
 
 pub returns-in-Wide-clause-stopped : goal.returns-in-Wide-clause-stopped
 returns-in-Wide-clause-stopped g c = on_err c.hear_advert-in-Wide.result c.hear_advert-in-Wide.ensures.stopped (λ stopped m s is.
     let a = g.N.Nor.device c.args.nor.now in
     let b = g.N.Nor.device c.hear_advert-in-Wide.new.nor in
-    let e = other_source _ (source_of c.args.message) _ m.id c.source.ensures is.id c.if-source-self.false in
-    subst (λ (t : MoteStep Heard). Stops t.trail a b) (sym (passed (source_of c.args.message == m.id) (dropped m s) (on_message m s c.args.now c.args.draw c.args.message) e))
+    let e = other_source _ (source_of c.args.message.now) _ m.id c.source.ensures is.id c.if-source-self.false in
+    subst (λ (t : MoteStep Heard). Stops t.trail a b) (sym (passed (source_of c.args.message.now == m.id) (dropped m s) (on_message m s c.args.now c.args.draw c.args.message.now) e))
     (subst (λ (y : Message). Stops (on_message m s c.args.now c.args.draw y).trail a b) (sym c.in-Wide.is) (stopped m s is)))

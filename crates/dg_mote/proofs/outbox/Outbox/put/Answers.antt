@@ -1,5 +1,5 @@
 use Rattle.dg_frame.proofs.ReadingLemmas.{wider_range}
 use Rattle.dg_mote.proofs.outbox.Outbox.put.Goals as goal
 
-pub write-requires : goal.write-requires
-write-requires c = wider_range c.requires.0 c.args.message.now c.requires.1
+pub invariant_of-self : goal.invariant_of-self
+invariant_of-self c = record { ranged = wider_range c.requires.0 c.args.message.now c.requires.1 }
