@@ -6,7 +6,7 @@ use Rattle.std.proofs.lemmas.List.{drop_all, drop_more}
 use Rattle.std.proofs.lemmas.List.Sums.{fold-append}
 use Rattle.std.proofs.lemmas.List.Elements.{All-cons, All-head, All-nil, All-tail}
 use Rattle.std.proofs.lemmas.Nat.{mul-le, pow_pos, xor_block, xor_comm, xor_lt, xor_shr}
-use Rattle.dg_base.specs.declared.checksum_tables.TheConstants.{AFTER_1, AFTER_2, AFTER_3, AFTER_4, AFTER_5, AFTER_6, AFTER_7, AFTER_8}
+use Rattle.dg_base.specs.declared.checksum_tables.TheConstants.{AFTER}
 use Rattle.dg_base.specs.Crc.{crc_more, crc_of, generator, polynomial_of, product, shifted, times_x, with_byte}
 
 -- ---- sums of polynomials
@@ -98,38 +98,38 @@ shifted-low (suc n) r h =
 
 -- ---- one byte more
 
--- the tables
-pub after_1 : (v : ℕ) → v < 256 → get_or AFTER_1 v 0 ≡ shifted 8 (v * 2 ^ 8)
+-- the table
+pub after_1 : (v : ℕ) → v < 256 → get_or AFTER v 0 ≡ shifted 8 (v * 2 ^ 8)
 unfolding shifted times_x
-after_1 v h = eqb-true _ _ (agree_below_at (λ v. get_or AFTER_1 v 0 == shifted 8 (v * 2 ^ 8)) (λ _. true) 256 v refl h)
+after_1 v h = eqb-true _ _ (agree_below_at (λ v. get_or AFTER v 0 == shifted 8 (v * 2 ^ 8)) (λ _. true) 256 v refl h)
 
-pub after_2 : (v : ℕ) → v < 256 → get_or AFTER_2 v 0 ≡ shifted 16 (v * 2 ^ 8)
+pub after_2 : (v : ℕ) → v < 256 → get_or AFTER (256 + v) 0 ≡ shifted 16 (v * 2 ^ 8)
 unfolding shifted times_x
-after_2 v h = eqb-true _ _ (agree_below_at (λ v. get_or AFTER_2 v 0 == shifted 16 (v * 2 ^ 8)) (λ _. true) 256 v refl h)
+after_2 v h = eqb-true _ _ (agree_below_at (λ v. get_or AFTER (256 + v) 0 == shifted 16 (v * 2 ^ 8)) (λ _. true) 256 v refl h)
 
-pub after_3 : (v : ℕ) → v < 256 → get_or AFTER_3 v 0 ≡ shifted 24 (v * 2 ^ 8)
+pub after_3 : (v : ℕ) → v < 256 → get_or AFTER (512 + v) 0 ≡ shifted 24 (v * 2 ^ 8)
 unfolding shifted times_x
-after_3 v h = eqb-true _ _ (agree_below_at (λ v. get_or AFTER_3 v 0 == shifted 24 (v * 2 ^ 8)) (λ _. true) 256 v refl h)
+after_3 v h = eqb-true _ _ (agree_below_at (λ v. get_or AFTER (512 + v) 0 == shifted 24 (v * 2 ^ 8)) (λ _. true) 256 v refl h)
 
-pub after_4 : (v : ℕ) → v < 256 → get_or AFTER_4 v 0 ≡ shifted 32 (v * 2 ^ 8)
+pub after_4 : (v : ℕ) → v < 256 → get_or AFTER (768 + v) 0 ≡ shifted 32 (v * 2 ^ 8)
 unfolding shifted times_x
-after_4 v h = eqb-true _ _ (agree_below_at (λ v. get_or AFTER_4 v 0 == shifted 32 (v * 2 ^ 8)) (λ _. true) 256 v refl h)
+after_4 v h = eqb-true _ _ (agree_below_at (λ v. get_or AFTER (768 + v) 0 == shifted 32 (v * 2 ^ 8)) (λ _. true) 256 v refl h)
 
-pub after_5 : (v : ℕ) → v < 256 → get_or AFTER_5 v 0 ≡ shifted 40 (v * 2 ^ 8)
+pub after_5 : (v : ℕ) → v < 256 → get_or AFTER (1024 + v) 0 ≡ shifted 40 (v * 2 ^ 8)
 unfolding shifted times_x
-after_5 v h = eqb-true _ _ (agree_below_at (λ v. get_or AFTER_5 v 0 == shifted 40 (v * 2 ^ 8)) (λ _. true) 256 v refl h)
+after_5 v h = eqb-true _ _ (agree_below_at (λ v. get_or AFTER (1024 + v) 0 == shifted 40 (v * 2 ^ 8)) (λ _. true) 256 v refl h)
 
-pub after_6 : (v : ℕ) → v < 256 → get_or AFTER_6 v 0 ≡ shifted 48 (v * 2 ^ 8)
+pub after_6 : (v : ℕ) → v < 256 → get_or AFTER (1280 + v) 0 ≡ shifted 48 (v * 2 ^ 8)
 unfolding shifted times_x
-after_6 v h = eqb-true _ _ (agree_below_at (λ v. get_or AFTER_6 v 0 == shifted 48 (v * 2 ^ 8)) (λ _. true) 256 v refl h)
+after_6 v h = eqb-true _ _ (agree_below_at (λ v. get_or AFTER (1280 + v) 0 == shifted 48 (v * 2 ^ 8)) (λ _. true) 256 v refl h)
 
-pub after_7 : (v : ℕ) → v < 256 → get_or AFTER_7 v 0 ≡ shifted 56 (v * 2 ^ 8)
+pub after_7 : (v : ℕ) → v < 256 → get_or AFTER (1536 + v) 0 ≡ shifted 56 (v * 2 ^ 8)
 unfolding shifted times_x
-after_7 v h = eqb-true _ _ (agree_below_at (λ v. get_or AFTER_7 v 0 == shifted 56 (v * 2 ^ 8)) (λ _. true) 256 v refl h)
+after_7 v h = eqb-true _ _ (agree_below_at (λ v. get_or AFTER (1536 + v) 0 == shifted 56 (v * 2 ^ 8)) (λ _. true) 256 v refl h)
 
-pub after_8 : (v : ℕ) → v < 256 → get_or AFTER_8 v 0 ≡ shifted 64 (v * 2 ^ 8)
+pub after_8 : (v : ℕ) → v < 256 → get_or AFTER (1792 + v) 0 ≡ shifted 64 (v * 2 ^ 8)
 unfolding shifted times_x
-after_8 v h = eqb-true _ _ (agree_below_at (λ v. get_or AFTER_8 v 0 == shifted 64 (v * 2 ^ 8)) (λ _. true) 256 v refl h)
+after_8 v h = eqb-true _ _ (agree_below_at (λ v. get_or AFTER (1792 + v) 0 == shifted 64 (v * 2 ^ 8)) (λ _. true) 256 v refl h)
 
 pub crc_more-nil : (r : ℕ) → crc_more r [] ≡ r
 unfolding crc_more

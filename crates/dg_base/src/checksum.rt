@@ -2,9 +2,7 @@
 ghost use Rattle.std.specs.Prelude.{◌≡◌, ℕ, ◌+◌, ◌*◌, ◌^◌, ◌<◌, ◌≤◌, List, ◌++◌, length, drop, All, Bool, bit_xor};
 ghost use Rattle.dg_base.specs.Crc.{crc_more, crc_of, generator, polynomial_of, product, shifted, with_byte};
 
-use crate::checksum_tables::{
-    AFTER_1, AFTER_2, AFTER_3, AFTER_4, AFTER_5, AFTER_6, AFTER_7, AFTER_8,
-};
+use crate::checksum_tables::AFTER;
 
 /// The checksum of `bytes` by the polynomial x^16 + x^12 + x^5 + 1, start 0, most significant bit
 /// first, no final change.
@@ -22,11 +20,24 @@ pub fn crc16_more(before: u16, bytes: &[u8]) -> u16
 {
     let mut crc = before;
     let mut at = 0;
-    while bytes.len() - at >= 8 {
-        crc = with_eight(crc, bytes, at);
-        at += 8;
+    while bytes.len() - at >= 16 {
+        crc = with_sixteen(crc, bytes, at);
+        at += 16;
     }
-    with_rest(crc, bytes, at)
+    with_last(crc, bytes, at)
+}
+
+// The checksum with the bytes from `at` on: eight at once where there are eight, and then the others.
+#[inline(always)]
+fn with_last(before: u16, bytes: &[u8], at: usize) -> u16
+    requires { at ≤ length bytes.now }
+    ensures { result ≡ crc_more before (drop at bytes.now) }
+{
+    if bytes.len() - at >= 8 {
+        with_rest(with_eight(before, bytes, at), bytes, at + 8)
+    } else {
+        with_rest(before, bytes, at)
+    }
 }
 
 // The checksum with the bytes from `at` on: four at once where there are four, and the others one at a time.
@@ -64,6 +75,15 @@ fn with_byte(crc: u16, byte: u8) -> u16
     after_1(high ^ byte) ^ (crc << 8)
 }
 
+// The checksum with the sixteen bytes at `at`, in two halves.
+#[inline(always)]
+fn with_sixteen(crc: u16, bytes: &[u8], at: usize) -> u16
+    requires { at + 16 ≤ length bytes.now }
+    ensures { crc_more result (drop (at + 16) bytes.now) ≡ crc_more crc (drop at bytes.now) }
+{
+    with_eight(with_eight(crc, bytes, at), bytes, at + 8)
+}
+
 // The checksum with the eight bytes at `at`: the register stands over the first two.
 #[inline]
 fn with_eight(crc: u16, bytes: &[u8], at: usize) -> u16
@@ -96,56 +116,56 @@ fn with_four(crc: u16, bytes: &[u8], at: usize) -> u16
 fn after_1(byte: u8) -> u16
     ensures { result ≡ shifted 8 (byte * 2 ^ 8) }
 {
-    AFTER_1[byte as usize]
+    AFTER[byte as usize]
 }
 
 #[inline]
 fn after_2(byte: u8) -> u16
     ensures { result ≡ shifted 16 (byte * 2 ^ 8) }
 {
-    AFTER_2[byte as usize]
+    AFTER[256 + byte as usize]
 }
 
 #[inline]
 fn after_3(byte: u8) -> u16
     ensures { result ≡ shifted 24 (byte * 2 ^ 8) }
 {
-    AFTER_3[byte as usize]
+    AFTER[512 + byte as usize]
 }
 
 #[inline]
 fn after_4(byte: u8) -> u16
     ensures { result ≡ shifted 32 (byte * 2 ^ 8) }
 {
-    AFTER_4[byte as usize]
+    AFTER[768 + byte as usize]
 }
 
 #[inline]
 fn after_5(byte: u8) -> u16
     ensures { result ≡ shifted 40 (byte * 2 ^ 8) }
 {
-    AFTER_5[byte as usize]
+    AFTER[1024 + byte as usize]
 }
 
 #[inline]
 fn after_6(byte: u8) -> u16
     ensures { result ≡ shifted 48 (byte * 2 ^ 8) }
 {
-    AFTER_6[byte as usize]
+    AFTER[1280 + byte as usize]
 }
 
 #[inline]
 fn after_7(byte: u8) -> u16
     ensures { result ≡ shifted 56 (byte * 2 ^ 8) }
 {
-    AFTER_7[byte as usize]
+    AFTER[1536 + byte as usize]
 }
 
 #[inline]
 fn after_8(byte: u8) -> u16
     ensures { result ≡ shifted 64 (byte * 2 ^ 8) }
 {
-    AFTER_8[byte as usize]
+    AFTER[1792 + byte as usize]
 }
 
 /// The checksum is the remainder of the message, times x^16, by the generator. Over GF(2) the sum
