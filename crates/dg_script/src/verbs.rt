@@ -34,17 +34,28 @@ fn is_same(word: &[u8], other: &[u8]) -> bool
     word == other
 }
 
+// Whether a word has just these four letters. Most words of a script are so short.
+fn is_four(word: &[u8], letters: [u8; 4]) -> bool
+    ensures { result ≡ same word.now letters }
+{
+    word.len() == 4
+        && word[0] == letters[0]
+        && word[1] == letters[1]
+        && word[2] == letters[2]
+        && word[3] == letters[3]
+}
+
 // The verb of an event.
 fn event_verb(word: &[u8]) -> Option<Verb>
     ensures { result ≡ event_verb_in word.now }
 {
-    if is_same(word, b"tick") {
+    if is_four(word, *b"tick") {
         return Some(Verb::Tick);
     }
-    if is_same(word, b"last") {
+    if is_four(word, *b"last") {
         return Some(Verb::Last);
     }
-    if is_same(word, b"hear") {
+    if is_four(word, *b"hear") {
         return Some(Verb::Hear);
     }
     if is_same(word, b"frame") {

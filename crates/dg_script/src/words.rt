@@ -4,6 +4,10 @@ ghost use Rattle.dg_script.specs.Results.{each_as};
 ghost use Rattle.dg_script.specs.Words.{words_of, halves_of, one_of, two_of, three_of, four_of, five_of, six_of};
 
 use crate::fault::LineFault;
+use memchr::memchr;
+
+/// The most bytes of a short text: most lines are shorter.
+const SHORT: usize = 64;
 
 // How many spaces the text begins with.
 #[tactic(auto, using(crate::proofs::WordLemmas::words_after_space))]
@@ -20,18 +24,34 @@ fn spaces(text: &[u8]) -> usize
     text.len()
 }
 
-// How many bytes come before the first that is `stop`.
+// How many bytes come before the first that is `stop`. The bytes of a long text are looked at many at a time.
 fn length_before(text: &[u8], stop: u8) -> usize
     ensures bound { result ≤ length text.now }
     ensures word { (k : ℕ) → k < result → slice_index text.now k ≢ stop }
     ensures stops { result < length text.now → slice_index text.now result ≡ stop }
 {
+    if text.len() > SHORT {
+        return far_before(text, stop);
+    }
     for (count, byte) in text.iter().enumerate() {
         if *byte == stop {
             return count;
         }
     }
     text.len()
+}
+
+// The same, many bytes at a time.
+#[inline(never)]
+fn far_before(text: &[u8], stop: u8) -> usize
+    ensures bound { result ≤ length text.now }
+    ensures word { (k : ℕ) → k < result → slice_index text.now k ≢ stop }
+    ensures stops { result < length text.now → slice_index text.now result ≡ stop }
+{
+    match memchr(stop, text) {
+        Some(at) => at,
+        None => text.len(),
+    }
 }
 
 /// The bytes up to the first colon, and those behind it. None where there is no colon.
