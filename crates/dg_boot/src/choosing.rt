@@ -44,6 +44,9 @@ pub fn order_waits(volume: &Volume) -> bool
     ensures { (s : Store) → Tells volume.now s → result ≡ order_waits s }
 {
     let now = volume.snapshot();
+    if now.order.number == 0 {
+        return false;
+    }
     let whole = whole_version(&volume.kept(now.order.image));
     pending(&now, whole, volume.room())
 }

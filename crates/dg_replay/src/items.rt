@@ -118,6 +118,7 @@ pub fn play_event<N: Nor>(
 }
 
 /// Plays the events of a round. Their frames are not reported.
+#[inline(never)]
 pub fn play_round<N: Nor>(
     world: &mut World,
     a: u8,
@@ -180,6 +181,7 @@ fn play_sweep<N: Nor>(
 }
 
 /// Plays the events of so many sweeps over links.
+#[inline(never)]
 pub fn play_sweeps<N: Nor>(
     world: &mut World,
     links: &[(u8, u8)],

@@ -66,6 +66,7 @@ fn stop_at(line: u32, fault: LineFault) -> Stop
 }
 
 /// Reads the text of a line that stands at this place.
+#[inline(never)]
 pub fn next_line(alloc: Global, text: &[u8], number: u32, place: &Place) -> Result<Line, Stop>
     ensures { MatchResult result (LineFound place.now text.now) (NotFound place.now text.now number) }
 {

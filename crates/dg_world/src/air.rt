@@ -37,6 +37,18 @@ impl Air {
         ensures same { (sent : List Sent) → Carries self.old sent → Carries self.new sent }
         ensures capacity { OnOk result (vec_len self.new.frames + 1 ≤ vec_capacity self.new.frames) }
     {
+        if self.frames.len() < self.frames.capacity() {
+            return Ok(());
+        }
+        self.grow()
+    }
+
+    /// Makes the capacity anew.
+    #[inline(never)]
+    fn grow(&mut self) -> Result<(), AllocError>
+        ensures same { (sent : List Sent) → Carries self.old sent → Carries self.new sent }
+        ensures capacity { OnOk result (vec_len self.new.frames + 1 ≤ vec_capacity self.new.frames) }
+    {
         match self.frames.reserve(1) {
             Ok(()) => Ok(()),
             Err(_) => Err(AllocError),

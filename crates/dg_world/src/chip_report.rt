@@ -104,6 +104,7 @@ fn push_order(mote: u8, before: Order, after: Order, out: &mut Vec<Report>)
 }
 
 /// Appends the lines of what changed. There is capacity for them.
+#[inline(never)]
 pub(crate) fn push_changes(mote: u8, before: &ChipReport, after: &ChipReport, out: &mut Vec<Report>)
     requires capacity { vec_len out.old + MOST_CHANGES ≤ vec_capacity out.old }
     ensures reported { out.new.items ≡ out.old.items ++ change_lines mote before.now after.now }

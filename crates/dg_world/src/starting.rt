@@ -144,6 +144,7 @@ pub(crate) fn reset_here<N: Nor>(
 }
 
 /// A board starts for its order, and its mote is made anew.
+#[inline(never)]
 pub(crate) fn restart<N: Nor>(
     running: &mut RunningMote,
     id: u16,

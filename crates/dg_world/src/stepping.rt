@@ -37,6 +37,7 @@ use dg_volume::{Volume, a_volume_bounds_a_remount};
 pub(crate) const MOST_LINES: usize = MOST_CHANGES + 1;
 
 /// Appends the lines of what is reported. There is capacity for them.
+#[inline(always)]
 fn push_outcome(mote: u8, outcome: &Outcome, reported: bool, out: &mut Vec<Report>)
     requires capacity { vec_len out.old + MOST_CHANGES ≤ vec_capacity out.old }
     ensures { out.new.items ≡ out.old.items ++ filter (is_reported reported) (outcome_lines mote (outcome_of outcome.now)) }
@@ -111,6 +112,7 @@ fn message_line(mote: u8, message: &Message) -> Report
     }
 }
 
+#[inline(never)]
 fn push_refused(mote: u8, cause: Cause, out: &mut Vec<Report>)
     requires capacity { vec_len out.old + 1 ≤ vec_capacity out.old }
     ensures reported { out.new.items ≡ out.old.items ++ outcome_lines mote (Refused cause) }
@@ -120,6 +122,7 @@ fn push_refused(mote: u8, cause: Cause, out: &mut Vec<Report>)
     out.push_reserved(Report::Refused { mote, cause });
 }
 
+#[inline(never)]
 fn push_start(mote: u8, line: StartLine, out: &mut Vec<Report>)
     requires capacity { vec_len out.old + 1 ≤ vec_capacity out.old }
     ensures reported { out.new.items ≡ out.old.items ++ outcome_lines mote (Starts line) }
