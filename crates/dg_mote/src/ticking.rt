@@ -112,6 +112,39 @@ impl Mote {
                 let wide = self.wide;
                 Ok(maintain(self.id, wide, &self.volume, trickle, now, draw, out))
             }
+            Mode::Receive { .. } => self.tick_busy(nor, now, draw, out),
+            Mode::Transmit { .. } => self.tick_busy(nor, now, draw, out),
+        }
+    }
+
+    /// The same, apart from the ticks of a mote that maintains, which are most of them.
+    #[inline(never)]
+    fn tick_busy<N: Nor>(
+        &mut self,
+        nor: &mut N,
+        now: u64,
+        draw: u32,
+        out: &mut Outbox,
+    ) -> Result<Did, Stopped>
+        requires mote { (m : MoteState) × (s : Store) × IsMote (N.device nor.old).image self.old m s }
+        requires moment { now < 2 ^ 62 }
+        requires empty { sent_in out.old ≡ None }
+        ensures done { IfOk result (λ did. (m : MoteState) (s : Store) → IsMote (N.device nor.old).image self.old m s
+            → Done (mode_tick m.mode m s now draw) (N.device nor.old) (N.device nor.new) self.new did) }
+        ensures sent { OnOk result ((m : MoteState) (s : Store) → IsMote (N.device nor.old).image self.old m s
+            → sent_in out.new ≡ option_map frame_of (mode_tick m.mode m s now draw).sent) }
+        ensures read { OnOk result ((m : MoteState) (s : Store) → IsMote (N.device nor.old).image self.old m s
+            → IfSome (mode_tick m.mode m s now draw).sent (IsRead m.wide)) }
+        ensures same_reference { (N.device nor.new).references ≡ (N.device nor.old).references }
+        ensures stopped { OnErr result ((m : MoteState) (s : Store) → IsMote (N.device nor.old).image self.old m s
+            → Stops (mode_tick m.mode m s now draw).trail (N.device nor.old) (N.device nor.new)) }
+        ensures nothing_sent { OnErr result (sent_in out.new ≡ None) }
+    {
+        match &mut self.mode {
+            Mode::Maintain(trickle) => {
+                let wide = self.wide;
+                Ok(maintain(self.id, wide, &self.volume, trickle, now, draw, out))
+            }
             Mode::Receive {
                 version,
                 server,
