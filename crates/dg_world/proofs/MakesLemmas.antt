@@ -1,16 +1,16 @@
 -- Which events make a board known, and the set of those that are.
-use Rattle.std.proofs.Common.{◌≡◌, ◌≢◌, ℕ, ◌+◌, ◌||◌, ◌&&◌, not, eqb, Bool, true, false, refl, sym, ap, ◌∙◌, subst, arith}
-use Rattle.std.specs.Prelude.{Option, Some, None, ◌↔◌, if◌then◌else◌, ◌==◌}
+use Rattle.std.proofs.Common.{◌≡◌, ℕ, ◌+◌, ◌<◌, eqb, Bool, true, false, List, replicate, refl, sym, ap, ◌∙◌, subst, arith}
+use Rattle.std.specs.Prelude.{Option, Some, None, ◌↔◌, if◌then◌else◌, ◌==◌, slice_index_or}
 use Rattle.dg_object.specs.Object.{Row}
 use Rattle.dg_rules.specs.World.{World as RuleWorld, store_at, wide_at}
 use Rattle.dg_rules.specs.Events.{Does, Refuses, does, mote_of, knows, injects, orders, inject_row}
 use Rattle.dg_volume.specs.Changes.{order_refusal}
 use Rattle.dg_volume.specs.Table.{row_at}
 use Rattle.dg_control.specs.declared.snapshot.Order.{Order}
-use Rattle.dg_bits.proofs.SetLaws.{contains-none, contains-put, contains-without}
-use Rattle.dg_bits.specs.Sets.{Numbers}
-use Rattle.std.specs.FinSet as set
-use Rattle.std.proofs.lemmas.Bool.Decides.{nat_tests}
+use Rattle.std.proofs.Math.Decide.{dec_lt}
+use Rattle.std.proofs.Math.ListN.{get_or-eq_default}
+use Rattle.std.proofs.lemmas.List.{get_or-replicate, length-replicate}
+use Rattle.dg_rules.specs.Sizes.{most_motes}
 use Rattle.dg_base.specs.declared.events.Event.TheVariants.{Inject, Order as OrderEvent}
 use Rattle.dg_world.specs.Unseen.{RefusesUnseen}
 use Rattle.dg_world.proofs.UnseenLemmas.{image_unseen, order_by}
@@ -81,28 +81,11 @@ order_known_then w mote number image version dt draw m b at is = order_iff w mot
 pub inject_known_then : (w : RuleWorld) (mote image version dt draw m : ℕ) (b : Bool) → mote ≡ m → (b ≡ true) ↔ MakesKnown w (Inject m image version dt draw) → (b ≡ true) ↔ MakesKnown w (Inject mote image version dt draw)
 inject_known_then w mote image version dt draw m b at iff = subst (λ (k : ℕ). (b ≡ true) ↔ MakesKnown w (Inject k image version dt draw)) (sym at) iff
 
--- ---- the set of boards that are known
+-- ---- which boards are known
 
-pub put_in : (s : Numbers) (k : ℕ) → set.contains (set.insert s k) k ≡ true
-put_in s k = contains-put s k k ∙ grind (arith, nat_tests)
-
-pub put_others : (s : Numbers) (k q : ℕ) → q ≢ k → set.contains (set.insert s k) q ≡ set.contains s q
-put_others s k q other = contains-put s k q ∙ ap (λ b. b || set.contains s q) (not_same q k other)
+pub none_known : (xs : List Bool) → xs ≡ replicate most_motes false → (m : ℕ) → slice_index_or xs m false ≡ false
+none_known xs e m = ap (λ (ys : List Bool). slice_index_or ys m false) e ∙ by_case (dec_lt m most_motes)
   where
-    not_same : (q k : ℕ) → q ≢ k → eqb q k ≡ false
-    not_same q k other = grind (arith, nat_tests, other)
-
-pub taken_out : (s : Numbers) (k : ℕ) → set.contains (set.remove s k) k ≡ false
-taken_out s k = contains-without s k k ∙ ap (λ b. not b && set.contains s k) (same_as k)
-  where
-    same_as : (k : ℕ) → eqb k k ≡ true
-    same_as k = grind (arith, nat_tests)
-
-pub out_others : (s : Numbers) (k q : ℕ) → q ≢ k → set.contains (set.remove s k) q ≡ set.contains s q
-out_others s k q other = contains-without s k q ∙ ap (λ b. not b && set.contains s q) (not_same q k other)
-  where
-    not_same : (q k : ℕ) → q ≢ k → eqb q k ≡ false
-    not_same q k other = grind (arith, nat_tests, other)
-
-pub none_known : (s : Numbers) → s ≡ set.empty → (m : ℕ) → set.contains s m ≡ false
-none_known s e m = ap (λ (t : Numbers). set.contains t m) e ∙ contains-none m
+    by_case : Dec (m < most_motes) → slice_index_or (replicate most_motes false) m false ≡ false
+    by_case (yes less) = get_or-replicate most_motes m false false less
+    by_case (no more) = get_or-eq_default (replicate most_motes false) false (omega (arith, more, length-replicate most_motes false))

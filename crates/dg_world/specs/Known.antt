@@ -1,6 +1,5 @@
 -- Boards that are known: they may be mounted again by halving (docs/IMAGES.md, "Mounting again").
-use Rattle.std.specs.Prelude.{◌≡◌, ◌≢◌, ◌↔◌, ◌+◌, ◌*◌, ◌≤◌, ℕ, Bool, true, List, Option, Some, None}
-use Rattle.std.specs.FinSet as set
+use Rattle.std.specs.Prelude.{◌≡◌, ◌≢◌, ◌↔◌, ◌+◌, ◌*◌, ◌≤◌, ℕ, Bool, true, false, List, Option, Some, None, slice_index_or}
 use Rattle.dg_nor.specs.Device.{Device, Took}
 use Rattle.dg_control.specs.Sizes.{place_size}
 use Rattle.dg_slot.specs.Layout.{page_size}
@@ -28,7 +27,7 @@ pub record IsKnownChip (c : List ℕ) : Type 0 where
 
 -- the world knows the board of this mote
 abbrev pub known_of : World → ℕ → Bool
-known_of v m = set.contains v.known m
+known_of v m = slice_index_or v.known m false
 
 -- an event that is not refused as `reserved` or `image`
 pub record IsLookedInto (deed : Does) : Type 0 where

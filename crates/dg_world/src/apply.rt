@@ -11,7 +11,7 @@ ghost use Rattle.dg_world.specs.Outcomes.{halt_of};
 ghost use Rattle.dg_world.specs.declared.chip_report.ChipReport.{ChipReport};
 
 use crate::events::{dt_at, mote_at};
-use crate::knowing::{is_watched, known_after, makes_known, note};
+use crate::knowing::{has, is_watched, known_after, makes_known, note};
 use crate::occasion::Occasion;
 use crate::outcome::Fault;
 use crate::stepping::{MOST_LINES, step_at};
@@ -54,7 +54,7 @@ impl World {
         let moment = self.moment + u64::from(dt_at(event));
         let runs = &mut self.motes[index];
         let board = &mut boards[index];
-        let known = self.known.has(mote);
+        let known = has(&self.known, mote);
         let makes = makes_known(&self.shared, mote, event);
         let occasion = Occasion {
             shared: &self.shared,

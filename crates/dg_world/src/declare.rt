@@ -25,7 +25,6 @@ use crate::outcome::Outcome;
 use crate::shared::{Shared, mark};
 use crate::world::{DeclareFault, RunningMote, World};
 use dg_base::Bytes;
-use dg_bits::PageBits;
 use dg_rules::ImageVersion;
 use std::alloc::{AllocError, Global};
 
@@ -71,7 +70,7 @@ impl World {
                 air: Air::new(alloc),
             },
             motes,
-            known: PageBits::none(),
+            known: [false; MOST_MOTES],
             outcome: Outcome::new(),
         }
     }

@@ -1,6 +1,6 @@
 //! Which boards a world knows: those that may be mounted again by halving.
-ghost use Rattle.std.specs.Prelude.{◌||◌, ◌≡◌, ◌≢◌, ◌↔◌, ◌<◌, ℕ, List, Option, Some, None, IsTrue, true, length};
-ghost use Rattle.std.specs.FinSet as set;
+ghost use Rattle.std.specs.Prelude.{◌||◌, ◌≡◌, ◌≢◌, ◌↔◌, ◌<◌, ℕ, List, Option, Some, None, IsTrue, true, false, length};
+ghost use Rattle.std.specs.Prelude.{slice_index_or};
 ghost use Rattle.dg_nor.specs.Device.{Device};
 ghost use Rattle.dg_rules.specs.Sizes.{most_motes};
 ghost use Rattle.dg_rules.specs.World.{World as RuleWorld, wide_at};
@@ -14,7 +14,6 @@ use crate::injecting::knows;
 use crate::links::MOST_MOTES;
 use crate::shared::Shared;
 use crate::world::{RunningMote, World};
-use dg_bits::PageBits;
 use dg_rules::{Event, ImageVersion};
 
 impl World {
@@ -24,7 +23,7 @@ impl World {
         requires { (boards : List Device) × (w : RuleWorld) × IsWorld self.now boards w × (mote < length w.sites) }
         ensures { result ≡ known_of self.now mote }
     {
-        self.known.has(mote)
+        has(&self.known, mote)
     }
 }
 
@@ -85,15 +84,19 @@ pub(crate) fn known_after(runs: &Option<RunningMote>, seen: Option<bool>, known:
     }
 }
 
-/// Whether a board is known changes.
-pub(crate) fn note(boards: &mut PageBits<MOST_MOTES>, mote: u8, known: bool)
+/// Whether a board is known.
+pub(crate) fn has(boards: &[bool; MOST_MOTES], mote: u8) -> bool
     requires { mote < most_motes }
-    ensures here { set.contains boards.new mote ≡ known }
-    ensures others { (m : ℕ) → m ≢ mote → set.contains boards.new m ≡ set.contains boards.old m }
+    ensures value { result ≡ slice_index_or boards.now mote false }
 {
-    if known {
-        boards.set(mote);
-    } else {
-        boards.clear(mote);
-    }
+    boards[usize::from(mote)]
+}
+
+/// Whether a board is known changes.
+pub(crate) fn note(boards: &mut [bool; MOST_MOTES], mote: u8, known: bool)
+    requires { mote < most_motes }
+    ensures here { slice_index_or boards.new mote false ≡ known }
+    ensures others { (m : ℕ) → m ≢ mote → slice_index_or boards.new m false ≡ slice_index_or boards.old m false }
+{
+    boards[usize::from(mote)] = known;
 }

@@ -2,7 +2,6 @@
 use crate::links::MOST_MOTES;
 use crate::outcome::Outcome;
 use crate::shared::Shared;
-use dg_bits::PageBits;
 use dg_mote::Mote;
 use dg_rules::ImageVersion;
 
@@ -24,7 +23,7 @@ pub struct World {
     /// Each mote, None where it is off.
     pub(crate) motes: Vec<Option<RunningMote>>,
     /// The motes whose boards are known: they may be mounted again by halving.
-    pub(crate) known: PageBits<MOST_MOTES>,
+    pub(crate) known: [bool; MOST_MOTES],
     /// What comes of an event. It is kept for its memory alone: to fill so many bytes anew takes long beside most events.
     pub(crate) outcome: Outcome,
 }

@@ -1,8 +1,7 @@
 use Rattle.std.proofs.Common.{◌≡◌, ◌≢◌, ◌+◌, ◌<◌, ◌^◌, List, length, map, option_copied, Bool, true, ℕ, Ok, Err, sym, subst, inl, inr, ⊎_elim, refl, ap, ◌∙◌, arith}
-use Rattle.std.specs.Prelude.{Some, slice_get, slice_set}
+use Rattle.std.specs.Prelude.{Some, false, slice_get, slice_set, slice_index_or}
 use Rattle.std.specs.Vec.{with_item}
 use Rattle.std.proofs.lemmas.List.{map-set, length-map}
-use Rattle.std.specs.FinSet as set
 use Rattle.dg_control.specs.Store.{IsOrderlyChip}
 use Rattle.dg_rules.specs.World.{World as RuleWorld}
 use Rattle.dg_rules.specs.Events.{mote_of, dt_of}
@@ -118,8 +117,8 @@ returns-in-Ok g c =
           let was : (c.has-known.result ≡ true) → IsOrderlyChip a.image = λ known. (chip_at v bs w i c.mote_at-mote.result a is c.from-index.ensures (within w is) here (sym c.has-known.ensures.value ∙ known)).orderly in
           let iff = known_then w event c.has-known.result c.makes_known-makes.result c.known_after-orderly.result a b (c.makes_known-makes.ensures w is.shared (sym c.mote_at-mote.ensures)) was t.orderly c.step_at.new.runs
           (c.in-Ok.ensures.sees w (record { shared = is.shared; stands = stands w is; moment = now w is })) after (on_control b.image c.step_at.new.runs stepped.ends.here.store stepped.ends.here.runs stepped.ends.mote) in
-          let others : (k : ℕ) → k ≢ i → set.contains c.note.new.boards k ≡ known_of v k = λ k other. c.note.ensures.others k (λ e. other (e ∙ sym c.from-index.ensures)) in
-          let noted = ap (λ (j : ℕ). set.contains c.note.new.boards j) c.from-index.ensures ∙ c.note.ensures.here in
+          let others : (k : ℕ) → k ≢ i → slice_index_or c.note.new.boards k false ≡ known_of v k = λ k other. c.note.ensures.others k (λ e. other (e ∙ sym c.from-index.ensures)) in
+          let noted = ap (λ (j : ℕ). slice_index_or c.note.new.boards j false) c.from-index.ensures ∙ c.note.ensures.here in
           applied_at v _ bs _ w x c.args.reported i _ c.step_at.new.runs (sent_in t.outbox) _ b told c.step_at.new.out.items put is at (within w is) few short
           (record { moment_then = now w is; events = refl; images = refl; links = refl; narrow = refl; sends = λ before carries. sent_at c.mote_at-mote.result i (sent_in t.outbox) before c.send.new.self c.from-index.ensures (c.send.ensures before carries); motes = refl })
           (record { others = others; here = λ known. (iff.0 (sym noted ∙ known)).0 }) here stepped
@@ -130,8 +129,8 @@ returns-in-Ok g c =
           let was : (c.has-known.result ≡ true) → IsOrderlyChip a.image = λ known. (chip_at v bs w i c.mote_at-mote.result a is c.from-index.ensures (within w is) here (sym c.has-known.ensures.value ∙ known)).orderly in
           let iff = known_then w event c.has-known.result c.makes_known-makes.result c.known_after-orderly.result a b (c.makes_known-makes.ensures w is.shared (sym c.mote_at-mote.ensures)) was t.orderly c.step_at.new.runs
           (c.in-Ok.ensures.sees w (record { shared = is.shared; stands = stands w is; moment = now w is })) after (on_control b.image c.step_at.new.runs stepped.ends.here.store stepped.ends.here.runs stepped.ends.mote) in
-          let others : (k : ℕ) → k ≢ i → set.contains c.note.new.boards k ≡ known_of v k = λ k other. c.note.ensures.others k (λ e. other (e ∙ sym c.from-index.ensures)) in
-          let noted = ap (λ (j : ℕ). set.contains c.note.new.boards j) c.from-index.ensures ∙ c.note.ensures.here in
+          let others : (k : ℕ) → k ≢ i → slice_index_or c.note.new.boards k false ≡ known_of v k = λ k other. c.note.ensures.others k (λ e. other (e ∙ sym c.from-index.ensures)) in
+          let noted = ap (λ (j : ℕ). slice_index_or c.note.new.boards j false) c.from-index.ensures ∙ c.note.ensures.here in
           let told = c.has-known.ensures.value ∙ ap (λ (j : ℕ). known_of v j) (sym c.from-index.ensures) in
           knows_at v _ bs _ w event i b put is at (within w is) others (
             λ known. let y = iff.0 (sym noted ∙ known) in (y.0, ⊎_elim (λ h. inl (sym told ∙ h)) (λ h. inr h) y.1),
