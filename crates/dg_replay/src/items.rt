@@ -19,7 +19,7 @@ ghost use Rattle.dg_replay.specs.Stages.{boards_reported};
 use crate::stop::Stop;
 use dg_base::{Bytes, Cut, Event, ImageVersion};
 use dg_nor::Nor;
-use dg_rounds::round;
+use dg_rounds::{ROUND_EVENTS, RoundTurns};
 use dg_script::{Report, write_report};
 use dg_world::{DeclareFault, World, WorldFault};
 use std::alloc::AllocError;
@@ -133,8 +133,10 @@ pub fn play_round<N: Nor>(
         → ItemsPlayedAs result w (unreported (round a b)) world.new initial line_report.old.text.items
         (boards_reported (map N.device boards.new.items) line_report.new.text.items) }
 {
-    for event in round(a, b) {
-        play_event(world, &event, None, false, boards, line_report)?;
+    let turns = RoundTurns::new(a, b);
+    for position in 0..ROUND_EVENTS {
+        let event = turns.at(position);
+        play_event(world, event, None, false, boards, line_report)?;
     }
     Ok(())
 }
