@@ -6,6 +6,7 @@ use itoa::Buffer;
 use std::alloc::AllocError;
 
 /// The number that `bytes` write in decimal, without sign or leading zero, up to 4,294,967,295.
+#[inline(always)]
 pub fn parse_u32(bytes: &[u8]) -> Option<u32>
     ensures { result ≡ number_of bytes.now }
 {

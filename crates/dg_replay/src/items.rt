@@ -88,6 +88,7 @@ pub fn play_image(
 }
 
 /// Plays an event with the cut that waits for it. Its frame is reported where `reported` is true.
+#[inline(always)]
 pub fn play_event<N: Nor>(
     world: &mut World,
     event: &Event,

@@ -10,6 +10,7 @@ use dg_control::MOST_ROOM;
 
 /// A number.
 #[tactic(auto, unfolding(crate::specs::Fields::number_in))]
+#[inline(always)]
 pub fn number(word: &[u8]) -> Result<u32, LineFault>
     ensures { result ≡ number_in word.now }
 {

@@ -23,6 +23,7 @@ use dg_script::MOST_EVENTS;
 impl World {
     /// One step: an event, and the cut that waits for it. What is reported of it is appended, its `sent` line only where
     /// `reported` is true.
+    #[inline(always)]
     pub fn apply<N: Nor>(
         &mut self,
         boards: &mut Vec<N>,

@@ -23,6 +23,7 @@ use dg_nor::Nor;
 use dg_rules::{Event, ImageVersion};
 
 /// What an event does at the board of its mote, which runs `runs`. Where the board is known it is mounted again by halving.
+#[inline(always)]
 pub(crate) fn apply_event<N: Nor>(
     occasion: &Occasion<'_>,
     runs: &mut Option<RunningMote>,

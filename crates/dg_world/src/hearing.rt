@@ -40,6 +40,7 @@ fn leaves_chip(heard: Heard) -> bool
 }
 
 /// A frame is heard, where the mote is on: what its chip keeps is told by its own volume. One that is off refuses it.
+#[inline(never)]
 pub(crate) fn hear<N: Nor>(
     runs: &mut Option<RunningMote>,
     now: u64,
@@ -118,6 +119,7 @@ pub(crate) fn hear_sent<N: Nor>(
 }
 
 /// The frame with a number is heard, if it was sent, and by a neighbour.
+#[inline(never)]
 pub(crate) fn hear_numbered<N: Nor>(
     occasion: &Occasion<'_>,
     runs: &mut Option<RunningMote>,
@@ -163,6 +165,7 @@ pub(crate) fn hear_numbered<N: Nor>(
 }
 
 /// The last frame of a mote is heard, if it is a neighbour, and sent one.
+#[inline(always)]
 pub(crate) fn hear_last<N: Nor>(
     occasion: &Occasion<'_>,
     runs: &mut Option<RunningMote>,

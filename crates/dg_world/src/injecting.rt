@@ -160,6 +160,7 @@ pub(crate) fn knows(wide: bool, image: u8) -> bool
 }
 
 /// Injects this version of an image, if the mote knows the image and it was declared.
+#[inline(never)]
 pub(crate) fn inject_known<N: Nor>(
     occasion: &Occasion<'_>,
     runs: &mut Option<RunningMote>,

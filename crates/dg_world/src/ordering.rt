@@ -67,6 +67,7 @@ fn order<N: Nor>(
 }
 
 /// Keeps an order, if the mote knows the number of its image.
+#[inline(never)]
 pub(crate) fn order_known<N: Nor>(
     occasion: &Occasion<'_>,
     runs: &mut Option<RunningMote>,

@@ -114,6 +114,7 @@ pub(crate) fn reset<N: Nor>(
 }
 
 /// The board of the mote starts by power, where the event is applied.
+#[inline(never)]
 pub(crate) fn reset_here<N: Nor>(
     occasion: &Occasion<'_>,
     runs: &mut Option<RunningMote>,

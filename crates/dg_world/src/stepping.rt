@@ -54,6 +54,7 @@ fn push_outcome(mote: u8, outcome: &Outcome, reported: bool, out: &mut Vec<Repor
 }
 
 /// Appends the line on the frame of a message where it is wanted.
+#[inline(always)]
 fn push_sent(mote: u8, message: &Message, reported: bool, out: &mut Vec<Report>)
     requires range { in_range true message.now ≡ true }
     requires capacity { vec_len out.old + 1 ≤ vec_capacity out.old }
@@ -68,6 +69,7 @@ fn push_sent(mote: u8, message: &Message, reported: bool, out: &mut Vec<Report>)
 }
 
 /// The line on the frame of a message.
+#[inline(never)]
 fn sent_line(mote: u8, message: &Message) -> Option<Report>
     requires { in_range true message.now ≡ true }
     ensures { option_to_list result ≡ frame_lines mote (message_of (frame_of message.now) true) }
@@ -233,6 +235,7 @@ fn look_after_cut<N: Nor>(
 
 /// A step with this cut at the board of its mote, which is off after it where it blew. There is capacity for what is
 /// reported.
+#[inline(never)]
 fn step_cut<N: Nor>(
     occasion: &Occasion<'_>,
     runs: &mut Option<RunningMote>,
@@ -266,6 +269,7 @@ fn step_cut<N: Nor>(
 
 /// A step at the board of its mote, which runs `runs`. Its frame is left in the outbox. There is capacity for what is
 /// reported.
+#[inline(always)]
 pub(crate) fn step_at<N: Nor>(
     occasion: &Occasion<'_>,
     runs: &mut Option<RunningMote>,

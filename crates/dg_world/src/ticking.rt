@@ -56,6 +56,7 @@ fn tick_on<N: Nor>(
 }
 
 /// A tick.
+#[inline(always)]
 pub(crate) fn tick<N: Nor>(
     runs: &mut Option<RunningMote>,
     now: u64,
