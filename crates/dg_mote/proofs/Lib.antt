@@ -45,3 +45,4 @@ pub mod RoundAsk
 pub mod RoundFresh
 pub mod ReceivingLemmas
 pub mod ConsistentLemmas
+pub mod DueLemmas

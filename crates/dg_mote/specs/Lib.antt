@@ -2,6 +2,7 @@ pub mod Sizes
 pub mod Model
 pub mod Summary
 pub mod Ticks
+pub mod Dues
 pub mod Adverts
 pub mod Requests
 pub mod Packets

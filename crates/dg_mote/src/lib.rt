@@ -6,6 +6,7 @@
 
 mod adverts;
 mod changes;
+mod due;
 mod hearing;
 mod laws;
 mod mote;

@@ -32,7 +32,7 @@ use dg_trickle::{Act, Trickle};
 use dg_volume::Volume;
 
 /// A mote that runs so long clears the count of short starts, in milliseconds.
-const LONG_RUN: u64 = 5_000;
+pub(crate) const LONG_RUN: u64 = 5_000;
 
 impl Mote {
     /// Does what is due at this moment, the first that fits.

@@ -103,6 +103,13 @@ impl Asking {
         Ask::Request(without(&self.got))
     }
 
+    /// The moment before which there is nothing to do.
+    pub fn due(&self) -> u64
+        ensures { result ≡ self.now.due }
+    {
+        self.due
+    }
+
     /// Notes a packet that came in. A new one puts off the next request.
     pub fn accept(&mut self, now: u64, packet: u8) -> Accept
         requires moment { now < 2 ^ 62 }

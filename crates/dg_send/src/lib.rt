@@ -87,6 +87,13 @@ impl Serving {
         Serve::Send(packet)
     }
 
+    /// The moment before which no packet is sent.
+    pub fn due(&self) -> u64
+        ensures { result ≡ self.now.due }
+    {
+        self.due
+    }
+
     /// How many packets are left to send.
     pub fn left(&self) -> u8
         ensures { result ≡ set.len self.now.left }

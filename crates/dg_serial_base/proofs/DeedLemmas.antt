@@ -31,7 +31,11 @@ use Rattle.dg_serial_base.specs.declared.running.Running.{Running}
 use Rattle.dg_serial_base.specs.declared.stop.Stop.{Stop}
 use Rattle.dg_serial_base.specs.declared.stop.Stop.TheVariants as stop
 use Rattle.dg_serial_base.proofs.RunLemmas.{run_goes, sent_one, said_one}
-use Rattle.dg_serial_base.proofs.StartLemmas.{hear_leaves, hear_stops, hear_silent}
+use Rattle.dg_serial_base.proofs.StartLemmas.{effect_ends, frame_said}
+use Rattle.dg_node.specs.Hosts.{host}
+use Rattle.dg_node.specs.Nodes.{mote_in}
+use Rattle.dg_node.specs.Ends.{NodeEnd, NodeDone}
+use Rattle.dg_serial_base.specs.Stops.{result_of}
 use Rattle.dg_serial_base.proofs.WriteLemmas.{puts_then, puts_front_then}
 
 -- ---- one deed
@@ -40,7 +44,7 @@ module _ (b : Base) (s : Store) (done : List Deed) (d : Deed) (before : At) (v :
   abbrev e : Effect
   e = effect_of b stood.state before d
 
-  pub one_done : (u : Running) (new : Device) (frame : Option (List ℕ)) → IsTime u.timeline b (suc before.events) → frame ≡ option_map frame_of e.sent → IsLeft e new.image u.mote u.timeline.moment
+  pub one_done : (u : Running) (new : Device) (frame : Option (List ℕ)) → IsTime u.timeline b (suc before.events) → frame ≡ option_map frame_of e.sent → IsLeft e new.image (mote_in u.node) u.timeline.moment
       → DoneOne b s done d before (deed_left u new frame)
   one_done u new frame time sent left =
       record {
@@ -76,55 +80,32 @@ module _ (b : Base) (s : Store) (done : List Deed) (d : Deed) (before : At) (v :
   fails stop.TooLong new x = x
 
   pub deed_ends : (r : Result (Unit {0}) Stop) (u : Running) (new : Device) (frame : Option (List ℕ)) → IsTime u.timeline b (suc before.events)
-      → ((x : Unit {0}) → r ≡ Ok x → frame ≡ option_map frame_of e.sent) → EffectEnds r before.store e u.timeline.moment new u.mote → DeedEnds r b s done d before (deed_left u new frame)
+      → ((x : Unit {0}) → r ≡ Ok x → frame ≡ option_map frame_of e.sent) → EffectEnds r before.store e u.timeline.moment new (mote_in u.node) → DeedEnds r b s done d before (deed_left u new frame)
   deed_ends (Ok x) u new frame time sent ends = one_done u new frame time (sent x refl) ends
   deed_ends (Err why) u new frame time sent ends = fails why new ends
+
+  -- by what the node did
+  pub deed_done : (r : NodeEnd) (u : Running) (a new : Device) (frame : Option (List ℕ)) → IsTime u.timeline b (suc before.events) → Stands a.image before.store → NodeDone r frame e (host a (Some v.node)) (host new (Some u.node))
+      → IfSome e.mote (λ m. Timely m u.timeline.moment) → DeedEnds (result_of r) b s done d before (deed_left u new frame)
+  deed_done r u a new frame time stands x timely =
+      deed_ends (result_of r) u new frame time (frame_said frame e (Some v.node) a new r (Some u.node) x) (effect_ends frame e (Some v.node) a new r before.store u.node u.timeline.moment x stands timely)
 
 -- ---- a deed at the next moment
 
 pub timely_next : ((m : MoteState) (now then : ℕ) → now ≤ then → Timely m now → Timely m then) → (m : MoteState) (moment step new now : ℕ) → Timely m moment → now ≡ new → new ≡ moment + step → Timely m now
 timely_next law m moment step new now t p q = let le : moment ≤ now = omega (arith, p, q) in law m moment now le t
 
--- a frame is heard
-module _ (b : Base) (s : Store) (done : List Deed) (before : At) (v : Running) (c : List ℕ) (stood : Stood b s done v c before) (bytes : List ℕ) (now draw : ℕ)
-    (drawn : (now ≡ moment_at b before.events) × (draw ≡ draw_at b before.events)) where
-  frame_is : frame_effect stood.state before.store now draw bytes ≡ effect_of b stood.state before (Hears bytes)
-  frame_is =
-      ap (λ (x : ℕ). frame_effect stood.state before.store x draw bytes) drawn.0
-      ∙ ap (λ (x : ℕ). frame_effect stood.state before.store (moment_at b before.events) x bytes) drawn.1
+-- the node did this at that moment
+module _ (b : Base) (s : Store) (done : List Deed) (before : At) (v : Running) (c : List ℕ) (stood : Stood b s done v c before) (d : Deed) (at : ℕ → ℕ → Effect) (now draw : ℕ)
+    (drawn : (now ≡ moment_at b before.events) × (draw ≡ draw_at b before.events)) (means : at (moment_at b before.events) (draw_at b before.events) ≡ effect_of b stood.state before d) where
+  effect_is : at now draw ≡ effect_of b stood.state before d
+  effect_is = ap (λ (x : ℕ). at x draw) drawn.0 ∙ ap (λ (x : ℕ). at (moment_at b before.events) x) drawn.1 ∙ means
 
-  pub hear_done : Timely stood.state now → ((m : MoteState) (s : Store) (now draw : ℕ) (bytes : List ℕ) → Timely m now → Timely (heard_of m s now draw bytes).mote now)
-      → (u : Running) (old new : Device) (d : Heard) → now ≡ u.timeline.moment → IsTime u.timeline b (suc before.events) → Done (heard_of stood.state before.store now draw bytes) old new u.mote d
-      → DoneOne b s done (Hears bytes) before (deed_left u new None)
-  hear_done timely law u old new d at time x =
-      let left = hear_leaves stood.state before.store now draw bytes old new u.mote d x (law stood.state before.store now draw bytes timely) in
-      one_done b s done (Hears bytes) before v c stood u new None time
-      (sym (ap (λ (e : Effect). option_map frame_of e.sent) (sym frame_is) ∙ ap (option_map frame_of) (hear_silent stood.state before.store now draw bytes)))
-      (subst (λ (n : ℕ). IsLeft (effect_of b stood.state before (Hears bytes)) new.image u.mote n) at (subst (λ (e : Effect). IsLeft e new.image u.mote now) frame_is left))
-
-  pub hear_fails : (old new : Device) → Stands old.image before.store → Stops (heard_of stood.state before.store now draw bytes).trail old new → StopsInDeed b (Hears bytes) before new
-  hear_fails old new stands stops =
-      record {
-        state = stood.state;
-        on = stood.on;
-        stops = subst (λ (e : Effect). StopsOn before.store e new) frame_is (hear_stops stood.state before.store now draw bytes old new stands stops);
-      }
-
--- the mote ticks
-abbrev SendsBy : {T : Type 0} → Result T Stop → (c : List ℕ) → Mote → (now draw : ℕ) → Option (List ℕ) → Type 0
-SendsBy r c v now draw frame = OnOk r ((m : MoteState) (s : Store) → IsMote c v m s → Timely m now → frame ≡ option_map frame_of (tick_effect m s now draw).sent)
-
-pub tick_done : (r : Result (Unit {0}) Stop) (b : Base) (s : Store) (done : List Deed) (before : At) (v : Running) (c : List ℕ) (stood : Stood b s done v c before) (now draw : ℕ)
-    → (now ≡ moment_at b before.events) × (draw ≡ draw_at b before.events) → (u : Running) (new : Device) (frame : Option (List ℕ)) → now ≡ u.timeline.moment → IsTime u.timeline b (suc before.events)
-    → Timely stood.state now → SendsBy r c v.mote now draw frame → EffectEnds r before.store (tick_effect stood.state before.store now draw) now new u.mote → DeedEnds r b s done Ticks before (deed_left u new frame)
-tick_done r b s done before v c stood now draw drawn u new frame at time timely sends ends =
-    let e : Effect = effect_of b stood.state before Ticks in
-    let is : tick_effect stood.state before.store now draw ≡ e =
-    ap (λ (x : ℕ). tick_effect stood.state before.store x draw) drawn.0 ∙ ap (λ (x : ℕ). tick_effect stood.state before.store (moment_at b before.events) x) drawn.1 in
-    deed_ends b s done Ticks before v c stood r u new frame time
-    (λ x ok. IfOk-at_ok (λ _. (m : MoteState) (s : Store) → IsMote c v.mote m s → Timely m now → frame ≡ option_map frame_of (tick_effect m s now draw).sent) ok sends stood.state before.store stood.mote timely
-    ∙ ap (λ (y : Effect). option_map frame_of y.sent) is)
-    (subst (λ (n : ℕ). EffectEnds r before.store e n new u.mote) at (subst (λ (y : Effect). EffectEnds r before.store y now new u.mote) is ends))
+  pub done_at : (r : NodeEnd) (u : Running) (a new : Device) (frame : Option (List ℕ)) → now ≡ u.timeline.moment → IsTime u.timeline b (suc before.events) → Stands a.image before.store → NodeDone r frame (at now draw) (host a (Some v.node)) (host new (Some u.node))
+      → IfSome (at now draw).mote (λ m. Timely m now) → DeedEnds (result_of r) b s done d before (deed_left u new frame)
+  done_at r u a new frame is time stands x timely =
+      deed_done b s done d before v c stood r u a new frame time stands (subst (λ (e : Effect). NodeDone r frame e (host a (Some v.node)) (host new (Some u.node))) effect_is x)
+      (subst (λ (n : ℕ). IfSome (effect_of b stood.state before d).mote (λ m. Timely m n)) is (subst (λ (e : Effect). IfSome e.mote (λ m. Timely m now)) effect_is timely))
 
 pub ends_stood : (r : Result (Unit {0}) Stop) (b : Base) (s : Store) (done : List Deed) (d : Deed) (before : At) (u : Running) (new : Device) (frame : Option (List ℕ))
     → DeedEnds r b s done d before (deed_left u new frame) → OnOk r (IsStood u new.image)
@@ -153,11 +134,8 @@ frame_some : (o : Option Message) → IfSome (option_map frame_of o) (λ f. 1 �
 frame_some None = tt
 frame_some (Some m) = frame_long m
 
-pub ends_frame : {T : Type 0} {c : List ℕ} {v : Mote} (r : Result T Stop) (m : MoteState) (s : Store) (now draw : ℕ) (frame : Option (List ℕ)) → IsMote c v m s → Timely m now → SendsBy r c v now draw frame
-    → OnOk r (IfSome frame (λ f. 1 ≤ length f))
-ends_frame (Ok x) m s now draw frame mote timely sends =
-    subst (λ (o : Option (List ℕ)). IfSome o (λ f. 1 ≤ length f)) (sym (sends m s mote timely)) (frame_some (tick_effect m s now draw).sent)
-ends_frame (Err why) m s now draw frame mote timely sends = tt
+pub frame_longs : {o : Option (List ℕ)} (sent : Option Message) → o ≡ option_map frame_of sent → IfSome o (λ f. 1 ≤ length f)
+frame_longs {o} sent is = subst (λ (x : Option (List ℕ)). IfSome x (λ f. 1 ≤ length f)) (sym is) (frame_some sent)
 
 -- ---- and what is written
 

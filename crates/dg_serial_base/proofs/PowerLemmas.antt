@@ -3,26 +3,26 @@ use Rattle.std.proofs.Common.{◌≡◌, ℕ, suc, true, [], ap, sym, ◌∙◌,
 use Rattle.dg_nor.specs.Device.{Device}
 use Rattle.dg_volume.specs.Store.{Store}
 use Rattle.dg_volume.specs.declared.volume.StartCause.TheVariants as cause
-use Rattle.dg_mote.specs.Effects.{Effect, boots}
+use Rattle.dg_mote.specs.Effects.{Effect, reset_effect}
+use Rattle.dg_node.specs.Nodes.{mote_in}
 use Rattle.dg_mote.specs.Timely.{Timely}
 use Rattle.dg_serial_base.specs.Deeds.{Base, moment_at, draw_at, powered, power_effect, sent_too}
 use Rattle.dg_serial_base.specs.Standing.{IsLeft, FailedBy, IsTime, Stood}
 use Rattle.dg_serial_base.specs.declared.running.Running.{Running}
 use Rattle.dg_serial_base.specs.declared.stop.Stop.{Stop}
 use Rattle.dg_serial_base.proofs.RunLemmas.{run_rests}
-use Rattle.dg_serial_base.proofs.StartLemmas.{reset_silent, reset_is}
+use Rattle.dg_serial_base.proofs.StartLemmas.{reset_silent}
 
 pub none_sent : (b : Base) (s : Store) → (powered b s).sent ≡ []
 none_sent b s = ap (sent_too []) (reset_silent s b.id true (moment_at b 0) (draw_at b 0))
 
-power_is : (b : Base) (s : Store) (now draw : ℕ) → now ≡ moment_at b 0 → draw ≡ draw_at b 0 → boots cause.Power s b.id true now draw ≡ power_effect b s
-power_is b s now draw n w =
-    ap (λ (x : ℕ). boots cause.Power s b.id true x draw) n ∙ ap (λ (x : ℕ). boots cause.Power s b.id true (moment_at b 0) x) w ∙ sym (reset_is s b.id true (moment_at b 0) (draw_at b 0))
+power_is : (b : Base) (s : Store) (now draw : ℕ) → now ≡ moment_at b 0 → draw ≡ draw_at b 0 → reset_effect s b.id true now draw ≡ power_effect b s
+power_is b s now draw n w = ap (λ (x : ℕ). reset_effect s b.id true x draw) n ∙ ap (λ (x : ℕ). reset_effect s b.id true (moment_at b 0) x) w
 
 pub power_stood : (b : Base) (s : Store) (now draw : ℕ) → now ≡ moment_at b 0 → draw ≡ draw_at b 0 → (v : Running) (new : Device) → now ≡ v.timeline.moment → IsTime v.timeline b (suc 0)
-    → IsLeft (boots cause.Power s b.id true now draw) new.image v.mote now → Stood b s [] v new.image (powered b s) × ((powered b s).sent ≡ [])
+    → IsLeft (reset_effect s b.id true now draw) new.image (mote_in v.node) now → Stood b s [] v new.image (powered b s) × ((powered b s).sent ≡ [])
 power_stood b s now draw n w v new at time left =
-    let x : IsLeft (power_effect b s) new.image v.mote now = subst (λ (e : Effect). IsLeft e new.image v.mote now) (power_is b s now draw n w) left in (
+    let x : IsLeft (power_effect b s) new.image (mote_in v.node) now = subst (λ (e : Effect). IsLeft e new.image (mote_in v.node) now) (power_is b s now draw n w) left in (
       record {
         state = x.state;
         run = run_rests b (powered b s);
@@ -34,6 +34,6 @@ power_stood b s now draw n w v new at time left =
       none_sent b s,
     )
 
-pub power_fails : (b : Base) (s : Store) (why : Stop) (now draw : ℕ) → now ≡ moment_at b 0 → draw ≡ draw_at b 0 → (new : Device) → FailedBy why s (boots cause.Power s b.id true now draw) new
+pub power_fails : (b : Base) (s : Store) (why : Stop) (now draw : ℕ) → now ≡ moment_at b 0 → draw ≡ draw_at b 0 → (new : Device) → FailedBy why s (reset_effect s b.id true now draw) new
     → FailedBy why s (power_effect b s) new × ((powered b s).sent ≡ [])
 power_fails b s why now draw n w new x = (subst (λ (e : Effect). FailedBy why s e new) (power_is b s now draw n w) x, none_sent b s)

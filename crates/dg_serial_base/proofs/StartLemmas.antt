@@ -1,30 +1,30 @@
--- What starts, ticks and heard frames do to a base mote and its chip.
-use Rattle.std.proofs.Common.{◌≡◌, ◌⊎◌, ⊎_elim, ℕ, Bool, List, refl, ap, sym, ◌∙◌, subst}
-use Rattle.std.specs.Prelude.{Option, Some, None, option_map, Result}
+-- What starts, ticks and heard frames do to a base mote and its chip, by what its node did.
+use Rattle.std.proofs.Common.{◌≡◌, ℕ, Bool, List, refl, ap, sym, ◌∙◌, subst}
+use Rattle.std.specs.Prelude.{Option, Some, None, option_map, Result, Ok, Err, IfSome}
 use Rattle.dg_nor.specs.Device.{Device, Ran}
-use Rattle.dg_nor.specs.Trail.{Trail, last, last_of, joined, resting}
-use Rattle.dg_nor.proofs.TrailLemmas.{joined_none, Halted-joined_first}
-use Rattle.dg_volume.specs.Store.{Store, IsNear}
-use Rattle.dg_volume.specs.Stands.{Stands}
-use Rattle.dg_volume.specs.Acts.{Stops}
+use Rattle.dg_nor.specs.Trail.{Trail, last}
+use Rattle.dg_volume.specs.Store.{Store}
+use Rattle.dg_volume.specs.Stands.{Stands, IsNoVolume}
 use Rattle.dg_volume.specs.Start.{Runs, boot}
-use Rattle.dg_volume.specs.declared.volume.StartCause.{StartCause}
 use Rattle.dg_volume.specs.declared.volume.StartCause.TheVariants as cause
-use Rattle.dg_volume.proofs.BeginLemmas.{boot_begins}
+use Rattle.dg_base.specs.declared.events.ImageVersion.{ImageVersion}
 use Rattle.dg_frame.specs.Spelling.{frame_of}
-use Rattle.dg_boot.specs.Started.{Starts, Lacks}
-use Rattle.dg_boot.specs.declared.Started.{Started}
-use Rattle.dg_mote.specs.Model.{MoteState, MoteStep, begun_mote}
-use Rattle.dg_mote.specs.Ticks.{tick_of}
-use Rattle.dg_mote.specs.Hears.{heard_of}
-use Rattle.dg_mote.specs.Effects.{Effect, boot_by, boots, on, tick_by, tick_effect, frame_effect, reset_effect}
-use Rattle.dg_mote.specs.Motes.{Done, IsMote}
+use Rattle.dg_boot.specs.declared.BootFault.{BootFault}
+use Rattle.dg_boot.specs.declared.BootFault.TheVariants as boot_fault
+use Rattle.dg_mote.specs.Model.{MoteState}
+use Rattle.dg_mote.specs.Effects.{Effect, boot_by, reset_effect}
+use Rattle.dg_mote.specs.Motes.{IsMote}
 use Rattle.dg_mote.specs.Timely.{Timely}
-use Rattle.dg_mote.specs.declared.mote.Did.{Did}
-use Rattle.dg_mote.specs.declared.mote.Did.TheVariants as did
-use Rattle.dg_mote.specs.declared.mote.Heard.{Heard}
-use Rattle.dg_mote.specs.declared.mote.Mote.{Mote}
-use Rattle.dg_serial_base.specs.Standing.{Calm, IsLeft, LeavesNone, StopsOn, EffectEnds}
+use Rattle.dg_node.specs.declared.node.Node.{Node}
+use Rattle.dg_node.specs.declared.answers.Ticked.{Ticked}
+use Rattle.dg_node.specs.declared.answers.Ticked.TheVariants as ticked
+use Rattle.dg_node.specs.declared.answers.TickFault.{TickFault}
+use Rattle.dg_node.specs.declared.answers.TickFault.TheVariants as tick_fault
+use Rattle.dg_node.specs.Hosts.{host}
+use Rattle.dg_node.specs.Nodes.{NodeStands, runs_by, mote_in}
+use Rattle.dg_node.specs.Ends.{NodeEnd, Quiet, Sent, Starts, Stopped, NotAVolume, NoImage, NodeDone, Went, PowerFinds, power_end, tick_end}
+use Rattle.dg_serial_base.specs.Stops.{stop_of_start, stop_of_tick, result_of}
+use Rattle.dg_serial_base.specs.Standing.{Calm, Counts, CountsBy, IsLeft, FailedBy, EffectEnds, NoneBy, WritesBy, ReadsBy}
 use Rattle.dg_serial_base.specs.declared.stop.Stop.{Stop}
 
 -- ---- chips that did not stop
@@ -40,131 +40,86 @@ calm_then a b c x y = record { faults = y.faults ∙ x.faults; stopped = y.stopp
 
 -- ---- starts
 
-boot_trail : (o : Option Runs) (t : Trail Store) (id : ℕ) (wide : Bool) (now draw : ℕ) → (boot_by o t id wide now draw).trail ≡ t
-boot_trail None t id wide now draw = refl
-boot_trail (Some r) t id wide now draw = refl
-
 boot_silent : (o : Option Runs) (t : Trail Store) (id : ℕ) (wide : Bool) (now draw : ℕ) → (boot_by o t id wide now draw).sent ≡ None
 boot_silent None t id wide now draw = refl
 boot_silent (Some r) t id wide now draw = refl
 
-pub boots_silent : (k : StartCause) (s : Store) (id : ℕ) (wide : Bool) (now draw : ℕ) → (boots k s id wide now draw).sent ≡ None
-boots_silent k s id wide now draw = boot_silent (boot k s).runs (boot k s).trail id wide now draw
-
 pub reset_silent : (s : Store) (id : ℕ) (wide : Bool) (now draw : ℕ) → (reset_effect s id wide now draw).sent ≡ None
 unfolding reset_effect
-reset_silent s id wide now draw = boots_silent cause.Power s id wide now draw
+reset_silent s id wide now draw = let b = boot cause.Power s in boot_silent b.runs b.trail id wide now draw
 
-pub reset_is : (s : Store) (id : ℕ) (wide : Bool) (now draw : ℕ) → reset_effect s id wide now draw ≡ boots cause.Power s id wide now draw
-unfolding reset_effect
-reset_is s id wide now draw = refl
+-- ---- what an event of the node left
 
-module _ (k : StartCause) (s : Store) (id : ℕ) (wide : Bool) (now draw : ℕ) where
-  abbrev t : Trail Store
-  t = (boot k s).trail
+left_by : (o : Option MoteState) (r : Option Runs) (w : Option ImageVersion) (c : List ℕ) (u : Node) (s : Store) (now : ℕ) → NodeStands c (Some u) s (runs_by o r w) → IfSome o (λ m. Timely m now)
+    → (state : MoteState) × (o ≡ Some state) × IsMote c (mote_in u) state s × Timely state now
+left_by None r w c u s now stands timely = absurd stands
+left_by (Some m) (Some r) w c u s now stands timely = (m, refl, stands.1, timely)
+left_by (Some m) None (Some w) c u s now stands timely = (m, refl, stands.1, timely)
+left_by (Some m) None None c u s now stands timely = absurd stands
 
-  abbrev starts : Option Runs → Effect
-  starts o = boot_by o t id wide now draw
+module _ (frame : Option (List ℕ)) (e : Effect) (x : Option Node) (a b : Device) where
+  pub leaves : (u : Node) (now : ℕ) → Went e frame (host a x) (host b (Some u)) → IfSome e.mote (λ m. Timely m now) → IsLeft e b.image (mote_in u) now
+  leaves u now went timely =
+      let left = left_by e.mote e.started _ b.image u (last e.trail) now went.runs timely in
+      record { state = left.0; on = left.1; mote = left.2; timely = left.3 }
 
-  pub started : (a b : Device) (told : Started) (v : Mote) → Starts (boot k s) a b told → IsMote b.image v (begun_mote id wide now draw) (last t) → Timely (begun_mote id wide now draw) now
-      → IsLeft (boots k s id wide now draw) b.image v now
-  started a b told v g is timely =
-      subst (λ (e : Effect). IsLeft e b.image v now) (sym (ap starts g.chosen))
-      (record { state = begun_mote id wide now draw; on = refl; mote = is; timely = timely })
+  pub effect_ends : (r : NodeEnd) (s : Store) (u : Node) (now : ℕ) → NodeDone r frame e (host a x) (host b (Some u)) → Stands a.image s → IfSome e.mote (λ m. Timely m now) → EffectEnds (result_of r) s e now b (mote_in u)
+  effect_ends Quiet s u now done stands timely = leaves u now done.0 timely
+  effect_ends Sent s u now done stands timely = leaves u now done.0 timely
+  effect_ends (Starts image) s u now done stands timely = leaves u now done.0 timely
+  effect_ends Stopped s u now done stands timely = record { between = a; stands = stands; stops = done.0 }
+  effect_ends NotAVolume s u now done stands timely = absurd done
+  effect_ends NoImage s u now done stands timely = record { none = done.none; silent = done.silent; stands = done.stands }
 
-  pub start_lacks : (a b : Device) → Lacks (boot k s) a b → LeavesNone (boots k s id wide now draw) b.image
-  start_lacks a b l =
-      subst (λ (e : Effect). LeavesNone e b.image) (sym (ap starts l.none))
-      (record { none = refl; silent = refl; stands = l.stands })
+  pub frame_said : (r : NodeEnd) (y : Option Node) → NodeDone r frame e (host a x) (host b y) → (t : Unit {0}) → result_of r ≡ Ok t → frame ≡ option_map frame_of e.sent
+  frame_said Quiet y done t ok = done.0.sent
+  frame_said Sent y done t ok = done.0.sent
+  frame_said (Starts image) y done t ok = done.0.sent
+  frame_said Stopped y done t ok = cc
+  frame_said NotAVolume y done t ok = cc
+  frame_said NoImage y done t ok = cc
 
-  pub start_stops : (a b : Device) → Stands a.image s → Stops t a b → StopsOn s (boots k s id wide now draw) b
-  start_stops a b stands stops =
-      record { between = a; stands = stands; stops = subst (λ (x : Trail Store). Stops x a b) (sym (boot_trail (boot k s).runs t id wide now draw)) stops }
+  pub counts_done : (r : NodeEnd) (y : Option Node) → NodeDone r frame e (host a x) (host b y) → Counts (result_of r) a b
+  counts_done Quiet y done = calm_ran _ a b done.0.ran
+  counts_done Sent y done = calm_ran _ a b done.0.ran
+  counts_done (Starts image) y done = calm_ran _ a b done.0.ran
+  counts_done Stopped y done = done.0.halts.cause
+  counts_done NotAVolume y done = absurd done
+  counts_done NoImage y done = calm_ran _ a b done.ran
 
--- ---- ticks
+  -- a start that failed
+  pub start_failed : (f : BootFault) (s : Store) (y : Option Node) → NodeDone (power_end (Err f)) frame e (host a x) (host b y) → Stands a.image s → FailedBy (stop_of_start f) s e b
+  start_failed boot_fault.Stopped s y done stands = record { between = a; stands = stands; stops = done.0 }
+  start_failed boot_fault.NotAVolume s y done stands = done
+  start_failed boot_fault.NoImage s y done stands = record { none = done.none; silent = done.silent; stands = done.stands }
 
-by_answer : MoteStep Did → (now draw : ℕ) → Did → Effect
-by_answer step now draw d = tick_by d step now draw
+pub tick_ok : (t : Ticked) → result_of (tick_end (Ok t)) ≡ Ok tt
+tick_ok ticked.Idle = refl
+tick_ok ticked.Sent = refl
+tick_ok (ticked.Restarted image) = refl
 
-acted_on : (step : MoteStep Did) (now draw : ℕ) (d : Did) → (d ≡ did.Sent) ⊎ (d ≡ did.Idle) → d ≡ step.answer → tick_by step.answer step now draw ≡ on step
-unfolding by_answer
-acted_on step now draw d is same = ap (by_answer step now draw) (sym same) ∙ ⊎_elim (λ e. ap (by_answer step now draw) e) (λ e. ap (by_answer step now draw) e) is
+pub tick_err : (f : TickFault) → result_of (tick_end (Err f)) ≡ Err (stop_of_tick f)
+tick_err tick_fault.Stopped = refl
+tick_err tick_fault.NoImage = refl
 
-abbrev rested : MoteState → Store → MoteStep Did
-rested m s = record { mote = m; trail = resting s 0; sent = None; answer = did.Restart }
+-- ---- what a start found
 
-effect_rested : (m : MoteState) (s : Store) (now draw : ℕ) → tick_by did.Restart (rested m s) now draw ≡ boots cause.Order s m.id m.wide now draw
-unfolding last_of
-effect_rested m s now draw =
-    let e : Effect = boots cause.Order s m.id m.wide now draw in
-    let t = (boot cause.Order s).trail in
-    let first : e.trail ≡ t = boot_trail (boot cause.Order s).runs t m.id m.wide now draw in
-    let at : t.first ≡ s = (boot_begins cause.Order s).first in
-    ap (λ (x : Trail Store). record e { trail = x })
-    (ap (λ (x : Trail Store). joined (resting s 0) x) first ∙ ap (λ (x : Store). joined (resting x 0) t) (sym at) ∙ joined_none t ∙ sym first)
+pub start_none : (f : BootFault) (a b : Device) → PowerFinds (Err f) a b → IsNoVolume a.image → NoneBy (stop_of_start f) a b
+start_none boot_fault.Stopped a b finds none = finds.1 none
+start_none boot_fault.NotAVolume a b finds none = finds.1
+start_none boot_fault.NoImage a b finds none = none finds.0 finds.1
 
-pub restart_is : (m : MoteState) (s : Store) (now draw : ℕ) → tick_of m s now draw ≡ rested m s → tick_effect m s now draw ≡ boots cause.Order s m.id m.wide now draw
-unfolding tick_effect
-restart_is m s now draw is = ap (λ (x : MoteStep Did). tick_by x.answer x now draw) is ∙ effect_rested m s now draw
+pub start_counts : (f : BootFault) (E : Store → Effect) (x y : Option Node) (a b : Device) → PowerFinds (Err f) a b → ((s : Store) → Stands a.image s → NodeDone (power_end (Err f)) None (E s) (host a x) (host b y)) → CountsBy (stop_of_start f) a b
+start_counts boot_fault.Stopped E x y a b finds done = finds.0.cause
+start_counts boot_fault.NotAVolume E x y a b finds done = calm_ran 0 a b finds.1.ran
+start_counts boot_fault.NoImage E x y a b finds done = calm_ran _ a b (done finds.0 finds.1).ran
 
-module _ (m : MoteState) (s : Store) (now draw : ℕ) where
-  abbrev step : MoteStep Did
-  step = tick_of m s now draw
+pub start_writes : (f : BootFault) (n : ℕ) → WritesBy (stop_of_start f) n n
+start_writes boot_fault.Stopped n = refl
+start_writes boot_fault.NotAVolume n = refl
+start_writes boot_fault.NoImage n = refl
 
-  ticks_on : (d : Did) → (d ≡ did.Sent) ⊎ (d ≡ did.Idle) → d ≡ step.answer → tick_effect m s now draw ≡ on step
-  unfolding tick_effect
-  ticks_on d is same = acted_on step now draw d is same
-
-  pub tick_leaves : (a b : Device) (v : Mote) (d : Did) → (d ≡ did.Sent) ⊎ (d ≡ did.Idle) → Done step a b v d → Timely step.mote now → IsLeft (tick_effect m s now draw) b.image v now
-  tick_leaves a b v d is done timely =
-      subst (λ (e : Effect). IsLeft e b.image v now) (sym (ticks_on d is done.answers))
-      (record { state = step.mote; on = refl; mote = done.mote; timely = timely })
-
-  pub tick_sends : (a b : Device) (v : Mote) (d : Did) (o : Option (List ℕ)) → (d ≡ did.Sent) ⊎ (d ≡ did.Idle) → Done step a b v d → o ≡ option_map frame_of step.sent → o ≡ option_map frame_of (tick_effect m s now draw).sent
-  tick_sends a b v d o is done sent = sent ∙ ap (λ (e : Effect). option_map frame_of e.sent) (sym (ticks_on d is done.answers))
-
-  stops_first : (d : Did) (a b : Device) → Stops step.trail a b → Stops (tick_by d step now draw).trail a b
-  stops_first did.Sent a b stops = stops
-  stops_first did.Idle a b stops = stops
-  stops_first did.Restart a b stops =
-      let at = last step.trail in
-      let t = (boot cause.Order at).trail in
-      let begins = boot_begins cause.Order at in
-      subst (λ (x : Trail Store). Stops (joined step.trail x) a b) (sym (boot_trail (boot cause.Order at).runs t step.mote.id step.mote.wide now draw))
-      (Halted-joined_first Stands IsNear step.trail t begins.works (sym begins.first) stops)
-
-  pub tick_stops : (a b : Device) → Stands a.image s → Stops step.trail a b → StopsOn s (tick_effect m s now draw) b
-  unfolding tick_effect
-  tick_stops a b stands stops = record { between = a; stands = stands; stops = stops_first step.answer a b stops }
-
-  -- the chip stands for the same store as it starts for an order
-  pub restart_mote : (a b : Device) (v : Mote) → step ≡ rested m s → Done step a b v did.Restart → IsMote b.image v m s
-  unfolding last_of
-  restart_mote a b v is done = subst (λ (x : MoteStep Did). IsMote b.image v x.mote (last x.trail)) is done.mote
-
-  pub restart_ends : {T : Type 0} (r : Result T Stop) (b c : Device) (v u : Mote) (id : ℕ) (wide : Bool) → id ≡ v.id → wide ≡ v.wide → step ≡ rested m s → IsMote b.image v m s
-      → EffectEnds r s (boots cause.Order s id wide now draw) now c u → EffectEnds r s (tick_effect m s now draw) now c u
-  restart_ends r b c v u id wide at same is mote ends =
-      subst (λ (e : Effect). EffectEnds r s e now c u)
-      (ap (λ (n : ℕ). boots cause.Order s n wide now draw) (at ∙ mote.id) ∙ ap (λ (x : Bool). boots cause.Order s m.id x now draw) (same ∙ mote.wide) ∙ sym (restart_is m s now draw is)) ends
-
-  pub restart_silent : step ≡ rested m s → (tick_effect m s now draw).sent ≡ None
-  restart_silent is = ap (λ (e : Effect). e.sent) (restart_is m s now draw is) ∙ boots_silent cause.Order s m.id m.wide now draw
-
--- ---- frames
-
-module _ (m : MoteState) (s : Store) (now draw : ℕ) (bytes : List ℕ) where
-  abbrev heard : MoteStep Heard
-  heard = heard_of m s now draw bytes
-
-  pub hear_leaves : (a b : Device) (v : Mote) (d : Heard) → Done heard a b v d → Timely heard.mote now → IsLeft (frame_effect m s now draw bytes) b.image v now
-  unfolding frame_effect
-  hear_leaves a b v d done timely = record { state = heard.mote; on = refl; mote = done.mote; timely = timely }
-
-  pub hear_stops : (a b : Device) → Stands a.image s → Stops heard.trail a b → StopsOn s (frame_effect m s now draw bytes) b
-  unfolding frame_effect
-  hear_stops a b stands stops = record { between = a; stands = stands; stops = stops }
-
-  pub hear_silent : (frame_effect m s now draw bytes).sent ≡ None
-  unfolding frame_effect
-  hear_silent = refl
+pub start_reads : (f : BootFault) (n : ℕ) → ReadsBy (stop_of_start f) n n
+start_reads boot_fault.Stopped n = refl
+start_reads boot_fault.NotAVolume n = refl
+start_reads boot_fault.NoImage n = refl

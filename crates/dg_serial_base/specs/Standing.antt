@@ -16,6 +16,7 @@ use Rattle.dg_mote.specs.Effects.{Effect}
 use Rattle.dg_mote.specs.Motes.{IsMote}
 use Rattle.dg_mote.specs.Timely.{Timely}
 use Rattle.dg_mote.specs.declared.mote.Mote.{Mote}
+use Rattle.dg_node.specs.Nodes.{mote_in}
 use Rattle.dg_seed.specs.Draws.{generator_of, generator_after}
 use Rattle.dg_serial.specs.Reading.{Reading, reading_behind}
 use Rattle.dg_serial_base.specs.Deeds.{Base, At, Deed, deeds_of, powered, power_effect, effect_of, DeedsRun, said}
@@ -115,10 +116,6 @@ FailedBy stop.Write s e new = ⊥
 FailedBy stop.NotAVolume s e new = ⊥
 FailedBy stop.TooLong s e new = ⊥
 
-abbrev pub StartEnds : Result Mote Stop → (s : Store) → Effect → (now : ℕ) → Device → Type 0
-StartEnds (Ok v) s e now new = IsLeft e new.image v now
-StartEnds (Err why) s e now new = FailedBy why s e new
-
 abbrev pub EffectEnds : {T : Type 0} → Result T Stop → (s : Store) → Effect → (now : ℕ) → Device → Mote → Type 0
 EffectEnds (Ok x) s e now new v = IsLeft e new.image v now
 EffectEnds (Err why) s e now new v = FailedBy why s e new
@@ -137,10 +134,6 @@ abbrev pub NoneEnds : {T : Type 0} → Result T Stop → (old new : Device) → 
 NoneEnds (Ok x) old new = ⊥
 NoneEnds (Err why) old new = NoneBy why old new
 
--- the code's mote is some mote over these bytes, and in time
-abbrev pub IsTimely : List ℕ → Mote → (now : ℕ) → Type 0
-IsTimely c v now = (m : MoteState) × (s : Store) × IsMote c v m s × Timely m now
-
 -- ---- the mote behind its deeds
 
 -- the time and the draws of so many events
@@ -154,7 +147,7 @@ pub record Stood (b : Base) (s : Store) (done : List Deed) (v : Running) (c : Li
   pub state : MoteState
   pub run : DeedsRun b (powered b s) done there
   pub on : there.mote ≡ Some state
-  pub mote : IsMote c v.mote state there.store
+  pub mote : IsMote c (mote_in v.node) state there.store
   pub timely : Timely state v.timeline.moment
   pub time : IsTime v.timeline b there.events
 

@@ -8,7 +8,6 @@ mod playing;
 mod reading;
 mod running;
 mod sending;
-mod starting;
 mod stop;
 mod timeline;
 

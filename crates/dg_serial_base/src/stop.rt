@@ -1,4 +1,7 @@
 //! Why a base mote ends before its line does.
+use dg_boot::BootFault;
+use dg_node::TickFault;
+use dg_nor::Stopped;
 use std::alloc::AllocError;
 
 /// Why a base mote ends before its line does.
@@ -27,5 +30,45 @@ impl From<AllocError> for Stop {
 
     fn from(_error: AllocError) -> Stop {
         Stop::Memory
+    }
+}
+
+impl From<BootFault> for Stop {
+    ghost use Rattle.std.specs.Prelude.{◌≡◌};
+    ghost use Rattle.dg_serial_base.specs.Stops.{stop_of_start};
+
+    ghost from_gives = { λ fault e. e ≡ stop_of_start fault };
+
+    fn from(fault: BootFault) -> Stop {
+        match fault {
+            BootFault::Stopped => Stop::Flash,
+            BootFault::NotAVolume => Stop::NotAVolume,
+            BootFault::NoImage => Stop::NoImage,
+        }
+    }
+}
+
+impl From<TickFault> for Stop {
+    ghost use Rattle.std.specs.Prelude.{◌≡◌};
+    ghost use Rattle.dg_serial_base.specs.Stops.{stop_of_tick};
+
+    ghost from_gives = { λ fault e. e ≡ stop_of_tick fault };
+
+    fn from(fault: TickFault) -> Stop {
+        match fault {
+            TickFault::Stopped => Stop::Flash,
+            TickFault::NoImage => Stop::NoImage,
+        }
+    }
+}
+
+impl From<Stopped> for Stop {
+    ghost use Rattle.std.specs.Prelude.{◌≡◌};
+    ghost use Rattle.dg_serial_base.specs.declared.stop.Stop.{Stop};
+
+    ghost from_gives = { λ _ e. e ≡ Stop.Flash };
+
+    fn from(_stopped: Stopped) -> Stop {
+        Stop::Flash
     }
 }

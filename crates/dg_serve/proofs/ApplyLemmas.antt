@@ -25,7 +25,7 @@ use Rattle.dg_script.specs.declared.line.Line.TheVariants.{Event as EventLine}
 use Rattle.dg_world.specs.Alone.{IsAlone, IsReset, CountKeeps}
 use Rattle.dg_world.specs.declared.outcome.Fault.{Fault}
 use Rattle.dg_world.specs.declared.outcome.Fault.TheVariants as fault
-use Rattle.dg_world.specs.declared.world.RunningMote.{RunningMote}
+use Rattle.dg_node.specs.declared.node.Node.{Node}
 use Rattle.dg_serve.specs.Services.{Moment}
 use Rattle.dg_serve.specs.Traces.{event_lines, IsEventLine}
 use Rattle.dg_serve.specs.Endings.{BoardsStand}
@@ -68,10 +68,10 @@ pub text_is : (event : Event) (x t : List ℕ) → x ≡ t → t ≡ line_text (
 text_is event x t same text = same ∙ text ∙ sym (one_line event)
 
 -- the motes that are written back to a service
-pub written_back : (s : Service) (ms ns : List (Option RunningMote)) (mote : ℕ) (x : Option RunningMote) → ms ≡ s.motes.items → ns ≡ set ms mote x → (with_items s.motes ns).items ≡ ns
+pub written_back : (s : Service) (ms ns : List (Option Node)) (mote : ℕ) (x : Option Node) → ms ≡ s.motes.items → ns ≡ set ms mote x → (with_items s.motes ns).items ≡ ns
 written_back s ms ns mote x items put = with_items_is s.motes ns (ap length put ∙ length-set ms mote x ∙ ap length items ∙ sym s.motes.ok.0)
 
-pub setting_of : (motes mote : ℕ) (event read : Event) (r : Result Outbox Fault) (p q : Standing) (ms ns : List (Option RunningMote)) → event ≡ read → ms ≡ p.service.motes.items → q.service.motes.items ≡ ns → ns ≡ set ms mote (slice_index_or ns mote None)
+pub setting_of : (motes mote : ℕ) (event read : Event) (r : Result Outbox Fault) (p q : Standing) (ms ns : List (Option Node)) → event ≡ read → ms ≡ p.service.motes.items → q.service.motes.items ≡ ns → ns ≡ set ms mote (slice_index_or ns mote None)
     → PlayedAt r read mote p.service.timeline.moment (at_mote (slice_index_or ms mote None) p.boards) (at_mote (slice_index_or ns mote None) q.boards) → q.service.timeline ≡ p.service.timeline → mote < motes → length p.service.motes.items ≡ motes → (IsReset event → ran_at p mote ≡ None) → Setting motes mote event r p q
 setting_of motes mote event read r p q ms ns same items back put played timeline known many off = record {
   played = subst (λ xs. PlayedAt r event mote p.service.timeline.moment (at_mote (ran_at p mote) p.boards) (at_mote (slice_index_or xs mote None) q.boards)) (sym back)
@@ -248,7 +248,7 @@ module _ (motes : ℕ) (links : List (ℕ × ℕ)) (event : Event) (out : Outbox
     off = λ m out_of.
         let within = inside motes event h.alone h.set.known in
         let other : m ≢ mote_of event = λ e. omega (arith, e, within, out_of) in
-        ap (λ (xs : List (Option RunningMote)). get_or xs m None) h.set.put ∙ get_or-set_other p.service.motes.items (mote_of event) m (ran_at q (mote_of event)) None other ∙ ready.off m (before_it motes event m h.alone out_of);
+        ap (λ (xs : List (Option Node)). get_or xs m None) h.set.put ∙ get_or-set_other p.service.motes.items (mote_of event) m (ran_at q (mote_of event)) None other ∙ ready.off m (before_it motes event m h.alone out_of);
   }
 
   -- where all was done

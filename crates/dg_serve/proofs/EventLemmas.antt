@@ -21,7 +21,7 @@ use Rattle.dg_world.specs.Cuts.{IsStopped, IsLacking}
 use Rattle.dg_world.specs.Worlds.{SiteStands}
 use Rattle.dg_world.specs.Stepped.{StepDone, station}
 use Rattle.dg_world.specs.Alone.{uncut}
-use Rattle.dg_world.specs.declared.world.RunningMote.{RunningMote}
+use Rattle.dg_node.specs.declared.node.Node.{Node}
 use Rattle.dg_world.proofs.PlaceLemmas.{is_or}
 use Rattle.dg_seed.specs.Draws.{generator_of}
 use Rattle.dg_serve.specs.Services.{Moment, Steps, new_frames, handed}
@@ -73,15 +73,15 @@ handed_told w links motes mote frame (Some boxes) e = ap Some (handed_same w lin
 abbrev pub behind : (motes : ℕ) → Moment → World → Moment
 behind motes s w = record s { world = w; inboxes = option_map (handed w motes (new_frames s.world w)) s.inboxes }
 
-pub steps_on : (motes : ℕ) (s : Moment) (event : Event) (u : Option RunningMote) (frame : Option (List ℕ)) (b : Device) (told : List Report) → (d : StepDone s.world (uncut event) true frame [] (station b u told)) → Steps motes s event (behind motes s d.world)
+pub steps_on : (motes : ℕ) (s : Moment) (event : Event) (u : Option Node) (frame : Option (List ℕ)) (b : Device) (told : List Report) → (d : StepDone s.world (uncut event) true frame [] (station b u told)) → Steps motes s event (behind motes s d.world)
 steps_on motes s event u frame b told d = record { reports = d.reports; step = d.step; same_reading = refl; same_clock = refl; same_draws = refl; inboxes = refl }
 
 -- its frame, as the world tells it
-pub frames_of : (s : Moment) (event : Event) (u : Option RunningMote) (frame : Option (List ℕ)) (b : Device) (told : List Report) → (d : StepDone s.world (uncut event) true frame [] (station b u told)) → new_frames s.world d.world ≡ sent_now (mote_of event) frame
+pub frames_of : (s : Moment) (event : Event) (u : Option Node) (frame : Option (List ℕ)) (b : Device) (told : List Report) → (d : StepDone s.world (uncut event) true frame [] (station b u told)) → new_frames s.world d.world ≡ sent_now (mote_of event) frame
 frames_of s event u frame b told d = ap (drop (length s.world.sent)) d.sent ∙ frames_sent s.world.sent (sent_now (mote_of event) frame)
 
 -- What is known of a mote at whose board an event is.
-pub record IsHere (links : List (ℕ × ℕ)) (motes begun on ahead : ℕ) (event : Event) (first : List Device) (s : Moment) (p q : Standing) (before after : Device) (v u : Option RunningMote) : Type 0 where
+pub record IsHere (links : List (ℕ × ℕ)) (motes begun on ahead : ℕ) (event : Event) (first : List Device) (s : Moment) (p q : Standing) (before after : Device) (v u : Option Node) : Type 0 where
   pub stands : StandsFor motes begun links ahead first s p
   pub known : mote_of event < motes
   pub many : length p.service.motes.items ≡ motes
@@ -96,7 +96,7 @@ pub record IsHere (links : List (ℕ × ℕ)) (motes begun on ahead : ℕ) (even
   pub site_of : (a : Device) → slice_get first (mote_of event) ≡ Some a → IsVolume a.image → SiteStands before v (site s.world (mote_of event))
   pub image_of : (a : Device) → slice_get first (mote_of event) ≡ Some a → IsNoVolume a.image → before.image ≡ a.image
 
-module _ (links : List (ℕ × ℕ)) (motes begun on ahead : ℕ) (event : Event) (first : List Device) (s : Moment) (p q : Standing) (before after : Device) (v u : Option RunningMote) (h : IsHere links motes begun on ahead event first s p q before after v u) where
+module _ (links : List (ℕ × ℕ)) (motes begun on ahead : ℕ) (event : Event) (first : List Device) (s : Moment) (p q : Standing) (before after : Device) (v u : Option Node) (h : IsHere links motes begun on ahead event first s p q before after v u) where
   here : (a : Device) × (slice_get first (mote_of event) ≡ Some a)
   here = got_some first (mote_of event) (let n = h.stands.count in let k = got_within p.boards (mote_of event) before h.was in omega (arith, n, k))
 
@@ -135,17 +135,17 @@ module _ (links : List (ℕ × ℕ)) (motes begun on ahead : ℕ) (event : Event
     site_there m other = ap (λ (xs : List Site). get_or xs m no_site) d.sites ∙ get_or-set_other s.world.sites (mote_of event) m d.here no_site other
 
     mote_here : slice_index_or q.service.motes.items (mote_of event) None ≡ u
-    mote_here = ap (λ (xs : List (Option RunningMote)). get_or xs (mote_of event) None) h.motes_put ∙ get_or-set_same p.service.motes.items (mote_of event) u None (omega (arith, h.known, h.many))
+    mote_here = ap (λ (xs : List (Option Node)). get_or xs (mote_of event) None) h.motes_put ∙ get_or-set_same p.service.motes.items (mote_of event) u None (omega (arith, h.known, h.many))
 
     mote_there : (m : ℕ) → m ≢ mote_of event → slice_index_or q.service.motes.items m None ≡ slice_index_or p.service.motes.items m None
-    mote_there m other = ap (λ (xs : List (Option RunningMote)). get_or xs m None) h.motes_put ∙ get_or-set_other p.service.motes.items (mote_of event) m u None other
+    mote_there m other = ap (λ (xs : List (Option Node)). get_or xs m None) h.motes_put ∙ get_or-set_other p.service.motes.items (mote_of event) m u None other
 
     sites_count : length d.world.sites ≡ motes
     sites_count = ap length d.sites ∙ length-set s.world.sites (mote_of event) d.here ∙ h.stands.sites
 
     on_then : (m : ℕ) (a b : Device) → m < on → slice_get first m ≡ Some a → slice_get q.boards m ≡ Some b → IsVolume a.image × SiteStands b (slice_index_or q.service.motes.items m None) (site d.world m)
     on_then m a b within was now =
-        let P : Device → Option RunningMote → Site → Type 0 = λ e o y. SiteStands e o y in
+        let P : Device → Option Node → Site → Type 0 = λ e o y. SiteStands e o y in
         ⊎_elim
         (λ is.
         let at : slice_get first (mote_of event) ≡ Some a = ap (slice_get first) (sym is) ∙ was in

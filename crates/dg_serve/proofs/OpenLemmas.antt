@@ -4,7 +4,7 @@ use Rattle.std.specs.Prelude.{slice_index_or, replicate, Option, None, Result, O
 use Rattle.std.proofs.lemmas.List.{take_all}
 use Rattle.dg_base.specs.Outside.{Puts}
 use Rattle.dg_netcfg.specs.declared.profile.NetProfile.{NetProfile}
-use Rattle.dg_world.specs.declared.world.RunningMote.{RunningMote}
+use Rattle.dg_node.specs.declared.node.Node.{Node}
 use Rattle.dg_serve.specs.Traces.{lines_text, head_lines}
 use Rattle.dg_serve.specs.Served.{Outside, Hindered}
 use Rattle.dg_serve.specs.Ran.{status_of, ServiceOpens, OpensLink}
@@ -31,10 +31,10 @@ many_in : {X : Type 0} (x : X) (n : ℕ) → length (replicate n x) ≡ n
 many_in x zero = refl
 many_in x (suc n) = ap suc (many_in x n)
 
-pub none_at : (xs : List (Option RunningMote)) (n m : ℕ) → xs ≡ replicate n None → slice_index_or xs m None ≡ None
-none_at xs n m same = ap (λ (l : List (Option RunningMote)). slice_index_or l m None) same ∙ one_in None n m
+pub none_at : (xs : List (Option Node)) (n m : ℕ) → xs ≡ replicate n None → slice_index_or xs m None ≡ None
+none_at xs n m same = ap (λ (l : List (Option Node)). slice_index_or l m None) same ∙ one_in None n m
 
-pub none_many : (xs : List (Option RunningMote)) (n : ℕ) → xs ≡ replicate n None → length xs ≡ n
+pub none_many : (xs : List (Option Node)) (n : ℕ) → xs ≡ replicate n None → length xs ≡ n
 none_many xs n same = ap length same ∙ many_in None n
 
 -- ---- where it was not opened

@@ -20,7 +20,7 @@ use Rattle.dg_world.specs.Worlds.{MoteStands, SiteStands}
 use Rattle.dg_world.specs.Alone.{uncut, IsAlone, IsReset, AloneDone, PlaysAlone, CountKeeps}
 use Rattle.dg_world.specs.declared.outcome.Fault.{Fault}
 use Rattle.dg_world.specs.declared.outcome.Fault.TheVariants as fault
-use Rattle.dg_world.specs.declared.world.RunningMote.{RunningMote}
+use Rattle.dg_node.specs.declared.node.Node.{Node}
 use Rattle.dg_link.specs.Inboxes.{Inboxes}
 use Rattle.dg_world.specs.Airs.{sent_now}
 use Rattle.dg_serve.specs.Services.{Moment, Steps, new_frames, handed_to, neighbours_by}
@@ -35,7 +35,7 @@ abbrev pub KeepsTime : Type 0
 KeepsTime = (w v : World) (x : Step) (reports : List Report) → WorldTimely w → StepInRange (length w.sites) x → WorldStep w x v reports → WorldTimely v
 
 -- what ran at a mote
-abbrev pub ran_at : Standing → ℕ → Option RunningMote
+abbrev pub ran_at : Standing → ℕ → Option Node
 ran_at p mote = slice_index_or p.service.motes.items mote None
 
 -- An event was played at the board of this mote.
@@ -52,10 +52,10 @@ setting_at motes mote event r p q at x = subst (λ m. Setting motes m event r p 
 
 -- ---- a board whose mote did not begin
 
-off_stands : (a before : Device) (v : Option RunningMote) (w : World) (m : ℕ) → v ≡ None → (before.image ≡ a.image) × ((site w m).runs ≡ None) × (Stands a.image (store_at w m) ⊎ IsNoVolume a.image) → IsVolume a.image → SiteStands before v (site w m)
+off_stands : (a before : Device) (v : Option Node) (w : World) (m : ℕ) → v ≡ None → (before.image ≡ a.image) × ((site w m).runs ≡ None) × (Stands a.image (store_at w m) ⊎ IsNoVolume a.image) → IsVolume a.image → SiteStands before v (site w m)
 off_stands a before v w m off x volume =
     let stands : Stands a.image (store_at w m) = ⊎_elim (λ s. s) (λ none. absurd (none volume.0 volume.1)) x.2 in
-    let P : Option RunningMote → Option Running → Type 0 = λ o r. MoteStands before.image o (store_at w m) r in
+    let P : Option Node → Option Running → Type 0 = λ o r. MoteStands before.image o (store_at w m) r in
     record {
       stands = subst (λ c. Stands c (store_at w m)) (sym x.0) stands;
       mote = subst (λ o. P o (site w m).runs) (sym off) (subst (λ r. P None r) (sym x.1) tt);

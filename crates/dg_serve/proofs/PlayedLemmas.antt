@@ -10,11 +10,11 @@ use Rattle.dg_rules.specs.Events.{mote_of, dt_of}
 use Rattle.dg_world.specs.Worlds.{SiteStands, MayRun}
 use Rattle.dg_world.specs.Alone.{IsReset, PlaysAlone, Powers}
 use Rattle.dg_world.specs.declared.outcome.Fault.{Fault}
-use Rattle.dg_world.specs.declared.world.RunningMote.{RunningMote}
+use Rattle.dg_node.specs.declared.node.Node.{Node}
 use Rattle.dg_world.proofs.PlaceLemmas.{got_or}
 use Rattle.dg_serve.specs.Standings.{PlayedAt, at_mote}
 
-module _ {N : Type 0} (device : N → Device) (r : Result Outbox Fault) (event : Event) (now i : ℕ) (motes : List (Option RunningMote)) (boards : List N) (v u : Option RunningMote) (a b : N) (many : i < length motes) (wide : i < length boards) (ran : v ≡ get_or motes i v) (stood : a ≡ get_or boards i a) (at : mote_of event ≡ i) (plays : (w : World) → SiteStands (device a) v (site w (mote_of event)) → mote_of event < length w.sites → now ≡ w.moment + dt_of event → wide_at w (mote_of event) ≡ true → PlaysAlone r w event u (device a) (device b)) (powers : IsReset event → Powers r (device a) (device b)) where
+module _ {N : Type 0} (device : N → Device) (r : Result Outbox Fault) (event : Event) (now i : ℕ) (motes : List (Option Node)) (boards : List N) (v u : Option Node) (a b : N) (many : i < length motes) (wide : i < length boards) (ran : v ≡ get_or motes i v) (stood : a ≡ get_or boards i a) (at : mote_of event ≡ i) (plays : (w : World) → SiteStands (device a) v (site w (mote_of event)) → mote_of event < length w.sites → now ≡ w.moment + dt_of event → wide_at w (mote_of event) ≡ true → PlaysAlone r w event u (device a) (device b)) (powers : IsReset event → Powers r (device a) (device b)) where
   ran_is : slice_index_or motes i None ≡ v
   ran_is = sym (get_or_read motes i v many ran None)
 
@@ -33,11 +33,11 @@ module _ {N : Type 0} (device : N → Device) (r : Result Outbox Fault) (event :
 
   pub played_at : (mote : ℕ) → i ≡ mote → PlayedAt r event mote now (at_mote (slice_index_or motes mote None) (map device boards)) (at_mote (slice_index_or (set motes i u) mote None) (map device (set boards i b)))
   played_at mote same =
-      let P : ℕ → Option RunningMote → Option RunningMote → Type 0 = λ m x y. PlayedAt r event m now (at_mote x (map device boards)) (at_mote y (map device (set boards i b))) in
+      let P : ℕ → Option Node → Option Node → Type 0 = λ m x y. PlayedAt r event m now (at_mote x (map device boards)) (at_mote y (map device (set boards i b))) in
       subst (λ m. P m (slice_index_or motes m None) (slice_index_or (set motes i u) m None)) same (subst (λ x. P i x (slice_index_or (set motes i u) i None)) (sym ran_is) (subst (λ y. P i v y) (sym runs_is) played_here))
 
 -- the mote at the index may run
-pub may_run : {N : Type 0} (device : N → Device) (now i mote : ℕ) (motes : List (Option RunningMote)) (boards : List N) (v : Option RunningMote) (a : N) → i < length motes → i < length boards → v ≡ get_or motes i v → a ≡ get_or boards i a → i ≡ mote
+pub may_run : {N : Type 0} (device : N → Device) (now i mote : ℕ) (motes : List (Option Node)) (boards : List N) (v : Option Node) (a : N) → i < length motes → i < length boards → v ≡ get_or motes i v → a ≡ get_or boards i a → i ≡ mote
     → ((d : Device) → slice_get (map device boards) mote ≡ Some d → MayRun d.image now (slice_index_or motes mote None)) → MayRun (device a).image now v
 may_run device now i mote motes boards v a many enough ran stood same may =
     let was : slice_get (map device boards) i ≡ Some (device a) = got_or device boards i a enough ∙ ap (λ x. Some (device x)) (sym stood) in

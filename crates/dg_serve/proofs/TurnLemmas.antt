@@ -20,7 +20,7 @@ use Rattle.dg_mote.specs.Timely.{Timely}
 use Rattle.dg_mote.proofs.TimelyLemmas.{timely_later}
 use Rattle.dg_world.specs.Alone.{IsAlone, IsReset}
 use Rattle.dg_world.specs.Worlds.{MayRun, MoteStands}
-use Rattle.dg_world.specs.declared.world.RunningMote.{RunningMote}
+use Rattle.dg_node.specs.declared.node.Node.{Node}
 use Rattle.dg_serve.specs.Services.{Part, Begins, Looks, Ticks, Moment, Steps, EventApplied, PartDone}
 use Rattle.dg_serve.specs.Traces.{event_lines}
 use Rattle.dg_serve.specs.Endings.{BoardsStand, FindsNoImage, FindsNoVolume, EventEnds, EndsInNext, BoardsLeft, TakesFor, FoundBy, HandedToFirst, PartlyHanded, LinkLeft, ClockLeft, OneTaken, event_of}
@@ -94,7 +94,7 @@ some_drawn motes begun links p m dt draw d y =
     (y.0, drawn (looked y.1 m.inboxes) m.service.timeline m.clock, stands_drawn motes begun links y.0 (looked y.1 m.inboxes) (record p { inboxes = m.inboxes }) m dt draw st d.timed d.boards d.motes refl)
 
 -- its mote may run
-may_run : (c : List ℕ) (v : Option RunningMote) (s : Store) (o : Option Running) (moment now : ℕ) → moment ≤ now → MoteStands c v s o → IfSome o (λ r. Timely r.mote moment) → MayRun c now v
+may_run : (c : List ℕ) (v : Option Node) (s : Store) (o : Option Running) (moment now : ℕ) → moment ≤ now → MoteStands c v s o → IfSome o (λ r. Timely r.mote moment) → MayRun c now v
 may_run c None s o moment now later stands timely = tt
 may_run c (Some x) s None moment now later stands timely = absurd stands
 may_run c (Some x) s (Some r) moment now later stands timely = (r.mote, s, stands.1, timely_later r.mote moment now later timely)
@@ -107,7 +107,7 @@ may_at motes ahead mote links m known y a was =
     may_run a.image (slice_index_or m.service.motes.items mote None) (site y.1.world mote).store (site y.1.world mote).runs y.1.world.moment m.service.timeline.moment (let n = st.moment in omega (arith, n)) x.mote (st.timely mote (omega (arith, known, st.sites)))
 
 -- a mote that is off may begin
-may_begin : (v : Option RunningMote) (c : List ℕ) (now : ℕ) → v ≡ None → MayRun c now v
+may_begin : (v : Option Node) (c : List ℕ) (now : ℕ) → v ≡ None → MayRun c now v
 may_begin v c now off = subst (λ o. MayRun c now o) (sym off) tt
 
 -- ---- what an event asks for, once its draw was made

@@ -26,7 +26,7 @@ use Rattle.dg_world.specs.Worlds.{SiteStands, MayRun}
 use Rattle.dg_world.specs.Alone.{IsAlone, IsReset, PlaysAlone, Powers}
 use Rattle.dg_world.specs.declared.outcome.Fault.{Fault}
 use Rattle.dg_world.specs.declared.outcome.Fault.TheVariants as fault
-use Rattle.dg_world.specs.declared.world.RunningMote.{RunningMote}
+use Rattle.dg_node.specs.declared.node.Node.{Node}
 use Rattle.dg_seed.specs.Draws.{generator_of}
 use Rattle.dg_serve.specs.Services.{Part, Moment, PartsDone, Course, course, Steps, handed_to, neighbours_by}
 use Rattle.dg_serve.specs.Traces.{UnwrittenLast, event_lines}
@@ -231,10 +231,10 @@ pub record EventAsks (motes mote : ℕ) (links : List (ℕ × ℕ)) (event : Eve
 
 -- what a mote runs, and the boards
 pub record AtMote : Type 0 where
-  pub runs : Option RunningMote
+  pub runs : Option Node
   pub boards : List Device
 
-abbrev pub at_mote : (runs : Option RunningMote) (boards : List Device) → AtMote
+abbrev pub at_mote : (runs : Option Node) (boards : List Device) → AtMote
 at_mote runs boards = record { runs = runs; boards = boards }
 
 -- An event at the board of a mote, which ran this before and behind it.

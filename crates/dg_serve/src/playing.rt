@@ -11,12 +11,13 @@ ghost use Rattle.dg_serve.specs.Standings.{PlayedAt, at_mote, stop_by, stops_by}
 use crate::stop::Stop;
 use dg_base::Event;
 use dg_mote::Outbox;
+use dg_node::Node;
 use dg_nor::Nor;
-use dg_world::{Fault, RunningMote, play_alone};
+use dg_world::{Fault, play_alone};
 
 /// What an event does at its mote and its board, at a moment.
 pub(crate) fn play<N: Nor>(
-    motes: &mut [Option<RunningMote>],
+    motes: &mut [Option<Node>],
     boards: &mut [N],
     mote: u8,
     now: u64,

@@ -15,16 +15,16 @@ use crate::timeline::Timeline;
 use dg_base::{Clock, Event, Sink};
 use dg_link::Link;
 use dg_netcfg::NetProfile;
+use dg_node::Node;
 use dg_nor::Nor;
 use dg_rules::agreement_is_kept;
 use dg_script::Line;
-use dg_world::RunningMote;
 use std::alloc::Global;
 
 /// The motes of a service, None where one is off, their time, and the text that is written next.
 #[derive(Drop)]
 pub(crate) struct Service {
-    pub(crate) motes: Vec<Option<RunningMote>>,
+    pub(crate) motes: Vec<Option<Node>>,
     pub(crate) timeline: Timeline,
     pub(crate) text: Vec<u8>,
     pub(crate) alloc: Global,

@@ -16,8 +16,8 @@ use dg_base::{Clock, Sink, Status, WriteFailed, push_u32};
 use dg_link::{Link, OpenFault};
 use dg_mote::a_mote_buffers_little;
 use dg_netcfg::NetProfile;
+use dg_node::Node;
 use dg_nor::Nor;
-use dg_world::RunningMote;
 use std::alloc::{AllocError, Global};
 
 /// Runs the motes of a profile, all of them wide, for so many turns, over the boards, the link and the clock, and writes
@@ -134,7 +134,7 @@ fn open<L: Link>(alloc: Global, profile: &NetProfile, link: &mut L) -> Result<()
 }
 
 /// So many motes, all of them off.
-fn all_off(alloc: Global, motes: u8) -> Result<Vec<Option<RunningMote>>, AllocError>
+fn all_off(alloc: Global, motes: u8) -> Result<Vec<Option<Node>>, AllocError>
     ensures { IfOk result (λ off. off.items ≡ replicate motes None) }
 {
     let mut off = Vec::with_capacity(alloc, usize::from(motes))?;

@@ -132,6 +132,15 @@ impl Trickle {
         Act::Expired
     }
 
+    /// The moment before which a tick does nothing: the one at which it fires, or at which its interval is over.
+    pub fn due(&self) -> u64
+        ensures waits { (moment draw : ℕ) → moment < result
+            → (act_of self.now moment ≡ Act.Nothing) × (after_tick self.now moment draw ≡ self.now) }
+        ensures acts { (moment : ℕ) → result ≤ moment → act_of self.now moment ≡ Act.Nothing → ⊥ }
+    {
+        self.begin + u64::from(if self.fired { self.interval } else { self.fires_after })
+    }
+
     // An interval begins. The moment from which on it may fire is drawn from its second half.
     fn begin(interval: u32, now: u64, draw: u32) -> Self
         requires shortest { shortest_interval ≤ interval }

@@ -19,12 +19,12 @@ use Rattle.dg_script.specs.declared.report.Report.{Report}
 use Rattle.dg_world.specs.Alone.{uncut as uncut_step, PlaysAlone, Powers}
 use Rattle.dg_world.specs.Outcomes.{outcome_of, halt_of}
 use Rattle.dg_world.specs.OutcomeEndings.{outcome_lines, OutcomeEnds}
-use Rattle.dg_world.specs.Hosts.{host}
+use Rattle.dg_node.specs.Hosts.{host}
 use Rattle.dg_world.specs.Worlds.{SiteStands}
 use Rattle.dg_world.specs.declared.outcome.Fault.{Fault}
 use Rattle.dg_world.specs.declared.outcome.Fault.TheVariants as fault
 use Rattle.dg_world.specs.declared.outcome.Outcome.{Outcome}
-use Rattle.dg_world.specs.declared.world.RunningMote.{RunningMote}
+use Rattle.dg_node.specs.declared.node.Node.{Node}
 use Rattle.dg_world.specs.EventOutcomes.{EventOutcome, Halt, Stopped, NoImage}
 use Rattle.dg_world.proofs.CutLemmas.{uncut}
 use Rattle.dg_world.proofs.DoneLemmas.{step_outcome}
@@ -32,10 +32,10 @@ use Rattle.dg_world.proofs.OutcomeLemmas.{frame_told}
 
 -- ---- which event it is
 
-abbrev pub AppliesAlone : Result EventOutcome Halt → RuleWorld → (v u : Option RunningMote) → ℕ → Device → Device → Event → Type 0
+abbrev pub AppliesAlone : Result EventOutcome Halt → RuleWorld → (v u : Option Node) → ℕ → Device → Device → Event → Type 0
 AppliesAlone r w v u now a b event = SiteStands a v (site w (mote_of event)) → now ≡ w.moment + dt_of event → wide_at w (mote_of event) ≡ true → OutcomeEnds r w (mote_of event) (does w event) (host a v) (host b u)
 
-module _ (r : Result EventOutcome Halt) (w : RuleWorld) (v u : Option RunningMote) (now : ℕ) (a b : Device) where
+module _ (r : Result EventOutcome Halt) (w : RuleWorld) (v u : Option Node) (now : ℕ) (a b : Device) where
   at_moment : (m : ℕ) (D : ℕ → Does) (moment : ℕ) → now ≡ moment → OutcomeEnds r w m (D now) (host a v) (host b u) → OutcomeEnds r w m (D moment) (host a v) (host b u)
   at_moment m D moment e ends = subst (λ (n : ℕ). OutcomeEnds r w m (D n) (host a v) (host b u)) e ends
 
@@ -55,14 +55,14 @@ module _ (r : Result EventOutcome Halt) (w : RuleWorld) (v u : Option RunningMot
 
 -- ---- how it ends
 
-pub alone_done : (t : Outcome) (w : RuleWorld) (e : Event) (v u : Option RunningMote) (a b : Device) → mote_of e < length w.sites → SiteStands a v (site w (mote_of e)) → OutcomeEnds (Ok (outcome_of t)) w (mote_of e) (does w e) (host a v) (host b u)
+pub alone_done : (t : Outcome) (w : RuleWorld) (e : Event) (v u : Option Node) (a b : Device) → mote_of e < length w.sites → SiteStands a v (site w (mote_of e)) → OutcomeEnds (Ok (outcome_of t)) w (mote_of e) (does w e) (host a v) (host b u)
     → PlaysAlone (Ok t.outbox) w e u a b
 alone_done t w e v u a b known stands ends =
     let told : List Report = filter (is_reported true) (outcome_lines (mote_of e) (outcome_of t)) in
     let s = step_outcome w (uncut_step e) true v u (sent_in t.outbox) (outcome_of t) a b [] told known stands (uncut (Ok (outcome_of t)) w (mote_of e) (does w e) v u a b ends) (frame_told t) refl in
     record { ends = record { reported = told; done = s.ends }; endures = s.endures; count = s.count }
 
-pub alone_fails : (f : Fault) (t : Outcome) (w : RuleWorld) (e : Event) (v u : Option RunningMote) (a b : Device) → OutcomeEnds (Err (halt_of f t.before)) w (mote_of e) (does w e) (host a v) (host b u) → PlaysAlone (Err f) w e u a b
+pub alone_fails : (f : Fault) (t : Outcome) (w : RuleWorld) (e : Event) (v u : Option Node) (a b : Device) → OutcomeEnds (Err (halt_of f t.before)) w (mote_of e) (does w e) (host a v) (host b u) → PlaysAlone (Err f) w e u a b
 alone_fails fault.Stopped t w e v u a b ends =
     let p = uncut (Err (Stopped t.before)) w (mote_of e) (does w e) v u a b ends in
     record { ends = p.ends; endures = p.endures; count = tt }

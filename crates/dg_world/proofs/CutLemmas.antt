@@ -18,17 +18,17 @@ use Rattle.dg_rules.specs.Events.{Does, Refuses, Goes, trail_of}
 use Rattle.dg_base.specs.declared.events.Cut.{Cut as PowerCut}
 use Rattle.dg_world.specs.OutcomeEndings.{TellsDeed, DeedWent, StoppedOn, OutcomeEnds}
 use Rattle.dg_world.specs.Cuts.{ended, EventIsWhole, EventIsCut, IsStopped, EventPlayed}
-use Rattle.dg_world.specs.Hosts.{host}
-use Rattle.dg_world.specs.declared.chip_report.ChipReport.{ChipReport}
-use Rattle.dg_world.specs.declared.world.RunningMote.{RunningMote}
+use Rattle.dg_node.specs.Hosts.{host}
+use Rattle.dg_node.specs.declared.report.ChipReport.{ChipReport}
+use Rattle.dg_node.specs.declared.node.Node.{Node}
 use Rattle.dg_world.specs.EventOutcomes.{EventOutcome, Refused, Unreported, Sends, Changes, Starts, EventEnded, Halt, Stopped, NotAVolume, NoImage}
 
 -- ---- without a cut
 
-went_whole : (w : RuleWorld) (m : ℕ) (does : Does) (u : Option RunningMote) (a b : Device) (outcome : EventOutcome) → DeedWent w m does u a b outcome → EventIsWhole w m does None u b.image outcome
+went_whole : (w : RuleWorld) (m : ℕ) (does : Does) (u : Option Node) (a b : Device) (outcome : EventOutcome) → DeedWent w m does u a b outcome → EventIsWhole w m does None u b.image outcome
 went_whole w m does u a b outcome x = record { deed = x.deed; goes = x.goes; whole = refl; tells = x.tells }
 
-pub uncut : (r : Result EventOutcome Halt) (w : RuleWorld) (m : ℕ) (does : Does) (v u : Option RunningMote) (a b : Device) → OutcomeEnds r w m does (host a v) (host b u) → EventPlayed (ended false r) w m does None (host a v) (host b u)
+pub uncut : (r : Result EventOutcome Halt) (w : RuleWorld) (m : ℕ) (does : Does) (v u : Option Node) (a b : Device) → OutcomeEnds r w m does (host a v) (host b u) → EventPlayed (ended false r) w m does None (host a v) (host b u)
 uncut (Ok (Refused why)) w m does v u a b x = record { ends = (x.0, x.1.same_image, x.2); endures = Endures_ran x.1.ran; count = x.1.ran.faults }
 uncut (Ok Unreported) w m does v u a b x = record { ends = went_whole w m does u a b Unreported x; endures = Endures_ran x.ran; count = x.ran.faults }
 uncut (Ok (Sends frame)) w m does v u a b x = record { ends = went_whole w m does u a b (Sends frame) x; endures = Endures_ran x.ran; count = x.ran.faults }
@@ -76,7 +76,7 @@ fused_count cut a b x y f r = sym (f.faults_then (r.blown ∙ f.whole)) ∙ r.fa
 fused_halts : {n done : ℕ} (cut : PowerCut) (a b x y : Device) → IsFused cut a b x y → Halts n done x y → Endures (beneath_of a) (beneath_of b)
 fused_halts cut a b x y f h = endures_by (beneath_of a) (beneath_of b) x.beneath y.beneath f.beneath f.beneath_then h.beneath
 
-fused_whole : (cut : PowerCut) (w : RuleWorld) (m : ℕ) (does : Does) (u : Option RunningMote) (a b x y : Device) (outcome : EventOutcome) → IsFused cut a b x y → DeedWent w m does u x y outcome → EventIsWhole w m does (Some cut) u b.image outcome
+fused_whole : (cut : PowerCut) (w : RuleWorld) (m : ℕ) (does : Does) (u : Option Node) (a b x y : Device) (outcome : EventOutcome) → IsFused cut a b x y → DeedWent w m does u x y outcome → EventIsWhole w m does (Some cut) u b.image outcome
 fused_whole cut w m does u a b x y outcome f g = record {
   deed = g.deed;
   goes = g.goes;
@@ -114,7 +114,7 @@ stopped_itself cut w m does a b x y before stopped f s = record {
   leaves = subst (λ c. MayLeave Stands IsNear (trail_of does (store_at w m)) s.stops.done c) f.image_then s.stops.leaves;
 }
 
-fused_stopped : (cut : PowerCut) (w : RuleWorld) (m : ℕ) (does : Does) (v u : Option RunningMote) (a b x y : Device) (before : Option ChipReport) (blown stopped : Bool) → y.blown ≡ blown → b.stopped ≡ stopped → IsFused cut a b x y → StoppedOn does (store_at w m) x y before
+fused_stopped : (cut : PowerCut) (w : RuleWorld) (m : ℕ) (does : Does) (v u : Option Node) (a b x y : Device) (before : Option ChipReport) (blown stopped : Bool) → y.blown ≡ blown → b.stopped ≡ stopped → IsFused cut a b x y → StoppedOn does (store_at w m) x y before
     → EventPlayed (ended (blown && not stopped) (Err (Stopped before))) w m does (Some cut) (host a v) (host b u)
 fused_stopped cut w m does v u a b x y before true false blew awake f s =
     let endures = fused_halts cut a b x y f s.stops.halts in
@@ -123,7 +123,7 @@ fused_stopped cut w m does v u a b x y before true true blew stopped f s = recor
 fused_stopped cut w m does v u a b x y before false stopped whole is f s =
     record { ends = stopped_itself cut w m does a b x y before (f.stopped whole s.stops.halts.stopped) f s; endures = fused_halts cut a b x y f s.stops.halts; count = tt }
 
-pub fused : (r : Result EventOutcome Halt) (cut : PowerCut) (w : RuleWorld) (m : ℕ) (does : Does) (v u : Option RunningMote) (a b x y : Device) → IsFused cut a b x y → OutcomeEnds r w m does (host x v) (host y u) → EventPlayed (ended (y.blown && not b.stopped) r) w m does (Some cut) (host a v) (host b u)
+pub fused : (r : Result EventOutcome Halt) (cut : PowerCut) (w : RuleWorld) (m : ℕ) (does : Does) (v u : Option Node) (a b x y : Device) → IsFused cut a b x y → OutcomeEnds r w m does (host x v) (host y u) → EventPlayed (ended (y.blown && not b.stopped) r) w m does (Some cut) (host a v) (host b u)
 fused (Ok (Refused why)) cut w m does v u a b x y f t = record { ends = (t.0, sym f.image_then ∙ t.1.same_image ∙ f.image, t.2); endures = fused_ran cut a b x y f t.1.ran; count = fused_count cut a b x y f t.1.ran }
 fused (Ok Unreported) cut w m does v u a b x y f t = record { ends = fused_whole cut w m does u a b x y Unreported f t; endures = fused_ran cut a b x y f t.ran; count = fused_count cut a b x y f t.ran }
 fused (Ok (Sends frame)) cut w m does v u a b x y f t = record { ends = fused_whole cut w m does u a b x y (Sends frame) f t; endures = fused_ran cut a b x y f t.ran; count = fused_count cut a b x y f t.ran }
@@ -167,7 +167,7 @@ is_fused device cut a f g name counted made = record {
   stopped = λ whole stopped. or_second g.blown (device (inner_of g)).stopped whole stopped;
 }
 
-pub played_as : (r q : Result EventEnded Halt) (cut other : Option PowerCut) (w : RuleWorld) (m : ℕ) (does : Does) (v u : Option RunningMote) (a b : Device) → r ≡ q → cut ≡ other → EventPlayed q w m does other (host a v) (host b u) → EventPlayed r w m does cut (host a v) (host b u)
+pub played_as : (r q : Result EventEnded Halt) (cut other : Option PowerCut) (w : RuleWorld) (m : ℕ) (does : Does) (v u : Option Node) (a b : Device) → r ≡ q → cut ≡ other → EventPlayed q w m does other (host a v) (host b u) → EventPlayed r w m does cut (host a v) (host b u)
 played_as r q cut other w m does v u a b e f p =
     let P : Result EventEnded Halt → Option PowerCut → Type 0 = λ x y. EventPlayed x w m does y (host a v) (host b u) in
     subst (λ x. P x cut) (sym e) (subst (λ y. P q y) (sym f) p)

@@ -1,19 +1,14 @@
 -- What each event does at the board of its mote.
 use Rattle.std.proofs.Common.{◌≡◌, ℕ, Bool, true, false, List, sym, subst, refl, ap, ◌∙◌}
-use Rattle.std.specs.Prelude.{if◌then◌else◌, is_none, is_some, not, Option, Some, None, Result, Ok, Err}
+use Rattle.std.specs.Prelude.{if◌then◌else◌, is_none, is_some, not, Option, Some, None, Result, Ok}
 use Rattle.dg_nor.specs.Device.{Device}
 use Rattle.dg_nor.specs.Reads.{Looked}
 use Rattle.dg_control.specs.declared.snapshot.Order.{Order}
 use Rattle.dg_volume.specs.Store.{Store}
 use Rattle.dg_volume.specs.Stands.{Stands}
-use Rattle.dg_volume.specs.declared.volume.StartCause.TheVariants as start_cause
-use Rattle.dg_volume.specs.declared.volume.Volume.{Volume}
-use Rattle.dg_mote.specs.Model.{MoteState, maintains}
-use Rattle.dg_mote.specs.Motes.{IsMote}
-use Rattle.dg_mote.specs.declared.mote.Mote.{Mote}
-use Rattle.dg_mote.specs.Effects.{boots, reset_effect}
+use Rattle.dg_mote.specs.Effects.{reset_effect}
 use Rattle.dg_rules.specs.World.{World as RuleWorld, Running, site, store_at, wide_at, frame_at, linked, last_frame}
-use Rattle.dg_rules.specs.Events.{Does, Refuses, of_effect, reloaded, tick_does, hear_by, heard_sent, heard_last, unless_off, knows, injects, orders, does, mote_of}
+use Rattle.dg_rules.specs.Events.{Does, Refuses, of_effect, tick_does, hear_by, heard_sent, heard_last, unless_off, knows, injects, orders, does, mote_of}
 use Rattle.dg_base.specs.declared.events.Event.{Event}
 use Rattle.dg_base.specs.declared.events.Event.TheVariants.{Tick, Hear, Last, Reset, Inject, Order as OrderEvent, Frame}
 use Rattle.dg_script.specs.declared.report.Cause.{Cause}
@@ -21,18 +16,17 @@ use Rattle.dg_script.specs.declared.report.Cause.TheVariants as cause
 use Rattle.dg_world.specs.Shareds.{IsShared}
 use Rattle.dg_world.specs.Worlds.{MoteStands, SiteStands}
 use Rattle.dg_world.specs.OutcomeEndings.{OutcomeEnds}
-use Rattle.dg_world.specs.Hosts.{host}
-use Rattle.dg_world.specs.declared.starting.Begun.{Begun}
+use Rattle.dg_node.specs.Hosts.{host}
 use Rattle.dg_world.specs.Occasions.{AppliesIn}
 use Rattle.dg_world.specs.declared.occasion.Occasion.{Occasion}
-use Rattle.dg_world.specs.declared.world.RunningMote.{RunningMote}
-use Rattle.dg_world.specs.EventOutcomes.{EventOutcome, Refused, Starts, Halt}
+use Rattle.dg_node.specs.declared.node.Node.{Node}
+use Rattle.dg_world.specs.EventOutcomes.{EventOutcome, Refused, Halt}
 
 -- what `apply_event` ensures
-abbrev pub ApplyEnsures : Result EventOutcome Halt → RuleWorld → Occasion → (v u : Option RunningMote) → Device → Device → Event → Type 0
+abbrev pub ApplyEnsures : Result EventOutcome Halt → RuleWorld → Occasion → (v u : Option Node) → Device → Device → Event → Type 0
 ApplyEnsures r w o v u a b event = AppliesIn o w event a v → OutcomeEnds r w (mote_of event) (does w event) (host a v) (host b u)
 
-module _ (r : Result EventOutcome Halt) (w : RuleWorld) (o : Occasion) (v u : Option RunningMote) (a b : Device) where
+module _ (r : Result EventOutcome Halt) (w : RuleWorld) (o : Occasion) (v u : Option Node) (a b : Device) where
   -- at the mote and the moment of the event
   placed : (m moment : ℕ) (D : ℕ → ℕ → Does) → o.mote ≡ m → o.moment ≡ moment
       → (SiteStands a v (site w o.mote) → OutcomeEnds r w o.mote (D o.mote o.moment) (host a v) (host b u)) → SiteStands a v (site w m) → OutcomeEnds r w m (D m moment) (host a v) (host b u)
@@ -95,45 +89,23 @@ module _ (r : Result EventOutcome Halt) (w : RuleWorld) (o : Occasion) (v u : Op
   pub not_off : (m : ℕ) (D : Does) (c : List ℕ) (s : Store) (y : Option Running) → MoteStands c v s y → is_none v ≡ false → OutcomeEnds r w m D (host a v) (host b u) → OutcomeEnds r w m (unless_off y D) (host a v) (host b u)
   not_off m D c s y stands on ends = subst (λ (x : Does). OutcomeEnds r w m x (host a v) (host b u)) (sym (is_on v y stands on)) ends
     where
-      is_on : (x : Option RunningMote) (y : Option Running) → MoteStands c x s y → is_none x ≡ false → unless_off y D ≡ D
+      is_on : (x : Option Node) (y : Option Running) → MoteStands c x s y → is_none x ≡ false → unless_off y D ≡ D
       is_on None y stands on = absurd cc
       is_on (Some x) None stands on = absurd stands
       is_on (Some x) (Some y) stands on = refl
 
 -- one that is off refuses it
-pub is_off : (w : RuleWorld) (m : ℕ) (D : Does) (v : Option RunningMote) (c : List ℕ) (s : Store) (o : Option Running) (a : Device) → MoteStands c v s o → is_none v ≡ true → Looked a a → OutcomeEnds (Ok (Refused cause.Off)) w m (unless_off o D) (host a v) (host a v)
+pub is_off : (w : RuleWorld) (m : ℕ) (D : Does) (v : Option Node) (c : List ℕ) (s : Store) (o : Option Running) (a : Device) → MoteStands c v s o → is_none v ≡ true → Looked a a → OutcomeEnds (Ok (Refused cause.Off)) w m (unless_off o D) (host a v) (host a v)
 is_off w m D None c s None a stands off looked = (refl, looked, refl)
 is_off w m D None c s (Some r) a stands off looked = absurd stands
 is_off w m D (Some v) c s o a stands off looked = absurd cc
 
 -- which frame is heard
-pub refuses_at : {A : Type 0} (D : A → Does) (x y : A) (why : Cause) (w : RuleWorld) (m : ℕ) (v : Option RunningMote) (a : Device) → x ≡ y → D y ≡ Refuses why → Looked a a → OutcomeEnds (Ok (Refused why)) w m (D x) (host a v) (host a v)
+pub refuses_at : {A : Type 0} (D : A → Does) (x y : A) (why : Cause) (w : RuleWorld) (m : ℕ) (v : Option Node) (a : Device) → x ≡ y → D y ≡ Refuses why → Looked a a → OutcomeEnds (Ok (Refused why)) w m (D x) (host a v) (host a v)
 refuses_at D x y why w m v a e is looked = (ap D e ∙ is, looked, refl)
 
-pub ends_at : {A : Type 0} (D : A → Does) (x y : A) (r : Result EventOutcome Halt) (w : RuleWorld) (m : ℕ) (v u : Option RunningMote) (a b : Device) → x ≡ y → OutcomeEnds r w m (D y) (host a v) (host b u) → OutcomeEnds r w m (D x) (host a v) (host b u)
+pub ends_at : {A : Type 0} (D : A → Does) (x y : A) (r : Result EventOutcome Halt) (w : RuleWorld) (m : ℕ) (v u : Option Node) (a b : Device) → x ≡ y → OutcomeEnds r w m (D y) (host a v) (host b u) → OutcomeEnds r w m (D x) (host a v) (host b u)
 ends_at D x y r w m v u a b e ends = subst (λ z. OutcomeEnds r w m (D z) (host a v) (host b u)) (sym e) ends
-
--- ---- starts by power
-
-pub reset_starts : (x : Begun) (w : RuleWorld) (m id : ℕ) (wide : Bool) (now draw : ℕ) (v : Option RunningMote) (a b : Device) → m ≡ id → OutcomeEnds (Ok (Starts x.line)) w m (of_effect w (boots start_cause.Power (store_at w m) id wide now draw) None) (host a v) (host b (Some x.running))
-    → OutcomeEnds (Ok (Starts x.line)) w m (of_effect w (reset_effect (store_at w m) m wide now draw) None) (host a v) (host b (Some x.running))
-unfolding reset_effect
-reset_starts x w m id wide now draw v a b at ends = subst (λ (n : ℕ). OutcomeEnds (Ok (Starts x.line)) w m (of_effect w (boots start_cause.Power (store_at w m) n wide now draw) None) (host a v) (host b (Some x.running))) (sym at) ends
-
-pub reset_halts : (h : Halt) (w : RuleWorld) (m id : ℕ) (wide : Bool) (now draw : ℕ) (v u : Option RunningMote) (a b : Device) → m ≡ id → OutcomeEnds (Err h) w m (of_effect w (boots start_cause.Power (store_at w m) id wide now draw) None) (host a v) (host b u)
-    → OutcomeEnds (Err h) w m (of_effect w (reset_effect (store_at w m) m wide now draw) None) (host a v) (host b u)
-unfolding reset_effect
-reset_halts h w m id wide now draw v u a b at ends = subst (λ (n : ℕ). OutcomeEnds (Err h) w m (of_effect w (boots start_cause.Power (store_at w m) n wide now draw) None) (host a v) (host b u)) (sym at) ends
-
--- ---- reloading
-
-pub reloads : (v : Option RunningMote) (x : RunningMote) (mote : Mote) (c d : List ℕ) (s t : Store) (r : Option Running) (volume : Volume) (now draw : ℕ) → v ≡ Some x → ((m : MoteState) → IsMote c x.mote m s → IsMote d mote (maintains m now draw) t)
-    → MoteStands c v s r → MoteStands d (Some (record { image_version = x.image_version; mote = mote })) t (reloaded r now draw)
-reloads v x mote c d s t r volume now draw is again stands = by_running r (subst (λ (o : Option RunningMote). MoteStands c o s r) is stands)
-  where
-    by_running : (o : Option Running) → MoteStands c (Some x) s o → MoteStands d (Some (record { image_version = x.image_version; mote = mote })) t (reloaded o now draw)
-    by_running None h = h
-    by_running (Some y) h = (h.0, again y.mote h.1)
 
 -- what is reported of a mote that is off
 pub none_told : {A : Type 0} (o : Option A) (result b : Bool) → is_some o ≡ not result → result ≡ b → is_none o ≡ b
@@ -146,11 +118,11 @@ none_told o result b told is = ap not told ∙ twice result ∙ is
 -- ---- images that a narrow mote does not know
 
 -- what it knows is done, and all else refused
-pub known_ends : (D : Does) (r : Result EventOutcome Halt) (w : RuleWorld) (m : ℕ) (v u : Option RunningMote) (a b : Device) (x known : Bool) → x ≡ known → known ≡ true → OutcomeEnds r w m D (host a v) (host b u)
+pub known_ends : (D : Does) (r : Result EventOutcome Halt) (w : RuleWorld) (m : ℕ) (v u : Option Node) (a b : Device) (x known : Bool) → x ≡ known → known ≡ true → OutcomeEnds r w m D (host a v) (host b u)
     → OutcomeEnds r w m (if x then D else Refuses cause.Image) (host a v) (host b u)
 known_ends D r w m v u a b x known same is ends = subst (λ (y : Bool). OutcomeEnds r w m (if y then D else Refuses cause.Image) (host a v) (host b u)) (sym (same ∙ is)) ends
 
-pub unknown_ends : (D : Does) (w : RuleWorld) (m : ℕ) (v : Option RunningMote) (a : Device) (x known : Bool) → x ≡ known → known ≡ false → Looked a a → OutcomeEnds (Ok (Refused cause.Image)) w m (if x then D else Refuses cause.Image) (host a v) (host a v)
+pub unknown_ends : (D : Does) (w : RuleWorld) (m : ℕ) (v : Option Node) (a : Device) (x known : Bool) → x ≡ known → known ≡ false → Looked a a → OutcomeEnds (Ok (Refused cause.Image)) w m (if x then D else Refuses cause.Image) (host a v) (host a v)
 unknown_ends D w m v a x known same is looked = (ap (λ (y : Bool). if y then D else Refuses cause.Image) (same ∙ is), looked, refl)
 
 -- which images a mote knows, by its width

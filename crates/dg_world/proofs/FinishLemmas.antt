@@ -25,11 +25,11 @@ use Rattle.dg_script.specs.declared.report.Report.TheVariants.{MoteOn}
 use Rattle.dg_world.specs.Applied.{SameBoards, ReadFlash}
 use Rattle.dg_world.specs.Finished.{mote_report, kept_report, kept_reports}
 use Rattle.dg_world.specs.Formatted.{FirstBoards}
-use Rattle.dg_world.specs.ChipReports.{IsReportOf}
+use Rattle.dg_node.specs.Reports.{IsReportOf}
 use Rattle.dg_world.specs.Worlds.{MoteStands, SiteStands, IsWorld}
 use Rattle.dg_world.specs.declared.finish.BoardStopped.{BoardStopped}
-use Rattle.dg_world.specs.declared.chip_report.ChipReport.{ChipReport}
-use Rattle.dg_world.specs.declared.world.RunningMote.{RunningMote}
+use Rattle.dg_node.specs.declared.report.ChipReport.{ChipReport}
+use Rattle.dg_node.specs.declared.node.Node.{Node}
 use Rattle.dg_world.specs.declared.world.World.{World}
 use Rattle.dg_world.proofs.BoardLemmas.{Used, same_some}
 use Rattle.dg_world.proofs.FormatLemmas.{same_err, first_none, first_more, unused, is_now, is_other}
@@ -37,7 +37,7 @@ use Rattle.dg_world.proofs.ChipReportLemmas.{range_more, same_over}
 
 -- ---- the lines of one mote
 
-mote_is : (m : ℕ) (c : List ℕ) (v : Option RunningMote) (s : Store) (r : Option Running) → MoteStands c v s r → mote_report m v ≡ mote_line m r
+mote_is : (m : ℕ) (c : List ℕ) (v : Option Node) (s : Store) (r : Option Running) → MoteStands c v s r → mote_report m v ≡ mote_line m r
 mote_is m c None s None stands = refl
 mote_is m c (Some v) s (Some r) stands = ap (λ (k : ImageVersion). MoteOn m k.image k.version) stands.0
 mote_is m c None s (Some r) stands = absurd stands
@@ -66,7 +66,7 @@ keeps_with m x i some =
     ap (kept_reports m x) e ∙ keeps_more m x (i - 1)
     ∙ ap (λ (k : ℕ). kept_reports m x (i - 1) ++ option_to_list (kept_report m k (slice_index_or x.kept k None))) g
 
-pub site_told : (m : ℕ) (d : Device) (v : Option RunningMote) (x : ChipReport) (s : Site) → SiteStands d v s → IsReportOf x s.store → mote_report m v ∷ kept_reports m x (images - 1) ≡ site_lines m s
+pub site_told : (m : ℕ) (d : Device) (v : Option Node) (x : ChipReport) (s : Site) → SiteStands d v s → IsReportOf x s.store → mote_report m v ∷ kept_reports m x (images - 1) ≡ site_lines m s
 site_told m d v x s stands is_report =
     let f : ℕ → Option Report = λ i. kept_report m i (slice_index_or x.kept i None) in
     let g : ℕ → Option Report = λ i. kept_line m i (held s.store i) in
@@ -150,13 +150,13 @@ still_world v w old new same is =
     }
 
 -- the board that is read next is as before, and stands for its site
-pub next_site : (v : World) (w : RuleWorld) (n : ℕ) (old now : List Device) (d : Device) (runs : Option RunningMote) → IsWorld v old w → ReadTo n old now → slice_get now n ≡ Some d → n < length v.motes.items
+pub next_site : (v : World) (w : RuleWorld) (n : ℕ) (old now : List Device) (d : Device) (runs : Option Node) → IsWorld v old w → ReadTo n old now → slice_get now n ≡ Some d → n < length v.motes.items
     → runs ≡ slice_index_or v.motes.items n None → SiteStands d runs (site w n)
 next_site v w n old now d runs is to here within at =
     let known : n < length w.sites = omega (arith, within, is.motes) in
-    subst (λ (r : Option RunningMote). SiteStands d r (site w n)) (sym at) (is.sites n d known (sym (to.first.others n (omega arith)) ∙ here))
+    subst (λ (r : Option Node). SiteStands d r (site w n)) (sym at) (is.sites n d known (sym (to.first.others n (omega arith)) ∙ here))
 
-pub is_volume : (d : Device) (runs : Option RunningMote) (x : Site) → SiteStands d runs x → IsVolume d.image
+pub is_volume : (d : Device) (runs : Option Node) (x : Site) → SiteStands d runs x → IsVolume d.image
 is_volume d runs x stands = (x.store, stands.stands)
 
 pub flash_of : (board : ℕ) (e : BoardStopped) (old new : List Device) → (let x : Result (Unit {0}) BoardStopped = Err (record { board = board }) in x ≡ Err e) → ReadFlash board old new → ReadFlash e.board old new
@@ -165,7 +165,7 @@ flash_of board e old new is stops =
     subst (λ (x : BoardStopped). ReadFlash x.board old new) same stops
 
 -- what stands at an index, whatever is answered past the end
-pub read_at : (motes : List (Option RunningMote)) (n : ℕ) (x : Option RunningMote) → n < length motes → x ≡ get_or motes n x → x ≡ slice_index_or motes n None
+pub read_at : (motes : List (Option Node)) (n : ℕ) (x : Option Node) → n < length motes → x ≡ get_or motes n x → x ≡ slice_index_or motes n None
 read_at motes n x within at = at ∙ sym (get_or_from_slice_get motes n (get_or motes n x) None (slice_get-get_or motes n x within))
 
 -- the board of a mote is there

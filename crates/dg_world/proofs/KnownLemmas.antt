@@ -1,21 +1,15 @@
 -- What an event sees of the order of its chip, and what it reads.
-use Rattle.std.proofs.Common.{◌≡◌, ◌≢◌, ◌⊎◌, ℕ, ◌+◌, ◌*◌, ◌≤◌, ◌||◌, Bool, true, false, List, refl, sym, ap, ◌∙◌, subst, inl, inr, ⊎_elim, arith}
+use Rattle.std.proofs.Common.{◌≡◌, ◌⊎◌, ℕ, ◌+◌, ◌*◌, ◌≤◌, ◌||◌, Bool, true, false, List, refl, sym, ap, ◌∙◌, subst, inl, inr, ⊎_elim, arith}
 use Rattle.std.specs.Prelude.{Option, Some, None, Result, Ok, Err, OnOk, OnErr, IfSome, ◌↔◌, is_none}
 use Rattle.dg_nor.specs.Device.{Device, Took, RisesAtMost}
-use Rattle.dg_nor.specs.Reads.{Looked}
 use Rattle.dg_nor.proofs.TakenLemmas.{Took-same, Took_then, Took-more}
 use Rattle.dg_control.specs.Store.{IsOrderlyChip}
 use Rattle.dg_control.specs.Sizes.{place_size}
 use Rattle.dg_control.specs.Mounted.{IsControlOf}
-use Rattle.dg_object.specs.Object.{Row}
-use Rattle.dg_slot.specs.Layout.{page_size}
 use Rattle.dg_volume.specs.Remount.{RemountBytes}
 use Rattle.dg_volume.specs.Stands.{control_of, IsVolume}
-use Rattle.dg_volume.specs.declared.volume.InjectFault.{InjectFault}
-use Rattle.dg_volume.specs.declared.volume.InjectFault.TheVariants as inject
-use Rattle.dg_volume.specs.declared.volume.Volume.{Volume}
 use Rattle.dg_rules.specs.World.{World as RuleWorld, Running}
-use Rattle.dg_rules.specs.Events.{Deed, Does, Refuses, Goes, does, inject_cause}
+use Rattle.dg_rules.specs.Events.{Deed, Does, Refuses, Goes, does}
 use Rattle.dg_volume.specs.Store.{Store}
 use Rattle.dg_mote.specs.Motes.{volume_of, sent_in}
 use Rattle.std.proofs.lemmas.Option.{same_Some}
@@ -25,80 +19,28 @@ use Rattle.dg_world.specs.Worlds.{MoteStands}
 use Rattle.dg_world.specs.EventOutcomes.{EventOutcome, Refused, Unreported, Sends, Changes, Starts, Whole}
 use Rattle.dg_world.specs.OutcomeEndings.{OutcomeEnds}
 use Rattle.dg_world.specs.Cuts.{PlayEnds, ended}
-use Rattle.dg_world.specs.Hosts.{host}
+use Rattle.dg_node.specs.Hosts.{host}
 use Rattle.dg_world.specs.Outcomes.{outcome_by, outcome_of, halt_of, as_outcome, ended_as}
-use Rattle.dg_world.specs.declared.chip_report.ChipReport.{ChipReport}
-use Rattle.dg_world.specs.declared.outcome.StartLine.{StartLine}
+use Rattle.dg_node.specs.declared.report.ChipReport.{ChipReport}
+use Rattle.dg_node.specs.declared.answers.StartedImage.{StartedImage}
 use Rattle.dg_world.specs.declared.outcome.Power.{Power}
 use Rattle.dg_world.specs.declared.outcome.Power.TheVariants as power
 use Rattle.dg_script.specs.declared.report.Cause.{Cause}
 use Rattle.dg_script.specs.declared.report.Cause.TheVariants as cause
-use Rattle.dg_volume.specs.declared.volume.OrderFault.{OrderFault}
-use Rattle.dg_volume.specs.declared.volume.OrderFault.TheVariants as order_fault
-use Rattle.dg_world.proofs.InjectLemmas.{order_is_stopped}
-use Rattle.dg_world.specs.Known.{IsKnownChip, SeesOrder, InjectReads, OrderReads, beyond, EventSees, EventReads, StepSees, SeesCut, SeesInjected, IsUndeclared, IsLookedInto, MakesKnown, KnownAfter, IsInject, IsOrder, OrderTakes, InjectTakes}
+use Rattle.dg_world.specs.Known.{InjectReads, beyond, EventSees, EventReads, StepSees, SeesCut, SeesInjected, IsUndeclared, IsLookedInto, MakesKnown, KnownAfter, IsInject, IsOrder, OrderTakes, InjectTakes}
+use Rattle.dg_node.specs.Known.{IsKnownChip, OrderReads}
 use Rattle.dg_base.specs.declared.events.Event.{Event}
 use Rattle.dg_world.specs.declared.outcome.Outcome.{Outcome}
-use Rattle.dg_world.specs.declared.world.RunningMote.{RunningMote}
+use Rattle.dg_node.specs.declared.node.Node.{Node}
 use Rattle.dg_world.specs.declared.outcome.Fault.{Fault}
 use Rattle.dg_world.specs.declared.outcome.Fault.TheVariants as fault
 
 -- ---- the order of a chip that was only read
 
-abbrev cause_ok : Cause → Result Cause Fault
-cause_ok x = Ok x
-
-abbrev cause_err : Fault → Result Cause Fault
-cause_err f = Err f
-
-ok_err : (x : Cause) (f : Fault) → cause_ok x ≡ cause_err f → ⊥
-ok_err x f e = cc
-
-same_cause : (x y : Cause) → cause_ok x ≡ cause_ok y → x ≡ y
-same_cause x y e = cc
-
--- where a cause was found the board did not stop
-pub not_stopped : (S : Type 0) (q : Result Cause Fault) (x : Cause) → q ≡ Ok x → (S → q ≡ Err fault.Stopped) → S → ⊥
-not_stopped S q x is stopped s = ok_err x fault.Stopped (sym is ∙ stopped s)
-
-pub found_cause : (q : Result Cause Fault) (x y : Cause) → q ≡ Ok x → q ≡ Ok y → x ≡ y
-found_cause q x y is told = same_cause x y (sym is ∙ told)
-
-pub same_order : (o : Bool) (v u : Volume) (a b : Device) → (b.image ≡ a.image) × (u ≡ v) → IsControlOf a.image (control_of v) → ((c : List ℕ) → IsControlOf c (control_of u) → SeesOrder o c) → SeesOrder o b.image
-same_order o v u a b same is tells =
-    tells b.image (subst (λ (c : List ℕ). IsControlOf c (control_of u)) (sym same.0) (subst (λ (x : Volume). IsControlOf a.image (control_of x)) (sym same.1) is))
-
-is_taken : (e : InjectFault) → (e ≡ inject.Taken) ⊎ (e ≢ inject.Taken)
-is_taken inject.Taken = inl refl
-is_taken inject.Empty = inr (λ h. cc)
-is_taken inject.TooLarge = inr (λ h. cc)
-is_taken (inject.Stale kept) = inr (λ h. cc)
-is_taken inject.Reserved = inr (λ h. cc)
-is_taken (inject.Worn room) = inr (λ h. cc)
-is_taken inject.Stopped = inr (λ h. cc)
-
--- a refused injection looked at most
-pub inject_same : (e : InjectFault) (v u : Volume) (a b : Device) → (e ≢ inject.Taken → (b ≡ a) × (u ≡ v)) → (e ≡ inject.Taken → Looked a b × (u ≡ v)) → (b.image ≡ a.image) × (u ≡ v)
-inject_same e v u a b same taken = ⊎_elim
-    (λ is. let x = taken is in (x.0.same_image, x.1))
-    (λ other. let x = same other in (ap (λ (d : Device). d.image) x.0, x.1))
-    (is_taken e)
-
 -- ---- what was read
 
 took_within : (n k : ℕ) (a b : Device) → n ≤ k → Took n a b → Took k a b
 took_within n k a b l h = Took-more l h
-
-took_only : {n : ℕ} {a m b : Device} → Took n a m → b.taken ≡ m.taken → Took n a b
-took_only {n} {a} {m} {b} took same = took_within (n + 0) n a b (omega arith) (Took_then {b = m} took (Took-same 0 same))
-
-pub order_reads : (known : Bool) (a m b : Device) → (known ≡ true → (n : ℕ) → RemountBytes a.image n → Took n a m) → m.image ≡ a.image → b.taken ≡ m.taken → IsVolume b.image → (IsOrderlyChip m.image → IsOrderlyChip b.image)
-    → ((p q : ℕ) → RemountBytes m.image p → RemountBytes b.image q → q ≤ p + place_size) → OrderReads known a b
-order_reads known a m b took image taken volume orderly bytes = record {
-  took = λ is n remount. took_only (took is n remount) taken;
-  stays = λ is. record { volume = volume; orderly = orderly (subst (λ (c : List ℕ). IsOrderlyChip c) (sym image) is.orderly) };
-  bytes = λ p q here after. bytes p q (subst (λ (c : List ℕ). RemountBytes c p) (sym image) here) after;
-}
 
 -- a board that was mounted and no more
 pub mount_reads : (known : Bool) (a m : Device) → ((c : List ℕ) (p q : ℕ) → RemountBytes c p → RemountBytes c q → p ≡ q) → (known ≡ true → (n : ℕ) → RemountBytes a.image n → Took n a m) → m.image ≡ a.image → OrderReads known a m
@@ -108,31 +50,9 @@ mount_reads known a m one took image = record {
   bytes = λ p q here after. let e : p ≡ q = one a.image p q here (subst (λ (c : List ℕ). RemountBytes c q) image after) in omega (arith, e);
 }
 
--- an order that was not kept leaves a volume
-pub order_volume : (e : OrderFault) (m b : Device) → IsVolume m.image → (e ≡ order_fault.Stopped → IsVolume b.image) → (e ≢ order_fault.Stopped → b ≡ m) → IsVolume b.image
-order_volume e m b volume stopped same = ⊎_elim stopped (λ other. subst (λ (d : Device). IsVolume d.image) (sym (same other)) volume) (order_is_stopped e)
-
-pub not_refused : (known : Bool) (o : Option Cause) (a b : Device) → o ≡ None → InjectReads known o a b
-not_refused known None a b none = λ is n why remount some. cc
-not_refused known (Some why) a b none = cc
-
-beyond_taken : (e : InjectFault) (row : Row) → e ≡ inject.Taken → beyond (inject_cause row e) ≡ page_size
-beyond_taken e row is = ap (λ (x : InjectFault). beyond (inject_cause row x)) is
-
-pub inject_reads : (e : InjectFault) (row : Row) (known : Bool) (found : Cause) (a m b : Device) → found ≡ inject_cause row e → (known ≡ true → (n : ℕ) → RemountBytes a.image n → Took n a m) → (e ≢ inject.Taken → b ≡ m) → (e ≡ inject.Taken → Took page_size m b)
-    → InjectReads known (Some found) a b
-inject_reads e row known found a m b told took same taken = λ is n why remount some.
-    let why_is : why ≡ found = cc in
-    ⊎_elim
-    (λ at.
-    let all : beyond why ≡ page_size = ap beyond (why_is ∙ told) ∙ beyond_taken e row at in
-    subst (λ (k : ℕ). Took (n + k) a b) (sym all) (Took_then {b = m} (took is n remount) (taken at)))
-    (λ other. took_within n (n + beyond why) a b (omega arith) (subst (λ (d : Device). Took n a d) (sym (same other)) (took is n remount)))
-    (is_taken e)
-
 -- ---- each event
 
-pub sees_at : {T : Type 0} (r : Result T Fault) (t : Outcome) (u : Option RunningMote) (c d : List ℕ) (e f : Event) → e ≡ f → OnOk r (EventSees f t u c d) → OnOk r (EventSees e t u c d)
+pub sees_at : {T : Type 0} (r : Result T Fault) (t : Outcome) (u : Option Node) (c d : List ℕ) (e f : Event) → e ≡ f → OnOk r (EventSees f t u c d) → OnOk r (EventSees e t u c d)
 sees_at r t u c d e f is sees = subst (λ (x : Event). OnOk r (EventSees x t u c d)) (sym is) sees
 
 pub reads_at : (known : Bool) (done : Type 0) (o : Option Cause) (a b : Device) (e f : Event) → e ≡ f → EventReads f known done o a b → EventReads e known done o a b
@@ -161,7 +81,7 @@ undeclared (Sends bytes) D x refused made = x
 undeclared (Changes old new) D x refused made = x
 undeclared (Starts line) D x refused made = x
 
-module _ (w : RuleWorld) (known : Bool) (u : Option RunningMote) (c d : List ℕ) where
+module _ (w : RuleWorld) (known : Bool) (u : Option Node) (c d : List ℕ) where
   inject_sees : (m image version dt draw : ℕ) (o : Option Bool) (outcome : EventOutcome) → SeesInjected o outcome c d → ((why : Cause) → outcome ≡ Refused why → does w (Inject m image version dt draw) ≡ Refuses why) → StepSees w (Inject m image version dt draw) known o u c d
   inject_sees m image version dt draw (Some o) outcome x refused = x
   inject_sees m image version dt draw None outcome x refused = λ off. (λ is. x.0, λ made. undeclared outcome (does w (Inject m image version dt draw)) x.1 refused made)
@@ -185,10 +105,10 @@ module _ (w : RuleWorld) (known : Bool) (u : Option RunningMote) (c d : List ℕ
   cut_sees e None x = λ off. (λ is. absurd (x.0 is), x.1)
 
 -- which outcome a refusal is
-pub outcome_refused : (w : RuleWorld) (m : ℕ) (D : Does) (v u : Option RunningMote) (a b : Device) (outcome : EventOutcome) → OutcomeEnds (Ok outcome) w m D (host a v) (host b u) → (why : Cause) → outcome ≡ Refused why → D ≡ Refuses why
+pub outcome_refused : (w : RuleWorld) (m : ℕ) (D : Does) (v u : Option Node) (a b : Device) (outcome : EventOutcome) → OutcomeEnds (Ok outcome) w m D (host a v) (host b u) → (why : Cause) → outcome ≡ Refused why → D ≡ Refuses why
 outcome_refused w m D v u a b outcome ends why is = let x : OutcomeEnds (Ok (Refused why)) w m D (host a v) (host b u) = subst (λ (y : EventOutcome). OutcomeEnds (Ok y) w m D (host a v) (host b u)) is ends in x.0
 
-pub play_refused : (w : RuleWorld) (m : ℕ) (D : Does) (cut : Option PowerCut) (v u : Option RunningMote) (a b : Device) (outcome : EventOutcome) → PlayEnds (Ok (Whole outcome)) w m D cut (host a v) (host b u) → (why : Cause) → outcome ≡ Refused why → D ≡ Refuses why
+pub play_refused : (w : RuleWorld) (m : ℕ) (D : Does) (cut : Option PowerCut) (v u : Option Node) (a b : Device) (outcome : EventOutcome) → PlayEnds (Ok (Whole outcome)) w m D cut (host a v) (host b u) → (why : Cause) → outcome ≡ Refused why → D ≡ Refuses why
 play_refused w m D cut v u a b outcome ends why is = let x : PlayEnds (Ok (Whole (Refused why))) w m D cut (host a v) (host b u) = subst (λ (y : EventOutcome). PlayEnds (Ok (Whole y)) w m D cut (host a v) (host b u)) is ends in x.0
 
 pub refuses_goes : (A : Type 0) (D : Does) (why : Cause) → (d : Deed) → D ≡ Goes d → D ≡ Refuses why → A
@@ -197,21 +117,21 @@ refuses_goes A D why d goes refuses = let e : Goes d ≡ Refuses why = sym goes 
 same_refusal : (x y : Cause) → Refuses x ≡ Refuses y → x ≡ y
 same_refusal x y e = cc
 
-pub refused_outcome : (w : RuleWorld) (m : ℕ) (D : Does) (v u : Option RunningMote) (a b : Device) (outcome : EventOutcome) → OutcomeEnds (Ok outcome) w m D (host a v) (host b u) → (why : Cause) → D ≡ Refuses why → outcome ≡ Refused why
+pub refused_outcome : (w : RuleWorld) (m : ℕ) (D : Does) (v u : Option Node) (a b : Device) (outcome : EventOutcome) → OutcomeEnds (Ok outcome) w m D (host a v) (host b u) → (why : Cause) → D ≡ Refuses why → outcome ≡ Refused why
 refused_outcome w m D v u a b (Refused x) ends why is = ap Refused (same_refusal x why (sym ends.0 ∙ is))
 refused_outcome w m D v u a b Unreported ends why is = refuses_goes _ D why ends.deed ends.goes is
 refused_outcome w m D v u a b (Sends bytes) ends why is = refuses_goes _ D why ends.deed ends.goes is
 refused_outcome w m D v u a b (Changes p q) ends why is = refuses_goes _ D why ends.deed ends.goes is
 refused_outcome w m D v u a b (Starts x) ends why is = refuses_goes _ D why ends.deed ends.goes is
 
-pub refused_play : (w : RuleWorld) (m : ℕ) (D : Does) (cut : Option PowerCut) (v u : Option RunningMote) (a b : Device) (outcome : EventOutcome) → PlayEnds (Ok (Whole outcome)) w m D cut (host a v) (host b u) → (why : Cause) → D ≡ Refuses why → outcome ≡ Refused why
+pub refused_play : (w : RuleWorld) (m : ℕ) (D : Does) (cut : Option PowerCut) (v u : Option Node) (a b : Device) (outcome : EventOutcome) → PlayEnds (Ok (Whole outcome)) w m D cut (host a v) (host b u) → (why : Cause) → D ≡ Refuses why → outcome ≡ Refused why
 refused_play w m D cut v u a b (Refused x) ends why is = ap Refused (same_refusal x why (sym ends.0 ∙ is))
 refused_play w m D cut v u a b Unreported ends why is = refuses_goes _ D why ends.deed ends.goes is
 refused_play w m D cut v u a b (Sends bytes) ends why is = refuses_goes _ D why ends.deed ends.goes is
 refused_play w m D cut v u a b (Changes p q) ends why is = refuses_goes _ D why ends.deed ends.goes is
 refused_play w m D cut v u a b (Starts x) ends why is = refuses_goes _ D why ends.deed ends.goes is
 
-told_by : (o : Option (List ℕ)) (r : Option Cause) (x : Option StartLine) (a b : Option ChipReport) (why : Cause) → outcome_by o r x a b ≡ Refused why → r ≡ Some why
+told_by : (o : Option (List ℕ)) (r : Option Cause) (x : Option StartedImage) (a b : Option ChipReport) (why : Cause) → outcome_by o r x a b ≡ Refused why → r ≡ Some why
 told_by (Some bytes) r x a b why e = absurd cc
 told_by None (Some y) x a b why e = cc
 told_by None None (Some x) a b why e = absurd cc
@@ -293,7 +213,7 @@ watches : (known makes : Bool) → ((known || makes) ≡ true) ↔ ((known ≡ t
 watches true makes = (λ is. inl refl, λ x. refl)
 watches false makes = (λ is. inr is, λ x. ⊎_elim (λ h. absurd cc) (λ h. h) x)
 
-pub on_control : (c : List ℕ) (u : Option RunningMote) (s : Store) (o : Option Running) → MoteStands c u s o → IfSome u (λ r. IsControlOf c (control_of (volume_of r.mote)))
+pub on_control : (c : List ℕ) (u : Option Node) (s : Store) (o : Option Running) → MoteStands c u s o → IfSome u (λ r. IsControlOf c (control_of (volume_of r.mote)))
 on_control c None s o stands = tt
 on_control c (Some v) s None stands = absurd stands
 on_control c (Some v) s (Some r) stands = stands.1.mounted.control
@@ -305,7 +225,7 @@ module _ (w : RuleWorld) (e : Event) (known makes result : Bool) (a b : Device) 
   to_watch : (known ≡ true) ⊎ MakesKnown w e → (known || makes) ≡ true
   to_watch x = (watches known makes).1 (⊎_elim (λ h. inl h) (λ h. inr (made.1 h)) x)
 
-  pub known_then : (seen : Option Bool) (u : Option RunningMote) → StepSees w e known seen u a.image b.image → KnownAfter (known || makes) seen u b.image result → IfSome u (λ r. IsControlOf b.image (control_of (volume_of r.mote)))
+  pub known_then : (seen : Option Bool) (u : Option Node) → StepSees w e known seen u a.image b.image → KnownAfter (known || makes) seen u b.image result → IfSome u (λ r. IsControlOf b.image (control_of (volume_of r.mote)))
       → (result ≡ true) ↔ (IsOrderlyChip b.image × ((known ≡ true) ⊎ MakesKnown w e))
   known_then seen (Some r) sees after control = let x = after control in (λ is. let y = x.0 is in (y.1, watched y.0), λ y. x.1 (to_watch y.1, y.0))
   known_then (Some o) None sees after control = (λ is. let y = after.0 is in (sees.0 y.1, watched y.0), λ y. after.1 (to_watch y.1, sees.1 y.0))

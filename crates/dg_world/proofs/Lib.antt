@@ -27,3 +27,4 @@ pub mod SoundLemmas
 pub mod ApplyLemmas
 pub mod MountLemmas
 pub mod AloneLemmas
+pub mod ActingLemmas

@@ -12,9 +12,9 @@ use Rattle.dg_volume.specs.Trails.{BeginsAt}
 use Rattle.dg_rules.specs.World.{World as RuleWorld, store_at}
 use Rattle.dg_rules.specs.Events.{Does, trail_of}
 use Rattle.dg_world.specs.OutcomeEndings.{DeedWent, OutcomeEnds}
-use Rattle.dg_world.specs.Hosts.{host}
-use Rattle.dg_world.specs.declared.outcome.StartLine.{StartLine}
-use Rattle.dg_world.specs.declared.world.RunningMote.{RunningMote}
+use Rattle.dg_node.specs.Hosts.{host}
+use Rattle.dg_node.specs.declared.answers.StartedImage.{StartedImage}
+use Rattle.dg_node.specs.declared.node.Node.{Node}
 use Rattle.dg_world.specs.declared.outcome.Fault.{Fault}
 use Rattle.dg_world.specs.declared.outcome.Fault.TheVariants as fault
 use Rattle.dg_world.specs.Outcomes.{halt_of}
@@ -48,7 +48,7 @@ read_stops s t a b begins stands r =
 read_whole : (a b : Device) → ReadStopped a b → a.blown ≡ false → b.blown ≡ true → ⊥
 read_whole a b r whole blown = ⊎_elim (λ was. both_ways a.blown whole was) (λ out. omega (arith, out.0)) (r.halts.blew blown)
 
-pub read_stopped : (w : RuleWorld) (m : ℕ) (does : Does) (v u : Option RunningMote) (a b : Device) → BeginsAt (store_at w m) (trail_of does (store_at w m)) → Stands a.image (store_at w m) → ReadStopped a b
+pub read_stopped : (w : RuleWorld) (m : ℕ) (does : Does) (v u : Option Node) (a b : Device) → BeginsAt (store_at w m) (trail_of does (store_at w m)) → Stands a.image (store_at w m) → ReadStopped a b
     → OutcomeEnds (Err (Stopped None)) w m does (host a v) (host b u)
 read_stopped w m does v u a b begins stands r =
     record { stops = read_stops (store_at w m) (trail_of does (store_at w m)) a b begins stands r; is_report = λ whole blown. absurd (read_whole a b r whole blown) }
@@ -67,18 +67,18 @@ stops_after t a b c l s =
     subst (λ (n : ℕ). Halted n (MayLeave Stands IsNear t) a c) e
     (Halted_second (MayLeave Stands IsNear t) l (λ k within x. let f : k ≡ 0 + k = omega arith in subst (λ (j : ℕ). MayLeave Stands IsNear t j c.image) f x) s)
 
-went_after : (w : RuleWorld) (m : ℕ) (does : Does) (u : Option RunningMote) (a b c : Device) (outcome : EventOutcome) → Ran 0 a b → DeedWent w m does u b c outcome → DeedWent w m does u a c outcome
+went_after : (w : RuleWorld) (m : ℕ) (does : Does) (u : Option Node) (a b c : Device) (outcome : EventOutcome) → Ran 0 a b → DeedWent w m does u b c outcome → DeedWent w m does u a c outcome
 went_after w m does u a b c outcome l x = record { deed = x.deed; goes = x.goes; ran = ran_after (operations x.deed.trail) a b c l x.ran; tells = x.tells }
 
-pub start_after : (w : RuleWorld) (m : ℕ) (does : Does) (u : Option RunningMote) (a b c : Device) (x : StartLine) → Ran 0 a b → DeedWent w m does u b c (Starts x) → DeedWent w m does u a c (Starts x)
+pub start_after : (w : RuleWorld) (m : ℕ) (does : Does) (u : Option Node) (a b c : Device) (x : StartedImage) → Ran 0 a b → DeedWent w m does u b c (Starts x) → DeedWent w m does u a c (Starts x)
 start_after w m does u a b c x l went = went_after w m does u a b c (Starts x) l went
 
-pub halt_after : (h : Halt) (w : RuleWorld) (m : ℕ) (does : Does) (v u : Option RunningMote) (a b c : Device) → Ran 0 a b → OutcomeEnds (Err h) w m does (host b v) (host c u) → OutcomeEnds (Err h) w m does (host a v) (host c u)
+pub halt_after : (h : Halt) (w : RuleWorld) (m : ℕ) (does : Does) (v u : Option Node) (a b c : Device) → Ran 0 a b → OutcomeEnds (Err h) w m does (host b v) (host c u) → OutcomeEnds (Err h) w m does (host a v) (host c u)
 halt_after (Stopped before) w m does v u a b c l x = record { stops = stops_after (trail_of does (store_at w m)) a b c l x.stops; is_report = λ whole blown. x.is_report (l.blown ∙ whole) blown }
 halt_after NoImage w m does v u a b c l x = record { deed = x.deed; goes = x.goes; none = x.none; ran = ran_after (operations x.deed.trail) a b c l x.ran; stands = x.stands }
 halt_after NotAVolume w m does v u a b c l x = x
 
-pub outcome_after : (r : Result EventOutcome Halt) (w : RuleWorld) (m : ℕ) (does : Does) (v u : Option RunningMote) (a b c : Device) → Looked a b → OutcomeEnds r w m does (host b v) (host c u) → OutcomeEnds r w m does (host a v) (host c u)
+pub outcome_after : (r : Result EventOutcome Halt) (w : RuleWorld) (m : ℕ) (does : Does) (v u : Option Node) (a b c : Device) → Looked a b → OutcomeEnds r w m does (host b v) (host c u) → OutcomeEnds r w m does (host a v) (host c u)
 outcome_after (Ok (Refused why)) w m does v u a b c l x = (x.0, looked_after a b c l x.1, x.2)
 outcome_after (Ok Unreported) w m does v u a b c l x = went_after w m does u a b c Unreported l.ran x
 outcome_after (Ok (Sends frame)) w m does v u a b c l x = went_after w m does u a b c (Sends frame) l.ran x
@@ -92,7 +92,7 @@ failed T f = Err f
 pub same_fault : (T : Type 0) (x y : Fault) → failed T x ≡ failed T y → x ≡ y
 same_fault T x y e = cc
 
-pub read_halts : (T : Type 0) (w : RuleWorld) (m : ℕ) (does : Does) (v u : Option RunningMote) (a b : Device) (f : Fault) → failed T fault.Stopped ≡ failed T f → BeginsAt (store_at w m) (trail_of does (store_at w m)) → Stands a.image (store_at w m) → ReadStopped a b
+pub read_halts : (T : Type 0) (w : RuleWorld) (m : ℕ) (does : Does) (v u : Option Node) (a b : Device) (f : Fault) → failed T fault.Stopped ≡ failed T f → BeginsAt (store_at w m) (trail_of does (store_at w m)) → Stands a.image (store_at w m) → ReadStopped a b
     → OutcomeEnds (Err (halt_of f None)) w m does (host a v) (host b u)
 read_halts T w m does v u a b f is begins stands r =
     let P : Fault → Type 0 = λ x. OutcomeEnds (Err (halt_of x None)) w m does (host a v) (host b u) in

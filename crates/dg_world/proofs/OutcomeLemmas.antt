@@ -8,40 +8,40 @@ use Rattle.dg_rules.specs.Events.{Does}
 use Rattle.dg_script.specs.declared.report.Cause.{Cause}
 use Rattle.dg_world.specs.EventOutcomes.{EventOutcome, Refused, Unreported, Changes, Starts}
 use Rattle.dg_world.specs.OutcomeEndings.{outcome_frame, outcome_sent, OutcomeEnds}
-use Rattle.dg_world.specs.Hosts.{host}
+use Rattle.dg_node.specs.Hosts.{host}
 use Rattle.dg_world.specs.Outcomes.{outcome_by, outcome_of, halt_of, as_outcome}
-use Rattle.dg_world.specs.declared.chip_report.ChipReport.{ChipReport}
-use Rattle.dg_world.specs.declared.outcome.StartLine.{StartLine}
+use Rattle.dg_node.specs.declared.report.ChipReport.{ChipReport}
+use Rattle.dg_node.specs.declared.answers.StartedImage.{StartedImage}
 use Rattle.dg_world.specs.declared.outcome.Outcome.{Outcome}
 use Rattle.dg_world.specs.declared.outcome.Fault.{Fault}
-use Rattle.dg_world.specs.declared.world.RunningMote.{RunningMote}
+use Rattle.dg_node.specs.declared.node.Node.{Node}
 
 -- ---- which outcome it is
 
-pub is_refused : (o : Option (List ℕ)) (why : Cause) (x : Option StartLine) (a b : Option ChipReport) → o ≡ None → outcome_by o (Some why) x a b ≡ Refused why
+pub is_refused : (o : Option (List ℕ)) (why : Cause) (x : Option StartedImage) (a b : Option ChipReport) → o ≡ None → outcome_by o (Some why) x a b ≡ Refused why
 is_refused None why x a b e = refl
 is_refused (Some bytes) why x a b e = absurd cc
 
-pub is_started : (o : Option (List ℕ)) (why : Option Cause) (x : StartLine) (a b : Option ChipReport) → o ≡ None → why ≡ None → outcome_by o why (Some x) a b ≡ Starts x
+pub is_started : (o : Option (List ℕ)) (why : Option Cause) (x : StartedImage) (a b : Option ChipReport) → o ≡ None → why ≡ None → outcome_by o why (Some x) a b ≡ Starts x
 is_started None None x a b e f = refl
 is_started None (Some why) x a b e f = absurd cc
 is_started (Some bytes) why x a b e f = absurd cc
 
-pub is_changed : (o : Option (List ℕ)) (why : Option Cause) (x : Option StartLine) (a b : ChipReport) → o ≡ None → why ≡ None → x ≡ None → outcome_by o why x (Some a) (Some b) ≡ Changes a b
+pub is_changed : (o : Option (List ℕ)) (why : Option Cause) (x : Option StartedImage) (a b : ChipReport) → o ≡ None → why ≡ None → x ≡ None → outcome_by o why x (Some a) (Some b) ≡ Changes a b
 is_changed None None None a b e f g = refl
 is_changed None None (Some x) a b e f g = absurd cc
 is_changed None (Some why) x a b e f g = absurd cc
 is_changed (Some bytes) why x a b e f g = absurd cc
 
 -- what was reported before is known, and nothing of what is reported after
-pub is_begun : (o : Option (List ℕ)) (why : Option Cause) (x : Option StartLine) (a : ChipReport) (b : Option ChipReport) → o ≡ None → why ≡ None → x ≡ None → b ≡ None → outcome_by o why x (Some a) b ≡ Unreported
+pub is_begun : (o : Option (List ℕ)) (why : Option Cause) (x : Option StartedImage) (a : ChipReport) (b : Option ChipReport) → o ≡ None → why ≡ None → x ≡ None → b ≡ None → outcome_by o why x (Some a) b ≡ Unreported
 is_begun None None None a None e f g h = refl
 is_begun None None None a (Some b) e f g h = absurd cc
 is_begun None None (Some x) a b e f g h = absurd cc
 is_begun None (Some why) x a b e f g h = absurd cc
 is_begun (Some bytes) why x a b e f g h = absurd cc
 
-pub is_sent : (o : Option (List ℕ)) (why : Option Cause) (x : Option StartLine) (a b : Option ChipReport) → why ≡ None → x ≡ None → a ≡ None → outcome_by o why x a b ≡ outcome_sent o
+pub is_sent : (o : Option (List ℕ)) (why : Option Cause) (x : Option StartedImage) (a b : Option ChipReport) → why ≡ None → x ≡ None → a ≡ None → outcome_by o why x a b ≡ outcome_sent o
 is_sent (Some bytes) why x a b e f g = refl
 is_sent None None None None b e f g = refl
 is_sent None None None (Some a) b e f g = absurd cc
@@ -55,7 +55,7 @@ changes_of t a b sent refused started before after =
     ∙ is_changed (sent_in t.outbox) t.refused t.started a b sent refused started
 
 -- its frame is that of the outbox
-frame_by : (o : Option (List ℕ)) (why : Option Cause) (x : Option StartLine) (a b : Option ChipReport) → o ≡ outcome_frame (outcome_by o why x a b)
+frame_by : (o : Option (List ℕ)) (why : Option Cause) (x : Option StartedImage) (a b : Option ChipReport) → o ≡ outcome_frame (outcome_by o why x a b)
 frame_by (Some bytes) why x a b = refl
 frame_by None (Some why) x a b = refl
 frame_by None None (Some x) a b = refl
@@ -68,7 +68,7 @@ frame_told t = frame_by (sent_in t.outbox) t.refused t.started t.before t.after
 
 -- ---- how it ends
 
-module _ (w : RuleWorld) (m : ℕ) (does : Does) (v u : Option RunningMote) (a b : Device) where
+module _ (w : RuleWorld) (m : ℕ) (does : Does) (v u : Option Node) (a b : Device) where
   pub told_as : (t x : EventOutcome) → t ≡ x → OutcomeEnds (Ok x) w m does (host a v) (host b u) → OutcomeEnds (Ok t) w m does (host a v) (host b u)
   told_as t x e ends = subst (λ (y : EventOutcome). OutcomeEnds (Ok y) w m does (host a v) (host b u)) (sym e) ends
 

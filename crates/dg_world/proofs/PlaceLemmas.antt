@@ -10,7 +10,8 @@ use Rattle.dg_nor.specs.Fuse.{beneath_of}
 use Rattle.dg_nor.proofs.DeviceLemmas.{Endures-same}
 use Rattle.dg_nor.specs.Trail.{last}
 use Rattle.dg_control.specs.Store.{IsOrderlyChip}
-use Rattle.dg_world.specs.Known.{known_of, IsKnownChip, MakesKnown}
+use Rattle.dg_world.specs.Known.{known_of, MakesKnown}
+use Rattle.dg_node.specs.Known.{IsKnownChip}
 use Rattle.dg_world.specs.Knows.{KnowsThen}
 use Rattle.dg_base.specs.declared.events.Event.{Event}
 use Rattle.dg_slot.specs.Pages.{program}
@@ -43,7 +44,7 @@ use Rattle.dg_world.specs.declared.images.Images.{Images}
 use Rattle.dg_world.specs.declared.world.WorldFault.{WorldFault}
 use Rattle.dg_world.specs.declared.world.WorldFault.TheVariants as world_fault
 use Rattle.dg_world.specs.declared.world.World.{World}
-use Rattle.dg_world.specs.declared.world.RunningMote.{RunningMote}
+use Rattle.dg_node.specs.declared.node.Node.{Node}
 use Rattle.dg_world.specs.EventOutcomes.{Halt, Stopped, NotAVolume, NoImage}
 
 -- ---- lists by their indices
@@ -107,7 +108,7 @@ calm_board bs i a b known here kept = λ k p q old new.
 -- ---- the world then
 
 -- the code's world after a step
-pub record Moves (v u : World) (i : ℕ) (moment : ℕ) (runs : Option RunningMote) (frame : Option (List ℕ)) : Type 0 where
+pub record Moves (v u : World) (i : ℕ) (moment : ℕ) (runs : Option Node) (frame : Option (List ℕ)) : Type 0 where
   pub moment_then : u.moment ≡ moment
   pub events : u.events ≡ v.events + 1
   pub images : u.shared.images ≡ v.shared.images
@@ -121,7 +122,7 @@ pub record KnownKeeps (v u : World) (i : ℕ) (b : Device) : Type 0 where
   pub others : (k : ℕ) → k ≢ i → known_of u k ≡ known_of v k
   pub here : known_of u i ≡ true → IsOrderlyChip b.image
 
-module _ (v u : World) (bs : List Device) (w : RuleWorld) (x : Step) (reported : Bool) (i : ℕ) (runs : Option RunningMote) (frame : Option (List ℕ)) (b : Device) (start end : List Report) (is : IsWorld v bs w) (at : i ≡ mote_of x.event) (known : i < length w.sites) (moves : Moves v u i (w.moment + dt_of x.event) runs frame) (keeps : KnownKeeps v u i b) (s : StepDone w x reported frame start (station b runs end)) where
+module _ (v u : World) (bs : List Device) (w : RuleWorld) (x : Step) (reported : Bool) (i : ℕ) (runs : Option Node) (frame : Option (List ℕ)) (b : Device) (start end : List Report) (is : IsWorld v bs w) (at : i ≡ mote_of x.event) (known : i < length w.sites) (moves : Moves v u i (w.moment + dt_of x.event) runs frame) (keeps : KnownKeeps v u i b) (s : StepDone w x reported frame start (station b runs end)) where
   sites_are : s.world.sites ≡ set w.sites i s.here
   sites_are = s.sites ∙ ap (λ (j : ℕ). set w.sites j s.here) (sym at)
 
@@ -132,20 +133,20 @@ module _ (v u : World) (bs : List Device) (w : RuleWorld) (x : Step) (reported :
   site_then k d within here =
       let wide : i < length bs = omega (arith, known, is.boards_enough) in
       let many : i < length v.motes.items = omega (arith, known, is.motes) in
-      let P : Device → Option RunningMote → Site → Type 0 = λ e o y. SiteStands e o y in
+      let P : Device → Option Node → Site → Type 0 = λ e o y. SiteStands e o y in
       ⊎_elim
       (λ same.
       let ed : d ≡ b = same_of (slice_get (set bs i b) i) d b (sym (ap (slice_get (set bs i b)) same) ∙ here) (get_set_same bs i b wide) in
-      let eo : slice_index_or u.motes.items k None ≡ runs = ap (λ (xs : List (Option RunningMote)). get_or xs k None) moves.motes ∙ ap (λ (j : ℕ). get_or (set v.motes.items i runs) j None) same ∙ get_or-set_same v.motes.items i runs None many in
+      let eo : slice_index_or u.motes.items k None ≡ runs = ap (λ (xs : List (Option Node)). get_or xs k None) moves.motes ∙ ap (λ (j : ℕ). get_or (set v.motes.items i runs) j None) same ∙ get_or-set_same v.motes.items i runs None many in
       let ey : site s.world k ≡ s.here = ap (λ (xs : List Site). get_or xs k no_site) sites_are ∙ ap (λ (j : ℕ). get_or (set w.sites i s.here) j no_site) same ∙ get_or-set_same w.sites i s.here no_site known in
       let here_stands : SiteStands b runs s.here = record { stands = s.stands; mote = s.mote } in
       subst (λ (e : Device). P e (slice_index_or u.motes.items k None) (site s.world k)) (sym ed)
-      (subst (λ (o : Option RunningMote). P b o (site s.world k)) (sym eo) (subst (P b runs) (sym ey) here_stands)))
+      (subst (λ (o : Option Node). P b o (site s.world k)) (sym eo) (subst (P b runs) (sym ey) here_stands)))
       (λ other.
-      let eo : slice_index_or u.motes.items k None ≡ slice_index_or v.motes.items k None = ap (λ (xs : List (Option RunningMote)). get_or xs k None) moves.motes ∙ get_or-set_other v.motes.items i k runs None other in
+      let eo : slice_index_or u.motes.items k None ≡ slice_index_or v.motes.items k None = ap (λ (xs : List (Option Node)). get_or xs k None) moves.motes ∙ get_or-set_other v.motes.items i k runs None other in
       let ey : site s.world k ≡ site w k = ap (λ (xs : List Site). get_or xs k no_site) sites_are ∙ get_or-set_other w.sites i k s.here no_site other in
       let before = is.sites k d (omega (arith, within, sites_count)) (sym (get_set_other bs i k b other) ∙ here) in
-      subst (λ (o : Option RunningMote). P d o (site s.world k)) (sym eo) (subst (P d (slice_index_or v.motes.items k None)) (sym ey) before))
+      subst (λ (o : Option Node). P d o (site s.world k)) (sym eo) (subst (P d (slice_index_or v.motes.items k None)) (sym ey) before))
       (is_or k i)
 
   orderly_then : (k : ℕ) (d : Device) → k < length s.world.sites → slice_get (set bs i b) k ≡ Some d → known_of u k ≡ true → IsOrderlyChip d.image
@@ -253,20 +254,20 @@ got_or f [] i d h = absurd (omega arith)
 got_or f (y ∷ ys) zero d h = refl
 got_or f (y ∷ ys) (suc i) d h = got_or f ys i d (omega arith)
 
-pub stands_at : (v : World) (bs : List Device) (w : RuleWorld) (i m : ℕ) (a : Device) (runs : Option RunningMote) → IsWorld v bs w → i ≡ m → i < length w.sites → slice_get bs i ≡ Some a → runs ≡ get_or v.motes.items i runs → SiteStands a runs (site w m)
+pub stands_at : (v : World) (bs : List Device) (w : RuleWorld) (i m : ℕ) (a : Device) (runs : Option Node) → IsWorld v bs w → i ≡ m → i < length w.sites → slice_get bs i ≡ Some a → runs ≡ get_or v.motes.items i runs → SiteStands a runs (site w m)
 stands_at v bs w i m a runs is at known here read =
     let s = is.sites i a known here in
     let many : i < length v.motes.items = omega (arith, known, is.motes) in
     let same : slice_index_or v.motes.items i None ≡ runs = sym (get_or_read v.motes.items i runs many read None) in
-    subst (λ (j : ℕ). SiteStands a runs (site w j)) at (subst (λ (o : Option RunningMote). SiteStands a o (site w i)) same s)
+    subst (λ (j : ℕ). SiteStands a runs (site w j)) at (subst (λ (o : Option Node). SiteStands a o (site w i)) same s)
 
 -- its mote may run
-may_run : (c : List ℕ) (v : Option RunningMote) (s : Store) (o : Option Running) (moment now : ℕ) → moment ≤ now → MoteStands c v s o → IfSome o (λ r. Timely r.mote moment) → MayRun c now v
+may_run : (c : List ℕ) (v : Option Node) (s : Store) (o : Option Running) (moment now : ℕ) → moment ≤ now → MoteStands c v s o → IfSome o (λ r. Timely r.mote moment) → MayRun c now v
 may_run c None s o moment now later stands timely = tt
 may_run c (Some x) s None moment now later stands timely = absurd stands
 may_run c (Some x) s (Some r) moment now later stands timely = (r.mote, s, stands.1, timely_later r.mote moment now later timely)
 
-pub runs_at : (v : World) (bs : List Device) (w : RuleWorld) (i now : ℕ) (a : Device) (runs : Option RunningMote) → IsWorld v bs w → i < length w.sites → slice_get bs i ≡ Some a → runs ≡ get_or v.motes.items i runs → v.moment ≤ now → MayRun a.image now runs
+pub runs_at : (v : World) (bs : List Device) (w : RuleWorld) (i now : ℕ) (a : Device) (runs : Option Node) → IsWorld v bs w → i < length w.sites → slice_get bs i ≡ Some a → runs ≡ get_or v.motes.items i runs → v.moment ≤ now → MayRun a.image now runs
 runs_at v bs w i now a runs is known here read later =
     let s = stands_at v bs w i i a runs is refl known here read in
     may_run a.image runs (site w i).store (site w i).runs w.moment now (omega (arith, later, is.moment)) s.mote (is.timely i known)
@@ -280,7 +281,7 @@ ApplyEnds (Err world_fault.NotAVolume) w x reported a b = ⊥
 ApplyEnds (Err world_fault.Memory) w x reported a b = ⊥
 ApplyEnds (Err world_fault.TooMany) w x reported a b = ⊥
 
-pub halts_at : (h : Halt) (f : WorldFault) (v u : World) (bs : List Device) (w : RuleWorld) (x : Step) (reported : Bool) (was runs : Option RunningMote) (i mote : ℕ) (a b : Device) (start end : List Report) → f ≡ fault_of h mote → i ≡ mote → IsWorld v bs w → i ≡ mote_of x.event → i < length w.sites
+pub halts_at : (h : Halt) (f : WorldFault) (v u : World) (bs : List Device) (w : RuleWorld) (x : Step) (reported : Bool) (was runs : Option Node) (i mote : ℕ) (a b : Device) (start end : List Report) → f ≡ fault_of h mote → i ≡ mote → IsWorld v bs w → i ≡ mote_of x.event → i < length w.sites
     → slice_get bs i ≡ Some a → Stepped (Err h) w x reported (station a was start) (station b runs end) → ApplyEnds (Err f) w x reported (deployed v bs start) (deployed u (set bs i b) end)
 halts_at (Stopped k) f v u bs w x reported was runs i mote a b start end is_fault same is at known here s =
     let P : WorldFault → Type 0 = λ y. ApplyEnds (Err y) w x reported (deployed v bs start) (deployed u (set bs i b) end) in
@@ -295,13 +296,13 @@ pub fits_each : (v : World) (bs : List Device) (w u : RuleWorld) (x : Step) → 
 fits_each v bs w u x is other fits = subst (λ (n : ℕ). StepInRange n x) (is.motes ∙ sym other.motes) fits
 
 -- the same over boards that are given by an equation
-pub applied_at : (v u : World) (bs cs : List Device) (w : RuleWorld) (x : Step) (reported : Bool) (i : ℕ) (was runs : Option RunningMote) (frame : Option (List ℕ)) (a b : Device) (start end : List Report) → cs ≡ set bs i b → IsWorld v bs w → i ≡ mote_of x.event → i < length w.sites → v.events < most_events → dt_of x.event < 2 ^ 32
+pub applied_at : (v u : World) (bs cs : List Device) (w : RuleWorld) (x : Step) (reported : Bool) (i : ℕ) (was runs : Option Node) (frame : Option (List ℕ)) (a b : Device) (start end : List Report) → cs ≡ set bs i b → IsWorld v bs w → i ≡ mote_of x.event → i < length w.sites → v.events < most_events → dt_of x.event < 2 ^ 32
     → Moves v u i (w.moment + dt_of x.event) runs frame → KnownKeeps v u i b → slice_get bs i ≡ Some a → (s : Stepped (Ok frame) w x reported (station a was start) (station b runs end)) → ((z : RuleWorld) (reports : List Report) → WorldStep w x z reports → WorldTimely z) → Applied w x reported (deployed v bs start) (deployed u cs end)
 applied_at v u bs cs w x reported i was runs frame a b start end e is at known few short moves keeps here s timely =
     subst (λ (ds : List Device). Applied w x reported (deployed v bs start) (deployed u ds end)) (sym e)
     (applied v u bs w x reported i runs frame b start end is at known moves keeps s.ends a few short (timely s.ends.world s.ends.reports s.ends.step) here s.endures s.count)
 
-pub halts_there : (h : Halt) (f : WorldFault) (v u : World) (bs cs : List Device) (w : RuleWorld) (x : Step) (reported : Bool) (was runs : Option RunningMote) (i mote : ℕ) (a b : Device) (start end : List Report) → cs ≡ set bs i b → f ≡ fault_of h mote → i ≡ mote → IsWorld v bs w → i ≡ mote_of x.event → i < length w.sites
+pub halts_there : (h : Halt) (f : WorldFault) (v u : World) (bs cs : List Device) (w : RuleWorld) (x : Step) (reported : Bool) (was runs : Option Node) (i mote : ℕ) (a b : Device) (start end : List Report) → cs ≡ set bs i b → f ≡ fault_of h mote → i ≡ mote → IsWorld v bs w → i ≡ mote_of x.event → i < length w.sites
     → slice_get bs i ≡ Some a → Stepped (Err h) w x reported (station a was start) (station b runs end) → ApplyEnds (Err f) w x reported (deployed v bs start) (deployed u cs end)
 halts_there h f v u bs cs w x reported was runs i mote a b start end e is_fault same is at known here s =
     subst (λ (ds : List Device). ApplyEnds (Err f) w x reported (deployed v bs start) (deployed u ds end)) (sym e) (halts_at h f v u bs w x reported was runs i mote a b start end is_fault same is at known here s)

@@ -5,16 +5,22 @@ use Rattle.std.proofs.lemmas.List.{append-nil}
 use Rattle.dg_nor.specs.Device.{Device}
 use Rattle.dg_nor.specs.Fuse.{beneath_of}
 use Rattle.dg_nor.specs.Reads.{Looked, ReadStopped}
+use Rattle.dg_volume.specs.Stands.{Stands}
 use Rattle.dg_nor.proofs.DeviceLemmas.{Endures-same}
 use Rattle.dg_nor.proofs.MaskLemmas.{Endures_ran, Endures_halts}
 use Rattle.dg_volume.specs.Store.{Store}
 use Rattle.dg_script.specs.declared.report.Report.{Report}
-use Rattle.dg_world.specs.ChipReports.{IsReportOf, change_lines}
+use Rattle.dg_world.specs.ChipReports.{change_lines}
+use Rattle.dg_node.specs.Reports.{IsReportOf}
 use Rattle.dg_world.specs.Stepped.{BoardOnlyRead, CutChangesAre, CutReported, CutRead}
-use Rattle.dg_world.specs.declared.chip_report.ChipReport.{ChipReport}
+use Rattle.dg_node.specs.declared.report.ChipReport.{ChipReport}
 use Rattle.dg_world.proofs.ChipReportLemmas.{changes_same, changes_are_reported}
 use Rattle.dg_world.specs.declared.outcome.Fault.{Fault}
 use Rattle.dg_world.specs.declared.outcome.Fault.TheVariants as fault
+use Rattle.dg_volume.specs.declared.volume.MountFault.{MountFault}
+use Rattle.dg_volume.specs.declared.volume.MountFault.TheVariants as mount_fault
+use Rattle.dg_node.specs.Known.{MountDone}
+use Rattle.dg_world.specs.Faults.{fault_of_mount}
 
 -- ---- readings
 
@@ -78,3 +84,8 @@ as_failed r (Ok y) f m before t a b start end is same told = absurd same
 as_failed {T} {U} r (Err e) f m before t a b start end is same told =
     let here : ReadAndTold {T = T} (Err f) m before t a b start end = subst (λ (z : Result T Fault). ReadAndTold z m before t a b start end) is told in
     subst (λ (z : Fault). ReadAndTold {T = U} (Err z) m before t a b start end) (sym same) (failed_by T U f m before t a b start end here)
+
+-- a board that is a volume and was not mounted is stopped
+pub mount_stopped : (f : MountFault) (s : Store) (a b : Device) → Stands a.image s → MountDone (Err f) a b → (fault_of_mount f ≡ fault.Stopped) × ReadStopped a b
+mount_stopped mount_fault.Stopped s a b stands x = (refl, x)
+mount_stopped mount_fault.NotAVolume s a b stands x = absurd (x.0 s stands)

@@ -3,12 +3,11 @@ use Rattle.std.proofs.Common.{◌≡◌, ◌⊎◌, ⊎_elim, ℕ, Bool, true, f
 use Rattle.std.specs.Prelude.{Option, Some, None, option_map, IfSome, Result, Ok, Err}
 use Rattle.std.proofs.lemmas.Bool.{cond_both}
 use Rattle.std.proofs.lemmas.List.{append-nil}
-use Rattle.dg_nor.specs.Device.{Device, Ran}
-use Rattle.dg_nor.specs.Trail.{Trail, operations, last, last_of, joined, resting}
+use Rattle.dg_nor.specs.Device.{Device}
+use Rattle.dg_nor.specs.Trail.{Trail, last, resting}
 use Rattle.dg_nor.specs.Through.{Through}
 use Rattle.dg_nor.proofs.ReadLemmas.{Looked-none}
 use Rattle.dg_nor.proofs.ThroughLemmas.{Through-last, Through-joined, Through-resting}
-use Rattle.dg_nor.proofs.TrailLemmas.{joined_none, Halted-joined_first, operations-resting}
 use Rattle.dg_trickle.specs.Steps.{act_of, after_tick}
 use Rattle.dg_trickle.specs.declared.Act.{Act}
 use Rattle.dg_trickle.specs.declared.Act.TheVariants as act
@@ -18,124 +17,72 @@ use Rattle.dg_recv.specs.declared.Ask.TheVariants as ask
 use Rattle.dg_send.specs.Steps.{serve_of}
 use Rattle.dg_send.specs.declared.Serve.{Serve}
 use Rattle.dg_send.specs.declared.Serve.TheVariants as serve
-use Rattle.dg_slot.specs.Pages.{program}
-use Rattle.dg_volume.specs.Store.{Store, IsNear}
-use Rattle.dg_volume.specs.Stands.{Stands}
+use Rattle.dg_volume.specs.Store.{Store}
+use Rattle.dg_volume.specs.Stands.{Stands, Tells}
+use Rattle.dg_mote.specs.Motes.{volume_of}
+use Rattle.dg_nor.proofs.MaskLemmas.{Endures_ran}
+use Rattle.dg_world.specs.Alone.{Powers}
+use Rattle.dg_nor.specs.Device.{Endures}
+use Rattle.dg_nor.specs.Fuse.{beneath_of}
+use Rattle.dg_nor.specs.Reads.{ActStopped}
+use Rattle.std.proofs.lemmas.Bool.{both_ways}
 use Rattle.dg_volume.specs.Acts.{Stops}
 use Rattle.dg_volume.specs.Start.{Runs, boot, order_waits, runs_length, runs_crc}
-use Rattle.dg_volume.specs.declared.volume.StartCause.{StartCause}
 use Rattle.dg_volume.specs.declared.volume.StartCause.TheVariants as start_cause
-use Rattle.dg_volume.proofs.BeginLemmas.{boot_begins}
 use Rattle.dg_frame.specs.Grammar.{message_of}
 use Rattle.dg_frame.specs.Spelling.{frame_of}
 use Rattle.dg_frame.specs.declared.Message.{Message}
-use Rattle.dg_boot.specs.Started.{Starts as BootStarts, Lacks}
-use Rattle.dg_boot.specs.declared.Started.{Started}
-use Rattle.dg_mote.specs.Model.{MoteState, Mode, Maintain, Receive, Transmit, Receiving, Sending, MoteStep, reception, begun_mote}
+use Rattle.dg_mote.specs.Model.{MoteState, Mode, Maintain, Receive, Transmit, Receiving, Sending, MoteStep, reception}
 use Rattle.dg_mote.specs.Ticks.{clears, maintain_by, receive_by, transmit_by, mode_tick, tick_of}
 use Rattle.dg_mote.specs.Hears.{heard_of}
-use Rattle.dg_mote.specs.Effects.{Effect, boot_by, boots, on, tick_by, tick_effect, frame_effect}
-use Rattle.dg_mote.specs.Motes.{Done, IsRead}
+use Rattle.dg_mote.specs.Effects.{Effect, boot_by, boots, tick_by, reset_effect, tick_effect, frame_effect}
+use Rattle.dg_node.specs.Nodes.{NodeStands, mote_in, version_in, wide_in, runs_by as node_runs}
+use Rattle.dg_node.specs.Ends.{NodeEnd, Quiet, Sent, NodeDone, Went, IsStart, Starts as NodeStarts, Stopped as NodeStopped, NotAVolume as NodeNotAVolume, NoImage as NodeNoImage, Lacked as NodeLacked}
+use Rattle.dg_node.specs.Ends.{power_end, tick_end, PowerFinds}
+use Rattle.dg_node.specs.declared.answers.Ticked.{Ticked}
+use Rattle.dg_node.specs.declared.answers.Ticked.TheVariants as ticked
+use Rattle.dg_node.specs.declared.answers.TickFault.{TickFault}
+use Rattle.dg_node.specs.declared.answers.TickFault.TheVariants as tick_fault
+use Rattle.dg_boot.specs.declared.BootFault.{BootFault}
+use Rattle.dg_boot.specs.declared.BootFault.TheVariants as boot_fault
+use Rattle.dg_world.specs.Faults.{outcome_by_end, fault_of_start, fault_of_tick}
+use Rattle.dg_mote.specs.Motes.{IsRead}
 use Rattle.dg_mote.specs.declared.mote.Did.{Did}
 use Rattle.dg_mote.specs.declared.mote.Did.TheVariants as did
-use Rattle.dg_mote.specs.declared.mote.Heard.{Heard}
 use Rattle.dg_rules.specs.World.{World as RuleWorld, Running, store_at}
-use Rattle.dg_rules.specs.Events.{Does, Refuses, trail_of, image_version_of, of_effect}
+use Rattle.dg_rules.specs.Events.{Does, Refuses, trail_of, image_version_of, runs_by, of_effect}
 use Rattle.dg_rules.specs.Changes.{changes, start_line, sent_line}
 use Rattle.dg_base.specs.declared.events.ImageVersion.{ImageVersion}
 use Rattle.dg_script.specs.declared.report.Cause.TheVariants as cause
 use Rattle.dg_script.specs.declared.report.Report.{Report}
 use Rattle.dg_script.specs.declared.report.Report.TheVariants.{Start}
-use Rattle.dg_world.specs.ChipReports.{IsReportOf}
+use Rattle.dg_node.specs.Reports.{IsReportOf}
 use Rattle.dg_world.specs.Worlds.{MoteStands}
-use Rattle.dg_world.specs.OutcomeEndings.{SameReport, LeavesChip, BeginsOver, outcome_frame, outcome_sent, outcome_lines, frame_lines, DeedWent, Lacked, OutcomeEnds}
-use Rattle.dg_world.specs.Hosts.{host}
-use Rattle.dg_world.specs.declared.starting.Begun.{Begun}
-use Rattle.dg_world.specs.declared.chip_report.ChipReport.{ChipReport}
-use Rattle.dg_world.specs.declared.outcome.StartLine.{StartLine}
-use Rattle.dg_world.specs.declared.world.RunningMote.{RunningMote}
-use Rattle.dg_world.specs.declared.outcome.Fault.{Fault}
-use Rattle.dg_world.specs.declared.outcome.Fault.TheVariants as fault
+use Rattle.dg_world.specs.OutcomeEndings.{SameReport, LeavesChip, outcome_frame, outcome_sent, outcome_lines, frame_lines, DeedWent, Lacked, OutcomeEnds}
+use Rattle.dg_node.specs.Hosts.{host}
+use Rattle.dg_node.specs.declared.report.ChipReport.{ChipReport}
+use Rattle.dg_node.specs.declared.answers.StartedImage.{StartedImage}
+use Rattle.dg_node.specs.declared.node.Node.{Node}
 use Rattle.dg_world.specs.Outcomes.{halt_of}
 use Rattle.dg_world.proofs.ChipReportLemmas.{changes_same, changes_are_reported}
 use Rattle.dg_world.proofs.StartLemmas.{boot_same, boot_same_from, clear_same, same_report, leaves_same}
 use Rattle.dg_world.proofs.SameLemmas.{heard_calm}
-use Rattle.dg_world.proofs.OutcomeEndLemmas.{failed, same_fault, start_after, halt_after}
 use Rattle.dg_world.specs.EventOutcomes.{EventOutcome, Refused, Changes, Starts, Halt, Stopped, Unreported}
 
 -- ---- acts that are not reported
 
 -- a stop on a trail of stores of which the same is reported
-pub stopped_same : (w : RuleWorld) (m : ℕ) (does : Does) (v u : Option RunningMote) (a b : Device) → Through (SameReport (store_at w m)) (trail_of does (store_at w m)) → Stops (trail_of does (store_at w m)) a b
+pub stopped_same : (w : RuleWorld) (m : ℕ) (does : Does) (v u : Option Node) (a b : Device) → Through (SameReport (store_at w m)) (trail_of does (store_at w m)) → Stops (trail_of does (store_at w m)) a b
     → OutcomeEnds (Err (Stopped None)) w m does (host a v) (host b u)
 stopped_same w m does v u a b through stops = record { stops = stops; is_report = λ whole blown k t l. leaves_same (store_at w m) (trail_of does (store_at w m)) k t through l }
-
--- ---- starts
-
-line_is : (m : ℕ) (x : StartLine) (told : Started) (r : Runs) → x.image_version ≡ record { image = told.image; version = told.version } → x.length ≡ told.length → x.crc ≡ told.crc
-    → told.image ≡ r.image → told.version ≡ r.version → told.length ≡ runs_length r → told.crc ≡ runs_crc r
-    → Start m x.image_version.image x.image_version.version x.length x.crc ∷ [] ≡ start_line m (Some r)
-line_is m x told r image_version long crc i v l c = cc
-
-line_image_version_is : (x : StartLine) (told : Started) (r : Runs) → x.image_version ≡ record { image = told.image; version = told.version } → told.image ≡ r.image → told.version ≡ r.version → x.image_version ≡ image_version_of r
-line_image_version_is x told r image_version i v = cc
 
 boot_trail : (o : Option Runs) (t : Trail Store) (id : ℕ) (wide : Bool) (now draw : ℕ) → (boot_by o t id wide now draw).trail ≡ t
 boot_trail None t id wide now draw = refl
 boot_trail (Some r) t id wide now draw = refl
 
-module _ (w : RuleWorld) (m : ℕ) (k : StartCause) (id : ℕ) (wide : Bool) (now draw : ℕ) (old : Option ImageVersion) where
-  abbrev s : Store
-  s = store_at w m
-
-  abbrev t : Trail Store
-  t = (boot k s).trail
-
-  abbrev starts : Option Runs → Does
-  starts o = of_effect w (boot_by o t id wide now draw) old
-
-  pub started : (v : Option RunningMote) (a b : Device) (told : Started) (x : Begun) → BeginsOver told id wide now draw x → BootStarts (boot k s) a b told
-      → OutcomeEnds (Ok (Starts x.line)) w m (of_effect w (boots k s id wide now draw) old) (host a v) (host b (Some x.running))
-  started v a b told x over g =
-      let r = g.runs in
-      let e : changes m s (last t) ≡ [] = changes_same m s (last t) (Through-last (SameReport s) t (boot_same k s)) in
-      record {
-        deed = record { trail = t; table = w.table; started = Some r; sent = None; runs = Some (Some (record { image_version = image_version_of r; mote = begun_mote id wide now draw })) };
-        goes = ap starts g.chosen;
-        ran = g.acted.ran;
-        tells = record {
-          runs = Some (record { image_version = image_version_of r; mote = begun_mote id wide now draw });
-          runs_then = refl;
-          mote = (over.image_version ∙ line_image_version_is x.line told r over.line_image_version g.image g.version, over.mote b.image (last t) g.acted.mounted);
-          lines = line_is m x.line told r over.line_image_version over.length over.crc g.image g.version g.length g.crc ∙ ap (λ (l : List Report). (l ++ start_line m (Some r)) ++ []) (sym e);
-          sent = refl;
-          stands = g.acted.mounted.stands;
-          memory = ap (program b.image) (sym g.pages) ∙ g.memory;
-        };
-      }
-
-  start_stopped : (v u : Option RunningMote) (a b : Device) → Stops t a b → OutcomeEnds (Err (Stopped None)) w m (of_effect w (boots k s id wide now draw) old) (host a v) (host b u)
-  start_stopped v u a b stops =
-      let e : t ≡ (boots k s id wide now draw).trail = sym (boot_trail (boot k s).runs t id wide now draw) in
-      stopped_same w m (of_effect w (boots k s id wide now draw) old) v u a b (subst (Through (SameReport s)) e (boot_same k s)) (subst (λ (x : Trail Store). Stops x a b) e stops)
-
-  start_lacks : (v u : Option RunningMote) (a b : Device) → Lacks (boot k s) a b → Lacked (of_effect w (boots k s id wide now draw) old) a b
-  start_lacks v u a b l = record {
-    deed = record { trail = t; table = w.table; started = None; sent = None; runs = None };
-    goes = ap starts l.none;
-    none = refl;
-    ran = l.ran;
-    stands = l.stands;
-  }
-
-  abbrev Ends : (v u : Option RunningMote) (a b : Device) → Fault → Type 0
-  Ends v u a b f = OutcomeEnds (Err (halt_of f None)) w m (of_effect w (boots k s id wide now draw) old) (host a v) (host b u)
-
-  pub begin_stopped : (T : Type 0) (f : Fault) (v u : Option RunningMote) (a b : Device) → failed T fault.Stopped ≡ failed T f → Stops t a b → Ends v u a b f
-  begin_stopped T f v u a b is stops = subst (Ends v u a b) (same_fault T fault.Stopped f is) (start_stopped v u a b stops)
-
-  pub begin_lacks : (T : Type 0) (f : Fault) (v u : Option RunningMote) (a b : Device) → failed T fault.NoImage ≡ failed T f → Lacks (boot k s) a b → Ends v u a b f
-  begin_lacks T f v u a b is l = subst (Ends v u a b) (same_fault T fault.NoImage f is) (start_lacks v u a b l)
+pub reset_same : (s : Store) (id : ℕ) (wide : Bool) (now draw : ℕ) → Through (SameReport s) (reset_effect s id wide now draw).trail
+unfolding reset_effect
+reset_same s id wide now draw = let b = boot start_cause.Power s in subst (Through (SameReport s)) (sym (boot_trail b.runs b.trail id wide now draw)) (boot_same start_cause.Power s)
 
 -- ---- ticks
 
@@ -172,16 +119,6 @@ module _ (s : Store) (now draw : ℕ) where
   unfolding tick_of
   tick_same m = cond_both (clears m s now) _ _ Same (λ _. clear_same s) (λ _. mode_same m.mode m)
 
-abbrev by_answer : MoteStep Did → (now draw : ℕ) → Did → Effect
-by_answer step now draw d = tick_by d step now draw
-
-acted_on : (step : MoteStep Did) (now draw : ℕ) (d : Did) → (d ≡ did.Sent) ⊎ (d ≡ did.Idle) → d ≡ step.answer → tick_by step.answer step now draw ≡ on step
-acted_on step now draw d is same = ap (by_answer step now draw) (sym same) ∙ ⊎_elim (λ e. ap (by_answer step now draw) e) (λ e. ap (by_answer step now draw) e) is
-
-pub ticks_on : (m : MoteState) (s : Store) (now draw : ℕ) (d : Did) → (d ≡ did.Sent) ⊎ (d ≡ did.Idle) → d ≡ (tick_of m s now draw).answer → tick_effect m s now draw ≡ on (tick_of m s now draw)
-unfolding tick_effect
-ticks_on m s now draw d is same = acted_on (tick_of m s now draw) now draw d is same
-
 -- what a mote of either width reads, a wide one reads
 read_wider : (wide : Bool) (message : Message) → ((b : List ℕ) (m : Message) → message_of b false ≡ Ok m → message_of b true ≡ Ok m) → IsRead wide message → IsRead true message
 read_wider true message wider read = read
@@ -200,172 +137,201 @@ sent_frame : (o : Option (List ℕ)) → outcome_frame (outcome_sent o) ≡ o
 sent_frame None = refl
 sent_frame (Some bytes) = refl
 
-sent_outcome : (o : Option (List ℕ)) (w : RuleWorld) (m : ℕ) (does : Does) (v u : Option RunningMote) (a b : Device) → DeedWent w m does u a b (outcome_sent o) → OutcomeEnds (Ok (outcome_sent o)) w m does (host a v) (host b u)
+sent_outcome : (o : Option (List ℕ)) (w : RuleWorld) (m : ℕ) (does : Does) (v u : Option Node) (a b : Device) → DeedWent w m does u a b (outcome_sent o) → OutcomeEnds (Ok (outcome_sent o)) w m does (host a v) (host b u)
 sent_outcome None w m does v u a b x = x
 sent_outcome (Some bytes) w m does v u a b x = x
 
-module _ (w : RuleWorld) (m : ℕ) (r : Running) (now draw : ℕ) where
-  abbrev here : Store
-  here = store_at w m
-
+-- a tick, also one that starts the chip, changes neither what is kept nor the order
+module _ (s : Store) (m : MoteState) (now draw : ℕ) where
   abbrev step : MoteStep Did
-  step = tick_of r.mote here now draw
+  step = tick_of m s now draw
 
-  abbrev ticks : Does
-  ticks = of_effect w (tick_effect r.mote here now draw) (Some r.image_version)
+  by_same : (d : Did) → Through (SameReport s) (tick_by d step now draw).trail
+  by_same did.Sent = tick_same s now draw m
+  by_same did.Idle = tick_same s now draw m
+  by_same did.Restart =
+      let at = last step.trail in
+      let same = Through-last (SameReport s) step.trail (tick_same s now draw m) in
+      Through-joined (SameReport s) step.trail (boots start_cause.Order at step.mote.id step.mote.wide now draw).trail (tick_same s now draw m)
+      (subst (Through (SameReport s)) (sym (boot_trail (boot start_cause.Order at).runs (boot start_cause.Order at).trail step.mote.id step.mote.wide now draw)) (boot_same_from s at start_cause.Order same))
 
-  tick_went : (v u : RunningMote) (a b : Device) (d : Did) (o : Option (List ℕ)) → (d ≡ did.Sent) ⊎ (d ≡ did.Idle) → v.image_version ≡ r.image_version → u.image_version ≡ v.image_version → Done step a b u.mote d → o ≡ option_map frame_of step.sent → IfSome step.sent (IsRead true)
-      → DeedWent w m ticks (Some u) a b (outcome_sent o)
-  tick_went v u a b d o is image_version same done sent read =
-      let e : changes m here (last step.trail) ≡ [] = changes_same m here (last step.trail) (Through-last (SameReport here) step.trail (tick_same here now draw r.mote)) in
+  pub effect_same : Through (SameReport s) (tick_effect m s now draw).trail
+  unfolding tick_effect
+  effect_same = by_same step.answer
+
+-- ---- what a node did, as an outcome
+
+-- what runs then, by the rules of a world
+runs_of : (o : Option MoteState) (r : Option Runs) (old was : Option ImageVersion) (c : List ℕ) (n : Node) (t : Store) → NodeStands c (Some n) t (node_runs o r was) → (r ≡ None → old ≡ was)
+    → (x : Option Running) × (option_map (runs_by r old) o ≡ Some x) × MoteStands c (Some n) t x
+runs_of None r old was c n t stands same = absurd stands
+runs_of (Some m) (Some r) old was c n t stands same = (Some (record { image_version = image_version_of r; mote = m }), refl, (stands.0, stands.1))
+runs_of (Some m) None old None c n t stands same = absurd stands
+runs_of (Some m) None old (Some was) c n t stands same =
+    (Some (record { image_version = was; mote = m }), ap (λ (x : Option ImageVersion). Some (runs_by None x m)) (same refl), (stands.0, stands.1))
+
+start_lines : (m : ℕ) (x : StartedImage) (r : Runs) → IsStart x r → Start m x.image_version.image x.image_version.version x.length x.crc ∷ [] ≡ start_line m (Some r)
+start_lines m x r is = line_is m x r is.image is.version is.length is.crc
+  where
+    line_is : (m : ℕ) (x : StartedImage) (r : Runs) → x.image_version.image ≡ r.image → x.image_version.version ≡ r.version → x.length ≡ runs_length r → x.crc ≡ runs_crc r
+        → Start m x.image_version.image x.image_version.version x.length x.crc ∷ [] ≡ start_line m (Some r)
+    line_is m x r i v l c = cc
+
+module _ (w : RuleWorld) (m : ℕ) (e : Effect) (old : Option ImageVersion) (v : Option Node) (a b : Device) (same : e.started ≡ None → old ≡ option_map version_in v) where
+  abbrev D : Does
+  D = of_effect w e old
+
+  went_with : (n : Node) (frame : Option (List ℕ)) (outcome : EventOutcome) → Went e frame (host a v) (host b (Some n)) → outcome_frame outcome ≡ option_map frame_of e.sent
+      → outcome_lines m outcome ≡ (changes m (store_at w m) (last e.trail) ++ start_line m e.started) ++ sent_line m e.sent → DeedWent w m D (Some n) a b outcome
+  went_with n frame outcome x sent lines =
+      let runs = runs_of e.mote e.started old (option_map version_in v) b.image n (last e.trail) x.runs same in
       record {
-        deed = record { trail = step.trail; table = w.table; started = None; sent = step.sent; runs = Some (Some (record { image_version = r.image_version; mote = step.mote })) };
-        goes = ap (λ (x : Effect). of_effect w x (Some r.image_version)) (ticks_on r.mote here now draw d is done.answers);
-        ran = done.ran;
-        tells = record {
-          runs = Some (record { image_version = r.image_version; mote = step.mote });
-          runs_then = refl;
-          mote = (same ∙ image_version, done.mote);
-          lines = ap (λ (x : Option (List ℕ)). outcome_lines m (outcome_sent x)) sent ∙ sent_lines m step.sent read ∙ ap (λ (l : List Report). (l ++ []) ++ sent_line m step.sent) (sym e);
-          sent = sent_frame o ∙ sent;
-          stands = done.mote.mounted.stands;
-          memory = tt;
-        };
+        deed = record { trail = e.trail; table = w.table; started = e.started; sent = e.sent; runs = option_map (runs_by e.started old) e.mote };
+        goes = refl;
+        ran = x.ran;
+        tells = record { runs = runs.0; runs_then = runs.1; mote = runs.2; lines = lines; sent = sent; stands = x.stands; memory = x.memory };
       }
 
-  -- it sends a frame, or rests
-  pub tick_acts : (v u : RunningMote) (a b : Device) (d : Did) (o : Option (List ℕ)) (outcome : EventOutcome) → outcome ≡ outcome_sent o → (d ≡ did.Sent) ⊎ (d ≡ did.Idle) → v.image_version ≡ r.image_version → u.image_version ≡ v.image_version → Done step a b u.mote d → o ≡ option_map frame_of step.sent
-      → IfSome step.sent (IsRead true) → OutcomeEnds (Ok outcome) w m ticks (host a (Some v)) (host b (Some u))
-  tick_acts v u a b d o outcome is_outcome is image_version same done sent read =
-      subst (λ (x : EventOutcome). OutcomeEnds (Ok x) w m ticks (host a (Some v)) (host b (Some u))) (sym is_outcome) (sent_outcome o w m ticks (Some v) (Some u) a b (tick_went v u a b d o is image_version same done sent read))
+  -- what is reported of the chip may be something else
+  pub node_changes : (n : Node) (before after : ChipReport) → NodeDone Quiet None e (host a v) (host b (Some n)) → IsReportOf before (store_at w m) → IsReportOf after (last e.trail) → OutcomeEnds (Ok (Changes before after)) w m D (host a v) (host b (Some n))
+  node_changes n before after x is_report is_report_after =
+      let lines = changes m (store_at w m) (last e.trail) in
+      went_with n None (Changes before after) x.0 x.0.sent
+      (changes_are_reported m before after (store_at w m) (last e.trail) is_report is_report_after ∙ sym (append-nil (lines ++ []) ∙ append-nil lines) ∙ ap (λ (o : Option Runs). (lines ++ start_line m o) ++ []) (sym x.1)
+      ∙ ap (λ (o : Option Message). (lines ++ start_line m e.started) ++ sent_line m o) (sym x.2))
 
-  -- ---- it is stopped
+  -- nothing is
+  pub node_rests : (n : Node) → NodeDone Quiet None e (host a v) (host b (Some n)) → Through (SameReport (store_at w m)) e.trail → OutcomeEnds (Ok Unreported) w m D (host a v) (host b (Some n))
+  node_rests n x nothing =
+      let same_lines : changes m (store_at w m) (last e.trail) ≡ [] = changes_same m (store_at w m) (last e.trail) (Through-last (SameReport (store_at w m)) e.trail nothing) in
+      let lines = changes m (store_at w m) (last e.trail) in
+      went_with n None Unreported x.0 x.0.sent
+      (ap (λ (l : List Report). (l ++ []) ++ []) (sym same_lines) ∙ ap (λ (o : Option Runs). (lines ++ start_line m o) ++ []) (sym x.1) ∙ ap (λ (o : Option Message). (lines ++ start_line m e.started) ++ sent_line m o) (sym x.2))
 
-  abbrev Halted : Did → Type 0
-  Halted d = Through (SameReport here) (tick_by d step now draw).trail
+  pub node_stopped_with : (u : Option Node) (before : ChipReport) → Stops e.trail a b → IsReportOf before (store_at w m) → OutcomeEnds (Err (Stopped (Some before))) w m D (host a v) (host b u)
+  node_stopped_with u before stops is_report = record { stops = stops; is_report = λ whole blown. is_report }
 
-  first_same : (d : Did) → Halted d
-  first_same did.Sent = tick_same here now draw r.mote
-  first_same did.Idle = tick_same here now draw r.mote
-  first_same did.Restart =
-      let at = last step.trail in
-      let same = Through-last (SameReport here) step.trail (tick_same here now draw r.mote) in
-      Through-joined (SameReport here) step.trail (boots start_cause.Order at step.mote.id step.mote.wide now draw).trail (tick_same here now draw r.mote)
-      (subst (Through (SameReport here)) (sym (boot_trail (boot start_cause.Order at).runs (boot start_cause.Order at).trail step.mote.id step.mote.wide now draw)) (boot_same_from here at start_cause.Order same))
+  pub node_lacks : (frame : Option (List ℕ)) → NodeLacked e frame a b → Lacked D a b
+  node_lacks frame l = record {
+    deed = record { trail = e.trail; table = w.table; started = e.started; sent = e.sent; runs = option_map (runs_by e.started old) e.mote };
+    goes = refl;
+    none = ap (option_map (runs_by e.started old)) l.none;
+    ran = l.ran;
+    stands = l.stands;
+  }
 
-  stops_first : (d : Did) (a b : Device) → Stops step.trail a b → Stops (tick_by d step now draw).trail a b
-  stops_first did.Sent a b stops = stops
-  stops_first did.Idle a b stops = stops
-  stops_first did.Restart a b stops =
-      let at = last step.trail in
-      let t = (boot start_cause.Order at).trail in
-      let begins = boot_begins start_cause.Order at in
-      subst (λ (x : Trail Store). Stops (joined step.trail x) a b) (sym (boot_trail (boot start_cause.Order at).runs t step.mote.id step.mote.wide now draw))
-      (Halted-joined_first Stands IsNear step.trail t begins.works (sym begins.first) stops)
+  -- ---- where neither what is kept nor the order is another
 
-  pub tick_stopped : (v u : Option RunningMote) (a b : Device) → Stops step.trail a b → OutcomeEnds (Err (Stopped None)) w m ticks (host a v) (host b u)
-  unfolding tick_effect
-  tick_stopped v u a b stops = stopped_same w m ticks v u a b (first_same step.answer) (stops_first step.answer a b stops)
+  module _ (wider : (b : List ℕ) (m : Message) → message_of b false ≡ Ok m → message_of b true ≡ Ok m) (nothing : Through (SameReport (store_at w m)) e.trail) where
+    unreported : changes m (store_at w m) (last e.trail) ≡ []
+    unreported = changes_same m (store_at w m) (last e.trail) (Through-last (SameReport (store_at w m)) e.trail nothing)
 
-  -- ---- it restarts
+    went : (n : Node) (frame : Option (List ℕ)) (outcome : EventOutcome) → Went e frame (host a v) (host b (Some n)) → outcome_frame outcome ≡ option_map frame_of e.sent → outcome_lines m outcome ≡ ([] ++ start_line m e.started) ++ sent_line m e.sent
+        → DeedWent w m D (Some n) a b outcome
+    went n frame outcome x sent lines = went_with n frame outcome x sent (lines ∙ ap (λ (l : List Report). (l ++ start_line m e.started) ++ sent_line m e.sent) (sym unreported))
 
-  abbrev rested : MoteStep Did
-  rested = record { mote = r.mote; trail = resting here 0; sent = None; answer = did.Restart }
+    sends : (n : Node) (frame : Option (List ℕ)) → Went e frame (host a v) (host b (Some n)) → e.started ≡ None → OutcomeEnds (Ok (outcome_sent frame)) w m D (host a v) (host b (Some n))
+    sends n frame x none =
+        sent_outcome frame w m D v (Some n) a b
+        (went n frame (outcome_sent frame) x (sent_frame frame ∙ x.sent)
+        (ap (λ (o : Option (List ℕ)). outcome_lines m (outcome_sent o)) x.sent ∙ sent_lines m e.sent (reads_wider (wide_in v) e.sent wider x.read) ∙ ap (λ (o : Option Runs). ([] ++ start_line m o) ++ sent_line m e.sent) (sym none)))
 
-  abbrev restarts : Does
-  restarts = of_effect w (boots start_cause.Order here r.mote.id r.mote.wide now draw) (Some r.image_version)
+    starts : (n : Node) (x : StartedImage) → Went e None (host a v) (host b (Some n)) → e.sent ≡ None → (r : Runs) → e.started ≡ Some r → IsStart x r → DeedWent w m D (Some n) a b (Starts x)
+    starts n x d silent r some is =
+        went n None (Starts x) d (ap (option_map frame_of) (sym silent))
+        (start_lines m x r is ∙ ap (λ (o : Option Runs). ([] ++ start_line m o) ++ []) (sym some) ∙ ap (λ (o : Option Message). ([] ++ start_line m e.started) ++ sent_line m o) (sym silent))
 
-  effect_rested : tick_by did.Restart rested now draw ≡ boots start_cause.Order here r.mote.id r.mote.wide now draw
-  unfolding last_of
-  effect_rested =
-      let e : Effect = boots start_cause.Order here r.mote.id r.mote.wide now draw in
-      let t = (boot start_cause.Order here).trail in
-      let first : e.trail ≡ t = boot_trail (boot start_cause.Order here).runs t r.mote.id r.mote.wide now draw in
-      let at : t.first ≡ here = (boot_begins start_cause.Order here).first in
-      ap (λ (x : Trail Store). record e { trail = x })
-      (ap (λ (x : Trail Store). joined (resting here 0) x) first ∙ ap (λ (x : Store). joined (resting x 0) t) (sym at) ∙ joined_none t ∙ sym first)
+    pub node_stops : (u : Option Node) → Stops e.trail a b → OutcomeEnds (Err (Stopped None)) w m D (host a v) (host b u)
+    node_stops u stops = stopped_same w m D v u a b nothing stops
 
-  restarts_is : step ≡ rested → ticks ≡ restarts
-  unfolding tick_effect
-  restarts_is is = ap (λ (x : Effect). of_effect w x (Some r.image_version)) (ap (λ (x : MoteStep Did). tick_by x.answer x now draw) is ∙ effect_rested)
+    -- however the event of the node ended
+    pub node_ends : (r : NodeEnd) (frame : Option (List ℕ)) (n : Node) → NodeDone r frame e (host a v) (host b (Some n)) → OutcomeEnds (outcome_by_end r frame) w m D (host a v) (host b (Some n))
+    node_ends Quiet frame n x = sends n frame x.0 x.1
+    node_ends Sent frame n x = sends n frame x.0 x.1
+    node_ends (NodeStarts image) frame n x = starts n image (subst (λ (o : Option (List ℕ)). Went e o (host a v) (host b (Some n))) (x.0.sent ∙ ap (option_map frame_of) x.1) x.0) x.1 x.2.0 x.2.1 x.2.2
+    node_ends NodeStopped frame n x = node_stops (Some n) x.0
+    node_ends NodeNotAVolume frame n x = absurd x
+    node_ends NodeNoImage frame n x = node_lacks frame x
 
-  -- the chip stands for the same store when it starts
-  pub restart_stands : (u : RunningMote) (a b : Device) → step ≡ rested → Done step a b u.mote did.Restart → Stands b.image here
-  unfolding last_of
-  restart_stands u a b is done = subst (λ (x : MoteStep Did). Stands b.image (last x.trail)) is done.mote.mounted.stands
+-- what the volume of a node tells then
+tells_by : (o : Option MoteState) (r : Option Runs) (was : Option ImageVersion) (c : List ℕ) (n : Node) (t : Store) → NodeStands c (Some n) t (node_runs o r was) → Tells (volume_of (mote_in n)) t
+tells_by None r was c n t stands = absurd stands
+tells_by (Some m) (Some r) was c n t stands = stands.1.mounted.tells
+tells_by (Some m) None None c n t stands = absurd stands
+tells_by (Some m) None (Some was) c n t stands = stands.1.mounted.tells
 
-  ran_none : (u : RunningMote) (a b : Device) → step ≡ rested → Done step a b u.mote did.Restart → Ran 0 a b
-  ran_none u a b is done = subst (λ (n : ℕ). Ran n a b) (operations-resting here 0) (subst (λ (x : MoteStep Did). Ran (operations x.trail) a b) is done.ran)
+pub node_tells : (e : Effect) (frame : Option (List ℕ)) (v : Option Node) (n : Node) (a b : Device) → Went e frame (host a v) (host b (Some n)) → Tells (volume_of (mote_in n)) (last e.trail)
+node_tells e frame v n a b x = tells_by e.mote e.started (option_map version_in v) b.image n (last e.trail) x.runs
 
-  -- it starts with the number and the width that it had
-  same_start : (u : RunningMote) (a b : Device) (id : ℕ) (wide : Bool) → id ≡ u.mote.id → wide ≡ u.mote.wide → step ≡ rested → Done step a b u.mote did.Restart → of_effect w (boots start_cause.Order here id wide now draw) (Some r.image_version) ≡ restarts
-  same_start u a b id wide at width is done =
-      ap (λ (n : ℕ). of_effect w (boots start_cause.Order here n wide now draw) (Some r.image_version)) (at ∙ done.mote.id ∙ ap (λ (t : MoteStep Did). t.mote.id) is)
-      ∙ ap (λ (x : Bool). of_effect w (boots start_cause.Order here r.mote.id x now draw) (Some r.image_version)) (width ∙ done.mote.wide ∙ ap (λ (t : MoteStep Did). t.mote.wide) is)
+stopped_endures : (a b : Device) → ActStopped a b → Endures (beneath_of a) (beneath_of b)
+stopped_endures a b x = record { faults = x.faults; cause = λ stopped. x.cause; stays = λ was. x.stopped; calm = λ awake. absurd (both_ways b.stopped awake x.stopped) }
 
-  pub restart_starts : (u : RunningMote) (x : Begun) (v : Option RunningMote) (a b c : Device) (id : ℕ) (wide : Bool) → id ≡ u.mote.id → wide ≡ u.mote.wide → step ≡ rested → Done step a b u.mote did.Restart
-      → OutcomeEnds (Ok (Starts x.line)) w m (of_effect w (boots start_cause.Order here id wide now draw) (Some r.image_version)) (host b v) (host c (Some x.running)) → OutcomeEnds (Ok (Starts x.line)) w m ticks (host a v) (host c (Some x.running))
-  restart_starts u x v a b c id wide at width is done ends =
-      subst (λ (y : Does). OutcomeEnds (Ok (Starts x.line)) w m y (host a v) (host c (Some x.running))) (same_start u a b id wide at width is done ∙ sym (restarts_is is))
-      (start_after w m (of_effect w (boots start_cause.Order here id wide now draw) (Some r.image_version)) (Some x.running) a b c x.line (ran_none u a b is done) ends)
+-- what a start that failed tells of a board
+pub powers_of : (f : BootFault) (E : Store → Effect) (v u : Option Node) (a b : Device) → PowerFinds (Err f) a b → ((s : Store) → Stands a.image s → NodeDone (power_end (Err f)) None (E s) (host a v) (host b u)) → Powers {T = Unit {0}} (Err (fault_of_start f)) a b
+powers_of boot_fault.Stopped E v u a b finds done = record { ends = record { stopped = finds.0.stopped; same = λ none. (finds.1 none).same_image }; endures = stopped_endures a b finds.0; count = tt }
+powers_of boot_fault.NotAVolume E v u a b finds done = record { ends = finds; endures = Endures_ran finds.1.ran; count = finds.1.ran.faults }
+powers_of boot_fault.NoImage E v u a b finds done = let l = done finds.0 finds.1 in record { ends = finds; endures = Endures_ran l.ran; count = l.ran.faults }
 
-  pub restart_halts : (u : RunningMote) (h : Halt) (v n : Option RunningMote) (a b c : Device) (id : ℕ) (wide : Bool) → id ≡ u.mote.id → wide ≡ u.mote.wide → step ≡ rested → Done step a b u.mote did.Restart
-      → OutcomeEnds (Err h) w m (of_effect w (boots start_cause.Order here id wide now draw) (Some r.image_version)) (host b v) (host c n) → OutcomeEnds (Err h) w m ticks (host a v) (host c n)
-  restart_halts u h v n a b c id wide at width is done ends =
-      subst (λ (y : Does). OutcomeEnds (Err h) w m y (host a v) (host c n)) (same_start u a b id wide at width is done ∙ sym (restarts_is is))
-      (halt_after h w m (of_effect w (boots start_cause.Order here id wide now draw) (Some r.image_version)) v n a b c (ran_none u a b is done) ends)
+abbrev option_some : Runs → Option Runs
+option_some r = Some r
+
+some_none : (r : Runs) → option_some r ≡ None → ⊥
+some_none r e = cc
+
+-- ---- by the answers of a node
+
+pub tick_quiet : (t : Ticked) (frame : Option (List ℕ)) → (t ≡ ticked.Idle) ⊎ (t ≡ ticked.Sent) → outcome_by_end (tick_end (Ok t)) frame ≡ Ok (outcome_sent frame)
+tick_quiet ticked.Idle frame is = refl
+tick_quiet ticked.Sent frame is = refl
+tick_quiet (ticked.Restarted image) frame is = ⊎_elim (λ e. absurd cc) (λ e. absurd cc) is
+
+module _ (w : RuleWorld) (m : ℕ) (does : Does) (v u : Option Node) (a b : Device) where
+  pub tick_halts : (f : TickFault) (frame : Option (List ℕ)) → OutcomeEnds (outcome_by_end (tick_end (Err f)) frame) w m does (host a v) (host b u) → OutcomeEnds (Err (halt_of (fault_of_tick f) None)) w m does (host a v) (host b u)
+  tick_halts tick_fault.Stopped frame x = x
+  tick_halts tick_fault.NoImage frame x = x
+
+-- a start
+pub node_begins : (w : RuleWorld) (m : ℕ) (e : Effect) (v : Option Node) (n : Node) (a b : Device) (image : StartedImage) → Through (SameReport (store_at w m)) e.trail → NodeDone (NodeStarts image) None e (host a v) (host b (Some n))
+    → OutcomeEnds (Ok (Starts image)) w m (of_effect w e None) (host a v) (host b (Some n))
+node_begins w m e v n a b image nothing x =
+    let r = x.2.0 in
+    let lines = changes m (store_at w m) (last e.trail) in
+    let same_lines : lines ≡ [] = changes_same m (store_at w m) (last e.trail) (Through-last (SameReport (store_at w m)) e.trail nothing) in
+    went_with w m e None v a b (λ none. absurd (some_none r (sym x.2.1 ∙ none))) n None (Starts image) x.0 x.0.sent
+    (start_lines m image r x.2.2 ∙ ap (λ (l : List Report). (l ++ start_line m (Some r)) ++ []) (sym same_lines) ∙ ap (λ (o : Option Runs). (lines ++ start_line m o) ++ []) (sym x.2.1) ∙ ap (λ (o : Option Message). (lines ++ start_line m e.started) ++ sent_line m o) (sym x.1))
+
+-- a start that failed
+pub power_halts : (w : RuleWorld) (m : ℕ) (e : Effect) (v u y : Option Node) (a b : Device) (f : BootFault) → Through (SameReport (store_at w m)) e.trail → NodeDone (power_end (Err f)) None e (host a v) (host b y)
+    → OutcomeEnds (Err (halt_of (fault_of_start f) None)) w m (of_effect w e None) (host a v) (host b u)
+power_halts w m e v u y a b boot_fault.Stopped nothing x = stopped_same w m (of_effect w e None) v u a b nothing x.0
+power_halts w m e v u y a b boot_fault.NotAVolume nothing x = absurd x
+power_halts w m e v u y a b boot_fault.NoImage nothing x = record {
+  deed = record { trail = e.trail; table = w.table; started = e.started; sent = e.sent; runs = option_map (runs_by e.started None) e.mote };
+  goes = refl;
+  none = ap (option_map (runs_by e.started None)) x.none;
+  ran = x.ran;
+  stands = x.stands;
+}
+
+pub node_references : (r : NodeEnd) (frame : Option (List ℕ)) (e : Effect) (v u : Option Node) (a b : Device) → NodeDone r frame e (host a v) (host b u) → b.references ≡ a.references
+node_references Quiet frame e v u a b x = x.0.ran.references
+node_references Sent frame e v u a b x = x.0.ran.references
+node_references (NodeStarts image) frame e v u a b x = x.0.ran.references
+node_references NodeStopped frame e v u a b x = x.0.halts.references
+node_references NodeNotAVolume frame e v u a b x = absurd x
+node_references NodeNoImage frame e v u a b x = x.ran.references
+
+pub power_references : (f : BootFault) (E : Store → Effect) (v u : Option Node) (a b : Device) → PowerFinds (Err f) a b → ((s : Store) → Stands a.image s → NodeDone (power_end (Err f)) None (E s) (host a v) (host b u)) → b.references ≡ a.references
+power_references boot_fault.Stopped E v u a b finds done = finds.0.references
+power_references boot_fault.NotAVolume E v u a b finds done = finds.1.ran.references
+power_references boot_fault.NoImage E v u a b finds done = (done finds.0 finds.1).ran.references
 
 -- ---- heard frames
 
-module _ (w : RuleWorld) (m : ℕ) (r : Running) (now draw : ℕ) (bytes : List ℕ) where
-  abbrev heard : MoteStep Heard
-  heard = heard_of r.mote (store_at w m) now draw bytes
-
-  abbrev hears : Does
-  hears = of_effect w (frame_effect r.mote (store_at w m) now draw bytes) (Some r.image_version)
-
-  pub hear_changes : (v u : RunningMote) (a b : Device) (d : Heard) (before after : ChipReport) → v.image_version ≡ r.image_version → u.image_version ≡ v.image_version → Done heard a b u.mote d → IsReportOf before (store_at w m) → IsReportOf after (last heard.trail)
-      → OutcomeEnds (Ok (Changes before after)) w m hears (host a (Some v)) (host b (Some u))
-  unfolding frame_effect
-  hear_changes v u a b d before after image_version same done is_report is_report_after = record {
-    deed = record { trail = heard.trail; table = w.table; started = None; sent = None; runs = Some (Some (record { image_version = r.image_version; mote = heard.mote })) };
-    goes = refl;
-    ran = done.ran;
-    tells = record {
-      runs = Some (record { image_version = r.image_version; mote = heard.mote });
-      runs_then = refl;
-      mote = (same ∙ image_version, done.mote);
-      lines = changes_are_reported m before after (store_at w m) (last heard.trail) is_report is_report_after ∙ sym (append-nil (changes m (store_at w m) (last heard.trail) ++ []) ∙ append-nil (changes m (store_at w m) (last heard.trail)));
-      sent = refl;
-      stands = done.mote.mounted.stands;
-      memory = tt;
-    };
-  }
-
-  -- nothing changed that is reported
-  pub hear_rests : (v u : RunningMote) (a b : Device) (d : Heard) → v.image_version ≡ r.image_version → u.image_version ≡ v.image_version → Done heard a b u.mote d → LeavesChip d → OutcomeEnds (Ok Unreported) w m hears (host a (Some v)) (host b (Some u))
-  unfolding frame_effect
-  hear_rests v u a b d image_version same done is =
-      let through = heard_calm (store_at w m) r.mote now draw bytes (subst LeavesChip done.answers is) in
-      let e : changes m (store_at w m) (last heard.trail) ≡ [] = changes_same m (store_at w m) (last heard.trail) (Through-last (SameReport (store_at w m)) heard.trail through) in
-      record {
-        deed = record { trail = heard.trail; table = w.table; started = None; sent = None; runs = Some (Some (record { image_version = r.image_version; mote = heard.mote })) };
-        goes = refl;
-        ran = done.ran;
-        tells = record {
-          runs = Some (record { image_version = r.image_version; mote = heard.mote });
-          runs_then = refl;
-          mote = (same ∙ image_version, done.mote);
-          lines = ap (λ (l : List Report). (l ++ []) ++ []) (sym e);
-          sent = refl;
-          stands = done.mote.mounted.stands;
-          memory = tt;
-        };
-      }
-
-  pub hear_stopped : (v u : Option RunningMote) (a b : Device) (before : ChipReport) → Stops heard.trail a b → IsReportOf before (store_at w m) → OutcomeEnds (Err (Stopped (Some before))) w m hears (host a v) (host b u)
-  unfolding frame_effect
-  hear_stopped v u a b before stops is_report = record { stops = stops; is_report = λ whole blown. is_report }
+-- neither what is kept nor the order is another behind such an answer
+pub hear_same : (s : Store) (m : MoteState) (now draw : ℕ) (bytes : List ℕ) → LeavesChip (heard_of m s now draw bytes).answer → Through (SameReport s) (frame_effect m s now draw bytes).trail
+unfolding frame_effect
+hear_same s m now draw bytes is = heard_calm s m now draw bytes is
 
 -- ---- motes that are on or off
 
@@ -374,17 +340,17 @@ when_off : (D : Option Running → Does) (w : RuleWorld) (m : ℕ) (c : List ℕ
 when_off D w m c s None a is stands = (is, Looked-none a, refl)
 when_off D w m c s (Some r) a is stands = absurd stands
 
-pub off_as : (D : Option Running → Does) (w : RuleWorld) (m : ℕ) (c : List ℕ) (s : Store) (o : Option Running) (v : Option RunningMote) (a : Device) → D None ≡ Refuses cause.Off → v ≡ None → MoteStands c v s o → OutcomeEnds (Ok (Refused cause.Off)) w m (D o) (host a v) (host a v)
+pub off_as : (D : Option Running → Does) (w : RuleWorld) (m : ℕ) (c : List ℕ) (s : Store) (o : Option Running) (v : Option Node) (a : Device) → D None ≡ Refuses cause.Off → v ≡ None → MoteStands c v s o → OutcomeEnds (Ok (Refused cause.Off)) w m (D o) (host a v) (host a v)
 off_as D w m c s o v a refuses is stands =
-    subst (λ (x : Option RunningMote). OutcomeEnds (Ok (Refused cause.Off)) w m (D o) (host a x) (host a x)) (sym is)
-    (when_off D w m c s o a refuses (subst (λ (x : Option RunningMote). MoteStands c x s o) is stands))
+    subst (λ (x : Option Node). OutcomeEnds (Ok (Refused cause.Off)) w m (D o) (host a x) (host a x)) (sym is)
+    (when_off D w m c s o a refuses (subst (λ (x : Option Node). MoteStands c x s o) is stands))
 
-when_on : (D : Option Running → Does) (r : Result EventOutcome Halt) (w : RuleWorld) (m : ℕ) (v : RunningMote) (u : Option RunningMote) (c : List ℕ) (s : Store) (o : Option Running) (a b : Device) → MoteStands c (Some v) s o
+when_on : (D : Option Running → Does) (r : Result EventOutcome Halt) (w : RuleWorld) (m : ℕ) (v : Node) (u : Option Node) (c : List ℕ) (s : Store) (o : Option Running) (a b : Device) → MoteStands c (Some v) s o
     → ((x : Running) → MoteStands c (Some v) s (Some x) → OutcomeEnds r w m (D (Some x)) (host a (Some v)) (host b u)) → OutcomeEnds r w m (D o) (host a (Some v)) (host b u)
 when_on D r w m v u c s None a b stands on = absurd stands
 when_on D r w m v u c s (Some x) a b stands on = on x stands
 
-pub on_as : (D : Option Running → Does) (r : Result EventOutcome Halt) (w : RuleWorld) (m : ℕ) (p : Option RunningMote) (v : RunningMote) (u : Option RunningMote) (c : List ℕ) (s : Store) (o : Option Running) (a b : Device) → p ≡ Some v → MoteStands c p s o
+pub on_as : (D : Option Running → Does) (r : Result EventOutcome Halt) (w : RuleWorld) (m : ℕ) (p : Option Node) (v : Node) (u : Option Node) (c : List ℕ) (s : Store) (o : Option Running) (a b : Device) → p ≡ Some v → MoteStands c p s o
     → ((x : Running) → MoteStands c (Some v) s (Some x) → OutcomeEnds r w m (D (Some x)) (host a (Some v)) (host b u)) → OutcomeEnds r w m (D o) (host a p) (host b u)
 on_as D r w m p v u c s o a b is stands on =
-    subst (λ (x : Option RunningMote). OutcomeEnds r w m (D o) (host a x) (host b u)) (sym is) (when_on D r w m v u c s o a b (subst (λ (x : Option RunningMote). MoteStands c x s o) is stands) on)
+    subst (λ (x : Option Node). OutcomeEnds r w m (D o) (host a x) (host b u)) (sym is) (when_on D r w m v u c s o a b (subst (λ (x : Option Node). MoteStands c x s o) is stands) on)

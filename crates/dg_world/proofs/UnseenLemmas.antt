@@ -29,19 +29,19 @@ use Rattle.dg_world.specs.declared.outcome.Fault.{Fault}
 use Rattle.dg_world.specs.declared.outcome.Power.{Power}
 use Rattle.dg_world.specs.declared.outcome.Power.TheVariants as power
 use Rattle.dg_world.specs.declared.outcome.Outcome.{Outcome}
-use Rattle.dg_world.specs.declared.world.RunningMote.{RunningMote}
+use Rattle.dg_node.specs.declared.node.Node.{Node}
 
 -- ---- the mote is on
 
 -- what a mote does that is on
-pub on_unseen : {A : Type 0} (D : Option Running → Does) (x : RunningMote) (v : Option RunningMote) (c : List ℕ) (s : Store) (o : Option Running) → v ≡ Some x → MoteStands c v s o → ((r : Running) → RefusesUnseen (D (Some r)) → ⊥) → RefusesUnseen (D o) → A
-on_unseen D x v c s o is stands none unseen = by_running o (subst (λ (y : Option RunningMote). MoteStands c y s o) is stands) unseen
+pub on_unseen : {A : Type 0} (D : Option Running → Does) (x : Node) (v : Option Node) (c : List ℕ) (s : Store) (o : Option Running) → v ≡ Some x → MoteStands c v s o → ((r : Running) → RefusesUnseen (D (Some r)) → ⊥) → RefusesUnseen (D o) → A
+on_unseen D x v c s o is stands none unseen = by_running o (subst (λ (y : Option Node). MoteStands c y s o) is stands) unseen
   where
     by_running : {A : Type 0} (y : Option Running) → MoteStands c (Some x) s y → RefusesUnseen (D y) → A
     by_running None stands unseen = absurd stands
     by_running (Some r) stands unseen = absurd (none r unseen)
 
-pub unless_unseen : (D : Does) (v : Option RunningMote) (c : List ℕ) (s : Store) (o : Option Running) → MoteStands c v s o → is_none v ≡ false → RefusesUnseen (unless_off o D) → RefusesUnseen D
+pub unless_unseen : (D : Does) (v : Option Node) (c : List ℕ) (s : Store) (o : Option Running) → MoteStands c v s o → is_none v ≡ false → RefusesUnseen (unless_off o D) → RefusesUnseen D
 unless_unseen D None c s o stands on unseen = absurd cc
 unless_unseen D (Some x) c s None stands on unseen = absurd stands
 unless_unseen D (Some x) c s (Some r) stands on unseen = unseen
@@ -115,10 +115,10 @@ abbrev pub Unused : {N E : Type 0} (r : Result (Unit {0}) E) (old new : N) → T
 Unused r old new = (new ≡ old) × OnErr r ⊥
 
 -- what the clause `unseen` of `apply_event` says
-abbrev pub StaysUnused : {N E : Type 0} → Result (Unit {0}) E → (old new : N) → RuleWorld → Occasion → Device → Option RunningMote → Event → Type 0
+abbrev pub StaysUnused : {N E : Type 0} → Result (Unit {0}) E → (old new : N) → RuleWorld → Occasion → Device → Option Node → Event → Type 0
 StaysUnused r old new w o a v event = AppliesIn o w event a v → RefusesUnseen (does w event) → Unused r old new
 
-module _ {N E : Type 0} (r : Result (Unit {0}) E) (old new : N) (w : RuleWorld) (o : Occasion) (a : Device) (v : Option RunningMote) where
+module _ {N E : Type 0} (r : Result (Unit {0}) E) (old new : N) (w : RuleWorld) (o : Occasion) (a : Device) (v : Option Node) where
   -- at the moment of the event
   at_moment : (D : ℕ → Does) (moment : ℕ) → o.moment ≡ moment → RefusesUnseen (D moment) → RefusesUnseen (D o.moment)
   at_moment D moment e unseen = subst (λ (n : ℕ). RefusesUnseen (D n)) (sym e) unseen

@@ -14,7 +14,7 @@ use Rattle.dg_world.specs.Stepped.{StepDid, Station, station}
 use Rattle.dg_world.specs.Outcomes.{outcome_of, halt_of, as_outcome}
 use Rattle.dg_world.specs.EventOutcomes.{Whole}
 use Rattle.dg_world.specs.OutcomeEndings.{outcome_lines, OutcomeEnds}
-use Rattle.dg_world.specs.Hosts.{host}
+use Rattle.dg_node.specs.Hosts.{host}
 use Rattle.dg_world.specs.Unseen.{RefusesUnseen}
 use Rattle.dg_world.specs.declared.occasion.Occasion.{Occasion}
 use Rattle.dg_world.specs.declared.outcome.Fault.{Fault}

@@ -18,15 +18,15 @@ use Rattle.dg_world.specs.Shareds.{IsShared}
 use Rattle.dg_world.specs.Worlds.{SiteStands, IsWorld}
 use Rattle.dg_world.specs.declared.shared.Shared.{Shared}
 use Rattle.dg_world.specs.declared.world.World.{World}
-use Rattle.dg_world.specs.declared.world.RunningMote.{RunningMote}
+use Rattle.dg_node.specs.declared.node.Node.{Node}
 use Rattle.dg_world.proofs.ImageLemmas.{declares_none}
 
 first_site : (stores : List Store) (table : List Row) (links : List (ℕ × ℕ)) (narrow : List Bool) (m : ℕ) → m < length stores → site (first_world table links narrow stores) m ≡ off_site (slice_index_or stores m no_site.store)
 first_site stores table links narrow m h = get_or-map off_site stores m no_site.store no_site h
 
-stands_off : (d : Device) (v : Option RunningMote) (x : Site) (s : Store) → v ≡ None → x ≡ off_site s → Stands d.image s → SiteStands d v x
+stands_off : (d : Device) (v : Option Node) (x : Site) (s : Store) → v ≡ None → x ≡ off_site s → Stands d.image s → SiteStands d v x
 stands_off d v x s off at stands =
-    let P : Option RunningMote → Type 0 = λ o. SiteStands d o x in
+    let P : Option Node → Type 0 = λ o. SiteStands d o x in
     subst P (sym off) (subst (λ (y : Site). SiteStands d None y) (sym at) (record { stands = stands; mote = tt }))
 
 off_timely : (x : Site) (s : Store) (now : ℕ) → x ≡ off_site s → IfSome x.runs (λ r. Timely r.mote now)
@@ -50,7 +50,7 @@ begins v boards stores table links narrow n start none nothing linked radios sil
       sites = λ m d known here.
           let h : m < n = omega (arith, sites, known) in
           stands_off d (slice_index_or v.motes.items m None) (site (first_world table links narrow stores) m) (slice_index_or stores m no_site.store)
-          (ap (λ (l : List (Option RunningMote)). slice_index_or l m None) off ∙ get_or-replicate n m None None h)
+          (ap (λ (l : List (Option Node)). slice_index_or l m None) off ∙ get_or-replicate n m None None h)
           (first_site stores table links narrow m (omega (arith, h, count))) (stand m d h here);
       orderly = λ m d known here is. absurd (both_ways (known_of v m) (unknown m) is);
     }

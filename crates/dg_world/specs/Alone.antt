@@ -17,7 +17,7 @@ use Rattle.dg_world.specs.Cuts.{IsStopped, IsLacking}
 use Rattle.dg_world.specs.Stepped.{StepDone, station}
 use Rattle.dg_world.specs.declared.outcome.Fault.{Fault}
 use Rattle.dg_world.specs.declared.outcome.Fault.TheVariants as fault
-use Rattle.dg_world.specs.declared.world.RunningMote.{RunningMote}
+use Rattle.dg_node.specs.declared.node.Node.{Node}
 
 -- the event asks nothing of other motes, and nothing of what was sent or declared
 abbrev pub IsAlone : Event → Type 0
@@ -44,13 +44,13 @@ abbrev pub uncut : Event → Step
 uncut event = record { event = event; cut = None }
 
 -- The event was done at its board, and is a step of the world.
-pub record AloneDone (w : RuleWorld) (event : Event) (u : Option RunningMote) (frame : Option (List ℕ)) (new : Device) : Type
+pub record AloneDone (w : RuleWorld) (event : Event) (u : Option Node) (frame : Option (List ℕ)) (new : Device) : Type
     0 where
   pub reported : List Report
   pub done : StepDone w (uncut event) true frame [] (station new u reported)
 
 -- What the event answers from a board that stood for the mote's store.
-abbrev pub AloneEnds : Result Outbox Fault → RuleWorld → Event → Option RunningMote → Device → Type 0
+abbrev pub AloneEnds : Result Outbox Fault → RuleWorld → Event → Option Node → Device → Type 0
 AloneEnds (Ok out) w event u new = AloneDone w event u (sent_in out) new
 AloneEnds (Err fault.Stopped) w event u new = IsStopped w (mote_of event) (does w event) None new
 AloneEnds (Err fault.NotAVolume) w event u new = ⊥
@@ -63,7 +63,7 @@ CountKeeps (Err fault.Stopped) old new = Unit {0}
 CountKeeps (Err fault.NotAVolume) old new = new.faults ≡ old.faults
 CountKeeps (Err fault.NoImage) old new = new.faults ≡ old.faults
 
-pub record PlaysAlone (r : Result Outbox Fault) (w : RuleWorld) (event : Event) (u : Option RunningMote)
+pub record PlaysAlone (r : Result Outbox Fault) (w : RuleWorld) (event : Event) (u : Option Node)
     (old new : Device) : Type 0 where
   pub ends : AloneEnds r w event u new
   pub endures : Endures (beneath_of old) (beneath_of new)

@@ -1,19 +1,12 @@
 -- What is reported of a chip by what its volume tells (docs/ARCHITECTURE.md, "The way of a script line").
-use Rattle.std.specs.Prelude.{◌≡◌, ℕ, ◌<◌, ◌==◌, ◌&&◌, if◌then◌else◌, List, ◌++◌, slice_index_or, Option, Some, None}
+use Rattle.std.specs.Prelude.{ℕ, ◌==◌, ◌&&◌, if◌then◌else◌, List, ◌++◌, slice_index_or, Option, Some, None}
 use Rattle.std.specs.List.{filter_map, range_with_len}
 use Rattle.dg_volume.specs.Sizes.{images}
-use Rattle.dg_volume.specs.Store.{Store, held}
-use Rattle.dg_volume.specs.Told.{told}
 use Rattle.dg_volume.specs.declared.volume.Kept.{Kept}
 use Rattle.dg_rules.specs.Changes.{order_change}
 use Rattle.dg_script.specs.declared.report.Report.{Report}
 use Rattle.dg_script.specs.declared.report.Report.TheVariants.{Lost, Have}
-use Rattle.dg_world.specs.declared.chip_report.ChipReport.{ChipReport}
-
--- the order, and what is reported of each image, are the store's
-pub record IsReportOf (x : ChipReport) (s : Store) : Type 0 where
-  pub order : x.order ≡ s.order
-  pub kept : (i : ℕ) → i < images → slice_index_or x.kept i None ≡ told (held s i)
+use Rattle.dg_node.specs.declared.report.ChipReport.{ChipReport}
 
 abbrev pub have_line : ℕ → ℕ → Option Kept → Option Kept → Option Report
 have_line m i None None = None

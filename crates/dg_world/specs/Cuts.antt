@@ -11,9 +11,9 @@ use Rattle.dg_rules.specs.Steps.{blows, before_cut}
 use Rattle.dg_base.specs.declared.events.Cut.{Cut as PowerCut}
 use Rattle.dg_world.specs.OutcomeEndings.{TellsDeed, BeforeReports}
 use Rattle.dg_world.specs.Counts.{CountStays}
-use Rattle.dg_world.specs.Hosts.{Host}
-use Rattle.dg_world.specs.declared.chip_report.ChipReport.{ChipReport}
-use Rattle.dg_world.specs.declared.world.RunningMote.{RunningMote}
+use Rattle.dg_node.specs.Hosts.{Host}
+use Rattle.dg_node.specs.declared.report.ChipReport.{ChipReport}
+use Rattle.dg_node.specs.declared.node.Node.{Node}
 use Rattle.dg_world.specs.EventOutcomes.{EventOutcome, Refused, Unreported, Sends, Changes, Starts, EventEnded}
 use Rattle.dg_world.specs.EventOutcomes.{Halt, Stopped, NotAVolume, NoImage}
 use Rattle.dg_world.specs.EventOutcomes.{Whole, Cut}
@@ -27,7 +27,7 @@ ended blown (Err NotAVolume) = Err NotAVolume
 ended blown (Err NoImage) = Err NoImage
 
 -- the whole event was done, and no cut blew
-pub record EventIsWhole (w : RuleWorld) (m : ℕ) (does : Does) (cut : Option PowerCut) (u : Option RunningMote)
+pub record EventIsWhole (w : RuleWorld) (m : ℕ) (does : Does) (cut : Option PowerCut) (u : Option Node)
     (image : List ℕ) (outcome : EventOutcome) : Type 0 where
   pub deed : Deed
   pub goes : does ≡ Goes deed

@@ -1,8 +1,8 @@
 -- What an event did, as it is reported (docs/SCRIPTS.md, "The report").
 use Rattle.std.specs.Prelude.{ℕ, List, Option}
 use Rattle.dg_script.specs.declared.report.Cause.{Cause}
-use Rattle.dg_world.specs.declared.chip_report.ChipReport.{ChipReport}
-use Rattle.dg_world.specs.declared.outcome.StartLine.{StartLine}
+use Rattle.dg_node.specs.declared.report.ChipReport.{ChipReport}
+use Rattle.dg_node.specs.declared.answers.StartedImage.{StartedImage}
 
 pub data EventOutcome : Type 0 where
   Refused : (why : Cause) → EventOutcome
@@ -12,7 +12,7 @@ pub data EventOutcome : Type 0 where
   Sends : (bytes : List ℕ) → EventOutcome
   -- what is reported of the chip may be something else
   Changes : (before after : ChipReport) → EventOutcome
-  Starts : (line : StartLine) → EventOutcome
+  Starts : (line : StartedImage) → EventOutcome
 
 -- why an event was not done
 pub data Halt : Type 0 where

@@ -4,10 +4,10 @@ use Rattle.std.specs.List.{filter_map, range_with_len}
 use Rattle.dg_volume.specs.declared.volume.Kept.{Kept}
 use Rattle.dg_script.specs.declared.report.Report.{Report}
 use Rattle.dg_script.specs.declared.report.Report.TheVariants.{MoteOn, MoteOff, Kept as KeptLine}
-use Rattle.dg_world.specs.declared.chip_report.ChipReport.{ChipReport}
-use Rattle.dg_world.specs.declared.world.RunningMote.{RunningMote}
+use Rattle.dg_node.specs.declared.report.ChipReport.{ChipReport}
+use Rattle.dg_node.specs.declared.node.Node.{Node}
 
-abbrev pub mote_report : ℕ → Option RunningMote → Report
+abbrev pub mote_report : ℕ → Option Node → Report
 mote_report m None = MoteOff m
 mote_report m (Some v) = MoteOn m v.image_version.image v.image_version.version
 

@@ -1,12 +1,12 @@
 -- Boards that are known: they may be mounted again by halving (docs/IMAGES.md, "Mounting again").
-use Rattle.std.specs.Prelude.{◌≡◌, ◌≢◌, ◌↔◌, ◌+◌, ◌*◌, ◌≤◌, ℕ, Bool, true, false, List, Option, Some, None, slice_index_or}
+use Rattle.std.specs.Prelude.{◌≡◌, ◌≢◌, ◌↔◌, ◌+◌, ◌*◌, ℕ, Bool, true, false, List, Option, Some, None, slice_index_or}
 use Rattle.dg_nor.specs.Device.{Device, Took}
 use Rattle.dg_control.specs.Sizes.{place_size}
 use Rattle.dg_slot.specs.Layout.{page_size}
 use Rattle.dg_volume.specs.Remount.{RemountBytes}
 use Rattle.dg_control.specs.Store.{IsOrderlyChip}
 use Rattle.dg_control.specs.Mounted.{IsControlOf}
-use Rattle.dg_volume.specs.Stands.{IsVolume, control_of}
+use Rattle.dg_volume.specs.Stands.{control_of}
 use Rattle.dg_mote.specs.Motes.{volume_of}
 use Rattle.dg_rules.specs.World.{World as RuleWorld}
 use Rattle.dg_rules.specs.Events.{Does, Refuses, does}
@@ -14,16 +14,12 @@ use Rattle.dg_base.specs.declared.events.Event.{Event}
 use Rattle.dg_base.specs.declared.events.Event.TheVariants.{Tick, Hear, Last, Reset, Inject, Order as OrderEvent, Frame}
 use Rattle.dg_script.specs.declared.report.Cause.{Cause}
 use Rattle.dg_script.specs.declared.report.Cause.TheVariants as cause
+use Rattle.dg_node.specs.Known.{SeesOrder, OrderReads}
 use Rattle.dg_world.specs.EventOutcomes.{EventOutcome, Refused, Unreported, Sends, Changes, Starts}
 use Rattle.dg_world.specs.Outcomes.{outcome_of}
 use Rattle.dg_world.specs.declared.outcome.Outcome.{Outcome}
-use Rattle.dg_world.specs.declared.world.RunningMote.{RunningMote}
+use Rattle.dg_node.specs.declared.node.Node.{Node}
 use Rattle.dg_world.specs.declared.world.World.{World}
-
--- a chip that may be mounted again by halving
-pub record IsKnownChip (c : List ℕ) : Type 0 where
-  pub volume : IsVolume c
-  pub orderly : IsOrderlyChip c
 
 -- the world knows the board of this mote
 abbrev pub known_of : World → ℕ → Bool
@@ -46,10 +42,6 @@ MakesKnown w (Inject mote image version dt draw) = IsLookedInto (does w (Inject 
 MakesKnown w (OrderEvent mote number image version dt draw) = IsLookedInto (does w (OrderEvent mote number image version dt draw))
 
 -- ---- what an event sees of it
-
--- this tells whether the chip is orderly
-abbrev pub SeesOrder : Bool → List ℕ → Type 0
-SeesOrder orderly c = (orderly ≡ true) ↔ IsOrderlyChip c
 
 -- refused without a look at the chip, as an injection or an order may be
 abbrev pub IsUndeclared : EventOutcome → Type 0
@@ -75,15 +67,15 @@ SeesInjected (Some orderly) outcome c d = SeesOrder orderly d
 SeesInjected None outcome c d = (d ≡ c) × IsUndeclared outcome
 
 -- what a mote does by itself is told by the mote: one that is off does nothing
-pub record SeesMote (t : Outcome) (u : Option RunningMote) (c d : List ℕ) : Type 0 where
+pub record SeesMote (t : Outcome) (u : Option Node) (c d : List ℕ) : Type 0 where
   pub untold : t.orderly ≡ None
   pub off : u ≡ None → d ≡ c
 
-pub record SeesStart (t : Outcome) (u : Option RunningMote) : Type 0 where
+pub record SeesStart (t : Outcome) (u : Option Node) : Type 0 where
   pub untold : t.orderly ≡ None
   pub on : u ≢ None
 
-abbrev pub EventSees : Event → Outcome → Option RunningMote → List ℕ → List ℕ → Type 0
+abbrev pub EventSees : Event → Outcome → Option Node → List ℕ → List ℕ → Type 0
 EventSees (Tick mote dt draw) t u c d = SeesMote t u c d
 EventSees (Hear mote dt draw frame) t u c d = SeesMote t u c d
 EventSees (Last from to dt draw) t u c d = SeesMote t u c d
@@ -94,7 +86,7 @@ EventSees (OrderEvent mote number image version dt draw) t u c d = SeesInjected 
 
 -- A step tells whether the chip is orderly, or a mote is off after it whose board is as it was where it was known,
 -- and was not made known.
-abbrev pub StepSees : RuleWorld → Event → Bool → Option Bool → Option RunningMote → List ℕ → List ℕ → Type 0
+abbrev pub StepSees : RuleWorld → Event → Bool → Option Bool → Option Node → List ℕ → List ℕ → Type 0
 StepSees w event known (Some orderly) u c d = SeesOrder orderly d
 StepSees w event known None u c d = u ≡ None → (known ≡ true → d ≡ c) × (MakesKnown w event → ⊥)
 
@@ -104,7 +96,7 @@ SeesCut w event known (Some orderly) c = SeesOrder orderly c
 SeesCut w event known None c = (known ≡ true → ⊥) × (MakesKnown w event → ⊥)
 
 -- Whether a board is known afterwards: as the mote tells that is on, or as was seen; else as it was before.
-abbrev pub KnownAfter : Bool → Option Bool → Option RunningMote → List ℕ → Bool → Type 0
+abbrev pub KnownAfter : Bool → Option Bool → Option Node → List ℕ → Bool → Type 0
 KnownAfter known seen (Some r) c result =
     IsControlOf c (control_of (volume_of r.mote)) → (result ≡ true) ↔ ((known ≡ true) × IsOrderlyChip c)
 KnownAfter known (Some orderly) None c result = (result ≡ true) ↔ ((known ≡ true) × (orderly ≡ true))
@@ -130,13 +122,6 @@ beyond (cause.OldOrder number) = 0
 abbrev pub InjectReads : Bool → Option Cause → Device → Device → Type 0
 InjectReads known refused a b =
     known ≡ true → (n : ℕ) (why : Cause) → RemountBytes a.image n → refused ≡ Some why → Took (n + beyond why) a b
-
--- An order mounts a known board again and reads nothing else. The board stays one that is known,
--- and mounting it once more reads one place more at most.
-pub record OrderReads (known : Bool) (a b : Device) : Type 0 where
-  pub took : known ≡ true → (n : ℕ) → RemountBytes a.image n → Took n a b
-  pub stays : IsKnownChip a.image → IsKnownChip b.image
-  pub bytes : (m n : ℕ) → RemountBytes a.image m → RemountBytes b.image n → n ≤ m + place_size
 
 abbrev pub EventReads : Event → Bool → (done : Type 0) → Option Cause → Device → Device → Type 0
 EventReads (Tick mote dt draw) known done refused a b = Unit {0}

@@ -2,7 +2,6 @@ pub mod Images
 pub mod Airs
 pub mod Neighbours
 pub mod Shareds
-pub mod Hosts
 pub mod Deployments
 pub mod Worlds
 pub mod Knows
@@ -16,6 +15,8 @@ pub mod ChipReports
 pub mod EventOutcomes
 pub mod OutcomeEndings
 pub mod Outcomes
+pub mod Faults
+pub mod Acting
 pub mod Known
 pub mod Cuts
 pub mod Stepped

@@ -1,19 +1,16 @@
 -- What an event does at a board, by the rules (docs/ARCHITECTURE.md, "The way of a script line").
-use Rattle.std.specs.Prelude.{◌≡◌, ℕ, Bool, true, false, List, [], ◌∷◌, length, Option, Some, None, option_map, IfSome, Result}
+use Rattle.std.specs.Prelude.{◌≡◌, ℕ, true, false, List, [], ◌∷◌, length, Option, Some, None, option_map, IfSome, Result}
 use Rattle.std.specs.Prelude.{Ok, Err}
 use Rattle.dg_nor.specs.Device.{Device, Ran}
 use Rattle.dg_nor.specs.Trail.{Trail, operations, last, Leaves}
 use Rattle.dg_nor.specs.Reads.{Looked, StopsIn}
 use Rattle.dg_slot.specs.Pages.{program}
 use Rattle.dg_volume.specs.Store.{Store, IsNear}
-use Rattle.dg_volume.specs.Stands.{Stands, Mounted}
+use Rattle.dg_volume.specs.Stands.{Stands}
 use Rattle.dg_frame.specs.Grammar.{message_of}
 use Rattle.dg_frame.specs.Spelling.{frame_of}
 use Rattle.dg_frame.specs.declared.Message.{Message}
 use Rattle.dg_frame.specs.declared.FrameFault.{FrameFault}
-use Rattle.dg_boot.specs.declared.Started.{Started}
-use Rattle.dg_mote.specs.Model.{begun_mote}
-use Rattle.dg_mote.specs.Motes.{IsMote}
 use Rattle.dg_mote.specs.declared.mote.Heard.{Heard}
 use Rattle.dg_mote.specs.declared.mote.Heard.TheVariants.{Other, Asks, Sealed}
 use Rattle.dg_rules.specs.World.{World as RuleWorld, Running, store_at}
@@ -22,12 +19,12 @@ use Rattle.dg_rules.specs.Events.{Deed, Does, Refuses, Goes, trail_of}
 use Rattle.dg_rules.specs.Steps.{done_reports}
 use Rattle.dg_script.specs.declared.report.Report.{Report}
 use Rattle.dg_script.specs.declared.report.Report.TheVariants.{Start, Refused as RefusedLine}
-use Rattle.dg_world.specs.ChipReports.{IsReportOf, change_lines}
+use Rattle.dg_world.specs.ChipReports.{change_lines}
+use Rattle.dg_node.specs.Reports.{IsReportOf}
 use Rattle.dg_world.specs.Worlds.{MoteStands}
-use Rattle.dg_world.specs.Hosts.{Host}
-use Rattle.dg_world.specs.declared.starting.Begun.{Begun}
-use Rattle.dg_world.specs.declared.world.RunningMote.{RunningMote}
-use Rattle.dg_world.specs.declared.chip_report.ChipReport.{ChipReport}
+use Rattle.dg_node.specs.Hosts.{Host}
+use Rattle.dg_node.specs.declared.node.Node.{Node}
+use Rattle.dg_node.specs.declared.report.ChipReport.{ChipReport}
 use Rattle.dg_world.specs.EventOutcomes.{EventOutcome, Refused, Unreported, Sends, Changes, Starts}
 use Rattle.dg_world.specs.EventOutcomes.{Halt, Stopped, NotAVolume, NoImage}
 
@@ -55,17 +52,9 @@ outcome_lines m (Sends bytes) = frame_lines m (message_of bytes true)
 outcome_lines m (Changes old new) = change_lines m old new
 outcome_lines m (Starts x) = Start m x.image_version.image x.image_version.version x.length x.crc ∷ []
 
--- a mote that was started over the volume of its chip, and the line of that
-pub record BeginsOver (started : Started) (id : ℕ) (wide : Bool) (now draw : ℕ) (b : Begun) : Type 0 where
-  pub image_version : b.running.image_version ≡ b.line.image_version
-  pub line_image_version : b.line.image_version ≡ record { image = started.image; version = started.version }
-  pub length : b.line.length ≡ started.length
-  pub crc : b.line.crc ≡ started.crc
-  pub mote : (c : List ℕ) (s : Store) → Mounted c started.volume s → IsMote c b.running.mote (begun_mote id wide now draw) s
-
 -- The outcome is the deed: the mote, the report and what is sent are the rules', the chip stands for the last store,
 -- and what was started stands in program memory.
-pub record TellsDeed (w : RuleWorld) (m : ℕ) (d : Deed) (outcome : EventOutcome) (u : Option RunningMote)
+pub record TellsDeed (w : RuleWorld) (m : ℕ) (d : Deed) (outcome : EventOutcome) (u : Option Node)
     (image : List ℕ) : Type 0 where
   pub runs : Option Running
   pub runs_then : d.runs ≡ Some runs
@@ -76,7 +65,7 @@ pub record TellsDeed (w : RuleWorld) (m : ℕ) (d : Deed) (outcome : EventOutcom
   pub memory : IfSome d.started (λ r. program image (length r.pages) ≡ r.pages)
 
 -- an event that is not refused was done
-pub record DeedWent (w : RuleWorld) (m : ℕ) (does : Does) (u : Option RunningMote) (old new : Device)
+pub record DeedWent (w : RuleWorld) (m : ℕ) (does : Does) (u : Option Node) (old new : Device)
     (outcome : EventOutcome) : Type 0 where
   pub deed : Deed
   pub goes : does ≡ Goes deed

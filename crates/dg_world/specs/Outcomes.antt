@@ -5,8 +5,8 @@ use Rattle.dg_script.specs.declared.report.Cause.{Cause}
 use Rattle.dg_world.specs.EventOutcomes.{EventOutcome, Refused, Unreported, Sends, Changes, Starts, EventEnded}
 use Rattle.dg_world.specs.EventOutcomes.{Halt, Stopped, NotAVolume, NoImage}
 use Rattle.dg_world.specs.EventOutcomes.{Whole, Cut}
-use Rattle.dg_world.specs.declared.chip_report.ChipReport.{ChipReport}
-use Rattle.dg_world.specs.declared.outcome.StartLine.{StartLine}
+use Rattle.dg_node.specs.declared.report.ChipReport.{ChipReport}
+use Rattle.dg_node.specs.declared.answers.StartedImage.{StartedImage}
 use Rattle.dg_world.specs.declared.outcome.Outcome.{Outcome}
 use Rattle.dg_world.specs.declared.outcome.Fault.{Fault}
 use Rattle.dg_world.specs.declared.outcome.Fault.TheVariants as fault
@@ -22,7 +22,7 @@ pub record IsNothing (t : Outcome) : Type 0 where
   pub sent : sent_in t.outbox ≡ None
   pub orderly : t.orderly ≡ None
 
-abbrev pub outcome_by : Option (List ℕ) → Option Cause → Option StartLine → Option ChipReport → Option ChipReport → EventOutcome
+abbrev pub outcome_by : Option (List ℕ) → Option Cause → Option StartedImage → Option ChipReport → Option ChipReport → EventOutcome
 outcome_by (Some bytes) why x a b = Sends bytes
 outcome_by None (Some why) x a b = Refused why
 outcome_by None None (Some x) a b = Starts x

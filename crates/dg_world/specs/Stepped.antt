@@ -26,9 +26,9 @@ use Rattle.dg_world.specs.Counts.{CountStays}
 use Rattle.dg_world.specs.Cuts.{IsStopped, IsLacking}
 use Rattle.dg_world.specs.OutcomeEndings.{BeforeReports}
 use Rattle.dg_world.specs.declared.occasion.Occasion.{Occasion}
-use Rattle.dg_world.specs.declared.chip_report.ChipReport.{ChipReport}
+use Rattle.dg_node.specs.declared.report.ChipReport.{ChipReport}
 use Rattle.dg_world.specs.declared.outcome.Outcome.{Outcome}
-use Rattle.dg_world.specs.declared.world.RunningMote.{RunningMote}
+use Rattle.dg_node.specs.declared.node.Node.{Node}
 use Rattle.dg_world.specs.EventOutcomes.{Halt, Stopped, NotAVolume, NoImage}
 use Rattle.dg_world.specs.declared.outcome.Fault.{Fault}
 use Rattle.dg_world.specs.declared.outcome.Fault.TheVariants as fault
@@ -63,10 +63,10 @@ CutRead (Err fault.NoImage) old new = ⊥
 -- a board with what the mote there runs, and what was reported so far
 pub record Station : Type 0 where
   pub board : Device
-  pub runs : Option RunningMote
+  pub runs : Option Node
   pub reported : List Report
 
-abbrev pub station : Device → Option RunningMote → List Report → Station
+abbrev pub station : Device → Option Node → List Report → Station
 station board runs report = record { board = board; runs = runs; reported = report }
 
 -- A step was done at its board, which stood for the mote's store: what the rules allow, where the mote and the board are then,

@@ -14,27 +14,27 @@ use Rattle.dg_control.specs.Store.{IsOrderlyChip}
 use Rattle.dg_world.specs.Shareds.{IsShared}
 use Rattle.dg_world.specs.Known.{known_of}
 use Rattle.dg_world.specs.declared.world.World.{World}
-use Rattle.dg_world.specs.declared.world.RunningMote.{RunningMote}
+use Rattle.dg_node.specs.declared.node.Node.{Node}
 
 -- ---- one site
 
 -- what the code keeps of a mote over these bytes is what the mote is
-abbrev pub MoteStands : List ℕ → Option RunningMote → Store → Option Running → Type 0
+abbrev pub MoteStands : List ℕ → Option Node → Store → Option Running → Type 0
 MoteStands c None s None = Unit {0}
 MoteStands c (Some v) s (Some r) = (v.image_version ≡ r.image_version) × IsMote c v.mote r.mote s
 MoteStands c None s (Some r) = ⊥
 MoteStands c (Some v) s None = ⊥
 
-pub record SiteStands (d : Device) (v : Option RunningMote) (x : Site) : Type 0 where
+pub record SiteStands (d : Device) (v : Option Node) (x : Site) : Type 0 where
   pub stands : Stands d.image x.store
   pub mote : MoteStands d.image v x.store x.runs
 
 -- the code's mote is some mote over these bytes, and in time
-abbrev pub IsTimelyMote : List ℕ → ℕ → RunningMote → Type 0
+abbrev pub IsTimelyMote : List ℕ → ℕ → Node → Type 0
 IsTimelyMote c now v = (m : MoteState) × (s : Store) × IsMote c v.mote m s × Timely m now
 
 -- so is each that is on
-abbrev pub MayRun : List ℕ → ℕ → Option RunningMote → Type 0
+abbrev pub MayRun : List ℕ → ℕ → Option Node → Type 0
 MayRun c now v = IfSome v (IsTimelyMote c now)
 
 -- ---- the world

@@ -5,15 +5,15 @@ ghost use Rattle.dg_rules.specs.Events.{does, mote_of, dt_of};
 ghost use Rattle.dg_world.specs.Alone.{IsAlone, IsReset, PlaysAlone, Powers};
 ghost use Rattle.dg_world.specs.Outcomes.{IsNothing, as_outcome};
 ghost use Rattle.dg_world.specs.OutcomeEndings.{OutcomeEnds};
-ghost use Rattle.dg_world.specs.Hosts.{host};
+ghost use Rattle.dg_node.specs.Hosts.{host};
 ghost use Rattle.dg_world.specs.Worlds.{SiteStands, MayRun};
 
 use crate::hearing::hear;
 use crate::outcome::{Fault, Outcome};
 use crate::starting::reset;
 use crate::ticking::tick;
-use crate::world::RunningMote;
 use dg_mote::Outbox;
+use dg_node::Node;
 use dg_nor::Nor;
 use dg_rules::Event;
 
@@ -21,7 +21,7 @@ use dg_rules::Event;
 /// the mote runs `runs`, and `now` is the moment of the event. A mote that starts is wide. What is sent is in the outbox
 /// that is answered.
 pub fn play_alone<N: Nor>(
-    runs: &mut Option<RunningMote>,
+    runs: &mut Option<Node>,
     now: u64,
     event: &Event,
     board: &mut N,
@@ -45,7 +45,7 @@ pub fn play_alone<N: Nor>(
 
 /// The same, where nothing came of it yet.
 fn apply_alone<N: Nor>(
-    runs: &mut Option<RunningMote>,
+    runs: &mut Option<Node>,
     now: u64,
     event: &Event,
     board: &mut N,

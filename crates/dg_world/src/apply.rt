@@ -8,7 +8,7 @@ ghost use Rattle.dg_world.specs.Applied.{fault_of};
 ghost use Rattle.dg_world.specs.Applying.{ApplyDone};
 ghost use Rattle.dg_world.specs.Deployments.{deployed};
 ghost use Rattle.dg_world.specs.Outcomes.{halt_of};
-ghost use Rattle.dg_world.specs.declared.chip_report.ChipReport.{ChipReport};
+ghost use Rattle.dg_node.specs.declared.report.ChipReport.{ChipReport};
 
 use crate::events::{dt_at, mote_at};
 use crate::knowing::{has, is_watched, known_after, makes_known, note};

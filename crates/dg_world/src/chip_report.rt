@@ -5,31 +5,16 @@ ghost use Rattle.dg_volume.specs.Store.{Store};
 ghost use Rattle.dg_volume.specs.Stands.{Tells};
 ghost use Rattle.dg_volume.specs.Sizes.{images};
 ghost use Rattle.dg_rules.specs.Changes.{order_change};
-ghost use Rattle.dg_world.specs.ChipReports.{IsReportOf, have_line, have_lines, change_lines};
+ghost use Rattle.dg_world.specs.ChipReports.{have_line, have_lines, change_lines};
+ghost use Rattle.dg_node.specs.Reports.{IsReportOf};
 
 use dg_control::{IMAGES, Order};
+use dg_node::ChipReport;
 use dg_rules::Report;
-use dg_volume::{Kept, Volume};
+use dg_volume::Kept;
 
 /// The most lines of what changed: the order, and what is kept of each image.
 pub(crate) const MOST_CHANGES: usize = IMAGES + 1;
-
-/// What is reported of a chip: the order, and what is kept of each image.
-#[derive(Clone, Copy, Debug, PartialEq, Eq)]
-pub struct ChipReport {
-    pub(crate) order: Order,
-    pub(crate) kept: [Option<Kept>; IMAGES],
-}
-
-/// What is reported of a chip, as its volume tells it.
-pub(crate) fn report_chip(volume: &Volume) -> ChipReport
-    ensures { (s : Store) → Tells volume.now s → IsReportOf result s }
-{
-    ChipReport {
-        order: volume.snapshot().order,
-        kept: volume.kept_images(),
-    }
-}
 
 /// The line on an image of which something else is kept than before.
 fn have_change(mote: u8, image: u8, before: Option<Kept>, after: Option<Kept>) -> Option<Report>

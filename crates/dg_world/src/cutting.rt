@@ -7,7 +7,7 @@ ghost use Rattle.dg_rules.specs.Events.{does, mote_of};
 ghost use Rattle.dg_script.specs.Ranges.{EventInRange, CutInRange};
 ghost use Rattle.dg_world.specs.Occasions.{MayApply, AppliesIn};
 ghost use Rattle.dg_world.specs.Cuts.{ended, EventPlayed};
-ghost use Rattle.dg_world.specs.Hosts.{host};
+ghost use Rattle.dg_node.specs.Hosts.{host};
 ghost use Rattle.dg_world.specs.Outcomes.{IsNothing, as_outcome, ended_as};
 ghost use Rattle.dg_world.specs.Unseen.{RefusesUnseen};
 ghost use Rattle.dg_world.specs.Known.{EventReads, EventSees};
@@ -15,7 +15,7 @@ ghost use Rattle.dg_world.specs.Known.{EventReads, EventSees};
 use crate::dispatch::apply_event;
 use crate::occasion::Occasion;
 use crate::outcome::{Fault, Outcome, Power};
-use crate::world::RunningMote;
+use dg_node::Node;
 use dg_nor::{Fused, Nor};
 use dg_rules::{Cut, Event};
 
@@ -54,7 +54,7 @@ fn fuse_of<'a, N: Nor>(cut: &'a Cut, board: &'a mut N) -> Fused<'a, N>
 /// stopped.
 pub(crate) fn play_cut<N: Nor>(
     occasion: &Occasion<'_>,
-    runs: &mut Option<RunningMote>,
+    runs: &mut Option<Node>,
     event: &Event,
     cut: &Cut,
     board: &mut N,

@@ -23,8 +23,9 @@ use crate::images::{Image, Images};
 use crate::links::{Links, MOST_MOTES};
 use crate::outcome::Outcome;
 use crate::shared::{Shared, mark};
-use crate::world::{DeclareFault, RunningMote, World};
+use crate::world::{DeclareFault, World};
 use dg_base::Bytes;
+use dg_node::Node;
 use dg_rules::ImageVersion;
 use std::alloc::{AllocError, Global};
 
@@ -52,7 +53,7 @@ impl World {
     }
 
     /// The first world of motes that are off.
-    fn at_rest(alloc: Global, motes: Vec<Option<RunningMote>>) -> World
+    fn at_rest(alloc: Global, motes: Vec<Option<Node>>) -> World
         ensures begins { (n : ℕ) (boards : List Device) (stores : List Store) (table : List Row) → motes.items ≡ replicate n None
             → n ≤ most_motes → length stores ≡ n → n ≤ length boards
             → ((m : ℕ) (d : Device) → m < n → slice_get boards m ≡ Some d
@@ -132,7 +133,7 @@ impl World {
 }
 
 /// So many motes that are off.
-fn all_off(alloc: Global, motes: u8) -> Result<Vec<Option<RunningMote>>, AllocError>
+fn all_off(alloc: Global, motes: u8) -> Result<Vec<Option<Node>>, AllocError>
     ensures { IfOk result (λ v. v.items ≡ replicate motes None) }
 {
     let mut off = Vec::with_capacity(alloc, usize::from(motes))?;

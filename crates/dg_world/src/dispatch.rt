@@ -5,7 +5,7 @@ ghost use Rattle.dg_rules.specs.Events.{does, mote_of};
 ghost use Rattle.dg_script.specs.Ranges.{EventInRange};
 ghost use Rattle.dg_rules.specs.Sizes.{most_motes};
 ghost use Rattle.dg_world.specs.OutcomeEndings.{OutcomeEnds};
-ghost use Rattle.dg_world.specs.Hosts.{host};
+ghost use Rattle.dg_node.specs.Hosts.{host};
 ghost use Rattle.dg_world.specs.Unseen.{RefusesUnseen};
 ghost use Rattle.dg_world.specs.Outcomes.{IsNothing, as_outcome};
 ghost use Rattle.dg_world.specs.Known.{EventSees, EventReads};
@@ -18,7 +18,7 @@ use crate::ordering::order_known;
 use crate::outcome::{Fault, Outcome};
 use crate::starting::reset_here;
 use crate::ticking::tick;
-use crate::world::RunningMote;
+use dg_node::Node;
 use dg_nor::Nor;
 use dg_rules::{Event, ImageVersion};
 
@@ -26,7 +26,7 @@ use dg_rules::{Event, ImageVersion};
 #[inline(always)]
 pub(crate) fn apply_event<N: Nor>(
     occasion: &Occasion<'_>,
-    runs: &mut Option<RunningMote>,
+    runs: &mut Option<Node>,
     event: &Event,
     board: &mut N,
     outcome: &mut Outcome,

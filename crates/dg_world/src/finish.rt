@@ -13,9 +13,10 @@ ghost use Rattle.dg_world.specs.Counts.{NoneRose};
 ghost use Rattle.dg_world.specs.Applied.{SameBoards, ReadFlash};
 ghost use Rattle.dg_world.specs.Finished.{mote_report, kept_report, kept_reports};
 
-use crate::chip_report::{ChipReport, push_line, report_chip};
-use crate::world::{RunningMote, World};
+use crate::chip_report::push_line;
+use crate::world::World;
 use dg_control::IMAGES;
+use dg_node::{ChipReport, Node, report_chip};
 use dg_nor::{Nor, Stopped};
 use dg_rules::Report;
 use dg_volume::{Kept, MountFault, Volume};
@@ -121,7 +122,7 @@ struct BoardStopped {
 fn push_site<N: Nor>(
     nor: &mut N,
     mote: u8,
-    runs: &Option<RunningMote>,
+    runs: &Option<Node>,
     out: &mut Vec<Report>,
 ) -> Result<(), Stopped>
     requires volume { IsVolume (N.device nor.old).image }
@@ -147,15 +148,15 @@ fn push_site<N: Nor>(
 }
 
 /// The line on what a mote runs at the end.
-fn mote_line(mote: u8, runs: &Option<RunningMote>) -> Report
+fn mote_line(mote: u8, runs: &Option<Node>) -> Report
     ensures { result ≡ mote_report mote runs.now }
 {
     match runs {
         None => Report::MoteOff { mote },
         Some(running) => Report::MoteOn {
             mote,
-            image: running.image_version.image,
-            version: running.image_version.version,
+            image: running.image_version().image,
+            version: running.image_version().version,
         },
     }
 }

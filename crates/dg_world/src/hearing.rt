@@ -8,17 +8,16 @@ ghost use Rattle.dg_rules.specs.Sizes.{most_motes};
 ghost use Rattle.dg_world.specs.Shareds.{IsShared};
 ghost use Rattle.dg_world.specs.Worlds.{SiteStands, MayRun};
 ghost use Rattle.dg_world.specs.OutcomeEndings.{LeavesChip, OutcomeEnds};
-ghost use Rattle.dg_world.specs.Hosts.{host};
+ghost use Rattle.dg_node.specs.Hosts.{host};
 ghost use Rattle.dg_world.specs.Unseen.{RefusesUnseen};
 ghost use Rattle.dg_world.specs.Outcomes.{IsNothing, as_outcome};
 ghost use Rattle.dg_world.specs.Known.{SeesMote};
 
-use crate::chip_report::report_chip;
 use crate::occasion::Occasion;
 use crate::outcome::{Fault, Outcome};
-use crate::world::RunningMote;
 use dg_frame::Message;
 use dg_mote::Heard;
+use dg_node::{Node, report_chip};
 use dg_nor::{Nor, Stopped};
 use dg_rules::Cause;
 
@@ -42,7 +41,7 @@ fn leaves_chip(heard: Heard) -> bool
 /// A frame is heard, where the mote is on: what its chip keeps is told by its own volume. One that is off refuses it.
 #[inline(never)]
 pub(crate) fn hear<N: Nor>(
-    runs: &mut Option<RunningMote>,
+    runs: &mut Option<Node>,
     now: u64,
     draw: u32,
     bytes: &[u8],
@@ -61,17 +60,17 @@ pub(crate) fn hear<N: Nor>(
     ensures sees { OnOk result (SeesMote outcome.new runs.new (N.device board.old).image (N.device board.new).image) }
     ensures same_reference { (N.device board.new).references ≡ (N.device board.old).references }
 {
-    let Some(running) = runs else {
+    let Some(node) = runs else {
         outcome.refused = Some(Cause::Off);
         return Ok(());
     };
-    outcome.before = Some(report_chip(running.mote.volume()));
-    match running.mote.hear(board, now, draw, bytes) {
+    outcome.before = Some(report_chip(node.volume()));
+    match node.hear(board, now, draw, bytes) {
         Ok(heard) => {
             if leaves_chip(heard) {
                 return Ok(());
             }
-            outcome.after = Some(report_chip(running.mote.volume()));
+            outcome.after = Some(report_chip(node.volume()));
             Ok(())
         }
         Err(Stopped) => Err(Fault::Stopped),
@@ -80,7 +79,7 @@ pub(crate) fn hear<N: Nor>(
 
 /// The frame of a message that was sent is heard in the same way.
 pub(crate) fn hear_sent<N: Nor>(
-    runs: &mut Option<RunningMote>,
+    runs: &mut Option<Node>,
     now: u64,
     draw: u32,
     message: &Message,
@@ -101,17 +100,17 @@ pub(crate) fn hear_sent<N: Nor>(
     ensures sees { OnOk result (SeesMote outcome.new runs.new (N.device board.old).image (N.device board.new).image) }
     ensures same_reference { (N.device board.new).references ≡ (N.device board.old).references }
 {
-    let Some(running) = runs else {
+    let Some(node) = runs else {
         outcome.refused = Some(Cause::Off);
         return Ok(());
     };
-    outcome.before = Some(report_chip(running.mote.volume()));
-    match running.mote.hear_sent(board, now, draw, message) {
+    outcome.before = Some(report_chip(node.volume()));
+    match node.hear_sent(board, now, draw, message) {
         Ok(heard) => {
             if leaves_chip(heard) {
                 return Ok(());
             }
-            outcome.after = Some(report_chip(running.mote.volume()));
+            outcome.after = Some(report_chip(node.volume()));
             Ok(())
         }
         Err(Stopped) => Err(Fault::Stopped),
@@ -122,7 +121,7 @@ pub(crate) fn hear_sent<N: Nor>(
 #[inline(never)]
 pub(crate) fn hear_numbered<N: Nor>(
     occasion: &Occasion<'_>,
-    runs: &mut Option<RunningMote>,
+    runs: &mut Option<Node>,
     number: u32,
     draw: u32,
     board: &mut N,
@@ -168,7 +167,7 @@ pub(crate) fn hear_numbered<N: Nor>(
 #[inline(always)]
 pub(crate) fn hear_last<N: Nor>(
     occasion: &Occasion<'_>,
-    runs: &mut Option<RunningMote>,
+    runs: &mut Option<Node>,
     from: u8,
     draw: u32,
     board: &mut N,

@@ -12,39 +12,25 @@ ghost use Rattle.dg_world.specs.Images.{Declares, row_of_image};
 ghost use Rattle.dg_world.specs.Shareds.{IsShared};
 ghost use Rattle.dg_world.specs.Worlds.{MoteStands, SiteStands, MayRun};
 ghost use Rattle.dg_world.specs.OutcomeEndings.{OutcomeEnds};
-ghost use Rattle.dg_world.specs.Hosts.{host};
+ghost use Rattle.dg_node.specs.Hosts.{host};
 ghost use Rattle.dg_world.specs.Unseen.{RefusesUnseen};
 ghost use Rattle.dg_world.specs.Outcomes.{IsNothing, as_outcome, outcome_of};
-ghost use Rattle.dg_world.specs.Known.{IsKnownChip, SeesOrder, SeesInjected, InjectReads};
+ghost use Rattle.dg_world.specs.Known.{SeesInjected, InjectReads};
+ghost use Rattle.dg_node.specs.Known.{IsKnownChip, SeesOrder};
 
-use crate::chip_report::report_chip;
+use crate::acting::{act_fault, tell_injected};
 use crate::images::Image;
-use crate::mounting::mount_known;
 use crate::occasion::Occasion;
 use crate::outcome::{Fault, Outcome};
-use crate::world::RunningMote;
 use dg_frame::NARROW_IMAGES;
+use dg_node::{ImageBytes, Node};
 use dg_nor::Nor;
 use dg_rules::{Cause, ImageVersion};
-use dg_volume::{InjectFault, Volume};
-
-/// A mote that is on goes on with its chip's new volume.
-pub(crate) fn reload(runs: &mut Option<RunningMote>, volume: Volume, now: u64, draw: u32)
-    requires mote { (c : List ℕ) × MayRun c now runs.old }
-    requires free { NothingLent volume }
-    requires moment { now < 2 ^ 62 }
-    ensures { (c d : List ℕ) (s t : Store) (r : Option Running) → MoteStands c runs.old s r → Mounted d volume t
-        → MoteStands d runs.new t (reloaded r now draw) }
-{
-    if let Some(running) = runs {
-        running.mote.reload(volume, now, draw);
-    }
-}
 
 /// Injects an image.
 fn inject_image<N: Nor>(
     occasion: &Occasion<'_>,
-    runs: &mut Option<RunningMote>,
+    runs: &mut Option<Node>,
     image_version: ImageVersion,
     image: &Image,
     draw: u32,
@@ -64,55 +50,24 @@ fn inject_image<N: Nor>(
     ensures reads { OnOk result (InjectReads occasion.now.known outcome.new.refused (N.device board.old) (N.device board.new)) }
     ensures same_reference { (N.device board.new).references ≡ (N.device board.old).references }
 {
-    let mut volume = mount_known(board, occasion.known)?;
-    outcome.before = Some(report_chip(&volume));
-    let name = image.name.as_slice();
-    let content = image.content.as_slice();
-    match volume.inject(
-        board,
-        image_version.image,
-        image_version.version,
-        name,
-        content,
-    ) {
-        Ok(_) => {
-            outcome.after = Some(report_chip(&volume));
-            outcome.orderly = Some(volume.orderly());
-            reload(runs, volume, occasion.moment, draw);
+    let bytes = ImageBytes {
+        image_version,
+        name: image.name.as_slice(),
+        bytes: image.content.as_slice(),
+    };
+    match Node::inject(runs, board, occasion.known, &bytes, occasion.moment, draw) {
+        Ok(injected) => {
+            tell_injected(injected, bytes.bytes.len(), outcome);
             Ok(())
         }
-        Err(fault) => {
-            outcome.refused = Some(inject_fault(fault, content.len())?);
-            outcome.orderly = Some(volume.orderly());
-            Ok(())
-        }
-    }
-}
-
-/// Why an injection of so many bytes is refused that was not done, unless the board stopped.
-fn inject_fault(fault: InjectFault, bytes: usize) -> Result<Cause, Fault>
-    requires { bytes < 2 ^ 32 }
-    ensures stopped { fault ≡ InjectFault.Stopped → result ≡ Err Fault.Stopped }
-    ensures refused { fault ≢ InjectFault.Stopped → (row : Row) → length row.bytes ≡ bytes
-        → result ≡ Ok (inject_cause row fault) }
-{
-    match fault {
-        InjectFault::Stopped => Err(Fault::Stopped),
-        InjectFault::TooLarge => Ok(Cause::TooLarge {
-            length: bytes as u32,
-        }),
-        InjectFault::Empty => Ok(Cause::Empty),
-        InjectFault::Stale { kept } => Ok(Cause::Stale { version: kept }),
-        InjectFault::Reserved => Ok(Cause::Reserved),
-        InjectFault::Worn { room } => Ok(Cause::Worn { room }),
-        InjectFault::Taken => Ok(Cause::Taken),
+        Err(fault) => Err(act_fault(fault, outcome)),
     }
 }
 
 /// Injects this version of an image, if it was declared.
 fn inject<N: Nor>(
     occasion: &Occasion<'_>,
-    runs: &mut Option<RunningMote>,
+    runs: &mut Option<Node>,
     image_version: ImageVersion,
     draw: u32,
     board: &mut N,
@@ -163,7 +118,7 @@ pub(crate) fn knows(wide: bool, image: u8) -> bool
 #[inline(never)]
 pub(crate) fn inject_known<N: Nor>(
     occasion: &Occasion<'_>,
-    runs: &mut Option<RunningMote>,
+    runs: &mut Option<Node>,
     image_version: ImageVersion,
     draw: u32,
     board: &mut N,

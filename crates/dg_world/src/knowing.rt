@@ -13,7 +13,8 @@ ghost use Rattle.dg_world.specs.Known.{known_of, MakesKnown, KnownAfter};
 use crate::injecting::knows;
 use crate::links::MOST_MOTES;
 use crate::shared::Shared;
-use crate::world::{RunningMote, World};
+use crate::world::World;
+use dg_node::Node;
 use dg_rules::{Event, ImageVersion};
 
 impl World {
@@ -75,11 +76,11 @@ pub(crate) fn is_watched(known: bool, makes: bool) -> bool
 
 /// Whether a board is known after an event, which runs this then and whose order was seen or not, where it was known before
 /// or the event makes it so.
-pub(crate) fn known_after(runs: &Option<RunningMote>, seen: Option<bool>, known: bool) -> bool
+pub(crate) fn known_after(runs: &Option<Node>, seen: Option<bool>, known: bool) -> bool
     ensures { (c : List ℕ) → KnownAfter known seen runs.now c result }
 {
     match runs {
-        Some(running) => known && running.mote.volume().orderly(),
+        Some(node) => known && node.volume().orderly(),
         None => known && seen.unwrap_or(true),
     }
 }

@@ -1,6 +1,7 @@
 //! The world of motes over their boards: how it begins, what is declared, its steps, and its last state.
 #![tactic(auto)]
 
+mod acting;
 mod air;
 mod alone;
 mod apply;
@@ -17,7 +18,6 @@ mod injecting;
 mod knowing;
 mod links;
 mod mount;
-mod mounting;
 mod occasion;
 mod ordering;
 mod outcome;
@@ -39,4 +39,4 @@ pub use mount::{MountStopped, mount_boards};
 pub use outcome::Fault;
 pub use sent::SentFrame;
 pub use shared::Shared;
-pub use world::{DeclareFault, RunningMote, World, WorldFault};
+pub use world::{DeclareFault, World, WorldFault};

@@ -7,25 +7,26 @@ ghost use Rattle.dg_rules.specs.Events.{Refuses, order_cause, order_unless, know
 ghost use Rattle.dg_world.specs.Shareds.{IsShared};
 ghost use Rattle.dg_world.specs.Worlds.{SiteStands, MayRun};
 ghost use Rattle.dg_world.specs.OutcomeEndings.{OutcomeEnds};
-ghost use Rattle.dg_world.specs.Hosts.{host};
+ghost use Rattle.dg_node.specs.Hosts.{host};
 ghost use Rattle.dg_world.specs.Unseen.{RefusesUnseen};
 ghost use Rattle.dg_world.specs.Outcomes.{IsNothing, as_outcome, outcome_of};
-ghost use Rattle.dg_world.specs.Known.{IsKnownChip, SeesOrder, SeesInjected, OrderReads};
+ghost use Rattle.dg_world.specs.Known.{SeesInjected};
+ghost use Rattle.dg_node.specs.Known.{IsKnownChip, SeesOrder, OrderReads};
 
-use crate::chip_report::report_chip;
-use crate::injecting::{knows, reload};
-use crate::mounting::mount_known;
+use crate::acting::{act_fault, tell_ordered};
+use crate::injecting::knows;
 use crate::occasion::Occasion;
 use crate::outcome::{Fault, Outcome};
-use crate::world::RunningMote;
+use dg_control::Order;
+use dg_node::Node;
 use dg_nor::Nor;
 use dg_rules::{Cause, ImageVersion};
-use dg_volume::{OrderFault, a_volume_bounds_a_remount};
+use dg_volume::a_volume_bounds_a_remount;
 
 /// Keeps an order.
 fn order<N: Nor>(
     occasion: &Occasion<'_>,
-    runs: &mut Option<RunningMote>,
+    runs: &mut Option<Node>,
     number: u32,
     image_version: ImageVersion,
     draw: u32,
@@ -48,21 +49,17 @@ fn order<N: Nor>(
     ensures reads { OrderReads occasion.now.known (N.device board.old) (N.device board.new) }
     ensures same_reference { (N.device board.new).references ≡ (N.device board.old).references }
 {
-    a_volume_bounds_a_remount();
-    let mut volume = mount_known(board, occasion.known)?;
-    outcome.before = Some(report_chip(&volume));
-    match volume.order(board, number, image_version.image, image_version.version) {
-        Ok(()) => {
-            outcome.after = Some(report_chip(&volume));
-            outcome.orderly = Some(volume.orderly());
-            reload(runs, volume, occasion.moment, draw);
+    let ordered = Order {
+        number,
+        image: image_version.image,
+        version: image_version.version,
+    };
+    match Node::order(runs, board, occasion.known, ordered, occasion.moment, draw) {
+        Ok(ordered) => {
+            tell_ordered(ordered, outcome);
             Ok(())
         }
-        Err(fault) => {
-            outcome.refused = Some(order_fault(fault)?);
-            outcome.orderly = Some(volume.orderly());
-            Ok(())
-        }
+        Err(fault) => Err(act_fault(fault, outcome)),
     }
 }
 
@@ -70,7 +67,7 @@ fn order<N: Nor>(
 #[inline(never)]
 pub(crate) fn order_known<N: Nor>(
     occasion: &Occasion<'_>,
-    runs: &mut Option<RunningMote>,
+    runs: &mut Option<Node>,
     number: u32,
     image_version: ImageVersion,
     draw: u32,
@@ -108,16 +105,4 @@ pub(crate) fn order_known<N: Nor>(
         return Ok(());
     }
     order(occasion, runs, number, image_version, draw, board, outcome)
-}
-
-/// Why an order is refused that was not kept, unless the board stopped.
-fn order_fault(fault: OrderFault) -> Result<Cause, Fault>
-    ensures stopped { fault ≡ OrderFault.Stopped → result ≡ Err Fault.Stopped }
-    ensures refused { fault ≢ OrderFault.Stopped → result ≡ Ok (order_cause fault) }
-{
-    match fault {
-        OrderFault::Stopped => Err(Fault::Stopped),
-        OrderFault::Worn { room } => Ok(Cause::Worn { room }),
-        OrderFault::OldOrder { kept } => Ok(Cause::OldOrder { number: kept }),
-    }
 }

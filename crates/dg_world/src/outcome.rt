@@ -3,17 +3,12 @@ ghost use Rattle.std.specs.Prelude.{◌≡◌, None};
 ghost use Rattle.dg_mote.specs.Motes.{sent_in};
 ghost use Rattle.dg_world.specs.Outcomes.{IsNothing};
 
-use crate::chip_report::ChipReport;
+use dg_boot::BootFault;
 use dg_mote::Outbox;
-use dg_rules::{Cause, ImageVersion};
-
-/// An image that was started.
-#[derive(Clone, Copy, Debug, PartialEq, Eq)]
-pub struct StartLine {
-    pub(crate) image_version: ImageVersion,
-    pub(crate) length: u32,
-    pub(crate) crc: u16,
-}
+use dg_node::{ChipReport, StartedImage, TickFault};
+use dg_nor::Stopped;
+use dg_rules::Cause;
+use dg_volume::MountFault;
 
 /// What comes of an event. It is filled in as the event goes on, where it stands: of most events little comes, and all of
 /// this is large.
@@ -25,7 +20,7 @@ pub struct Outcome {
     pub(crate) before: Option<ChipReport>,
     /// What is reported of it after the event.
     pub(crate) after: Option<ChipReport>,
-    pub(crate) started: Option<StartLine>,
+    pub(crate) started: Option<StartedImage>,
     /// Whether the chip is orderly, where an act on its volume or a look at it told that.
     pub(crate) orderly: Option<bool>,
     /// The frame that is sent.
@@ -85,6 +80,60 @@ pub enum Fault {
     NotAVolume,
     /// The mote was to start, and there was no image.
     NoImage,
+}
+
+impl From<BootFault> for Fault {
+    ghost use Rattle.std.specs.Prelude.{◌≡◌};
+    ghost use Rattle.dg_world.specs.Faults.{fault_of_start};
+
+    ghost from_gives = { λ fault e. e ≡ fault_of_start fault };
+
+    fn from(fault: BootFault) -> Fault {
+        match fault {
+            BootFault::Stopped => Fault::Stopped,
+            BootFault::NotAVolume => Fault::NotAVolume,
+            BootFault::NoImage => Fault::NoImage,
+        }
+    }
+}
+
+impl From<MountFault> for Fault {
+    ghost use Rattle.std.specs.Prelude.{◌≡◌};
+    ghost use Rattle.dg_world.specs.Faults.{fault_of_mount};
+
+    ghost from_gives = { λ fault e. e ≡ fault_of_mount fault };
+
+    fn from(fault: MountFault) -> Fault {
+        match fault {
+            MountFault::Stopped => Fault::Stopped,
+            MountFault::NotAVolume => Fault::NotAVolume,
+        }
+    }
+}
+
+impl From<TickFault> for Fault {
+    ghost use Rattle.std.specs.Prelude.{◌≡◌};
+    ghost use Rattle.dg_world.specs.Faults.{fault_of_tick};
+
+    ghost from_gives = { λ fault e. e ≡ fault_of_tick fault };
+
+    fn from(fault: TickFault) -> Fault {
+        match fault {
+            TickFault::Stopped => Fault::Stopped,
+            TickFault::NoImage => Fault::NoImage,
+        }
+    }
+}
+
+impl From<Stopped> for Fault {
+    ghost use Rattle.std.specs.Prelude.{◌≡◌};
+    ghost use Rattle.dg_world.specs.declared.outcome.Fault.TheVariants as faults;
+
+    ghost from_gives = { λ _ e. e ≡ faults.Stopped };
+
+    fn from(_stopped: Stopped) -> Fault {
+        Fault::Stopped
+    }
 }
 
 /// How an event ended whose power may have been cut.

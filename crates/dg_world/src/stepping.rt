@@ -18,17 +18,17 @@ ghost use Rattle.dg_world.specs.EventOutcomes.{Refused, Starts};
 ghost use Rattle.dg_world.specs.OutcomeEndings.{outcome_lines, frame_lines};
 ghost use Rattle.dg_world.specs.Outcomes.{IsNothing, outcome_of};
 ghost use Rattle.dg_world.specs.Stepped.{CutChangesAre, CutReported, CutRead, StepDid, station};
-ghost use Rattle.dg_world.specs.Known.{IsKnownChip, IsOrder, MakesKnown, SeesOrder, SeesCut};
+ghost use Rattle.dg_world.specs.Known.{IsOrder, MakesKnown, SeesCut};
+ghost use Rattle.dg_node.specs.Known.{IsKnownChip, SeesOrder};
 
-use crate::chip_report::{ChipReport, MOST_CHANGES, push_changes, push_line, report_chip};
+use crate::chip_report::{MOST_CHANGES, push_changes, push_line};
 use crate::cutting::play_cut;
 use crate::dispatch::apply_event;
-use crate::mounting::mount_known;
 use crate::occasion::Occasion;
-use crate::outcome::{Fault, Outcome, Power, StartLine};
-use crate::world::RunningMote;
+use crate::outcome::{Fault, Outcome, Power};
 use dg_frame::{Message, is_read_back};
 use dg_mote::Outbox;
+use dg_node::{ChipReport, Node, StartedImage, mount_known, report_chip};
 use dg_nor::Nor;
 use dg_rules::{Cause, Cut, Event, Report};
 use dg_volume::{Volume, a_volume_bounds_a_remount};
@@ -125,7 +125,7 @@ fn push_refused(mote: u8, cause: Cause, out: &mut Vec<Report>)
 }
 
 #[inline(never)]
-fn push_start(mote: u8, line: StartLine, out: &mut Vec<Report>)
+fn push_start(mote: u8, line: StartedImage, out: &mut Vec<Report>)
     requires capacity { vec_len out.old + 1 ≤ vec_capacity out.old }
     ensures reported { out.new.items ≡ out.old.items ++ outcome_lines mote (Starts line) }
     ensures capacity { vec_capacity out.new ≡ vec_capacity out.old }
@@ -238,7 +238,7 @@ fn look_after_cut<N: Nor>(
 #[inline(never)]
 fn step_cut<N: Nor>(
     occasion: &Occasion<'_>,
-    runs: &mut Option<RunningMote>,
+    runs: &mut Option<Node>,
     event: &Event,
     cut: &Cut,
     board: &mut N,
@@ -272,7 +272,7 @@ fn step_cut<N: Nor>(
 #[inline(always)]
 pub(crate) fn step_at<N: Nor>(
     occasion: &Occasion<'_>,
-    runs: &mut Option<RunningMote>,
+    runs: &mut Option<Node>,
     event: &Event,
     cut: Option<&Cut>,
     board: &mut N,

@@ -6,59 +6,52 @@ ghost use Rattle.dg_rules.specs.World.{World as RuleWorld, Running, site, store_
 ghost use Rattle.dg_rules.specs.Events.{of_effect, tick_does};
 ghost use Rattle.dg_world.specs.Worlds.{MoteStands, SiteStands, IsTimelyMote, MayRun};
 ghost use Rattle.dg_world.specs.OutcomeEndings.{OutcomeEnds};
-ghost use Rattle.dg_world.specs.Hosts.{host};
+ghost use Rattle.dg_node.specs.Hosts.{host};
 ghost use Rattle.dg_world.specs.Unseen.{RefusesUnseen};
 ghost use Rattle.dg_world.specs.Outcomes.{IsNothing, as_outcome};
 ghost use Rattle.dg_world.specs.Known.{SeesMote};
 
 use crate::outcome::{Fault, Outcome};
-use crate::starting::restart;
-use crate::world::RunningMote;
 use dg_frame::one_reading;
-use dg_mote::{Did, a_restart_is_for_the_order};
+use dg_node::{Node, Ticked};
 use dg_nor::Nor;
 use dg_rules::Cause;
 
 /// A tick of a mote that is on.
 fn tick_on<N: Nor>(
-    running: &mut RunningMote,
+    node: &mut Node,
     now: u64,
     draw: u32,
     board: &mut N,
     outcome: &mut Outcome,
 ) -> Result<(), Fault>
-    requires mote { IsTimelyMote (N.device board.old).image now running.old }
+    requires mote { IsTimelyMote (N.device board.old).image now node.old }
     requires moment { now < 2 ^ 62 }
     requires nothing { IsNothing outcome.old }
     ensures ends { (w : RuleWorld) (m : ℕ) (r : Running) → Stands (N.device board.old).image (store_at w m)
-        → MoteStands (N.device board.old).image (Some running.old) (store_at w m) (Some r)
+        → MoteStands (N.device board.old).image (Some node.old) (store_at w m) (Some r)
         → OutcomeEnds (as_outcome result outcome.new) w m
         (of_effect w (tick_effect r.mote (store_at w m) now draw) (Some r.image_version))
-        (host (N.device board.old) (Some running.old)) (host (N.device board.new) (Some running.new)) }
+        (host (N.device board.old) (Some node.old)) (host (N.device board.new) (Some node.new)) }
     ensures sees { OnOk result (outcome.new.orderly ≡ None) }
     ensures same_reference { (N.device board.new).references ≡ (N.device board.old).references }
 {
-    a_restart_is_for_the_order();
     one_reading();
-    let Ok(did) = running.mote.tick(board, now, draw, &mut outcome.outbox) else {
-        return Err(Fault::Stopped);
-    };
-    match did {
-        Did::Sent | Did::Idle => Ok(()),
-        Did::Restart => {
-            let id = running.mote.id();
-            let wide = running.mote.wide();
-            let line = restart(running, id, wide, now, draw, board)?;
-            outcome.started = Some(line);
+    match node.tick(board, now, draw, &mut outcome.outbox) {
+        Ok(Ticked::Idle) => Ok(()),
+        Ok(Ticked::Sent) => Ok(()),
+        Ok(Ticked::Restarted(image)) => {
+            outcome.started = Some(image);
             Ok(())
         }
+        Err(fault) => Err(Fault::from(fault)),
     }
 }
 
 /// A tick.
 #[inline(always)]
 pub(crate) fn tick<N: Nor>(
-    runs: &mut Option<RunningMote>,
+    runs: &mut Option<Node>,
     now: u64,
     draw: u32,
     board: &mut N,
@@ -81,6 +74,6 @@ pub(crate) fn tick<N: Nor>(
             outcome.refused = Some(Cause::Off);
             Ok(())
         }
-        Some(running) => tick_on(running, now, draw, board, outcome),
+        Some(node) => tick_on(node, now, draw, board, outcome),
     }
 }

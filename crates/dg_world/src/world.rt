@@ -2,15 +2,7 @@
 use crate::links::MOST_MOTES;
 use crate::outcome::Outcome;
 use crate::shared::Shared;
-use dg_mote::Mote;
-use dg_rules::ImageVersion;
-
-/// A mote that is on, and the image that it runs.
-#[derive(Drop)]
-pub struct RunningMote {
-    pub(crate) image_version: ImageVersion,
-    pub(crate) mote: Mote,
-}
+use dg_node::Node;
 
 /// A world of 1 to 16 motes. Their boards stand beside it.
 #[derive(Drop)]
@@ -21,7 +13,7 @@ pub struct World {
     pub(crate) events: u32,
     pub(crate) shared: Shared,
     /// Each mote, None where it is off.
-    pub(crate) motes: Vec<Option<RunningMote>>,
+    pub(crate) motes: Vec<Option<Node>>,
     /// The motes whose boards are known: they may be mounted again by halving.
     pub(crate) known: [bool; MOST_MOTES],
     /// What comes of an event. It is kept for its memory alone: to fill so many bytes anew takes long beside most events.

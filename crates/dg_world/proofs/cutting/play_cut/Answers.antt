@@ -7,20 +7,21 @@ use Rattle.dg_volume.specs.Stands.{Stands}
 use Rattle.dg_rules.specs.World.{Site, site}
 use Rattle.dg_rules.specs.Events.{does, mote_of}
 use Rattle.dg_world.specs.Worlds.{MoteStands, SiteStands, MayRun}
-use Rattle.dg_world.specs.declared.world.RunningMote.{RunningMote}
+use Rattle.dg_node.specs.declared.node.Node.{Node}
 use Rattle.dg_world.specs.Cuts.{ended, EventPlayed}
-use Rattle.dg_world.specs.Hosts.{host}
+use Rattle.dg_node.specs.Hosts.{host}
 use Rattle.dg_world.specs.Outcomes.{as_outcome, ended_as}
 use Rattle.dg_world.proofs.CutLemmas.{is_fused, fused, played_as}
 use Rattle.dg_world.proofs.UnseenLemmas.{ended_on}
 use Rattle.std.proofs.Common.{Ok}
-use Rattle.dg_world.specs.Known.{IsKnownChip, EventSees, EventReads}
+use Rattle.dg_world.specs.Known.{EventSees, EventReads}
+use Rattle.dg_node.specs.Known.{IsKnownChip}
 use Rattle.dg_world.specs.declared.outcome.Power.TheVariants as power
 use Rattle.dg_world.proofs.KnownLemmas.{reads_over, stays_done, when_ok}
 use Rattle.dg_world.proofs.cutting.play_cut.Goals as goal
 
 -- the fuse begins over the board's bytes
-begun : (a d : Device) (v : Option RunningMote) (x : Site) → d.image ≡ a.image → SiteStands a v x → SiteStands d v x
+begun : (a d : Device) (v : Option Node) (x : Site) → d.image ≡ a.image → SiteStands a v x → SiteStands d v x
 begun a d v x same stands = record {
   stands = subst (λ (c : List ℕ). Stands c x.store) (sym same) stands.stands;
   mote = subst (λ (c : List ℕ). MoteStands c v x.store x.runs) (sym same) stands.mote;

@@ -14,9 +14,9 @@ returns-in-None-clause-ends g c = λ w m stands.
 
 pub returns-in-Some-clause-ends : goal.returns-in-Some-clause-ends
 returns-in-Some-clause-ends g c = λ w m stands.
-    on_as (λ o. tick_does w (store_at w m) o c.args.now c.args.draw) (as_outcome c.tick_on.result c.tick_on.new.outcome) w m c.args.runs.now c.in-Some.running _ _ (store_at w m) (site w m).runs _ _ c.in-Some.is stands.mote
+    on_as (λ o. tick_does w (store_at w m) o c.args.now c.args.draw) (as_outcome c.tick_on.result c.tick_on.new.outcome) w m c.args.runs.now c.in-Some.node _ _ (store_at w m) (site w m).runs _ _ c.in-Some.is stands.mote
     (λ x is. c.tick_on.ensures.ends w m x stands.stands is)
 
 pub returns-in-Some-clause-unseen : goal.returns-in-Some-clause-unseen
 returns-in-Some-clause-unseen g c = λ w m stands unseen.
-    on_unseen (λ o. tick_does w (store_at w m) o c.args.now c.args.draw) c.in-Some.running c.args.runs.now _ (store_at w m) (site w m).runs c.in-Some.is stands.mote (λ r on. on) unseen
+    on_unseen (λ o. tick_does w (store_at w m) o c.args.now c.args.draw) c.in-Some.node c.args.runs.now _ (store_at w m) (site w m).runs c.in-Some.is stands.mote (λ r on. on) unseen

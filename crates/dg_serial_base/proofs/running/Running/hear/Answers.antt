@@ -1,37 +1,51 @@
-use Rattle.std.proofs.Common.{◌∷◌, [], ◌++◌}
+use Rattle.std.proofs.Common.{◌∷◌, [], ◌++◌, refl, None}
+use Rattle.dg_mote.specs.Effects.{frame_effect}
+use Rattle.dg_node.specs.Ends.{Quiet, Stopped}
 use Rattle.dg_serial_base.specs.Deeds.{Hears}
-use Rattle.dg_serial_base.proofs.StartLemmas.{calm_ran}
-use Rattle.dg_serial_base.proofs.DeedLemmas.{timely_next, hear_done, hear_fails}
+use Rattle.dg_serial_base.specs.Standing.{DeedEnds, deed_left}
+use Rattle.dg_serial_base.specs.declared.running.Running.{Running}
+use Rattle.dg_serial_base.specs.declared.stop.Stop.TheVariants as stop
+use Rattle.dg_serial_base.proofs.DeedLemmas.{timely_next, done_at}
+use Rattle.dg_serial_base.proofs.ResultLemmas.{handed}
 use Rattle.dg_serial_base.proofs.running.Running.hear.Goals as goal
 
-pub hear-requires-clause-mote : goal.hear-requires-clause-mote
-hear-requires-clause-mote g c =
+pub hear-requires-clause-node : goal.hear-requires-clause-node
+hear-requires-clause-node g c =
     let x = c.requires.stood.4 in
     (x.state, c.requires.stood.3.store, x.mote, timely_next c.a_mote_stays_timely.ensures.later x.state _ _ _ _ x.timely c.next-timing.ensures.now c.next-timing.ensures.moment)
 
-pub returns-in-Ok-clause-ends : goal.returns-in-Ok-clause-ends
-returns-in-Ok-clause-ends g c = λ b s done before stood.
-    hear_done b s done before c.args.self.now _ stood c.args.bytes.now c.next-timing.result.now c.next-timing.result.draw (c.next-timing.ensures.drawn b before.events stood.time)
-    (timely_next c.a_mote_stays_timely.ensures.later stood.state _ _ _ _ stood.timely c.next-timing.ensures.now c.next-timing.ensures.moment) c.a_mote_stays_timely.ensures.heard
-    (record { mote = c.hear.new.self; timeline = c.next-timing.new.self }) _ _ c.in-Ok.field-0 c.next-timing.ensures.now (c.next-timing.ensures.time b before.events stood.time) (c.in-Ok.ensures.done stood.state before.store stood.mote)
+pub returns-in_err-hear-clause-ends : goal.returns-in_err-hear-clause-ends
+returns-in_err-hear-clause-ends g c = λ b s done before stood.
+    let bytes = c.args.bytes.now in
+    let t = c.next-timing.result in
+    let u : Running = record { node = c.hear.new.self; timeline = c.next-timing.new.self } in
+    let new = g.N.Nor.device c.hear.new.board in
+    let timely = timely_next c.a_mote_stays_timely.ensures.later stood.state _ _ _ _ stood.timely c.next-timing.ensures.now c.next-timing.ensures.moment in
+    handed (λ r. DeedEnds r b s done (Hears bytes) before (deed_left u new None)) c.from_residual.result stop.Flash c.from_residual.ensures.1
+    (done_at b s done before c.args.self.now _ stood (Hears bytes) (λ now draw. frame_effect stood.state before.store now draw bytes) t.now t.draw (c.next-timing.ensures.drawn b before.events stood.time) refl
+    Stopped u (g.N.Nor.device c.args.nor.now) new None c.next-timing.ensures.now (c.next-timing.ensures.time b before.events stood.time) stood.mote.mounted.stands (c.in_err-hear.ensures.done stood.state before.store stood.mote)
+    (c.a_node_stays_timely.ensures.heard stood.state before.store t.now t.draw bytes timely))
 
-pub returns-in-Ok-clause-stood : goal.returns-in-Ok-clause-stood
-returns-in-Ok-clause-stood g c =
+pub returns-clause-ends : goal.returns-clause-ends
+returns-clause-ends g c = λ b s done before stood.
+    let bytes = c.args.bytes.now in
+    let t = c.next-timing.result in
+    let u : Running = record { node = c.hear.new.self; timeline = c.next-timing.new.self } in
+    let timely = timely_next c.a_mote_stays_timely.ensures.later stood.state _ _ _ _ stood.timely c.next-timing.ensures.now c.next-timing.ensures.moment in
+    done_at b s done before c.args.self.now _ stood (Hears bytes) (λ now draw. frame_effect stood.state before.store now draw bytes) t.now t.draw (c.next-timing.ensures.drawn b before.events stood.time) refl
+    Quiet u (g.N.Nor.device c.args.nor.now) (g.N.Nor.device c.hear.new.board) None c.next-timing.ensures.now (c.next-timing.ensures.time b before.events stood.time) stood.mote.mounted.stands
+    (c.in_ok-hear.ensures.done stood.state before.store stood.mote) (c.a_node_stays_timely.ensures.heard stood.state before.store t.now t.draw bytes timely)
+
+pub returns-clause-stood : goal.returns-clause-stood
+returns-clause-stood g c =
     let r = c.requires.stood in
-    let b = r.0 in
     let before = r.3 in
     let stood = r.4 in
-    let x = hear_done b r.1 r.2 before c.args.self.now _ stood c.args.bytes.now c.next-timing.result.now c.next-timing.result.draw (c.next-timing.ensures.drawn b before.events stood.time)
-    (timely_next c.a_mote_stays_timely.ensures.later stood.state _ _ _ _ stood.timely c.next-timing.ensures.now c.next-timing.ensures.moment) c.a_mote_stays_timely.ensures.heard
-    (record { mote = c.hear.new.self; timeline = c.next-timing.new.self }) _ _ c.in-Ok.field-0 c.next-timing.ensures.now (c.next-timing.ensures.time b before.events stood.time) (c.in-Ok.ensures.done stood.state before.store stood.mote) in
-    (b, r.1, r.2 ++ Hears c.args.bytes.now ∷ [], x.there, x.stood)
-
-pub returns-in-Ok-clause-counts : goal.returns-in-Ok-clause-counts
-returns-in-Ok-clause-counts g c = let r = c.requires.stood in calm_ran _ _ _ (c.in-Ok.ensures.done r.4.state r.3.store r.4.mote).ran
-
-pub returns-in-Err-clause-ends : goal.returns-in-Err-clause-ends
-returns-in-Err-clause-ends g c = λ b s done before stood.
-    hear_fails b s done before c.args.self.now _ stood c.args.bytes.now c.next-timing.result.now c.next-timing.result.draw (c.next-timing.ensures.drawn b before.events stood.time) _ _ stood.mote.mounted.stands (c.in-Err.ensures.stopped stood.state before.store stood.mote)
-
-pub returns-in-Err-clause-counts : goal.returns-in-Err-clause-counts
-returns-in-Err-clause-counts g c = let r = c.requires.stood in (c.in-Err.ensures.stopped r.4.state r.3.store r.4.mote).halts.cause
+    let bytes = c.args.bytes.now in
+    let t = c.next-timing.result in
+    let u : Running = record { node = c.hear.new.self; timeline = c.next-timing.new.self } in
+    let timely = timely_next c.a_mote_stays_timely.ensures.later stood.state _ _ _ _ stood.timely c.next-timing.ensures.now c.next-timing.ensures.moment in
+    let x = done_at r.0 r.1 r.2 before c.args.self.now _ stood (Hears bytes) (λ now draw. frame_effect stood.state before.store now draw bytes) t.now t.draw (c.next-timing.ensures.drawn r.0 before.events stood.time) refl
+    Quiet u (g.N.Nor.device c.args.nor.now) (g.N.Nor.device c.hear.new.board) None c.next-timing.ensures.now (c.next-timing.ensures.time r.0 before.events stood.time) stood.mote.mounted.stands
+    (c.in_ok-hear.ensures.done stood.state before.store stood.mote) (c.a_node_stays_timely.ensures.heard stood.state before.store t.now t.draw bytes timely) in
+    (r.0, r.1, r.2 ++ Hears bytes ∷ [], x.there, x.stood)

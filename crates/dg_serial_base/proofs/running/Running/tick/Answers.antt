@@ -1,32 +1,71 @@
+use Rattle.std.proofs.Common.{◌∷◌, [], ◌++◌, refl, subst, None, Ok, Err}
+use Rattle.dg_mote.specs.Effects.{tick_effect}
+use Rattle.dg_mote.specs.Motes.{sent_in}
+use Rattle.dg_node.specs.Ends.{tick_end}
 use Rattle.dg_serial_base.specs.Deeds.{Ticks}
-use Rattle.dg_serial_base.proofs.DeedLemmas.{timely_next, tick_done, ends_stood, ends_frame}
+use Rattle.dg_serial_base.specs.Standing.{DeedEnds, deed_left}
+use Rattle.dg_serial_base.specs.Stops.{stop_of_tick}
+use Rattle.dg_serial_base.specs.declared.running.Running.{Running}
+use Rattle.dg_serial_base.proofs.DeedLemmas.{timely_next, done_at, ends_stood, frame_longs}
+use Rattle.dg_serial_base.proofs.ResultLemmas.{handed}
+use Rattle.dg_serial_base.proofs.StartLemmas.{tick_ok, tick_err, frame_said}
 use Rattle.dg_serial_base.proofs.running.Running.tick.Goals as goal
 
-pub tick_mote-requires-clause-mote : goal.tick_mote-requires-clause-mote
-tick_mote-requires-clause-mote g c =
+pub tick-requires-clause-node : goal.tick-requires-clause-node
+tick-requires-clause-node g c =
     let x = c.requires.stood.4 in
     (x.state, c.requires.stood.3.store, x.mote, timely_next c.a_mote_stays_timely.ensures.later x.state _ _ _ _ x.timely c.next-timing.ensures.now c.next-timing.ensures.moment)
 
+pub returns-in_err-tick-clause-ends : goal.returns-in_err-tick-clause-ends
+returns-in_err-tick-clause-ends g c = λ b s done before stood.
+    let t = c.next-timing.result in
+    let f = c.in_err-tick.field-0.0 in
+    let u : Running = record { node = c.tick.new.self; timeline = c.next-timing.new.self } in
+    let new = g.N.Nor.device c.tick.new.board in
+    let frame = sent_in c.tick.new.out in
+    let timely = timely_next c.a_mote_stays_timely.ensures.later stood.state _ _ _ _ stood.timely c.next-timing.ensures.now c.next-timing.ensures.moment in
+    handed (λ r. DeedEnds r b s done Ticks before (deed_left u new frame)) c.from_residual.result (stop_of_tick f) c.from_residual.ensures.1
+    (subst (λ r. DeedEnds r b s done Ticks before (deed_left u new frame)) (tick_err f)
+    (done_at b s done before c.args.self.now _ stood Ticks (λ now draw. tick_effect stood.state before.store now draw) t.now t.draw (c.next-timing.ensures.drawn b before.events stood.time) refl
+    (tick_end (Err f)) u (g.N.Nor.device c.args.nor.now) new frame c.next-timing.ensures.now (c.next-timing.ensures.time b before.events stood.time) stood.mote.mounted.stands (c.in_err-tick.ensures stood.state before.store stood.mote)
+    (c.a_node_stays_timely.ensures.ticked stood.state before.store t.now t.draw timely)))
+
 pub returns-clause-ends : goal.returns-clause-ends
 returns-clause-ends g c = λ b s done before stood.
+    let t = c.next-timing.result in
+    let x = c.in_ok-tick.field-0 in
+    let u : Running = record { node = c.tick.new.self; timeline = c.next-timing.new.self } in
+    let new = g.N.Nor.device c.tick.new.board in
+    let frame = sent_in c.tick.new.out in
     let timely = timely_next c.a_mote_stays_timely.ensures.later stood.state _ _ _ _ stood.timely c.next-timing.ensures.now c.next-timing.ensures.moment in
-    tick_done c.tick_mote.result b s done before c.args.self.now _ stood c.next-timing.result.now c.next-timing.result.draw (c.next-timing.ensures.drawn b before.events stood.time)
-    (record { mote = c.tick_mote.new.mote; timeline = c.next-timing.new.self }) _ _ c.next-timing.ensures.now (c.next-timing.ensures.time b before.events stood.time)
-    timely c.tick_mote.ensures.sent (c.tick_mote.ensures.ends stood.state before.store stood.mote timely)
+    subst (λ r. DeedEnds r b s done Ticks before (deed_left u new frame)) (tick_ok x)
+    (done_at b s done before c.args.self.now _ stood Ticks (λ now draw. tick_effect stood.state before.store now draw) t.now t.draw (c.next-timing.ensures.drawn b before.events stood.time) refl
+    (tick_end (Ok x)) u (g.N.Nor.device c.args.nor.now) new frame c.next-timing.ensures.now (c.next-timing.ensures.time b before.events stood.time) stood.mote.mounted.stands (c.in_ok-tick.ensures stood.state before.store stood.mote)
+    (c.a_node_stays_timely.ensures.ticked stood.state before.store t.now t.draw timely))
 
 pub returns-clause-stood : goal.returns-clause-stood
 returns-clause-stood g c =
     let r = c.requires.stood in
+    let before = r.3 in
     let stood = r.4 in
+    let t = c.next-timing.result in
+    let x = c.in_ok-tick.field-0 in
+    let u : Running = record { node = c.tick.new.self; timeline = c.next-timing.new.self } in
+    let new = g.N.Nor.device c.tick.new.board in
+    let frame = sent_in c.tick.new.out in
     let timely = timely_next c.a_mote_stays_timely.ensures.later stood.state _ _ _ _ stood.timely c.next-timing.ensures.now c.next-timing.ensures.moment in
-    ends_stood c.tick_mote.result r.0 r.1 r.2 Ticks r.3 (record { mote = c.tick_mote.new.mote; timeline = c.next-timing.new.self }) _ _
-    (tick_done c.tick_mote.result r.0 r.1 r.2 r.3 c.args.self.now _ stood c.next-timing.result.now c.next-timing.result.draw (c.next-timing.ensures.drawn r.0 r.3.events stood.time)
-    (record { mote = c.tick_mote.new.mote; timeline = c.next-timing.new.self }) _ _ c.next-timing.ensures.now (c.next-timing.ensures.time r.0 r.3.events stood.time)
-    timely c.tick_mote.ensures.sent (c.tick_mote.ensures.ends stood.state r.3.store stood.mote timely))
+    ends_stood (Ok tt) r.0 r.1 r.2 Ticks before u new frame
+    (subst (λ q. DeedEnds q r.0 r.1 r.2 Ticks before (deed_left u new frame)) (tick_ok x)
+    (done_at r.0 r.1 r.2 before c.args.self.now _ stood Ticks (λ now draw. tick_effect stood.state before.store now draw) t.now t.draw (c.next-timing.ensures.drawn r.0 before.events stood.time) refl
+    (tick_end (Ok x)) u (g.N.Nor.device c.args.nor.now) new frame c.next-timing.ensures.now (c.next-timing.ensures.time r.0 before.events stood.time) stood.mote.mounted.stands (c.in_ok-tick.ensures stood.state before.store stood.mote)
+    (c.a_node_stays_timely.ensures.ticked stood.state before.store t.now t.draw timely)))
 
 pub returns-clause-frame : goal.returns-clause-frame
 returns-clause-frame g c =
-    let x = c.requires.stood.4 in
-    let before = c.requires.stood.3 in
-    let timely = timely_next c.a_mote_stays_timely.ensures.later x.state _ _ _ _ x.timely c.next-timing.ensures.now c.next-timing.ensures.moment in
-    ends_frame c.tick_mote.result x.state before.store c.next-timing.result.now c.next-timing.result.draw _ x.mote timely c.tick_mote.ensures.sent
+    let r = c.requires.stood in
+    let before = r.3 in
+    let stood = r.4 in
+    let t = c.next-timing.result in
+    let x = c.in_ok-tick.field-0 in
+    frame_longs (tick_effect stood.state before.store t.now t.draw).sent
+    (frame_said (sent_in c.tick.new.out) (tick_effect stood.state before.store t.now t.draw) _ _ _ (tick_end (Ok x)) _ (c.in_ok-tick.ensures stood.state before.store stood.mote) tt (tick_ok x))

@@ -1,0 +1,51 @@
+//! How long a mote rests.
+ghost use Rattle.std.specs.Prelude.{◌≡◌, ℕ, ◌<◌, false, List};
+ghost use Rattle.dg_volume.specs.Store.{Store};
+ghost use Rattle.dg_volume.specs.Stands.{Tells};
+ghost use Rattle.dg_mote.specs.Model.{MoteState};
+ghost use Rattle.dg_mote.specs.Ticks.{clears, idle, mode_tick};
+ghost use Rattle.dg_mote.specs.Dues.{RestsUntil};
+ghost use Rattle.dg_mote.specs.Motes.{IsMote};
+
+use crate::ticking::LONG_RUN;
+use crate::{Mode, Mote};
+use dg_boot::order_waits;
+
+impl Mote {
+    /// The moment before which a tick changes nothing and sends nothing. It is 0 where an order waits. Nothing is read.
+    pub fn due(&self) -> u64
+        ensures { (c : List ℕ) (m : MoteState) (s : Store) → IsMote c self.now m s → RestsUntil m s result }
+    {
+        self.clearing_due().min(self.mode_due())
+    }
+
+    /// The moment before which no short starts are cleared.
+    fn clearing_due(&self) -> u64
+        ensures { (m : MoteState) (s : Store) (now : ℕ) → self.now.since ≡ m.since → Tells self.now.volume s → now < result
+            → clears m s now ≡ false }
+    {
+        if self.volume.snapshot().gesture >= 1 && self.volume.room() >= 1 {
+            self.since.saturating_add(LONG_RUN)
+        } else {
+            u64::MAX
+        }
+    }
+
+    /// The moment before which its mode asks for nothing.
+    fn mode_due(&self) -> u64
+        ensures { (c : List ℕ) (m : MoteState) (s : Store) (now draw : ℕ) → IsMote c self.now m s → now < result
+            → mode_tick m.mode m s now draw ≡ idle m s }
+    {
+        match &self.mode {
+            Mode::Maintain(trickle) => {
+                if order_waits(&self.volume) {
+                    0
+                } else {
+                    trickle.due()
+                }
+            }
+            Mode::Receive { asking, .. } => asking.due(),
+            Mode::Transmit { serving, .. } => serving.due(),
+        }
+    }
+}

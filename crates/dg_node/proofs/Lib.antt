@@ -1,0 +1,4 @@
+pub mod NodeLemmas
+pub mod TimelyLemmas
+pub mod KnownLemmas
+pub mod ActLemmas

@@ -1,0 +1,5 @@
+use Rattle.dg_node.proofs.NodeLemmas.{rest_is}
+use Rattle.dg_node.proofs.node.Node.due.Goals as goal
+
+pub returns : goal.returns
+returns c = λ d m s now draw mote l. rest_is m s now draw (c.due.ensures d m s mote now draw l)

@@ -1,0 +1,20 @@
+//! What holds of nodes by their rules. These functions do nothing: their contracts are the laws.
+ghost use Rattle.std.specs.Prelude.{ℕ, Bool, List, IfSome};
+ghost use Rattle.dg_volume.specs.Store.{Store};
+ghost use Rattle.dg_mote.specs.Model.{MoteState};
+ghost use Rattle.dg_mote.specs.Effects.{reset_effect, tick_effect, frame_effect};
+ghost use Rattle.dg_mote.specs.Timely.{Timely};
+
+use dg_mote::a_mote_stays_timely;
+
+/// No moment of the mote that an event leaves is later than the event, and what is due is due soon.
+pub fn a_node_stays_timely()
+    ensures powered { (s : Store) (id now draw : ℕ) (wide : Bool)
+        → IfSome (reset_effect s id wide now draw).mote (λ m. Timely m now) }
+    ensures ticked { (m : MoteState) (s : Store) (now draw : ℕ) → Timely m now
+        → IfSome (tick_effect m s now draw).mote (λ x. Timely x now) }
+    ensures heard { (m : MoteState) (s : Store) (now draw : ℕ) (bytes : List ℕ) → Timely m now
+        → IfSome (frame_effect m s now draw bytes).mote (λ x. Timely x now) }
+{
+    a_mote_stays_timely();
+}

@@ -1,0 +1,54 @@
+//! A node: a mote that is on, and the image that it runs.
+ghost use Rattle.std.specs.Prelude.{◌≡◌, ℕ, ◌<◌, List};
+ghost use Rattle.dg_volume.specs.Store.{Store};
+ghost use Rattle.dg_mote.specs.Model.{MoteState};
+ghost use Rattle.dg_mote.specs.Effects.{tick_effect};
+ghost use Rattle.dg_mote.specs.Motes.{IsMote, volume_of};
+ghost use Rattle.dg_node.specs.Nodes.{version_in, mote_in, rest_effect};
+
+use dg_base::ImageVersion;
+use dg_mote::Mote;
+use dg_volume::Volume;
+
+/// A mote that is on, and the image that it runs. Its board stands beside it.
+#[derive(Drop)]
+pub struct Node {
+    pub(crate) image_version: ImageVersion,
+    pub(crate) mote: Mote,
+}
+
+/// Who a mote is, and when and with which draw its power comes.
+#[derive(Clone, Copy, Debug, PartialEq, Eq)]
+pub struct At {
+    pub id: u16,
+    /// Whether its radio is wide.
+    pub wide: bool,
+    /// The moment, in milliseconds.
+    pub now: u64,
+    /// A random number.
+    pub draw: u32,
+}
+
+impl Node {
+    /// The image that it runs.
+    pub fn image_version(&self) -> ImageVersion
+        ensures { result ≡ version_in self.now }
+    {
+        self.image_version
+    }
+
+    /// The moment before which a tick changes nothing and sends nothing. Nothing is read.
+    pub fn due(&self) -> u64
+        ensures { (c : List ℕ) (m : MoteState) (s : Store) (now draw : ℕ) → IsMote c (mote_in self.now) m s → now < result
+            → tick_effect m s now draw ≡ rest_effect m s }
+    {
+        self.mote.due()
+    }
+
+    /// The volume of its board.
+    pub fn volume(&self) -> &Volume
+        ensures { result.now ≡ volume_of (mote_in self.now) }
+    {
+        self.mote.volume()
+    }
+}
