@@ -1,8 +1,7 @@
 -- The pages of an image are compared with a root.
-use Rattle.std.proofs.Common.{◌≡◌, ◌≢◌, ℕ, ◌≤◌, Bool, true, false, List, length, drop, Option, Some, None, Result, Ok, Err, refl, sym, ap, subst, ◌∙◌, arith, cond}
+use Rattle.std.proofs.Common.{◌≡◌, ◌≢◌, ℕ, ◌≤◌, Bool, true, false, List, [], ◌∷◌, ◌++◌, map, take, length, drop, Option, Some, None, Result, Ok, Err, refl, sym, ap, subst, ◌∙◌, ⊎_elim, arith, cond}
 use Rattle.std.specs.Prelude.{◌==◌, nat_lt}
 use Rattle.std.proofs.lemmas.Bool.Decides.{nat_tests}
-use Rattle.dg_base.specs.Outside.{Puts}
 use Rattle.dg_base.specs.declared.answers.Status.{Status}
 use Rattle.dg_base.specs.declared.answers.Status.TheVariants as statuses
 use Rattle.dg_nor.specs.Device.{Device}
@@ -13,14 +12,19 @@ use Rattle.dg_chain.specs.Checking.{Answer, Fine, Broken, Misshapen, answer_of}
 use Rattle.dg_chain.specs.Answers.{ChainAnswers, ChainEnds}
 use Rattle.dg_chain.specs.declared.checking.ChainFault.{ChainFault}
 use Rattle.dg_chain.specs.declared.checking.ChainFault.TheVariants as chain_fault
-use Rattle.dg_tool.specs.declared.refusal.Refusal.TheVariants as refusals
-use Rattle.dg_tool.specs.declared.stop.Stop.{Stop}
-use Rattle.dg_tool.specs.Endings.{Ending, Ends, NoBoards, Refuses, status_of, text_of}
-use Rattle.dg_tool.specs.Done.{NeedsBoard, IsCaused, Wrote, Faulted}
-use Rattle.dg_tool.specs.Stops.{Makes, OnStore, result_status, result_text}
-use Rattle.dg_tool.proofs.BoardLemmas.{by_some}
-use Rattle.dg_tool.proofs.ComesLemmas.{made_comes, refused_comes, stopped_comes, halts_stopped}
-use Rattle.dg_chain_tool.specs.Verbs.{chain_text, answered, check_by, check_ending, chain_stop}
+use Rattle.dg_end.specs.declared.refusal.Refusal.TheVariants as refusals
+use Rattle.dg_outside.specs.Outside.{OutputTold}
+use Rattle.dg_end.specs.Lines.{Outcome}
+use Rattle.dg_end.specs.Finished.{WritesLast, Answered}
+use Rattle.dg_end.specs.declared.ends.End.{End}
+use Rattle.dg_end.proofs.AnswerLemmas.{answered_done}
+use Rattle.dg_end.specs.declared.ends.End.TheVariants as ends
+use Rattle.dg_tool.specs.Endings.{Ending, Reading, Acting, no_board, outcome_of, by_boards}
+use Rattle.dg_tool.specs.Done.{NeedsBoard, Comes}
+use Rattle.dg_tool.specs.Inner.{OnStore}
+use Rattle.dg_tool.proofs.BoardLemmas.{by_some, written_back}
+use Rattle.dg_tool.proofs.OutcomeLemmas.{made_store, memory_store, refused_store, stopped_store, halts_stopped}
+use Rattle.dg_chain_tool.specs.Verbs.{chain_text, answered, check_by, check_on, end_of_chain}
 use Rattle.dg_chain_tool.specs.Done.{TellsLength}
 
 -- ---- what is found of the data pages
@@ -30,34 +34,10 @@ answered_needs (Fine n) = tt
 answered_needs (Broken at) = tt
 answered_needs Misshapen = tt
 
-module _ {T : Type 0} (view : T → List ℕ) (a b : Device) where
-  abbrev pub Checked : Result T Stop → Ending → Type 0
-  Checked r ending = OnStore (result_status r) (result_text view r) ending Looked ReadStopped a b
-
-  pub check_passes : (r : Result T Stop) (n : ℕ) (answer : Answer) → answer ≡ Fine n → Makes view r (chain_text n) → Looked a b → Checked r (answered answer)
-  check_passes r n answer is makes looked = subst (λ (x : Answer). Checked r (answered x)) (sym is) (made_comes view r (chain_text n) Looked ReadStopped a b makes looked)
-
-  pub check_fails : (fault : ChainFault) (stop : Stop) (answer : Answer) → stop ≡ chain_stop fault → ChainAnswers (Err fault) answer → ChainEnds {T = ℕ} (Err fault) a b → Checked (Err stop) (answered answer)
-  check_fails fault stop answer e is ends = subst (λ (x : Stop). Checked (Err x) (answered answer)) (sym e) (by fault is ends)
-    where
-      by : (f : ChainFault) → ChainAnswers (Err f) answer → ChainEnds {T = ℕ} (Err f) a b → Checked (Err (chain_stop f)) (answered answer)
-      by chain_fault.Stopped same gone = stopped_comes view (answered answer) Looked ReadStopped a b (answered_needs answer) gone (halts_stopped gone.halts)
-      by (chain_fault.Broken page kept found) same gone = subst (λ (x : Answer). Checked (Err (chain_stop (chain_fault.Broken page kept found))) (answered x)) (sym same) (refused_comes view (refusals.Broken page kept found) Looked ReadStopped a b gone)
-      by chain_fault.Shape same gone = subst (λ (x : Answer). Checked (Err (chain_stop chain_fault.Shape)) (answered x)) (sym same) (refused_comes view refusals.Shape Looked ReadStopped a b gone)
-
-  pub checked_at : (r : Result T Stop) (root : List ℕ) (s : Store) (i : ℕ) (o : Option Held) → held s i ≡ o → Checked r (check_by root o) → Checked r (check_by root (held s i))
-  checked_at r root s i o e p = subst (λ (x : Option Held). Checked r (check_by root x)) (sym e) p
-
-pub chain_image : (r : Result ℕ ChainFault) (a b : Device) → ChainEnds r a b → b.image ≡ a.image
-chain_image (Ok x) a b h = h.same_image
-chain_image (Err chain_fault.Stopped) a b h = h.same_image
-chain_image (Err (chain_fault.Broken page kept found)) a b h = h.same_image
-chain_image (Err chain_fault.Shape) a b h = h.same_image
-
 -- ---- an image that is kept
 
 abbrev by_whole : Bool → (root : List ℕ) → Held → Ending
-by_whole b root h = cond b (answered (answer_of root (drop 1 h.complete))) (Refuses (refusals.NotWhole (length h.complete) h.pages))
+by_whole b root h = cond b (answered (answer_of root (drop 1 h.complete))) (Reading (ends.Refused (refusals.NotWhole (length h.complete) h.pages)))
 
 same_test : (m n : ℕ) → m ≡ n → (m == n) ≡ true
 same_test m n same = grind (arith, nat_tests)
@@ -68,7 +48,7 @@ other_test m n other = grind (arith, nat_tests)
 pub whole_is : (root : List ℕ) (h : Held) → length h.complete ≡ h.pages → check_by root (Some h) ≡ answered (answer_of root (drop 1 h.complete))
 whole_is root h e = ap (λ (b : Bool). by_whole b root h) (same_test (length h.complete) h.pages e)
 
-pub part_is : (root : List ℕ) (h : Held) → length h.complete ≢ h.pages → check_by root (Some h) ≡ Refuses (refusals.NotWhole (length h.complete) h.pages)
+pub part_is : (root : List ℕ) (h : Held) → length h.complete ≢ h.pages → check_by root (Some h) ≡ Reading (ends.Refused (refusals.NotWhole (length h.complete) h.pages))
 part_is root h e = ap (λ (b : Bool). by_whole b root h) (other_test (length h.complete) h.pages e)
 
 whole_needs : (b : Bool) (root : List ℕ) (h : Held) → NeedsBoard (by_whole b root h)
@@ -79,53 +59,103 @@ pub check_needs : (root : List ℕ) (o : Option Held) → NeedsBoard (check_by r
 check_needs root None = tt
 check_needs root (Some h) = whole_needs (length h.complete == h.pages) root h
 
+abbrev chain_err : ChainFault → Result ℕ ChainFault
+chain_err e = Err e
+
+module _ (a b : Device) where
+  abbrev pub Checked : Outcome → Ending → Type 0
+  Checked came ending = OnStore came ending Looked ReadStopped a b
+
+  pub check_passes : (text : List ℕ) (n : ℕ) (answer : Answer) → answer ≡ Fine n → text ≡ chain_text n → Looked a b → Checked (Ok text) (answered answer)
+  check_passes text n answer is told looked = subst (λ (x : Answer). Checked (Ok text) (answered x)) (sym is) (made_store Looked ReadStopped a b text (chain_text n) told looked)
+
+  pub check_wants : (n : ℕ) (answer : Answer) → answer ≡ Fine n → Looked a b → Checked (Err ends.Memory) (answered answer)
+  check_wants n answer is looked = subst (λ (x : Answer). Checked (Err ends.Memory) (answered x)) (sym is) (memory_store Looked ReadStopped a b (Acting (Ok (chain_text n))) looked)
+
+  check_by_fault : (fault : ChainFault) (answer : Answer) → ChainAnswers (chain_err fault) answer → ChainEnds (chain_err fault) a b → Checked (Err (end_of_chain fault)) (answered answer)
+  check_by_fault chain_fault.Stopped answer same gone = stopped_store Looked ReadStopped a b (answered answer) (answered_needs answer) gone (halts_stopped gone.halts)
+  check_by_fault (chain_fault.Broken page kept found) answer same gone = subst (λ (x : Answer). Checked (Err (ends.Refused (refusals.Broken page kept found))) (answered x)) (sym same) (refused_store Looked ReadStopped a b (refusals.Broken page kept found) gone)
+  check_by_fault chain_fault.Shape answer same gone = subst (λ (x : Answer). Checked (Err (ends.Refused refusals.Shape)) (answered x)) (sym same) (refused_store Looked ReadStopped a b refusals.Shape gone)
+
+  pub check_fails : (fault : ChainFault) (end : End) (answer : Answer) → end ≡ end_of_chain fault → ChainAnswers (chain_err fault) answer → ChainEnds (chain_err fault) a b → Checked (Err end) (answered answer)
+  check_fails fault end answer e is gone = subst (λ (x : End). Checked (Err x) (answered answer)) (sym e) (check_by_fault fault answer is gone)
+
+  pub checked_at : (came : Outcome) (root : List ℕ) (s : Store) (i : ℕ) (o : Option Held) → held s i ≡ o → Checked came (check_by root o) → Checked came (check_by root (held s i))
+  checked_at came root s i o e p = subst (λ (x : Option Held). Checked came (check_by root x)) (sym e) p
+
+  pub checked_whole : (came : Outcome) (root : List ℕ) (h : Held) → length h.complete ≡ h.pages → Checked came (answered (answer_of root (drop 1 h.complete))) → Checked came (check_by root (Some h))
+  checked_whole came root h e p = subst (Checked came) (sym (whole_is root h e)) p
+
+  pub checked_part : (h : Held) (root : List ℕ) → length h.complete ≢ h.pages → Looked a b → Checked (Err (ends.Refused (refusals.NotWhole (length h.complete) h.pages))) (check_by root (Some h))
+  checked_part h root e looked = subst (Checked (Err (ends.Refused (refusals.NotWhole (length h.complete) h.pages)))) (sym (part_is root h e)) (refused_store Looked ReadStopped a b (refusals.NotWhole (length h.complete) h.pages) looked)
+
+pub chain_image : (r : Result ℕ ChainFault) (a b : Device) → ChainEnds r a b → b.image ≡ a.image
+chain_image (Ok x) a b h = h.same_image
+chain_image (Err chain_fault.Stopped) a b h = h.same_image
+chain_image (Err (chain_fault.Broken page kept found)) a b h = h.same_image
+chain_image (Err chain_fault.Shape) a b h = h.same_image
+
 -- ---- what a check says of a payload
 
-done_differs : statuses.Done ≡ statuses.Refused → ⊥
-done_differs e = cc
+fine_by : (text : List ℕ) (answer : Answer) → Ok text ≡ outcome_of (answered answer) → (n : ℕ) × (answer ≡ Fine n)
+fine_by text (Fine n) e = (n, refl)
+fine_by text (Broken at) e = absurd cc
+fine_by text Misshapen e = absurd cc
 
-done_board : statuses.Done ≡ statuses.NoBoard → ⊥
-done_board e = cc
+whole_by : (b : Bool) (root : List ℕ) (h : Held) (text : List ℕ) → Ok text ≡ outcome_of (by_whole b root h) → (n : ℕ) × (answer_of root (drop 1 h.complete) ≡ Fine n)
+whole_by true root h text e = fine_by text (answer_of root (drop 1 h.complete)) e
+whole_by false root h text e = absurd cc
 
-fine_by : (answer : Answer) → statuses.Done ≡ status_of (answered answer) → (n : ℕ) × (answer ≡ Fine n)
-fine_by (Fine n) e = (n, refl)
-fine_by (Broken at) e = absurd (done_differs e)
-fine_by Misshapen e = absurd (done_differs e)
-
-whole_by : (b : Bool) (root : List ℕ) (h : Held) → statuses.Done ≡ status_of (by_whole b root h) → (n : ℕ) × (answer_of root (drop 1 h.complete) ≡ Fine n)
-whole_by true root h e = fine_by (answer_of root (drop 1 h.complete)) e
-whole_by false root h e = absurd (done_differs e)
-
-boards_by : (b : Bool) (ending : Ending) → statuses.Done ≡ status_of (cond b ending NoBoards) → statuses.Done ≡ status_of ending
-boards_by true ending e = e
-boards_by false ending e = absurd (done_board e)
+boards_by : (b : Bool) (ending : Ending) (text : List ℕ) → Ok text ≡ outcome_of (cond b ending no_board) → Ok text ≡ outcome_of ending
+boards_by true ending text e = e
+boards_by false ending text e = absurd cc
 
 -- a check that ends well found pages that pass
-pub done_fine : (boards image : ℕ) (root : List ℕ) (s : Store) (h : Held) (status : Status) → held s image ≡ Some h → status ≡ statuses.Done → IsCaused status (check_ending boards image root (Some s)) → (n : ℕ) × (answer_of root (drop 1 h.complete) ≡ Fine n)
-done_fine boards image root s h status here done caused =
-    let e : statuses.Done ≡ status_of (check_ending boards image root (Some s)) = subst (λ (x : Status). IsCaused x (check_ending boards image root (Some s))) done caused in
-    let f : statuses.Done ≡ status_of (check_by root (held s image)) = boards_by (nat_lt 0 boards) (check_by root (held s image)) e in
-    whole_by (length h.complete == h.pages) root h (subst (λ (o : Option Held). statuses.Done ≡ status_of (check_by root o)) here f)
+pub done_fine : (boards image : ℕ) (root : List ℕ) (s : Store) (h : Held) (text : List ℕ) → held s image ≡ Some h → Ok text ≡ outcome_of (by_boards boards (check_on image root (Some s))) → (n : ℕ) × (answer_of root (drop 1 h.complete) ≡ Fine n)
+done_fine boards image root s h text here caused =
+    let f : Ok text ≡ outcome_of (check_by root (held s image)) = boards_by (nat_lt 0 boards) (check_by root (held s image)) text caused in
+    whole_by (length h.complete == h.pages) root h text (subst (λ (o : Option Held). Ok text ≡ outcome_of (check_by root o)) here f)
 
 -- a check of pages that pass is to tell their length
-pub own_ending : (boards image : ℕ) (root : List ℕ) (s : Store) (h : Held) (n : ℕ) → 1 ≤ boards → held s image ≡ Some h → length h.complete ≡ h.pages → answer_of root (drop 1 h.complete) ≡ Fine n → check_ending boards image root (Some s) ≡ Ends (chain_text n)
+pub own_ending : (boards image : ℕ) (root : List ℕ) (s : Store) (h : Held) (n : ℕ) → 1 ≤ boards → held s image ≡ Some h → length h.complete ≡ h.pages → answer_of root (drop 1 h.complete) ≡ Fine n → by_boards boards (check_on image root (Some s)) ≡ Acting (Ok (chain_text n))
 own_ending boards image root s h n some here whole fine =
     by_some boards (check_by root (held s image)) (omega (arith, some))
     ∙ ap (check_by root) here ∙ whole_is root h whole ∙ ap answered fine
 
+own_text : (status : Status) (n : ℕ) (a b : OutputTold) → WritesLast status statuses.Done (Some (chain_text n)) a b → TellsLength status n a b
+own_text status n a b h = ⊎_elim (λ x. subst (λ (st : Status). TellsLength st n a b) (sym x.0) x.1) (λ y. ⊎_elim (λ x. subst (λ (st : Status). TellsLength st n a b) (sym x.0) tt) (λ x. subst (λ (st : Status). TellsLength st n a b) (sym x.0) tt) y) h
+
+own_rule : (status : Status) (came : Outcome) (n : ℕ) (a b : OutputTold) → came ≡ Ok (chain_text n) → Answered status came a b → TellsLength status n a b
+own_rule status came n a b is h = own_text status n a b (subst (λ (x : Outcome). Answered status x a b) is h)
+
 -- and tells it
-pub told_by : (status : Status) (ending : Ending) (n : ℕ) (text : List ℕ) (before after : Option (List ℕ)) (w b : Type 0) → ending ≡ Ends (chain_text n) → IsCaused status ending → Wrote status ending text → Faulted status ⊥ w b text → Puts before after text → TellsLength status n before after
-told_by statuses.Done ending n text before after w b is caused wrote faulted puts = subst (λ (x : List ℕ). Puts before after x) (wrote ∙ ap text_of is) puts
-told_by statuses.Memory ending n text before after w b is caused wrote faulted puts = tt
-told_by statuses.WriteFault ending n text before after w b is caused wrote faulted puts = tt
-told_by statuses.FlashFault ending n text before after w b is caused wrote faulted puts = tt
-told_by statuses.ReadFault ending n text before after w b is caused wrote faulted puts = absurd faulted.0
-told_by statuses.Usage ending n text before after w b is caused wrote faulted puts = let e : statuses.Usage ≡ statuses.Done = caused ∙ ap status_of is in absurd cc
-told_by statuses.BadInput ending n text before after w b is caused wrote faulted puts = let e : statuses.BadInput ≡ statuses.Done = caused ∙ ap status_of is in absurd cc
-told_by statuses.NotAVolume ending n text before after w b is caused wrote faulted puts = let e : statuses.NotAVolume ≡ statuses.Done = caused ∙ ap status_of is in absurd cc
-told_by statuses.Refused ending n text before after w b is caused wrote faulted puts = let e : statuses.Refused ≡ statuses.Done = caused ∙ ap status_of is in absurd cc
-told_by statuses.LinkFault ending n text before after w b is caused wrote faulted puts = let e : statuses.LinkFault ≡ statuses.Done = caused ∙ ap status_of is in absurd cc
-told_by statuses.TooLong ending n text before after w b is caused wrote faulted puts = let e : statuses.TooLong ≡ statuses.Done = caused ∙ ap status_of is in absurd cc
-told_by statuses.TooMany ending n text before after w b is caused wrote faulted puts = let e : statuses.TooMany ≡ statuses.Done = caused ∙ ap status_of is in absurd cc
-told_by statuses.NoBoard ending n text before after w b is caused wrote faulted puts = let e : statuses.NoBoard ≡ statuses.Done = caused ∙ ap status_of is in absurd cc
-told_by statuses.NoImage ending n text before after w b is caused wrote faulted puts = let e : statuses.NoImage ≡ statuses.Done = caused ∙ ap status_of is in absurd cc
+pub told_by : (status : Status) (came : Outcome) (ending : Ending) (n : ℕ) (a b : OutputTold) (looked acted may : List Device → List Device → Type 0) (old new : List Device) → ending ≡ Acting (Ok (chain_text n)) → Comes came ending looked acted may old new → (came ≡ Err ends.ReadFault → ⊥) → Answered status came a b → TellsLength status n a b
+told_by status (Ok text) ending n a b looked acted may old new is h read w = own_rule status (Ok text) n a b (h.0 ∙ ap outcome_of is) w
+told_by status (Err ends.Memory) ending n a b looked acted may old new is h read w = subst (λ (st : Status). TellsLength st n a b) (sym w.0) tt
+told_by status (Err ends.FlashFault) ending n a b looked acted may old new is h read w = subst (λ (st : Status). TellsLength st n a b) (sym w.0) tt
+told_by status (Err ends.ReadFault) ending n a b looked acted may old new is h read w = absurd (read refl)
+told_by status (Err ends.WriteFault) ending n a b looked acted may old new is h read w = own_rule status (Err ends.WriteFault) n a b (h.0 ∙ ap outcome_of is) w
+told_by status (Err ends.LinkFault) ending n a b looked acted may old new is h read w = own_rule status (Err ends.LinkFault) n a b (h.0 ∙ ap outcome_of is) w
+told_by status (Err ends.NotAVolume) ending n a b looked acted may old new is h read w = own_rule status (Err ends.NotAVolume) n a b (h.0 ∙ ap outcome_of is) w
+told_by status (Err ends.NoImage) ending n a b looked acted may old new is h read w = own_rule status (Err ends.NoImage) n a b (h.0 ∙ ap outcome_of is) w
+told_by status (Err ends.TooLong) ending n a b looked acted may old new is h read w = own_rule status (Err ends.TooLong) n a b (h.0 ∙ ap outcome_of is) w
+told_by status (Err ends.TooMany) ending n a b looked acted may old new is h read w = own_rule status (Err ends.TooMany) n a b (h.0 ∙ ap outcome_of is) w
+told_by status (Err (ends.NoBoard need have)) ending n a b looked acted may old new is h read w = own_rule status (Err (ends.NoBoard need have)) n a b (h.0 ∙ ap outcome_of is) w
+told_by status (Err (ends.BadHex fault)) ending n a b looked acted may old new is h read w = own_rule status (Err (ends.BadHex fault)) n a b (h.0 ∙ ap outcome_of is) w
+told_by status (Err (ends.BadLine number fault)) ending n a b looked acted may old new is h read w = own_rule status (Err (ends.BadLine number fault)) n a b (h.0 ∙ ap outcome_of is) w
+told_by status (Err (ends.BadProfile fault)) ending n a b looked acted may old new is h read w = own_rule status (Err (ends.BadProfile fault)) n a b (h.0 ∙ ap outcome_of is) w
+told_by status (Err (ends.Refused cause)) ending n a b looked acted may old new is h read w = own_rule status (Err (ends.Refused cause)) n a b (h.0 ∙ ap outcome_of is) w
+
+-- a check that ends well came to its answer
+pub done_rule : (status : Status) (came : Outcome) (ending : Ending) (a b : OutputTold) (looked acted may : List Device → List Device → Type 0) (old new : List Device) → status ≡ statuses.Done → Answered status came a b → Comes came ending looked acted may old new → (text : List ℕ) × (Ok text ≡ outcome_of ending)
+done_rule status came ending a b looked acted may old new done w h =
+    let x = answered_done came a b (subst (λ (st : Status). Answered st came a b) done w) in
+    (x.0, (subst (λ (o : Outcome). Comes o ending looked acted may old new) x.1 h).0)
+
+-- what is lent and given back, and stays
+pub lent_same : {N X : Type 0} (f : N → X) (n : ℕ) (lent items now rest : List N) → lent ≡ items → n ≡ length now → map f now ≡ map f lent → map f (take n (now ++ rest)) ≡ map f items
+lent_same {N} f n lent items now rest same count h = ap (map f) (written_back n now rest count) ∙ h ∙ ap (map f) same
+
+pub some_boards : {N D : Type 0} (f : N → D) (items : List N) → 1 ≤ length items → 1 ≤ length (map f items)
+some_boards f [] some = absurd (omega (arith, some))
+some_boards f (x ∷ xs) some = omega arith

@@ -1,5 +1,5 @@
 -- What an image that is received comes to.
-use Rattle.std.proofs.Common.{◌≡◌, ◌≢◌, ℕ, ◌+◌, ◌-◌, ◌<◌, ◌≤◌, Bool, true, false, List, ◌∷◌, length, drop, take, Option, Some, None, Result, Ok, Err, refl, sym, ap, subst, ◌∙◌, inr, arith, cond}
+use Rattle.std.proofs.Common.{◌≡◌, ◌≢◌, map, ℕ, ◌+◌, ◌-◌, ◌<◌, ◌≤◌, Bool, true, false, List, ◌∷◌, length, drop, take, Option, Some, None, Result, Ok, Err, refl, sym, ap, subst, ◌∙◌, inr, arith, cond}
 use Rattle.std.specs.Prelude.{◌==◌, nat_lt, nat_le}
 use Rattle.std.proofs.lemmas.Bool.{cond_both}
 use Rattle.std.proofs.lemmas.Bool.Decides.{nat_tests}
@@ -26,21 +26,34 @@ use Rattle.dg_volume.proofs.FillLemmas.{fill_first, fill_works}
 use Rattle.dg_volume.proofs.InjectLemmas.{Older, anew_is, kept_trail, looked_acted, looked_stops, older_worn, older_free}
 use Rattle.dg_chain.specs.Checking.{Break}
 use Rattle.dg_chain.specs.Receiving.{fill_operations}
-use Rattle.dg_tool.specs.declared.refusal.Refusal.{Refusal}
-use Rattle.dg_tool.specs.declared.refusal.Refusal.TheVariants as refusals
-use Rattle.dg_tool.specs.declared.stop.Stop.{Stop}
-use Rattle.dg_tool.specs.declared.stop.Stop.TheVariants as stops
-use Rattle.dg_tool.specs.Endings.{Ending}
-use Rattle.dg_tool.specs.Verbs.{have_text, inject_cause}
+use Rattle.dg_end.specs.declared.refusal.Refusal.{Refusal}
+use Rattle.dg_end.specs.declared.refusal.Refusal.TheVariants as refusals
+use Rattle.dg_end.specs.Lines.{Outcome}
+use Rattle.dg_end.specs.Widened.{end_of_injection}
+use Rattle.dg_end.specs.declared.ends.End.{End}
+use Rattle.dg_end.specs.declared.ends.End.TheVariants as ends
+use Rattle.dg_chain_tool.specs.declared.filling.FillFault.{FillFault}
+use Rattle.dg_chain_tool.specs.declared.filling.FillFault.TheVariants as fill_fault
+use Rattle.dg_tool.specs.Endings.{Ending, Reading}
+use Rattle.dg_tool.specs.Verbs.{have_text}
 use Rattle.dg_tool.specs.Done.{Went, NeedsBoard, NeedsInput}
-use Rattle.dg_base.specs.declared.answers.Status.TheVariants as statuses
-use Rattle.dg_tool.specs.Stops.{Makes, OnStore, result_status, result_text}
-use Rattle.dg_tool.proofs.ComesLemmas.{made_comes, refused_comes, breaks_comes, stopped_comes, halts_stopped}
+use Rattle.dg_tool.specs.Inner.{OnStore}
+use Rattle.dg_tool.proofs.OutcomeLemmas.{made_store, refused_store, stopped_store, halts_stopped}
 use Rattle.dg_volume.proofs.ReadLemmas.{Looked-none}
-use Rattle.dg_tool.proofs.VerbLemmas.{looked_same}
+use Rattle.dg_tool.proofs.TrailLemmas.{looked_same}
+use Rattle.dg_words.specs.Counts.{Rose}
+use Rattle.dg_outside.specs.Outside.{InputTold}
+use Rattle.dg_tool.specs.Endings.{FirstAs}
+use Rattle.dg_tool.specs.Done.{WentOn, StopsOn, OnBoards, FedBoards}
+use Rattle.dg_tool.specs.Rules.{trail_rule}
+use Rattle.dg_tool.specs.Input.{ImageRead, end_of_image}
+use Rattle.dg_tool.specs.declared.input.ImageFault.{ImageFault}
+use Rattle.dg_tool.proofs.BoardLemmas.{some_mapped}
+use Rattle.dg_tool.proofs.InputLemmas.{fed, fed_none}
+use Rattle.dg_chain_tool.specs.Done.{receive_rule}
 use Rattle.dg_chain_tool.specs.Receiving.{expected, compared_from, first_foreign, done_in, foreign_in, keep_trail, with_foreign, trail_by, receive_trail}
 use Rattle.dg_chain_tool.specs.Verbs.{receive_by, receive_to, receive_into}
-use Rattle.dg_chain_tool.specs.Filling.{take_stop, fill_to, FillEnds}
+use Rattle.dg_chain_tool.specs.Filling.{end_of_take, end_of_fill, fill_to, FillEnds}
 use Rattle.dg_chain_tool.proofs.FillLemmas.{break_above, to_first, to_works, to_more}
 
 -- ---- the trail begins where the chip is
@@ -90,53 +103,55 @@ receive_into_needs root row (Some s) = by_input_needs row (inject_refusal s row)
 went : (t : Trail Store) (a b : Device) (v : Volume) → Acted t a b v → Went t a b
 went t a b v h = record { ran = h.ran; stands = h.mounted.stands }
 
-module _ {T : Type 0} (view : T → List ℕ) (root : List ℕ) (s : Store) (row : Row) (a b : Device) where
-  abbrev pub Received : Result T Stop → Type 0
-  Received r = OnStore (result_status r) (result_text view r) (receive_to root row s) (Went (receive_trail root s row)) (Stops (receive_trail root s row)) a b
+module _ (root : List ℕ) (s : Store) (row : Row) (a b : Device) where
+  abbrev pub Received : Outcome → Type 0
+  Received came = OnStore came (receive_to root row s) (Went (receive_trail root s row)) (Stops (receive_trail root s row)) a b
 
-  abbrev By : Result T Stop → Option InjectFault → Option Break → Type 0
-  By r refusal found = OnStore (result_status r) (result_text view r) (receive_by row refusal found) (Went (receive_trail root s row)) (Stops (receive_trail root s row)) a b
+  abbrev By : Outcome → Option InjectFault → Option Break → Type 0
+  By came refusal found = OnStore came (receive_by row refusal found) (Went (receive_trail root s row)) (Stops (receive_trail root s row)) a b
 
-  ends_by : (r : Result T Stop) (refusal : Option InjectFault) (found : Option Break) → inject_refusal s row ≡ refusal → foreign_in root s row ≡ found → By r refusal found → Received r
-  ends_by r refusal found e f h = subst (λ (o : Option InjectFault). By r o (foreign_in root s row)) (sym e) (subst (λ (o : Option Break). By r refusal o) (sym f) h)
+  ends_by : (came : Outcome) (refusal : Option InjectFault) (found : Option Break) → inject_refusal s row ≡ refusal → foreign_in root s row ≡ found → By came refusal found → Received came
+  ends_by came refusal found e f h = subst (λ (o : Option InjectFault). By came o (foreign_in root s row)) (sym e) (subst (λ (o : Option Break). By came refusal o) (sym f) h)
 
-  pub received_stops : Stops (receive_trail root s row) a b → Received (Err stops.FlashFault)
-  received_stops h = stopped_comes view (receive_to root row s) (Went (receive_trail root s row)) (Stops (receive_trail root s row)) a b (receive_needs root row s) h (halts_stopped h.halts)
+  pub received_stops : Stops (receive_trail root s row) a b → Received (Err ends.FlashFault)
+  received_stops h = stopped_store (Went (receive_trail root s row)) (Stops (receive_trail root s row)) a b (receive_to root row s) (receive_needs root row s) h (halts_stopped h.halts)
 
-  pub received_refused : (fault : InjectFault) (cause : Refusal) → inject_refusal s row ≡ Some fault → cause ≡ inject_cause row fault → Looked a b → Received (Err (stops.Refused cause))
+  pub received_refused : (fault : InjectFault) (cause : Refusal) → inject_refusal s row ≡ Some fault → end_of_injection (length row.bytes) fault ≡ ends.Refused cause → Looked a b → Received (Err (ends.Refused cause))
   received_refused fault cause e same looked =
-      ends_by (Err (stops.Refused cause)) (Some fault) (foreign_in root s row) e refl
-      (subst (λ (c : Refusal). By (Err (stops.Refused c)) (Some fault) (foreign_in root s row)) (sym same) (refused_comes view (inject_cause row fault) (Went (receive_trail root s row)) (Stops (receive_trail root s row)) a b looked))
+      ends_by (Err (ends.Refused cause)) (Some fault) (foreign_in root s row) e refl
+      (subst (λ (x : End). OnStore (Err (ends.Refused cause)) (Reading x) (Went (receive_trail root s row)) (Stops (receive_trail root s row)) a b) (sym same) (refused_store (Went (receive_trail root s row)) (Stops (receive_trail root s row)) a b cause looked))
 
-  filled_ok : (x : T) (v : Volume) → view x ≡ have_text row → inject_refusal s row ≡ None → foreign_in root s row ≡ None → Acted (receive_trail root s row) a b v → Received (Ok x)
-  filled_ok x v told none whole acted =
-      ends_by (Ok x) None None none whole (made_comes view (Ok x) (have_text row) (Went (receive_trail root s row)) (Stops (receive_trail root s row)) a b told (went (receive_trail root s row) a b v acted))
-
-  filled_foreign : (k : ℕ) (at : Break) (v : Volume) → inject_refusal s row ≡ None → foreign_in root s row ≡ Some at → at.page ≡ k → Acted (receive_trail root s row) a b v → Received (Err (stops.Refused (refusals.Foreign k)))
+  filled_foreign : (k : ℕ) (at : Break) (v : Volume) → inject_refusal s row ≡ None → foreign_in root s row ≡ Some at → at.page ≡ k → Acted (receive_trail root s row) a b v → Received (Err (ends.Refused (refusals.Foreign k)))
   filled_foreign k at v none found page acted =
-      ends_by (Err (stops.Refused (refusals.Foreign k))) None (Some at) none found
-      (subst (λ (n : ℕ). By (Err (stops.Refused (refusals.Foreign n))) None (Some at)) page
-      (breaks_comes view (refusals.Foreign at.page) (Went (receive_trail root s row)) (Stops (receive_trail root s row)) a b (went (receive_trail root s row) a b v acted)))
+      ends_by (Err (ends.Refused (refusals.Foreign k))) None (Some at) none found
+      (subst (λ (n : ℕ). By (Err (ends.Refused (refusals.Foreign n))) None (Some at)) page
+      (record { comes = (refl, went (receive_trail root s row) a b v acted); stops = λ e. cc; of_verb = tt; on_board = λ h. h }))
 
-  pub received_filled : (r : Result T Stop) (found : Option Break) (t : Trail Store) (v : Volume) → ((x : T) → view x ≡ have_text row) → inject_refusal s row ≡ None → found ≡ foreign_in root s row → t ≡ receive_trail root s row → FillEnds r found t a b v → Received r
-  received_filled (Ok x) found t v told none same is h = filled_ok x v (told x) none (sym same ∙ h.0) (subst (λ (u : Trail Store). Acted u a b v) is h.1)
-  received_filled (Err (stops.Refused (refusals.Foreign k))) found t v told none same is h = filled_foreign k h.0.0 v none (sym same ∙ h.0.1) h.0.2 (subst (λ (u : Trail Store). Acted u a b v) is h.1)
-  received_filled (Err stops.FlashFault) found t v told none same is h = received_stops (subst (λ (u : Trail Store). Stops u a b) is h)
-  received_filled (Err stop) found t v told none same is h = absurd h
+  -- all that was missing is filled
+  pub received_whole : (T : Type 0) (x : T) (found : Option Break) (t : Trail Store) (v : Volume) → inject_refusal s row ≡ None → found ≡ foreign_in root s row → t ≡ receive_trail root s row → FillEnds (Ok x) found t a b v → Received (Ok (have_text row))
+  received_whole T x found t v none same is h =
+      ends_by (Ok (have_text row)) None None none (sym same ∙ h.0)
+      (made_store (Went (receive_trail root s row)) (Stops (receive_trail root s row)) a b (have_text row) (have_text row) refl (went (receive_trail root s row) a b v (subst (λ (u : Trail Store). Acted u a b v) is h.1)))
+
+  abbrev filling : (T : Type 0) → FillFault → Result T FillFault
+  filling T e = Err e
+
+  -- or it is not
+  pub received_part : (T : Type 0) (fault : FillFault) (found : Option Break) (t : Trail Store) (v : Volume) → inject_refusal s row ≡ None → found ≡ foreign_in root s row → t ≡ receive_trail root s row → FillEnds (filling T fault) found t a b v → Received (Err (end_of_fill fault))
+  received_part T (fill_fault.Foreign k) found t v none same is h = filled_foreign k h.0.0 v none (sym same ∙ h.0.1) h.0.2 (subst (λ (u : Trail Store). Acted u a b v) is h.1)
+  received_part T fill_fault.Stopped found t v none same is h = received_stops (subst (λ (u : Trail Store). Stops u a b) is h)
 
 -- ---- acts before the pages
 
-pub ends_looked : {T : Type 0} (r : Result T Stop) (found : Option Break) (t : Trail Store) (a b c : Device) (w : Volume) → Looked a b → FillEnds r found t b c w → FillEnds r found t a c w
+pub ends_looked : {T : Type 0} (r : Result T FillFault) (found : Option Break) (t : Trail Store) (a b c : Device) (w : Volume) → Looked a b → FillEnds r found t b c w → FillEnds r found t a c w
 ends_looked (Ok x) found t a b c w looked h = (h.0, looked_acted t a b c w looked h.1)
-ends_looked (Err (stops.Refused (refusals.Foreign k))) found t a b c w looked h = (h.0, looked_acted t a b c w looked h.1)
-ends_looked (Err stops.FlashFault) found t a b c w looked h = looked_stops t a b c looked h
-ends_looked (Err stop) found t a b c w looked h = absurd h
+ends_looked (Err (fill_fault.Foreign k)) found t a b c w looked h = (h.0, looked_acted t a b c w looked h.1)
+ends_looked (Err fill_fault.Stopped) found t a b c w looked h = looked_stops t a b c looked h
 
-pub ends_then : {T : Type 0} (r : Result T Stop) (found : Option Break) (t u : Trail Store) (a b c : Device) (v w : Volume) → last t ≡ u.first → Acted t a b v → FillEnds r found u b c w → FillEnds r found (joined t u) a c w
+pub ends_then : {T : Type 0} (r : Result T FillFault) (found : Option Break) (t u : Trail Store) (a b c : Device) (v w : Volume) → last t ≡ u.first → Acted t a b v → FillEnds r found u b c w → FillEnds r found (joined t u) a c w
 ends_then (Ok x) found t u a b c v w same acted h = (h.0, acted_then t u a b c v w same acted h.1)
-ends_then (Err (stops.Refused (refusals.Foreign k))) found t u a b c v w same acted h = (h.0, acted_then t u a b c v w same acted h.1)
-ends_then (Err stops.FlashFault) found t u a b c v w same acted h = stops_then t u a b c v same acted h
-ends_then (Err stop) found t u a b c v w same acted h = absurd h
+ends_then (Err (fill_fault.Foreign k)) found t u a b c v w same acted h = (h.0, acted_then t u a b c v w same acted h.1)
+ends_then (Err fill_fault.Stopped) found t u a b c v w same acted h = stops_then t u a b c v same acted h
 
 -- ---- a version that is kept
 
@@ -262,10 +277,11 @@ not_reserved s row some older e = reserved_by (nat_lt s.room 2) s.room (sym (tak
 
 -- ---- what is told of it
 
-pub told_made : {T : Type 0} (view : T → List ℕ) (r : Result T Stop) (text : List ℕ) (ending : Ending) (acted may : Device → Device → Type 0) (a b : Device) → OnStore statuses.Done text ending acted may a b → Makes view r text → OnStore (result_status r) (result_text view r) ending acted may a b
-told_made view (Ok t) text ending acted may a b h made = record { comes = record { caused = h.comes.caused; wrote = made ∙ h.comes.wrote; board = h.comes.board }; of_board = tt; stops = tt }
-told_made view (Err stops.Memory) text ending acted may a b h made = record { comes = record { caused = tt; wrote = refl; board = inr h.comes.board }; of_board = tt; stops = tt }
-told_made view (Err stop) text ending acted may a b h made = absurd made
+pub told_made : (text told : List ℕ) (ending : Ending) (acted may : Device → Device → Type 0) (a b : Device) → OnStore (Ok told) ending acted may a b → text ≡ told → OnStore (Ok text) ending acted may a b
+told_made text told ending acted may a b h is = subst (λ (t : List ℕ). OnStore (Ok t) ending acted may a b) (sym is) h
+
+pub told_wants : (told : List ℕ) (ending : Ending) (acted may : Device → Device → Type 0) (a b : Device) → OnStore (Ok told) ending acted may a b → OnStore (Err ends.Memory) ending acted may a b
+told_wants told ending acted may a b h = record { comes = inr h.comes.1; stops = λ e. cc; of_verb = tt; on_board = λ x. x }
 
 -- ---- page 0, and the data pages behind it
 
@@ -278,7 +294,7 @@ module _ (found : Option Break) (s : Store) (image : ℕ) (page : List ℕ) (res
       ap (λ (z : Store). joined One (fill_to found 1 z image rest)) (sym e ∙ last-stepping s page_operations (paged image page s))
       ∙ to_more found 0 s image page rest above ∙ ap (fill_to found 0 s image) (sym whole)
 
-  pub whole_ends : {T : Type 0} (r : Result T Stop) (a b d : Device) (v w : Volume) → Acted One a b v → FillEnds r found (fill_to found 1 (last One) image rest) b d w → FillEnds r found (fill_to found 0 s image pages) a d w
+  pub whole_ends : {T : Type 0} (r : Result T FillFault) (a b d : Device) (v w : Volume) → Acted One a b v → FillEnds r found (fill_to found 1 (last One) image rest) b d w → FillEnds r found (fill_to found 0 s image pages) a d w
   whole_ends r a b d v w acted h =
       subst (λ (t : Trail Store). FillEnds r found t a d w) (one_more (last One) refl) (ends_then r found One (fill_to found 1 (last One) image rest) a b d v w (sym (to_first found 1 (last One) image rest)) acted h)
 
@@ -289,18 +305,43 @@ module _ (found : Option Break) (s : Store) (image : ℕ) (page : List ℕ) (res
 
 -- ---- a slot that is not taken, or a stop in its taking
 
-pub take_fails : {T : Type 0} (view : T → List ℕ) (root : List ℕ) (s : Store) (row : Row) (a b : Device) (fault : TakeFault) (stop : Stop) → IsRow row → 1 ≤ row.image → Older s row → stop ≡ take_stop fault
+pub take_fails : (root : List ℕ) (s : Store) (row : Row) (a b : Device) (fault : TakeFault) (end : End) → IsRow row → 1 ≤ row.image → Older s row → end ≡ end_of_take fault
     → UnlessTakeRefused {T = ℕ} (Err fault) (take_refusal s (profile row)) → (fault ≢ take_fault.Stopped → take_refusal s (profile row) ≡ Some fault) → (fault ≢ take_fault.Stopped → b ≡ a) → (fault ≡ take_fault.Stopped → Stops (take_trail s (profile row)) a b)
-    → Received {T = T} view root s row a b (Err stop)
-take_fails {T} view root s row a b fault stop is some older e allowed refused same stopped = subst (λ (x : Stop). Received {T = T} view root s row a b (Err x)) (sym e) (by fault allowed refused same stopped)
+    → Received root s row a b (Err end)
+take_fails root s row a b fault end is some older e allowed refused same stopped = subst (λ (x : End). Received root s row a b (Err x)) (sym e) (by fault allowed refused same stopped)
   where
     by : (f : TakeFault) → UnlessTakeRefused {T = ℕ} (Err f) (take_refusal s (profile row)) → (f ≢ take_fault.Stopped → take_refusal s (profile row) ≡ Some f) → (f ≢ take_fault.Stopped → b ≡ a) → (f ≡ take_fault.Stopped → Stops (take_trail s (profile row)) a b)
-        → Received {T = T} view root s row a b (Err (take_stop f))
-    by take_fault.Stopped free says still gone = received_stops view root s row a b (anew_stops root s row a b (take_free s row is some older free) older (gone refl))
-    by (take_fault.Worn k) free says still gone = received_refused view root s row a b (inject.Worn k) (refusals.Worn k) (take_worn s row k is some older (says (λ x. cc))) refl (looked_same a b (still (λ x. cc)))
+        → Received root s row a b (Err (end_of_take f))
+    by take_fault.Stopped free says still gone = received_stops root s row a b (anew_stops root s row a b (take_free s row is some older free) older (gone refl))
+    by (take_fault.Worn k) free says still gone = received_refused root s row a b (inject.Worn k) (refusals.Worn k) (take_worn s row k is some older (says (λ x. cc))) refl (looked_same a b (still (λ x. cc)))
     by (take_fault.Stale k) free says still gone = absurd (not_stale s row k some older (says (λ x. cc)))
     by take_fault.Reserved free says still gone = absurd (not_reserved s row some older (says (λ x. cc)))
 
+abbrev caused : InjectFault → (size : ℕ) → Type 0
+caused fault size = (cause : Refusal) × (end_of_injection size fault ≡ ends.Refused cause)
+
+has_cause : (size : ℕ) (fault : InjectFault) → fault ≢ inject.Stopped → caused fault size
+has_cause size inject.Stopped other = absurd (other refl)
+has_cause size inject.Empty other = (refusals.Empty, refl)
+has_cause size inject.TooLarge other = (refusals.TooLarge size, refl)
+has_cause size (inject.Stale kept) other = (refusals.Stale kept, refl)
+has_cause size inject.Reserved other = (refusals.Reserved, refl)
+has_cause size (inject.Worn room) other = (refusals.Worn room, refl)
+has_cause size inject.Taken other = (refusals.Taken, refl)
+
 -- it is refused before the board is used
-pub refused_at : {T : Type 0} (view : T → List ℕ) (root : List ℕ) (s : Store) (row : Row) (a : Device) (fault : InjectFault) (stop : Stop) → inject_refusal s row ≡ Some fault → stop ≡ stops.Refused (inject_cause row fault) → Received {T = T} view root s row a a (Err stop)
-refused_at {T} view root s row a fault stop e same = subst (λ (x : Stop). Received {T = T} view root s row a a (Err x)) (sym same) (received_refused view root s row a a fault (inject_cause row fault) e refl (Looked-none a))
+pub refused_at : (root : List ℕ) (s : Store) (row : Row) (a : Device) (fault : InjectFault) (end : End) → inject_refusal s row ≡ Some fault → fault ≢ inject.Stopped → end ≡ end_of_injection (length row.bytes) fault → Received root s row a a (Err end)
+refused_at root s row a fault end e other same =
+    let x = has_cause (length row.bytes) fault other in
+    subst (λ (y : End). Received root s row a a (Err y)) (sym (same ∙ x.1)) (received_refused root s row a a fault x.0 e x.1 (Looked-none a))
+
+-- ---- the image that the input spells
+
+pub fed_receive : {N T : Type 0} (f : N → Device) (items : List N) (root : List ℕ) (row : List ℕ → Row) (view : T → List ℕ) (image : T) (came : Outcome) (a b : InputTold) (new : List Device) → 0 < length items → ImageRead view (Ok image) a b
+    → OnBoards came (trail_rule (map f items) (receive_into root (row (view image))) (λ s. receive_trail root s (row (view image)))) (Rose a.reads b.reads) (map f items) new → FedBoards came (receive_rule (map f items) root row) a b (map f items) new
+fed_receive f items root row view image came a b new some read did =
+    fed (FirstAs (map f items)) (λ bytes chip. receive_into root (row bytes) chip) (λ bytes. WentOn (λ s. receive_trail root s (row bytes))) (λ bytes. StopsOn (λ s. receive_trail root s (row bytes))) (λ bytes chip. receive_into_needs root (row bytes) chip) view image came a b (map f items) new (some_mapped f items some) read did
+
+pub unfed_receive : {N T : Type 0} (f : N → Device) (items : List N) (root : List ℕ) (row : List ℕ → Row) (view : T → List ℕ) (fault : ImageFault) (a b : InputTold) → 0 < length items → ImageRead view (Err fault) a b → FedBoards (Err (end_of_image fault)) (receive_rule (map f items) root row) a b (map f items) (map f items)
+unfed_receive f items root row view fault a b some read =
+    fed_none (FirstAs (map f items)) (λ bytes chip. receive_into root (row bytes) chip) (λ bytes. WentOn (λ s. receive_trail root s (row bytes))) (λ bytes. StopsOn (λ s. receive_trail root s (row bytes))) (λ bytes chip. receive_into_needs root (row bytes) chip) view fault a b (map f items) (some_mapped f items some) read

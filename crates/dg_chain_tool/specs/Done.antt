@@ -1,41 +1,51 @@
 -- What the verbs of chained images did (docs/COMMANDS.md, "Hash-chained images").
-use Rattle.std.specs.Prelude.{◌≡◌, ℕ, List, [], Option, Result, Ok, Err}
+use Rattle.std.specs.Prelude.{◌≡◌, ℕ, List, Err}
+use Rattle.dg_words.specs.Counts.{Rose}
 use Rattle.dg_base.specs.Outside.{Puts}
 use Rattle.dg_base.specs.declared.answers.Status.{Status}
 use Rattle.dg_base.specs.declared.answers.Status.TheVariants.{Done, Memory, WriteFault, FlashFault}
-use Rattle.dg_tool.specs.declared.stop.Stop.{Stop}
-use Rattle.dg_tool.specs.declared.stop.Stop.TheVariants as stops
-use Rattle.dg_tool.specs.Endings.{Ending, Ends, Unfit}
-use Rattle.dg_tool.specs.Done.{VerbRule, verb_rule, tool_outside, ToolDone}
-use Rattle.dg_tool.specs.Stops.{OnBoards}
-use Rattle.dg_chain_tool.specs.Verbs.{wrap_by, chain_text}
+use Rattle.dg_nor.specs.Device.{Device}
+use Rattle.dg_object.specs.Object.{Row, row_of}
+use Rattle.dg_outside.specs.Outside.{Outside, InputTold, OutputTold}
+use Rattle.dg_end.specs.Lines.{Outcome}
+use Rattle.dg_end.specs.declared.ends.End.TheVariants as ends
+use Rattle.dg_tool.specs.Endings.{Ending, outcome_of, by_input, content_in}
+use Rattle.dg_tool.specs.Done.{VerbRule, InputRead, ToolDone, FirstDone, InputDone}
+use Rattle.dg_tool.specs.Rules.{trail_rule, reading_rule}
+use Rattle.dg_chain_tool.specs.Receiving.{receive_trail}
+use Rattle.dg_chain_tool.specs.Verbs.{wrap_by, check_on, receive_into, chain_text}
 
--- a verb that uses no board goes by its input alone, and there are no boards
-abbrev pub text_rule : Ending → VerbRule
-text_rule ending = verb_rule (λ chip. Unit {0}) (λ chip. ending) (λ chip a b. b ≡ a) (λ chip a b. ⊥)
+-- a verb that uses no board comes to its ending; memory alone is free
+abbrev pub TextComes : Outcome → Ending → (read_failed : Type 0) → Type 0
+TextComes (Err ends.Memory) ending read_failed = Unit {0}
+TextComes (Err ends.ReadFault) ending read_failed = read_failed
+TextComes came ending read_failed = came ≡ outcome_of ending
 
--- it did this
-abbrev pub TextDone : Status → Ending → (reads_failed : Type 0) → (written_before written_after : Option (List ℕ))
-    → (writes_before writes_after : ℕ) → Type 0
-TextDone status ending reads_failed written_before written_after writes_before writes_after =
-    ToolDone status (text_rule ending) reads_failed
-    (tool_outside written_before writes_before []) (tool_outside written_after writes_after [])
+-- the same of one that goes by the bytes of its input
+pub record FedText (came : Outcome) (next : List ℕ → Ending) (a b : InputTold) : Type 0 where
+  pub bytes : List ℕ
+  pub read : InputRead came 1 bytes a b
+  pub comes : TextComes came (by_input bytes next) (Rose a.reads b.reads)
 
--- the same before its last line
-abbrev pub TextFound : Status → Ending → (text : List ℕ) → Type 0
-TextFound status ending text = OnBoards status (text_rule ending) text [] []
+abbrev pub WrapDone : Status → Outside → Outside → Type 0
+WrapDone status a b = ToolDone status (λ came. FedText came wrap_by a.input b.input × (b.boards ≡ a.boards)) a b
 
--- a payload was wrapped, or it was refused, or memory ran out
-abbrev pub Wraps : {T : Type 0} → (T → List ℕ) → Result T Stop → List ℕ → Type 0
-Wraps view (Ok told) x = wrap_by x ≡ Ends (view told)
-Wraps view (Err (stops.Refused cause)) x = wrap_by x ≡ Unfit cause
-Wraps view (Err stops.Memory) x = Unit {0}
-Wraps view (Err stop) x = ⊥
+abbrev pub CheckDone : (image : ℕ) → (root : List ℕ) → Status → Outside → Outside → Type 0
+CheckDone image root status a b = FirstDone status (reading_rule a.boards (check_on image root)) a b
+
+-- `row` is the image with its bytes
+abbrev pub receive_rule : List Device → (root : List ℕ) → (row : List ℕ → Row) → (input : List ℕ) → VerbRule
+receive_rule boards root row input =
+    trail_rule boards (λ chip. by_input input (λ bytes. receive_into root (row bytes) chip))
+    (λ s. receive_trail root s (row (content_in input)))
+
+abbrev pub ReceiveDone : (image version : ℕ) → (name root : List ℕ) → Status → Outside → Outside → Type 0
+ReceiveDone image version name root status a b = InputDone status (receive_rule a.boards root (row_of image version name)) a b
 
 -- that the pages are those of a payload of this length is told, unless memory ran out or the outside failed
-abbrev pub TellsLength : Status → ℕ → (written_before written_after : Option (List ℕ)) → Type 0
-TellsLength Done n before after = Puts before after (chain_text n)
-TellsLength Memory n before after = Unit {0}
-TellsLength WriteFault n before after = Unit {0}
-TellsLength FlashFault n before after = Unit {0}
-TellsLength status n before after = ⊥
+abbrev pub TellsLength : Status → ℕ → OutputTold → OutputTold → Type 0
+TellsLength Done n a b = Puts a.written b.written (chain_text n)
+TellsLength Memory n a b = Unit {0}
+TellsLength WriteFault n a b = Unit {0}
+TellsLength FlashFault n a b = Unit {0}
+TellsLength status n a b = ⊥

@@ -14,17 +14,23 @@ use Rattle.dg_volume.specs.declared.volume.TakeFault.{TakeFault}
 use Rattle.dg_volume.specs.declared.volume.TakeFault.TheVariants as take_fault
 use Rattle.dg_chain.specs.Checking.{Break, is_same}
 use Rattle.dg_chain.specs.Receiving.{fill_operations}
-use Rattle.dg_tool.specs.declared.refusal.Refusal.TheVariants as refusals
-use Rattle.dg_tool.specs.declared.stop.Stop.{Stop}
-use Rattle.dg_tool.specs.declared.stop.Stop.TheVariants as stops
+use Rattle.dg_end.specs.declared.refusal.Refusal.TheVariants as refusals
+use Rattle.dg_end.specs.declared.ends.End.{End}
+use Rattle.dg_end.specs.declared.ends.End.TheVariants as ends
+use Rattle.dg_chain_tool.specs.declared.filling.FillFault.{FillFault}
+use Rattle.dg_chain_tool.specs.declared.filling.FillFault.TheVariants as fill_fault
 use Rattle.dg_chain_tool.specs.Receiving.{with_foreign}
 
 -- what a slot that is not taken makes of a verb
-abbrev pub take_stop : TakeFault → Stop
-take_stop take_fault.Stopped = stops.FlashFault
-take_stop (take_fault.Stale kept) = stops.Refused (refusals.Stale kept)
-take_stop take_fault.Reserved = stops.Refused refusals.Reserved
-take_stop (take_fault.Worn room) = stops.Refused (refusals.Worn room)
+abbrev pub end_of_take : TakeFault → End
+end_of_take take_fault.Stopped = ends.FlashFault
+end_of_take (take_fault.Stale kept) = ends.Refused (refusals.Stale kept)
+end_of_take take_fault.Reserved = ends.Refused refusals.Reserved
+end_of_take (take_fault.Worn room) = ends.Refused (refusals.Worn room)
+
+abbrev pub end_of_fill : FillFault → End
+end_of_fill fill_fault.Stopped = ends.FlashFault
+end_of_fill (fill_fault.Foreign page) = ends.Refused (refusals.Foreign page)
 
 -- the page is the expected one
 abbrev pub fits_root : (expected : List ℕ) → List ℕ → Bool
@@ -50,12 +56,11 @@ abbrev pub is_expected : NextPage → Bool
 is_expected next = fits_root next.digest next.page
 
 -- how the filling of that page ends
-abbrev pub NextEnds : {T : Type 0} → Result T Stop → NextPage → Store → Device → Device → Volume → Type 0
+abbrev pub NextEnds : {T : Type 0} → Result T FillFault → NextPage → Store → Device → Device → Volume → Type 0
 NextEnds (Ok x) next s a b v = (is_expected next ≡ true) × Acted (stepping s page_operations (paged next.image next.page s)) a b v
-NextEnds (Err (stops.Refused (refusals.Foreign k))) next s a b v =
+NextEnds (Err (fill_fault.Foreign k)) next s a b v =
     (k ≡ next.number) × (is_expected next ≡ false) × Acted (resting s fill_operations) a b v
-NextEnds (Err stops.FlashFault) next s a b v = Stops (next_trail (is_expected next) s next.image next.page) a b
-NextEnds (Err stop) next s a b v = ⊥
+NextEnds (Err fill_fault.Stopped) next s a b v = Stops (next_trail (is_expected next) s next.image next.page) a b
 
 -- pages from page n on are filled up to the first foreign one
 abbrev pub fill_to : Option Break → (n : ℕ) → Store → (image : ℕ) → List (List ℕ) → Trail Store
@@ -63,9 +68,8 @@ fill_to None n s image pages = fill_trail s image pages
 fill_to (Some at) n s image pages = with_foreign (fill_trail s image (take (at.page - n) pages))
 
 -- how that ends
-abbrev pub FillEnds : {T : Type 0} → Result T Stop → Option Break → Trail Store → Device → Device → Volume → Type 0
+abbrev pub FillEnds : {T : Type 0} → Result T FillFault → Option Break → Trail Store → Device → Device → Volume → Type 0
 FillEnds (Ok x) found t a b v = (found ≡ None) × Acted t a b v
-FillEnds (Err (stops.Refused (refusals.Foreign k))) found t a b v =
+FillEnds (Err (fill_fault.Foreign k)) found t a b v =
     ((at : Break) × (found ≡ Some at) × (at.page ≡ k)) × Acted t a b v
-FillEnds (Err stops.FlashFault) found t a b v = Stops t a b
-FillEnds (Err stop) found t a b v = ⊥
+FillEnds (Err fill_fault.Stopped) found t a b v = Stops t a b

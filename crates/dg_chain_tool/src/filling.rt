@@ -12,10 +12,33 @@ ghost use Rattle.dg_chain_tool.specs.Receiving.{expected, foreign_from, first_fo
 ghost use Rattle.dg_chain_tool.specs.Filling.{FitsData, NextEnds, fill_to, FillEnds};
 
 use dg_chain::{ChainSealing, DIGEST_SIZE, PIECE_SIZE, receive_page};
+use dg_end::{End, Refusal};
 use dg_nor::{Nor, Stopped};
 use dg_object::PAGE_SIZE;
-use dg_tool::{Refusal, Stop};
 use dg_volume::{NewImage, Volume};
+
+/// Why pages are not filled.
+#[derive(Clone, Copy, Debug, PartialEq, Eq)]
+pub(crate) enum FillFault {
+    /// The board is stopped.
+    Stopped,
+    /// The digest of this data page is not the expected one.
+    Foreign { page: u8 },
+}
+
+impl From<FillFault> for End {
+    ghost use Rattle.std.specs.Prelude.{◌≡◌};
+    ghost use Rattle.dg_chain_tool.specs.Filling.{end_of_fill};
+
+    ghost from_gives = { λ fault e. e ≡ end_of_fill fault };
+
+    fn from(fault: FillFault) -> End {
+        match fault {
+            FillFault::Stopped => End::FlashFault,
+            FillFault::Foreign { page } => End::Refused(Refusal::Foreign { page }),
+        }
+    }
+}
 
 /// Fills the next page of an image, a data page with this number, and makes it complete where it is the expected one. 50
 /// operations, and 49 where it is foreign.
@@ -26,7 +49,7 @@ fn receive_next<N: Nor>(
     number: u8,
     page: &[u8; PAGE_SIZE],
     expected: &[u8; DIGEST_SIZE],
-) -> Result<(), Stop>
+) -> Result<(), FillFault>
     requires mounted { IsMounted (N.device nor.old).image volume.old }
     requires not_golden { 1 ≤ image }
     requires known_image { image < images }
@@ -50,10 +73,10 @@ fn receive_next<N: Nor>(
                 },
             ) => {
                 volume.put_back(slot);
-                Err(Stop::Refused(Refusal::Foreign { page: number }))
+                Err(FillFault::Foreign { page: number })
             }
             Ok(ChainSealing::Bad { .. }) => unreachable!(),
-            Err(Stopped) => Err(Stop::FlashFault),
+            Err(Stopped) => Err(FillFault::Stopped),
         },
         None => unreachable!(),
     }
@@ -76,7 +99,7 @@ fn receive_data<N: Nor>(
     new: &NewImage<'_>,
     done: u8,
     first: &[u8; DIGEST_SIZE],
-) -> Result<(), Stop>
+) -> Result<(), FillFault>
     requires mounted { IsMounted (N.device nor.old).image volume.old }
     requires not_golden { 1 ≤ new.now.image }
     requires known_image { new.now.image < images }
@@ -123,7 +146,7 @@ fn receive_whole<N: Nor>(
     nor: &mut N,
     new: &NewImage<'_>,
     root: &[u8; DIGEST_SIZE],
-) -> Result<(), Stop>
+) -> Result<(), FillFault>
     requires mounted { IsMounted (N.device nor.old).image volume.old }
     requires not_golden { 1 ≤ new.now.image }
     requires known_image { new.now.image < images }
@@ -141,7 +164,7 @@ fn receive_whole<N: Nor>(
     new.page(0, &mut page);
     match volume.fill_page(nor, new.image, &page) {
         Ok(()) => receive_data(volume, nor, new, 1, root),
-        Err(Stopped) => Err(Stop::FlashFault),
+        Err(Stopped) => Err(FillFault::Stopped),
     }
 }
 
@@ -152,7 +175,7 @@ pub(crate) fn receive_rest<N: Nor>(
     new: &NewImage<'_>,
     done: u8,
     root: &[u8; DIGEST_SIZE],
-) -> Result<(), Stop>
+) -> Result<(), FillFault>
     requires mounted { IsMounted (N.device nor.old).image volume.old }
     requires not_golden { 1 ≤ new.now.image }
     requires known_image { new.now.image < images }

@@ -9,44 +9,35 @@ mod filling;
 mod receiving;
 mod wrapping;
 
-ghost use Rattle.std.specs.Prelude.{◌≡◌, ◌⊎◌, ◌<◌, ◌≤◌, ℕ, List, Some, length, drop, map, IsTrue};
-ghost use Rattle.dg_words.specs.Counts.{Rose};
+ghost use Rattle.std.specs.Prelude.{◌≡◌, ◌⊎◌, ◌<◌, ◌≤◌, List, ℕ, Some, length, drop, map, IsTrue};
 ghost use Rattle.dg_base.specs.Texts.{spells_name};
-ghost use Rattle.dg_nor.specs.Reads.{Looked, ReadStopped};
-ghost use Rattle.dg_object.specs.Object.{row_of};
 ghost use Rattle.dg_slot.specs.Kept.{Held};
 ghost use Rattle.dg_volume.specs.Sizes.{images};
 ghost use Rattle.dg_volume.specs.Store.{Store, held};
+ghost use Rattle.dg_outside.specs.Outside.{Outside, output_of, with_input, with_output, with_boards};
 ghost use Rattle.dg_chain.specs.Chain.{IsPayload, chain, root_of};
 ghost use Rattle.dg_chain.specs.Checking.{Collision};
-ghost use Rattle.dg_tool.specs.Endings.{FirstAs, content_in};
-ghost use Rattle.dg_tool.specs.Done.{verb_rule, tool_outside, ToolDone, InputRead, WentOn, StopsOn};
-ghost use Rattle.dg_chain_tool.specs.Receiving.{receive_trail};
-ghost use Rattle.dg_chain_tool.specs.Verbs.{wrap_ending, check_ending, receive_ending};
-ghost use Rattle.dg_chain_tool.specs.Done.{TextDone, TellsLength};
+ghost use Rattle.dg_tool.specs.Endings.{FirstAs};
+ghost use Rattle.dg_chain_tool.specs.Done.{WrapDone, CheckDone, ReceiveDone, TellsLength};
 
-use crate::checking::check_boards;
-use crate::receiving::receive_boards;
+use crate::checking::check_first;
+use crate::receiving::receive_first;
 use crate::wrapping::wrap_input;
 use dg_base::{Sink, Source, Status};
 use dg_chain::{DIGEST_SIZE, a_root_names_its_pages};
+use dg_end::answer;
 use dg_nor::Nor;
-use dg_tool::end;
 use std::alloc::Global;
 
 /// Wraps the payload of the HEX file that `input` spells, 1 to 68,604 bytes, into an image of which each page carries the
 /// digest of the next (SHA-256). Writes `root HEX`, the digest of the first page, and then the HEX file of the image. No
 /// board is used.
 pub fn wrap<S: Source, K: Sink>(alloc: Global, input: &mut S, out: &mut K) -> Status
-    ensures done { (bytes : List ℕ) × InputRead result 1 bytes (S.left input.old) (S.left input.new) (S.faults input.old)
-        (S.faults input.new)
-        × TextDone result (wrap_ending bytes) (Rose (S.faults input.old) (S.faults input.new)) (K.written out.old)
-        (K.written out.new) (K.faults out.old) (K.faults out.new) }
-    ensures reads { S.faults input.old ≤ S.faults input.new }
-    ensures writes { K.faults out.old ≤ K.faults out.new }
+    ensures does { (rest : Outside) → WrapDone result (with_output (K.Sink, out.old) (with_input (S.Source, input.old) rest))
+        (with_output (K.Sink, out.new) (with_input (S.Source, input.new) rest)) }
 {
-    let text = wrap_input(alloc, input);
-    end(alloc, out, text)
+    let came = wrap_input(alloc, input);
+    answer(alloc, out, came)
 }
 
 /// Compares the data pages of an image that the first board keeps whole with a root, and changes no byte. Writes
@@ -59,11 +50,9 @@ pub fn check<K: Sink, N: Nor>(
     boards: &mut Vec<N>,
 ) -> Status
     requires image { image < images }
-    ensures done { ToolDone result
-        (verb_rule (FirstAs (map N.device boards.old.items)) (check_ending (length boards.old.items) image root.now)
-        (λ chip. Looked) (λ chip. ReadStopped))
-        ⊥ (tool_outside (K.written out.old) (K.faults out.old) (map N.device boards.old.items))
-        (tool_outside (K.written out.new) (K.faults out.new) (map N.device boards.new.items)) }
+    ensures does { (rest : Outside) → CheckDone image root.now result
+        (with_boards (map N.device boards.old.items) (with_output (K.Sink, out.old) rest))
+        (with_boards (map N.device boards.new.items) (with_output (K.Sink, out.new) rest)) }
     // Whatever made the board's bytes: pages that pass for the root of a payload are its pages, or two that differ at one
     // index have one digest.
     ensures named { (x : List ℕ) (s : Store) (h : Held) → IsPayload x → root.now ≡ root_of x
@@ -73,14 +62,13 @@ pub fn check<K: Sink, N: Nor>(
     ensures own { (x : List ℕ) (s : Store) (h : Held) → IsPayload x → root.now ≡ root_of x
         → FirstAs (map N.device boards.old.items) (Some s) → held s image ≡ Some h
         → 1 ≤ length boards.old.items → length h.complete ≡ h.pages → drop 1 h.complete ≡ chain x
-        → TellsLength result (length x) (K.written out.old) (K.written out.new) }
+        → TellsLength result (length x) (output_of (K.Sink, out.old)) (output_of (K.Sink, out.new)) }
     ensures unchanged { map (λ board. (N.device board).image) boards.new.items
         ≡ map (λ board. (N.device board).image) boards.old.items }
-    ensures writes { K.faults out.old ≤ K.faults out.new }
 {
     a_root_names_its_pages();
-    let text = check_boards(alloc, image, root, boards);
-    end(alloc, out, text)
+    let came = check_first(alloc, image, root, boards.as_mut_slice());
+    answer(alloc, out, came)
 }
 
 /// Keeps an image that `wrap` made whole on the first board, page by page: the image of the HEX file that `input` spells,
@@ -100,19 +88,18 @@ pub fn receive<S: Source, K: Sink, N: Nor>(
     requires image { image < images }
     requires version { 1 ≤ version }
     requires named { IsTrue (spells_name name.now) }
-    ensures done { (bytes : List ℕ) × InputRead result (length boards.old.items) bytes (S.left input.old) (S.left input.new)
-        (S.faults input.old) (S.faults input.new)
-        × ToolDone result
-        (verb_rule (FirstAs (map N.device boards.old.items))
-        (receive_ending (length boards.old.items) root.now (row_of image version name.now) bytes)
-        (WentOn (λ s. receive_trail root.now s (row_of image version name.now (content_in bytes))))
-        (StopsOn (λ s. receive_trail root.now s (row_of image version name.now (content_in bytes)))))
-        (Rose (S.faults input.old) (S.faults input.new))
-        (tool_outside (K.written out.old) (K.faults out.old) (map N.device boards.old.items))
-        (tool_outside (K.written out.new) (K.faults out.new) (map N.device boards.new.items)) }
-    ensures reads { S.faults input.old ≤ S.faults input.new }
-    ensures writes { K.faults out.old ≤ K.faults out.new }
+    ensures does { (rest : Outside) → ReceiveDone image version name.now root.now result
+        (with_boards (map N.device boards.old.items) (with_output (K.Sink, out.old) (with_input (S.Source, input.old) rest)))
+        (with_boards (map N.device boards.new.items) (with_output (K.Sink, out.new) (with_input (S.Source, input.new) rest))) }
 {
-    let text = receive_boards(alloc, image, version, name, root, input, boards);
-    end(alloc, out, text)
+    let came = receive_first(
+        alloc,
+        image,
+        version,
+        name,
+        root,
+        input,
+        boards.as_mut_slice(),
+    );
+    answer(alloc, out, came)
 }

@@ -1,18 +1,19 @@
 //! The verb `wrap`.
-ghost use Rattle.std.specs.Prelude.{◌≡◌, ◌≤◌, ◌++◌, ℕ, List, IfOk, codes, length};
+ghost use Rattle.std.specs.Prelude.{◌≡◌, ◌≤◌, ◌++◌, IfOk, codes, length};
 ghost use Rattle.dg_base.specs.Hexadecimal.{hex_text};
 ghost use Rattle.dg_ihex.specs.Written.{written_file};
 ghost use Rattle.dg_ihex.specs.Sizes.{longest_image};
-ghost use Rattle.dg_tool.specs.Texts.{line};
-ghost use Rattle.dg_tool.specs.Done.{InputRead};
-ghost use Rattle.dg_tool.specs.Stops.{InputFails, result_status, result_text};
-ghost use Rattle.dg_chain_tool.specs.Verbs.{wrap_ending, wrap_stop};
-ghost use Rattle.dg_chain_tool.specs.Done.{TextFound, Wraps};
+ghost use Rattle.dg_outside.specs.Outside.{input_of};
+ghost use Rattle.dg_end.specs.Lines.{outcome};
+ghost use Rattle.dg_end.specs.Texts.{line};
+ghost use Rattle.dg_chain_tool.specs.Verbs.{wrap_by, end_of_wrap};
+ghost use Rattle.dg_chain_tool.specs.Done.{FedText};
 
 use dg_base::{Source, push_hex};
 use dg_chain::{WrapFault, Wrapped, wrap};
+use dg_end::{End, Refusal};
 use dg_ihex::write_ihex;
-use dg_tool::{Refusal, Stop, or_memory, read_image};
+use dg_tool::read_image;
 use std::alloc::{AllocError, Global};
 
 /// The line of a root, and then the HEX file of the image.
@@ -31,37 +32,28 @@ fn wrapped_report(alloc: Global, wrapped: &Wrapped) -> Result<Vec<u8>, AllocErro
     Ok(text)
 }
 
-/// The text of a payload that is wrapped.
-fn wrap_payload(alloc: Global, payload: &[u8]) -> Result<Vec<u8>, Stop>
-    ensures { Wraps (λ text. text.items) result payload.now }
-{
-    match wrap(alloc, payload) {
-        Ok(wrapped) => or_memory(wrapped_report(alloc, &wrapped)),
-        Err(fault) => Err(stop_at(fault)),
-    }
-}
-
-/// What a payload that is not wrapped makes of a verb.
-fn stop_at(fault: WrapFault) -> Stop
-    ensures { result ≡ wrap_stop fault }
+/// What a payload that is not wrapped makes of a command.
+fn end_of_wrap(fault: WrapFault) -> End
+    ensures { result ≡ end_of_wrap fault }
 {
     match fault {
-        WrapFault::Memory => Stop::Memory,
-        WrapFault::Empty => Stop::Refused(Refusal::Empty),
-        WrapFault::TooLarge { length } => Stop::Refused(Refusal::TooLarge { length }),
+        WrapFault::Memory => End::Memory,
+        WrapFault::Empty => End::Refused(Refusal::Empty),
+        WrapFault::TooLarge { length } => End::Refused(Refusal::TooLarge { length }),
     }
 }
 
 /// The text of the payload that an input spells.
-pub(crate) fn wrap_input<S: Source>(alloc: Global, input: &mut S) -> Result<Vec<u8>, Stop>
-    ensures done { (bytes : List ℕ) × InputRead (result_status result) 1 bytes (S.left input.old) (S.left input.new)
-        (S.faults input.old) (S.faults input.new)
-        × InputFails (result_status result) (S.faults input.old) (S.faults input.new)
-        × TextFound (result_status result) (wrap_ending bytes) (result_text (λ text. text.items) result) }
-    ensures reads { S.faults input.old ≤ S.faults input.new }
+pub(crate) fn wrap_input<S: Source>(alloc: Global, input: &mut S) -> Result<Vec<u8>, End>
+    ensures done { FedText (outcome (λ text. text.items) result) wrap_by (input_of (S.Source, input.old))
+        (input_of (S.Source, input.new)) }
+    ensures counts { S.faults input.old ≤ S.faults input.new }
 {
-    match read_image(alloc, input) {
-        Ok(payload) => wrap_payload(alloc, &payload),
-        Err(stop) => Err(stop),
-    }
+    let payload = read_image(alloc, input)?;
+    let wrapped = match wrap(alloc, &payload) {
+        Ok(wrapped) => wrapped,
+        Err(fault) => return Err(end_of_wrap(fault)),
+    };
+    let text = wrapped_report(alloc, &wrapped)?;
+    Ok(text)
 }

@@ -1,5 +1,5 @@
 mod CarryLemmas
-mod MigrateLemmas
+mod VerbLemmas
 pub mod ChainLemmas
 mod DripLemmas
 mod BaseLemmas

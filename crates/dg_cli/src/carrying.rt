@@ -1,11 +1,10 @@
 //! Carrying out a command.
 ghost use Rattle.std.specs.Prelude.{◌≡◌, ◌≤◌, true, map};
 ghost use Rattle.dg_words.specs.Counts.{Rose};
-ghost use Rattle.dg_replay.specs.Around.{around};
+ghost use Rattle.dg_outside.specs.Outside.{outside};
 ghost use Rattle.dg_command.specs.Asking.{Asks, said_by, is_well_formed};
 ghost use Rattle.dg_command.specs.Bounds.{IsInBounds};
 ghost use Rattle.dg_cli.specs.Commands.{SaidDone, ReadsInput, UsesLink};
-ghost use Rattle.dg_cli.specs.Surroundings.{surroundings};
 
 use crate::basing::base;
 use crate::chaining::{check, receive};
@@ -33,12 +32,10 @@ pub(crate) fn carry_out<S: Source, K: Sink, N: Nor, L: Link, C: Clock>(
     requires ranges { IsInBounds (said_by command.now) }
     requires formed { is_well_formed (said_by command.now) ≡ true }
     ensures done { SaidDone (said_by command.now) result
-        (surroundings (around (S.left input.old) (S.faults input.old) (K.written out.old) (K.faults out.old)
+        (outside (S.Source, input.old) (K.Sink, out.old) (L.Link, link.old) (C.Clock, clock.old)
         (map N.device boards.old.items))
-        (L.inboxes link.old) (L.faults link.old) (C.told clock.old))
-        (surroundings (around (S.left input.new) (S.faults input.new) (K.written out.new) (K.faults out.new)
-        (map N.device boards.new.items))
-        (L.inboxes link.new) (L.faults link.new) (C.told clock.new)) }
+        (outside (S.Source, input.new) (K.Sink, out.new) (L.Link, link.new) (C.Clock, clock.new)
+        (map N.device boards.new.items)) }
     ensures untouched { (ReadsInput (Asks (said_by command.now)) → ⊥) → input.new ≡ input.old }
     ensures apart { (UsesLink (Asks (said_by command.now)) → ⊥) → (link.new ≡ link.old) × (clock.new ≡ clock.old) }
     ensures link_fault { result ≡ Status.LinkFault → Rose (L.faults link.old) (L.faults link.new) }

@@ -1,11 +1,11 @@
 //! Commands that are given the root of a hash-chained image, as digits.
-ghost use Rattle.std.specs.Prelude.{◌≡◌, ◌≢◌, ◌≤◌, ◌<◌, true, map, IsTrue};
+ghost use Rattle.std.specs.Prelude.{◌≡◌, ◌≤◌, ◌<◌, true, map, IsTrue};
 ghost use Rattle.dg_base.specs.Texts.{spells_name};
 ghost use Rattle.dg_volume.specs.Sizes.{images};
-ghost use Rattle.dg_tool.specs.Done.{tool_outside};
-ghost use Rattle.dg_replay.specs.Around.{around};
+ghost use Rattle.dg_outside.specs.Outside.{Outside, with_input, with_output, with_boards};
+ghost use Rattle.dg_chain_tool.specs.Done.{ReceiveDone};
 ghost use Rattle.dg_command.specs.Roots.{spells_root};
-ghost use Rattle.dg_cli.specs.Chained.{root_in, Checked, ReceivedDone};
+ghost use Rattle.dg_cli.specs.Chained.{root_in, Checked};
 
 use dg_base::{Sink, Source, Status};
 use dg_command::root_bytes;
@@ -22,10 +22,9 @@ pub(crate) fn check<K: Sink, N: Nor>(
 ) -> Status
     requires image { image < images }
     requires root { spells_root root.now ≡ true }
-    ensures done { Checked result image (root_in root.now)
-        (tool_outside (K.written out.old) (K.faults out.old) (map N.device boards.old.items))
-        (tool_outside (K.written out.new) (K.faults out.new) (map N.device boards.new.items)) }
-    ensures writes { K.faults out.old ≤ K.faults out.new }
+    ensures does { (rest : Outside) → Checked image (root_in root.now) result
+        (with_boards (map N.device boards.old.items) (with_output (K.Sink, out.old) rest))
+        (with_boards (map N.device boards.new.items) (with_output (K.Sink, out.new) rest)) }
 {
     match root_bytes(alloc, root) {
         Ok(root) => dg_chain_tool::check(alloc, image, &root, out, boards),
@@ -48,11 +47,9 @@ pub(crate) fn receive<S: Source, K: Sink, N: Nor>(
     requires version { 1 ≤ version }
     requires named { IsTrue (spells_name name.now) }
     requires root { spells_root root.now ≡ true }
-    ensures done { ReceivedDone result image version name.now (root_in root.now)
-        (around (S.left input.old) (S.faults input.old) (K.written out.old) (K.faults out.old) (map N.device boards.old.items))
-        (around (S.left input.new) (S.faults input.new) (K.written out.new) (K.faults out.new) (map N.device boards.new.items)) }
-    ensures reads { S.faults input.old ≤ S.faults input.new }
-    ensures writes { K.faults out.old ≤ K.faults out.new }
+    ensures does { (rest : Outside) → ReceiveDone image version name.now (root_in root.now) result
+        (with_boards (map N.device boards.old.items) (with_output (K.Sink, out.old) (with_input (S.Source, input.old) rest)))
+        (with_boards (map N.device boards.new.items) (with_output (K.Sink, out.new) (with_input (S.Source, input.new) rest))) }
 {
     match root_bytes(alloc, root) {
         Ok(root) => dg_chain_tool::receive(alloc, image, version, name, &root, input, out, boards),

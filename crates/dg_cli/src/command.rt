@@ -2,10 +2,9 @@
 ghost use Rattle.std.specs.Prelude.{◌≡◌, ◌≤◌, map, string_bytes};
 ghost use Rattle.dg_mote.specs.Sizes.{buffered_bytes, BuffersFit, ValuesAreSmall};
 ghost use Rattle.dg_words.specs.Counts.{Rose};
-ghost use Rattle.dg_replay.specs.Around.{around};
+ghost use Rattle.dg_outside.specs.Outside.{outside};
 ghost use Rattle.dg_command.specs.Asking.{asked_of};
 ghost use Rattle.dg_cli.specs.Commands.{CommandDone, ReadsInput, UsesLink};
-ghost use Rattle.dg_cli.specs.Surroundings.{surroundings};
 
 use crate::carrying::carry_out;
 use crate::telling::{tell_help, tell_usage};
@@ -39,12 +38,10 @@ pub fn run<S: Source, K: Sink, N: Nor, L: Link, C: Clock>(
     // of a run of the rules over the items of the script. Each status comes where the rules say. What was played keeps all
     // parts of the headline, and a script in its limits is replayed to its end, unless memory runs out or the outside fails.
     ensures does { CommandDone (asked_of (map string_bytes words.now.items)) result
-        (surroundings (around (S.left input.old) (S.faults input.old) (K.written out.old) (K.faults out.old)
+        (outside (S.Source, input.old) (K.Sink, out.old) (L.Link, link.old) (C.Clock, clock.old)
         (map N.device boards.old.items))
-        (L.inboxes link.old) (L.faults link.old) (C.told clock.old))
-        (surroundings (around (S.left input.new) (S.faults input.new) (K.written out.new) (K.faults out.new)
-        (map N.device boards.new.items))
-        (L.inboxes link.new) (L.faults link.new) (C.told clock.new)) }
+        (outside (S.Source, input.new) (K.Sink, out.new) (L.Link, link.new) (C.Clock, clock.new)
+        (map N.device boards.new.items)) }
     // The arrays of bytes that a mote and its calls name have 214 bytes, and those that are named together in one call no
     // more than 256. A mote's value has at most 464 bytes of memory, and its outbox 80.
     ensures buffers { (buffered_bytes ≡ 214) × BuffersFit × ValuesAreSmall }

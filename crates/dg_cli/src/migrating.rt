@@ -1,7 +1,7 @@
 //! The command that writes an older chip's snapshot in today's form.
-ghost use Rattle.std.specs.Prelude.{◌≢◌, ◌≤◌, map};
-ghost use Rattle.dg_tool.specs.Done.{tool_outside};
-ghost use Rattle.dg_cli.specs.Migrating.{MigratedDone};
+ghost use Rattle.std.specs.Prelude.{◌≢◌, map};
+ghost use Rattle.dg_outside.specs.Outside.{Outside, with_output, with_boards};
+ghost use Rattle.dg_tool.specs.Rules.{MigrateDone};
 
 use dg_base::{Sink, Status};
 use dg_nor::Nor;
@@ -10,11 +10,10 @@ use std::alloc::Global;
 
 /// Writes the first board's snapshot in today's form.
 pub(crate) fn migrate<K: Sink, N: Nor>(alloc: Global, out: &mut K, boards: &mut Vec<N>) -> Status
-    ensures done { MigratedDone result
-        (tool_outside (K.written out.old) (K.faults out.old) (map N.device boards.old.items))
-        (tool_outside (K.written out.new) (K.faults out.new) (map N.device boards.new.items)) }
+    ensures does { (rest : Outside) → MigrateDone result
+        (with_boards (map N.device boards.old.items) (with_output (K.Sink, out.old) rest))
+        (with_boards (map N.device boards.new.items) (with_output (K.Sink, out.new) rest)) }
     ensures link { result ≢ Status.LinkFault }
-    ensures writes { K.faults out.old ≤ K.faults out.new }
 {
     a_volume_has_one_form();
     dg_tool::migrate(alloc, out, boards)

@@ -1,5 +1,5 @@
 -- What a mounted volume tells of the images that it keeps.
-use Rattle.std.proofs.Common.{◌≡◌, ◌≢◌, ◌<◌, ℕ, Bool, true, false, List, [], ◌∷◌, ◌++◌, length, Option, Some, None, Result, Ok, Err, IfSome, OnOk, refl, sym, ap, subst, ◌∙◌, arith, cond}
+use Rattle.std.proofs.Common.{◌≡◌, ◌≢◌, ◌<◌, ℕ, Bool, true, false, List, [], ◌∷◌, ◌++◌, length, Option, Some, None, Ok, IfSome, refl, sym, ap, subst, ◌∙◌, arith, cond}
 use Rattle.std.specs.Prelude.{◌==◌, IsSomeAnd, slice_index_or, codes}
 use Rattle.std.proofs.lemmas.Bool.Decides.{nat_tests}
 use Rattle.dg_nor.specs.Device.{Device}
@@ -12,15 +12,16 @@ use Rattle.dg_volume.specs.Told.{told, told_held}
 use Rattle.dg_volume.specs.declared.volume.Kept.{Kept}
 use Rattle.dg_volume.specs.declared.volume.Volume.{Volume}
 use Rattle.dg_ihex.specs.Written.{written_file}
-use Rattle.dg_tool.specs.declared.refusal.Refusal.TheVariants as refusals
-use Rattle.dg_tool.specs.declared.stop.Stop.{Stop}
+use Rattle.dg_end.specs.declared.refusal.Refusal.TheVariants as refusals
+use Rattle.dg_end.specs.declared.ends.End.TheVariants as ends
+use Rattle.dg_end.specs.Lines.{Outcome}
 use Rattle.dg_volume.specs.Start.{length_in}
-use Rattle.dg_tool.specs.Texts.{numbers, line}
+use Rattle.dg_end.specs.Texts.{numbers, line}
 use Rattle.dg_tool.specs.Pages.{name_in, first_page, kept_bytes}
-use Rattle.dg_tool.specs.Endings.{Ending, Ends, Refuses}
+use Rattle.dg_tool.specs.Endings.{Ending, Reading, Acting}
 use Rattle.dg_tool.specs.Verbs.{dump_by, name_by, kept_line, golden_text}
 use Rattle.dg_tool.specs.Done.{NeedsBoard}
-use Rattle.dg_tool.specs.Stops.{or_memory, ReadsOn, OnStore, result_status, result_text}
+use Rattle.dg_tool.specs.Inner.{OnStore}
 
 -- ---- an image
 
@@ -74,18 +75,18 @@ golden_here c v s m =
 
 -- ---- dump
 
-dump_whole_is : (h : Held) → length h.complete ≡ h.pages → dump_by (Some h) ≡ Ends (written_file (kept_bytes h))
+dump_whole_is : (h : Held) → length h.complete ≡ h.pages → dump_by (Some h) ≡ Acting (Ok (written_file (kept_bytes h)))
 dump_whole_is h e =
     let test : (length h.complete == h.pages) ≡ true = same_test (length h.complete) h.pages e in
-    ap (λ (b : Bool). cond b (Ends (written_file (kept_bytes h))) (Refuses (refusals.NotWhole (length h.complete) h.pages))) test
+    ap (λ (b : Bool). cond b (Acting (Ok (written_file (kept_bytes h)))) (Reading (ends.Refused (refusals.NotWhole (length h.complete) h.pages)))) test
   where
     same_test : (m n : ℕ) → m ≡ n → (m == n) ≡ true
     same_test m n same = grind (arith, nat_tests)
 
-dump_part_is : (h : Held) → length h.complete ≢ h.pages → dump_by (Some h) ≡ Refuses (refusals.NotWhole (length h.complete) h.pages)
+dump_part_is : (h : Held) → length h.complete ≢ h.pages → dump_by (Some h) ≡ Reading (ends.Refused (refusals.NotWhole (length h.complete) h.pages))
 dump_part_is h e =
     let test : (length h.complete == h.pages) ≡ false = other_test (length h.complete) h.pages e in
-    ap (λ (b : Bool). cond b (Ends (written_file (kept_bytes h))) (Refuses (refusals.NotWhole (length h.complete) h.pages))) test
+    ap (λ (b : Bool). cond b (Acting (Ok (written_file (kept_bytes h)))) (Reading (ends.Refused (refusals.NotWhole (length h.complete) h.pages)))) test
   where
     other_test : (m n : ℕ) → (m ≡ n → ⊥) → (m == n) ≡ false
     other_test m n other = grind (arith, nat_tests)
@@ -96,34 +97,20 @@ test_needs false x y p q = q
 
 pub dump_needs : (o : Option Held) → NeedsBoard (dump_by o)
 dump_needs None = tt
-dump_needs (Some h) = test_needs (length h.complete == h.pages) (Ends (written_file (kept_bytes h))) (Refuses (refusals.NotWhole (length h.complete) h.pages)) tt tt
+dump_needs (Some h) = test_needs (length h.complete == h.pages) (Acting (Ok (written_file (kept_bytes h)))) (Reading (ends.Refused (refusals.NotWhole (length h.complete) h.pages))) tt tt
 
-module _ {T : Type 0} (view : T → List ℕ) (r : Result T Stop) (a b : Device) where
+module _ (came : Outcome) (a b : Device) where
   abbrev pub Dumped : Ending → Type 0
-  Dumped ending = OnStore (result_status r) (result_text view r) ending Looked ReadStopped a b
+  Dumped ending = OnStore came ending Looked ReadStopped a b
 
-  pub dumped_whole : (h : Held) → length h.complete ≡ h.pages → Dumped (Ends (written_file (kept_bytes h))) → Dumped (dump_by (Some h))
+  pub dumped_whole : (h : Held) → length h.complete ≡ h.pages → Dumped (Acting (Ok (written_file (kept_bytes h)))) → Dumped (dump_by (Some h))
   dumped_whole h e p = subst Dumped (sym (dump_whole_is h e)) p
 
-  pub dumped_part : (h : Held) → length h.complete ≢ h.pages → Dumped (Refuses (refusals.NotWhole (length h.complete) h.pages)) → Dumped (dump_by (Some h))
+  pub dumped_part : (h : Held) → length h.complete ≢ h.pages → Dumped (Reading (ends.Refused (refusals.NotWhole (length h.complete) h.pages))) → Dumped (dump_by (Some h))
   dumped_part h e p = subst Dumped (sym (dump_part_is h e)) p
 
   pub dumped_at : (s : Store) (i : ℕ) (o : Option Held) → held s i ≡ o → Dumped (dump_by o) → Dumped (dump_by (held s i))
   dumped_at s i o e p = subst (λ (x : Option Held). Dumped (dump_by x)) (sym e) p
-
--- ---- memory
-
-pub made_ok : {T E : Type 0} (made : Result T E) (x : T) (P : Type 0) → Ok x ≡ or_memory made → OnOk made P → P
-made_ok (Ok y) x P e p = p
-made_ok (Err y) x P e p = cc
-
-pub on_made : {T E : Type 0} (made : Result T E) (r : Result T Stop) (P Q : Type 0) → r ≡ or_memory made → OnOk made P → (P → Q) → OnOk r Q
-on_made {T} (Ok x) r P Q e p f = subst (λ (y : Result T Stop). OnOk y Q) (sym e) (f p)
-on_made {T} (Err x) r P Q e p f = subst (λ (y : Result T Stop). OnOk y Q) (sym e) tt
-
-pub made_reads : {T E : Type 0} (made : Result T E) (r : Result T Stop) (a b : Device) → r ≡ or_memory made → Looked a b → ReadsOn r a b
-made_reads {T} (Ok x) r a b e l = subst (λ (y : Result T Stop). ReadsOn y a b) (sym e) l
-made_reads {T} (Err x) r a b e l = subst (λ (y : Result T Stop). ReadsOn y a b) (sym e) l
 
 -- ---- ping
 

@@ -1,9 +1,10 @@
-pub mod ComesLemmas
+pub mod OutcomeLemmas
 pub mod BoardLemmas
-pub mod EndLemmas
+pub mod TrailLemmas
+pub mod ToolLemmas
 pub mod InputLemmas
+pub mod InjectLemmas
+pub mod StartLemmas
 pub mod PageLemmas
-pub mod TextLemmas
-pub mod VerbLemmas
 pub mod KeptLemmas
-pub mod MigrateLemmas
+pub mod ReadLemmas

@@ -1,12 +1,10 @@
 -- What a verb over the first board did (docs/COMMANDS.md, "Over one chip").
-use Rattle.std.specs.Prelude.{◌≡◌, ◌≢◌, ◌⊎◌, ℕ, zero, suc, ◌+◌, ◌<◌, ◌≤◌, true, List, [], length, drop, take, slice_get, Option}
-use Rattle.std.specs.Prelude.{Some, None, IfSome}
+use Rattle.std.specs.Prelude.{◌≡◌, ◌≢◌, ◌⊎◌, ℕ, ◌+◌, ◌<◌, ◌≤◌, true, List, [], length, drop, slice_get, Option, Some, None, Ok, Err}
+use Rattle.std.specs.Prelude.{IfSome}
 use Rattle.dg_words.specs.Counts.{Rose}
 use Rattle.dg_base.specs.Sizes.{most_input}
-use Rattle.dg_base.specs.Outside.{Takes, Puts, AtEnd}
+use Rattle.dg_base.specs.Outside.{Takes, AtEnd}
 use Rattle.dg_base.specs.declared.answers.Status.{Status}
-use Rattle.dg_base.specs.declared.answers.Status.TheVariants.{Done, Memory, Usage, BadInput, ReadFault, WriteFault, FlashFault}
-use Rattle.dg_base.specs.declared.answers.Status.TheVariants.{NotAVolume, Refused, LinkFault, TooLong, TooMany, NoBoard, NoImage}
 use Rattle.dg_nor.specs.Device.{Device, Ran, Halted}
 use Rattle.dg_nor.specs.Reads.{Looked, ReadStopped}
 use Rattle.dg_nor.specs.Trail.{Trail, operations, last}
@@ -19,8 +17,11 @@ use Rattle.dg_volume.specs.Sizes.{new_form}
 use Rattle.dg_volume.specs.Trails.{migrate_trail}
 use Rattle.dg_volume.specs.Store.{Store, fresh, golden_row}
 use Rattle.dg_volume.specs.Stands.{Stands}
-use Rattle.dg_tool.specs.Endings.{Ending, Ends, NoBoards, Over, FaultAt, Unfit, NoVolume, Refuses, Breaks, LacksImage, status_of}
-use Rattle.dg_tool.specs.Endings.{text_of}
+use Rattle.dg_outside.specs.Outside.{Outside, InputTold, SameLink, CountsRise}
+use Rattle.dg_end.specs.Lines.{Outcome}
+use Rattle.dg_end.specs.Finished.{Answered}
+use Rattle.dg_end.specs.declared.ends.End.TheVariants as ends
+use Rattle.dg_tool.specs.Endings.{Ending, Before, Reading, Acting, outcome_of, by_boards}
 
 -- ---- acts on the first board
 
@@ -68,28 +69,60 @@ abbrev pub BootedOn : (Store → Boot) → Option Store → Device → Device �
 BootedOn boot None a b = ⊥
 BootedOn boot (Some s) a b = Booted (boot s) a b
 
--- ---- how the board is left
+-- ---- what a verb comes to, and how it leaves the board, or the boards
 
--- By the rules: what was asked for was done, also where a start found no image, or up to where the rest of it was refused; a
--- refusal only reads; and what ends a verb before it comes to the board leaves that unused.
-abbrev pub LeftBy : Ending → (acted : Device → Device → Type 0) → Device → Device → Type 0
-LeftBy (Ends told) acted a b = acted a b
-LeftBy LacksImage acted a b = acted a b
-LeftBy (Breaks cause) acted a b = acted a b
-LeftBy NoVolume acted a b = Looked a b
-LeftBy (Refuses cause) acted a b = Looked a b
-LeftBy NoBoards acted a b = b ≡ a
-LeftBy Over acted a b = b ≡ a
-LeftBy (FaultAt fault) acted a b = b ≡ a
-LeftBy (Unfit cause) acted a b = b ≡ a
+-- as the rules say: what ends a verb before it comes to the board leaves that unused, and a refusal only reads
+abbrev pub Leaves : {X : Type 0} → Ending → (looked acted : X → X → Type 0) → X → X → Type 0
+Leaves (Before end) looked acted a b = b ≡ a
+Leaves (Reading end) looked acted a b = looked a b
+Leaves (Acting came) looked acted a b = acted a b
 
--- By the status: where memory ran out, it is as the rules say, or it was at most read. Where it stopped,
--- `may` says what it holds.
-abbrev pub CommandLeaves : Status → Ending → (acted may : Device → Device → Type 0) → Device → Device → Type 0
-CommandLeaves Memory ending acted may a b = Looked a b ⊎ LeftBy ending acted a b
-CommandLeaves ReadFault ending acted may a b = Looked a b
-CommandLeaves FlashFault ending acted may a b = may a b
-CommandLeaves status ending acted may a b = LeftBy ending acted a b
+-- the ending is found after the boards were counted
+abbrev pub NeedsInput : Ending → Type 0
+NeedsInput (Before (ends.NoBoard need have)) = ⊥
+NeedsInput ending = Unit {0}
+
+-- the ending is found after the board was looked at
+abbrev pub NeedsBoard : Ending → Type 0
+NeedsBoard (Before end) = ⊥
+NeedsBoard ending = Unit {0}
+
+-- It comes to its ending. Memory alone is free, and a fault of the outside comes only where the verb has come to it. Where
+-- the board stopped, `may` says what it holds.
+abbrev pub Comes : {X : Type 0} → Outcome → Ending → (looked acted may : X → X → Type 0) → X → X → Type 0
+Comes (Err ends.Memory) ending looked acted may a b = looked a b ⊎ Leaves ending looked acted a b
+Comes (Err ends.ReadFault) ending looked acted may a b = NeedsInput ending × (b ≡ a)
+Comes (Err ends.FlashFault) ending looked acted may a b = NeedsBoard ending × may a b
+Comes came ending looked acted may a b = (came ≡ outcome_of ending) × Leaves ending looked acted a b
+
+-- ---- outcomes
+
+-- it was found before the board was used
+abbrev pub IsBefore : Outcome → Type 0
+IsBefore (Err ends.ReadFault) = Unit {0}
+IsBefore (Err ends.TooLong) = Unit {0}
+IsBefore (Err (ends.BadHex fault)) = Unit {0}
+IsBefore (Err (ends.NoBoard need have)) = Unit {0}
+IsBefore came = ⊥
+
+-- what the board stands for was found
+abbrev pub IsFound : Outcome → Type 0
+IsFound (Ok text) = Unit {0}
+IsFound (Err ends.NotAVolume) = Unit {0}
+IsFound (Err ends.NoImage) = Unit {0}
+IsFound (Err (ends.Refused cause)) = Unit {0}
+IsFound came = ⊥
+
+-- a verb over one board has no script, no profile and no link, and its one write comes last
+abbrev pub IsOfVerb : Outcome → Type 0
+IsOfVerb (Err ends.WriteFault) = ⊥
+IsOfVerb (Err ends.LinkFault) = ⊥
+IsOfVerb (Err ends.TooMany) = ⊥
+IsOfVerb (Err (ends.BadLine number fault)) = ⊥
+IsOfVerb (Err (ends.BadProfile fault)) = ⊥
+IsOfVerb came = Unit {0}
+
+-- ---- the rule of a verb
 
 -- What the rules say of a verb. `chips` are the stores that the board may stand for, None where it is no volume; by these go how
 -- it ends, what it does to the board, and what it may leave of it where it is stopped.
@@ -103,129 +136,73 @@ abbrev pub verb_rule : (chips : Option Store → Type 0) (ending : Option Store 
     (acted may : Option Store → Device → Device → Type 0) → VerbRule
 verb_rule chips ending acted may = record { chips = chips; ending = ending; acted = acted; may = may }
 
--- ---- causes
+-- ---- the boards
 
--- the ending is found after the boards were counted
-abbrev pub NeedsInput : Ending → Type 0
-NeedsInput NoBoards = ⊥
-NeedsInput ending = Unit {0}
-
--- the ending is found after the board was looked at
-abbrev pub NeedsBoard : Ending → Type 0
-NeedsBoard (Ends told) = Unit {0}
-NeedsBoard NoVolume = Unit {0}
-NeedsBoard (Refuses cause) = Unit {0}
-NeedsBoard (Breaks cause) = Unit {0}
-NeedsBoard LacksImage = Unit {0}
-NeedsBoard ending = ⊥
-
--- The status is the one of the ending. Memory alone is free. A fault of the outside comes only where the verb has come to it.
-abbrev pub IsCaused : Status → Ending → Type 0
-IsCaused Memory ending = Unit {0}
-IsCaused WriteFault ending = Unit {0}
-IsCaused ReadFault ending = NeedsInput ending
-IsCaused FlashFault ending = NeedsBoard ending
-IsCaused status ending = status ≡ status_of ending
-
--- what was written: all that the ending writes, or, where the write failed, a front of it
-abbrev pub Wrote : Status → Ending → List ℕ → Type 0
-Wrote Memory ending text = text ≡ []
-Wrote ReadFault ending text = text ≡ []
-Wrote FlashFault ending text = text ≡ []
-Wrote WriteFault ending text = (n : ℕ) × (text ≡ take n (text_of ending))
-Wrote status ending text = text ≡ text_of ending
-
--- a verb that ends so by the rules came to this status, wrote this, and left the first board so
-pub record Follows (status : Status) (ending : Ending) (acted may : Device → Device → Type 0) (text : List ℕ)
-    (old new : List Device) : Type 0 where
-  pub caused : IsCaused status ending
-  pub wrote : Wrote status ending text
-  pub board : (a b : Device) → slice_get old 0 ≡ Some a → slice_get new 0 ≡ Some b → CommandLeaves status ending acted may a b
-
--- ---- whatever the board stands for
+abbrev pub AtFirst : (Device → Device → Type 0) → List Device → List Device → Type 0
+AtFirst P old new = (a b : Device) → slice_get old 0 ≡ Some a → slice_get new 0 ≡ Some b → P a b
 
 -- no board but the first was used
 pub record OnlyFirst (old new : List Device) : Type 0 where
   pub count : length new ≡ length old
   pub others : drop 1 new ≡ drop 1 old
 
--- the first board is stopped, and why
+-- the board is stopped, and why
+pub record IsStopped (a b : Device) : Type 0 where
+  pub stopped : b.stopped ≡ true
+  pub cause : (a.stopped ≡ true) ⊎ Rose a.faults b.faults
+
+-- the first board is stopped
 pub record FirstStopped (old new : List Device) : Type 0 where
   pub before : Device
   pub after : Device
   pub was : slice_get old 0 ≡ Some before
   pub is : slice_get new 0 ≡ Some after
-  pub stopped : after.stopped ≡ true
-  pub cause : (before.stopped ≡ true) ⊎ Rose before.faults after.faults
+  pub stopped : IsStopped before after
 
--- A fault of the outside has its cause, and writes nothing but a front of a line.
--- A verb over one board has no words that may be none, no link and no events.
-abbrev pub Faulted : Status → (reads_failed writes_failed board_stopped : Type 0) → (text : List ℕ) → Type 0
-Faulted Memory r w b text = text ≡ []
-Faulted ReadFault r w b text = r × (text ≡ [])
-Faulted WriteFault r w b text = w
-Faulted FlashFault r w b text = b × (text ≡ [])
-Faulted Usage r w b text = ⊥
-Faulted LinkFault r w b text = ⊥
-Faulted TooMany r w b text = ⊥
-Faulted status r w b text = Unit {0}
-
--- what ends a verb before the board is used
-abbrev pub Untouched : Status → (old new : List Device) → Type 0
-Untouched BadInput old new = new ≡ old
-Untouched ReadFault old new = new ≡ old
-Untouched TooLong old new = new ≡ old
-Untouched NoBoard old new = new ≡ old
-Untouched status old new = Unit {0}
-
--- what the board stands for was found
-abbrev pub Finds : Status → Type 0 → Type 0
-Finds Done found = found
-Finds NotAVolume found = found
-Finds Refused found = found
-Finds NoImage found = found
-Finds status found = Unit {0}
-
--- What a verb works on beside its input: what was written, where that is told, how many writes failed, and the boards.
-pub record ToolOutside : Type 0 where
-  pub written : Option (List ℕ)
-  pub writes : ℕ
-  pub boards : List Device
-
-abbrev pub tool_outside : (written : Option (List ℕ)) (writes : ℕ) (boards : List Device) → ToolOutside
-tool_outside written writes boards = record { written = written; writes = writes; boards = boards }
-
--- What a verb did that goes by this rule.
-pub record ToolDone (status : Status) (rule : VerbRule) (reads_failed : Type 0) (before after : ToolOutside) : Type 0 where
-  pub text : List ℕ
-  pub written : Puts before.written after.written text
+-- What a verb that goes by this rule did over boards. A read of the input that failed is told by `read_failed`.
+pub record OnBoards (came : Outcome) (rule : VerbRule) (read_failed : Type 0) (old new : List Device) : Type 0 where
   pub rules : (chip : Option Store) → rule.chips chip
-      → Follows status (rule.ending chip) (rule.acted chip) (rule.may chip) text before.boards after.boards
-  pub found : Finds status ((chip : Option Store) × rule.chips chip)
-  pub faulted : Faulted status reads_failed (Rose before.writes after.writes) (FirstStopped before.boards after.boards) text
-  pub first : OnlyFirst before.boards after.boards
-  pub untouched : Untouched status before.boards after.boards
-  -- a write that fails is always told
-  pub write_faults : status ≢ WriteFault → after.writes ≡ before.writes
+      → Comes came (by_boards (length old) (rule.ending chip)) (AtFirst Looked) (AtFirst (rule.acted chip)) (AtFirst (rule.may chip))
+      old new
+  pub found : IsFound came → (chip : Option Store) × rule.chips chip
+  pub stops : came ≡ Err ends.FlashFault → FirstStopped old new
+  pub read : came ≡ Err ends.ReadFault → read_failed
+  pub of_verb : IsOfVerb came
+  pub first : OnlyFirst old new
+  pub untouched : IsBefore came → new ≡ old
 
 -- ---- the input
 
--- so much of the input was taken: all, or one byte past those that are used, unless memory ran out or a read failed
-abbrev pub ReadToEnd : Status → (input : List ℕ) → (at_end : Type 0) → Type 0
-ReadToEnd Memory input at_end = Unit {0}
-ReadToEnd ReadFault input at_end = Unit {0}
-ReadToEnd status input at_end = at_end ⊎ (most_input < length input)
-
--- a verb without a board reads nothing
-abbrev pub ReadBy : (boards : ℕ) → Status → (input : List ℕ) → (at_end : Type 0) → Type 0
-ReadBy zero status input at_end = input ≡ []
-ReadBy (suc n) status input at_end = ReadToEnd status input at_end
-
--- what was taken of the input
-pub record InputRead (status : Status) (boards : ℕ) (input : List ℕ) (left_before left_after : Option (List ℕ))
-    (reads_before reads_after : ℕ) : Type 0 where
-  pub taken : Takes left_before left_after input
-  pub few_bytes : length input ≤ most_input + 1
-  pub read : ReadBy boards status input (AtEnd left_after)
+-- Of the input these bytes were taken: all, or one byte past those that are used, unless memory ran out or a read failed. A
+-- verb without a board reads nothing.
+pub record InputRead (came : Outcome) (boards : ℕ) (bytes : List ℕ) (a b : InputTold) : Type 0 where
+  pub taken : Takes a.left b.left bytes
+  pub few_bytes : length bytes ≤ most_input + 1
+  pub unread : boards ≡ 0 → bytes ≡ []
+  pub to_end : 0 < boards → came ≢ Err ends.Memory → came ≢ Err ends.ReadFault → AtEnd b.left ⊎ (most_input < length bytes)
   -- a read that fails is always told
-  pub read_faults : status ≢ ReadFault → reads_after ≡ reads_before
+  pub read_faults : came ≢ Err ends.ReadFault → b.reads ≡ a.reads
+
+-- What a verb did over boards whose rule goes by the bytes of the input.
+pub record FedBoards (came : Outcome) (rule : List ℕ → VerbRule) (a b : InputTold) (old new : List Device) : Type 0 where
+  pub bytes : List ℕ
+  pub read : InputRead came (length old) bytes a b
+  pub did : OnBoards came (rule bytes) (Rose a.reads b.reads) old new
+
+-- ---- a verb
+
+-- A verb came to what its rules allow, wrote its answer or its last line, and has its status. It uses neither link nor clock.
+pub record ToolDone (status : Status) (comes : Outcome → Type 0) (a b : Outside) : Type 0 where
+  pub came : Outcome
+  pub does : comes came
+  pub answered : Answered status came a.output b.output
+  pub link : SameLink a b
+  pub counts : CountsRise a b
+
+-- one that reads no input
+abbrev pub FirstDone : Status → VerbRule → Outside → Outside → Type 0
+FirstDone status rule a b = ToolDone status (λ came. OnBoards came rule ⊥ a.boards b.boards × (b.input ≡ a.input)) a b
+
+-- one whose rule goes by the bytes of the input
+abbrev pub InputDone : Status → (List ℕ → VerbRule) → Outside → Outside → Type 0
+InputDone status rule a b = ToolDone status (λ came. FedBoards came rule a.input b.input a.boards b.boards) a b

@@ -1,8 +1,8 @@
-pub mod Texts
 pub mod Endings
 pub mod Pages
 pub mod Verbs
 pub mod Done
-pub mod Stops
+pub mod Rules
+pub mod Inner
 pub mod Input
 pub mod Started

@@ -1,7 +1,7 @@
 -- What the verbs over the first board do, by the bytes of the input and by what the board stands for (docs/COMMANDS.md, "Over
 -- one chip").
 use Rattle.std.specs.Prelude.{ℕ, ◌==◌, ◌&&◌, ◌-◌, nat_lt, Bool, true, false, if◌then◌else◌, List, [], ◌∷◌, ◌++◌, length, codes}
-use Rattle.std.specs.Prelude.{◌/◌, ◌%◌, Option, Some, None}
+use Rattle.std.specs.Prelude.{◌/◌, ◌%◌, Option, Some, None, Ok, Err}
 use Rattle.std.specs.List.{flat_map, range_with_len}
 use Rattle.dg_base.specs.Hexadecimal.{hex_text}
 use Rattle.dg_object.specs.Object.{Row, pages_for}
@@ -14,15 +14,14 @@ use Rattle.dg_volume.specs.Start.{Boot, Runs, boot, length_in, runs_length, runs
 use Rattle.dg_volume.specs.Changes.{inject_refusal, order_refusal}
 use Rattle.dg_volume.specs.declared.volume.StartCause.TheVariants as cause
 use Rattle.dg_volume.specs.declared.volume.InjectFault.{InjectFault}
-use Rattle.dg_volume.specs.declared.volume.InjectFault.TheVariants as inject
 use Rattle.dg_volume.specs.declared.volume.OrderFault.{OrderFault}
-use Rattle.dg_volume.specs.declared.volume.OrderFault.TheVariants as order_fault
 use Rattle.dg_ihex.specs.Written.{written_file}
-use Rattle.dg_tool.specs.declared.refusal.Refusal.{Refusal}
-use Rattle.dg_tool.specs.declared.refusal.Refusal.TheVariants as refusals
-use Rattle.dg_tool.specs.Texts.{numbers, line}
+use Rattle.dg_end.specs.declared.refusal.Refusal.TheVariants as refusals
+use Rattle.dg_end.specs.Texts.{numbers, line}
 use Rattle.dg_tool.specs.Pages.{name_in, first_page, kept_bytes}
-use Rattle.dg_tool.specs.Endings.{Ending, Ends, Unfit, Refuses, LacksImage, by_boards, by_input, by_store}
+use Rattle.dg_end.specs.declared.ends.End.TheVariants as ends
+use Rattle.dg_end.specs.Widened.{end_of_order, end_of_injection}
+use Rattle.dg_tool.specs.Endings.{Ending, Before, Reading, Acting, by_store}
 
 -- ---- format
 
@@ -31,60 +30,34 @@ room_text room = line (codes "room" ++ numbers (room ∷ []))
 
 abbrev pub format_sized : (used : ℕ) → (golden : List ℕ) → Ending
 format_sized used golden =
-    if length golden == 0 then Unfit refusals.Empty
-    else if nat_lt most_bytes (length golden) then Unfit (refusals.TooLarge (length golden))
-    else Ends (room_text (most_room - used))
-
--- any board is formatted
-abbrev pub format_ending : (boards used : ℕ) → (input : List ℕ) → Option Store → Ending
-format_ending boards used input chip = by_boards boards (by_input input (format_sized used))
+    if length golden == 0 then Before (ends.Refused refusals.Empty)
+    else if nat_lt most_bytes (length golden) then Before (ends.Refused (refusals.TooLarge (length golden)))
+    else Acting (Ok (room_text (most_room - used)))
 
 -- ---- inject
-
--- the cause that is told of a fault; a stop is no refusal
-abbrev pub inject_cause : Row → InjectFault → Refusal
-inject_cause row inject.Stopped = refusals.Empty
-inject_cause row inject.Empty = refusals.Empty
-inject_cause row inject.TooLarge = refusals.TooLarge (length row.bytes)
-inject_cause row (inject.Stale kept) = refusals.Stale kept
-inject_cause row inject.Reserved = refusals.Reserved
-inject_cause row (inject.Worn room) = refusals.Worn room
-inject_cause row inject.Taken = refusals.Taken
 
 -- all pages of the image, the descriptor too
 abbrev pub have_text : Row → List ℕ
 have_text row = line (codes "have" ++ numbers (0 ∷ row.image ∷ row.version ∷ pages_for (length row.bytes) ∷ []))
 
 abbrev pub inject_ending_by : Row → Option InjectFault → Ending
-inject_ending_by row None = Ends (have_text row)
-inject_ending_by row (Some fault) = Refuses (inject_cause row fault)
+inject_ending_by row None = Acting (Ok (have_text row))
+inject_ending_by row (Some fault) = Reading (end_of_injection (length row.bytes) fault)
 
 abbrev pub inject_into : Row → Option Store → Ending
 inject_into row chip = by_store chip (λ s. inject_ending_by row (inject_refusal s row))
 
--- `row` is the image with its bytes
-abbrev pub inject_ending : (boards : ℕ) → (row : List ℕ → Row) → (input : List ℕ) → Option Store → Ending
-inject_ending boards row input chip = by_boards boards (by_input input (λ bytes. inject_into (row bytes) chip))
-
 -- ---- order
-
-abbrev pub order_cause : OrderFault → Refusal
-order_cause order_fault.Stopped = refusals.Empty
-order_cause (order_fault.Worn room) = refusals.Worn room
-order_cause (order_fault.OldOrder kept) = refusals.OldOrder kept
 
 abbrev pub order_text : Order → List ℕ
 order_text o = line (codes "order" ++ numbers (0 ∷ o.number ∷ o.image ∷ o.version ∷ []))
 
 abbrev pub order_by : Order → Option OrderFault → Ending
-order_by o None = Ends (order_text o)
-order_by o (Some fault) = Refuses (order_cause fault)
+order_by o None = Acting (Ok (order_text o))
+order_by o (Some fault) = Reading (end_of_order fault)
 
 abbrev pub order_on : Order → Option Store → Ending
 order_on o chip = by_store chip (λ s. order_by o (order_refusal s o))
-
-abbrev pub order_ending : (boards : ℕ) → Order → Option Store → Ending
-order_ending boards o chip = by_boards boards (order_on o chip)
 
 -- ---- boot
 
@@ -100,14 +73,11 @@ abbrev pub start_text : Runs → List ℕ
 start_text r = line (codes "start" ++ numbers (0 ∷ r.image ∷ r.version ∷ runs_length r ∷ []) ++ 32 ∷ two_bytes (runs_crc r))
 
 abbrev pub boot_by : Option Runs → Ending
-boot_by None = LacksImage
-boot_by (Some r) = Ends (start_text r)
+boot_by None = Acting (Err ends.NoImage)
+boot_by (Some r) = Acting (Ok (start_text r))
 
 abbrev pub boot_on : Option Store → Ending
 boot_on chip = by_store chip (λ s. boot_by (power_boot s).runs)
-
-abbrev pub boot_ending : (boards : ℕ) → Option Store → Ending
-boot_ending boards chip = by_boards boards (boot_on chip)
 
 -- ---- migrate
 
@@ -116,13 +86,10 @@ form_text = line (codes "form" ++ numbers (new_form ∷ []))
 
 -- a chip of the older form takes one commit
 abbrev pub migrate_by : (form : ℕ) → Store → Ending
-migrate_by form s = if (form == old_form) && (s.room == 0) then Refuses (refusals.Worn s.room) else Ends form_text
+migrate_by form s = if (form == old_form) && (s.room == 0) then Reading (ends.Refused (refusals.Worn s.room)) else Acting (Ok form_text)
 
 abbrev pub migrate_on : (form : ℕ) → Option Store → Ending
 migrate_on form chip = by_store chip (migrate_by form)
-
-abbrev pub migrate_ending : (boards form : ℕ) → Option Store → Ending
-migrate_ending boards form chip = by_boards boards (migrate_on form chip)
 
 -- ---- ping
 
@@ -166,20 +133,14 @@ abbrev pub ping_text : Store → List ℕ
 ping_text s = golden_text (held s 0) ++ commits_text s ++ kept_lines s
 
 abbrev pub ping_on : Option Store → Ending
-ping_on chip = by_store chip (λ s. Ends (ping_text s))
-
-abbrev pub ping_ending : (boards : ℕ) → Option Store → Ending
-ping_ending boards chip = by_boards boards (ping_on chip)
+ping_on chip = by_store chip (λ s. Acting (Ok (ping_text s)))
 
 -- ---- dump
 
 abbrev pub dump_by : Option Held → Ending
-dump_by None = Refuses refusals.Absent
-dump_by (Some h) = if length h.complete == h.pages then Ends (written_file (kept_bytes h))
-    else Refuses (refusals.NotWhole (length h.complete) h.pages)
+dump_by None = Reading (ends.Refused refusals.Absent)
+dump_by (Some h) = if length h.complete == h.pages then Acting (Ok (written_file (kept_bytes h)))
+    else Reading (ends.Refused (refusals.NotWhole (length h.complete) h.pages))
 
 abbrev pub dump_on : (image : ℕ) → Option Store → Ending
 dump_on image chip = by_store chip (λ s. dump_by (held s image))
-
-abbrev pub dump_ending : (boards image : ℕ) → Option Store → Ending
-dump_ending boards image chip = by_boards boards (dump_on image chip)

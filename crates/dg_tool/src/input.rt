@@ -1,46 +1,81 @@
 //! The image that the input of a verb spells.
-ghost use Rattle.std.specs.Prelude.{◌≡◌, ◌≤◌, ℕ, List};
-ghost use Rattle.dg_ihex.specs.Streams.{Fed};
-ghost use Rattle.dg_tool.specs.Input.{Spells, ImageRead, stop_of};
+ghost use Rattle.std.specs.Prelude.{◌≤◌};
+ghost use Rattle.dg_outside.specs.Outside.{input_of};
+ghost use Rattle.dg_tool.specs.Input.{ImageRead};
 
-use crate::stop::Stop;
 use dg_base::Source;
-use dg_ihex::{HexCause, HexFileFault, HexReader, MOST_TEXT};
+use dg_end::End;
+use dg_ihex::{HexCause, HexFileFault, MOST_TEXT};
 use dg_input::{ReadStop, read_input};
 use std::alloc::Global;
 
-/// The image of the HEX file that a reader was given. A file that is too long is refused whatever its lines are.
-fn image_of(alloc: Global, reader: &mut HexReader) -> Result<Vec<u8>, Stop>
-    ensures { (text : List ℕ) → Fed reader.old text → Spells (λ image. image.items) result text }
-{
-    if reader.count() > MOST_TEXT {
-        return Err(Stop::TooLong);
-    }
-    match reader.finish(alloc) {
-        Ok(image) => Ok(image),
-        Err(fault) => Err(stop_at(fault)),
+/// Why an input gives no image.
+#[derive(Clone, Copy, Debug, PartialEq, Eq)]
+pub enum ImageFault {
+    /// Memory ran out.
+    Memory,
+    /// A read failed.
+    ReadFault,
+    /// It has more than 16,777,216 bytes.
+    TooLong,
+    /// It is no HEX file.
+    BadHex(HexFileFault),
+}
+
+impl From<ReadStop> for ImageFault {
+    ghost use Rattle.std.specs.Prelude.{◌≡◌};
+    ghost use Rattle.dg_tool.specs.Input.{fault_of_read};
+
+    ghost from_gives = { λ stop e. e ≡ fault_of_read stop };
+
+    fn from(stop: ReadStop) -> ImageFault {
+        match stop {
+            ReadStop::Memory => ImageFault::Memory,
+            ReadStop::ReadFault => ImageFault::ReadFault,
+        }
     }
 }
 
-/// What a fault of a HEX file makes of a verb.
-fn stop_at(fault: HexFileFault) -> Stop
-    ensures { result ≡ stop_of fault }
-{
-    match fault.cause {
-        HexCause::Memory => Stop::Memory,
-        _ => Stop::BadInput(fault),
+impl From<HexFileFault> for ImageFault {
+    ghost use Rattle.std.specs.Prelude.{◌≡◌};
+    ghost use Rattle.dg_tool.specs.Input.{fault_of_hex};
+
+    ghost from_gives = { λ fault e. e ≡ fault_of_hex fault };
+
+    fn from(fault: HexFileFault) -> ImageFault {
+        match fault.cause {
+            HexCause::Memory => ImageFault::Memory,
+            _ => ImageFault::BadHex(fault),
+        }
     }
 }
 
-/// Reads the image of the HEX file that an input spells. At most 16,777,216 bytes are used.
-pub fn read_image<S: Source>(alloc: Global, input: &mut S) -> Result<Vec<u8>, Stop>
-    ensures read { ImageRead (λ image. image.items) result (S.left input.old) (S.left input.new) (S.faults input.old)
-        (S.faults input.new) }
+impl From<ImageFault> for End {
+    ghost use Rattle.std.specs.Prelude.{◌≡◌};
+    ghost use Rattle.dg_tool.specs.Input.{end_of_image};
+
+    ghost from_gives = { λ fault e. e ≡ end_of_image fault };
+
+    fn from(fault: ImageFault) -> End {
+        match fault {
+            ImageFault::Memory => End::Memory,
+            ImageFault::ReadFault => End::ReadFault,
+            ImageFault::TooLong => End::TooLong,
+            ImageFault::BadHex(fault) => End::BadHex(fault),
+        }
+    }
+}
+
+/// Reads the image of the HEX file that an input spells. At most 16,777,216 bytes are used, and a file that is too long is
+/// refused whatever its lines are.
+pub fn read_image<S: Source>(alloc: Global, input: &mut S) -> Result<Vec<u8>, ImageFault>
+    ensures read { ImageRead (λ image. image.items) result (input_of (S.Source, input.old)) (input_of (S.Source, input.new)) }
     ensures counts { S.faults input.old ≤ S.faults input.new }
 {
-    match read_input(alloc, input) {
-        Ok(mut reader) => image_of(alloc, &mut reader),
-        Err(ReadStop::Memory) => Err(Stop::Memory),
-        Err(ReadStop::ReadFault) => Err(Stop::ReadFault),
+    let mut reader = read_input(alloc, input)?;
+    if reader.count() > MOST_TEXT {
+        return Err(ImageFault::TooLong);
     }
+    let image = reader.finish(alloc)?;
+    Ok(image)
 }

@@ -5,9 +5,7 @@
 //! other verbs are made of are handed out too: reading an image, mounting, lines, and the end.
 #![tactic(auto)]
 
-mod board;
 mod dumping;
-mod ending;
 mod formatting;
 mod injecting;
 mod input;
@@ -16,40 +14,25 @@ mod migrating;
 mod ordering;
 mod pages;
 mod pinging;
-mod refusal;
 mod starting;
-mod stop;
-mod text;
 
-ghost use Rattle.std.specs.Prelude.{◌≡◌, ◌⊎◌, ◌<◌, ◌≤◌, ℕ, List, length, map, IsTrue};
-ghost use Rattle.dg_words.specs.Counts.{Rose};
+ghost use Rattle.std.specs.Prelude.{◌≡◌, ◌⊎◌, ◌≤◌, ◌<◌, map, IsTrue};
+ghost use Rattle.dg_outside.specs.Outside.{Outside, with_input, with_output, with_boards};
 ghost use Rattle.dg_base.specs.Texts.{spells_name};
-ghost use Rattle.dg_nor.specs.Reads.{Looked, ReadStopped};
-ghost use Rattle.dg_object.specs.Object.{row_of};
 ghost use Rattle.dg_volume.specs.Sizes.{images, most_room, old_form, new_form};
-ghost use Rattle.dg_volume.specs.Trails.{inject_trail, order_trail, migrate_trail};
-ghost use Rattle.dg_tool.specs.Endings.{FirstAs, FirstInForm, content_in};
-ghost use Rattle.dg_tool.specs.Verbs.{format_ending, inject_ending, order_ending, power_boot, boot_ending, ping_ending};
-ghost use Rattle.dg_tool.specs.Verbs.{dump_ending, migrate_ending};
-ghost use Rattle.dg_tool.specs.Done.{verb_rule, tool_outside, ToolDone, InputRead};
-ghost use Rattle.dg_tool.specs.Done.{IsFormatted, FormatStops, MigratedOn, WentOn, StopsOn, BootedOn};
+ghost use Rattle.dg_tool.specs.Rules.{FormatDone, InjectDone, OrderDone, BootDone, PingDone, DumpDone, MigrateDone};
 
-pub use crate::board::mount;
-use crate::dumping::dump_boards;
-pub use crate::ending::end;
-use crate::formatting::format_boards;
-use crate::injecting::inject_boards;
-pub use crate::injecting::{have_line, stop_at};
-pub use crate::input::read_image;
+use crate::dumping::dump_first;
+use crate::formatting::format_first;
+use crate::injecting::inject_first;
+pub use crate::input::{ImageFault, read_image};
 pub use crate::laws::a_whole_image_tells_its_row;
-use crate::migrating::migrate_boards;
-use crate::ordering::order_boards;
-use crate::pinging::ping_boards;
-pub use crate::refusal::Refusal;
-use crate::starting::boot_boards;
-pub use crate::stop::{Stop, or_memory};
-pub use crate::text::line_of;
+use crate::migrating::migrate_first;
+use crate::ordering::order_first;
+use crate::pinging::ping_first;
+use crate::starting::boot_first;
 use dg_base::{Sink, Source, Status};
+use dg_end::answer;
 use dg_nor::Nor;
 use dg_volume::Order;
 use std::alloc::Global;
@@ -68,18 +51,12 @@ pub fn format<S: Source, K: Sink, N: Nor>(
     requires named { IsTrue (spells_name name.now) }
     requires few { used ≤ most_room }
     requires known_form { (form ≡ old_form) ⊎ (form ≡ new_form) }
-    ensures done { (bytes : List ℕ) × InputRead result (length boards.old.items) bytes (S.left input.old) (S.left input.new)
-        (S.faults input.old) (S.faults input.new)
-        × ToolDone result (verb_rule (λ chip. Unit {0}) (format_ending (length boards.old.items) used bytes)
-        (λ chip. IsFormatted name.now (content_in bytes) used form) (λ chip. FormatStops name.now (content_in bytes) used))
-        (Rose (S.faults input.old) (S.faults input.new))
-        (tool_outside (K.written out.old) (K.faults out.old) (map N.device boards.old.items))
-        (tool_outside (K.written out.new) (K.faults out.new) (map N.device boards.new.items)) }
-    ensures reads { S.faults input.old ≤ S.faults input.new }
-    ensures writes { K.faults out.old ≤ K.faults out.new }
+    ensures does { (rest : Outside) → FormatDone name.now used form result
+        (with_boards (map N.device boards.old.items) (with_output (K.Sink, out.old) (with_input (S.Source, input.old) rest)))
+        (with_boards (map N.device boards.new.items) (with_output (K.Sink, out.new) (with_input (S.Source, input.new) rest))) }
 {
-    let text = format_boards(alloc, name, used, form, input, boards);
-    end(alloc, out, text)
+    let came = format_first(alloc, name, used, form, input, boards.as_mut_slice());
+    answer(alloc, out, came)
 }
 
 /// Keeps an image whole on the first board: the image of the HEX file that `input` spells, with this name. Writes
@@ -96,21 +73,12 @@ pub fn inject<S: Source, K: Sink, N: Nor>(
     requires image { image < images }
     requires version { 1 ≤ version }
     requires named { IsTrue (spells_name name.now) }
-    ensures done { (bytes : List ℕ) × InputRead result (length boards.old.items) bytes (S.left input.old) (S.left input.new)
-        (S.faults input.old) (S.faults input.new)
-        × ToolDone result
-        (verb_rule (FirstAs (map N.device boards.old.items))
-        (inject_ending (length boards.old.items) (row_of image version name.now) bytes)
-        (WentOn (λ s. inject_trail s (row_of image version name.now (content_in bytes))))
-        (StopsOn (λ s. inject_trail s (row_of image version name.now (content_in bytes)))))
-        (Rose (S.faults input.old) (S.faults input.new))
-        (tool_outside (K.written out.old) (K.faults out.old) (map N.device boards.old.items))
-        (tool_outside (K.written out.new) (K.faults out.new) (map N.device boards.new.items)) }
-    ensures reads { S.faults input.old ≤ S.faults input.new }
-    ensures writes { K.faults out.old ≤ K.faults out.new }
+    ensures does { (rest : Outside) → InjectDone image version name.now result
+        (with_boards (map N.device boards.old.items) (with_output (K.Sink, out.old) (with_input (S.Source, input.old) rest)))
+        (with_boards (map N.device boards.new.items) (with_output (K.Sink, out.new) (with_input (S.Source, input.new) rest))) }
 {
-    let text = inject_boards(alloc, image, version, name, input, boards);
-    end(alloc, out, text)
+    let came = inject_first(alloc, image, version, name, input, boards.as_mut_slice());
+    answer(alloc, out, came)
 }
 
 /// Keeps an order on the first board, which is not waived. Writes `order 0 K I V`.
@@ -123,68 +91,55 @@ pub fn order<K: Sink, N: Nor>(
     requires number { 1 ≤ order.now.number }
     requires image { order.now.image < images }
     requires version { 1 ≤ order.now.version }
-    ensures done { ToolDone result
-        (verb_rule (FirstAs (map N.device boards.old.items)) (order_ending (length boards.old.items) order.now)
-        (WentOn (λ s. order_trail s order.now)) (StopsOn (λ s. order_trail s order.now)))
-        ⊥ (tool_outside (K.written out.old) (K.faults out.old) (map N.device boards.old.items))
-        (tool_outside (K.written out.new) (K.faults out.new) (map N.device boards.new.items)) }
-    ensures writes { K.faults out.old ≤ K.faults out.new }
+    ensures does { (rest : Outside) → OrderDone order.now result
+        (with_boards (map N.device boards.old.items) (with_output (K.Sink, out.old) rest))
+        (with_boards (map N.device boards.new.items) (with_output (K.Sink, out.new) rest)) }
 {
-    let text = order_boards(alloc, order, boards);
-    end(alloc, out, text)
+    let came = order_first(alloc, order, boards.as_mut_slice());
+    answer(alloc, out, came)
 }
 
 /// Starts the first board by power. Writes `start 0 I V LENGTH CRC`. The start counts as a short one.
 pub fn boot<K: Sink, N: Nor>(alloc: Global, out: &mut K, boards: &mut Vec<N>) -> Status
-    ensures done { ToolDone result (verb_rule (FirstAs (map N.device boards.old.items)) (boot_ending (length boards.old.items))
-        (BootedOn power_boot) (StopsOn (λ s. (power_boot s).trail)))
-        ⊥ (tool_outside (K.written out.old) (K.faults out.old) (map N.device boards.old.items))
-        (tool_outside (K.written out.new) (K.faults out.new) (map N.device boards.new.items)) }
-    ensures writes { K.faults out.old ≤ K.faults out.new }
+    ensures does { (rest : Outside) → BootDone result
+        (with_boards (map N.device boards.old.items) (with_output (K.Sink, out.old) rest))
+        (with_boards (map N.device boards.new.items) (with_output (K.Sink, out.new) rest)) }
 {
-    let text = boot_boards(alloc, boards);
-    end(alloc, out, text)
+    let came = boot_first(alloc, boards.as_mut_slice());
+    answer(alloc, out, came)
 }
 
 /// Tells what the first board keeps, and changes no byte.
 pub fn ping<K: Sink, N: Nor>(alloc: Global, out: &mut K, boards: &mut Vec<N>) -> Status
-    ensures done { ToolDone result (verb_rule (FirstAs (map N.device boards.old.items)) (ping_ending (length boards.old.items))
-        (λ chip. Looked) (λ chip. ReadStopped))
-        ⊥ (tool_outside (K.written out.old) (K.faults out.old) (map N.device boards.old.items))
-        (tool_outside (K.written out.new) (K.faults out.new) (map N.device boards.new.items)) }
+    ensures does { (rest : Outside) → PingDone result
+        (with_boards (map N.device boards.old.items) (with_output (K.Sink, out.old) rest))
+        (with_boards (map N.device boards.new.items) (with_output (K.Sink, out.new) rest)) }
     ensures unchanged { map (λ board. (N.device board).image) boards.new.items
         ≡ map (λ board. (N.device board).image) boards.old.items }
-    ensures writes { K.faults out.old ≤ K.faults out.new }
 {
-    let text = ping_boards(alloc, boards);
-    end(alloc, out, text)
+    let came = ping_first(alloc, boards.as_mut_slice());
+    answer(alloc, out, came)
 }
 
 /// Writes the image that a slot of the first board keeps whole as a HEX file, and changes no byte.
 pub fn dump<K: Sink, N: Nor>(alloc: Global, image: u8, out: &mut K, boards: &mut Vec<N>) -> Status
     requires image { image < images }
-    ensures done { ToolDone result
-        (verb_rule (FirstAs (map N.device boards.old.items)) (dump_ending (length boards.old.items) image)
-        (λ chip. Looked) (λ chip. ReadStopped))
-        ⊥ (tool_outside (K.written out.old) (K.faults out.old) (map N.device boards.old.items))
-        (tool_outside (K.written out.new) (K.faults out.new) (map N.device boards.new.items)) }
+    ensures does { (rest : Outside) → DumpDone image result
+        (with_boards (map N.device boards.old.items) (with_output (K.Sink, out.old) rest))
+        (with_boards (map N.device boards.new.items) (with_output (K.Sink, out.new) rest)) }
     ensures unchanged { map (λ board. (N.device board).image) boards.new.items
         ≡ map (λ board. (N.device board).image) boards.old.items }
-    ensures writes { K.faults out.old ≤ K.faults out.new }
 {
-    let text = dump_boards(alloc, image, boards);
-    end(alloc, out, text)
+    let came = dump_first(alloc, image, boards.as_mut_slice());
+    answer(alloc, out, came)
 }
 
 /// Writes the first board's snapshot in form 2, where it is written in form 1. Writes `form 2`.
 pub fn migrate<K: Sink, N: Nor>(alloc: Global, out: &mut K, boards: &mut Vec<N>) -> Status
-    ensures done { (form : ℕ) → FirstInForm form (map N.device boards.old.items)
-        → ToolDone result (verb_rule (FirstAs (map N.device boards.old.items)) (migrate_ending (length boards.old.items) form)
-        (MigratedOn form) (StopsOn (migrate_trail form)))
-        ⊥ (tool_outside (K.written out.old) (K.faults out.old) (map N.device boards.old.items))
-        (tool_outside (K.written out.new) (K.faults out.new) (map N.device boards.new.items)) }
-    ensures writes { K.faults out.old ≤ K.faults out.new }
+    ensures does { (rest : Outside) → MigrateDone result
+        (with_boards (map N.device boards.old.items) (with_output (K.Sink, out.old) rest))
+        (with_boards (map N.device boards.new.items) (with_output (K.Sink, out.new) rest)) }
 {
-    let text = migrate_boards(alloc, boards);
-    end(alloc, out, text)
+    let came = migrate_first(alloc, boards.as_mut_slice());
+    answer(alloc, out, came)
 }

@@ -2,25 +2,22 @@
 ghost use Rattle.std.specs.Prelude.{◌≡◌, ◌≢◌, ◌≤◌, ◌<◌, ◌+◌, ◌-◌, ◌++◌, ◌∷◌, [], ℕ, List, Option, Some, OnOk, IfOk, codes, map};
 ghost use Rattle.std.specs.Prelude.{length};
 ghost use Rattle.std.specs.List.{flat_map, range_with_len};
-ghost use Rattle.dg_nor.specs.Reads.{Looked, ReadStopped};
 ghost use Rattle.dg_slot.specs.Kept.{Held, KeepsImage};
 ghost use Rattle.dg_volume.specs.Sizes.{images};
 ghost use Rattle.dg_volume.specs.Store.{App, Store, held};
 ghost use Rattle.dg_volume.specs.Stands.{Mounted, IsMounted, Tells};
 ghost use Rattle.dg_volume.specs.Told.{told_held, program_told};
-ghost use Rattle.dg_tool.specs.Texts.{numbers, line};
-ghost use Rattle.dg_tool.specs.Endings.{StandsAs, FirstAs, Ends};
+ghost use Rattle.dg_end.specs.Texts.{numbers, line};
 ghost use Rattle.dg_tool.specs.Verbs.{program_line, order_line, waived_word, commits_text, kept_line, kept_lines, ping_text};
-ghost use Rattle.dg_tool.specs.Verbs.{ping_on, ping_ending};
-ghost use Rattle.dg_tool.specs.Done.{verb_rule};
-ghost use Rattle.dg_tool.specs.Stops.{ReadsOn, OnStore, OnBoard, OnBoards, result_status, result_text};
+ghost use Rattle.dg_tool.specs.Verbs.{ping_on};
+ghost use Rattle.dg_tool.specs.Done.{OnBoards};
+ghost use Rattle.dg_end.specs.Lines.{outcome};
+ghost use Rattle.dg_tool.specs.Inner.{ReadsOn};
+ghost use Rattle.dg_tool.specs.Rules.{reading_rule};
 
-use crate::board::mount;
-use crate::pages::read_first;
-use crate::stop::{Stop, or_memory};
-use crate::text::{push_line, push_numbers, push_words};
-use dg_base::Status;
+use crate::pages::{PageFault, read_first};
 use dg_control::{GOLDEN, IMAGES, Order, Program};
+use dg_end::{End, push_line, push_numbers, push_words};
 use dg_nor::Nor;
 use dg_object::Descriptor;
 use dg_volume::{Kept, Volume};
@@ -112,7 +109,12 @@ fn push_named(text: &mut Vec<u8>, image: u8, kept: &Kept, name: &[u8]) -> Result
 }
 
 /// Appends the line of an image of which this is kept.
-fn push_kept<N: Nor>(text: &mut Vec<u8>, image: u8, kept: &Kept, nor: &mut N) -> Result<(), Stop>
+fn push_kept<N: Nor>(
+    text: &mut Vec<u8>,
+    image: u8,
+    kept: &Kept,
+    nor: &mut N,
+) -> Result<(), PageFault>
     requires known_image { image < images }
     requires keeps { (h : Held) × KeepsImage (N.device nor.old).image image h × (kept.now ≡ told_held h) }
     ensures told { OnOk result ((h : Held) → KeepsImage (N.device nor.old).image image h → kept.now ≡ told_held h
@@ -120,10 +122,12 @@ fn push_kept<N: Nor>(text: &mut Vec<u8>, image: u8, kept: &Kept, nor: &mut N) ->
     ensures ends { ReadsOn result (N.device nor.old) (N.device nor.new) }
 {
     if kept.done == 0 {
-        return or_memory(push_named(text, image, kept, b"-"));
+        push_named(text, image, kept, b"-")?;
+        return Ok(());
     }
     let first = read_first(nor, image)?;
-    or_memory(push_named(text, image, kept, first.name.as_slice()))
+    push_named(text, image, kept, first.name.as_slice())?;
+    Ok(())
 }
 
 /// Appends the line of an image, where something is kept of it.
@@ -132,7 +136,7 @@ fn push_image<N: Nor>(
     image: u8,
     nor: &mut N,
     volume: &Volume,
-) -> Result<(), Stop>
+) -> Result<(), PageFault>
     requires known_image { image < images }
     requires mounted { IsMounted (N.device nor.old).image volume.now }
     ensures told { OnOk result ((s : Store) → Mounted (N.device nor.old).image volume.now s
@@ -146,7 +150,7 @@ fn push_image<N: Nor>(
 }
 
 /// Appends the lines of the images behind golden.
-fn push_images<N: Nor>(text: &mut Vec<u8>, nor: &mut N, volume: &Volume) -> Result<(), Stop>
+fn push_images<N: Nor>(text: &mut Vec<u8>, nor: &mut N, volume: &Volume) -> Result<(), PageFault>
     requires mounted { IsMounted (N.device nor.old).image volume.now }
     ensures told { OnOk result ((s : Store) → Mounted (N.device nor.old).image volume.now s
         → text.new.items ≡ text.old.items ++ kept_lines s) }
@@ -159,55 +163,30 @@ fn push_images<N: Nor>(text: &mut Vec<u8>, nor: &mut N, volume: &Volume) -> Resu
 }
 
 /// Tells what a board keeps that is mounted.
-fn ping_mounted<N: Nor>(alloc: Global, nor: &mut N, volume: &Volume) -> Result<Vec<u8>, Stop>
+fn ping_mounted<N: Nor>(alloc: Global, nor: &mut N, volume: &Volume) -> Result<Vec<u8>, PageFault>
     requires mounted { IsMounted (N.device nor.old).image volume.now }
     ensures told { IfOk result (λ text. (s : Store) → Mounted (N.device nor.old).image volume.now s → text.items ≡ ping_text s) }
     ensures ends { ReadsOn result (N.device nor.old) (N.device nor.new) }
 {
     let mut text = Vec::new(alloc);
     let golden = read_first(nor, GOLDEN)?;
-    or_memory(push_golden(&mut text, &golden))?;
-    or_memory(push_commits(&mut text, volume))?;
+    push_golden(&mut text, &golden)?;
+    push_commits(&mut text, volume)?;
     push_images(&mut text, nor, volume)?;
     Ok(text)
 }
 
-/// Tells what a board keeps.
-fn ping_on<N: Nor>(alloc: Global, nor: &mut N) -> Result<Vec<u8>, Stop>
-    ensures done { OnBoard (result_status result)
-        (verb_rule (StandsAs (N.device nor.old).image) ping_on (λ chip. Looked) (λ chip. ReadStopped))
-        (result_text (λ text. text.items) result) (N.device nor.old) (N.device nor.new) }
-    ensures unchanged { (N.device nor.new).image ≡ (N.device nor.old).image }
-{
-    match mount(nor) {
-        Ok(volume) => ping_mounted(alloc, nor, &volume),
-        Err(stop) => Err(stop),
-    }
-}
-
 /// Tells what the first of the boards keeps.
-fn ping_first<N: Nor>(alloc: Global, boards: &mut [N]) -> Result<Vec<u8>, Stop>
-    ensures done { OnBoards (result_status result)
-        (verb_rule (FirstAs (map N.device boards.old)) (ping_ending (length boards.old)) (λ chip. Looked) (λ chip. ReadStopped))
-        (result_text (λ text. text.items) result) (map N.device boards.old) (map N.device boards.new) }
+pub(crate) fn ping_first<N: Nor>(alloc: Global, boards: &mut [N]) -> Result<Vec<u8>, End>
+    ensures done { OnBoards (outcome (λ text. text.items) result) (reading_rule (map N.device boards.old) ping_on) ⊥
+        (map N.device boards.old) (map N.device boards.new) }
     ensures unchanged { map (λ board. (N.device board).image) boards.new ≡ map (λ board. (N.device board).image) boards.old }
-    ensures unread { result_status result ≢ Status.ReadFault }
 {
     if boards.is_empty() {
-        return Err(Stop::NoBoard);
+        return Err(End::NoBoard { need: 1, have: 0 });
     }
-    ping_on(alloc, &mut boards[0])
-}
-
-/// Tells what the first board keeps.
-pub(crate) fn ping_boards<N: Nor>(alloc: Global, boards: &mut Vec<N>) -> Result<Vec<u8>, Stop>
-    ensures done { OnBoards (result_status result)
-        (verb_rule (FirstAs (map N.device boards.old.items)) (ping_ending (length boards.old.items))
-        (λ chip. Looked) (λ chip. ReadStopped))
-        (result_text (λ text. text.items) result) (map N.device boards.old.items) (map N.device boards.new.items) }
-    ensures unchanged { map (λ board. (N.device board).image) boards.new.items
-        ≡ map (λ board. (N.device board).image) boards.old.items }
-    ensures unread { result_status result ≢ Status.ReadFault }
-{
-    ping_first(alloc, boards.as_mut_slice())
+    let nor = &mut boards[0];
+    let volume = Volume::mount(nor)?;
+    let text = ping_mounted(alloc, nor, &volume)?;
+    Ok(text)
 }

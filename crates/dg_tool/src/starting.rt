@@ -1,16 +1,15 @@
 //! The verb `boot`.
-ghost use Rattle.std.specs.Prelude.{◌≡◌, ◌≢◌, map, length, IfOk};
+ghost use Rattle.std.specs.Prelude.{◌≡◌, map, IfOk};
 ghost use Rattle.dg_volume.specs.Start.{Runs};
+ghost use Rattle.dg_end.specs.Lines.{outcome};
 ghost use Rattle.dg_tool.specs.Started.{TellsStarted};
-ghost use Rattle.dg_tool.specs.Endings.{StandsAs, FirstAs};
-ghost use Rattle.dg_tool.specs.Verbs.{start_text, power_boot, boot_on, boot_ending};
-ghost use Rattle.dg_tool.specs.Done.{verb_rule, BootedOn, StopsOn};
-ghost use Rattle.dg_tool.specs.Stops.{OnBoard, OnBoards, result_status, result_text};
+ghost use Rattle.dg_tool.specs.Verbs.{start_text};
+ghost use Rattle.dg_tool.specs.Done.{OnBoards};
+ghost use Rattle.dg_tool.specs.Rules.{boot_rule};
 
-use crate::stop::{Stop, or_memory};
-use crate::text::push_words;
-use dg_base::{Status, push_hex};
-use dg_boot::{BootFault, StartCause, Started, start};
+use dg_base::push_hex;
+use dg_boot::{StartCause, Started, start};
+use dg_end::{End, push_words};
 use dg_nor::Nor;
 use std::alloc::{AllocError, Global};
 
@@ -30,41 +29,16 @@ fn start_line(alloc: Global, started: &Started) -> Result<Vec<u8>, AllocError>
     Ok(text)
 }
 
-/// Starts a board by power.
-fn boot_on<N: Nor>(alloc: Global, nor: &mut N) -> Result<Vec<u8>, Stop>
-    ensures { OnBoard (result_status result)
-        (verb_rule (StandsAs (N.device nor.old).image) boot_on (BootedOn power_boot) (StopsOn (λ s. (power_boot s).trail)))
-        (result_text (λ text. text.items) result) (N.device nor.old) (N.device nor.new) }
-{
-    match start(nor, StartCause::Power) {
-        Ok(started) => or_memory(start_line(alloc, &started)),
-        Err(BootFault::Stopped) => Err(Stop::FlashFault),
-        Err(BootFault::NotAVolume) => Err(Stop::NotAVolume),
-        Err(BootFault::NoImage) => Err(Stop::NoImage),
-    }
-}
-
-/// Starts the first of the boards by power.
-fn boot_first<N: Nor>(alloc: Global, boards: &mut [N]) -> Result<Vec<u8>, Stop>
-    ensures done { OnBoards (result_status result)
-        (verb_rule (FirstAs (map N.device boards.old)) (boot_ending (length boards.old))
-        (BootedOn power_boot) (StopsOn (λ s. (power_boot s).trail)))
-        (result_text (λ text. text.items) result) (map N.device boards.old) (map N.device boards.new) }
-    ensures unread { result_status result ≢ Status.ReadFault }
+/// Starts the first of the boards by power, and gives the line that tells of it.
+pub(crate) fn boot_first<N: Nor>(alloc: Global, boards: &mut [N]) -> Result<Vec<u8>, End>
+    ensures { OnBoards (outcome (λ text. text.items) result) (boot_rule (map N.device boards.old)) ⊥
+        (map N.device boards.old) (map N.device boards.new) }
 {
     if boards.is_empty() {
-        return Err(Stop::NoBoard);
+        return Err(End::NoBoard { need: 1, have: 0 });
     }
-    boot_on(alloc, &mut boards[0])
-}
-
-/// Starts the first board by power.
-pub(crate) fn boot_boards<N: Nor>(alloc: Global, boards: &mut Vec<N>) -> Result<Vec<u8>, Stop>
-    ensures done { OnBoards (result_status result)
-        (verb_rule (FirstAs (map N.device boards.old.items)) (boot_ending (length boards.old.items))
-        (BootedOn power_boot) (StopsOn (λ s. (power_boot s).trail)))
-        (result_text (λ text. text.items) result) (map N.device boards.old.items) (map N.device boards.new.items) }
-    ensures unread { result_status result ≢ Status.ReadFault }
-{
-    boot_first(alloc, boards.as_mut_slice())
+    let nor = &mut boards[0];
+    let started = start(nor, StartCause::Power)?;
+    let line = start_line(alloc, &started)?;
+    Ok(line)
 }

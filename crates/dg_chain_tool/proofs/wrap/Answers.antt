@@ -1,10 +1,9 @@
-use Rattle.dg_tool.proofs.EndLemmas.{ended, read_ended, input_failed}
+use Rattle.std.proofs.Common.{refl}
+use Rattle.dg_end.specs.Lines.{outcome}
+use Rattle.dg_tool.proofs.ToolLemmas.{tool_done}
 use Rattle.dg_chain_tool.proofs.wrap.Goals as goal
 
-pub returns-clause-done : goal.returns-clause-done
-returns-clause-done g c =
-    let d = c.wrap_input-text.ensures.done in (
-      d.0,
-      read_ended _ _ _ _ _ _ _ c.wrap_input-text.result c.end.result _ _ _ _ d.1 c.end.ensures.ends,
-      ended _ _ _ _ _ c.wrap_input-text.result c.end.result (input_failed _ _ _ d.2) d.3 c.end.ensures.ends,
-    )
+pub returns : goal.returns
+returns g c = record {
+  does = λ rest. tool_done _ (outcome (λ text. text.items) c.wrap_input-came.result) _ _ c.answer.ensures.ends c.answer.ensures.counts refl refl _ (c.wrap_input-came.ensures.done, refl) c.wrap_input-came.ensures.counts;
+}

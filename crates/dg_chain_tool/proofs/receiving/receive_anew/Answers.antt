@@ -1,4 +1,4 @@
-use Rattle.std.proofs.Common.{◌≡◌, ℕ, None, Some, Err, refl, sym, ap, subst, ◌∙◌}
+use Rattle.std.proofs.Common.{◌≡◌, ℕ, None, Some, Ok, Err, refl, sym, ap, subst, ◌∙◌}
 use Rattle.dg_nor.specs.Trail.{last}
 use Rattle.dg_object.specs.Object.{Outline, object, profile}
 use Rattle.dg_object.specs.Records.{outline_of}
@@ -10,12 +10,12 @@ use Rattle.dg_volume.specs.Trails.{take_trail}
 use Rattle.dg_volume.specs.Acts.{Stops}
 use Rattle.dg_volume.proofs.InjectLemmas.{older_told, begun_anew, anew_fits}
 use Rattle.dg_volume.proofs.StoreLemmas.{one_store}
-use Rattle.dg_tool.specs.Verbs.{have_text}
 use Rattle.dg_volume.specs.Filling.{new_row}
-use Rattle.dg_chain_tool.specs.Filling.{fill_to}
+use Rattle.dg_chain_tool.specs.Filling.{fill_to, end_of_fill}
+use Rattle.dg_tool.proofs.OutcomeLemmas.{at_end}
 use Rattle.dg_chain_tool.specs.Receiving.{first_foreign}
 use Rattle.dg_chain_tool.proofs.FillLemmas.{to_first}
-use Rattle.dg_chain_tool.proofs.ReceiveLemmas.{received_filled, take_fails, take_free, anew_done, anew_fill, ends_then}
+use Rattle.dg_chain_tool.proofs.ReceiveLemmas.{Received, received_whole, received_part, take_fails, take_free, anew_done, anew_fill, ends_then}
 use Rattle.dg_chain_tool.proofs.receiving.receive_anew.Goals as goal
 
 pub take-requires-clause-names_it : goal.take-requires-clause-names_it
@@ -59,8 +59,8 @@ receive_rest-requires-clause-complete g c = λ t there.
     let same = one_store _ t (last (take_trail s (profile row))) there.stands begun.mounted.stands in
     (held_begun (profile row), ap (λ (x : Store). held x row.image) same ∙ begun.here, refl)
 
-pub returns-in-Ok : goal.returns-in-Ok
-returns-in-Ok g c = record {
+pub returns-in_err-receive_rest-in-Ok : goal.returns-in_err-receive_rest-in-Ok
+returns-in_err-receive_rest-in-Ok g c = record {
   ends = λ s mounted.
       let row = new_row c.args.new.now in
       let is = c.args.new.now.is_row in
@@ -72,8 +72,31 @@ returns-in-Ok g c = record {
       let t = take_trail s (profile row) in
       let u = fill_to found 0 (last t) row.image (object row) in
       let none = take_free s row is c.requires.not_golden older (subst (λ (p : Outline). take_refusal s p ≡ None) c.profile.ensures (c.in-Ok.ensures.allowed s mounted)) in
-      received_filled (λ u. have_text row) root s row _ _ c.receive_rest.result found _ c.receive_rest.new.volume (λ u. refl) none (ap (first_foreign root (object row)) (sym (anew_done s row older))) (anew_fill root s row none older)
-      (ends_then c.receive_rest.result found t u _ _ _ c.take.new.self c.receive_rest.new.volume (sym (to_first found 0 (last t) row.image (object row))) begun.acted (c.receive_rest.ensures.ends (last t) begun.mounted));
+      let as_found = ap (first_foreign root (object row)) (sym (anew_done s row older)) in
+      let whole = anew_fill root s row none older in
+      let fault = c.in_err-receive_rest-in-Ok.field-0.0 in
+      at_end _ (Received root s row _ _) c.from_residual.result (end_of_fill fault) c.from_residual.ensures.1
+      (received_part root s row _ _ ℕ fault found _ c.receive_rest.new.volume none as_found whole
+      (ends_then {T = ℕ} (Err fault) found t u _ _ _ c.take.new.self c.receive_rest.new.volume (sym (to_first found 0 (last t) row.image (object row))) begun.acted (c.in_err-receive_rest-in-Ok.ensures.ends (last t) begun.mounted)));
+}
+
+pub returns-in_ok-receive_rest-in-Ok : goal.returns-in_ok-receive_rest-in-Ok
+returns-in_ok-receive_rest-in-Ok g c = record {
+  ends = λ s mounted.
+      let row = new_row c.args.new.now in
+      let is = c.args.new.now.is_row in
+      let opened = c.in-Ok.ensures.open in
+      let begun = begun_anew s row (outline_of c.profile.result) (g.N.Nor.device c.args.nor.now) (g.N.Nor.device c.take.new.nor) c.take.new.self c.put_back.new.self c.in-Ok.slot c.requires.known_image c.profile.ensures (c.in-Ok.ensures.acted s mounted) opened.0 opened.1 c.put_back.ensures.mounted in
+      let older = older_told c.args.volume.now s row c.requires.known_image mounted.tells c.requires.older in
+      let root = c.args.root.now in
+      let found = first_foreign root (object row) 0 in
+      let t = take_trail s (profile row) in
+      let u = fill_to found 0 (last t) row.image (object row) in
+      let none = take_free s row is c.requires.not_golden older (subst (λ (p : Outline). take_refusal s p ≡ None) c.profile.ensures (c.in-Ok.ensures.allowed s mounted)) in
+      let as_found = ap (first_foreign root (object row)) (sym (anew_done s row older)) in
+      let whole = anew_fill root s row none older in
+      received_whole root s row _ _ ℕ 0 found _ c.receive_rest.new.volume none as_found whole
+      (ends_then {T = ℕ} (Ok 0) found t u _ _ _ c.take.new.self c.receive_rest.new.volume (sym (to_first found 0 (last t) row.image (object row))) begun.acted (c.in_ok-receive_rest-in-Ok.ensures.ends (last t) begun.mounted));
 }
 
 pub returns-in-Err : goal.returns-in-Err
@@ -84,7 +107,7 @@ returns-in-Err g c = record {
       let x = c.in-Err in
       let older = older_told c.args.volume.now s row c.requires.known_image mounted.tells c.requires.older in
       let same = c.profile.ensures in
-      take_fails (λ (u : ℕ). have_text row) c.args.root.now s row (g.N.Nor.device c.args.nor.now) (g.N.Nor.device c.take.new.nor) x.fault c.take_stop.result is c.requires.not_golden older c.take_stop.ensures
+      take_fails c.args.root.now s row (g.N.Nor.device c.args.nor.now) (g.N.Nor.device c.take.new.nor) x.fault c.end_of_take.result is c.requires.not_golden older c.end_of_take.ensures
       (subst (λ (p : Outline). UnlessTakeRefused {T = ℕ} (Err x.fault) (take_refusal s p)) same (x.ensures.allowed s mounted))
       (λ other. subst (λ (p : Outline). take_refusal s p ≡ Some x.fault) same (x.ensures.refused x.fault refl other s mounted))
       (λ other. (x.ensures.unchanged x.fault refl other).0)

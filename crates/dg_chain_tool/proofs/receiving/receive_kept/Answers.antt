@@ -1,4 +1,4 @@
-use Rattle.std.proofs.Common.{◌≡◌, ℕ, true, false, List, drop, length, refl, sym, ap, subst, ◌∙◌, arith}
+use Rattle.std.proofs.Common.{◌≡◌, ℕ, true, false, List, drop, length, Ok, Err, refl, sym, ap, subst, ◌∙◌, arith}
 use Rattle.dg_object.specs.Object.{object}
 use Rattle.dg_boot.proofs.BootLemmas.{read_stops}
 use Rattle.dg_volume.specs.Changes.{is_other, FitAll}
@@ -8,12 +8,12 @@ use Rattle.dg_volume.specs.declared.volume.InjectFault.TheVariants as inject
 use Rattle.dg_volume.proofs.LendingLemmas.{keeps_told}
 use Rattle.dg_volume.proofs.PartLemmas.{part_of}
 use Rattle.dg_volume.proofs.InjectLemmas.{kept_free, kept_taken}
-use Rattle.dg_tool.specs.declared.refusal.Refusal.TheVariants as refusals
-use Rattle.dg_tool.specs.Verbs.{have_text}
+use Rattle.dg_end.specs.declared.refusal.Refusal.TheVariants as refusals
+use Rattle.dg_tool.proofs.OutcomeLemmas.{at_end}
 use Rattle.dg_volume.specs.Filling.{new_row}
-use Rattle.dg_chain_tool.specs.Filling.{fill_to}
+use Rattle.dg_chain_tool.specs.Filling.{fill_to, end_of_fill}
 use Rattle.dg_chain_tool.specs.Receiving.{first_foreign, receive_trail}
-use Rattle.dg_chain_tool.proofs.ReceiveLemmas.{received_refused, received_filled, received_stops, receive_begins, kept_done, kept_is, ends_looked}
+use Rattle.dg_chain_tool.proofs.ReceiveLemmas.{Received, received_refused, received_whole, received_part, received_stops, receive_begins, kept_done, kept_is, ends_looked}
 use Rattle.dg_chain_tool.proofs.receiving.receive_kept.Goals as goal
 
 pub returns-then-other : goal.returns-then-other
@@ -25,7 +25,7 @@ returns-then-other g c = record {
       let h = keeps.kept in
       let same = ap (λ (k : Kept). k.version) keeps.told ∙ c.requires.same_version in
       let other : is_other h row ≡ true = sym (c.in-Ok.ensures.other h keeps.stands keeps.told) ∙ c.if-other.true in
-      received_refused (λ (u : ℕ). have_text row) c.args.root.now s row _ _ inject.Taken refusals.Taken (kept_taken s row h is c.requires.not_golden keeps.here same other) refl c.in-Ok.ensures.ends;
+      received_refused c.args.root.now s row _ _ inject.Taken refusals.Taken (kept_taken s row h is c.requires.not_golden keeps.here same other) refl c.in-Ok.ensures.ends;
 }
 
 pub receive_rest-requires-clause-mounted : goal.receive_rest-requires-clause-mounted
@@ -65,8 +65,8 @@ receive_rest-requires-clause-complete g c = λ s there.
     let keeps = keeps_told _ c.args.volume.now s c.args.new.now.image c.args.kept.now c.requires.known_image mounted c.requires.kept in
     (keeps.kept, keeps.here, ap (λ (k : Kept). k.done) keeps.told)
 
-pub returns-else-other : goal.returns-else-other
-returns-else-other g c = record {
+pub returns-in_err-receive_rest-in-Ok : goal.returns-in_err-receive_rest-in-Ok
+returns-in_err-receive_rest-in-Ok g c = record {
   ends = λ s mounted.
       let row = new_row c.args.new.now in
       let is = c.args.new.now.is_row in
@@ -77,17 +77,43 @@ returns-else-other g c = record {
       let free : is_other h row ≡ false = sym (c.in-Ok.ensures.other h keeps.stands keeps.told) ∙ c.if-other.false in
       let count : c.args.kept.now.done ≡ length h.complete = sym (ap (λ (k : Kept). k.done) keeps.told) in
       let n = c.args.kept.now.done in
-      let found = first_foreign c.args.root.now (object row) n in
+      let root = c.args.root.now in
+      let found = first_foreign root (object row) n in
       let none = kept_free s row h is c.requires.not_golden keeps.here same free in
       let here = subst (λ (x : List ℕ). Mounted x c.args.volume.now s) (sym looked.same_image) mounted in
       let t = fill_to found n s row.image (drop n (object row)) in
-      received_filled (λ u. have_text row) c.args.root.now s row _ _ c.receive_rest.result found t c.receive_rest.new.volume (λ u. refl) none (ap (first_foreign c.args.root.now (object row)) (sym (kept_done s row h n keeps.here same count))) (kept_is c.args.root.now s row h n none keeps.here same count)
-      (ends_looked c.receive_rest.result found t _ _ _ c.receive_rest.new.volume looked (c.receive_rest.ensures.ends s here));
+      let as_found = ap (first_foreign root (object row)) (sym (kept_done s row h n keeps.here same count)) in
+      let whole = kept_is root s row h n none keeps.here same count in
+      let fault = c.in_err-receive_rest-in-Ok.field-0.0 in
+      at_end _ (Received root s row _ _) c.from_residual.result (end_of_fill fault) c.from_residual.ensures.1
+      (received_part root s row _ _ ℕ fault found t c.receive_rest.new.volume none as_found whole (ends_looked {T = ℕ} (Err fault) found t _ _ _ c.receive_rest.new.volume looked (c.in_err-receive_rest-in-Ok.ensures.ends s here)));
+}
+
+pub returns-in_ok-receive_rest-in-Ok : goal.returns-in_ok-receive_rest-in-Ok
+returns-in_ok-receive_rest-in-Ok g c = record {
+  ends = λ s mounted.
+      let row = new_row c.args.new.now in
+      let is = c.args.new.now.is_row in
+      let keeps = keeps_told _ c.args.volume.now s row.image c.args.kept.now c.requires.known_image mounted c.requires.kept in
+      let h = keeps.kept in
+      let same = ap (λ (k : Kept). k.version) keeps.told ∙ c.requires.same_version in
+      let looked = c.in-Ok.ensures.ends in
+      let free : is_other h row ≡ false = sym (c.in-Ok.ensures.other h keeps.stands keeps.told) ∙ c.if-other.false in
+      let count : c.args.kept.now.done ≡ length h.complete = sym (ap (λ (k : Kept). k.done) keeps.told) in
+      let n = c.args.kept.now.done in
+      let root = c.args.root.now in
+      let found = first_foreign root (object row) n in
+      let none = kept_free s row h is c.requires.not_golden keeps.here same free in
+      let here = subst (λ (x : List ℕ). Mounted x c.args.volume.now s) (sym looked.same_image) mounted in
+      let t = fill_to found n s row.image (drop n (object row)) in
+      let as_found = ap (first_foreign root (object row)) (sym (kept_done s row h n keeps.here same count)) in
+      let whole = kept_is root s row h n none keeps.here same count in
+      received_whole root s row _ _ ℕ 0 found t c.receive_rest.new.volume none as_found whole (ends_looked {T = ℕ} (Ok 0) found t _ _ _ c.receive_rest.new.volume looked (c.in_ok-receive_rest-in-Ok.ensures.ends s here));
 }
 
 pub returns-in-Err : goal.returns-in-Err
 returns-in-Err g c = record {
   ends = λ s mounted.
       let row = new_row c.args.new.now in
-      received_stops (λ (u : ℕ). have_text row) c.args.root.now s row _ _ (read_stops s (receive_trail c.args.root.now s row) _ _ (receive_begins c.args.root.now s row) mounted.stands c.in-Err.ensures.ends);
+      received_stops c.args.root.now s row _ _ (read_stops s (receive_trail c.args.root.now s row) _ _ (receive_begins c.args.root.now s row) mounted.stands c.in-Err.ensures.ends);
 }

@@ -1,4 +1,3 @@
-use Rattle.std.proofs.Common.{refl, ℕ, []}
 use Rattle.dg_object.specs.Object.{row_of}
 use Rattle.dg_chain_tool.proofs.ReceiveLemmas.{refused_at}
 use Rattle.dg_chain_tool.proofs.receiving.receive_mounted.Goals as goal
@@ -7,4 +6,5 @@ pub returns-in-Some : goal.returns-in-Some
 returns-in-Some g c = λ s mounted.
     let row = row_of c.args.image c.args.version c.args.name.now c.args.bytes.now in
     let x = c.injection_fault.ensures in
-    refused_at (λ (n : ℕ). []) c.args.root.now s row _ c.in-Some.fault c.stop_at.result (x.refusal c.in-Some.fault c.in-Some.is c.args.volume.now s c.args.name.now mounted.tells c.kept.ensures c.requires.image) (c.stop_at.ensures.refused (x.other c.in-Some.fault c.in-Some.is).0 row refl)
+    refused_at c.args.root.now s row _ c.in-Some.fault c.end_of_injection.result (x.refusal c.in-Some.fault c.in-Some.is c.args.volume.now s c.args.name.now mounted.tells c.kept.ensures c.requires.image) (x.other c.in-Some.fault c.in-Some.is).0
+    c.end_of_injection.ensures

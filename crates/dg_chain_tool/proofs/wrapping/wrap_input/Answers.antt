@@ -1,24 +1,31 @@
-use Rattle.std.proofs.Common.{◌≡◌, [], sym, ap, ◌∙◌, arith, Ok}
-use Rattle.dg_tool.proofs.InputLemmas.{whole_read, part_read, stop_fails, input_stays, input_image}
-use Rattle.dg_chain_tool.specs.Verbs.{wrap_by}
-use Rattle.dg_chain_tool.proofs.WrapLemmas.{wraps_found, wraps_calm, wrap_needs}
+use Rattle.std.proofs.Common.{◌++◌, List, ℕ, ap, ◌∙◌, Err}
+use Rattle.std.specs.Prelude.{codes}
+use Rattle.dg_base.specs.Hexadecimal.{hex_text}
+use Rattle.dg_ihex.specs.Written.{written_file}
+use Rattle.dg_end.specs.Texts.{line}
+use Rattle.dg_end.specs.declared.ends.End.TheVariants as ends
+use Rattle.dg_tool.specs.Input.{end_of_image}
+use Rattle.dg_chain.specs.Chain.{IsPayload}
+use Rattle.dg_chain_tool.specs.Verbs.{wrap_by, wrapped_text}
+use Rattle.dg_chain_tool.proofs.WrapLemmas.{fed_none, fed_wants, fed_made, fed_fault, at_text}
 use Rattle.dg_chain_tool.proofs.wrapping.wrap_input.Goals as goal
 
-pub returns-in-Ok-clause-done : goal.returns-in-Ok-clause-done
-returns-in-Ok-clause-done g c =
-    let x = c.in-Ok.ensures.read in
-    let image = c.deref.result.now in (
-      x.input,
-      whole_read _ _ _ 1 _ _ _ _ (omega arith) x,
-      wraps_calm _ c.wrap_payload.result image _ _ c.wrap_payload.ensures,
-      wraps_found _ c.wrap_payload.result image x.input (input_image x.input image wrap_by x.reads.0.0 (x.reads.0.1 ∙ ap Ok (sym c.deref.ensures.value))) c.wrap_payload.ensures,
-    )
+pub returns-in_err-payload-clause-done : goal.returns-in_err-payload-clause-done
+returns-in_err-payload-clause-done g c = at_text _ c.from_residual.result (end_of_image c.in_err-payload.field-0.0) wrap_by _ _ c.from_residual.ensures.1 (fed_none _ wrap_by c.in_err-payload.field-0.0 _ _ c.in_err-payload.ensures.read)
 
 pub returns-in-Err-clause-done : goal.returns-in-Err-clause-done
 returns-in-Err-clause-done g c =
-    let x = c.in-Err.ensures.read in (
-      x.input,
-      part_read _ c.in-Err.stop 1 _ _ _ _ (omega arith) x,
-      stop_fails c.in-Err.stop x.input _ _ _ x.reads,
-      input_stays (λ chip. Unit {0}) x.input (λ chip bytes. wrap_by bytes) (λ chip a b. b ≡ a) (λ chip a b. ⊥) [] 1 (omega arith) (λ chip bytes. wrap_needs bytes) c.in-Err.stop _ _ x.reads,
-    )
+    let x = c.in-Err in
+    let empty = rw c.deref.ensures.value at x.ensures.empty in
+    let large = rw c.deref.ensures.value at x.ensures.too_large in
+    fed_fault (λ image. image.items) c.in_ok-payload.payload x.fault c.end_of_wrap.result _ _ c.in_ok-payload.ensures.read c.end_of_wrap.ensures (λ e. empty.0 (ap (λ f. Err f) e)) (λ n e. (large n).0 (ap (λ f. Err f) e))
+
+pub returns-in_err-text-clause-done : goal.returns-in_err-text-clause-done
+returns-in_err-text-clause-done g c =
+    at_text _ c.from_residual-in_err-text.result ends.Memory wrap_by _ _ c.from_residual-in_err-text.ensures.1 (fed_wants (λ image. image.items) wrap_by c.in_ok-payload.payload _ _ c.in_ok-payload.ensures.read)
+
+pub returns-clause-done : goal.returns-clause-done
+returns-clause-done g c =
+    let payload = rw c.deref.ensures.value at c.in-Ok.ensures.payload in
+    let told = c.in_ok-text.ensures ∙ ap (λ (r : List ℕ). line (codes "root " ++ hex_text r) ++ written_file c.in-Ok.wrapped.image) c.in-Ok.ensures.root ∙ ap (λ (i : List ℕ). line (codes "root " ++ hex_text (Rattle.dg_chain.specs.Chain.root_of c.deref.result.now)) ++ written_file i) c.in-Ok.ensures.image ∙ ap wrapped_text c.deref.ensures.value in
+    fed_made (λ image. image.items) c.in_ok-payload.payload c.in_ok-text.text.items _ _ c.in_ok-payload.ensures.read payload told

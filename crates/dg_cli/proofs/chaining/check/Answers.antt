@@ -1,11 +1,18 @@
-use Rattle.std.proofs.Common.{sym}
+use Rattle.std.proofs.Common.{arith}
 use Rattle.std.proofs.lemmas.List.{length-map}
-use Rattle.dg_cli.proofs.ChainLemmas.{checked, check_nothing, root_told}
+use Rattle.dg_cli.proofs.ChainLemmas.{checked, check_none, root_told}
 use Rattle.dg_cli.proofs.chaining.check.Goals as goal
 
-pub returns-in-Ok-clause-done : goal.returns-in-Ok-clause-done
-returns-in-Ok-clause-done g c =
-    checked _ c.args.image _ c.in-Ok.root _ _ _ (sym (length-map c.args.boards.now.items g.N.Nor.device)) (root_told c.args.root.now c.in-Ok.root c.in-Ok.ensures) c.check.ensures.done c.check.ensures.named c.check.ensures.own
+pub returns-in-Ok : goal.returns-in-Ok
+returns-in-Ok g c = record {
+  does = λ rest.
+      checked c.args.image _ _ _ _ _ (root_told c.args.root.now c.in-Ok.root c.in-Ok.ensures) (record {
+        done = c.check.ensures.does rest;
+        named = c.check.ensures.named;
+        own = λ x s h payload is first here some whole same.
+            c.check.ensures.own x s h payload is first here (omega (arith, length-map c.args.boards.now.items g.N.Nor.device, some)) whole same;
+      });
+}
 
-pub returns-in-Err-clause-done : goal.returns-in-Err-clause-done
-returns-in-Err-clause-done g c = check_nothing c.args.image _ _
+pub returns-in-Err : goal.returns-in-Err
+returns-in-Err g c = record { does = λ rest. check_none c.args.image _ _ }

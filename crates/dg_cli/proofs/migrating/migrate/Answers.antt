@@ -1,10 +1,8 @@
-use Rattle.std.proofs.Common.{sym}
-use Rattle.std.proofs.lemmas.List.{length-map}
-use Rattle.dg_cli.proofs.MigrateLemmas.{migrated_done, no_link_of_migration}
+use Rattle.dg_cli.proofs.VerbLemmas.{no_link_migrate, nowhere}
 use Rattle.dg_cli.proofs.migrating.migrate.Goals as goal
 
-pub returns-clause-done : goal.returns-clause-done
-returns-clause-done g c = migrated_done _ _ _ _ (sym (length-map c.args.boards.now.items g.N.Nor.device)) c.migrate.ensures.done
+pub returns-clause-does : goal.returns-clause-does
+returns-clause-does g c = c.migrate.ensures.does
 
 pub returns-clause-link : goal.returns-clause-link
-returns-clause-link g c = no_link_of_migration c.a_volume_has_one_form.ensures.known _ _ _ _ c.migrate.ensures.done
+returns-clause-link g c = no_link_migrate c.a_volume_has_one_form.ensures.known _ _ _ (c.migrate.ensures.does nowhere)

@@ -1,9 +1,9 @@
-use Rattle.std.proofs.Common.{sym, ◌∙◌, Some, None, ℕ, [], Err}
+use Rattle.std.proofs.Common.{sym, ◌∙◌, Some, None, Err}
 use Rattle.dg_nor.specs.Reads.{Looked, ReadStopped}
 use Rattle.dg_volume.proofs.ReadLemmas.{Looked-none}
-use Rattle.dg_tool.specs.declared.refusal.Refusal.TheVariants as refusals
-use Rattle.dg_tool.specs.declared.stop.Stop.TheVariants as stops
-use Rattle.dg_tool.proofs.ComesLemmas.{refused_comes}
+use Rattle.dg_end.specs.declared.refusal.Refusal.TheVariants as refusals
+use Rattle.dg_end.specs.declared.ends.End.TheVariants as ends
+use Rattle.dg_tool.proofs.OutcomeLemmas.{refused_store}
 use Rattle.dg_tool.proofs.KeptLemmas.{held_none, held_some, kept_there, dumped_at}
 use Rattle.dg_tool.proofs.dumping.dump_mounted.Goals as goal
 
@@ -11,9 +11,9 @@ pub dump_kept-requires-clause-keeps : goal.dump_kept-requires-clause-keeps
 dump_kept-requires-clause-keeps g c = kept_there _ c.args.volume.now c.args.image c.in-Some.kept c.requires.mounted c.requires.known_image (sym c.kept.ensures ∙ c.in-Some.is)
 
 pub returns-in-None-clause-done : goal.returns-in-None-clause-done
-returns-in-None-clause-done g c = λ s mounted. dumped_at (λ (n : ℕ). []) (Err (stops.Refused refusals.Absent)) _ _ s c.args.image None (held_none _ c.args.volume.now s c.args.image mounted c.requires.known_image (sym c.kept.ensures ∙ c.in-None.is)) (refused_comes (λ (n : ℕ). []) refusals.Absent Looked ReadStopped _ _ (Looked-none _))
+returns-in-None-clause-done g c = λ s mounted. dumped_at (Err (ends.Refused refusals.Absent)) _ _ s c.args.image None (held_none _ c.args.volume.now s c.args.image mounted c.requires.known_image (sym c.kept.ensures ∙ c.in-None.is)) (refused_store Looked ReadStopped _ _ refusals.Absent (Looked-none _))
 
 pub returns-in-Some-clause-done : goal.returns-in-Some-clause-done
 returns-in-Some-clause-done g c = λ s mounted.
     let h = held_some _ c.args.volume.now s c.args.image c.in-Some.kept mounted c.requires.known_image (sym c.kept.ensures ∙ c.in-Some.is) in
-    dumped_at _ _ _ _ s c.args.image (Some h.kept) h.here (c.dump_kept.ensures.done h.kept h.keeps h.told_is)
+    dumped_at _ _ _ s c.args.image (Some h.kept) h.here (c.dump_kept.ensures.done h.kept h.keeps h.told_is)

@@ -1,39 +1,60 @@
-use Rattle.std.proofs.Common.{◌≡◌, ◌<◌, [], length, map, sym, ap, refl, ◌∙◌, arith, Ok}
-use Rattle.std.proofs.lemmas.Bool.{eqb-true, eqb-false}
-use Rattle.dg_tool.specs.Verbs.{format_sized}
+use Rattle.std.proofs.Common.{◌≡◌, ℕ, List, length, sym, ap, ◌∙◌, ⊎_elim, inl, inr, arith, Err}
+use Rattle.std.proofs.lemmas.Bool.{eqb-true}
+use Rattle.dg_end.specs.declared.ends.End.TheVariants as ends
+use Rattle.dg_tool.specs.Input.{end_of_image}
+use Rattle.dg_tool.proofs.BoardLemmas.{some_of}
+use Rattle.dg_volume.specs.declared.volume.FormatFault.TheVariants as format
 use Rattle.dg_tool.specs.Done.{IsFormatted, FormatStops}
-use Rattle.dg_tool.specs.Endings.{by_input, content_in}
-use Rattle.dg_tool.proofs.BoardLemmas.{no_board, on_any}
-use Rattle.dg_tool.proofs.InputLemmas.{none_read, whole_read, part_read, no_fail, stop_fails, input_stays, spelled}
-use Rattle.dg_tool.proofs.VerbLemmas.{sized_needs}
+use Rattle.dg_tool.proofs.InputLemmas.{at_fed, fed_nothing, err_inner, ok_unlike}
+use Rattle.dg_tool.proofs.StartLemmas.{Formatted, format_made, format_wants, format_fails, format_sizes, fed_format, unfed_format}
 use Rattle.dg_tool.proofs.formatting.format_first.Goals as goal
 
 pub returns-then-is_empty-clause-done : goal.returns-then-is_empty-clause-done
-returns-then-is_empty-clause-done g c =
-    let none : length c.args.boards.now ≡ 0 = eqb-true _ _ (sym c.is_empty.ensures ∙ c.if-is_empty.true) in (
-      [],
-      none_read (length c.args.boards.now) _ _ none,
-      tt,
-      no_board _ (λ chip. by_input [] (format_sized c.args.used)) (λ chip. IsFormatted c.args.name.now (content_in []) c.args.used c.args.form) (λ chip. FormatStops c.args.name.now (content_in []) c.args.used) (map g.N.Nor.device c.args.boards.now) (length c.args.boards.now) none,
-    )
+returns-then-is_empty-clause-done g c = fed_nothing g.N.Nor.device c.args.boards.now _ _ _ _ _ (eqb-true _ _ (sym c.is_empty.ensures ∙ c.if-is_empty.true))
 
-pub returns-in-Ok-clause-done : goal.returns-in-Ok-clause-done
-returns-in-Ok-clause-done g c =
-    let some : 0 < length c.args.boards.now = omega (arith, eqb-false _ _ (sym c.is_empty.ensures ∙ c.if-is_empty.false)) in
-    let x = c.in-Ok.ensures.read in (
-      x.input,
-      whole_read _ _ _ (length c.args.boards.now) _ _ _ _ some x,
-      no_fail _ _ _ c.format_on.ensures.of_board,
-      on_any g.N.Nor.device c.args.boards.now _ _ _ (λ chip. by_input x.input (format_sized c.args.used)) (λ chip. IsFormatted c.args.name.now (content_in x.input) c.args.used c.args.form) (λ chip. FormatStops c.args.name.now (content_in x.input) c.args.used) _ (length c.args.boards.now) refl some
-          (spelled _ _ (λ chip. format_sized c.args.used) (λ golden chip. IsFormatted c.args.name.now golden c.args.used c.args.form) (λ golden chip. FormatStops c.args.name.now golden c.args.used) _ _ _ x.input c.deref.result.now x.reads.0.0 (x.reads.0.1 ∙ ap Ok (sym c.deref.ensures.value)) c.format_on.ensures),
-    )
+pub returns-in_err-golden-clause-done : goal.returns-in_err-golden-clause-done
+returns-in_err-golden-clause-done g c =
+    at_fed _ c.from_residual.result (end_of_image c.in_err-golden.field-0.0) _ _ _ _ _ c.from_residual.ensures.1
+    (unfed_format g.N.Nor.device c.args.boards.now c.args.name.now c.args.used c.args.form _ c.in_err-golden.field-0.0 _ _ (some_of _ (sym c.is_empty.ensures ∙ c.if-is_empty.false)) c.in_err-golden.ensures.read)
 
 pub returns-in-Err-clause-done : goal.returns-in-Err-clause-done
 returns-in-Err-clause-done g c =
-    let some : 0 < length c.args.boards.now = omega (arith, eqb-false _ _ (sym c.is_empty.ensures ∙ c.if-is_empty.false)) in
-    let x = c.in-Err.ensures.read in (
-      x.input,
-      part_read _ c.in-Err.stop (length c.args.boards.now) _ _ _ _ some x,
-      stop_fails c.in-Err.stop x.input _ _ _ x.reads,
-      input_stays _ x.input (λ chip. format_sized c.args.used) (λ chip. IsFormatted c.args.name.now (content_in x.input) c.args.used c.args.form) (λ chip. FormatStops c.args.name.now (content_in x.input) c.args.used) (map g.N.Nor.device c.args.boards.now) (length c.args.boards.now) some (λ chip. sized_needs c.args.used) c.in-Err.stop _ _ x.reads,
-    )
+    let golden = c.in_ok-golden.golden in
+    let x = c.in-Err in
+    let empty = rw c.deref.ensures.value at x.ensures.empty in
+    let large = rw c.deref.ensures.value at x.ensures.too_large in
+    let first = rw c.deref.ensures.value at x.ensures.golden_first in
+    let halted = rw c.deref.ensures.value at x.ensures.halted in
+    let size : c.len.result ≡ length golden.items = omega (arith, c.len.ensures, c.deref.ensures.len, ap (λ (b : List ℕ). length b) c.deref.ensures.value) in
+    fed_format g.N.Nor.device c.args.boards.now _ _ c.args.name.now c.args.used c.args.form (λ image. image.items) golden _ _ _ (some_of _ (sym c.is_empty.ensures ∙ c.if-is_empty.false)) c.in_ok-golden.ensures.read
+    (format_sizes c.len.result _ _ x.fault (Formatted c.args.used golden.items (IsFormatted c.args.name.now golden.items c.args.used c.args.form) (FormatStops c.args.name.now golden.items c.args.used) _ _) size c.end_of_format.ensures
+    (format_fails c.args.used golden.items (IsFormatted c.args.name.now golden.items c.args.used c.args.form) (FormatStops c.args.name.now golden.items c.args.used) _ _ x.fault
+    (λ e. empty.0 (ap (λ f. Err f) e)) (λ none. err_inner {T = Unit {0}} x.fault format.Empty (empty.1 none)) (λ e. large.0 (ap (λ f. Err f) e)) (λ more. err_inner {T = Unit {0}} x.fault format.TooLarge (large.1 more))
+    (λ e. x.ensures.refused (⊎_elim (λ p. inl (ap (λ f. Err f) p)) (λ p. inr (ap (λ f. Err f) p)) e))
+    (λ e. record { halted = halted (ap (λ f. Err f) e); golden_first = first (ap (λ f. Err f) e) })
+    (λ e. let s = x.ensures.stopped (ap (λ f. Err f) e) in record { stopped = s.stopped; cause = s.cause })))
+
+pub returns-in_err-line-clause-done : goal.returns-in_err-line-clause-done
+returns-in_err-line-clause-done g c =
+    let golden = c.in_ok-golden.golden in
+    let x = c.in-Ok.ensures in
+    let empty = rw c.deref.ensures.value at x.empty in
+    let large = rw c.deref.ensures.value at x.too_large in
+    let formatted = rw c.deref.ensures.value at x.formatted in
+    let ran = rw c.deref.ensures.value at x.ran in
+    at_fed _ c.from_residual-in_err-line.result ends.Memory _ _ _ _ _ c.from_residual-in_err-line.ensures.1
+    (fed_format g.N.Nor.device c.args.boards.now _ _ c.args.name.now c.args.used c.args.form (λ image. image.items) golden _ _ _ (some_of _ (sym c.is_empty.ensures ∙ c.if-is_empty.false)) c.in_ok-golden.ensures.read
+    (format_wants c.args.used golden.items (IsFormatted c.args.name.now golden.items c.args.used c.args.form) (FormatStops c.args.name.now golden.items c.args.used) _ _
+    (λ none. ok_unlike _ _ (empty.1 none)) (λ more. ok_unlike _ _ (large.1 more)) (record { ran = ran; stands = formatted; written = x.form })))
+
+pub returns-clause-done : goal.returns-clause-done
+returns-clause-done g c =
+    let golden = c.in_ok-golden.golden in
+    let x = c.in-Ok.ensures in
+    let empty = rw c.deref.ensures.value at x.empty in
+    let large = rw c.deref.ensures.value at x.too_large in
+    let formatted = rw c.deref.ensures.value at x.formatted in
+    let ran = rw c.deref.ensures.value at x.ran in
+    fed_format g.N.Nor.device c.args.boards.now _ _ c.args.name.now c.args.used c.args.form (λ image. image.items) golden _ _ _ (some_of _ (sym c.is_empty.ensures ∙ c.if-is_empty.false)) c.in_ok-golden.ensures.read
+    (format_made c.args.used golden.items (IsFormatted c.args.name.now golden.items c.args.used c.args.form) (FormatStops c.args.name.now golden.items c.args.used) _ _ c.in_ok-line.line.items
+    (λ none. ok_unlike _ _ (empty.1 none)) (λ more. ok_unlike _ _ (large.1 more)) c.in_ok-line.ensures (record { ran = ran; stands = formatted; written = x.form }))

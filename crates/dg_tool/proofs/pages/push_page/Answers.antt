@@ -6,7 +6,7 @@ use Rattle.dg_nor.proofs.ChipLemmas.{length-sector}
 use Rattle.dg_slot.specs.Layout.{packet_size, page_size, page_sector}
 use Rattle.dg_volume.proofs.ReadLemmas.{Looked-none, Looked_then}
 use Rattle.dg_tool.proofs.PageLemmas.{packet_none, packet_more, page_grown}
-use Rattle.dg_tool.proofs.ComesLemmas.{reads_err}
+use Rattle.dg_tool.proofs.ReadLemmas.{reads_err}
 use Rattle.dg_tool.proofs.pages.push_page.Goals as goal
 
 pub loop-packet-init : goal.loop-packet-init
@@ -26,7 +26,7 @@ loop-packet-preserved g c =
     }
 
 pub returns-in_err-push_packet-clause-ends : goal.returns-in_err-push_packet-clause-ends
-returns-in_err-push_packet-clause-ends g c = reads_err c.from_residual.result c.in_err-push_packet.field-0.0 _ _ _ c.from_residual.ensures.1 c.loop-packet.invariant.looked c.in_err-push_packet.ensures.ends
+returns-in_err-push_packet-clause-ends g c = reads_err ℕ c.from_residual.result c.in_err-push_packet.field-0.0 _ _ _ c.from_residual.ensures.1 c.loop-packet.invariant.looked c.in_err-push_packet.ensures.ends
 
 pub returns-clause-grown : goal.returns-clause-grown
 returns-clause-grown g c =

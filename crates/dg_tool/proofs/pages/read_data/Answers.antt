@@ -4,7 +4,7 @@ use Rattle.dg_slot.specs.Layout.{page_size, page_sector}
 use Rattle.dg_slot.specs.Pages.{page_in}
 use Rattle.dg_volume.proofs.ReadLemmas.{Looked_then}
 use Rattle.dg_tool.proofs.PageLemmas.{page_more, data_kept}
-use Rattle.dg_tool.proofs.ComesLemmas.{reads_err}
+use Rattle.dg_tool.proofs.ReadLemmas.{reads_err}
 use Rattle.dg_tool.proofs.pages.read_data.Goals as goal
 
 pub loop-page-preserved : goal.loop-page-preserved
@@ -24,7 +24,7 @@ loop-page-preserved g c =
     }
 
 pub returns-in_err-push_page-clause-ends : goal.returns-in_err-push_page-clause-ends
-returns-in_err-push_page-clause-ends g c = reads_err c.from_residual.result c.in_err-push_page.field-0.0 _ _ _ c.from_residual.ensures.1 c.loop-page.invariant.looked c.in_err-push_page.ensures.ends
+returns-in_err-push_page-clause-ends g c = reads_err ℕ c.from_residual.result c.in_err-push_page.field-0.0 _ _ _ c.from_residual.ensures.1 c.loop-page.invariant.looked c.in_err-push_page.ensures.ends
 
 pub returns-clause-bytes : goal.returns-clause-bytes
 returns-clause-bytes g c = λ h keeps whole.

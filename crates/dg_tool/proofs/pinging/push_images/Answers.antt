@@ -5,8 +5,8 @@ use Rattle.dg_volume.specs.Store.{held}
 use Rattle.dg_volume.proofs.ReadLemmas.{Looked_then}
 use Rattle.dg_boot.proofs.BootLemmas.{mounted_looked}
 use Rattle.dg_tool.specs.Verbs.{kept_line}
-use Rattle.dg_tool.proofs.TextLemmas.{lines_more}
-use Rattle.dg_tool.proofs.ComesLemmas.{reads_err}
+use Rattle.dg_end.proofs.TextLemmas.{lines_more}
+use Rattle.dg_tool.proofs.ReadLemmas.{reads_err}
 use Rattle.dg_tool.proofs.pinging.push_images.Goals as goal
 
 pub loop-image-preserved : goal.loop-image-preserved
@@ -21,7 +21,7 @@ loop-image-preserved g c =
     }
 
 pub returns-in_err-push_image-clause-ends : goal.returns-in_err-push_image-clause-ends
-returns-in_err-push_image-clause-ends g c = reads_err c.from_residual.result c.in_err-push_image.field-0.0 _ _ _ c.from_residual.ensures.1 c.loop-image.invariant.looked c.in_err-push_image.ensures.ends
+returns-in_err-push_image-clause-ends g c = reads_err ℕ c.from_residual.result c.in_err-push_image.field-0.0 _ _ _ c.from_residual.ensures.1 c.loop-image.invariant.looked c.in_err-push_image.ensures.ends
 
 pub returns-clause-told : goal.returns-clause-told
 returns-clause-told g c = λ s mounted.

@@ -1,0 +1,90 @@
+-- No verb over one board speaks of a link.
+use Rattle.std.proofs.Common.{◌≡◌, ◌⊎◌, ⊎_elim, ℕ, ◌==◌, nat_lt, if◌then◌else◌, Bool, true, false, List, [], ◌∷◌, length, None, Result, Ok, Err, sym, subst}
+use Rattle.dg_words.specs.Counts.{Rose}
+use Rattle.dg_base.specs.Sizes.{most_input}
+use Rattle.dg_base.specs.declared.answers.Status.{Status}
+use Rattle.dg_base.specs.declared.answers.Status.TheVariants as statuses
+use Rattle.dg_ihex.specs.Files.{hex_file}
+use Rattle.dg_ihex.specs.declared.faults.HexFileFault.{HexFileFault}
+use Rattle.dg_nor.specs.Device.{Device}
+use Rattle.dg_control.specs.Store.{HasForm}
+use Rattle.dg_volume.specs.Sizes.{old_form, new_form}
+use Rattle.dg_volume.specs.Store.{Store}
+use Rattle.dg_volume.specs.Stands.{Stands}
+use Rattle.dg_outside.specs.Outside.{Outside, OutputTold}
+use Rattle.dg_end.specs.Lines.{Outcome}
+use Rattle.dg_end.specs.Finished.{Answered}
+use Rattle.dg_end.specs.declared.ends.End.TheVariants as ends
+use Rattle.dg_end.proofs.AnswerLemmas.{answered_status, link_came}
+use Rattle.dg_chain.specs.Chain.{most_payload}
+use Rattle.dg_tool.specs.Endings.{Ending, outcome_of, by_file, by_input, FirstInForm}
+use Rattle.dg_tool.specs.Done.{IsOfVerb, VerbRule, FirstDone, InputDone}
+use Rattle.dg_tool.specs.Rules.{MigrateDone}
+use Rattle.dg_chain_tool.specs.Verbs.{wrap_by}
+use Rattle.dg_chain_tool.specs.Done.{TextComes, WrapDone}
+
+-- ---- the link
+
+link_told : (status : Status) (came : Outcome) (a b : OutputTold) → status ≡ statuses.LinkFault → Answered status came a b → came ≡ Err ends.LinkFault
+link_told status came a b e h =
+    let told : Answered statuses.LinkFault came a b = subst (λ (s : Status). Answered s came a b) e h in
+    link_came came (answered_status statuses.LinkFault came a b told (λ x. cc) (λ x. cc))
+
+no_link : (status : Status) (came : Outcome) (a b : OutputTold) → IsOfVerb came → Answered status came a b → status ≡ statuses.LinkFault → ⊥
+no_link status came a b verb h e = subst IsOfVerb (link_told status came a b e h) verb
+
+pub no_link_first : (status : Status) (rule : VerbRule) (a b : Outside) → FirstDone status rule a b → status ≡ statuses.LinkFault → ⊥
+no_link_first status rule a b h e = no_link status h.came a.output b.output h.does.0.of_verb h.answered e
+
+pub no_link_input : (status : Status) (rule : List ℕ → VerbRule) (a b : Outside) → InputDone status rule a b → status ≡ statuses.LinkFault → ⊥
+no_link_input status rule a b h e = no_link status h.came a.output b.output h.does.did.of_verb h.answered e
+
+-- ---- wrap
+
+of_either : (t : Bool) (x y : Ending) → IsOfVerb (outcome_of x) → IsOfVerb (outcome_of y) → IsOfVerb (outcome_of (if t then x else y))
+of_either true x y h k = h
+of_either false x y h k = k
+
+wrap_of_verb : (x : List ℕ) → IsOfVerb (outcome_of (wrap_by x))
+wrap_of_verb x = of_either (length x == 0) _ _ tt (of_either (nat_lt most_payload (length x)) _ _ tt tt)
+
+file_of_verb : (r : Result (List ℕ) HexFileFault) → IsOfVerb (outcome_of (by_file r wrap_by))
+file_of_verb (Ok image) = wrap_of_verb image
+file_of_verb (Err fault) = tt
+
+input_of_verb : (input : List ℕ) → IsOfVerb (outcome_of (by_input input wrap_by))
+input_of_verb input = of_either (nat_lt most_input (length input)) _ _ tt (file_of_verb (hex_file input))
+
+no_link_text : (came : Outcome) (ending : Ending) (read_failed : Type 0) → IsOfVerb (outcome_of ending) → TextComes came ending read_failed → came ≡ Err ends.LinkFault → ⊥
+no_link_text came ending read_failed verb h e =
+    let is : Err ends.LinkFault ≡ outcome_of ending = subst (λ (c : Outcome). TextComes c ending read_failed) e h in
+    subst IsOfVerb (sym is) verb
+
+pub no_link_wrap : (status : Status) (a b : Outside) → WrapDone status a b → status ≡ statuses.LinkFault → ⊥
+no_link_wrap status a b h e =
+    no_link_text h.came (by_input h.does.0.bytes wrap_by) (Rose a.input.reads b.input.reads) (input_of_verb h.does.0.bytes) h.does.0.comes (link_told status h.came a.output b.output e h.answered)
+
+-- ---- migrate, by the form of the first board
+
+abbrev pub FormLaw : Type 0
+FormLaw = (c : List ℕ) (s : Store) → Stands c s → HasForm c old_form ⊎ HasForm c new_form
+
+-- a first board has one of the two forms, if it is a volume
+some_form : FormLaw → (old : List Device) → ((form : ℕ) → FirstInForm form old → ⊥) → ⊥
+some_form law [] none = none 0 tt
+some_form law (board ∷ boards) none =
+    none old_form (λ v. absurd (⊎_elim (λ h. none old_form (λ _. h)) (λ h. none new_form (λ _. h)) (law board.image v.0 v.1)))
+
+-- any outside, of a call that says its clause for each
+pub nowhere : Outside
+nowhere = record {
+  input = record { left = None; reads = 0 };
+  output = record { written = None; writes = 0 };
+  link = record { inboxes = None; failures = 0 };
+  clock = None;
+  boards = [];
+}
+
+pub no_link_migrate : FormLaw → (status : Status) (a b : Outside) → MigrateDone status a b → status ≡ statuses.LinkFault → ⊥
+no_link_migrate law status a b h e =
+    some_form law a.boards (λ form first. no_link status h.came a.output b.output (h.does.0 form first).of_verb h.answered e)

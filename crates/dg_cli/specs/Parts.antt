@@ -1,0 +1,30 @@
+-- The parts of the outside that some commands are said of (docs/COMMANDS.md, "How a command ends").
+use Rattle.dg_outside.specs.Outside.{Outside}
+use Rattle.dg_replay.specs.Around.{Around}
+use Rattle.dg_drip_run.specs.AroundDrip.{AroundDrip, around_drip}
+use Rattle.dg_serve.specs.Served.{Outside as ServiceOutside}
+
+-- the input, the output and the boards
+abbrev pub around_of : Outside → Around
+around_of a = record {
+  left = a.input.left;
+  reads = a.input.reads;
+  written = a.output.written;
+  writes = a.output.writes;
+  boards = a.boards;
+}
+
+-- what a service has outside of it, its input aside
+abbrev pub service_of : Outside → ServiceOutside
+service_of a = record {
+  written = a.output.written;
+  faults = a.output.writes;
+  clock = a.clock;
+  inboxes = a.link.inboxes;
+  failures = a.link.failures;
+  boards = a.boards;
+}
+
+-- the input and the output
+abbrev pub drip_of : Outside → AroundDrip
+drip_of a = around_drip a.input.left a.input.reads a.output.written a.output.writes

@@ -1,0 +1,26 @@
+-- How a command is finished that came to its outcome: at most one write, and its status (docs/COMMANDS.md, "How a command ends").
+use Rattle.std.specs.Prelude.{◌≡◌, ◌⊎◌, ℕ, List, Option, Some, None, Result}
+use Rattle.dg_words.specs.Counts.{Rose}
+use Rattle.dg_base.specs.Outside.{Puts, PutsFront}
+use Rattle.dg_base.specs.declared.answers.Status.{Status}
+use Rattle.dg_base.specs.declared.answers.Status.TheVariants as statuses
+use Rattle.dg_outside.specs.Outside.{OutputTold}
+use Rattle.dg_end.specs.Lines.{Outcome, outcome_status, outcome_line, end_line}
+use Rattle.dg_end.specs.declared.ends.End.{End}
+
+-- A line was written whole, and the status is this one; or the write failed behind a front of it; or memory ran out before it.
+-- Where there is no line nothing was written.
+abbrev pub WritesLast : (status wanted : Status) → Option (List ℕ) → OutputTold → OutputTold → Type 0
+WritesLast status wanted None a b = (status ≡ wanted) × (b ≡ a)
+WritesLast status wanted (Some text) a b =
+    ((status ≡ wanted) × Puts a.written b.written text × (b.writes ≡ a.writes))
+    ⊎ ((status ≡ statuses.WriteFault) × PutsFront a.written b.written text × Rose a.writes b.writes)
+    ⊎ ((status ≡ statuses.Memory) × (b ≡ a))
+
+-- a command wrote its answer, or its last line
+abbrev pub Answered : (status : Status) → Outcome → OutputTold → OutputTold → Type 0
+Answered status came a b = WritesLast status (outcome_status came) (outcome_line came) a b
+
+-- a command that wrote its answer before wrote its last line
+abbrev pub Finished : {T : Type 0} → (status : Status) → Result T End → OutputTold → OutputTold → Type 0
+Finished status came a b = WritesLast status (outcome_status came) (end_line came) a b

@@ -1,0 +1,4 @@
+pub mod Texts
+pub mod Lines
+pub mod Widened
+pub mod Finished
