@@ -24,8 +24,8 @@ pub fn is_read_back(message: &Message)
     fits_types(message);
 }
 
-/// Why a reader that is wide or narrow refuses the frame of a message, if it does. It reads the message else. The fields of
-/// the message are in the ranges of a wide reader.
+/// Why a reader, wide or narrow, refuses the frame of a message. None where it reads the frame as the message. The fields of the
+/// message are in the ranges of a wide reader.
 #[inline(always)]
 pub fn refusal(message: &Message, wide: bool) -> Option<FrameFault>
     requires { in_range true message.now ≡ true }
@@ -41,7 +41,7 @@ pub fn refusal(message: &Message, wide: bool) -> Option<FrameFault>
     narrow_refusal(message)
 }
 
-/// Why a narrow reader refuses the frame of a message, if it does. It is no part of its caller, who mostly reads widely.
+/// Why a narrow reader refuses the frame of a message. It is not inlined: most readers are wide.
 #[inline(never)]
 fn narrow_refusal(message: &Message) -> Option<FrameFault>
     requires { in_range true message.now ≡ true }

@@ -58,8 +58,8 @@ impl Mote {
         }
     }
 
-    /// Hears the frame of a message, which was sent in the same memory: it does what [`Mote::hear`] does with the bytes of that
-    /// frame, and needs none of them. The fields of the message are in the ranges of a wide reader.
+    /// Hears the frame of a message: does what [`Mote::hear`] does with the bytes of that frame, without making them. The fields
+    /// of the message are in the ranges of a wide reader. A world that keeps what was sent as messages calls it.
     pub fn hear_sent<N: Nor>(
         &mut self,
         nor: &mut N,

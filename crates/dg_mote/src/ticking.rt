@@ -117,7 +117,7 @@ impl Mote {
         }
     }
 
-    /// The same, apart from the ticks of a mote that maintains, which are most of them.
+    /// The same, for a mote that receives or serves. It is not inlined: most ticks are of motes that maintain.
     #[inline(never)]
     fn tick_busy<N: Nor>(
         &mut self,

@@ -9,7 +9,7 @@ use dg_base::{Sink, WriteFailed};
 use dg_script::{Line, LineFault, Place, read_line};
 use std::alloc::Global;
 
-/// Writes a piece. It is no part of its callers: most lines report nothing.
+/// Writes a piece. It is not inlined: most lines report nothing.
 #[inline(never)]
 pub fn put_piece<K: Sink>(out: &mut K, piece: &[u8]) -> Result<(), Stop>
     ensures ok { OnOk result (Puts (K.written out.old) (K.written out.new) piece.now) }

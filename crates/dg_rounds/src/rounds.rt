@@ -130,12 +130,16 @@ fn passed(from: u8, to: u8) -> Event
     }
 }
 
-/// The four events of which a round is made.
+/// The four events of which a round is made. Most of them come many times in it.
 #[derive(Debug, Drop)]
 pub struct RoundTurns {
+    /// A tick at the mote that brings the page.
     pub(crate) first: Event,
+    /// A tick at the mote that takes it.
     pub(crate) second: Event,
+    /// The second mote hears the last frame of the first.
     pub(crate) there: Event,
+    /// The first mote hears the last frame of the second.
     pub(crate) back: Event,
 }
 
@@ -152,7 +156,7 @@ impl RoundTurns {
         }
     }
 
-    /// The event at a position of the round, counted from 0.
+    /// The event at a position of the round, counted from 0. It is lent: no event is copied.
     pub fn at(&self, position: u8) -> &Event
         requires { position < ROUND_EVENTS }
         ensures { (a b : ℕ) (d : Event) → AreTurns self.now a b → slice_index_or (round a b) position d ≡ result.now }
