@@ -40,4 +40,4 @@ name_size = 16
 
 -- the bytes of a descriptor behind its head that are read from a chip, and looked at, at once
 abbrev pub descriptor_piece_size : ℕ
-descriptor_piece_size = 112
+descriptor_piece_size = 96

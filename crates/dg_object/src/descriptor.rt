@@ -10,13 +10,15 @@ ghost use Rattle.dg_object.specs.Descriptor.{Details, HasTag, IsHead, RestFits, 
 ghost use Rattle.dg_object.specs.Records.{details_of};
 
 use crate::Name;
-use crate::size::{DESCRIPTOR_PIECE, HEAD_SIZE, PAGE_SIZE, SLOTS, check_size, pages_of};
+use crate::size::{
+    DESCRIPTOR_PIECE, DescriptorPiece, HEAD_SIZE, Head, PAGE_SIZE, SLOTS, check_size, pages_of,
+};
 use dg_base::is_name;
 use std::error::Error;
 use std::fmt;
 
 /// A piece of what stands behind the CRCs.
-const FILLED: [u8; DESCRIPTOR_PIECE] = [0xFF; DESCRIPTOR_PIECE];
+const FILLED: DescriptorPiece = [0xFF; DESCRIPTOR_PIECE];
 
 /// Why bytes are no descriptor.
 #[derive(Clone, Copy, Debug, PartialEq, Eq)]
@@ -63,7 +65,7 @@ impl Descriptor {
         ensures tag { (result ≡ Err DescriptorFault.Tag) ↔ (HasTag page.now → ⊥) }
         ensures range { (result ≡ Err DescriptorFault.Range) ↔ (HasTag page.now × ((d : Details) → IsDescriptor page.now d → ⊥)) }
     {
-        let mut head = [0; HEAD_SIZE];
+        let mut head: Head = [0; HEAD_SIZE];
         head.copy_from_slice(&page[..HEAD_SIZE]);
         let descriptor = Self::head(&head)?;
         if descriptor.rest_fits(HEAD_SIZE as u16, &page[HEAD_SIZE..]) {
@@ -74,7 +76,7 @@ impl Descriptor {
     }
 
     /// Reads the first bytes of a page, which hold all fields but the CRCs.
-    pub fn head(head: &[u8; HEAD_SIZE]) -> Result<Self, DescriptorFault>
+    pub fn head(head: &Head) -> Result<Self, DescriptorFault>
         ensures ok { IfOk result (λ d. IsHead head.now (details_of d)) }
         ensures found { (d : Details) → IsHead head.now d → IsOkAnd result (λ r. details_of r ≡ d) }
         ensures tag { (result ≡ Err DescriptorFault.Tag) ↔ (HasTag head.now → ⊥) }
@@ -99,14 +101,14 @@ impl Descriptor {
     }
 }
 
-fn has_tag(head: &[u8; HEAD_SIZE]) -> bool
+fn has_tag(head: &Head) -> bool
     ensures { IsTrue result ↔ HasTag head.now }
 {
     head[0] == b'D' && head[1] == b'G'
 }
 
 /// The fields of a head with its tag.
-fn fields(head: &[u8; HEAD_SIZE]) -> Option<Descriptor>
+fn fields(head: &Head) -> Option<Descriptor>
     requires { HasTag head.now }
     ensures some { IfSome result (λ d. IsHead head.now (details_of d)) }
     ensures none { IfNone result ((d : Details) → IsHead head.now d → ⊥) }

@@ -10,7 +10,8 @@ ghost use Rattle.dg_object.specs.Tested.{fields_in, is_descriptor, describes};
 
 use crate::{
     DESCRIPTOR_PIECE, FEWEST_PAGES, HEAD_SIZE, MOST_BYTES, MOST_PAGES, NAME_SIZE, PACKET_SIZE,
-    PACKETS, PAGE_SIZE, SLOTS,
+    PACKETS, PAGE_SIZE, SIZE_OF_DESCRIPTOR_PIECE, SIZE_OF_HEAD, SIZE_OF_NAME, SIZE_OF_PACKET,
+    SLOTS,
 };
 
 /// The constants of this crate are the numbers of its definitions.
@@ -25,6 +26,11 @@ pub fn an_object_has_these_sizes()
     ensures head { HEAD_SIZE ≡ head_size }
     ensures name { NAME_SIZE ≡ name_size }
     ensures descriptor_piece { DESCRIPTOR_PIECE ≡ descriptor_piece_size }
+    // the arrays have so many bytes by their types, and a name keeps its count beside its array
+    ensures packet_array { SIZE_OF_PACKET ≡ packet_size }
+    ensures head_array { SIZE_OF_HEAD ≡ head_size }
+    ensures piece_array { SIZE_OF_DESCRIPTOR_PIECE ≡ descriptor_piece_size }
+    ensures name_array { SIZE_OF_NAME ≤ name_size + 8 }
 {}
 
 /// An object of 2 to 65 pages holds the image, and nothing but the filling behind it.

@@ -16,12 +16,13 @@ pub use laws::{
     a_descriptor_is_read_in_pieces, a_descriptor_is_tested, a_head_is_read_in_one_way,
     a_row_has_a_descriptor, a_row_is_its_pages, an_object_has_these_sizes,
 };
-pub use name::{NAME_SIZE, Name};
+pub use name::{NAME_SIZE, Name, SIZE_OF_NAME};
 pub use object::{page_of, profile_of};
 pub use profile::Profile;
 pub use size::{
-    DESCRIPTOR_PIECE, FEWEST_PAGES, HEAD_SIZE, MOST_BYTES, MOST_PAGES, PACKET_SIZE, PACKETS,
-    PAGE_SIZE, SLOTS, SizeFault, check_size, pages_of,
+    DESCRIPTOR_PIECE, DescriptorPiece, FEWEST_PAGES, HEAD_SIZE, Head, MOST_BYTES, MOST_PAGES,
+    PACKET_SIZE, PACKETS, PAGE_SIZE, PacketBytes, SIZE_OF_DESCRIPTOR_PIECE, SIZE_OF_HEAD,
+    SIZE_OF_PACKET, SLOTS, SizeFault, check_size, pages_of,
 };
 
 #[cfg(test)]

@@ -4,9 +4,13 @@ ghost use Rattle.dg_object.specs.Sizes.{name_size};
 
 use arrayvec::ArrayVec;
 use std::marker::Model;
+use std::mem::size_of;
 
 /// The bytes that a descriptor gives a name.
 pub const NAME_SIZE: usize = 16;
+
+/// The bytes that a name takes, by its type: its array, and how many bytes of it are the name's.
+pub const SIZE_OF_NAME: usize = size_of::<Name>();
 
 /// The name of an image: at most 16 bytes, without the padding that a descriptor gives them.
 #[derive(Debug, PartialEq, Eq, Drop)]

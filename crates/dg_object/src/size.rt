@@ -5,6 +5,7 @@ ghost use Rattle.dg_object.specs.Object.{pages_for};
 
 use std::error::Error;
 use std::fmt;
+use std::mem::size_of;
 
 /// The bytes of a page.
 pub const PAGE_SIZE: usize = 1_104;
@@ -31,7 +32,25 @@ pub const SLOTS: u8 = 7;
 pub const HEAD_SIZE: usize = 28;
 
 /// What stands behind them is read from a chip, and looked at, in pieces of at most this many bytes.
-pub const DESCRIPTOR_PIECE: usize = 112;
+pub const DESCRIPTOR_PIECE: usize = 96;
+
+/// A packet, as it is read from a chip and carried in a message.
+pub type PacketBytes = [u8; PACKET_SIZE];
+
+/// The bytes of a descriptor in front of the CRCs, as they are read from a chip.
+pub type Head = [u8; HEAD_SIZE];
+
+/// A piece of what stands behind them.
+pub type DescriptorPiece = [u8; DESCRIPTOR_PIECE];
+
+/// The bytes that the array of a packet takes, by its type.
+pub const SIZE_OF_PACKET: usize = size_of::<PacketBytes>();
+
+/// The bytes that the array of a head takes, by its type.
+pub const SIZE_OF_HEAD: usize = size_of::<Head>();
+
+/// The bytes that the array of a descriptor's piece takes, by its type.
+pub const SIZE_OF_DESCRIPTOR_PIECE: usize = size_of::<DescriptorPiece>();
 
 /// Why no image has this length.
 #[derive(Clone, Copy, Debug, PartialEq, Eq)]
