@@ -3,7 +3,7 @@ use Rattle.dg_words.specs.Cells.{part}
 use Rattle.dg_base.specs.Crc.{crc_more}
 use Rattle.dg_nor.specs.Chip.{sector}
 use Rattle.dg_nor.specs.Reads.{Looked}
-use Rattle.dg_slot.proofs.pages.front_crc.Given as goal
+use Rattle.dg_slot.proofs.pages.crc_through.Given as goal
 
 abbrev pub invariant-loop-at : goal.invariant-loop-at
 invariant-loop-at g l = record {

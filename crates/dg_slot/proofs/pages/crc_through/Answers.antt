@@ -4,7 +4,7 @@ use Rattle.dg_nor.specs.Chip.{sector}
 use Rattle.dg_nor.proofs.ChipLemmas.{length-sector}
 use Rattle.dg_slot.proofs.ReadLemmas.{Looked-none, Looked_then}
 use Rattle.dg_slot.proofs.PageLemmas.{crc_none, crc_piece}
-use Rattle.dg_slot.proofs.pages.front_crc.Goals as goal
+use Rattle.dg_slot.proofs.pages.crc_through.Goals as goal
 
 pub loop-at-init : goal.loop-at-init
 loop-at-init g c = record { within = omega arith; summed = crc_none _ 0 c.args.before; awake = λ some. absurd (omega arith); looked = Looked-none _ }
