@@ -1,9 +1,10 @@
 //! Sockets and the clock of this machine.
 ghost use Rattle.std.specs.Prelude.{◌<◌, ◌≤◌};
 
+use crate::udp::{address, is_sent, receive_datagram};
 use crate::{SystemClock, UdpLink};
 use dg_base::{Clock, LONGEST_FRAME};
-use dg_link::{Link, OpenFault};
+use dg_link::{Link, LinkFailed, OpenFault};
 use std::alloc::Global;
 use std::net::{IpAddr, Ipv4Addr, Net, SocketAddr, UdpSocket};
 use std::process;
@@ -50,6 +51,37 @@ fn datagrams_come_to_their_mote(rt: HostRuntime) -> Result<(), Fail> {
 }
 
 #[test]
+fn motes_listen_at_the_loopback_address_alone(rt: HostRuntime) -> Result<(), Fail> {
+    let alloc = rt.alloc();
+    let port = free_port(&rt, alloc, process::id(rt.process()));
+    let mut link = UdpLink::new(&rt, alloc);
+    let mut into = [0; LONGEST_FRAME];
+    link.open(alloc, port, 1)?;
+    // where a socket listens on all addresses, none of them is left to another at its port
+    let beside = SocketAddr::new(IpAddr::V4(Ipv4Addr::new(127, 0, 0, 2)), port);
+    let stranger = UdpSocket::bind(&rt, beside)?;
+    stranger.send_to(b"aside", beside)?;
+    assert_eq!(rt; link.receive(0, &mut into)?, None);
+    Ok(())
+}
+
+#[test]
+fn failed_calls_of_sockets_are_told(rt: HostRuntime) -> Result<(), Fail> {
+    let mut into = [0; LONGEST_FRAME];
+    let socket = UdpSocket::bind(&rt, address(0))?;
+    // nothing is sent to port 0
+    assert!(rt; !is_sent(&socket, address(0), b"hello"));
+    let gone = UdpSocket::bind(&rt, address(0))?;
+    let there = gone.local_addr()?;
+    drop(gone);
+    // what is sent to a port at which nobody listens is refused, and the next receive tells it
+    socket.connect(there)?;
+    socket.send(b"hello")?;
+    assert_eq!(rt; receive_datagram(&socket, &mut into), Err(LinkFailed));
+    Ok(())
+}
+
+#[test]
 fn the_clock_goes_on(rt: HostRuntime) -> Result<(), Fail> {
     let alloc = rt.alloc();
     let mut clock = SystemClock::new(&rt);
@@ -58,10 +90,15 @@ fn the_clock_goes_on(rt: HostRuntime) -> Result<(), Fail> {
     let mut into = [0; LONGEST_FRAME];
     link.open(alloc, port, 1)?;
     let before = clock.read();
-    for _ in 0..20 {
+    let mut shortest = u64::MAX;
+    for _ in 0..50 {
+        let from = clock.read();
         assert_eq!(rt; link.receive(0, &mut into)?, None);
+        shortest = shortest.min(clock.read().saturating_sub(from));
     }
-    let after = clock.read();
-    assert!(rt; before < after);
+    let passed = clock.read().saturating_sub(before);
+    // each waits for a millisecond, which the system may lengthen; no machine makes five seconds of fifty
+    assert!(rt; 50 <= passed && passed <= 5_000, "{passed}");
+    assert!(rt; shortest < 10, "{shortest}");
     Ok(())
 }

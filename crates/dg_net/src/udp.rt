@@ -101,7 +101,7 @@ impl<'r, R: Net> Link for UdpLink<'r, R> {
 }
 
 // A port of this machine.
-fn address(port: u16) -> SocketAddr {
+pub(crate) fn address(port: u16) -> SocketAddr {
     SocketAddr::new(IpAddr::V4(Ipv4Addr::new(127, 0, 0, 1)), port)
 }
 
@@ -144,7 +144,7 @@ fn open_socket<R: Net>(net: &R, port: u16) -> io::Result<UdpSocket> {
 }
 
 // Sends a datagram, and tells whether it went out whole.
-fn is_sent(socket: &UdpSocket, to: SocketAddr, bytes: &[u8]) -> bool {
+pub(crate) fn is_sent(socket: &UdpSocket, to: SocketAddr, bytes: &[u8]) -> bool {
     match socket.send_to(bytes, to) {
         Ok(count) => count == bytes.len(),
         Err(_) => false,
@@ -152,7 +152,7 @@ fn is_sent(socket: &UdpSocket, to: SocketAddr, bytes: &[u8]) -> bool {
 }
 
 // Receives a datagram, if one comes in time. A receive that is interrupted has received none.
-fn receive_datagram(
+pub(crate) fn receive_datagram(
     socket: &UdpSocket,
     into: &mut [u8; LONGEST_FRAME],
 ) -> Result<Option<usize>, LinkFailed>
