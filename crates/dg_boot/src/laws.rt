@@ -10,12 +10,14 @@ ghost use Rattle.dg_volume.specs.declared.volume.StartCause.TheVariants as cause
 ghost use Rattle.dg_slot.specs.Layout.{page_size};
 ghost use Rattle.dg_boot.specs.Sizes.{copy_pieces, copy_piece_size};
 
-use crate::{COPY_PIECE, COPY_PIECES};
+use crate::{COPY_PIECE, COPY_PIECES, SIZE_OF_COPY_PIECE};
 
 /// The constants of this crate are the numbers of its definitions, and the pieces make a page.
 pub fn a_copy_has_these_sizes()
     ensures piece { COPY_PIECE ≡ copy_piece_size }
     ensures pieces { COPY_PIECES ≡ copy_pieces }
+    // the array has so many bytes by its type
+    ensures piece_array { SIZE_OF_COPY_PIECE ≡ copy_piece_size }
     ensures page { copy_pieces * copy_piece_size ≡ page_size }
 {}
 

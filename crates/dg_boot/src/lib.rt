@@ -39,7 +39,7 @@ pub use laws::{
     a_copy_has_these_sizes, a_waived_order_is_not_started, an_image_is_set_once_it_is_copied,
     golden_can_be_started, three_short_starts_start_golden,
 };
-pub use pieces::{COPY_PIECE, COPY_PIECES};
+pub use pieces::{COPY_PIECE, COPY_PIECES, CopyPiece, SIZE_OF_COPY_PIECE};
 
 /// What was started. `pages` counts the descriptor too, `length` is that of the image's bytes, and `crc` is their
 /// checksum as they stand in program memory.

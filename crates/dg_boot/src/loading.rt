@@ -19,7 +19,7 @@ ghost use Rattle.dg_boot.specs.Loads.{Measures, IsWhole, app_from};
 use crate::loaded::Loaded;
 use crate::pieces::copy_page;
 use dg_nor::{Nor, Stopped, read_in};
-use dg_object::{Descriptor, HEAD_SIZE, PAGE_SIZE};
+use dg_object::{Descriptor, HEAD_SIZE, Head, PAGE_SIZE};
 use dg_slot::{PROGRAM_SECTOR, front_crc, page_sector};
 
 /// The bytes of a page.
@@ -32,7 +32,7 @@ fn read_descriptor<N: Nor>(nor: &mut N, index: u32) -> Result<Descriptor, Stoppe
     ensures descriptor { IfOk result (λ d. IsDescriptor (page_in (N.device nor.old).image index) (details_of d)) }
     ensures ends { ReadEnds result (N.device nor.old) (N.device nor.new) }
 {
-    let mut head = [0; HEAD_SIZE];
+    let mut head: Head = [0; HEAD_SIZE];
     read_in(nor, index, 0, &mut head)?;
     Ok(Descriptor::head(&head).unwrap())
 }

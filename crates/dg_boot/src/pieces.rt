@@ -12,15 +12,22 @@ ghost use Rattle.dg_boot.specs.Sizes.{copy_piece_size};
 
 use dg_base::crc16_more;
 use dg_nor::{Nor, Stopped, erase_sector, program_in, read_in};
+use std::mem::size_of;
 
 /// The bytes of a page that are read and programmed at once.
 pub const COPY_PIECE: u32 = 138;
+
+/// A piece of a page that is copied.
+pub type CopyPiece = [u8; COPY_PIECE as usize];
+
+/// The bytes that the array of a copied piece takes, by its type.
+pub const SIZE_OF_COPY_PIECE: usize = size_of::<CopyPiece>();
 
 /// The pieces of a page, each of which is one program.
 pub const COPY_PIECES: u32 = 8;
 
 /// Copies a piece of one sector into another, where it stands erased, and gives the checksum behind `before` of its
-/// bytes that are among the first `count` of the sector. 1 operation.
+/// bytes that are among the first `count` of the sector. It is read into `piece`. 1 operation.
 fn copy_piece<N: Nor>(
     nor: &mut N,
     from: u32,
@@ -28,6 +35,7 @@ fn copy_piece<N: Nor>(
     at: u32,
     count: u32,
     before: u16,
+    piece: &mut CopyPiece,
 ) -> Result<u16, Stopped>
     requires from_in { from < sectors }
     requires to_in { to < sectors }
@@ -41,9 +49,8 @@ fn copy_piece<N: Nor>(
     ensures ran { OnOk result (Ran 1 (N.device nor.old) (N.device nor.new)) }
     ensures stopped { OnErr result (Halts 1 0 (N.device nor.old) (N.device nor.new)) }
 {
-    let mut piece = [0; COPY_PIECE as usize];
-    read_in(nor, from, at, &mut piece)?;
-    program_in(nor, to, at, &piece)?;
+    read_in(nor, from, at, piece)?;
+    program_in(nor, to, at, piece)?;
     let summed = count.saturating_sub(at).min(COPY_PIECE);
     Ok(crc16_more(before, &piece[..summed as usize]))
 }
@@ -67,10 +74,11 @@ pub(crate) fn copy_page<N: Nor>(
     ensures ran { OnOk result (Ran copy_operations (N.device nor.old) (N.device nor.new)) }
     ensures stopped { OnErr result (Halted copy_operations (λ _ _. ⊤) (N.device nor.old) (N.device nor.new)) }
 {
+    let mut piece = [0; COPY_PIECE as usize];
     erase_sector(nor, to)?;
     let mut crc = before;
     for k in 0..COPY_PIECES {
-        crc = copy_piece(nor, from, to, COPY_PIECE * k, count, crc)?;
+        crc = copy_piece(nor, from, to, COPY_PIECE * k, count, crc, &mut piece)?;
     }
     Ok(crc)
 }
