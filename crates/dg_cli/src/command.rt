@@ -42,8 +42,9 @@ pub fn run<S: Source, K: Sink, N: Nor, L: Link, C: Clock>(
         (map N.device boards.old.items))
         (outside (S.Source, input.new) (K.Sink, out.new) (L.Link, link.new) (C.Clock, clock.new)
         (map N.device boards.new.items)) }
-    // The arrays of bytes that a mote and its calls name have 214 bytes, and those that are named together in one call no
-    // more than 256. A mote's value has at most 464 bytes of memory, and its outbox 80.
+    // The arrays of bytes that a mote and its calls name have 220 bytes by their types (`counted`), which are 214 where packet
+    // sets are counted in their byte form. Those that are alive together in one call, or in a mount, have no more than 256 by
+    // their types. A mote's value has at most 464 bytes of memory, and its outbox 80.
     ensures buffers { (buffered_bytes ≡ 214) × BuffersFit × ValuesAreSmall }
     // A command that reads no input leaves it untouched. None but `serve` uses the link and the clock.
     ensures untouched { (ReadsInput (asked_of (map string_bytes words.now.items)) → ⊥) → input.new ≡ input.old }

@@ -10,7 +10,7 @@ ghost use Rattle.dg_volume.specs.Trails.{BeginsAt};
 ghost use Rattle.dg_frame.specs.Grammar.{message_of};
 ghost use Rattle.dg_frame.specs.Spelling.{frame_of, FitsTypes};
 ghost use Rattle.dg_frame.specs.declared.Message.{Message};
-ghost use Rattle.dg_mote.specs.Sizes.{outbox_bytes, buffered_bytes, BuffersFit, ValuesAreSmall};
+ghost use Rattle.dg_mote.specs.Sizes.{outbox_bytes, buffered_bytes, buffered_size, BuffersFit, ValuesAreSmall};
 ghost use Rattle.dg_mote.specs.Model.{MoteState, begun_mote, maintains};
 ghost use Rattle.dg_mote.specs.Ticks.{tick_of};
 ghost use Rattle.dg_mote.specs.Hears.{heard_of};
@@ -159,11 +159,13 @@ pub fn what_is_sent_is_read()
     one_spelling();
 }
 
-/// The outbox, the packet sets and the largest array of a call have 214 bytes. All arrays of bytes that are alive at once
-/// in a call have no more than 256, and beside the outbox and the sets no array lies in the value of a mote. Each frame
-/// that is read, by a wide reader or a narrow one, has room in the outbox.
+/// The outbox, the packet sets and the largest array of a call have 220 bytes by their types, which are 214 where a set is
+/// counted in the form that a frame gives it. All arrays of bytes that are alive at once in a call, or as a chip is
+/// mounted, have no more than 256 by their types, and beside the outbox and the sets no array lies in the value of a mote.
+/// Each frame that is read, by a wide reader or a narrow one, has room in the outbox.
 pub fn a_mote_buffers_little()
     ensures counted { buffered_bytes ≡ 214 }
+    ensures typed { buffered_size ≡ 220 }
     ensures alive { BuffersFit }
     ensures values { ValuesAreSmall }
     ensures frames { (wide : Bool) (bytes : List ℕ) (message : Message) → message_of bytes wide ≡ Ok message

@@ -5,6 +5,7 @@
 #![tactic(auto)]
 
 mod adverts;
+mod buffers;
 mod changes;
 mod due;
 mod hearing;
@@ -19,6 +20,7 @@ mod rules;
 mod summary;
 mod ticking;
 
+pub use buffers::{PacketSet, SIZE_OF_ENTRIES, SIZE_OF_FRAME, SIZE_OF_PACKET_SET, WideEntries};
 pub use changes::{packets_come_in_frames, what_a_mote_may_change};
 pub use laws::{
     a_mote_buffers_little, a_mote_keeps_agreement, a_mote_keeps_consistency, a_mote_stays_timely,

@@ -7,7 +7,7 @@ ghost use Rattle.dg_mote.specs.Model.{MoteState, begun_mote, maintains};
 ghost use Rattle.dg_mote.specs.Timely.{Timely};
 ghost use Rattle.dg_mote.specs.Motes.{IsMote, id_told, wide_told, volume_of};
 
-use dg_boot::COPY_PIECE;
+use dg_boot::SIZE_OF_COPY_PIECE;
 use dg_frame::{FRAME_BYTES, FrameFault, SET_BYTES};
 use dg_quiet::Windows;
 use dg_recv::Asking;
@@ -22,7 +22,7 @@ use std::mem::{self, size_of};
 const SETS: usize = 2;
 
 /// The bytes of the largest array of a call: the piece in which a start copies a page.
-const SCRATCH_BYTES: usize = COPY_PIECE as usize;
+const SCRATCH_BYTES: usize = SIZE_OF_COPY_PIECE;
 
 /// The bytes of the outbox, the packet sets and the largest array of a call.
 const BUFFERED: u32 = (FRAME_BYTES + SETS * SET_BYTES + SCRATCH_BYTES) as u32;

@@ -4,6 +4,7 @@ use Rattle.dg_mote.proofs.laws.a_mote_buffers_little.Goals as goal
 
 pub returns-clause-alive : goal.returns-clause-alive
 returns-clause-alive c = record {
+  counted = omega arith;
   largest = omega arith;
   sending = omega arith;
   asking = omega arith;
@@ -11,7 +12,11 @@ returns-clause-alive c = record {
   taking = omega arith;
   comparing = omega arith;
   testing = omega arith;
+  measuring = omega arith;
   copying = omega arith;
+  mounting = omega arith;
+  spelling = omega arith;
+  describing = omega arith;
 }
 
 pub returns-clause-values : goal.returns-clause-values
