@@ -1,41 +1,48 @@
 -- Bytes and their hex digits.
-use Rattle.std.proofs.Common.{◌≡◌, ℕ, suc, ◌+◌, ◌*◌, ◌/◌, ◌%◌, ◌<◌, ◌≤◌, ◌==◌, ◌⊎◌, true, false, List, [], ◌∷◌, ◌++◌, length, get_or, set, take, drop, append_assoc, Option, Some, None, unwrap_or, is_some, All, Any, refl, sym, ap, ◌∙◌, subst, arith, inl, inr}
+use Rattle.std.proofs.Common.{◌≡◌, ℕ, suc, ◌+◌, ◌*◌, ◌/◌, ◌%◌, ◌<◌, ◌≤◌, ◌==◌, ◌&&◌, ◌||◌, nat_le, ◌⊎◌, Bool, true, false, List, [], ◌∷◌, ◌++◌, length, get_or, set, take, drop, append_assoc, Option, Some, None, unwrap_or, is_some, All, Any, refl, sym, ap, ◌∙◌, subst, arith, inl, inr}
 use Rattle.std.proofs.lemmas.Bool.{agree_below_at, eqb-true}
 use Rattle.std.proofs.lemmas.Bool.Decides.{nat_tests}
 use Rattle.std.proofs.lemmas.List.{append-nil, drop_all, drop_more, get_or_default, length-set, take_all, take_more, take_more_set}
 use Rattle.std.proofs.lemmas.List.Elements.{All-nil, All-cons, All-head, All-tail}
-use Rattle.dg_base.specs.declared.hexadecimal.TheConstants.{VALUES, DIGITS}
+use Rattle.std.specs.Bool.{OnTrue, OnFalse}
+use Rattle.dg_base.specs.declared.hexadecimal.TheConstants.{DIGITS}
 use Rattle.dg_base.specs.Hexadecimal.{hex_bytes, hex_digit, hex_text, hex_value, is_hex_digit, onto_bytes}
 use Rattle.dg_base.specs.Outside.{ahead_of}
 
--- the tables
-pub value_at : (c : ℕ) → c < 256 → get_or VALUES c 0 ≡ unwrap_or (hex_value c) 255
-value_at c h = eqb-true _ _ (agree_below_at (λ c. get_or VALUES c 0 == unwrap_or (hex_value c) 255) (λ _. true) 256 c refl h)
-
+-- the table of digits
 pub digit_at : (v : ℕ) → v < 16 → get_or DIGITS v 0 ≡ hex_digit v
 digit_at v h = eqb-true _ _ (agree_below_at (λ v. get_or DIGITS v 0 == hex_digit v) (λ _. true) 16 v refl h)
 
--- what a value of the table says of the byte
+-- what a value says of an option
 known : (o : Option ℕ) (v : ℕ) → v ≡ unwrap_or o 255 → v < 16 → o ≡ Some v
 known (Some w) v e h = ap Some (sym e)
 known None v e h = absurd (omega arith)
 
-unknown : (o : Option ℕ) (v : ℕ) → v ≡ unwrap_or o 255 → ((w : ℕ) → o ≡ Some w → w < 16) → 15 < v → is_some o ≡ false
-unknown (Some w) v e small h = let s = small w refl in absurd (omega (arith, s))
-unknown None v e small h = refl
+valued : (o : Option ℕ) (v : ℕ) → is_some o ≡ true → ((w : ℕ) → o ≡ Some w → v ≡ w) → o ≡ Some v
+valued (Some w) v is read = ap Some (sym (read w refl))
+valued None v is read = cc
 
 pub hex_value-small : (c v : ℕ) → hex_value c ≡ Some v → v < 16
 hex_value-small c v h = grind (arith, nat_tests)
 
-pub hex_value-read : (c v : ℕ) → v ≡ unwrap_or (hex_value c) 255 → v ≤ 15 → hex_value c ≡ Some v
-hex_value-read c v e h = known (hex_value c) v e (omega arith)
+-- which bytes are digits, by their ranges
+pub is_digit-by_ranges : (c : ℕ) → c < 256 → (((nat_le 48 c && nat_le c 57) || (nat_le 65 c && nat_le c 70)) || (nat_le 97 c && nat_le c 102)) ≡ is_hex_digit c
+is_digit-by_ranges c small = agree_below_at (λ c. ((nat_le 48 c && nat_le c 57) || (nat_le 65 c && nat_le c 70)) || (nat_le 97 c && nat_le c 102)) is_hex_digit 256 c refl small
 
-pub hex_value-refused : (c v : ℕ) → v ≡ unwrap_or (hex_value c) 255 → 15 < v → is_hex_digit c ≡ false
-hex_value-refused c v e h = unknown (hex_value c) v e (hex_value-small c) h
+-- the value of a digit, by arithmetic
+pub hex_value-by_bits : (c v : ℕ) → c < 256 → hex_value c ≡ Some v → (c % 16 + 9 * (c / 64)) % 16 ≡ v
+hex_value-by_bits c v small h =
+    let e : unwrap_or (hex_value c) ((c % 16 + 9 * (c / 64)) % 16) ≡ (c % 16 + 9 * (c / 64)) % 16 =
+    eqb-true _ _ (agree_below_at (λ c. unwrap_or (hex_value c) ((c % 16 + 9 * (c / 64)) % 16) == (c % 16 + 9 * (c / 64)) % 16) (λ _. true) 256 c refl small) in
+    sym e ∙ ap (λ o. unwrap_or o ((c % 16 + 9 * (c / 64)) % 16)) h
+
+-- a digit has the value that it is read as
+pub hex_value-read : (c v : ℕ) → is_hex_digit c ≡ true → ((w : ℕ) → hex_value c ≡ Some w → v ≡ w) → hex_value c ≡ Some v
+hex_value-read c v is read = valued (hex_value c) v is read
 
 -- a byte that is no digit is one of the bytes
-pub refused_at : (digits : List ℕ) (k v : ℕ) → k < length digits → v ≡ unwrap_or (hex_value (get_or digits k 0)) 255 → 15 < v → Any (λ c. is_hex_digit c ≡ false) digits
-refused_at digits k v within e h = (k, get_or digits k 0, within, get_or_default digits k _ 0 within, hex_value-refused (get_or digits k 0) v e h)
+refused_at : (digits : List ℕ) (k : ℕ) → k < length digits → is_hex_digit (get_or digits k 0) ≡ false → Any (λ c. is_hex_digit c ≡ false) digits
+refused_at digits k within h = (k, get_or digits k 0, within, get_or_default digits k _ 0 within, h)
 
 pub hex_value-hex_digit : (v : ℕ) → v < 16 → hex_value (hex_digit v) ≡ Some v
 hex_value-hex_digit v h = known (hex_value (hex_digit v)) v (sym (eqb-true _ _ (agree_below_at (λ v. unwrap_or (hex_value (hex_digit v)) 255 == v) (λ _. true) 16 v refl h))) h
@@ -59,28 +66,48 @@ unfolding hex_bytes
 hex_bytes-nil = refl
 
 -- the bytes so far, with those of one pair more
-pub read_more : (digits into whole : List ℕ) (at high low : ℕ) → 2 * at + 1 < length digits → at < length into
-    → high ≡ unwrap_or (hex_value (get_or digits (2 * at) 0)) 255 → high ≤ 15 → low ≡ unwrap_or (hex_value (get_or digits (2 * at + 1) 0)) 255 → low ≤ 15
-    → ahead_of (take at into) (hex_bytes (drop (2 * at) digits)) ≡ hex_bytes whole
-    → ahead_of (take (at + 1) (set into at (high * 16 + low))) (hex_bytes (drop (2 * (at + 1)) digits)) ≡ hex_bytes whole
-read_more digits into whole at high low more room p ph q ql h =
+read_more : (digits into : List ℕ) (at high low : ℕ) → 2 * at + 1 < length digits → at < length into
+    → hex_value (get_or digits (2 * at) 0) ≡ Some high → hex_value (get_or digits (2 * at + 1) 0) ≡ Some low
+    → ahead_of (take at into) (hex_bytes (drop (2 * at) digits)) ≡ hex_bytes digits
+    → ahead_of (take (at + 1) (set into at (high * 16 + low))) (hex_bytes (drop (2 * (at + 1)) digits)) ≡ hex_bytes digits
+read_more digits into at high low more room first second h =
     let rest = drop (2 * (at + 1)) digits in
     let two : 2 * at + 1 + 1 ≡ 2 * (at + 1) = omega arith in
     let pair : drop (2 * at) digits ≡ get_or digits (2 * at) 0 ∷ get_or digits (2 * at + 1) 0 ∷ rest =
     drop_more digits (2 * at) 0 (omega arith) ∙ ap (λ t. get_or digits (2 * at) 0 ∷ t) (drop_more digits (2 * at + 1) 0 more)
     ∙ ap (λ n. get_or digits (2 * at) 0 ∷ get_or digits (2 * at + 1) 0 ∷ drop n digits) two in
-    let first = hex_value-read (get_or digits (2 * at) 0) high p ph in
-    let second = hex_value-read (get_or digits (2 * at + 1) 0) low q ql in
     ap (λ t. ahead_of t (hex_bytes rest)) (take_more_set into at (high * 16 + low) room)
     ∙ sym (hex_bytes-more (take at into) rest _ _ high low first second)
     ∙ ap (λ t. ahead_of (take at into) (hex_bytes t)) (sym pair) ∙ h
 
+-- The bytes so far, and those of the digits behind them, are those of all digits. Or a byte that is no digit was seen.
+abbrev pub ReadTo : (digits into : List ℕ) → (at : ℕ) → (all : Bool) → Type 0
+ReadTo digits into at all =
+    OnTrue all (ahead_of (take at into) (hex_bytes (drop (2 * at) digits)) ≡ hex_bytes digits) × OnFalse all (Any (λ c. is_hex_digit c ≡ false) digits)
+
+pub read_on : (digits into : List ℕ) (at high low : ℕ) (all first second : Bool) → 2 * at + 1 < length digits → at < length into
+    → first ≡ is_hex_digit (get_or digits (2 * at) 0) → ((v : ℕ) → hex_value (get_or digits (2 * at) 0) ≡ Some v → high ≡ v)
+    → second ≡ is_hex_digit (get_or digits (2 * at + 1) 0) → ((v : ℕ) → hex_value (get_or digits (2 * at + 1) 0) ≡ Some v → low ≡ v)
+    → ReadTo digits into at all → ReadTo digits (set into at (high * 16 + low)) (at + 1) (all && (first && second))
+read_on digits into at high low false first second more room p ph q ql h = (tt, h.1)
+read_on digits into at high low true false second more room p ph q ql h = (tt, refused_at digits (2 * at) (omega arith) (sym p))
+read_on digits into at high low true true false more room p ph q ql h = (tt, refused_at digits (2 * at + 1) more (sym q))
+read_on digits into at high low true true true more room p ph q ql h =
+    let first = hex_value-read (get_or digits (2 * at) 0) high (sym p) ph in
+    let second = hex_value-read (get_or digits (2 * at + 1) 0) low (sym q) ql in
+    (read_more digits into at high low more room first second h.0, tt)
+
 -- all the bytes
-pub read_all : (digits into whole : List ℕ) (at : ℕ) → length into ≤ at → length digits ≡ 2 * length into
-    → ahead_of (take at into) (hex_bytes (drop (2 * at) digits)) ≡ hex_bytes whole → hex_bytes whole ≡ Some into
-read_all digits into whole at done even h =
+read_whole : (digits into : List ℕ) (at : ℕ) → length into ≤ at → length digits ≡ 2 * length into
+    → ahead_of (take at into) (hex_bytes (drop (2 * at) digits)) ≡ hex_bytes digits → hex_bytes digits ≡ Some into
+read_whole digits into at done even h =
     sym h ∙ ap (λ t. ahead_of (take at into) (hex_bytes t)) (drop_all (2 * at) digits (omega arith)) ∙ ap (ahead_of (take at into)) hex_bytes-nil
     ∙ ap Some (append-nil (take at into) ∙ take_all at into done)
+
+pub read_all : (digits into : List ℕ) (at : ℕ) (all : Bool) → length into ≤ at → length digits ≡ 2 * length into → ReadTo digits into at all
+    → OnTrue all (hex_bytes digits ≡ Some into)
+read_all digits into at false done even h = tt
+read_all digits into at true done even h = read_whole digits into at done even h.0
 
 pub length-hex_text : (bytes : List ℕ) → length (hex_text bytes) ≡ 2 * length bytes
 unfolding hex_text

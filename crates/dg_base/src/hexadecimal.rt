@@ -1,6 +1,6 @@
 //! Bytes as hex digits, two a byte.
 ghost use Rattle.std.specs.Prelude.{◌≡◌, ℕ, ◌+◌, ◌*◌, ◌%◌, ◌<◌, ◌↔◌, List, ◌++◌, ◌⊎◌, length, Some, None, OnOk, OnErr, IfOk, All};
-ghost use Rattle.std.specs.Prelude.{Any, true, false, unwrap_or};
+ghost use Rattle.std.specs.Prelude.{Any, true, false};
 ghost use Rattle.std.specs.Bool.{OnTrue, OnFalse};
 ghost use Rattle.dg_base.specs.Hexadecimal.{hex_bytes, hex_digit, hex_text, hex_value, is_hex_digit};
 
@@ -47,24 +47,6 @@ impl From<AllocError> for HexFault {
     }
 }
 
-// The value of each byte as a hex digit, or 255.
-static VALUES: [u8; 256] = [
-    255, 255, 255, 255, 255, 255, 255, 255, 255, 255, 255, 255, 255, 255, 255, 255, 255, 255, 255,
-    255, 255, 255, 255, 255, 255, 255, 255, 255, 255, 255, 255, 255, 255, 255, 255, 255, 255, 255,
-    255, 255, 255, 255, 255, 255, 255, 255, 255, 255, 0, 1, 2, 3, 4, 5, 6, 7, 8, 9, 255, 255, 255,
-    255, 255, 255, 255, 10, 11, 12, 13, 14, 15, 255, 255, 255, 255, 255, 255, 255, 255, 255, 255,
-    255, 255, 255, 255, 255, 255, 255, 255, 255, 255, 255, 255, 255, 255, 255, 255, 10, 11, 12, 13,
-    14, 15, 255, 255, 255, 255, 255, 255, 255, 255, 255, 255, 255, 255, 255, 255, 255, 255, 255,
-    255, 255, 255, 255, 255, 255, 255, 255, 255, 255, 255, 255, 255, 255, 255, 255, 255, 255, 255,
-    255, 255, 255, 255, 255, 255, 255, 255, 255, 255, 255, 255, 255, 255, 255, 255, 255, 255, 255,
-    255, 255, 255, 255, 255, 255, 255, 255, 255, 255, 255, 255, 255, 255, 255, 255, 255, 255, 255,
-    255, 255, 255, 255, 255, 255, 255, 255, 255, 255, 255, 255, 255, 255, 255, 255, 255, 255, 255,
-    255, 255, 255, 255, 255, 255, 255, 255, 255, 255, 255, 255, 255, 255, 255, 255, 255, 255, 255,
-    255, 255, 255, 255, 255, 255, 255, 255, 255, 255, 255, 255, 255, 255, 255, 255, 255, 255, 255,
-    255, 255, 255, 255, 255, 255, 255, 255, 255, 255, 255, 255, 255, 255, 255, 255, 255, 255, 255,
-    255, 255, 255,
-];
-
 // The lower case digits.
 static DIGITS: [u8; 16] = *b"0123456789abcdef";
 
@@ -86,12 +68,25 @@ pub fn parse_hex(alloc: Global, digits: &[u8]) -> Result<Vec<u8>, HexFault>
     }
 }
 
-// The value of a hex digit, or 255.
-#[inline]
-fn value_of(digit: u8) -> u8
-    ensures { result ≡ unwrap_or (hex_value digit) 255 }
+// Whether a byte is a hex digit. This and the value are made with no branch and no table, so that many digits are read at
+// once.
+#[inline(always)]
+fn is_digit(byte: u8) -> bool
+    ensures { result ≡ is_hex_digit byte }
 {
-    VALUES[digit as usize]
+    let digit = (byte >= b'0') & (byte <= b'9');
+    let upper = (byte >= b'A') & (byte <= b'F');
+    let lower = (byte >= b'a') & (byte <= b'f');
+    digit | upper | lower
+}
+
+// The value of a hex digit: its low four bits, and 9 more for a letter. Other bytes are given some value too.
+#[inline(always)]
+fn value_of(digit: u8) -> u8
+    ensures value { (v : ℕ) → hex_value digit ≡ Some v → result ≡ v }
+    ensures small { result < 16 }
+{
+    (digit % 16 + 9 * (digit / 64)) % 16
 }
 
 // The lower case digit of a value.
@@ -103,24 +98,20 @@ fn digit_of(value: u8) -> u8
     DIGITS[value as usize]
 }
 
-// Writes the bytes of pairs of digits. It answers false at a byte that is no digit.
+// Writes the bytes of pairs of digits, and answers whether all of them are digits. It goes on behind a byte that is none.
 fn read_pairs(digits: &[u8], into: &mut [u8]) -> bool
     requires { length digits.now ≡ 2 * length into.old }
     ensures read { OnTrue result (hex_bytes digits.now ≡ Some into.new) }
     ensures refused { OnFalse result (Any (λ c. is_hex_digit c ≡ false) digits.now) }
 {
+    let mut all = true;
     for at in 0..into.len() {
-        let high = value_of(digits[2 * at]);
-        let low = value_of(digits[2 * at + 1]);
-        if high > 15 {
-            return false;
-        }
-        if low > 15 {
-            return false;
-        }
-        into[at] = high * 16 + low;
+        let high = digits[2 * at];
+        let low = digits[2 * at + 1];
+        into[at] = value_of(high) * 16 + value_of(low);
+        all &= is_digit(high) & is_digit(low);
     }
-    true
+    all
 }
 
 /// Appends two lower case digits for each byte. Without memory `out` stays as it was.

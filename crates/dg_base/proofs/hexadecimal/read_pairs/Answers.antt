@@ -1,17 +1,18 @@
-use Rattle.std.proofs.Common.{◌+◌, ◌*◌, arith}
-use Rattle.dg_base.proofs.HexLemmas.{refused_at, read_more, read_all}
+use Rattle.std.proofs.Common.{arith}
+use Rattle.dg_base.specs.Hexadecimal.{hex_bytes}
+use Rattle.dg_base.proofs.HexLemmas.{ahead_of-nil, read_on, read_all}
 use Rattle.dg_base.proofs.hexadecimal.read_pairs.Goals as goal
 
-pub returns-then-high-gt15-clause-refused : goal.returns-then-high-gt15-clause-refused
-returns-then-high-gt15-clause-refused c = refused_at c.args.digits.now (2 * c.loop-at.at) c.value_of-high.result (omega arith) c.value_of-high.ensures c.if-high-gt15.true
-
-pub returns-then-low-gt15-clause-refused : goal.returns-then-low-gt15-clause-refused
-returns-then-low-gt15-clause-refused c = refused_at c.args.digits.now (2 * c.loop-at.at + 1) c.value_of-low.result (omega arith) c.value_of-low.ensures c.if-low-gt15.true
+pub loop-at-init : goal.loop-at-init
+loop-at-init c = (ahead_of-nil (hex_bytes c.args.digits.now), tt)
 
 pub loop-at-preserved : goal.loop-at-preserved
 loop-at-preserved c =
-    read_more c.args.digits.now c.loop-at.into c.args.digits.now c.loop-at.at c.value_of-high.result c.value_of-low.result (omega arith) (omega arith)
-    c.value_of-high.ensures c.if-high-gt15.false c.value_of-low.ensures c.if-low-gt15.false c.loop-at.invariant
+    read_on c.args.digits.now c.loop-at.into c.loop-at.at c.value_of.result c.value_of-in-loop-at.result c.loop-at.all c.is_digit.result c.is_digit-in-loop-at.result
+    (omega arith) (omega arith) c.is_digit.ensures c.value_of.ensures.value c.is_digit-in-loop-at.ensures c.value_of-in-loop-at.ensures.value c.loop-at.invariant
 
 pub returns-clause-read : goal.returns-clause-read
-returns-clause-read c = read_all c.args.digits.now c.loop-at.into c.args.digits.now c.loop-at.at (omega arith) (omega arith) c.loop-at.invariant
+returns-clause-read c = read_all c.args.digits.now c.loop-at.into c.loop-at.at c.loop-at.all (omega arith) (omega arith) c.loop-at.invariant
+
+pub returns-clause-refused : goal.returns-clause-refused
+returns-clause-refused c = c.loop-at.invariant.1
