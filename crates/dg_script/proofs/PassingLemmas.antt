@@ -20,20 +20,20 @@ pub record LetsGo (old now : Reading) : Type 0 where
 nothing_between : (xs : List ℕ) (to : ℕ) → slice_range xs to to ≡ []
 nothing_between xs to = let zero_left : to - to ≡ 0 = omega arith in ap (λ n. take n (drop to xs)) zero_left
 
-pub lets_go : (xs : List ℕ) (from to taken number tf tt : ℕ) → length xs ≡ most_kept → from ≤ to → to ≤ most_kept → number + (to - from) ≤ taken
+pub lets_go : (xs : List ℕ) (from to taken number tf tt : ℕ) → length xs ≤ most_kept → from ≤ to → to ≤ length xs → number + (to - from) ≤ taken
     → LetsGo (view xs from to taken number tf tt) (view xs to to taken number tf tt)
 lets_go xs from to taken number tf tt whole order inside fits =
     let long : length (slice_range xs from to) ≡ to - from = part_long xs from to (omega (arith, whole, inside)) in
     record { none = nothing_between xs to; passed = omega (arith, long, fits); number = refl }
 
 -- what was taken is not more than what is used
-pub few_used : (xs : List ℕ) (from to taken number tf tt : ℕ) → length xs ≡ most_kept → to ≤ most_kept → number + (to - from) ≤ taken → taken ≤ most_used_bytes
+pub few_used : (xs : List ℕ) (from to taken number tf tt : ℕ) → length xs ≤ most_kept → to ≤ length xs → number + (to - from) ≤ taken → taken ≤ most_used_bytes
     → (view xs from to taken number tf tt).passed + length (view xs from to taken number tf tt).ahead ≤ most_used_bytes
 few_used xs from to taken number tf tt whole inside fits few =
     let long : length (slice_range xs from to) ≡ to - from = part_long xs from to (omega (arith, whole, inside)) in
     omega (arith, long, fits, few)
 
-pub few_kept : (xs : List ℕ) (from to taken number tf tt : ℕ) → length xs ≡ most_kept → to ≤ most_kept
+pub few_kept : (xs : List ℕ) (from to taken number tf tt : ℕ) → length xs ≤ most_kept → to ≤ length xs
     → length (view xs from to taken number tf tt).ahead ≤ most_kept
 few_kept xs from to taken number tf tt whole inside =
     let long : length (slice_range xs from to) ≡ to - from = part_long xs from to (omega (arith, whole, inside)) in

@@ -1,4 +1,4 @@
-use Rattle.std.proofs.Common.{◌≡◌, ◌-◌, ℕ, List, ◌++◌, length, Option, Result, Err, ◌∙◌, refl, sym, ap, subst, arith}
+use Rattle.std.proofs.Common.{◌≡◌, ◌≤◌, ◌-◌, ℕ, List, ◌++◌, length, Option, Result, Err, ◌∙◌, refl, sym, ap, subst, arith}
 use Rattle.dg_words.specs.Counts.{Rose}
 use Rattle.dg_base.specs.Outside.{Takes, AtEnd}
 use Rattle.dg_script.specs.declared.line_reader.ReadStop.{ReadStop as Stop}
@@ -24,7 +24,7 @@ loop-preserved g c =
     let a = c.in_ok-fill.ensures.answer in
     let r = c.self-in-loop.inside in
     let v = c.self-in-loop.invariant in
-    let whole : length r.buffer.items ≡ most_kept = v.0 in
+    let whole : length r.buffer.items ≤ most_kept = v.0 in
     let all : r.to - r.from ≡ length c.loop.self.ahead = sym (part_long r.buffer.items r.from r.to (omega (arith, whole, v.2))) ∙ ap (λ (w : Reading). length w.ahead) c.self-in-loop.view_is in (
       looking_on c.in_ok-fill.field-0 (left c.args.input.now) (left c.loop.input) (left c.fill.new.input) c.args.self.now c.loop.self c.fill.new.self c.loop.looked (r.to - r.from) c.loop.counter (AtEnd (left c.fill.new.input))
           (Rose (g.S.Source.faults c.loop.input) (g.S.Source.faults c.fill.new.input)) i.0 c.in_default.ensures all c.if-branch-eq0.false a.0 a.1 a.2,
