@@ -1,13 +1,18 @@
-//! Reads the lines of events.
+//! Reads the lines of events. The commonest, `tick` and `last`, are read by their numbers where they stand, and by their words
+//! where that gives up.
 ghost use Rattle.std.specs.Prelude.{◌≡◌};
+ghost use Rattle.dg_script.specs.NumberLines.{tick_with, last_with};
 ghost use Rattle.dg_script.specs.Words.{words_of};
 ghost use Rattle.dg_script.specs.Lines.{tick_of, hear_of, last_line_of, reset_of, inject_of, order_of, frame_of};
 ghost use Rattle.dg_script.specs.Reading.{Reads};
 
 use crate::content::sized_content;
 use crate::fault::LineFault;
-use crate::fields::{any_image_number, counted, mote, number, other_mote, version};
+use crate::fields::{
+    any_image_number, counted, mote, mote_with, number, other_mote, other_with, version,
+};
 use crate::line::Line;
+use crate::numbers::{four_numbers, three_numbers};
 use crate::place::Place;
 use crate::verbs::Verb;
 use crate::words::{five_words, four_words, six_words, three_words};
@@ -15,8 +20,30 @@ use dg_base::{Event, LONGEST_FRAME};
 use std::alloc::Global;
 
 /// `tick M DT DRAW`
-#[tactic(auto, unfolding(crate::specs::Lines::tick_of))]
+#[inline(always)]
 pub fn tick_line(fields: &[u8], place: &Place) -> Result<Line, LineFault>
+    ensures { result ≡ tick_of place.now (words_of fields.now) }
+{
+    match three_numbers(fields) {
+        Some((at, dt, draw)) => tick_with(at, dt, draw, place),
+        None => tick_words(fields, place),
+    }
+}
+
+// The line of these numbers.
+#[inline(always)]
+fn tick_with(at: u32, dt: u32, draw: u32, place: &Place) -> Result<Line, LineFault>
+    ensures { result ≡ tick_with place.now at dt draw }
+{
+    Verb::Tick.stand(place)?;
+    let mote = mote_with(at, place.motes)?;
+    Ok(Line::Event(Event::Tick { mote, dt, draw }))
+}
+
+// The line of these words, or their first fault.
+#[tactic(auto, unfolding(crate::specs::Lines::tick_of))]
+#[inline(never)]
+fn tick_words(fields: &[u8], place: &Place) -> Result<Line, LineFault>
     ensures { result ≡ tick_of place.now (words_of fields.now) }
 {
     let (at, dt, draw) = three_words(fields)?;
@@ -47,8 +74,31 @@ pub fn hear_line(fields: &[u8], place: &Place) -> Result<Line, LineFault>
 }
 
 /// `last A B DT DRAW`
-#[tactic(auto, unfolding(crate::specs::Lines::last_line_of))]
+#[inline(always)]
 pub fn last_line(fields: &[u8], place: &Place) -> Result<Line, LineFault>
+    ensures { result ≡ last_line_of place.now (words_of fields.now) }
+{
+    match four_numbers(fields) {
+        Some((from, to, dt, draw)) => last_with(from, to, dt, draw, place),
+        None => last_words(fields, place),
+    }
+}
+
+// The line of these numbers.
+#[inline(always)]
+fn last_with(first: u32, second: u32, dt: u32, draw: u32, place: &Place) -> Result<Line, LineFault>
+    ensures { result ≡ last_with place.now first second dt draw }
+{
+    Verb::Last.stand(place)?;
+    let from = mote_with(first, place.motes)?;
+    let to = other_with(second, place.motes, from)?;
+    Ok(Line::Event(Event::Last { from, to, dt, draw }))
+}
+
+// The line of these words, or their first fault.
+#[tactic(auto, unfolding(crate::specs::Lines::last_line_of))]
+#[inline(never)]
+fn last_words(fields: &[u8], place: &Place) -> Result<Line, LineFault>
     ensures { result ≡ last_line_of place.now (words_of fields.now) }
 {
     let (from, to, dt, draw) = four_words(fields)?;

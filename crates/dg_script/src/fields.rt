@@ -1,5 +1,6 @@
 //! The fields of lines.
 ghost use Rattle.std.specs.Prelude.{◌≡◌, ◌≤◌, ◌<◌, ◌^◌, IfOk};
+ghost use Rattle.dg_script.specs.NumberLines.{mote_with, other_with};
 ghost use Rattle.dg_script.specs.Fields.{number_in, ranged_in, mote_count_in, mote_in, other_in, image_in, any_image_in};
 ghost use Rattle.dg_script.specs.Fields.{version_in, counted_in, used_in, sweeps_in};
 
@@ -45,19 +46,39 @@ pub fn motes(word: &[u8]) -> Result<u8, LineFault>
     Ok(motes as u8)
 }
 
-/// One of so many motes.
-#[tactic(auto, unfolding(crate::specs::Fields::mote_in))]
-pub fn mote(word: &[u8], motes: u8) -> Result<u8, LineFault>
-    ensures { result ≡ mote_in motes word.now }
+/// The mote with this number, one of so many.
+#[inline(always)]
+pub fn mote_with(number: u32, motes: u8) -> Result<u8, LineFault>
+    ensures { result ≡ mote_with motes number }
 {
-    let number = number(word)?;
     if number >= u32::from(motes) {
         return Err(LineFault::Mote);
     }
     Ok(number as u8)
 }
 
-/// One of so many motes, but not `mote`.
+/// One of so many motes.
+#[tactic(auto, unfolding(crate::specs::Fields::mote_in))]
+pub fn mote(word: &[u8], motes: u8) -> Result<u8, LineFault>
+    ensures { result ≡ mote_in motes word.now }
+{
+    let number = number(word)?;
+    mote_with(number, motes)
+}
+
+/// The mote with this number, one of so many, but not `first`.
+#[inline(always)]
+pub fn other_with(number: u32, motes: u8, first: u8) -> Result<u8, LineFault>
+    ensures { result ≡ other_with motes first number }
+{
+    let other = mote_with(number, motes)?;
+    if other == first {
+        return Err(LineFault::Mote);
+    }
+    Ok(other)
+}
+
+/// One of so many motes, but not `first`.
 #[tactic(auto, unfolding(crate::specs::Fields::other_in))]
 pub fn other_mote(word: &[u8], motes: u8, first: u8) -> Result<u8, LineFault>
     ensures { result ≡ other_in motes first word.now }
