@@ -138,7 +138,12 @@ impl Trickle {
             → (act_of self.now moment ≡ Act.Nothing) × (after_tick self.now moment draw ≡ self.now) }
         ensures acts { (moment : ℕ) → result ≤ moment → act_of self.now moment ≡ Act.Nothing → ⊥ }
     {
-        self.begin + u64::from(if self.fired { self.interval } else { self.fires_after })
+        self.begin
+            + u64::from(if self.fired {
+                self.interval
+            } else {
+                self.fires_after
+            })
     }
 
     // An interval begins. The moment from which on it may fire is drawn from its second half.
