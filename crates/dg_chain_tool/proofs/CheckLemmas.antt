@@ -13,18 +13,18 @@ use Rattle.dg_chain.specs.Answers.{ChainAnswers, ChainEnds}
 use Rattle.dg_chain.specs.declared.checking.ChainFault.{ChainFault}
 use Rattle.dg_chain.specs.declared.checking.ChainFault.TheVariants as chain_fault
 use Rattle.dg_end.specs.declared.refusal.Refusal.TheVariants as refusals
-use Rattle.dg_outside.specs.Outside.{OutputTold}
+use Rattle.dg_outside.specs.Outside.{OutputState}
+use Rattle.dg_end.specs.Conversions.{end_of_chain}
 use Rattle.dg_end.specs.Lines.{Outcome}
-use Rattle.dg_end.specs.Finished.{WritesLast, Answered}
-use Rattle.dg_end.specs.declared.ends.End.{End}
+use Rattle.dg_end.specs.Writes.{WritesLast, WritesAnswer}
 use Rattle.dg_end.proofs.AnswerLemmas.{answered_done}
 use Rattle.dg_end.specs.declared.ends.End.TheVariants as ends
 use Rattle.dg_tool.specs.Endings.{Ending, Reading, Acting, no_board, outcome_of, by_boards}
-use Rattle.dg_tool.specs.Done.{NeedsBoard, Comes}
-use Rattle.dg_tool.specs.Inner.{OnStore}
+use Rattle.dg_tool.specs.Done.{NeedsBoard, EndsAs}
+use Rattle.dg_tool.specs.inner.OneBoard.{OnStore}
 use Rattle.dg_tool.proofs.BoardLemmas.{by_some, written_back}
 use Rattle.dg_tool.proofs.OutcomeLemmas.{made_store, memory_store, refused_store, stopped_store, halts_stopped}
-use Rattle.dg_chain_tool.specs.Verbs.{chain_text, answered, check_by, check_on, end_of_chain}
+use Rattle.dg_chain_tool.specs.Verbs.{chain_text, answered, check_by, check_on}
 use Rattle.dg_chain_tool.specs.Done.{TellsLength}
 
 -- ---- what is found of the data pages
@@ -64,7 +64,7 @@ chain_err e = Err e
 
 module _ (a b : Device) where
   abbrev pub Checked : Outcome → Ending → Type 0
-  Checked came ending = OnStore came ending Looked ReadStopped a b
+  Checked outcome ending = OnStore outcome ending Looked ReadStopped a b
 
   pub check_passes : (text : List ℕ) (n : ℕ) (answer : Answer) → answer ≡ Fine n → text ≡ chain_text n → Looked a b → Checked (Ok text) (answered answer)
   check_passes text n answer is told looked = subst (λ (x : Answer). Checked (Ok text) (answered x)) (sym is) (made_store Looked ReadStopped a b text (chain_text n) told looked)
@@ -72,19 +72,16 @@ module _ (a b : Device) where
   pub check_wants : (n : ℕ) (answer : Answer) → answer ≡ Fine n → Looked a b → Checked (Err ends.Memory) (answered answer)
   check_wants n answer is looked = subst (λ (x : Answer). Checked (Err ends.Memory) (answered x)) (sym is) (memory_store Looked ReadStopped a b (Acting (Ok (chain_text n))) looked)
 
-  check_by_fault : (fault : ChainFault) (answer : Answer) → ChainAnswers (chain_err fault) answer → ChainEnds (chain_err fault) a b → Checked (Err (end_of_chain fault)) (answered answer)
-  check_by_fault chain_fault.Stopped answer same gone = stopped_store Looked ReadStopped a b (answered answer) (answered_needs answer) gone (halts_stopped gone.halts)
-  check_by_fault (chain_fault.Broken page kept found) answer same gone = subst (λ (x : Answer). Checked (Err (ends.Refused (refusals.Broken page kept found))) (answered x)) (sym same) (refused_store Looked ReadStopped a b (refusals.Broken page kept found) gone)
-  check_by_fault chain_fault.Shape answer same gone = subst (λ (x : Answer). Checked (Err (ends.Refused refusals.Shape)) (answered x)) (sym same) (refused_store Looked ReadStopped a b refusals.Shape gone)
+  pub check_fails : (fault : ChainFault) (answer : Answer) → ChainAnswers (chain_err fault) answer → ChainEnds (chain_err fault) a b → Checked (Err (end_of_chain fault)) (answered answer)
+  check_fails chain_fault.Stopped answer same gone = stopped_store Looked ReadStopped a b (answered answer) (answered_needs answer) gone (halts_stopped gone.halts)
+  check_fails (chain_fault.Broken page kept found) answer same gone = subst (λ (x : Answer). Checked (Err (ends.Refused (refusals.Broken page kept found))) (answered x)) (sym same) (refused_store Looked ReadStopped a b (refusals.Broken page kept found) gone)
+  check_fails chain_fault.Shape answer same gone = subst (λ (x : Answer). Checked (Err (ends.Refused refusals.Shape)) (answered x)) (sym same) (refused_store Looked ReadStopped a b refusals.Shape gone)
 
-  pub check_fails : (fault : ChainFault) (end : End) (answer : Answer) → end ≡ end_of_chain fault → ChainAnswers (chain_err fault) answer → ChainEnds (chain_err fault) a b → Checked (Err end) (answered answer)
-  check_fails fault end answer e is gone = subst (λ (x : End). Checked (Err x) (answered answer)) (sym e) (check_by_fault fault answer is gone)
+  pub checked_at : (outcome : Outcome) (root : List ℕ) (s : Store) (i : ℕ) (o : Option Held) → held s i ≡ o → Checked outcome (check_by root o) → Checked outcome (check_by root (held s i))
+  checked_at outcome root s i o e p = subst (λ (x : Option Held). Checked outcome (check_by root x)) (sym e) p
 
-  pub checked_at : (came : Outcome) (root : List ℕ) (s : Store) (i : ℕ) (o : Option Held) → held s i ≡ o → Checked came (check_by root o) → Checked came (check_by root (held s i))
-  checked_at came root s i o e p = subst (λ (x : Option Held). Checked came (check_by root x)) (sym e) p
-
-  pub checked_whole : (came : Outcome) (root : List ℕ) (h : Held) → length h.complete ≡ h.pages → Checked came (answered (answer_of root (drop 1 h.complete))) → Checked came (check_by root (Some h))
-  checked_whole came root h e p = subst (Checked came) (sym (whole_is root h e)) p
+  pub checked_whole : (outcome : Outcome) (root : List ℕ) (h : Held) → length h.complete ≡ h.pages → Checked outcome (answered (answer_of root (drop 1 h.complete))) → Checked outcome (check_by root (Some h))
+  checked_whole outcome root h e p = subst (Checked outcome) (sym (whole_is root h e)) p
 
   pub checked_part : (h : Held) (root : List ℕ) → length h.complete ≢ h.pages → Looked a b → Checked (Err (ends.Refused (refusals.NotWhole (length h.complete) h.pages))) (check_by root (Some h))
   checked_part h root e looked = subst (Checked (Err (ends.Refused (refusals.NotWhole (length h.complete) h.pages)))) (sym (part_is root h e)) (refused_store Looked ReadStopped a b (refusals.NotWhole (length h.complete) h.pages) looked)
@@ -122,35 +119,35 @@ own_ending boards image root s h n some here whole fine =
     by_some boards (check_by root (held s image)) (omega (arith, some))
     ∙ ap (check_by root) here ∙ whole_is root h whole ∙ ap answered fine
 
-own_text : (status : Status) (n : ℕ) (a b : OutputTold) → WritesLast status statuses.Done (Some (chain_text n)) a b → TellsLength status n a b
+own_text : (status : Status) (n : ℕ) (a b : OutputState) → WritesLast status statuses.Done (Some (chain_text n)) a b → TellsLength status n a b
 own_text status n a b h = ⊎_elim (λ x. subst (λ (st : Status). TellsLength st n a b) (sym x.0) x.1) (λ y. ⊎_elim (λ x. subst (λ (st : Status). TellsLength st n a b) (sym x.0) tt) (λ x. subst (λ (st : Status). TellsLength st n a b) (sym x.0) tt) y) h
 
-own_rule : (status : Status) (came : Outcome) (n : ℕ) (a b : OutputTold) → came ≡ Ok (chain_text n) → Answered status came a b → TellsLength status n a b
-own_rule status came n a b is h = own_text status n a b (subst (λ (x : Outcome). Answered status x a b) is h)
+own_rule : (status : Status) (outcome : Outcome) (n : ℕ) (a b : OutputState) → outcome ≡ Ok (chain_text n) → WritesAnswer status outcome a b → TellsLength status n a b
+own_rule status outcome n a b is h = own_text status n a b (subst (λ (x : Outcome). WritesAnswer status x a b) is h)
 
 -- and tells it
-pub told_by : (status : Status) (came : Outcome) (ending : Ending) (n : ℕ) (a b : OutputTold) (looked acted may : List Device → List Device → Type 0) (old new : List Device) → ending ≡ Acting (Ok (chain_text n)) → Comes came ending looked acted may old new → (came ≡ Err ends.ReadFault → ⊥) → Answered status came a b → TellsLength status n a b
-told_by status (Ok text) ending n a b looked acted may old new is h read w = own_rule status (Ok text) n a b (h.0 ∙ ap outcome_of is) w
-told_by status (Err ends.Memory) ending n a b looked acted may old new is h read w = subst (λ (st : Status). TellsLength st n a b) (sym w.0) tt
-told_by status (Err ends.FlashFault) ending n a b looked acted may old new is h read w = subst (λ (st : Status). TellsLength st n a b) (sym w.0) tt
-told_by status (Err ends.ReadFault) ending n a b looked acted may old new is h read w = absurd (read refl)
-told_by status (Err ends.WriteFault) ending n a b looked acted may old new is h read w = own_rule status (Err ends.WriteFault) n a b (h.0 ∙ ap outcome_of is) w
-told_by status (Err ends.LinkFault) ending n a b looked acted may old new is h read w = own_rule status (Err ends.LinkFault) n a b (h.0 ∙ ap outcome_of is) w
-told_by status (Err ends.NotAVolume) ending n a b looked acted may old new is h read w = own_rule status (Err ends.NotAVolume) n a b (h.0 ∙ ap outcome_of is) w
-told_by status (Err ends.NoImage) ending n a b looked acted may old new is h read w = own_rule status (Err ends.NoImage) n a b (h.0 ∙ ap outcome_of is) w
-told_by status (Err ends.TooLong) ending n a b looked acted may old new is h read w = own_rule status (Err ends.TooLong) n a b (h.0 ∙ ap outcome_of is) w
-told_by status (Err ends.TooMany) ending n a b looked acted may old new is h read w = own_rule status (Err ends.TooMany) n a b (h.0 ∙ ap outcome_of is) w
-told_by status (Err (ends.NoBoard need have)) ending n a b looked acted may old new is h read w = own_rule status (Err (ends.NoBoard need have)) n a b (h.0 ∙ ap outcome_of is) w
-told_by status (Err (ends.BadHex fault)) ending n a b looked acted may old new is h read w = own_rule status (Err (ends.BadHex fault)) n a b (h.0 ∙ ap outcome_of is) w
-told_by status (Err (ends.BadLine number fault)) ending n a b looked acted may old new is h read w = own_rule status (Err (ends.BadLine number fault)) n a b (h.0 ∙ ap outcome_of is) w
-told_by status (Err (ends.BadProfile fault)) ending n a b looked acted may old new is h read w = own_rule status (Err (ends.BadProfile fault)) n a b (h.0 ∙ ap outcome_of is) w
-told_by status (Err (ends.Refused cause)) ending n a b looked acted may old new is h read w = own_rule status (Err (ends.Refused cause)) n a b (h.0 ∙ ap outcome_of is) w
+pub told_by : (status : Status) (outcome : Outcome) (ending : Ending) (n : ℕ) (a b : OutputState) (same looked acted halted : Type 0) → ending ≡ Acting (Ok (chain_text n)) → EndsAs outcome ending same looked acted halted → (outcome ≡ Err ends.ReadFault → ⊥) → WritesAnswer status outcome a b → TellsLength status n a b
+told_by status (Ok text) ending n a b same looked acted halted is h read w = own_rule status (Ok text) n a b (h.0 ∙ ap outcome_of is) w
+told_by status (Err ends.Memory) ending n a b same looked acted halted is h read w = subst (λ (st : Status). TellsLength st n a b) (sym w.0) tt
+told_by status (Err ends.FlashFault) ending n a b same looked acted halted is h read w = subst (λ (st : Status). TellsLength st n a b) (sym w.0) tt
+told_by status (Err ends.ReadFault) ending n a b same looked acted halted is h read w = absurd (read refl)
+told_by status (Err ends.WriteFault) ending n a b same looked acted halted is h read w = own_rule status (Err ends.WriteFault) n a b (h.0 ∙ ap outcome_of is) w
+told_by status (Err ends.LinkFault) ending n a b same looked acted halted is h read w = own_rule status (Err ends.LinkFault) n a b (h.0 ∙ ap outcome_of is) w
+told_by status (Err ends.NotAVolume) ending n a b same looked acted halted is h read w = own_rule status (Err ends.NotAVolume) n a b (h.0 ∙ ap outcome_of is) w
+told_by status (Err ends.NoImage) ending n a b same looked acted halted is h read w = own_rule status (Err ends.NoImage) n a b (h.0 ∙ ap outcome_of is) w
+told_by status (Err ends.TooLong) ending n a b same looked acted halted is h read w = own_rule status (Err ends.TooLong) n a b (h.0 ∙ ap outcome_of is) w
+told_by status (Err ends.TooMany) ending n a b same looked acted halted is h read w = own_rule status (Err ends.TooMany) n a b (h.0 ∙ ap outcome_of is) w
+told_by status (Err (ends.NoBoard need have)) ending n a b same looked acted halted is h read w = own_rule status (Err (ends.NoBoard need have)) n a b (h.0 ∙ ap outcome_of is) w
+told_by status (Err (ends.BadHex fault)) ending n a b same looked acted halted is h read w = own_rule status (Err (ends.BadHex fault)) n a b (h.0 ∙ ap outcome_of is) w
+told_by status (Err (ends.BadLine number fault)) ending n a b same looked acted halted is h read w = own_rule status (Err (ends.BadLine number fault)) n a b (h.0 ∙ ap outcome_of is) w
+told_by status (Err (ends.BadProfile fault)) ending n a b same looked acted halted is h read w = own_rule status (Err (ends.BadProfile fault)) n a b (h.0 ∙ ap outcome_of is) w
+told_by status (Err (ends.Refused cause)) ending n a b same looked acted halted is h read w = own_rule status (Err (ends.Refused cause)) n a b (h.0 ∙ ap outcome_of is) w
 
 -- a check that ends well came to its answer
-pub done_rule : (status : Status) (came : Outcome) (ending : Ending) (a b : OutputTold) (looked acted may : List Device → List Device → Type 0) (old new : List Device) → status ≡ statuses.Done → Answered status came a b → Comes came ending looked acted may old new → (text : List ℕ) × (Ok text ≡ outcome_of ending)
-done_rule status came ending a b looked acted may old new done w h =
-    let x = answered_done came a b (subst (λ (st : Status). Answered st came a b) done w) in
-    (x.0, (subst (λ (o : Outcome). Comes o ending looked acted may old new) x.1 h).0)
+pub done_rule : (status : Status) (outcome : Outcome) (ending : Ending) (a b : OutputState) (same looked acted halted : Type 0) → status ≡ statuses.Done → WritesAnswer status outcome a b → EndsAs outcome ending same looked acted halted → (text : List ℕ) × (Ok text ≡ outcome_of ending)
+done_rule status outcome ending a b same looked acted halted done w h =
+    let x = answered_done outcome a b (subst (λ (st : Status). WritesAnswer st outcome a b) done w) in
+    (x.0, (subst (λ (o : Outcome). EndsAs o ending same looked acted halted) x.1 h).0)
 
 -- what is lent and given back, and stays
 pub lent_same : {N X : Type 0} (f : N → X) (n : ℕ) (lent items now rest : List N) → lent ≡ items → n ≡ length now → map f now ≡ map f lent → map f (take n (now ++ rest)) ≡ map f items

@@ -25,7 +25,7 @@ use Rattle.dg_chain_tool.specs.declared.filling.FillFault.{FillFault}
 use Rattle.dg_chain_tool.specs.declared.filling.FillFault.TheVariants as fill_fault
 use Rattle.dg_tool.proofs.BoardLemmas.{same_some}
 use Rattle.dg_chain_tool.specs.Receiving.{expected, with_foreign}
-use Rattle.dg_chain_tool.specs.Filling.{FitsData, fits_root, next_trail, NextEnds, fill_to, FillEnds}
+use Rattle.dg_chain_tool.specs.inner.Filling.{FitsData, fits_root, next_trail, NextEnds, fill_to, FillEnds}
 
 pub from_err : {T E : Type 0} (r : Result T E) (x : E) → IsErrAnd r (λ e. e ≡ x) → r ≡ Err x
 from_err (Ok y) x h = absurd h

@@ -22,7 +22,7 @@ use Rattle.dg_volume.proofs.PageLemmas.{may_crc}
 use Rattle.dg_volume.proofs.PagedLemmas.{page_mounted, page_acted, page_stops, fill_stops}
 use Rattle.dg_chain.specs.Receiving.{fill_operations, receive_page_trail, Receives}
 use Rattle.dg_chain.specs.declared.sealing.ChainSealing.TheVariants.{Sealed, Foreign, Bad}
-use Rattle.dg_chain_tool.specs.Filling.{fits_root, next_trail}
+use Rattle.dg_chain_tool.specs.inner.Filling.{fits_root, next_trail}
 
 abbrev Back : List ℕ → Volume → Volume → OpenSlot → Type 0
 Back d v w o = (t : Store) (g : Held) → MountedBut (λ j. j ≡ (outline_told o).image) d v t → held t (outline_told o).image ≡ Some g → Opens o g → Mounted d w t
@@ -48,7 +48,7 @@ module _ (a b : Device) (v v1 w : Volume) (s : Store) (i : ℕ) (h : Held) (expe
       )
 
   pub bad_next : (o : OpenSlot) (kept found : ℕ) → may_seal (outline_told slot).image h page ≡ true → Receives expected (outline_told slot).image h page a b (Bad kept found o) → ⊥
-  bad_next o kept found may r = r.3 (r.2 ∙ may_crc (outline_told slot).image h page may ∙ sym r.1)
+  bad_next o kept found halted r = r.3 (r.2 ∙ may_crc (outline_told slot).image h page halted ∙ sym r.1)
 
   rest_stops : SlotStops i (resting h fill_operations) a b → Stops (resting s fill_operations) a b
   rest_stops stops =
@@ -62,6 +62,6 @@ module _ (a b : Device) (v v1 w : Volume) (s : Store) (i : ℕ) (h : Held) (expe
   stops_by false m e stops = rest_stops stops
 
   pub stopped_next : may_seal (outline_told slot).image h page ≡ true → SlotStops (outline_told slot).image (receive_page_trail expected (outline_told slot).image h page) a b → Stops (next_trail (fits_root expected page) s i page) a b
-  stopped_next may stops =
-      let at : may_seal i h page ≡ true = subst (λ (n : ℕ). may_seal n h page ≡ true) there may in
+  stopped_next halted stops =
+      let at : may_seal i h page ≡ true = subst (λ (n : ℕ). may_seal n h page ≡ true) there halted in
       stops_by (fits_root expected page) (may_seal i h page) at (subst (λ (n : ℕ). SlotStops n (receive_page_trail expected n h page) a b) there stops)

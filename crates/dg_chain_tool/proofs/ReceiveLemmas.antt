@@ -29,22 +29,22 @@ use Rattle.dg_chain.specs.Receiving.{fill_operations}
 use Rattle.dg_end.specs.declared.refusal.Refusal.{Refusal}
 use Rattle.dg_end.specs.declared.refusal.Refusal.TheVariants as refusals
 use Rattle.dg_end.specs.Lines.{Outcome}
-use Rattle.dg_end.specs.Widened.{end_of_injection}
+use Rattle.dg_end.specs.Conversions.{end_of_injection, end_of_take}
 use Rattle.dg_end.specs.declared.ends.End.{End}
 use Rattle.dg_end.specs.declared.ends.End.TheVariants as ends
 use Rattle.dg_chain_tool.specs.declared.filling.FillFault.{FillFault}
 use Rattle.dg_chain_tool.specs.declared.filling.FillFault.TheVariants as fill_fault
 use Rattle.dg_tool.specs.Endings.{Ending, Reading}
 use Rattle.dg_tool.specs.Verbs.{have_text}
-use Rattle.dg_tool.specs.Done.{Went, NeedsBoard, NeedsInput}
-use Rattle.dg_tool.specs.Inner.{OnStore}
+use Rattle.dg_tool.specs.Done.{Completed, NeedsBoard, NeedsInput}
+use Rattle.dg_tool.specs.inner.OneBoard.{OnStore}
 use Rattle.dg_tool.proofs.OutcomeLemmas.{made_store, refused_store, stopped_store, halts_stopped}
 use Rattle.dg_volume.proofs.ReadLemmas.{Looked-none}
 use Rattle.dg_tool.proofs.TrailLemmas.{looked_same}
 use Rattle.dg_words.specs.Counts.{Rose}
-use Rattle.dg_outside.specs.Outside.{InputTold}
+use Rattle.dg_outside.specs.Outside.{InputState}
 use Rattle.dg_tool.specs.Endings.{FirstAs}
-use Rattle.dg_tool.specs.Done.{WentOn, StopsOn, OnBoards, FedBoards}
+use Rattle.dg_tool.specs.Done.{CompletedOn, StopsOn, OnBoards, FedBoards}
 use Rattle.dg_tool.specs.Rules.{trail_rule}
 use Rattle.dg_tool.specs.Input.{ImageRead, end_of_image}
 use Rattle.dg_tool.specs.declared.input.ImageFault.{ImageFault}
@@ -53,7 +53,7 @@ use Rattle.dg_tool.proofs.InputLemmas.{fed, fed_none}
 use Rattle.dg_chain_tool.specs.Done.{receive_rule}
 use Rattle.dg_chain_tool.specs.Receiving.{expected, compared_from, first_foreign, done_in, foreign_in, keep_trail, with_foreign, trail_by, receive_trail}
 use Rattle.dg_chain_tool.specs.Verbs.{receive_by, receive_to, receive_into}
-use Rattle.dg_chain_tool.specs.Filling.{end_of_take, end_of_fill, fill_to, FillEnds}
+use Rattle.dg_chain_tool.specs.inner.Filling.{end_of_fill, fill_to, FillEnds}
 use Rattle.dg_chain_tool.proofs.FillLemmas.{break_above, to_first, to_works, to_more}
 
 -- ---- the trail begins where the chip is
@@ -100,38 +100,38 @@ receive_into_needs root row (Some s) = by_input_needs row (inject_refusal s row)
 
 -- ---- what it comes to
 
-went : (t : Trail Store) (a b : Device) (v : Volume) → Acted t a b v → Went t a b
+went : (t : Trail Store) (a b : Device) (v : Volume) → Acted t a b v → Completed t a b
 went t a b v h = record { ran = h.ran; stands = h.mounted.stands }
 
 module _ (root : List ℕ) (s : Store) (row : Row) (a b : Device) where
   abbrev pub Received : Outcome → Type 0
-  Received came = OnStore came (receive_to root row s) (Went (receive_trail root s row)) (Stops (receive_trail root s row)) a b
+  Received outcome = OnStore outcome (receive_to root row s) (Completed (receive_trail root s row)) (Stops (receive_trail root s row)) a b
 
   abbrev By : Outcome → Option InjectFault → Option Break → Type 0
-  By came refusal found = OnStore came (receive_by row refusal found) (Went (receive_trail root s row)) (Stops (receive_trail root s row)) a b
+  By outcome refusal found = OnStore outcome (receive_by row refusal found) (Completed (receive_trail root s row)) (Stops (receive_trail root s row)) a b
 
-  ends_by : (came : Outcome) (refusal : Option InjectFault) (found : Option Break) → inject_refusal s row ≡ refusal → foreign_in root s row ≡ found → By came refusal found → Received came
-  ends_by came refusal found e f h = subst (λ (o : Option InjectFault). By came o (foreign_in root s row)) (sym e) (subst (λ (o : Option Break). By came refusal o) (sym f) h)
+  ends_by : (outcome : Outcome) (refusal : Option InjectFault) (found : Option Break) → inject_refusal s row ≡ refusal → foreign_in root s row ≡ found → By outcome refusal found → Received outcome
+  ends_by outcome refusal found e f h = subst (λ (o : Option InjectFault). By outcome o (foreign_in root s row)) (sym e) (subst (λ (o : Option Break). By outcome refusal o) (sym f) h)
 
   pub received_stops : Stops (receive_trail root s row) a b → Received (Err ends.FlashFault)
-  received_stops h = stopped_store (Went (receive_trail root s row)) (Stops (receive_trail root s row)) a b (receive_to root row s) (receive_needs root row s) h (halts_stopped h.halts)
+  received_stops h = stopped_store (Completed (receive_trail root s row)) (Stops (receive_trail root s row)) a b (receive_to root row s) (receive_needs root row s) h (halts_stopped h.halts)
 
   pub received_refused : (fault : InjectFault) (cause : Refusal) → inject_refusal s row ≡ Some fault → end_of_injection (length row.bytes) fault ≡ ends.Refused cause → Looked a b → Received (Err (ends.Refused cause))
   received_refused fault cause e same looked =
       ends_by (Err (ends.Refused cause)) (Some fault) (foreign_in root s row) e refl
-      (subst (λ (x : End). OnStore (Err (ends.Refused cause)) (Reading x) (Went (receive_trail root s row)) (Stops (receive_trail root s row)) a b) (sym same) (refused_store (Went (receive_trail root s row)) (Stops (receive_trail root s row)) a b cause looked))
+      (subst (λ (x : End). OnStore (Err (ends.Refused cause)) (Reading x) (Completed (receive_trail root s row)) (Stops (receive_trail root s row)) a b) (sym same) (refused_store (Completed (receive_trail root s row)) (Stops (receive_trail root s row)) a b cause looked))
 
   filled_foreign : (k : ℕ) (at : Break) (v : Volume) → inject_refusal s row ≡ None → foreign_in root s row ≡ Some at → at.page ≡ k → Acted (receive_trail root s row) a b v → Received (Err (ends.Refused (refusals.Foreign k)))
   filled_foreign k at v none found page acted =
       ends_by (Err (ends.Refused (refusals.Foreign k))) None (Some at) none found
       (subst (λ (n : ℕ). By (Err (ends.Refused (refusals.Foreign n))) None (Some at)) page
-      (record { comes = (refl, went (receive_trail root s row) a b v acted); stops = λ e. cc; of_verb = tt; on_board = λ h. h }))
+      (record { rules = (refl, went (receive_trail root s row) a b v acted); stops = λ e. cc; of_verb = tt; on_board = λ h. h }))
 
   -- all that was missing is filled
   pub received_whole : (T : Type 0) (x : T) (found : Option Break) (t : Trail Store) (v : Volume) → inject_refusal s row ≡ None → found ≡ foreign_in root s row → t ≡ receive_trail root s row → FillEnds (Ok x) found t a b v → Received (Ok (have_text row))
   received_whole T x found t v none same is h =
       ends_by (Ok (have_text row)) None None none (sym same ∙ h.0)
-      (made_store (Went (receive_trail root s row)) (Stops (receive_trail root s row)) a b (have_text row) (have_text row) refl (went (receive_trail root s row) a b v (subst (λ (u : Trail Store). Acted u a b v) is h.1)))
+      (made_store (Completed (receive_trail root s row)) (Stops (receive_trail root s row)) a b (have_text row) (have_text row) refl (went (receive_trail root s row) a b v (subst (λ (u : Trail Store). Acted u a b v) is h.1)))
 
   abbrev filling : (T : Type 0) → FillFault → Result T FillFault
   filling T e = Err e
@@ -277,11 +277,11 @@ not_reserved s row some older e = reserved_by (nat_lt s.room 2) s.room (sym (tak
 
 -- ---- what is told of it
 
-pub told_made : (text told : List ℕ) (ending : Ending) (acted may : Device → Device → Type 0) (a b : Device) → OnStore (Ok told) ending acted may a b → text ≡ told → OnStore (Ok text) ending acted may a b
-told_made text told ending acted may a b h is = subst (λ (t : List ℕ). OnStore (Ok t) ending acted may a b) (sym is) h
+pub told_made : (text told : List ℕ) (ending : Ending) (acted halted : Device → Device → Type 0) (a b : Device) → OnStore (Ok told) ending acted halted a b → text ≡ told → OnStore (Ok text) ending acted halted a b
+told_made text told ending acted halted a b h is = subst (λ (t : List ℕ). OnStore (Ok t) ending acted halted a b) (sym is) h
 
-pub told_wants : (told : List ℕ) (ending : Ending) (acted may : Device → Device → Type 0) (a b : Device) → OnStore (Ok told) ending acted may a b → OnStore (Err ends.Memory) ending acted may a b
-told_wants told ending acted may a b h = record { comes = inr h.comes.1; stops = λ e. cc; of_verb = tt; on_board = λ x. x }
+pub told_wants : (told : List ℕ) (ending : Ending) (acted halted : Device → Device → Type 0) (a b : Device) → OnStore (Ok told) ending acted halted a b → OnStore (Err ends.Memory) ending acted halted a b
+told_wants told ending acted halted a b h = record { rules = inr h.rules.1; stops = λ e. cc; of_verb = tt; on_board = λ x. x }
 
 -- ---- page 0, and the data pages behind it
 
@@ -305,17 +305,13 @@ module _ (found : Option Break) (s : Store) (image : ℕ) (page : List ℕ) (res
 
 -- ---- a slot that is not taken, or a stop in its taking
 
-pub take_fails : (root : List ℕ) (s : Store) (row : Row) (a b : Device) (fault : TakeFault) (end : End) → IsRow row → 1 ≤ row.image → Older s row → end ≡ end_of_take fault
+pub take_fails : (root : List ℕ) (s : Store) (row : Row) (a b : Device) (fault : TakeFault) → IsRow row → 1 ≤ row.image → Older s row
     → UnlessTakeRefused {T = ℕ} (Err fault) (take_refusal s (profile row)) → (fault ≢ take_fault.Stopped → take_refusal s (profile row) ≡ Some fault) → (fault ≢ take_fault.Stopped → b ≡ a) → (fault ≡ take_fault.Stopped → Stops (take_trail s (profile row)) a b)
-    → Received root s row a b (Err end)
-take_fails root s row a b fault end is some older e allowed refused same stopped = subst (λ (x : End). Received root s row a b (Err x)) (sym e) (by fault allowed refused same stopped)
-  where
-    by : (f : TakeFault) → UnlessTakeRefused {T = ℕ} (Err f) (take_refusal s (profile row)) → (f ≢ take_fault.Stopped → take_refusal s (profile row) ≡ Some f) → (f ≢ take_fault.Stopped → b ≡ a) → (f ≡ take_fault.Stopped → Stops (take_trail s (profile row)) a b)
-        → Received root s row a b (Err (end_of_take f))
-    by take_fault.Stopped free says still gone = received_stops root s row a b (anew_stops root s row a b (take_free s row is some older free) older (gone refl))
-    by (take_fault.Worn k) free says still gone = received_refused root s row a b (inject.Worn k) (refusals.Worn k) (take_worn s row k is some older (says (λ x. cc))) refl (looked_same a b (still (λ x. cc)))
-    by (take_fault.Stale k) free says still gone = absurd (not_stale s row k some older (says (λ x. cc)))
-    by take_fault.Reserved free says still gone = absurd (not_reserved s row some older (says (λ x. cc)))
+    → Received root s row a b (Err (end_of_take fault))
+take_fails root s row a b take_fault.Stopped is some older free says still gone = received_stops root s row a b (anew_stops root s row a b (take_free s row is some older free) older (gone refl))
+take_fails root s row a b (take_fault.Worn k) is some older free says still gone = received_refused root s row a b (inject.Worn k) (refusals.Worn k) (take_worn s row k is some older (says (λ x. cc))) refl (looked_same a b (still (λ x. cc)))
+take_fails root s row a b (take_fault.Stale k) is some older free says still gone = absurd (not_stale s row k some older (says (λ x. cc)))
+take_fails root s row a b take_fault.Reserved is some older free says still gone = absurd (not_reserved s row some older (says (λ x. cc)))
 
 abbrev caused : InjectFault → (size : ℕ) → Type 0
 caused fault size = (cause : Refusal) × (end_of_injection size fault ≡ ends.Refused cause)
@@ -337,11 +333,11 @@ refused_at root s row a fault end e other same =
 
 -- ---- the image that the input spells
 
-pub fed_receive : {N T : Type 0} (f : N → Device) (items : List N) (root : List ℕ) (row : List ℕ → Row) (view : T → List ℕ) (image : T) (came : Outcome) (a b : InputTold) (new : List Device) → 0 < length items → ImageRead view (Ok image) a b
-    → OnBoards came (trail_rule (map f items) (receive_into root (row (view image))) (λ s. receive_trail root s (row (view image)))) (Rose a.reads b.reads) (map f items) new → FedBoards came (receive_rule (map f items) root row) a b (map f items) new
-fed_receive f items root row view image came a b new some read did =
-    fed (FirstAs (map f items)) (λ bytes chip. receive_into root (row bytes) chip) (λ bytes. WentOn (λ s. receive_trail root s (row bytes))) (λ bytes. StopsOn (λ s. receive_trail root s (row bytes))) (λ bytes chip. receive_into_needs root (row bytes) chip) view image came a b (map f items) new (some_mapped f items some) read did
+pub fed_receive : {N T : Type 0} (f : N → Device) (items : List N) (root : List ℕ) (row : List ℕ → Row) (view : T → List ℕ) (image : T) (outcome : Outcome) (a b : InputState) (new : List Device) → 0 < length items → ImageRead view (Ok image) a b
+    → OnBoards outcome (trail_rule (map f items) (receive_into root (row (view image))) (λ s. receive_trail root s (row (view image)))) (Rose a.reads b.reads) (map f items) new → FedBoards outcome (receive_rule (map f items) root row) a b (map f items) new
+fed_receive f items root row view image outcome a b new some read did =
+    fed (FirstAs (map f items)) (λ bytes chip. receive_into root (row bytes) chip) (λ bytes. CompletedOn (λ s. receive_trail root s (row bytes))) (λ bytes. StopsOn (λ s. receive_trail root s (row bytes))) (λ bytes chip. receive_into_needs root (row bytes) chip) view image outcome a b (map f items) new (some_mapped f items some) read did
 
-pub unfed_receive : {N T : Type 0} (f : N → Device) (items : List N) (root : List ℕ) (row : List ℕ → Row) (view : T → List ℕ) (fault : ImageFault) (a b : InputTold) → 0 < length items → ImageRead view (Err fault) a b → FedBoards (Err (end_of_image fault)) (receive_rule (map f items) root row) a b (map f items) (map f items)
+pub unfed_receive : {N T : Type 0} (f : N → Device) (items : List N) (root : List ℕ) (row : List ℕ → Row) (view : T → List ℕ) (fault : ImageFault) (a b : InputState) → 0 < length items → ImageRead view (Err fault) a b → FedBoards (Err (end_of_image fault)) (receive_rule (map f items) root row) a b (map f items) (map f items)
 unfed_receive f items root row view fault a b some read =
-    fed_none (FirstAs (map f items)) (λ bytes chip. receive_into root (row bytes) chip) (λ bytes. WentOn (λ s. receive_trail root s (row bytes))) (λ bytes. StopsOn (λ s. receive_trail root s (row bytes))) (λ bytes chip. receive_into_needs root (row bytes) chip) view fault a b (map f items) (some_mapped f items some) read
+    fed_none (FirstAs (map f items)) (λ bytes chip. receive_into root (row bytes) chip) (λ bytes. CompletedOn (λ s. receive_trail root s (row bytes))) (λ bytes. StopsOn (λ s. receive_trail root s (row bytes))) (λ bytes chip. receive_into_needs root (row bytes) chip) view fault a b (map f items) (some_mapped f items some) read

@@ -8,8 +8,9 @@ use Rattle.dg_base.specs.Outside.{AtEnd}
 use Rattle.dg_chain.specs.Chain.{IsPayload, most_payload}
 use Rattle.dg_chain.specs.declared.wrapping.WrapFault.{WrapFault}
 use Rattle.dg_chain.specs.declared.wrapping.WrapFault.TheVariants as wrap_fault
-use Rattle.dg_outside.specs.Outside.{InputTold}
-use Rattle.dg_end.specs.Lines.{Outcome, outcome}
+use Rattle.dg_outside.specs.Outside.{InputState}
+use Rattle.dg_end.specs.Conversions.{end_of_wrap}
+use Rattle.dg_end.specs.Lines.{Outcome, text_outcome}
 use Rattle.dg_end.specs.declared.ends.End.{End}
 use Rattle.dg_end.specs.declared.ends.End.TheVariants as ends
 use Rattle.dg_end.specs.declared.refusal.Refusal.TheVariants as refusals
@@ -19,7 +20,7 @@ use Rattle.dg_tool.specs.declared.input.ImageFault.{ImageFault}
 use Rattle.dg_tool.specs.declared.input.ImageFault.TheVariants as image_fault
 use Rattle.dg_tool.proofs.OutcomeLemmas.{at_end}
 use Rattle.dg_tool.proofs.InputLemmas.{by_over, input_image, input_fault, part_read, whole_read, reads_none}
-use Rattle.dg_chain_tool.specs.Verbs.{wrap_by, wrapped_text, end_of_wrap}
+use Rattle.dg_chain_tool.specs.Verbs.{wrap_by, wrapped_text}
 use Rattle.dg_chain_tool.specs.Done.{TextComes, FedText}
 
 none_test : (n : ℕ) → n ≡ 0 → (n == 0) ≡ true
@@ -62,7 +63,7 @@ text_none next bytes image_fault.ReadFault at_end failed h = h
 text_none next bytes image_fault.TooLong at_end failed h = ap outcome_of (sym (by_over most_input bytes next h.0))
 text_none next bytes (image_fault.BadHex fault) at_end failed h = ap outcome_of (sym (input_fault bytes fault next h.0 h.1))
 
-pub fed_none : {T : Type 0} (view : T → List ℕ) (next : List ℕ → Ending) (fault : ImageFault) (a b : InputTold) → ImageRead {T = T} view (Err fault) a b → FedText (Err (end_of_image fault)) next a b
+pub fed_none : {T : Type 0} (view : T → List ℕ) (next : List ℕ → Ending) (fault : ImageFault) (a b : InputState) → ImageRead {T = T} view (Err fault) a b → FedText (Err (end_of_image fault)) next a b
 fed_none view next fault a b h = record {
   bytes = h.bytes;
   read = part_read view fault 1 a b (omega arith) h;
@@ -71,17 +72,17 @@ fed_none view next fault a b h = record {
 
 -- ---- or one did
 
-fed_text : {T : Type 0} (view : T → List ℕ) (next : List ℕ → Ending) (image : T) (came : Outcome) (a b : InputTold) → (h : ImageRead view (Ok image) a b) → TextComes came (next (view image)) (Rose a.reads b.reads) → FedText came next a b
-fed_text view next image came a b h comes = record {
+fed_text : {T : Type 0} (view : T → List ℕ) (next : List ℕ → Ending) (image : T) (outcome : Outcome) (a b : InputState) → (h : ImageRead view (Ok image) a b) → TextComes outcome (next (view image)) (Rose a.reads b.reads) → FedText outcome next a b
+fed_text view next image outcome a b h comes = record {
   bytes = h.bytes;
-  read = whole_read view image came 1 a b (omega arith) h;
-  comes = subst (λ (e : Ending). TextComes came e (Rose a.reads b.reads)) (sym (input_image h.bytes (view image) next h.reads.0 h.reads.1)) comes;
+  read = whole_read view image outcome 1 a b (omega arith) h;
+  comes = subst (λ (e : Ending). TextComes outcome e (Rose a.reads b.reads)) (sym (input_image h.bytes (view image) next h.reads.0 h.reads.1)) comes;
 }
 
-pub fed_wants : {T : Type 0} (view : T → List ℕ) (next : List ℕ → Ending) (image : T) (a b : InputTold) → ImageRead view (Ok image) a b → FedText (Err ends.Memory) next a b
+pub fed_wants : {T : Type 0} (view : T → List ℕ) (next : List ℕ → Ending) (image : T) (a b : InputState) → ImageRead view (Ok image) a b → FedText (Err ends.Memory) next a b
 fed_wants view next image a b h = fed_text view next image (Err ends.Memory) a b h tt
 
-pub fed_made : {T : Type 0} (view : T → List ℕ) (image : T) (text : List ℕ) (a b : InputTold) → ImageRead view (Ok image) a b → IsPayload (view image) → text ≡ wrapped_text (view image) → FedText (Ok text) wrap_by a b
+pub fed_made : {T : Type 0} (view : T → List ℕ) (image : T) (text : List ℕ) (a b : InputState) → ImageRead view (Ok image) a b → IsPayload (view image) → text ≡ wrapped_text (view image) → FedText (Ok text) wrap_by a b
 fed_made view image text a b h is told = fed_text view wrap_by image (Ok text) a b h (ap (λ (t : List ℕ). Ok t) told ∙ ap outcome_of (sym (wrap_fits (view image) is)))
 
 wraps_fault : (fault : WrapFault) (x : List ℕ) (failed : Type 0) → (fault ≡ wrap_fault.Empty → length x ≡ 0) → ((n : ℕ) → fault ≡ wrap_fault.TooLarge n → (most_payload < length x) × (n ≡ length x)) → TextComes (Err (end_of_wrap fault)) (wrap_by x) failed
@@ -89,12 +90,11 @@ wraps_fault wrap_fault.Memory x failed none over = tt
 wraps_fault wrap_fault.Empty x failed none over = ap outcome_of (sym (wrap_empty x (none refl)))
 wraps_fault (wrap_fault.TooLarge n) x failed none over = ap outcome_of (sym (wrap_large x n (over n refl).0 (over n refl).1))
 
-pub fed_fault : {T : Type 0} (view : T → List ℕ) (image : T) (fault : WrapFault) (end : End) (a b : InputTold) → ImageRead view (Ok image) a b → end ≡ end_of_wrap fault → (fault ≡ wrap_fault.Empty → length (view image) ≡ 0) → ((n : ℕ) → fault ≡ wrap_fault.TooLarge n → (most_payload < length (view image)) × (n ≡ length (view image)))
-    → FedText (Err end) wrap_by a b
-fed_fault view image fault end a b h is none over =
-    subst (λ (e : End). FedText (Err e) wrap_by a b) (sym is) (fed_text view wrap_by image (Err (end_of_wrap fault)) a b h (wraps_fault fault (view image) (Rose a.reads b.reads) none over))
+pub fed_fault : {T : Type 0} (view : T → List ℕ) (image : T) (fault : WrapFault) (a b : InputState) → ImageRead view (Ok image) a b → (fault ≡ wrap_fault.Empty → length (view image) ≡ 0) → ((n : ℕ) → fault ≡ wrap_fault.TooLarge n → (most_payload < length (view image)) × (n ≡ length (view image)))
+    → FedText (Err (end_of_wrap fault)) wrap_by a b
+fed_fault view image fault a b h none over = fed_text view wrap_by image (Err (end_of_wrap fault)) a b h (wraps_fault fault (view image) (Rose a.reads b.reads) none over)
 
 -- ---- the exit of a `?`
 
-pub at_text : {T : Type 0} (view : T → List ℕ) (r : Result T End) (e : End) (next : List ℕ → Ending) (a b : InputTold) → IsErrAnd r (λ x. x ≡ e) → FedText (Err e) next a b → FedText (outcome view r) next a b
-at_text view r e next a b is h = at_end view (λ came. FedText came next a b) r e is h
+pub at_text : {T : Type 0} (view : T → List ℕ) (r : Result T End) (e : End) (next : List ℕ → Ending) (a b : InputState) → IsErrAnd r (λ x. x ≡ e) → FedText (Err e) next a b → FedText (text_outcome view r) next a b
+at_text view r e next a b is h = at_end view (λ outcome. FedText outcome next a b) r e is h

@@ -6,11 +6,12 @@ use Rattle.dg_base.specs.declared.answers.Status.{Status}
 use Rattle.dg_base.specs.declared.answers.Status.TheVariants.{Done, Memory, WriteFault, FlashFault}
 use Rattle.dg_nor.specs.Device.{Device}
 use Rattle.dg_object.specs.Object.{Row, row_of}
-use Rattle.dg_outside.specs.Outside.{Outside, InputTold, OutputTold}
+use Rattle.dg_outside.specs.Outside.{Outside, InputState, OutputState}
 use Rattle.dg_end.specs.Lines.{Outcome}
+use Rattle.dg_end.specs.Writes.{CommandEnds}
 use Rattle.dg_end.specs.declared.ends.End.TheVariants as ends
 use Rattle.dg_tool.specs.Endings.{Ending, outcome_of, by_input, content_in}
-use Rattle.dg_tool.specs.Done.{VerbRule, InputRead, ToolDone, FirstDone, InputDone}
+use Rattle.dg_tool.specs.Done.{VerbRule, InputRead, FirstDone, InputDone}
 use Rattle.dg_tool.specs.Rules.{trail_rule, reading_rule}
 use Rattle.dg_chain_tool.specs.Receiving.{receive_trail}
 use Rattle.dg_chain_tool.specs.Verbs.{wrap_by, check_on, receive_into, chain_text}
@@ -19,16 +20,16 @@ use Rattle.dg_chain_tool.specs.Verbs.{wrap_by, check_on, receive_into, chain_tex
 abbrev pub TextComes : Outcome → Ending → (read_failed : Type 0) → Type 0
 TextComes (Err ends.Memory) ending read_failed = Unit {0}
 TextComes (Err ends.ReadFault) ending read_failed = read_failed
-TextComes came ending read_failed = came ≡ outcome_of ending
+TextComes outcome ending read_failed = outcome ≡ outcome_of ending
 
 -- the same of one that goes by the bytes of its input
-pub record FedText (came : Outcome) (next : List ℕ → Ending) (a b : InputTold) : Type 0 where
+pub record FedText (outcome : Outcome) (next : List ℕ → Ending) (a b : InputState) : Type 0 where
   pub bytes : List ℕ
-  pub read : InputRead came 1 bytes a b
-  pub comes : TextComes came (by_input bytes next) (Rose a.reads b.reads)
+  pub read : InputRead outcome 1 bytes a b
+  pub comes : TextComes outcome (by_input bytes next) (Rose a.reads b.reads)
 
 abbrev pub WrapDone : Status → Outside → Outside → Type 0
-WrapDone status a b = ToolDone status (λ came. FedText came wrap_by a.input b.input × (b.boards ≡ a.boards)) a b
+WrapDone status a b = CommandEnds status (λ outcome. FedText outcome wrap_by a.input b.input × (b.boards ≡ a.boards)) a b
 
 abbrev pub CheckDone : (image : ℕ) → (root : List ℕ) → Status → Outside → Outside → Type 0
 CheckDone image root status a b = FirstDone status (reading_rule a.boards (check_on image root)) a b
@@ -43,7 +44,7 @@ abbrev pub ReceiveDone : (image version : ℕ) → (name root : List ℕ) → St
 ReceiveDone image version name root status a b = InputDone status (receive_rule a.boards root (row_of image version name)) a b
 
 -- that the pages are those of a payload of this length is told, unless memory ran out or the outside failed
-abbrev pub TellsLength : Status → ℕ → OutputTold → OutputTold → Type 0
+abbrev pub TellsLength : Status → ℕ → OutputState → OutputState → Type 0
 TellsLength Done n a b = Puts a.written b.written (chain_text n)
 TellsLength Memory n a b = Unit {0}
 TellsLength WriteFault n a b = Unit {0}

@@ -1,4 +1,4 @@
 pub mod Receiving
 pub mod Verbs
 pub mod Done
-pub mod Filling
+pub mod inner

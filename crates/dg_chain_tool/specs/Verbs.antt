@@ -1,6 +1,7 @@
 -- What the verbs of chained images do, by the bytes of the input and by what the board stands for (docs/COMMANDS.md,
 -- "Hash-chained images").
-use Rattle.std.specs.Prelude.{ℕ, ◌==◌, nat_lt, if◌then◌else◌, List, [], ◌∷◌, ◌++◌, length, drop, codes, Option, Some, None, Ok, Err}
+use Rattle.std.specs.Prelude.{ℕ, ◌==◌, nat_lt, if◌then◌else◌, List, [], ◌∷◌, ◌++◌, length, drop, codes}
+use Rattle.std.specs.Prelude.{Option, Some, None, Ok, Err}
 use Rattle.dg_base.specs.Hexadecimal.{hex_text}
 use Rattle.dg_ihex.specs.Written.{written_file}
 use Rattle.dg_object.specs.Object.{Row}
@@ -10,13 +11,8 @@ use Rattle.dg_volume.specs.Changes.{inject_refusal}
 use Rattle.dg_volume.specs.declared.volume.InjectFault.{InjectFault}
 use Rattle.dg_chain.specs.Chain.{root_of, image_of, most_payload}
 use Rattle.dg_chain.specs.Checking.{Answer, Fine, Broken, Misshapen, Break, answer_of}
-use Rattle.dg_chain.specs.declared.checking.ChainFault.{ChainFault}
-use Rattle.dg_chain.specs.declared.checking.ChainFault.TheVariants as chain_fault
-use Rattle.dg_chain.specs.declared.wrapping.WrapFault.{WrapFault}
-use Rattle.dg_chain.specs.declared.wrapping.WrapFault.TheVariants as wrap_fault
 use Rattle.dg_end.specs.declared.refusal.Refusal.TheVariants as refusals
-use Rattle.dg_end.specs.Widened.{end_of_injection}
-use Rattle.dg_end.specs.declared.ends.End.{End}
+use Rattle.dg_end.specs.Conversions.{end_of_injection}
 use Rattle.dg_end.specs.declared.ends.End.TheVariants as ends
 use Rattle.dg_end.specs.Texts.{numbers, line}
 use Rattle.dg_tool.specs.Endings.{Ending, Before, Reading, Acting, by_store}
@@ -34,12 +30,6 @@ wrap_by x =
     if length x == 0 then Before (ends.Refused refusals.Empty)
     else if nat_lt most_payload (length x) then Before (ends.Refused (refusals.TooLarge (length x)))
     else Acting (Ok (wrapped_text x))
-
--- what a payload that is not wrapped makes of a command
-abbrev pub end_of_wrap : WrapFault → End
-end_of_wrap wrap_fault.Memory = ends.Memory
-end_of_wrap wrap_fault.Empty = ends.Refused refusals.Empty
-end_of_wrap (wrap_fault.TooLarge length) = ends.Refused (refusals.TooLarge length)
 
 -- ---- check
 
@@ -60,12 +50,6 @@ check_by root (Some h) =
 
 abbrev pub check_on : (image : ℕ) → (root : List ℕ) → Option Store → Ending
 check_on image root chip = by_store chip (λ s. check_by root (held s image))
-
--- what a fault of the pages makes of a command
-abbrev pub end_of_chain : ChainFault → End
-end_of_chain chain_fault.Stopped = ends.FlashFault
-end_of_chain (chain_fault.Broken page kept found) = ends.Refused (refusals.Broken page kept found)
-end_of_chain chain_fault.Shape = ends.Refused refusals.Shape
 
 -- ---- receive
 

@@ -6,30 +6,17 @@ ghost use Rattle.dg_volume.specs.Sizes.{images};
 ghost use Rattle.dg_volume.specs.Store.{Store, held};
 ghost use Rattle.dg_volume.specs.Stands.{Mounted, IsMounted};
 ghost use Rattle.dg_volume.specs.Told.{told_held};
-ghost use Rattle.dg_end.specs.Lines.{outcome};
+ghost use Rattle.dg_end.specs.Lines.{text_outcome};
 ghost use Rattle.dg_tool.specs.Done.{OnBoards};
-ghost use Rattle.dg_tool.specs.Inner.{OnStore};
+ghost use Rattle.dg_tool.specs.inner.OneBoard.{OnStore};
 ghost use Rattle.dg_tool.specs.Rules.{reading_rule};
-ghost use Rattle.dg_chain_tool.specs.Verbs.{check_by, check_on, end_of_chain};
+ghost use Rattle.dg_chain_tool.specs.Verbs.{check_by, check_on};
 
-use dg_chain::{ChainFault, DIGEST_SIZE, check};
+use dg_chain::{DIGEST_SIZE, check};
 use dg_end::{End, Refusal, line_of};
 use dg_nor::Nor;
 use dg_volume::{Kept, Volume};
 use std::alloc::Global;
-
-/// What a fault of the pages makes of a command.
-fn end_of_chain(fault: ChainFault) -> End
-    ensures { result ≡ end_of_chain fault }
-{
-    match fault {
-        ChainFault::Stopped => End::FlashFault,
-        ChainFault::Broken { page, kept, found } => {
-            End::Refused(Refusal::Broken { page, kept, found })
-        }
-        ChainFault::Shape => End::Refused(Refusal::Shape),
-    }
-}
 
 /// Checks an image of which this is kept.
 fn check_kept<N: Nor>(
@@ -42,7 +29,7 @@ fn check_kept<N: Nor>(
     requires known_image { image < images }
     requires keeps { (h : Held) × KeepsImage (N.device nor.old).image image h × (kept.now ≡ told_held h) }
     ensures done { (h : Held) → KeepsImage (N.device nor.old).image image h → kept.now ≡ told_held h
-        → OnStore (outcome (λ text. text.items) result) (check_by root.now (Some h)) Looked ReadStopped (N.device nor.old)
+        → OnStore (text_outcome (λ text. text.items) result) (check_by root.now (Some h)) Looked ReadStopped (N.device nor.old)
         (N.device nor.new) }
     ensures unchanged { (N.device nor.new).image ≡ (N.device nor.old).image }
 {
@@ -50,10 +37,7 @@ fn check_kept<N: Nor>(
     if done != pages {
         return Err(End::Refused(Refusal::NotWhole { done, pages }));
     }
-    let length = match check(nor, image, root) {
-        Ok(length) => length,
-        Err(fault) => return Err(end_of_chain(fault)),
-    };
+    let length = check(nor, image, root)?;
     let line = line_of(alloc, b"chain", &[length])?;
     Ok(line)
 }
@@ -69,7 +53,7 @@ fn check_mounted<N: Nor>(
     requires known_image { image < images }
     requires mounted { IsMounted (N.device nor.old).image volume.now }
     ensures done { (s : Store) → Mounted (N.device nor.old).image volume.now s
-        → OnStore (outcome (λ text. text.items) result) (check_by root.now (held s image)) Looked ReadStopped
+        → OnStore (text_outcome (λ text. text.items) result) (check_by root.now (held s image)) Looked ReadStopped
         (N.device nor.old) (N.device nor.new) }
     ensures unchanged { (N.device nor.new).image ≡ (N.device nor.old).image }
 {
@@ -87,7 +71,7 @@ pub(crate) fn check_first<N: Nor>(
     boards: &mut [N],
 ) -> Result<Vec<u8>, End>
     requires known_image { image < images }
-    ensures done { OnBoards (outcome (λ text. text.items) result)
+    ensures done { OnBoards (text_outcome (λ text. text.items) result)
         (reading_rule (map N.device boards.old) (check_on image root.now)) ⊥ (map N.device boards.old)
         (map N.device boards.new) }
     ensures unchanged { map (λ board. (N.device board).image) boards.new ≡ map (λ board. (N.device board).image) boards.old }

@@ -9,7 +9,7 @@ ghost use Rattle.dg_volume.specs.Changes.{FitAll};
 ghost use Rattle.dg_volume.specs.Filling.{new_row};
 ghost use Rattle.dg_chain.specs.Checking.{first_break};
 ghost use Rattle.dg_chain_tool.specs.Receiving.{expected, foreign_from, first_foreign};
-ghost use Rattle.dg_chain_tool.specs.Filling.{FitsData, NextEnds, fill_to, FillEnds};
+ghost use Rattle.dg_chain_tool.specs.inner.Filling.{FitsData, NextEnds, fill_to, FillEnds};
 
 use dg_chain::{ChainSealing, DIGEST_SIZE, PIECE_SIZE, receive_page};
 use dg_end::{End, Refusal};
@@ -28,7 +28,7 @@ pub(crate) enum FillFault {
 
 impl From<FillFault> for End {
     ghost use Rattle.std.specs.Prelude.{◌≡◌};
-    ghost use Rattle.dg_chain_tool.specs.Filling.{end_of_fill};
+    ghost use Rattle.dg_chain_tool.specs.inner.Filling.{end_of_fill};
 
     ghost from_gives = { λ fault e. e ≡ end_of_fill fault };
 

@@ -36,8 +36,8 @@ pub fn wrap<S: Source, K: Sink>(alloc: Global, input: &mut S, out: &mut K) -> St
     ensures does { (rest : Outside) → WrapDone result (with_output (K.Sink, out.old) (with_input (S.Source, input.old) rest))
         (with_output (K.Sink, out.new) (with_input (S.Source, input.new) rest)) }
 {
-    let came = wrap_input(alloc, input);
-    answer(alloc, out, came)
+    let outcome = wrap_input(alloc, input);
+    answer(alloc, out, outcome)
 }
 
 /// Compares the data pages of an image that the first board keeps whole with a root, and changes no byte. Writes
@@ -67,8 +67,8 @@ pub fn check<K: Sink, N: Nor>(
         ≡ map (λ board. (N.device board).image) boards.old.items }
 {
     a_root_names_its_pages();
-    let came = check_first(alloc, image, root, boards.as_mut_slice());
-    answer(alloc, out, came)
+    let outcome = check_first(alloc, image, root, boards.as_mut_slice());
+    answer(alloc, out, outcome)
 }
 
 /// Keeps an image that `wrap` made whole on the first board, page by page: the image of the HEX file that `input` spells,
@@ -92,7 +92,7 @@ pub fn receive<S: Source, K: Sink, N: Nor>(
         (with_boards (map N.device boards.old.items) (with_output (K.Sink, out.old) (with_input (S.Source, input.old) rest)))
         (with_boards (map N.device boards.new.items) (with_output (K.Sink, out.new) (with_input (S.Source, input.new) rest))) }
 {
-    let came = receive_first(
+    let outcome = receive_first(
         alloc,
         image,
         version,
@@ -101,5 +101,5 @@ pub fn receive<S: Source, K: Sink, N: Nor>(
         input,
         boards.as_mut_slice(),
     );
-    answer(alloc, out, came)
+    answer(alloc, out, outcome)
 }

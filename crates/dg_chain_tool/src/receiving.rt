@@ -8,26 +8,23 @@ ghost use Rattle.dg_volume.specs.Stands.{kept_at, Mounted, IsMounted, NothingLen
 ghost use Rattle.dg_volume.specs.Acts.{Stops};
 ghost use Rattle.dg_volume.specs.declared.volume.Kept.{Kept};
 ghost use Rattle.dg_outside.specs.Outside.{input_of};
-ghost use Rattle.dg_end.specs.Lines.{outcome};
+ghost use Rattle.dg_end.specs.Lines.{text_outcome};
 ghost use Rattle.dg_tool.specs.Verbs.{have_text};
-ghost use Rattle.dg_tool.specs.Done.{Went, FedBoards};
-ghost use Rattle.dg_tool.specs.Inner.{OnStore};
+ghost use Rattle.dg_tool.specs.Done.{Completed, FedBoards};
+ghost use Rattle.dg_tool.specs.inner.OneBoard.{OnStore};
 ghost use Rattle.dg_chain_tool.specs.Receiving.{receive_trail};
 ghost use Rattle.dg_chain_tool.specs.Verbs.{receive_to};
 ghost use Rattle.dg_chain_tool.specs.Done.{receive_rule};
 ghost use Rattle.dg_volume.specs.Filling.{new_row};
-ghost use Rattle.dg_chain_tool.specs.Filling.{end_of_take};
 
 use crate::filling::receive_rest;
 use dg_base::Source;
 use dg_chain::DIGEST_SIZE;
 use dg_end::{End, Refusal, end_of_injection, line_of};
-use dg_nor::{Nor, Stopped};
+use dg_nor::Nor;
 use dg_object::PAGE_SIZE;
 use dg_tool::read_image;
-use dg_volume::{
-    Kept, NewImage, TakeFault, Volume, a_row_is_filled_page_by_page, injection_fault, is_other,
-};
+use dg_volume::{Kept, NewImage, Volume, a_row_is_filled_page_by_page, injection_fault, is_other};
 use std::alloc::Global;
 
 /// Fills what is missing of a version that is kept, where that is this image.
@@ -45,33 +42,17 @@ fn receive_kept<N: Nor>(
     requires kept { kept_at volume.old new.now.image ≡ Some kept.now }
     requires same_version { kept.now.version ≡ new.now.version }
     ensures ends { (s : Store) → Mounted (N.device nor.old).image volume.old s → let row = new_row new.now in
-        OnStore (outcome (λ u. have_text row) result)
-        (receive_to root.now row s) (Went (receive_trail root.now s row))
+        OnStore (text_outcome (λ u. have_text row) result)
+        (receive_to root.now row s) (Completed (receive_trail root.now s row))
         (Stops (receive_trail root.now s row)) (N.device nor.old) (N.device nor.new) }
 {
-    match is_other(nor, new, kept) {
-        Ok(other) => {
-            if other {
-                return Err(End::Refused(Refusal::Taken));
-            }
-            a_row_is_filled_page_by_page();
-            receive_rest(volume, nor, new, kept.done, root)?;
-            Ok(())
-        }
-        Err(Stopped) => Err(End::FlashFault),
+    let other = is_other(nor, new, kept)?;
+    if other {
+        return Err(End::Refused(Refusal::Taken));
     }
-}
-
-/// What a slot that is not taken makes of a command.
-fn end_of_take(fault: TakeFault) -> End
-    ensures { result ≡ end_of_take fault }
-{
-    match fault {
-        TakeFault::Stopped => End::FlashFault,
-        TakeFault::Stale { kept } => End::Refused(Refusal::Stale { version: kept }),
-        TakeFault::Reserved => End::Refused(Refusal::Reserved),
-        TakeFault::Worn { room } => End::Refused(Refusal::Worn { room }),
-    }
+    a_row_is_filled_page_by_page();
+    receive_rest(volume, nor, new, kept.done, root)?;
+    Ok(())
 }
 
 /// Takes the slot for a version that is not kept, and fills its pages.
@@ -87,21 +68,17 @@ fn receive_anew<N: Nor>(
     requires known_image { new.now.image < images }
     requires older { (k : Kept) → kept_at volume.old new.now.image ≡ Some k → k.version < new.now.version }
     ensures ends { (s : Store) → Mounted (N.device nor.old).image volume.old s → let row = new_row new.now in
-        OnStore (outcome (λ u. have_text row) result)
-        (receive_to root.now row s) (Went (receive_trail root.now s row))
+        OnStore (text_outcome (λ u. have_text row) result)
+        (receive_to root.now row s) (Completed (receive_trail root.now s row))
         (Stops (receive_trail root.now s row)) (N.device nor.old) (N.device nor.new) }
 {
     let mut first = [0; PAGE_SIZE];
     new.page(0, &mut first);
-    match volume.take(nor, new.image, &new.profile(&first)) {
-        Ok(slot) => {
-            volume.put_back(slot);
-            a_row_is_filled_page_by_page();
-            receive_rest(volume, nor, new, 0, root)?;
-            Ok(())
-        }
-        Err(fault) => Err(end_of_take(fault)),
-    }
+    let slot = volume.take(nor, new.image, &new.profile(&first))?;
+    volume.put_back(slot);
+    a_row_is_filled_page_by_page();
+    receive_rest(volume, nor, new, 0, root)?;
+    Ok(())
 }
 
 /// Keeps an image, of which no larger version is kept.
@@ -117,8 +94,8 @@ fn receive_new<N: Nor>(
     requires known_image { new.now.image < images }
     requires newest { (k : Kept) → kept_at volume.old new.now.image ≡ Some k → k.version ≤ new.now.version }
     ensures ends { (s : Store) → Mounted (N.device nor.old).image volume.old s → let row = new_row new.now in
-        OnStore (outcome (λ u. have_text row) result)
-        (receive_to root.now row s) (Went (receive_trail root.now s row))
+        OnStore (text_outcome (λ u. have_text row) result)
+        (receive_to root.now row s) (Completed (receive_trail root.now s row))
         (Stops (receive_trail root.now s row)) (N.device nor.old) (N.device nor.new) }
 {
     match volume.kept(new.image) {
@@ -141,8 +118,8 @@ fn receive_told<N: Nor>(
     requires known_image { new.now.image < images }
     requires newest { (k : Kept) → kept_at volume.old new.now.image ≡ Some k → k.version ≤ new.now.version }
     ensures ends { (s : Store) → Mounted (N.device nor.old).image volume.old s → let row = new_row new.now in
-        OnStore (outcome (λ text. text.items) result)
-        (receive_to root.now row s) (Went (receive_trail root.now s row))
+        OnStore (text_outcome (λ text. text.items) result)
+        (receive_to root.now row s) (Completed (receive_trail root.now s row))
         (Stops (receive_trail root.now s row)) (N.device nor.old) (N.device nor.new) }
 {
     receive_new(volume, nor, new, root)?;
@@ -169,8 +146,8 @@ fn receive_mounted<N: Nor>(
     requires version { 1 ≤ version }
     requires named { IsTrue (spells_name name.now) }
     ensures { (s : Store) → Mounted (N.device nor.old).image volume.old s → let row = row_of image version name.now bytes.now in
-        OnStore (outcome (λ text. text.items) result)
-        (receive_to root.now row s) (Went (receive_trail root.now s row))
+        OnStore (text_outcome (λ text. text.items) result)
+        (receive_to root.now row s) (Completed (receive_trail root.now s row))
         (Stops (receive_trail root.now s row)) (N.device nor.old) (N.device nor.new) }
 {
     match injection_fault(volume.kept(image), image, version, bytes) {
@@ -200,7 +177,7 @@ pub(crate) fn receive_first<S: Source, N: Nor>(
     requires image { image < images }
     requires version { 1 ≤ version }
     requires named { IsTrue (spells_name name.now) }
-    ensures done { FedBoards (outcome (λ text. text.items) result)
+    ensures done { FedBoards (text_outcome (λ text. text.items) result)
         (receive_rule (map N.device boards.old) root.now (row_of image version name.now)) (input_of (S.Source, input.old))
         (input_of (S.Source, input.new)) (map N.device boards.old) (map N.device boards.new) }
     ensures counts { S.faults input.old ≤ S.faults input.new }

@@ -4,14 +4,14 @@ ghost use Rattle.dg_base.specs.Hexadecimal.{hex_text};
 ghost use Rattle.dg_ihex.specs.Written.{written_file};
 ghost use Rattle.dg_ihex.specs.Sizes.{longest_image};
 ghost use Rattle.dg_outside.specs.Outside.{input_of};
-ghost use Rattle.dg_end.specs.Lines.{outcome};
+ghost use Rattle.dg_end.specs.Lines.{text_outcome};
 ghost use Rattle.dg_end.specs.Texts.{line};
-ghost use Rattle.dg_chain_tool.specs.Verbs.{wrap_by, end_of_wrap};
+ghost use Rattle.dg_chain_tool.specs.Verbs.{wrap_by};
 ghost use Rattle.dg_chain_tool.specs.Done.{FedText};
 
 use dg_base::{Source, push_hex};
-use dg_chain::{WrapFault, Wrapped, wrap};
-use dg_end::{End, Refusal};
+use dg_chain::{Wrapped, wrap};
+use dg_end::End;
 use dg_ihex::write_ihex;
 use dg_tool::read_image;
 use std::alloc::{AllocError, Global};
@@ -32,28 +32,14 @@ fn wrapped_report(alloc: Global, wrapped: &Wrapped) -> Result<Vec<u8>, AllocErro
     Ok(text)
 }
 
-/// What a payload that is not wrapped makes of a command.
-fn end_of_wrap(fault: WrapFault) -> End
-    ensures { result ≡ end_of_wrap fault }
-{
-    match fault {
-        WrapFault::Memory => End::Memory,
-        WrapFault::Empty => End::Refused(Refusal::Empty),
-        WrapFault::TooLarge { length } => End::Refused(Refusal::TooLarge { length }),
-    }
-}
-
 /// The text of the payload that an input spells.
 pub(crate) fn wrap_input<S: Source>(alloc: Global, input: &mut S) -> Result<Vec<u8>, End>
-    ensures done { FedText (outcome (λ text. text.items) result) wrap_by (input_of (S.Source, input.old))
+    ensures done { FedText (text_outcome (λ text. text.items) result) wrap_by (input_of (S.Source, input.old))
         (input_of (S.Source, input.new)) }
     ensures counts { S.faults input.old ≤ S.faults input.new }
 {
     let payload = read_image(alloc, input)?;
-    let wrapped = match wrap(alloc, &payload) {
-        Ok(wrapped) => wrapped,
-        Err(fault) => return Err(end_of_wrap(fault)),
-    };
+    let wrapped = wrap(alloc, &payload)?;
     let text = wrapped_report(alloc, &wrapped)?;
     Ok(text)
 }

@@ -7,7 +7,7 @@ use Rattle.dg_base.specs.declared.answers.Status.{Status}
 use Rattle.dg_base.specs.declared.answers.Status.TheVariants as statuses
 use Rattle.dg_nor.specs.Device.{Device}
 use Rattle.dg_object.specs.Object.{row_of}
-use Rattle.dg_outside.specs.Outside.{Outside, InputTold}
+use Rattle.dg_outside.specs.Outside.{Outside, InputState}
 use Rattle.dg_end.specs.declared.ends.End.TheVariants as ends
 use Rattle.dg_tool.specs.Done.{VerbRule, OnBoards, InputRead, FirstDone}
 use Rattle.dg_tool.specs.Rules.{reading_rule}
@@ -34,7 +34,7 @@ on_none rule read_failed old = record {
   untouched = λ h. absurd h;
 }
 
-read_none : (boards : ℕ) (a : InputTold) → InputRead (Err ends.Memory) boards [] a a
+read_none : (boards : ℕ) (a : InputState) → InputRead (Err ends.Memory) boards [] a a
 read_none boards a = record {
   taken = takes_none a.left;
   few_bytes = omega arith;
@@ -47,8 +47,8 @@ read_none boards a = record {
 
 first_none : (rule : VerbRule) (a : Outside) → FirstDone statuses.Memory rule a a
 first_none rule a = record {
-  came = Err ends.Memory;
-  does = (on_none rule ⊥ a.boards, refl);
+  outcome = Err ends.Memory;
+  allowed = (on_none rule ⊥ a.boards, refl);
   answered = (refl, refl);
   link = (refl, refl);
   counts = record { read_counts = omega arith; write_counts = omega arith; link_counts = omega arith };
@@ -68,8 +68,8 @@ checked image told root status a b e h = subst (λ (r : List ℕ). Checked image
 
 pub receive_none : (image version : ℕ) (name root : List ℕ) (a : Outside) → ReceiveDone image version name root statuses.Memory a a
 receive_none image version name root a = record {
-  came = Err ends.Memory;
-  does = record {
+  outcome = Err ends.Memory;
+  allowed = record {
     bytes = [];
     read = read_none (length a.boards) a.input;
     did = on_none (receive_rule a.boards root (row_of image version name) []) (Rose a.input.reads a.input.reads) a.boards;

@@ -1,4 +1,4 @@
-mod CarryLemmas
+mod DispatchLemmas
 mod VerbLemmas
 pub mod ChainLemmas
 mod DripLemmas

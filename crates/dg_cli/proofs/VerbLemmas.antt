@@ -11,9 +11,9 @@ use Rattle.dg_control.specs.Store.{HasForm}
 use Rattle.dg_volume.specs.Sizes.{old_form, new_form}
 use Rattle.dg_volume.specs.Store.{Store}
 use Rattle.dg_volume.specs.Stands.{Stands}
-use Rattle.dg_outside.specs.Outside.{Outside, OutputTold}
+use Rattle.dg_outside.specs.Outside.{Outside, OutputState}
 use Rattle.dg_end.specs.Lines.{Outcome}
-use Rattle.dg_end.specs.Finished.{Answered}
+use Rattle.dg_end.specs.Writes.{WritesAnswer}
 use Rattle.dg_end.specs.declared.ends.End.TheVariants as ends
 use Rattle.dg_end.proofs.AnswerLemmas.{answered_status, link_came}
 use Rattle.dg_chain.specs.Chain.{most_payload}
@@ -25,19 +25,19 @@ use Rattle.dg_chain_tool.specs.Done.{TextComes, WrapDone}
 
 -- ---- the link
 
-link_told : (status : Status) (came : Outcome) (a b : OutputTold) → status ≡ statuses.LinkFault → Answered status came a b → came ≡ Err ends.LinkFault
-link_told status came a b e h =
-    let told : Answered statuses.LinkFault came a b = subst (λ (s : Status). Answered s came a b) e h in
-    link_came came (answered_status statuses.LinkFault came a b told (λ x. cc) (λ x. cc))
+link_told : (status : Status) (outcome : Outcome) (a b : OutputState) → status ≡ statuses.LinkFault → WritesAnswer status outcome a b → outcome ≡ Err ends.LinkFault
+link_told status outcome a b e h =
+    let told : WritesAnswer statuses.LinkFault outcome a b = subst (λ (s : Status). WritesAnswer s outcome a b) e h in
+    link_came outcome (answered_status statuses.LinkFault outcome a b told (λ x. cc) (λ x. cc))
 
-no_link : (status : Status) (came : Outcome) (a b : OutputTold) → IsOfVerb came → Answered status came a b → status ≡ statuses.LinkFault → ⊥
-no_link status came a b verb h e = subst IsOfVerb (link_told status came a b e h) verb
+no_link : (status : Status) (outcome : Outcome) (a b : OutputState) → IsOfVerb outcome → WritesAnswer status outcome a b → status ≡ statuses.LinkFault → ⊥
+no_link status outcome a b verb h e = subst IsOfVerb (link_told status outcome a b e h) verb
 
 pub no_link_first : (status : Status) (rule : VerbRule) (a b : Outside) → FirstDone status rule a b → status ≡ statuses.LinkFault → ⊥
-no_link_first status rule a b h e = no_link status h.came a.output b.output h.does.0.of_verb h.answered e
+no_link_first status rule a b h e = no_link status h.outcome a.output b.output h.allowed.0.of_verb h.answered e
 
 pub no_link_input : (status : Status) (rule : List ℕ → VerbRule) (a b : Outside) → InputDone status rule a b → status ≡ statuses.LinkFault → ⊥
-no_link_input status rule a b h e = no_link status h.came a.output b.output h.does.did.of_verb h.answered e
+no_link_input status rule a b h e = no_link status h.outcome a.output b.output h.allowed.did.of_verb h.answered e
 
 -- ---- wrap
 
@@ -55,14 +55,14 @@ file_of_verb (Err fault) = tt
 input_of_verb : (input : List ℕ) → IsOfVerb (outcome_of (by_input input wrap_by))
 input_of_verb input = of_either (nat_lt most_input (length input)) _ _ tt (file_of_verb (hex_file input))
 
-no_link_text : (came : Outcome) (ending : Ending) (read_failed : Type 0) → IsOfVerb (outcome_of ending) → TextComes came ending read_failed → came ≡ Err ends.LinkFault → ⊥
-no_link_text came ending read_failed verb h e =
+no_link_text : (outcome : Outcome) (ending : Ending) (read_failed : Type 0) → IsOfVerb (outcome_of ending) → TextComes outcome ending read_failed → outcome ≡ Err ends.LinkFault → ⊥
+no_link_text outcome ending read_failed verb h e =
     let is : Err ends.LinkFault ≡ outcome_of ending = subst (λ (c : Outcome). TextComes c ending read_failed) e h in
     subst IsOfVerb (sym is) verb
 
 pub no_link_wrap : (status : Status) (a b : Outside) → WrapDone status a b → status ≡ statuses.LinkFault → ⊥
 no_link_wrap status a b h e =
-    no_link_text h.came (by_input h.does.0.bytes wrap_by) (Rose a.input.reads b.input.reads) (input_of_verb h.does.0.bytes) h.does.0.comes (link_told status h.came a.output b.output e h.answered)
+    no_link_text h.outcome (by_input h.allowed.0.bytes wrap_by) (Rose a.input.reads b.input.reads) (input_of_verb h.allowed.0.bytes) h.allowed.0.comes (link_told status h.outcome a.output b.output e h.answered)
 
 -- ---- migrate, by the form of the first board
 
@@ -87,4 +87,4 @@ nowhere = record {
 
 pub no_link_migrate : FormLaw → (status : Status) (a b : Outside) → MigrateDone status a b → status ≡ statuses.LinkFault → ⊥
 no_link_migrate law status a b h e =
-    some_form law a.boards (λ form first. no_link status h.came a.output b.output (h.does.0 form first).of_verb h.answered e)
+    some_form law a.boards (λ form first. no_link status h.outcome a.output b.output (h.allowed.0 form first).of_verb h.answered e)

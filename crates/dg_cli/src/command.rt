@@ -2,12 +2,12 @@
 ghost use Rattle.std.specs.Prelude.{◌≡◌, ◌≤◌, map, string_bytes};
 ghost use Rattle.dg_mote.specs.Sizes.{buffered_bytes, BuffersFit, ValuesAreSmall};
 ghost use Rattle.dg_words.specs.Counts.{Rose};
-ghost use Rattle.dg_outside.specs.Outside.{outside};
+ghost use Rattle.dg_outside.specs.Outside.{input_of, output_of, link_of, outside};
 ghost use Rattle.dg_command.specs.Asking.{asked_of};
 ghost use Rattle.dg_cli.specs.Commands.{CommandDone, ReadsInput, UsesLink};
 
-use crate::carrying::carry_out;
-use crate::telling::{tell_help, tell_usage};
+use crate::dispatch::dispatch;
+use crate::help::{tell_help, tell_usage};
 use dg_base::{Clock, Sink, Source, Status};
 use dg_command::{Asked, asked};
 use dg_link::Link;
@@ -38,10 +38,10 @@ pub fn run<S: Source, K: Sink, N: Nor, L: Link, C: Clock>(
     // of a run of the rules over the items of the script. Each status comes where the rules say. What was played keeps all
     // parts of the headline, and a script in its limits is replayed to its end, unless memory runs out or the outside fails.
     ensures does { CommandDone (asked_of (map string_bytes words.now.items)) result
-        (outside (S.Source, input.old) (K.Sink, out.old) (L.Link, link.old) (C.Clock, clock.old)
-        (map N.device boards.old.items))
-        (outside (S.Source, input.new) (K.Sink, out.new) (L.Link, link.new) (C.Clock, clock.new)
-        (map N.device boards.new.items)) }
+        (outside (input_of (S.Source, input.old)) (output_of (K.Sink, out.old)) (link_of (L.Link, link.old))
+        (C.told clock.old) (map N.device boards.old.items))
+        (outside (input_of (S.Source, input.new)) (output_of (K.Sink, out.new)) (link_of (L.Link, link.new))
+        (C.told clock.new) (map N.device boards.new.items)) }
     // The arrays of bytes that a mote and its calls name have 220 bytes by their types (`counted`), which are 214 where packet
     // sets are counted in their byte form. Those that are alive together in one call, or in a mount, have no more than 256 by
     // their types. A mote's value has at most 464 bytes of memory, and its outbox 80.
@@ -58,7 +58,7 @@ pub fn run<S: Source, K: Sink, N: Nor, L: Link, C: Clock>(
 {
     a_mote_buffers_little();
     match asked(alloc, words) {
-        Ok(Asked::Command(command)) => carry_out(alloc, &command, input, out, boards, link, clock),
+        Ok(Asked::Command(command)) => dispatch(alloc, &command, input, out, boards, link, clock),
         Ok(Asked::Help(text)) => tell_help(out, text.as_str()),
         Ok(Asked::Usage) => tell_usage(out),
         Err(AllocError) => Status::Memory,

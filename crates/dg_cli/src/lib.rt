@@ -1,12 +1,12 @@
 //! The commands of the program: `run` does all that it does, and `flash_names` tells which files it works on.
 #![tactic(auto)]
 
-mod basing;
-mod carrying;
-mod chaining;
+mod base;
+mod chain;
 mod command;
-mod migrating;
-mod telling;
+mod dispatch;
+mod help;
+mod migrate;
 
 pub use command::run;
 pub use dg_command::flash_names;

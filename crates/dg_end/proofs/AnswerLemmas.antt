@@ -1,20 +1,20 @@
 -- From the status of a command back to what it came to.
-use Rattle.std.proofs.Common.{◌≡◌, ◌≢◌, ℕ, List, Option, Some, None, Result, Ok, Err, refl, sym, subst, ◌∙◌, ⊎_elim}
+use Rattle.std.proofs.Common.{◌≡◌, ◌≢◌, ℕ, List, Option, Some, None, Ok, Err, refl, ⊎_elim}
 use Rattle.dg_base.specs.declared.answers.Status.{Status}
 use Rattle.dg_base.specs.declared.answers.Status.TheVariants as statuses
-use Rattle.dg_outside.specs.Outside.{OutputTold}
+use Rattle.dg_outside.specs.Outside.{OutputState}
 use Rattle.dg_end.specs.Lines.{Outcome, outcome_status, outcome_line, status_of}
-use Rattle.dg_end.specs.Finished.{WritesLast, Answered}
+use Rattle.dg_end.specs.Writes.{WritesLast, WritesAnswer}
 use Rattle.dg_end.specs.declared.ends.End.{End}
 use Rattle.dg_end.specs.declared.ends.End.TheVariants as ends
 
-written_status : (status wanted : Status) (line : Option (List ℕ)) (a b : OutputTold) → WritesLast status wanted line a b → status ≢ statuses.WriteFault → status ≢ statuses.Memory → status ≡ wanted
+written_status : (status wanted : Status) (line : Option (List ℕ)) (a b : OutputState) → WritesLast status wanted line a b → status ≢ statuses.WriteFault → status ≢ statuses.Memory → status ≡ wanted
 written_status status wanted None a b h whole room = h.0
 written_status status wanted (Some text) a b h whole room = ⊎_elim (λ x. x.0) (λ y. ⊎_elim (λ x. absurd (whole x.0)) (λ x. absurd (room x.0)) y) h
 
 -- but for a write that failed, and want of memory, the status is that of what was come to
-pub answered_status : (status : Status) (came : Outcome) (a b : OutputTold) → Answered status came a b → status ≢ statuses.WriteFault → status ≢ statuses.Memory → status ≡ outcome_status came
-answered_status status came a b h whole room = written_status status (outcome_status came) (outcome_line came) a b h whole room
+pub answered_status : (status : Status) (outcome : Outcome) (a b : OutputState) → WritesAnswer status outcome a b → status ≢ statuses.WriteFault → status ≢ statuses.Memory → status ≡ outcome_status outcome
+answered_status status outcome a b h whole room = written_status status (outcome_status outcome) (outcome_line outcome) a b h whole room
 
 not_done : (end : End) → statuses.Done ≢ status_of end
 not_done ends.Memory e = cc
@@ -33,15 +33,15 @@ not_done (ends.BadProfile fault) e = cc
 not_done (ends.Refused cause) e = cc
 
 -- one that is done came to its answer
-pub done_came : (came : Outcome) → statuses.Done ≡ outcome_status came → (text : List ℕ) × (came ≡ Ok text)
+pub done_came : (outcome : Outcome) → statuses.Done ≡ outcome_status outcome → (text : List ℕ) × (outcome ≡ Ok text)
 done_came (Ok text) e = (text, refl)
 done_came (Err end) e = absurd (not_done end e)
 
-pub answered_done : (came : Outcome) (a b : OutputTold) → Answered statuses.Done came a b → (text : List ℕ) × (came ≡ Ok text)
-answered_done came a b h = done_came came (answered_status statuses.Done came a b h (λ e. cc) (λ e. cc))
+pub answered_done : (outcome : Outcome) (a b : OutputState) → WritesAnswer statuses.Done outcome a b → (text : List ℕ) × (outcome ≡ Ok text)
+answered_done outcome a b h = done_came outcome (answered_status statuses.Done outcome a b h (λ e. cc) (λ e. cc))
 
 -- a status of one end alone
-pub link_came : (came : Outcome) → statuses.LinkFault ≡ outcome_status came → came ≡ Err ends.LinkFault
+pub link_came : (outcome : Outcome) → statuses.LinkFault ≡ outcome_status outcome → outcome ≡ Err ends.LinkFault
 link_came (Ok text) e = cc
 link_came (Err ends.LinkFault) e = refl
 link_came (Err ends.Memory) e = cc

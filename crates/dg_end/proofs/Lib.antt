@@ -1,3 +1,4 @@
 pub mod TextLemmas
 pub mod FinishLemmas
 pub mod AnswerLemmas
+pub mod CommandLemmas

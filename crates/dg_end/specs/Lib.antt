@@ -1,4 +1,4 @@
 pub mod Texts
 pub mod Lines
-pub mod Widened
-pub mod Finished
+pub mod Conversions
+pub mod Writes

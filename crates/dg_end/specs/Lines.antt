@@ -67,9 +67,9 @@ abbrev pub Outcome : Type 0
 Outcome = Result (List ℕ) End
 
 -- the same of a call that answers a value, whose text this view gives
-abbrev pub outcome : {T : Type 0} → (T → List ℕ) → Result T End → Outcome
-outcome view (Ok x) = Ok (view x)
-outcome view (Err end) = Err end
+abbrev pub text_outcome : {T : Type 0} → (T → List ℕ) → Result T End → Outcome
+text_outcome view (Ok x) = Ok (view x)
+text_outcome view (Err end) = Err end
 
 abbrev pub outcome_status : {T : Type 0} → Result T End → Status
 outcome_status (Ok text) = statuses.Done
@@ -81,6 +81,6 @@ outcome_line (Ok text) = Some text
 outcome_line (Err end) = last_line end
 
 -- what is written at the end of a command that wrote its answer before
-abbrev pub end_line : {T : Type 0} → Result T End → Option (List ℕ)
-end_line (Ok x) = None
-end_line (Err end) = last_line end
+abbrev pub finish_line : {T : Type 0} → Result T End → Option (List ℕ)
+finish_line (Ok x) = None
+finish_line (Err end) = last_line end

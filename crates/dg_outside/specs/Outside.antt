@@ -2,7 +2,6 @@
 -- command did is said of this before and after.
 use Rattle.std.specs.Prelude.{◌≡◌, ℕ, ◌≤◌, List, Option}
 use Rattle.dg_base.specs.Clock.{Answers}
-use Rattle.dg_base.specs.declared.clock.Clock.{Ghosts as ClockTells}
 use Rattle.dg_base.specs.declared.outside.Source.{Ghosts as SourceTells}
 use Rattle.dg_base.specs.declared.outside.Sink.{Ghosts as SinkTells}
 use Rattle.dg_link.specs.Inboxes.{Inboxes}
@@ -10,49 +9,43 @@ use Rattle.dg_link.specs.declared.link.Link.{Ghosts as LinkTells}
 use Rattle.dg_nor.specs.Device.{Device}
 
 -- the bytes that are left, and how many reads failed
-pub record InputTold : Type 0 where
+pub record InputState : Type 0 where
   pub left : Option (List ℕ)
   pub reads : ℕ
 
 -- the bytes that were written, and how many writes failed
-pub record OutputTold : Type 0 where
+pub record OutputState : Type 0 where
   pub written : Option (List ℕ)
   pub writes : ℕ
 
 -- the frames that wait, and how many calls failed
-pub record LinkTold : Type 0 where
+pub record LinkState : Type 0 where
   pub inboxes : Option Inboxes
   pub failures : ℕ
 
 pub record Outside : Type 0 where
-  pub input : InputTold
-  pub output : OutputTold
-  pub link : LinkTold
+  pub input : InputState
+  pub output : OutputState
+  pub link : LinkState
   -- the answers to come
   pub clock : Option Answers
   pub boards : List Device
 
 -- ---- what is told of what a call is lent
 
-abbrev pub input_of : {S : Type 0} → SourceTells S × S → InputTold
+abbrev pub input_of : {S : Type 0} → SourceTells S × S → InputState
 input_of source = record { left = source.0.left source.1; reads = source.0.faults source.1 }
 
-abbrev pub output_of : {K : Type 0} → SinkTells K × K → OutputTold
+abbrev pub output_of : {K : Type 0} → SinkTells K × K → OutputState
 output_of sink = record { written = sink.0.written sink.1; writes = sink.0.faults sink.1 }
 
-abbrev pub link_of : {L : Type 0} → LinkTells L × L → LinkTold
+abbrev pub link_of : {L : Type 0} → LinkTells L × L → LinkState
 link_of net = record { inboxes = net.0.inboxes net.1; failures = net.0.faults net.1 }
 
--- all of it, of a call that is lent all of it: each part with what its trait tells
-abbrev pub outside : {S K L C : Type 0} → SourceTells S × S → SinkTells K × K → LinkTells L × L → ClockTells C × C
-    → List Device → Outside
-outside source sink net time devices = record {
-  input = input_of source;
-  output = output_of sink;
-  link = link_of net;
-  clock = time.0.told time.1;
-  boards = devices;
-}
+-- all of it, of a call that is lent all of it
+abbrev pub outside : InputState → OutputState → LinkState → (clock : Option Answers) → (boards : List Device) → Outside
+outside input output link clock boards =
+    record { input = input; output = output; link = link; clock = clock; boards = boards }
 
 -- ---- of a call that is lent a part of it, the rest being any
 

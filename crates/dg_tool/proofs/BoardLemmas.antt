@@ -7,13 +7,13 @@ use Rattle.std.proofs.lemmas.Bool.Decides.{nat_tests}
 use Rattle.dg_nor.specs.Device.{Device}
 use Rattle.dg_nor.specs.Reads.{Looked}
 use Rattle.dg_volume.specs.Store.{Store}
-use Rattle.dg_end.specs.Lines.{Outcome, outcome}
+use Rattle.dg_end.specs.Lines.{Outcome, text_outcome}
 use Rattle.dg_end.specs.declared.ends.End.{End}
 use Rattle.dg_end.specs.declared.ends.End.TheVariants as ends
 use Rattle.dg_tool.specs.Endings.{Ending, no_board, outcome_of, by_boards, StandsAs, FirstAs}
-use Rattle.dg_tool.specs.Done.{VerbRule, verb_rule, Leaves, Comes, IsBefore, AtFirst, OnBoards}
-use Rattle.dg_tool.specs.Inner.{OnBoard}
-use Rattle.dg_tool.proofs.OutcomeLemmas.{at_end, leaves_by, comes_by}
+use Rattle.dg_tool.specs.Done.{VerbRule, verb_rule, ActsAs, EndsAs, IsBefore, AtFirst, OnBoards}
+use Rattle.dg_tool.specs.inner.OneBoard.{OnBoard}
+use Rattle.dg_tool.proofs.OutcomeLemmas.{at_end, acts_as, ends_as}
 
 lt_true : (k n : ℕ) → k < n → nat_lt k n ≡ true
 lt_true k n h = grind (arith, nat_tests)
@@ -46,17 +46,17 @@ none_mapped f (x ∷ xs) none = absurd (omega (arith, none))
 at_first : (P : Device → Device → Type 0) (d e : Device) (ds : List Device) → P d e → AtFirst P (d ∷ ds) (e ∷ ds)
 at_first P d e ds h a b was is = subst (λ (x : Device). P x b) (same_some d a was) (subst (λ (y : Device). P d y) (same_some e b is) h)
 
-comes_first : (came : Outcome) (ending : Ending) (acted may : Device → Device → Type 0) (d e : Device) (ds : List Device) → Comes came ending Looked acted may d e → Comes came ending (AtFirst Looked) (AtFirst acted) (AtFirst may) (d ∷ ds) (e ∷ ds)
-comes_first came ending acted may d e ds h =
-    comes_by ending Looked acted may (AtFirst Looked) (AtFirst acted) (AtFirst may) d e (d ∷ ds) (e ∷ ds)
-    (leaves_by ending Looked acted (AtFirst Looked) (AtFirst acted) d e (d ∷ ds) (e ∷ ds) (inr (λ s. ap (λ (x : Device). x ∷ ds) s)) (at_first Looked d e ds) (at_first acted d e ds))
-    (at_first Looked d e ds) (at_first may d e ds) came (λ _ s. ap (λ (x : Device). x ∷ ds) s) h
+ends_first : (outcome : Outcome) (ending : Ending) (acted halted : Device → Device → Type 0) (d e : Device) (ds : List Device) → EndsAs outcome ending (e ≡ d) (Looked d e) (acted d e) (halted d e) → EndsAs outcome ending (e ∷ ds ≡ d ∷ ds) (AtFirst Looked (d ∷ ds) (e ∷ ds)) (AtFirst acted (d ∷ ds) (e ∷ ds)) (AtFirst halted (d ∷ ds) (e ∷ ds))
+ends_first outcome ending acted halted d e ds h =
+    ends_as ending (e ≡ d) (Looked d e) (acted d e) (halted d e) (e ∷ ds ≡ d ∷ ds) (AtFirst Looked (d ∷ ds) (e ∷ ds)) (AtFirst acted (d ∷ ds) (e ∷ ds)) (AtFirst halted (d ∷ ds) (e ∷ ds))
+    (acts_as ending (e ≡ d) (Looked d e) (acted d e) (e ∷ ds ≡ d ∷ ds) (AtFirst Looked (d ∷ ds) (e ∷ ds)) (AtFirst acted (d ∷ ds) (e ∷ ds)) (inr (λ s. ap (λ (x : Device). x ∷ ds) s)) (at_first Looked d e ds) (at_first acted d e ds))
+    (at_first Looked d e ds) (at_first halted d e ds) outcome (λ _ s. ap (λ (x : Device). x ∷ ds) s) h
 
-on_one : (failed : Type 0) (came : Outcome) (chips : Option Store → Type 0) (ending : Option Store → Ending) (acted may : Option Store → Device → Device → Type 0) (d e : Device) (ds : List Device) → OnBoard came (verb_rule chips ending acted may) d e → OnBoards came (verb_rule chips ending acted may) failed (d ∷ ds) (e ∷ ds)
-on_one failed came chips ending acted may d e ds h = record {
+on_one : (failed : Type 0) (outcome : Outcome) (chips : Option Store → Type 0) (ending : Option Store → Ending) (acted halted : Option Store → Device → Device → Type 0) (d e : Device) (ds : List Device) → OnBoard outcome (verb_rule chips ending acted halted) d e → OnBoards outcome (verb_rule chips ending acted halted) failed (d ∷ ds) (e ∷ ds)
+on_one failed outcome chips ending acted halted d e ds h = record {
   rules = λ chip stands.
-      subst (λ (x : Ending). Comes came x (AtFirst Looked) (AtFirst (acted chip)) (AtFirst (may chip)) (d ∷ ds) (e ∷ ds)) (sym (by_some (length (d ∷ ds)) (ending chip) (omega arith)))
-      (comes_first came (ending chip) (acted chip) (may chip) d e ds (h.rules chip stands));
+      subst (λ (x : Ending). EndsAs outcome x (e ∷ ds ≡ d ∷ ds) (AtFirst Looked (d ∷ ds) (e ∷ ds)) (AtFirst (acted chip) (d ∷ ds) (e ∷ ds)) (AtFirst (halted chip) (d ∷ ds) (e ∷ ds))) (sym (by_some (length (d ∷ ds)) (ending chip) (omega arith)))
+      (ends_first outcome (ending chip) (acted chip) (halted chip) d e ds (h.rules chip stands));
   found = h.found;
   stops = λ s. record { before = d; after = e; was = refl; is = refl; stopped = h.stops s };
   read = λ r. absurd (h.on_board (subst IsBefore (sym r) tt));
@@ -65,23 +65,23 @@ on_one failed came chips ending acted may d e ds h = record {
   untouched = λ before. absurd (h.on_board before);
 }
 
-pub on_first : {N : Type 0} (failed : Type 0) (f : N → Device) (items : List N) (x y : N) (came : Outcome) (ending : Option Store → Ending) (acted may : Option Store → Device → Device → Type 0) → 0 < length items
-    → OnBoard came (verb_rule (StandsAs (f (get_or items 0 x)).image) ending acted may) (f (get_or items 0 x)) (f y) → OnBoards came (verb_rule (FirstAs (map f items)) ending acted may) failed (map f items) (map f (set items 0 y))
-on_first failed f [] x y came ending acted may some h = absurd (omega (arith, some))
-on_first failed f (z ∷ zs) x y came ending acted may some h = on_one failed came (StandsAs (f z).image) ending acted may (f z) (f y) (map f zs) h
+pub on_first : {N : Type 0} (failed : Type 0) (f : N → Device) (items : List N) (x y : N) (outcome : Outcome) (ending : Option Store → Ending) (acted halted : Option Store → Device → Device → Type 0) → 0 < length items
+    → OnBoard outcome (verb_rule (StandsAs (f (get_or items 0 x)).image) ending acted halted) (f (get_or items 0 x)) (f y) → OnBoards outcome (verb_rule (FirstAs (map f items)) ending acted halted) failed (map f items) (map f (set items 0 y))
+on_first failed f [] x y outcome ending acted halted some h = absurd (omega (arith, some))
+on_first failed f (z ∷ zs) x y outcome ending acted halted some h = on_one failed outcome (StandsAs (f z).image) ending acted halted (f z) (f y) (map f zs) h
 
 -- the same, where nothing is asked of the board
-pub on_any : {N : Type 0} (failed : Type 0) (f : N → Device) (items : List N) (x y : N) (came : Outcome) (ending : Option Store → Ending) (acted may : Option Store → Device → Device → Type 0) → 0 < length items
-    → OnBoard came (verb_rule (λ chip. Unit {0}) ending acted may) (f (get_or items 0 x)) (f y) → OnBoards came (verb_rule (λ chip. Unit {0}) ending acted may) failed (map f items) (map f (set items 0 y))
-on_any failed f [] x y came ending acted may some h = absurd (omega (arith, some))
-on_any failed f (z ∷ zs) x y came ending acted may some h = on_one failed came (λ chip. Unit {0}) ending acted may (f z) (f y) (map f zs) h
+pub on_any : {N : Type 0} (failed : Type 0) (f : N → Device) (items : List N) (x y : N) (outcome : Outcome) (ending : Option Store → Ending) (acted halted : Option Store → Device → Device → Type 0) → 0 < length items
+    → OnBoard outcome (verb_rule (λ chip. Unit {0}) ending acted halted) (f (get_or items 0 x)) (f y) → OnBoards outcome (verb_rule (λ chip. Unit {0}) ending acted halted) failed (map f items) (map f (set items 0 y))
+on_any failed f [] x y outcome ending acted halted some h = absurd (omega (arith, some))
+on_any failed f (z ∷ zs) x y outcome ending acted halted some h = on_one failed outcome (λ chip. Unit {0}) ending acted halted (f z) (f y) (map f zs) h
 
 -- ---- the boards as they were
 
 -- there is none
-pub no_boards : {N : Type 0} (f : N → Device) (items : List N) (failed : Type 0) (chips : Option Store → Type 0) (ending : Option Store → Ending) (acted may : Option Store → Device → Device → Type 0) → length items ≡ 0 → OnBoards (Err (ends.NoBoard 1 0)) (verb_rule chips ending acted may) failed (map f items) (map f items)
-no_boards f [] failed chips ending acted may none = record {
-  rules = λ chip _. (ap outcome_of (sym (by_none 0 (ending chip) refl)), subst (λ (x : Ending). Leaves x (AtFirst Looked) (AtFirst (acted chip)) [] []) (sym (by_none 0 (ending chip) refl)) refl);
+pub no_boards : {N : Type 0} (f : N → Device) (items : List N) (failed : Type 0) (chips : Option Store → Type 0) (ending : Option Store → Ending) (acted halted : Option Store → Device → Device → Type 0) → length items ≡ 0 → OnBoards (Err (ends.NoBoard 1 0)) (verb_rule chips ending acted halted) failed (map f items) (map f items)
+no_boards f [] failed chips ending acted halted none = record {
+  rules = λ chip _. let none : List Device = [] in (ap outcome_of (sym (by_none 0 (ending chip) refl)), subst (λ (x : Ending). ActsAs x (none ≡ none) (AtFirst Looked none none) (AtFirst (acted chip) none none)) (sym (by_none 0 (ending chip) refl)) refl);
   found = λ h. absurd h;
   stops = λ s. cc;
   read = λ s. cc;
@@ -89,7 +89,7 @@ no_boards f [] failed chips ending acted may none = record {
   first = record { count = refl; others = refl };
   untouched = λ _. refl;
 }
-no_boards f (x ∷ xs) failed chips ending acted may none = absurd (omega (arith, none))
+no_boards f (x ∷ xs) failed chips ending acted halted none = absurd (omega (arith, none))
 
 -- ---- bytes that stay
 
@@ -99,8 +99,8 @@ same_bytes f (z ∷ zs) x y some e = ap (λ (c : List ℕ). c ∷ map (λ n. (f 
 
 -- ---- the exit of a `?`
 
-pub at_boards : {T : Type 0} (view : T → List ℕ) (r : Result T End) (e : End) (rule : VerbRule) (failed : Type 0) (old new : List Device) → IsErrAnd r (λ x. x ≡ e) → OnBoards (Err e) rule failed old new → OnBoards (outcome view r) rule failed old new
-at_boards view r e rule failed old new is h = at_end view (λ came. OnBoards came rule failed old new) r e is h
+pub at_boards : {T : Type 0} (view : T → List ℕ) (r : Result T End) (e : End) (rule : VerbRule) (failed : Type 0) (old new : List Device) → IsErrAnd r (λ x. x ≡ e) → OnBoards (Err e) rule failed old new → OnBoards (text_outcome view r) rule failed old new
+at_boards view r e rule failed old new is h = at_end view (λ outcome. OnBoards outcome rule failed old new) r e is h
 
 -- ---- the elements of a vector, lent as a slice and given back
 

@@ -11,12 +11,12 @@ use Rattle.dg_nor.specs.Device.{Device}
 use Rattle.dg_nor.specs.Reads.{Looked}
 use Rattle.dg_volume.specs.Store.{Store}
 use Rattle.dg_volume.proofs.ReadLemmas.{Looked-none}
-use Rattle.dg_outside.specs.Outside.{InputTold}
-use Rattle.dg_end.specs.Lines.{Outcome, outcome}
+use Rattle.dg_outside.specs.Outside.{InputState}
+use Rattle.dg_end.specs.Lines.{Outcome, text_outcome}
 use Rattle.dg_end.specs.declared.ends.End.{End}
 use Rattle.dg_end.specs.declared.ends.End.TheVariants as ends
 use Rattle.dg_tool.specs.Endings.{Ending, Before, outcome_of, by_boards, by_file, by_input, content_by, content_in}
-use Rattle.dg_tool.specs.Done.{VerbRule, verb_rule, Leaves, NeedsInput, Comes, AtFirst, OnBoards, InputRead, FedBoards}
+use Rattle.dg_tool.specs.Done.{VerbRule, verb_rule, ActsAs, NeedsInput, EndsAs, AtFirst, OnBoards, InputRead, FedBoards}
 use Rattle.dg_tool.specs.Input.{ReadsImage, ImageRead, end_of_image}
 use Rattle.dg_tool.specs.declared.input.ImageFault.{ImageFault}
 use Rattle.dg_tool.specs.declared.input.ImageFault.TheVariants as image_fault
@@ -86,7 +86,7 @@ fault_differs : (T : Type 0) (fault : ImageFault) → failing (List ℕ) End (en
 fault_differs T fault other e = other (ap (λ x. Err (end_of_image x)) (err_inner {T = T} fault image_fault.ReadFault e))
 
 -- no image came of it
-pub part_read : {T : Type 0} (view : T → List ℕ) (fault : ImageFault) (n : ℕ) (a b : InputTold) → 0 < n → (h : ImageRead {T = T} view (Err fault) a b) → InputRead (Err (end_of_image fault)) n h.bytes a b
+pub part_read : {T : Type 0} (view : T → List ℕ) (fault : ImageFault) (n : ℕ) (a b : InputState) → 0 < n → (h : ImageRead {T = T} view (Err fault) a b) → InputRead (Err (end_of_image fault)) n h.bytes a b
 part_read {T} view fault n a b some h = record {
   taken = h.taken;
   few_bytes = h.few_bytes;
@@ -96,8 +96,8 @@ part_read {T} view fault n a b some h = record {
 }
 
 -- an image came of it, whatever is made of that
-pub whole_read : {T : Type 0} (view : T → List ℕ) (image : T) (came : Outcome) (n : ℕ) (a b : InputTold) → 0 < n → (h : ImageRead view (Ok image) a b) → InputRead came n h.bytes a b
-whole_read view image came n a b some h = record {
+pub whole_read : {T : Type 0} (view : T → List ℕ) (image : T) (outcome : Outcome) (n : ℕ) (a b : InputState) → 0 < n → (h : ImageRead view (Ok image) a b) → InputRead outcome n h.bytes a b
+whole_read view image outcome n a b some h = record {
   taken = h.taken;
   few_bytes = h.few_bytes;
   unread = λ e. absurd (none_short n e some);
@@ -107,10 +107,10 @@ whole_read view image came n a b some h = record {
 
 -- ---- an input that ends a verb
 
-module _ (chips : Option Store → Type 0) (next : List ℕ → Option Store → Ending) (acted may : List ℕ → Option Store → Device → Device → Type 0) (needs : (image : List ℕ) (chip : Option Store) → NeedsInput (next image chip)) where
+module _ (chips : Option Store → Type 0) (next : List ℕ → Option Store → Ending) (acted halted : List ℕ → Option Store → Device → Device → Type 0) (needs : (image : List ℕ) (chip : Option Store) → NeedsInput (next image chip)) where
   -- what the rules of a verb make of the bytes of an input
   abbrev pub fed_rule : List ℕ → VerbRule
-  fed_rule bytes = verb_rule chips (λ chip. by_input bytes (λ image. next image chip)) (acted (content_in bytes)) (may (content_in bytes))
+  fed_rule bytes = verb_rule chips (λ chip. by_input bytes (λ image. next image chip)) (acted (content_in bytes)) (halted (content_in bytes))
 
   module _ (bytes : List ℕ) (old : List Device) (some : 0 < length old) where
     found_board : (chip : Option Store) → by_boards (length old) (by_input bytes (λ image. next image chip)) ≡ by_input bytes (λ image. next image chip)
@@ -120,10 +120,10 @@ module _ (chips : Option Store → Type 0) (next : List ℕ → Option Store →
     looked_none a b was is = subst (λ (x : Device). Looked a x) (same_device a b (sym was ∙ is)) (Looked-none a)
 
     -- it ends the verb before the board is used
-    before : (failed : Type 0) (end : End) → ((chip : Option Store) → by_input bytes (λ image. next image chip) ≡ Before end) → (chip : Option Store) → (Err end ≡ outcome_of (by_boards (length old) (by_input bytes (λ image. next image chip)))) × Leaves (by_boards (length old) (by_input bytes (λ image. next image chip))) (AtFirst Looked) (AtFirst (acted (content_in bytes) chip)) old old
+    before : (failed : Type 0) (end : End) → ((chip : Option Store) → by_input bytes (λ image. next image chip) ≡ Before end) → (chip : Option Store) → (Err end ≡ outcome_of (by_boards (length old) (by_input bytes (λ image. next image chip)))) × ActsAs (by_boards (length old) (by_input bytes (λ image. next image chip))) (old ≡ old) (AtFirst Looked old old) (AtFirst (acted (content_in bytes) chip) old old)
     before failed end is chip =
         let e = found_board chip ∙ is chip in
-        (ap outcome_of (sym e), subst (λ (x : Ending). Leaves x (AtFirst Looked) (AtFirst (acted (content_in bytes) chip)) old old) (sym e) refl)
+        (ap outcome_of (sym e), subst (λ (x : Ending). ActsAs x (old ≡ old) (AtFirst Looked old old) (AtFirst (acted (content_in bytes) chip) old old)) (sym e) refl)
 
     pub input_stays : (fault : ImageFault) (at_end failed : Type 0) → ReadsImage {T = ℕ} (λ n. []) (Err fault) bytes at_end failed → OnBoards (Err (end_of_image fault)) (fed_rule bytes) failed old old
     input_stays image_fault.Memory at_end failed h = record {
@@ -164,11 +164,11 @@ module _ (chips : Option Store → Type 0) (next : List ℕ → Option Store →
     }
 
     -- what is done with the image is done with the content of the input
-    spelled : (came : Outcome) (failed : Type 0) (new : List Device) (image : List ℕ) → length bytes ≤ most_input → hex_file bytes ≡ Ok image → OnBoards came (verb_rule chips (next image) (acted image) (may image)) failed old new → OnBoards came (fed_rule bytes) failed old new
-    spelled came failed new image few is h =
-        subst (λ (x : List ℕ). OnBoards came (verb_rule chips (λ chip. by_input bytes (λ i. next i chip)) (acted x) (may x)) failed old new) (sym (ap content_by is))
+    spelled : (outcome : Outcome) (failed : Type 0) (new : List Device) (image : List ℕ) → length bytes ≤ most_input → hex_file bytes ≡ Ok image → OnBoards outcome (verb_rule chips (next image) (acted image) (halted image)) failed old new → OnBoards outcome (fed_rule bytes) failed old new
+    spelled outcome failed new image few is h =
+        subst (λ (x : List ℕ). OnBoards outcome (verb_rule chips (λ chip. by_input bytes (λ i. next i chip)) (acted x) (halted x)) failed old new) (sym (ap content_by is))
         (record {
-          rules = λ chip stands. subst (λ (x : Ending). Comes came (by_boards (length old) x) (AtFirst Looked) (AtFirst (acted image chip)) (AtFirst (may image chip)) old new) (sym (input_image bytes image (λ i. next i chip) few is)) (h.rules chip stands);
+          rules = λ chip stands. subst (λ (x : Ending). EndsAs outcome (by_boards (length old) x) (new ≡ old) (AtFirst Looked old new) (AtFirst (acted image chip) old new) (AtFirst (halted image chip) old new)) (sym (input_image bytes image (λ i. next i chip) few is)) (h.rules chip stands);
           found = h.found;
           stops = h.stops;
           read = h.read;
@@ -178,7 +178,7 @@ module _ (chips : Option Store → Type 0) (next : List ℕ → Option Store →
         })
 
   -- the input gave no image
-  pub fed_none : {T : Type 0} (view : T → List ℕ) (fault : ImageFault) (a b : InputTold) (old : List Device) → 0 < length old → ImageRead {T = T} view (Err fault) a b → FedBoards (Err (end_of_image fault)) fed_rule a b old old
+  pub fed_none : {T : Type 0} (view : T → List ℕ) (fault : ImageFault) (a b : InputState) (old : List Device) → 0 < length old → ImageRead {T = T} view (Err fault) a b → FedBoards (Err (end_of_image fault)) fed_rule a b old old
   fed_none {T} view fault a b old some h = record {
     bytes = h.bytes;
     read = part_read view fault (length old) a b some h;
@@ -186,12 +186,12 @@ module _ (chips : Option Store → Type 0) (next : List ℕ → Option Store →
   }
 
   -- the verb went on with the image
-  pub fed : {T : Type 0} (view : T → List ℕ) (image : T) (came : Outcome) (a b : InputTold) (old new : List Device) → 0 < length old → ImageRead view (Ok image) a b → OnBoards came (verb_rule chips (next (view image)) (acted (view image)) (may (view image))) (Rose a.reads b.reads) old new
-      → FedBoards came fed_rule a b old new
-  fed view image came a b old new some h did = record {
+  pub fed : {T : Type 0} (view : T → List ℕ) (image : T) (outcome : Outcome) (a b : InputState) (old new : List Device) → 0 < length old → ImageRead view (Ok image) a b → OnBoards outcome (verb_rule chips (next (view image)) (acted (view image)) (halted (view image))) (Rose a.reads b.reads) old new
+      → FedBoards outcome fed_rule a b old new
+  fed view image outcome a b old new some h did = record {
     bytes = h.bytes;
-    read = whole_read view image came (length old) a b some h;
-    did = spelled h.bytes old some came (Rose a.reads b.reads) new (view image) h.reads.0 h.reads.1 did;
+    read = whole_read view image outcome (length old) a b some h;
+    did = spelled h.bytes old some outcome (Rose a.reads b.reads) new (view image) h.reads.0 h.reads.1 did;
   }
 
 -- ---- there is no board
@@ -200,9 +200,9 @@ takes_none : (left : Option (List ℕ)) → Takes left left []
 takes_none None = refl
 takes_none (Some bytes) = refl
 
-pub fed_nothing : {N : Type 0} (f : N → Device) (items : List N) (chips : Option Store → Type 0) (ending : List ℕ → Option Store → Ending) (acted may : List ℕ → Option Store → Device → Device → Type 0) (a : InputTold) → length items ≡ 0
-    → FedBoards (Err (ends.NoBoard 1 0)) (λ bytes. verb_rule chips (ending bytes) (acted bytes) (may bytes)) a a (map f items) (map f items)
-fed_nothing f items chips ending acted may a none = record {
+pub fed_nothing : {N : Type 0} (f : N → Device) (items : List N) (chips : Option Store → Type 0) (ending : List ℕ → Option Store → Ending) (acted halted : List ℕ → Option Store → Device → Device → Type 0) (a : InputState) → length items ≡ 0
+    → FedBoards (Err (ends.NoBoard 1 0)) (λ bytes. verb_rule chips (ending bytes) (acted bytes) (halted bytes)) a a (map f items) (map f items)
+fed_nothing f items chips ending acted halted a none = record {
   bytes = [];
   read = record {
     taken = takes_none a.left;
@@ -211,10 +211,10 @@ fed_nothing f items chips ending acted may a none = record {
     to_end = λ some _ _. absurd (none_short (length (map f items)) (none_mapped f items none) some);
     read_faults = λ _. refl;
   };
-  did = no_boards f items (Rose a.reads a.reads) chips (ending []) (acted []) (may []) none;
+  did = no_boards f items (Rose a.reads a.reads) chips (ending []) (acted []) (halted []) none;
 }
 
 -- ---- the exit of a `?`
 
-pub at_fed : {T : Type 0} (view : T → List ℕ) (r : Result T End) (e : End) (rule : List ℕ → VerbRule) (a b : InputTold) (old new : List Device) → IsErrAnd r (λ x. x ≡ e) → FedBoards (Err e) rule a b old new → FedBoards (outcome view r) rule a b old new
-at_fed view r e rule a b old new is h = at_end view (λ came. FedBoards came rule a b old new) r e is h
+pub at_fed : {T : Type 0} (view : T → List ℕ) (r : Result T End) (e : End) (rule : List ℕ → VerbRule) (a b : InputState) (old new : List Device) → IsErrAnd r (λ x. x ≡ e) → FedBoards (Err e) rule a b old new → FedBoards (text_outcome view r) rule a b old new
+at_fed view r e rule a b old new is h = at_end view (λ outcome. FedBoards outcome rule a b old new) r e is h

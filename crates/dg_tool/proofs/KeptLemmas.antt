@@ -21,7 +21,7 @@ use Rattle.dg_tool.specs.Pages.{name_in, first_page, kept_bytes}
 use Rattle.dg_tool.specs.Endings.{Ending, Reading, Acting}
 use Rattle.dg_tool.specs.Verbs.{dump_by, name_by, kept_line, golden_text}
 use Rattle.dg_tool.specs.Done.{NeedsBoard}
-use Rattle.dg_tool.specs.Inner.{OnStore}
+use Rattle.dg_tool.specs.inner.OneBoard.{OnStore}
 
 -- ---- an image
 
@@ -99,9 +99,9 @@ pub dump_needs : (o : Option Held) → NeedsBoard (dump_by o)
 dump_needs None = tt
 dump_needs (Some h) = test_needs (length h.complete == h.pages) (Acting (Ok (written_file (kept_bytes h)))) (Reading (ends.Refused (refusals.NotWhole (length h.complete) h.pages))) tt tt
 
-module _ (came : Outcome) (a b : Device) where
+module _ (outcome : Outcome) (a b : Device) where
   abbrev pub Dumped : Ending → Type 0
-  Dumped ending = OnStore came ending Looked ReadStopped a b
+  Dumped ending = OnStore outcome ending Looked ReadStopped a b
 
   pub dumped_whole : (h : Held) → length h.complete ≡ h.pages → Dumped (Acting (Ok (written_file (kept_bytes h)))) → Dumped (dump_by (Some h))
   dumped_whole h e p = subst Dumped (sym (dump_whole_is h e)) p

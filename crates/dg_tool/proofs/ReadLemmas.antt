@@ -7,7 +7,7 @@ use Rattle.dg_tool.specs.declared.pages.PageFault.{PageFault}
 use Rattle.dg_tool.specs.declared.pages.PageFault.TheVariants as page_fault
 use Rattle.dg_tool.specs.Endings.{Ending}
 use Rattle.dg_tool.specs.Done.{NeedsBoard}
-use Rattle.dg_tool.specs.Inner.{ReadsOn, OnStore, end_of_page}
+use Rattle.dg_tool.specs.inner.OneBoard.{ReadsOn, OnStore, end_of_page}
 use Rattle.dg_tool.proofs.OutcomeLemmas.{memory_read, stopped_store, halts_stopped}
 
 abbrev pub page_err : (T : Type 0) → PageFault → Result T PageFault

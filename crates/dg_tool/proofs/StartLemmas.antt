@@ -24,9 +24,9 @@ use Rattle.dg_boot.specs.Started.{Starts, Lacks}
 use Rattle.dg_boot.specs.declared.Started.{Started}
 use Rattle.dg_boot.specs.declared.BootFault.{BootFault}
 use Rattle.dg_boot.specs.declared.BootFault.TheVariants as boot_fault
-use Rattle.dg_outside.specs.Outside.{InputTold}
+use Rattle.dg_outside.specs.Outside.{InputState}
 use Rattle.dg_end.specs.Lines.{Outcome}
-use Rattle.dg_end.specs.Widened.{end_of_boot, end_of_commit, end_of_format}
+use Rattle.dg_end.specs.Conversions.{end_of_boot, end_of_commit, end_of_format}
 use Rattle.dg_end.specs.declared.ends.End.{End}
 use Rattle.dg_end.specs.declared.ends.End.TheVariants as ends
 use Rattle.dg_end.specs.declared.refusal.Refusal.{Refusal}
@@ -36,9 +36,9 @@ use Rattle.dg_tool.specs.Input.{ImageRead, end_of_image}
 use Rattle.dg_tool.specs.Rules.{boot_rule, format_rule}
 use Rattle.dg_tool.specs.Endings.{Ending, Before, Reading, Acting, by_store, StandsAs, FirstInForm}
 use Rattle.dg_tool.specs.Verbs.{room_text, format_sized, start_text, power_boot, boot_by, form_text, migrate_by}
-use Rattle.dg_tool.specs.Started.{TellsStarted}
+use Rattle.dg_tool.specs.inner.Started.{TellsStarted}
 use Rattle.dg_tool.specs.Done.{verb_rule, NeedsInput, NeedsBoard, StopsOn, Booted, BootedOn, Migrated, IsFormatted, FormatStops, IsStopped, OnBoards, FedBoards}
-use Rattle.dg_tool.specs.Inner.{OnStore, OnBoard}
+use Rattle.dg_tool.specs.inner.OneBoard.{OnStore, OnBoard}
 use Rattle.dg_tool.proofs.OutcomeLemmas.{made_store, memory_store, refused_store, stopped_store, image_store, halts_stopped, on_volume, stopped_board, no_volume}
 use Rattle.dg_tool.proofs.BoardLemmas.{some_mapped, on_first, on_any}
 use Rattle.dg_tool.proofs.InputLemmas.{fed, fed_none}
@@ -58,10 +58,10 @@ boot_needs (Some r) = tt
 
 module _ (s : Store) (a b : Device) where
   abbrev pub StartDone : Outcome → Type 0
-  StartDone came = OnStore came (boot_by (power_boot s).runs) (Booted (power_boot s)) (Stops (power_boot s).trail) a b
+  StartDone outcome = OnStore outcome (boot_by (power_boot s).runs) (Booted (power_boot s)) (Stops (power_boot s).trail) a b
 
-  by_runs : (came : Outcome) (runs : Option Runs) → (power_boot s).runs ≡ runs → OnStore came (boot_by runs) (Booted (power_boot s)) (Stops (power_boot s).trail) a b → StartDone came
-  by_runs came runs e h = subst (λ (x : Option Runs). OnStore came (boot_by x) (Booted (power_boot s)) (Stops (power_boot s).trail) a b) (sym e) h
+  by_runs : (outcome : Outcome) (runs : Option Runs) → (power_boot s).runs ≡ runs → OnStore outcome (boot_by runs) (Booted (power_boot s)) (Stops (power_boot s).trail) a b → StartDone outcome
+  by_runs outcome runs e h = subst (λ (x : Option Runs). OnStore outcome (boot_by x) (Booted (power_boot s)) (Stops (power_boot s).trail) a b) (sym e) h
 
   pub boot_started : (told : Started) (text : List ℕ) → ((x : Runs) → TellsStarted told x → text ≡ start_text x) → Starts (power_boot s) a b told → StartDone (Ok text)
   boot_started told text is h =
@@ -82,13 +82,13 @@ module _ {N : Type 0} (f : N → Device) (items : List N) (x y : N) (some : 0 < 
   was = f (get_or items 0 x)
 
   abbrev pub BootComes : Outcome → Type 0
-  BootComes came = OnBoards came (boot_rule (map f items)) ⊥ (map f items) (map f (set items 0 y))
+  BootComes outcome = OnBoards outcome (boot_rule (map f items)) ⊥ (map f items) (map f (set items 0 y))
 
-  boot_board : (came : Outcome) → OnBoard came (verb_rule (StandsAs was.image) (λ chip. by_store chip (λ s. boot_by (power_boot s).runs)) (BootedOn power_boot) (StopsOn (λ s. (power_boot s).trail))) was (f y) → BootComes came
-  boot_board came h = on_first ⊥ f items x y came (λ chip. by_store chip (λ s. boot_by (power_boot s).runs)) (BootedOn power_boot) (StopsOn (λ s. (power_boot s).trail)) some h
+  boot_board : (outcome : Outcome) → OnBoard outcome (verb_rule (StandsAs was.image) (λ chip. by_store chip (λ s. boot_by (power_boot s).runs)) (BootedOn power_boot) (StopsOn (λ s. (power_boot s).trail))) was (f y) → BootComes outcome
+  boot_board outcome h = on_first ⊥ f items x y outcome (λ chip. by_store chip (λ s. boot_by (power_boot s).runs)) (BootedOn power_boot) (StopsOn (λ s. (power_boot s).trail)) some h
 
-  pub boot_done : (came : Outcome) → ((s : Store) → Stands was.image s → StartDone s was (f y) came) → IsVolume was.image → BootComes came
-  boot_done came h v = boot_board came (on_volume (λ s. boot_by (power_boot s).runs) (BootedOn power_boot) (StopsOn (λ s. (power_boot s).trail)) was (f y) came h v)
+  pub boot_done : (outcome : Outcome) → ((s : Store) → Stands was.image s → StartDone s was (f y) outcome) → IsVolume was.image → BootComes outcome
+  boot_done outcome h v = boot_board outcome (on_volume (λ s. boot_by (power_boot s).runs) (BootedOn power_boot) (StopsOn (λ s. (power_boot s).trail)) was (f y) outcome h v)
 
   stops_chip : ((s : Store) → Stands was.image s → Stops (power_boot s).trail was (f y)) → (IsNoVolume was.image → ReadStopped was (f y)) → (chip : Option Store) → StandsAs was.image chip → StopsOn (λ s. (power_boot s).trail) chip was (f y)
   stops_chip volume none None is = none is
@@ -104,8 +104,8 @@ module _ {N : Type 0} (f : N → Device) (items : List N) (x y : N) (some : 0 < 
 
 -- ---- format
 
-unfit_store : (cause : Refusal) (acted may : Device → Device → Type 0) (a b : Device) → b ≡ a → OnStore (Err (ends.Refused cause)) (Before (ends.Refused cause)) acted may a b
-unfit_store cause acted may a b e = record { comes = (refl, e); stops = λ s. cc; of_verb = tt; on_board = λ h. h }
+unfit_store : (cause : Refusal) (acted halted : Device → Device → Type 0) (a b : Device) → b ≡ a → OnStore (Err (ends.Refused cause)) (Before (ends.Refused cause)) acted halted a b
+unfit_store cause acted halted a b e = record { rules = (refl, e); stops = λ s. cc; of_verb = tt; on_board = λ h. h }
 
 sized_empty : (used : ℕ) (golden : List ℕ) → length golden ≡ 0 → format_sized used golden ≡ Before (ends.Refused refusals.Empty)
 sized_empty used golden e =
@@ -141,45 +141,45 @@ two_needs false false x y z p q r = r
 sized_needs : (used : ℕ) (golden : List ℕ) → NeedsInput (format_sized used golden)
 sized_needs used golden = two_needs (length golden == 0) (nat_lt most_bytes (length golden)) (Before (ends.Refused refusals.Empty)) (Before (ends.Refused (refusals.TooLarge (length golden)))) (Acting (Ok (room_text (most_room - used)))) tt tt tt
 
-module _ (used : ℕ) (golden : List ℕ) (acted may : Device → Device → Type 0) (a b : Device) where
+module _ (used : ℕ) (golden : List ℕ) (acted halted : Device → Device → Type 0) (a b : Device) where
   abbrev pub Formatted : Outcome → Type 0
-  Formatted came = OnStore came (format_sized used golden) acted may a b
+  Formatted outcome = OnStore outcome (format_sized used golden) acted halted a b
 
-  by_size : (came : Outcome) (ending : Ending) → format_sized used golden ≡ ending → OnStore came ending acted may a b → Formatted came
-  by_size came ending e h = subst (λ (x : Ending). OnStore came x acted may a b) (sym e) h
+  by_size : (outcome : Outcome) (ending : Ending) → format_sized used golden ≡ ending → OnStore outcome ending acted halted a b → Formatted outcome
+  by_size outcome ending e h = subst (λ (x : Ending). OnStore outcome x acted halted a b) (sym e) h
 
   pub format_made : (text : List ℕ) → (length golden ≡ 0 → ⊥) → (most_bytes < length golden → ⊥) → text ≡ room_text (most_room - used) → acted a b → Formatted (Ok text)
-  format_made text some fits is did = by_size (Ok text) (Acting (Ok (room_text (most_room - used)))) (sized_fits used golden some fits) (made_store acted may a b text (room_text (most_room - used)) is did)
+  format_made text some fits is did = by_size (Ok text) (Acting (Ok (room_text (most_room - used)))) (sized_fits used golden some fits) (made_store acted halted a b text (room_text (most_room - used)) is did)
 
   pub format_wants : (length golden ≡ 0 → ⊥) → (most_bytes < length golden → ⊥) → acted a b → Formatted (Err ends.Memory)
-  format_wants some fits did = by_size (Err ends.Memory) (Acting (Ok (room_text (most_room - used)))) (sized_fits used golden some fits) (memory_store acted may a b (Acting (Ok (room_text (most_room - used)))) did)
+  format_wants some fits did = by_size (Err ends.Memory) (Acting (Ok (room_text (most_room - used)))) (sized_fits used golden some fits) (memory_store acted halted a b (Acting (Ok (room_text (most_room - used)))) did)
 
   pub format_fails : (fault : FormatFault) → (fault ≡ format.Empty → length golden ≡ 0) → (length golden ≡ 0 → fault ≡ format.Empty) → (fault ≡ format.TooLarge → most_bytes < length golden) → (most_bytes < length golden → fault ≡ format.TooLarge) → ((fault ≡ format.Empty) ⊎ (fault ≡ format.TooLarge) → b ≡ a)
-      → (fault ≡ format.Stopped → may a b) → (fault ≡ format.Stopped → IsStopped a b) → Formatted (Err (end_of_format (length golden) fault))
+      → (fault ≡ format.Stopped → halted a b) → (fault ≡ format.Stopped → IsStopped a b) → Formatted (Err (end_of_format (length golden) fault))
   format_fails format.Stopped empty none large fits same held stopped =
       let some : length golden ≡ 0 → ⊥ = λ e. let f : format.Stopped ≡ format.Empty = none e in cc in
       let less : most_bytes < length golden → ⊥ = λ e. let f : format.Stopped ≡ format.TooLarge = fits e in cc in
-      by_size (Err ends.FlashFault) (Acting (Ok (room_text (most_room - used)))) (sized_fits used golden some less) (stopped_store acted may a b (Acting (Ok (room_text (most_room - used)))) tt (held refl) (stopped refl))
-  format_fails format.Empty empty none large fits same held stopped = by_size (Err (ends.Refused refusals.Empty)) (Before (ends.Refused refusals.Empty)) (sized_empty used golden (empty refl)) (unfit_store refusals.Empty acted may a b (same (inl refl)))
+      by_size (Err ends.FlashFault) (Acting (Ok (room_text (most_room - used)))) (sized_fits used golden some less) (stopped_store acted halted a b (Acting (Ok (room_text (most_room - used)))) tt (held refl) (stopped refl))
+  format_fails format.Empty empty none large fits same held stopped = by_size (Err (ends.Refused refusals.Empty)) (Before (ends.Refused refusals.Empty)) (sized_empty used golden (empty refl)) (unfit_store refusals.Empty acted halted a b (same (inl refl)))
   format_fails format.TooLarge empty none large fits same held stopped =
       let some : length golden ≡ 0 → ⊥ = λ e. let f : format.TooLarge ≡ format.Empty = none e in cc in
-      by_size (Err (ends.Refused (refusals.TooLarge (length golden)))) (Before (ends.Refused (refusals.TooLarge (length golden)))) (sized_large used golden some (large refl)) (unfit_store (refusals.TooLarge (length golden)) acted may a b (same (inr refl)))
+      by_size (Err (ends.Refused (refusals.TooLarge (length golden)))) (Before (ends.Refused (refusals.TooLarge (length golden)))) (sized_large used golden some (large refl)) (unfit_store (refusals.TooLarge (length golden)) acted halted a b (same (inr refl)))
 
 pub format_sizes : (size m : ℕ) (end : End) (fault : FormatFault) (P : Outcome → Type 0) → size ≡ m → end ≡ end_of_format size fault → P (Err (end_of_format m fault)) → P (Err end)
 format_sizes size m end fault P same is h = subst (λ (e : End). P (Err e)) (sym is) (subst (λ (n : ℕ). P (Err (end_of_format n fault))) (sym same) h)
 
-any_board : (came : Outcome) (ending : Ending) (acted may : Device → Device → Type 0) (a b : Device) → OnStore came ending acted may a b → OnBoard came (verb_rule (λ chip. Unit {0}) (λ chip. ending) (λ chip. acted) (λ chip. may)) a b
-any_board came ending acted may a b h = record { rules = λ chip _. h.comes; found = λ _. (None, tt); stops = h.stops; of_verb = h.of_verb; on_board = h.on_board }
+any_board : (outcome : Outcome) (ending : Ending) (acted halted : Device → Device → Type 0) (a b : Device) → OnStore outcome ending acted halted a b → OnBoard outcome (verb_rule (λ chip. Unit {0}) (λ chip. ending) (λ chip. acted) (λ chip. halted)) a b
+any_board outcome ending acted halted a b h = record { rules = λ chip _. h.rules; found = λ _. (None, tt); stops = h.stops; of_verb = h.of_verb; on_board = h.on_board }
 
 -- formatting with the image that the input spells
-pub fed_format : {N T : Type 0} (f : N → Device) (items : List N) (x y : N) (name : List ℕ) (used form : ℕ) (view : T → List ℕ) (image : T) (came : Outcome) (a b : InputTold) → 0 < length items → ImageRead view (Ok image) a b
-    → Formatted used (view image) (IsFormatted name (view image) used form) (FormatStops name (view image) used) (f (get_or items 0 x)) (f y) came → FedBoards came (format_rule name used form) a b (map f items) (map f (set items 0 y))
-fed_format f items x y name used form view image came a b some read did =
-    fed (λ chip. Unit {0}) (λ bytes chip. format_sized used bytes) (λ bytes chip. IsFormatted name bytes used form) (λ bytes chip. FormatStops name bytes used) (λ bytes chip. sized_needs used bytes) view image came a b (map f items) (map f (set items 0 y)) (some_mapped f items some) read
-    (on_any (Rose a.reads b.reads) f items x y came (λ chip. format_sized used (view image)) (λ chip. IsFormatted name (view image) used form) (λ chip. FormatStops name (view image) used) some
-    (any_board came (format_sized used (view image)) (IsFormatted name (view image) used form) (FormatStops name (view image) used) (f (get_or items 0 x)) (f y) did))
+pub fed_format : {N T : Type 0} (f : N → Device) (items : List N) (x y : N) (name : List ℕ) (used form : ℕ) (view : T → List ℕ) (image : T) (outcome : Outcome) (a b : InputState) → 0 < length items → ImageRead view (Ok image) a b
+    → Formatted used (view image) (IsFormatted name (view image) used form) (FormatStops name (view image) used) (f (get_or items 0 x)) (f y) outcome → FedBoards outcome (format_rule name used form) a b (map f items) (map f (set items 0 y))
+fed_format f items x y name used form view image outcome a b some read did =
+    fed (λ chip. Unit {0}) (λ bytes chip. format_sized used bytes) (λ bytes chip. IsFormatted name bytes used form) (λ bytes chip. FormatStops name bytes used) (λ bytes chip. sized_needs used bytes) view image outcome a b (map f items) (map f (set items 0 y)) (some_mapped f items some) read
+    (on_any (Rose a.reads b.reads) f items x y outcome (λ chip. format_sized used (view image)) (λ chip. IsFormatted name (view image) used form) (λ chip. FormatStops name (view image) used) some
+    (any_board outcome (format_sized used (view image)) (IsFormatted name (view image) used form) (FormatStops name (view image) used) (f (get_or items 0 x)) (f y) did))
 
-pub unfed_format : {N T : Type 0} (f : N → Device) (items : List N) (name : List ℕ) (used form : ℕ) (view : T → List ℕ) (fault : ImageFault) (a b : InputTold) → 0 < length items → ImageRead view (Err fault) a b → FedBoards (Err (end_of_image fault)) (format_rule name used form) a b (map f items) (map f items)
+pub unfed_format : {N T : Type 0} (f : N → Device) (items : List N) (name : List ℕ) (used form : ℕ) (view : T → List ℕ) (fault : ImageFault) (a b : InputState) → 0 < length items → ImageRead view (Err fault) a b → FedBoards (Err (end_of_image fault)) (format_rule name used form) a b (map f items) (map f items)
 unfed_format f items name used form view fault a b some read =
     fed_none (λ chip. Unit {0}) (λ bytes chip. format_sized used bytes) (λ bytes chip. IsFormatted name bytes used form) (λ bytes chip. FormatStops name bytes used) (λ bytes chip. sized_needs used bytes) view fault a b (map f items) (some_mapped f items some) read
 
@@ -204,10 +204,10 @@ migrate_needs form s = cond_both ((form == old_form) && (s.room == 0)) _ _ Needs
 
 module _ (form : ℕ) (s : Store) (a b : Device) where
   abbrev pub MigrationDone : Outcome → Type 0
-  MigrationDone came = OnStore came (migrate_by form s) (Migrated form s) (Stops (migrate_trail form s)) a b
+  MigrationDone outcome = OnStore outcome (migrate_by form s) (Migrated form s) (Stops (migrate_trail form s)) a b
 
-  by_room : (came : Outcome) (ending : Ending) → migrate_by form s ≡ ending → OnStore came ending (Migrated form s) (Stops (migrate_trail form s)) a b → MigrationDone came
-  by_room came ending e h = subst (λ (x : Ending). OnStore came x (Migrated form s) (Stops (migrate_trail form s)) a b) (sym e) h
+  by_room : (outcome : Outcome) (ending : Ending) → migrate_by form s ≡ ending → OnStore outcome ending (Migrated form s) (Stops (migrate_trail form s)) a b → MigrationDone outcome
+  by_room outcome ending e h = subst (λ (x : Ending). OnStore outcome x (Migrated form s) (Stops (migrate_trail form s)) a b) (sym e) h
 
   pub migrate_made : (v : Volume) (text : List ℕ) → (form ≡ old_form → s.room ≡ 0 → ⊥) → text ≡ form_text → Acted (migrate_trail form s) a b v → HasForm b.image new_form → MigrationDone (Ok text)
   migrate_made v text fine is acted written = by_room (Ok text) (Acting (Ok form_text)) (migrate_fine form s fine) (made_store (Migrated form s) (Stops (migrate_trail form s)) a b text form_text is (record { went = went (migrate_trail form s) a b v acted; written = written }))
@@ -228,5 +228,5 @@ first_in_form f [] x form some h = absurd (omega (arith, some))
 first_in_form f (z ∷ zs) x form some h = h
 
 -- a form is the other by its number
-pub in_one_form : (m n : ℕ) (s : Store) (a b : Device) (came : Outcome) → m ≡ n → MigrationDone m s a b came → MigrationDone n s a b came
-in_one_form m n s a b came e h = subst (λ (k : ℕ). MigrationDone k s a b came) e h
+pub in_one_form : (m n : ℕ) (s : Store) (a b : Device) (outcome : Outcome) → m ≡ n → MigrationDone m s a b outcome → MigrationDone n s a b outcome
+in_one_form m n s a b outcome e h = subst (λ (k : ℕ). MigrationDone k s a b outcome) e h

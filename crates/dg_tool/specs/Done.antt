@@ -1,6 +1,6 @@
 -- What a verb over the first board did (docs/COMMANDS.md, "Over one chip").
-use Rattle.std.specs.Prelude.{◌≡◌, ◌≢◌, ◌⊎◌, ℕ, ◌+◌, ◌<◌, ◌≤◌, true, List, [], length, drop, slice_get, Option, Some, None, Ok, Err}
-use Rattle.std.specs.Prelude.{IfSome}
+use Rattle.std.specs.Prelude.{◌≡◌, ◌≢◌, ◌⊎◌, ℕ, ◌+◌, ◌<◌, ◌≤◌, true, List, [], length, drop, slice_get}
+use Rattle.std.specs.Prelude.{Option, Some, None, IfSome, Ok, Err}
 use Rattle.dg_words.specs.Counts.{Rose}
 use Rattle.dg_base.specs.Sizes.{most_input}
 use Rattle.dg_base.specs.Outside.{Takes, AtEnd}
@@ -17,23 +17,23 @@ use Rattle.dg_volume.specs.Sizes.{new_form}
 use Rattle.dg_volume.specs.Trails.{migrate_trail}
 use Rattle.dg_volume.specs.Store.{Store, fresh, golden_row}
 use Rattle.dg_volume.specs.Stands.{Stands}
-use Rattle.dg_outside.specs.Outside.{Outside, InputTold, SameLink, CountsRise}
+use Rattle.dg_outside.specs.Outside.{Outside, InputState}
 use Rattle.dg_end.specs.Lines.{Outcome}
-use Rattle.dg_end.specs.Finished.{Answered}
+use Rattle.dg_end.specs.Writes.{CommandEnds}
 use Rattle.dg_end.specs.declared.ends.End.TheVariants as ends
 use Rattle.dg_tool.specs.Endings.{Ending, Before, Reading, Acting, outcome_of, by_boards}
 
 -- ---- acts on the first board
 
 -- the board went a trail of stores to its end
-pub record Went (t : Trail Store) (a b : Device) : Type 0 where
+pub record Completed (t : Trail Store) (a b : Device) : Type 0 where
   pub ran : Ran (operations t) a b
   pub stands : Stands b.image (last t)
 
 -- an act that makes this trail of the board's store was done; only a volume is acted on
-abbrev pub WentOn : (Store → Trail Store) → Option Store → Device → Device → Type 0
-WentOn trail None a b = ⊥
-WentOn trail (Some s) a b = Went (trail s) a b
+abbrev pub CompletedOn : (Store → Trail Store) → Option Store → Device → Device → Type 0
+CompletedOn trail None a b = ⊥
+CompletedOn trail (Some s) a b = Completed (trail s) a b
 
 -- It was stopped, and which stores that may leave. A board that is no volume keeps its bytes.
 abbrev pub StopsOn : (Store → Trail Store) → Option Store → Device → Device → Type 0
@@ -42,7 +42,7 @@ StopsOn trail (Some s) a b = Stops (trail s) a b
 
 -- the board was migrated, and its last commit is written in today's form
 pub record Migrated (form : ℕ) (s : Store) (a b : Device) : Type 0 where
-  pub went : Went (migrate_trail form s) a b
+  pub went : Completed (migrate_trail form s) a b
   pub written : HasForm b.image new_form
 
 abbrev pub MigratedOn : ℕ → Option Store → Device → Device → Type 0
@@ -62,7 +62,7 @@ pub record FormatStops (name golden : List ℕ) (used : ℕ) (a b : Device) : Ty
 
 -- a start was gone to its end, and what runs stands in program memory
 pub record Booted (boot : Boot) (a b : Device) : Type 0 where
-  pub went : Went boot.trail a b
+  pub went : Completed boot.trail a b
   pub memory : IfSome boot.runs (λ r. program b.image (length r.pages) ≡ r.pages)
 
 abbrev pub BootedOn : (Store → Boot) → Option Store → Device → Device → Type 0
@@ -71,11 +71,11 @@ BootedOn boot (Some s) a b = Booted (boot s) a b
 
 -- ---- what a verb comes to, and how it leaves the board, or the boards
 
--- as the rules say: what ends a verb before it comes to the board leaves that unused, and a refusal only reads
-abbrev pub Leaves : {X : Type 0} → Ending → (looked acted : X → X → Type 0) → X → X → Type 0
-Leaves (Before end) looked acted a b = b ≡ a
-Leaves (Reading end) looked acted a b = looked a b
-Leaves (Acting came) looked acted a b = acted a b
+-- As the rules say: what ends a verb before it comes to the board leaves that the same, and a refusal only looks at it.
+abbrev pub ActsAs : Ending → (same looked acted : Type 0) → Type 0
+ActsAs (Before end) same looked acted = same
+ActsAs (Reading end) same looked acted = looked
+ActsAs (Acting outcome) same looked acted = acted
 
 -- the ending is found after the boards were counted
 abbrev pub NeedsInput : Ending → Type 0
@@ -87,13 +87,13 @@ abbrev pub NeedsBoard : Ending → Type 0
 NeedsBoard (Before end) = ⊥
 NeedsBoard ending = Unit {0}
 
--- It comes to its ending. Memory alone is free, and a fault of the outside comes only where the verb has come to it. Where
--- the board stopped, `may` says what it holds.
-abbrev pub Comes : {X : Type 0} → Outcome → Ending → (looked acted may : X → X → Type 0) → X → X → Type 0
-Comes (Err ends.Memory) ending looked acted may a b = looked a b ⊎ Leaves ending looked acted a b
-Comes (Err ends.ReadFault) ending looked acted may a b = NeedsInput ending × (b ≡ a)
-Comes (Err ends.FlashFault) ending looked acted may a b = NeedsBoard ending × may a b
-Comes came ending looked acted may a b = (came ≡ outcome_of ending) × Leaves ending looked acted a b
+-- A verb ends as the rules say. Memory alone is free, and a fault of the outside comes only where the verb has come to it. Where
+-- the board stopped, `halted` says what it holds.
+abbrev pub EndsAs : Outcome → Ending → (same looked acted halted : Type 0) → Type 0
+EndsAs (Err ends.Memory) ending same looked acted halted = looked ⊎ ActsAs ending same looked acted
+EndsAs (Err ends.ReadFault) ending same looked acted halted = NeedsInput ending × same
+EndsAs (Err ends.FlashFault) ending same looked acted halted = NeedsBoard ending × halted
+EndsAs outcome ending same looked acted halted = (outcome ≡ outcome_of ending) × ActsAs ending same looked acted
 
 -- ---- outcomes
 
@@ -103,7 +103,7 @@ IsBefore (Err ends.ReadFault) = Unit {0}
 IsBefore (Err ends.TooLong) = Unit {0}
 IsBefore (Err (ends.BadHex fault)) = Unit {0}
 IsBefore (Err (ends.NoBoard need have)) = Unit {0}
-IsBefore came = ⊥
+IsBefore outcome = ⊥
 
 -- what the board stands for was found
 abbrev pub IsFound : Outcome → Type 0
@@ -111,7 +111,7 @@ IsFound (Ok text) = Unit {0}
 IsFound (Err ends.NotAVolume) = Unit {0}
 IsFound (Err ends.NoImage) = Unit {0}
 IsFound (Err (ends.Refused cause)) = Unit {0}
-IsFound came = ⊥
+IsFound outcome = ⊥
 
 -- a verb over one board has no script, no profile and no link, and its one write comes last
 abbrev pub IsOfVerb : Outcome → Type 0
@@ -120,7 +120,7 @@ IsOfVerb (Err ends.LinkFault) = ⊥
 IsOfVerb (Err ends.TooMany) = ⊥
 IsOfVerb (Err (ends.BadLine number fault)) = ⊥
 IsOfVerb (Err (ends.BadProfile fault)) = ⊥
-IsOfVerb came = Unit {0}
+IsOfVerb outcome = Unit {0}
 
 -- ---- the rule of a verb
 
@@ -130,11 +130,11 @@ pub record VerbRule : Type 1 where
   pub chips : Option Store → Type 0
   pub ending : Option Store → Ending
   pub acted : Option Store → Device → Device → Type 0
-  pub may : Option Store → Device → Device → Type 0
+  pub halted : Option Store → Device → Device → Type 0
 
 abbrev pub verb_rule : (chips : Option Store → Type 0) (ending : Option Store → Ending)
-    (acted may : Option Store → Device → Device → Type 0) → VerbRule
-verb_rule chips ending acted may = record { chips = chips; ending = ending; acted = acted; may = may }
+    (acted halted : Option Store → Device → Device → Type 0) → VerbRule
+verb_rule chips ending acted halted = record { chips = chips; ending = ending; acted = acted; halted = halted }
 
 -- ---- the boards
 
@@ -160,49 +160,42 @@ pub record FirstStopped (old new : List Device) : Type 0 where
   pub stopped : IsStopped before after
 
 -- What a verb that goes by this rule did over boards. A read of the input that failed is told by `read_failed`.
-pub record OnBoards (came : Outcome) (rule : VerbRule) (read_failed : Type 0) (old new : List Device) : Type 0 where
+pub record OnBoards (outcome : Outcome) (rule : VerbRule) (read_failed : Type 0) (old new : List Device) : Type 0 where
   pub rules : (chip : Option Store) → rule.chips chip
-      → Comes came (by_boards (length old) (rule.ending chip)) (AtFirst Looked) (AtFirst (rule.acted chip)) (AtFirst (rule.may chip))
-      old new
-  pub found : IsFound came → (chip : Option Store) × rule.chips chip
-  pub stops : came ≡ Err ends.FlashFault → FirstStopped old new
-  pub read : came ≡ Err ends.ReadFault → read_failed
-  pub of_verb : IsOfVerb came
+      → EndsAs outcome (by_boards (length old) (rule.ending chip)) (new ≡ old) (AtFirst Looked old new)
+      (AtFirst (rule.acted chip) old new) (AtFirst (rule.halted chip) old new)
+  pub found : IsFound outcome → (chip : Option Store) × rule.chips chip
+  pub stops : outcome ≡ Err ends.FlashFault → FirstStopped old new
+  pub read : outcome ≡ Err ends.ReadFault → read_failed
+  pub of_verb : IsOfVerb outcome
   pub first : OnlyFirst old new
-  pub untouched : IsBefore came → new ≡ old
+  pub untouched : IsBefore outcome → new ≡ old
 
 -- ---- the input
 
 -- Of the input these bytes were taken: all, or one byte past those that are used, unless memory ran out or a read failed. A
 -- verb without a board reads nothing.
-pub record InputRead (came : Outcome) (boards : ℕ) (bytes : List ℕ) (a b : InputTold) : Type 0 where
+pub record InputRead (outcome : Outcome) (boards : ℕ) (bytes : List ℕ) (a b : InputState) : Type 0 where
   pub taken : Takes a.left b.left bytes
   pub few_bytes : length bytes ≤ most_input + 1
   pub unread : boards ≡ 0 → bytes ≡ []
-  pub to_end : 0 < boards → came ≢ Err ends.Memory → came ≢ Err ends.ReadFault → AtEnd b.left ⊎ (most_input < length bytes)
+  pub to_end : 0 < boards → outcome ≢ Err ends.Memory → outcome ≢ Err ends.ReadFault
+      → AtEnd b.left ⊎ (most_input < length bytes)
   -- a read that fails is always told
-  pub read_faults : came ≢ Err ends.ReadFault → b.reads ≡ a.reads
+  pub read_faults : outcome ≢ Err ends.ReadFault → b.reads ≡ a.reads
 
 -- What a verb did over boards whose rule goes by the bytes of the input.
-pub record FedBoards (came : Outcome) (rule : List ℕ → VerbRule) (a b : InputTold) (old new : List Device) : Type 0 where
+pub record FedBoards (outcome : Outcome) (rule : List ℕ → VerbRule) (a b : InputState) (old new : List Device) : Type 0 where
   pub bytes : List ℕ
-  pub read : InputRead came (length old) bytes a b
-  pub did : OnBoards came (rule bytes) (Rose a.reads b.reads) old new
+  pub read : InputRead outcome (length old) bytes a b
+  pub did : OnBoards outcome (rule bytes) (Rose a.reads b.reads) old new
 
 -- ---- a verb
 
--- A verb came to what its rules allow, wrote its answer or its last line, and has its status. It uses neither link nor clock.
-pub record ToolDone (status : Status) (comes : Outcome → Type 0) (a b : Outside) : Type 0 where
-  pub came : Outcome
-  pub does : comes came
-  pub answered : Answered status came a.output b.output
-  pub link : SameLink a b
-  pub counts : CountsRise a b
-
 -- one that reads no input
 abbrev pub FirstDone : Status → VerbRule → Outside → Outside → Type 0
-FirstDone status rule a b = ToolDone status (λ came. OnBoards came rule ⊥ a.boards b.boards × (b.input ≡ a.input)) a b
+FirstDone status rule a b = CommandEnds status (λ outcome. OnBoards outcome rule ⊥ a.boards b.boards × (b.input ≡ a.input)) a b
 
 -- one whose rule goes by the bytes of the input
 abbrev pub InputDone : Status → (List ℕ → VerbRule) → Outside → Outside → Type 0
-InputDone status rule a b = ToolDone status (λ came. FedBoards came rule a.input b.input a.boards b.boards) a b
+InputDone status rule a b = CommandEnds status (λ outcome. FedBoards outcome rule a.input b.input a.boards b.boards) a b

@@ -18,12 +18,12 @@ pub data Ending : Type 0 where
   -- once the board was read
   Reading : (end : End) → Ending
   -- once what was asked for was done, as far as it could be
-  Acting : (came : Outcome) → Ending
+  Acting : (outcome : Outcome) → Ending
 
 abbrev pub outcome_of : Ending → Outcome
 outcome_of (Before end) = Err end
 outcome_of (Reading end) = Err end
-outcome_of (Acting came) = came
+outcome_of (Acting outcome) = outcome
 
 -- ---- the order of causes: the board that is there, the input, and then what the board holds
 

@@ -9,7 +9,7 @@ use Rattle.dg_ihex.specs.declared.faults.HexCause.{HexCause}
 use Rattle.dg_ihex.specs.declared.faults.HexCause.TheVariants as causes
 use Rattle.dg_input.specs.declared.ReadStop.{ReadStop}
 use Rattle.dg_input.specs.declared.ReadStop.TheVariants as read_stop
-use Rattle.dg_outside.specs.Outside.{InputTold}
+use Rattle.dg_outside.specs.Outside.{InputState}
 use Rattle.dg_end.specs.declared.ends.End.{End}
 use Rattle.dg_end.specs.declared.ends.End.TheVariants as ends
 use Rattle.dg_tool.specs.declared.input.ImageFault.{ImageFault}
@@ -51,7 +51,7 @@ ReadsImage view (Err (image_fault.BadHex fault)) bytes at_end failed =
     (length bytes ≤ most_input) × (hex_file bytes ≡ Err fault) × TakenToEnd bytes at_end
 
 -- the image of an input was read
-pub record ImageRead {T : Type 0} (view : T → List ℕ) (told : Result T ImageFault) (a b : InputTold) : Type 0 where
+pub record ImageRead {T : Type 0} (view : T → List ℕ) (told : Result T ImageFault) (a b : InputState) : Type 0 where
   pub bytes : List ℕ
   pub taken : Takes a.left b.left bytes
   pub few_bytes : length bytes ≤ most_input + 1

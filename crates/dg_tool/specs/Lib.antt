@@ -3,6 +3,5 @@ pub mod Pages
 pub mod Verbs
 pub mod Done
 pub mod Rules
-pub mod Inner
 pub mod Input
-pub mod Started
+pub mod inner

@@ -11,12 +11,13 @@ use Rattle.dg_volume.specs.Trails.{inject_trail, order_trail, migrate_trail}
 use Rattle.dg_outside.specs.Outside.{Outside}
 use Rattle.dg_tool.specs.Endings.{Ending, FirstAs, FirstInForm, by_input, content_in}
 use Rattle.dg_tool.specs.Verbs.{format_sized, inject_into, order_on, boot_on, power_boot, ping_on, dump_on, migrate_on}
-use Rattle.dg_tool.specs.Done.{VerbRule, verb_rule, WentOn, StopsOn, IsFormatted, FormatStops, BootedOn, MigratedOn}
-use Rattle.dg_tool.specs.Done.{OnBoards, ToolDone, FirstDone, InputDone}
+use Rattle.dg_tool.specs.Done.{VerbRule, verb_rule, CompletedOn, StopsOn, IsFormatted, FormatStops, BootedOn, MigratedOn}
+use Rattle.dg_end.specs.Writes.{CommandEnds}
+use Rattle.dg_tool.specs.Done.{OnBoards, FirstDone, InputDone}
 
 -- a volume goes a trail of stores
 abbrev pub trail_rule : List Device → (Option Store → Ending) → (Store → Trail Store) → VerbRule
-trail_rule boards ending trail = verb_rule (FirstAs boards) ending (WentOn trail) (StopsOn trail)
+trail_rule boards ending trail = verb_rule (FirstAs boards) ending (CompletedOn trail) (StopsOn trail)
 
 -- a volume is only read
 abbrev pub reading_rule : List Device → (Option Store → Ending) → VerbRule
@@ -31,7 +32,8 @@ format_rule name used form input =
 -- `row` is the image with its bytes
 abbrev pub inject_rule : List Device → (row : List ℕ → Row) → (input : List ℕ) → VerbRule
 inject_rule boards row input =
-    trail_rule boards (λ chip. by_input input (λ bytes. inject_into (row bytes) chip)) (λ s. inject_trail s (row (content_in input)))
+    trail_rule boards (λ chip. by_input input (λ bytes. inject_into (row bytes) chip))
+    (λ s. inject_trail s (row (content_in input)))
 
 abbrev pub boot_rule : List Device → VerbRule
 boot_rule boards = verb_rule (FirstAs boards) boot_on (BootedOn power_boot) (StopsOn (λ s. (power_boot s).trail))
@@ -61,6 +63,6 @@ DumpDone image status a b = FirstDone status (reading_rule a.boards (dump_on ima
 
 -- the first board is committed again as it stands, where its last commit is written in the older form
 abbrev pub MigrateDone : Status → Outside → Outside → Type 0
-MigrateDone status a b = ToolDone status (λ came.
-    ((form : ℕ) → FirstInForm form a.boards → OnBoards came (migrate_rule a.boards form) ⊥ a.boards b.boards)
+MigrateDone status a b = CommandEnds status (λ outcome.
+    ((form : ℕ) → FirstInForm form a.boards → OnBoards outcome (migrate_rule a.boards form) ⊥ a.boards b.boards)
     × (b.input ≡ a.input)) a b

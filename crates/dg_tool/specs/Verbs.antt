@@ -20,7 +20,7 @@ use Rattle.dg_end.specs.declared.refusal.Refusal.TheVariants as refusals
 use Rattle.dg_end.specs.Texts.{numbers, line}
 use Rattle.dg_tool.specs.Pages.{name_in, first_page, kept_bytes}
 use Rattle.dg_end.specs.declared.ends.End.TheVariants as ends
-use Rattle.dg_end.specs.Widened.{end_of_order, end_of_injection}
+use Rattle.dg_end.specs.Conversions.{end_of_order, end_of_injection}
 use Rattle.dg_tool.specs.Endings.{Ending, Before, Reading, Acting, by_store}
 
 -- ---- format
@@ -86,7 +86,8 @@ form_text = line (codes "form" ++ numbers (new_form ∷ []))
 
 -- a chip of the older form takes one commit
 abbrev pub migrate_by : (form : ℕ) → Store → Ending
-migrate_by form s = if (form == old_form) && (s.room == 0) then Reading (ends.Refused (refusals.Worn s.room)) else Acting (Ok form_text)
+migrate_by form s =
+    if (form == old_form) && (s.room == 0) then Reading (ends.Refused (refusals.Worn s.room)) else Acting (Ok form_text)
 
 abbrev pub migrate_on : (form : ℕ) → Option Store → Ending
 migrate_on form chip = by_store chip (migrate_by form)

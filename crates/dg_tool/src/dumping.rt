@@ -6,10 +6,10 @@ ghost use Rattle.dg_volume.specs.Sizes.{images};
 ghost use Rattle.dg_volume.specs.Store.{Store, held};
 ghost use Rattle.dg_volume.specs.Stands.{Mounted, IsMounted};
 ghost use Rattle.dg_volume.specs.Told.{told_held};
-ghost use Rattle.dg_end.specs.Lines.{outcome};
+ghost use Rattle.dg_end.specs.Lines.{text_outcome};
 ghost use Rattle.dg_tool.specs.Verbs.{dump_by, dump_on};
 ghost use Rattle.dg_tool.specs.Done.{OnBoards};
-ghost use Rattle.dg_tool.specs.Inner.{OnStore};
+ghost use Rattle.dg_tool.specs.inner.OneBoard.{OnStore};
 ghost use Rattle.dg_tool.specs.Rules.{reading_rule};
 
 use crate::pages::read_bytes;
@@ -24,7 +24,8 @@ fn dump_kept<N: Nor>(alloc: Global, image: u8, nor: &mut N, kept: &Kept) -> Resu
     requires known_image { image < images }
     requires keeps { (h : Held) × KeepsImage (N.device nor.old).image image h × (kept.now ≡ told_held h) }
     ensures done { (h : Held) → KeepsImage (N.device nor.old).image image h → kept.now ≡ told_held h
-        → OnStore (outcome (λ text. text.items) result) (dump_by (Some h)) Looked ReadStopped (N.device nor.old) (N.device nor.new) }
+        → OnStore (text_outcome (λ text. text.items) result) (dump_by (Some h)) Looked ReadStopped (N.device nor.old)
+        (N.device nor.new) }
     ensures unchanged { (N.device nor.new).image ≡ (N.device nor.old).image }
 {
     let Kept { done, pages, .. } = *kept;
@@ -46,7 +47,8 @@ fn dump_mounted<N: Nor>(
     requires known_image { image < images }
     requires mounted { IsMounted (N.device nor.old).image volume.now }
     ensures done { (s : Store) → Mounted (N.device nor.old).image volume.now s
-        → OnStore (outcome (λ text. text.items) result) (dump_by (held s image)) Looked ReadStopped (N.device nor.old) (N.device nor.new) }
+        → OnStore (text_outcome (λ text. text.items) result) (dump_by (held s image)) Looked ReadStopped (N.device nor.old)
+        (N.device nor.new) }
     ensures unchanged { (N.device nor.new).image ≡ (N.device nor.old).image }
 {
     match volume.kept(image) {
@@ -58,7 +60,7 @@ fn dump_mounted<N: Nor>(
 /// The HEX file of an image on the first of the boards.
 pub(crate) fn dump_first<N: Nor>(alloc: Global, image: u8, boards: &mut [N]) -> Result<Vec<u8>, End>
     requires known_image { image < images }
-    ensures done { OnBoards (outcome (λ text. text.items) result) (reading_rule (map N.device boards.old) (dump_on image)) ⊥
+    ensures done { OnBoards (text_outcome (λ text. text.items) result) (reading_rule (map N.device boards.old) (dump_on image)) ⊥
         (map N.device boards.old) (map N.device boards.new) }
     ensures unchanged { map (λ board. (N.device board).image) boards.new ≡ map (λ board. (N.device board).image) boards.old }
 {

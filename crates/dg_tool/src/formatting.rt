@@ -3,7 +3,7 @@ ghost use Rattle.std.specs.Prelude.{◌≡◌, ◌⊎◌, ◌≤◌, map, IsTrue
 ghost use Rattle.dg_base.specs.Texts.{spells_name};
 ghost use Rattle.dg_volume.specs.Sizes.{most_room, old_form, new_form};
 ghost use Rattle.dg_outside.specs.Outside.{input_of};
-ghost use Rattle.dg_end.specs.Lines.{outcome};
+ghost use Rattle.dg_end.specs.Lines.{text_outcome};
 ghost use Rattle.dg_tool.specs.Done.{FedBoards};
 ghost use Rattle.dg_tool.specs.Rules.{format_rule};
 
@@ -27,7 +27,7 @@ pub(crate) fn format_first<S: Source, N: Nor>(
     requires named { IsTrue (spells_name name.now) }
     requires few { used ≤ most_room }
     requires known_form { (form ≡ old_form) ⊎ (form ≡ new_form) }
-    ensures done { FedBoards (outcome (λ text. text.items) result) (format_rule name.now used form)
+    ensures done { FedBoards (text_outcome (λ text. text.items) result) (format_rule name.now used form)
         (input_of (S.Source, input.old)) (input_of (S.Source, input.new)) (map N.device boards.old) (map N.device boards.new) }
     ensures counts { S.faults input.old ≤ S.faults input.new }
 {

@@ -4,7 +4,7 @@ ghost use Rattle.dg_base.specs.Texts.{spells_name};
 ghost use Rattle.dg_object.specs.Object.{row_of};
 ghost use Rattle.dg_volume.specs.Sizes.{images};
 ghost use Rattle.dg_outside.specs.Outside.{input_of};
-ghost use Rattle.dg_end.specs.Lines.{outcome};
+ghost use Rattle.dg_end.specs.Lines.{text_outcome};
 ghost use Rattle.dg_tool.specs.Done.{FedBoards};
 ghost use Rattle.dg_tool.specs.Rules.{inject_rule};
 
@@ -27,7 +27,7 @@ pub(crate) fn inject_first<S: Source, N: Nor>(
     requires image { image < images }
     requires version { 1 ≤ version }
     requires named { IsTrue (spells_name name.now) }
-    ensures done { FedBoards (outcome (λ text. text.items) result)
+    ensures done { FedBoards (text_outcome (λ text. text.items) result)
         (inject_rule (map N.device boards.old) (row_of image version name.now)) (input_of (S.Source, input.old))
         (input_of (S.Source, input.new)) (map N.device boards.old) (map N.device boards.new) }
     ensures counts { S.faults input.old ≤ S.faults input.new }

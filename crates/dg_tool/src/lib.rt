@@ -55,8 +55,8 @@ pub fn format<S: Source, K: Sink, N: Nor>(
         (with_boards (map N.device boards.old.items) (with_output (K.Sink, out.old) (with_input (S.Source, input.old) rest)))
         (with_boards (map N.device boards.new.items) (with_output (K.Sink, out.new) (with_input (S.Source, input.new) rest))) }
 {
-    let came = format_first(alloc, name, used, form, input, boards.as_mut_slice());
-    answer(alloc, out, came)
+    let outcome = format_first(alloc, name, used, form, input, boards.as_mut_slice());
+    answer(alloc, out, outcome)
 }
 
 /// Keeps an image whole on the first board: the image of the HEX file that `input` spells, with this name. Writes
@@ -77,8 +77,8 @@ pub fn inject<S: Source, K: Sink, N: Nor>(
         (with_boards (map N.device boards.old.items) (with_output (K.Sink, out.old) (with_input (S.Source, input.old) rest)))
         (with_boards (map N.device boards.new.items) (with_output (K.Sink, out.new) (with_input (S.Source, input.new) rest))) }
 {
-    let came = inject_first(alloc, image, version, name, input, boards.as_mut_slice());
-    answer(alloc, out, came)
+    let outcome = inject_first(alloc, image, version, name, input, boards.as_mut_slice());
+    answer(alloc, out, outcome)
 }
 
 /// Keeps an order on the first board, which is not waived. Writes `order 0 K I V`.
@@ -95,8 +95,8 @@ pub fn order<K: Sink, N: Nor>(
         (with_boards (map N.device boards.old.items) (with_output (K.Sink, out.old) rest))
         (with_boards (map N.device boards.new.items) (with_output (K.Sink, out.new) rest)) }
 {
-    let came = order_first(alloc, order, boards.as_mut_slice());
-    answer(alloc, out, came)
+    let outcome = order_first(alloc, order, boards.as_mut_slice());
+    answer(alloc, out, outcome)
 }
 
 /// Starts the first board by power. Writes `start 0 I V LENGTH CRC`. The start counts as a short one.
@@ -105,8 +105,8 @@ pub fn boot<K: Sink, N: Nor>(alloc: Global, out: &mut K, boards: &mut Vec<N>) ->
         (with_boards (map N.device boards.old.items) (with_output (K.Sink, out.old) rest))
         (with_boards (map N.device boards.new.items) (with_output (K.Sink, out.new) rest)) }
 {
-    let came = boot_first(alloc, boards.as_mut_slice());
-    answer(alloc, out, came)
+    let outcome = boot_first(alloc, boards.as_mut_slice());
+    answer(alloc, out, outcome)
 }
 
 /// Tells what the first board keeps, and changes no byte.
@@ -117,8 +117,8 @@ pub fn ping<K: Sink, N: Nor>(alloc: Global, out: &mut K, boards: &mut Vec<N>) ->
     ensures unchanged { map (λ board. (N.device board).image) boards.new.items
         ≡ map (λ board. (N.device board).image) boards.old.items }
 {
-    let came = ping_first(alloc, boards.as_mut_slice());
-    answer(alloc, out, came)
+    let outcome = ping_first(alloc, boards.as_mut_slice());
+    answer(alloc, out, outcome)
 }
 
 /// Writes the image that a slot of the first board keeps whole as a HEX file, and changes no byte.
@@ -130,8 +130,8 @@ pub fn dump<K: Sink, N: Nor>(alloc: Global, image: u8, out: &mut K, boards: &mut
     ensures unchanged { map (λ board. (N.device board).image) boards.new.items
         ≡ map (λ board. (N.device board).image) boards.old.items }
 {
-    let came = dump_first(alloc, image, boards.as_mut_slice());
-    answer(alloc, out, came)
+    let outcome = dump_first(alloc, image, boards.as_mut_slice());
+    answer(alloc, out, outcome)
 }
 
 /// Writes the first board's snapshot in form 2, where it is written in form 1. Writes `form 2`.
@@ -140,6 +140,6 @@ pub fn migrate<K: Sink, N: Nor>(alloc: Global, out: &mut K, boards: &mut Vec<N>)
         (with_boards (map N.device boards.old.items) (with_output (K.Sink, out.old) rest))
         (with_boards (map N.device boards.new.items) (with_output (K.Sink, out.new) rest)) }
 {
-    let came = migrate_first(alloc, boards.as_mut_slice());
-    answer(alloc, out, came)
+    let outcome = migrate_first(alloc, boards.as_mut_slice());
+    answer(alloc, out, outcome)
 }

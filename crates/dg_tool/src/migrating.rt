@@ -1,6 +1,6 @@
 //! The verb `migrate`.
 ghost use Rattle.std.specs.Prelude.{ℕ, map};
-ghost use Rattle.dg_end.specs.Lines.{outcome};
+ghost use Rattle.dg_end.specs.Lines.{text_outcome};
 ghost use Rattle.dg_tool.specs.Endings.{FirstInForm};
 ghost use Rattle.dg_tool.specs.Done.{OnBoards};
 ghost use Rattle.dg_tool.specs.Rules.{migrate_rule};
@@ -13,7 +13,7 @@ use std::alloc::Global;
 /// Migrates the first of the boards, and gives the line that tells of it.
 pub(crate) fn migrate_first<N: Nor>(alloc: Global, boards: &mut [N]) -> Result<Vec<u8>, End>
     ensures { (form : ℕ) → FirstInForm form (map N.device boards.old)
-        → OnBoards (outcome (λ text. text.items) result) (migrate_rule (map N.device boards.old) form) ⊥
+        → OnBoards (text_outcome (λ text. text.items) result) (migrate_rule (map N.device boards.old) form) ⊥
         (map N.device boards.old) (map N.device boards.new) }
 {
     a_volume_has_one_form();

@@ -7,7 +7,7 @@ ghost use Rattle.dg_slot.specs.Kept.{Held, KeepsImage};
 ghost use Rattle.dg_slot.specs.Pages.{packet_in, page_in};
 ghost use Rattle.dg_volume.specs.Start.{length_in};
 ghost use Rattle.dg_tool.specs.Pages.{name_in, first_page, kept_bytes};
-ghost use Rattle.dg_tool.specs.Inner.{ReadsOn};
+ghost use Rattle.dg_tool.specs.inner.OneBoard.{ReadsOn};
 
 use dg_end::End;
 use dg_nor::{Nor, Stopped};
@@ -48,7 +48,7 @@ impl From<Stopped> for PageFault {
 
 impl From<PageFault> for End {
     ghost use Rattle.std.specs.Prelude.{◌≡◌};
-    ghost use Rattle.dg_tool.specs.Inner.{end_of_page};
+    ghost use Rattle.dg_tool.specs.inner.OneBoard.{end_of_page};
 
     ghost from_gives = { λ fault e. e ≡ end_of_page fault };
 

@@ -11,8 +11,8 @@ ghost use Rattle.dg_end.specs.Texts.{numbers, line};
 ghost use Rattle.dg_tool.specs.Verbs.{program_line, order_line, waived_word, commits_text, kept_line, kept_lines, ping_text};
 ghost use Rattle.dg_tool.specs.Verbs.{ping_on};
 ghost use Rattle.dg_tool.specs.Done.{OnBoards};
-ghost use Rattle.dg_end.specs.Lines.{outcome};
-ghost use Rattle.dg_tool.specs.Inner.{ReadsOn};
+ghost use Rattle.dg_end.specs.Lines.{text_outcome};
+ghost use Rattle.dg_tool.specs.inner.OneBoard.{ReadsOn};
 ghost use Rattle.dg_tool.specs.Rules.{reading_rule};
 
 use crate::pages::{PageFault, read_first};
@@ -178,7 +178,7 @@ fn ping_mounted<N: Nor>(alloc: Global, nor: &mut N, volume: &Volume) -> Result<V
 
 /// Tells what the first of the boards keeps.
 pub(crate) fn ping_first<N: Nor>(alloc: Global, boards: &mut [N]) -> Result<Vec<u8>, End>
-    ensures done { OnBoards (outcome (λ text. text.items) result) (reading_rule (map N.device boards.old) ping_on) ⊥
+    ensures done { OnBoards (text_outcome (λ text. text.items) result) (reading_rule (map N.device boards.old) ping_on) ⊥
         (map N.device boards.old) (map N.device boards.new) }
     ensures unchanged { map (λ board. (N.device board).image) boards.new ≡ map (λ board. (N.device board).image) boards.old }
 {

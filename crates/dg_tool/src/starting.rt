@@ -1,8 +1,8 @@
 //! The verb `boot`.
 ghost use Rattle.std.specs.Prelude.{◌≡◌, map, IfOk};
 ghost use Rattle.dg_volume.specs.Start.{Runs};
-ghost use Rattle.dg_end.specs.Lines.{outcome};
-ghost use Rattle.dg_tool.specs.Started.{TellsStarted};
+ghost use Rattle.dg_end.specs.Lines.{text_outcome};
+ghost use Rattle.dg_tool.specs.inner.Started.{TellsStarted};
 ghost use Rattle.dg_tool.specs.Verbs.{start_text};
 ghost use Rattle.dg_tool.specs.Done.{OnBoards};
 ghost use Rattle.dg_tool.specs.Rules.{boot_rule};
@@ -31,7 +31,7 @@ fn start_line(alloc: Global, started: &Started) -> Result<Vec<u8>, AllocError>
 
 /// Starts the first of the boards by power, and gives the line that tells of it.
 pub(crate) fn boot_first<N: Nor>(alloc: Global, boards: &mut [N]) -> Result<Vec<u8>, End>
-    ensures { OnBoards (outcome (λ text. text.items) result) (boot_rule (map N.device boards.old)) ⊥
+    ensures { OnBoards (text_outcome (λ text. text.items) result) (boot_rule (map N.device boards.old)) ⊥
         (map N.device boards.old) (map N.device boards.new) }
 {
     if boards.is_empty() {

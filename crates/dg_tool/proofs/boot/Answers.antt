@@ -1,5 +1,5 @@
 use Rattle.std.proofs.Common.{refl, arith}
-use Rattle.dg_end.specs.Lines.{outcome}
+use Rattle.dg_end.specs.Lines.{text_outcome}
 use Rattle.dg_tool.specs.Done.{OnBoards}
 use Rattle.dg_tool.specs.Rules.{boot_rule}
 use Rattle.dg_tool.proofs.BoardLemmas.{lent_back}
@@ -8,12 +8,12 @@ use Rattle.dg_tool.proofs.boot.Goals as goal
 
 pub returns : goal.returns
 returns g c =
-    let came = outcome (λ text. text.items) c.boot_first-came.result in
+    let outcome = text_outcome (λ text. text.items) c.boot_first-outcome.result in
     let lent = c.as_mut_slice.ensures in
     record {
       does = λ rest.
-          first_done _ came _ _ c.answer.ensures.ends c.answer.ensures.counts refl refl _
-          (lent_back g.N.Nor.device (λ old new. OnBoards came (boot_rule old) ⊥ old new) c.args.boards.now.len
-          _ c.args.boards.now.items c.boot_first-came.new.boards _ lent.value (omega (arith, c.boot_first-came.auto.boards, lent.len)) c.boot_first-came.ensures)
+          first_done _ outcome _ _ c.answer.ensures.ends c.answer.ensures.counts refl refl _
+          (lent_back g.N.Nor.device (λ old new. OnBoards outcome (boot_rule old) ⊥ old new) c.args.boards.now.len
+          _ c.args.boards.now.items c.boot_first-outcome.new.boards _ lent.value (omega (arith, c.boot_first-outcome.auto.boards, lent.len)) c.boot_first-outcome.ensures)
           refl;
     }

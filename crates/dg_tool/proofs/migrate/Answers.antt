@@ -1,5 +1,5 @@
 use Rattle.std.proofs.Common.{refl, arith, map}
-use Rattle.dg_end.specs.Lines.{outcome}
+use Rattle.dg_end.specs.Lines.{text_outcome}
 use Rattle.dg_tool.specs.Endings.{FirstInForm}
 use Rattle.dg_tool.specs.Done.{OnBoards}
 use Rattle.dg_tool.specs.Rules.{migrate_rule}
@@ -9,13 +9,13 @@ use Rattle.dg_tool.proofs.migrate.Goals as goal
 
 pub returns : goal.returns
 returns g c =
-    let came = outcome (λ text. text.items) c.migrate_first-came.result in
+    let outcome = text_outcome (λ text. text.items) c.migrate_first-outcome.result in
     let lent = c.as_mut_slice.ensures in
     let old = map g.N.Nor.device c.args.boards.now.items in
     record {
       does = λ rest.
-          numbered_done _ came _ _ c.answer.ensures.ends c.answer.ensures.counts refl refl (λ form. FirstInForm form old) (λ form. migrate_rule old form)
-          (λ form. lent_back g.N.Nor.device (λ old new. FirstInForm form old → OnBoards came (migrate_rule old form) ⊥ old new) c.args.boards.now.len
-          _ c.args.boards.now.items c.migrate_first-came.new.boards _ lent.value (omega (arith, c.migrate_first-came.auto.boards, lent.len)) (c.migrate_first-came.ensures form))
+          numbered_done _ outcome _ _ c.answer.ensures.ends c.answer.ensures.counts refl refl (λ form. FirstInForm form old) (λ form. migrate_rule old form)
+          (λ form. lent_back g.N.Nor.device (λ old new. FirstInForm form old → OnBoards outcome (migrate_rule old form) ⊥ old new) c.args.boards.now.len
+          _ c.args.boards.now.items c.migrate_first-outcome.new.boards _ lent.value (omega (arith, c.migrate_first-outcome.auto.boards, lent.len)) (c.migrate_first-outcome.ensures form))
           refl;
     }

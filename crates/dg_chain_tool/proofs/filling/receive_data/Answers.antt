@@ -6,7 +6,7 @@ use Rattle.dg_volume.specs.Store.{Store}
 use Rattle.dg_volume.specs.Stands.{Mounted}
 use Rattle.dg_chain.specs.Checking.{field_of, first_break}
 use Rattle.dg_volume.specs.Filling.{new_row}
-use Rattle.dg_chain_tool.specs.Filling.{fill_to, FillEnds}
+use Rattle.dg_chain_tool.specs.inner.Filling.{fill_to, FillEnds}
 use Rattle.dg_chain_tool.proofs.FillLemmas.{from_err, Going, going_none, going_more, going_all, going_fits, next_fails, break_on}
 use Rattle.dg_chain_tool.proofs.filling.receive_data.Goals as goal
 

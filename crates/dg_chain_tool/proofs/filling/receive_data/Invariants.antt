@@ -4,7 +4,7 @@ use Rattle.dg_volume.specs.Store.{Store}
 use Rattle.dg_volume.specs.Stands.{Mounted, is_lent}
 use Rattle.dg_chain.specs.Checking.{first_break}
 use Rattle.dg_volume.specs.Filling.{new_row}
-use Rattle.dg_chain_tool.specs.Filling.{fill_to}
+use Rattle.dg_chain_tool.specs.inner.Filling.{fill_to}
 use Rattle.dg_chain_tool.proofs.FillLemmas.{Going}
 use Rattle.dg_chain_tool.proofs.filling.receive_data.Given as goal
 

@@ -8,7 +8,7 @@ use Rattle.dg_volume.proofs.StoreLemmas.{one_store}
 use Rattle.dg_chain.specs.Answers.{chained_slot}
 use Rattle.dg_chain.specs.Receiving.{Receives}
 use Rattle.dg_chain.specs.declared.sealing.ChainSealing.{ChainSealing}
-use Rattle.dg_chain_tool.specs.Filling.{fits_root, next_trail}
+use Rattle.dg_chain_tool.specs.inner.Filling.{fits_root, next_trail}
 use Rattle.dg_slot.specs.Fits.{may_seal}
 use Rattle.dg_volume.specs.Acts.{Acted, Stops}
 use Rattle.dg_slot.specs.Layout.{page_operations}
@@ -80,8 +80,8 @@ unreachable-requires g c =
     let lends = c.in-Some.ensures.lends in
     let opened = lends.1 _ x.0 h x.1 x.2.next.held_here in
     let r = subst (λ (y : ChainSealing). Receives c.args.expected.now (outline_told c.in-Some.slot).image h page a b y) here.field-0-is (here.ensures.received h opened) in
-    let may = subst (λ (n : ℕ). may_seal n h page ≡ true) (sym lends.0) x.2.next.fits in
-    absurd (bad_next a b c.args.volume.now c.slot.new.self c.slot.new.self x.0 c.args.image h c.args.expected.now page c.in-Some.slot c.requires.not_golden c.requires.known_image x.2.next.held_here lends.0 c.receive_page.ensures.touches x.1 (c.slot.ensures.mounted a.image x.0 x.1) opened here.field-0-2 here.field-0-0 here.field-0-1 may r)
+    let halted = subst (λ (n : ℕ). may_seal n h page ≡ true) (sym lends.0) x.2.next.fits in
+    absurd (bad_next a b c.args.volume.now c.slot.new.self c.slot.new.self x.0 c.args.image h c.args.expected.now page c.in-Some.slot c.requires.not_golden c.requires.known_image x.2.next.held_here lends.0 c.receive_page.ensures.touches x.1 (c.slot.ensures.mounted a.image x.0 x.1) opened here.field-0-2 here.field-0-0 here.field-0-1 halted r)
 
 pub returns-in-Err-clause-ends : goal.returns-in-Err-clause-ends
 returns-in-Err-clause-ends g c = λ s mounted.
@@ -93,6 +93,6 @@ returns-in-Err-clause-ends g c = λ s mounted.
     let page = c.args.page.now in
     let lends = c.in-Some.ensures.lends in
     let opened = lends.1 _ x.0 h x.1 x.2.next.held_here in
-    let may = subst (λ (n : ℕ). may_seal n h page ≡ true) (sym lends.0) x.2.next.fits in
-    let done = stopped_next a b c.args.volume.now c.slot.new.self c.slot.new.self x.0 i h c.args.expected.now page c.in-Some.slot c.requires.not_golden c.requires.known_image x.2.next.held_here lends.0 c.receive_page.ensures.touches x.1 (c.slot.ensures.mounted a.image x.0 x.1) opened may (c.in-Err.ensures.stopped h opened) in
+    let halted = subst (λ (n : ℕ). may_seal n h page ≡ true) (sym lends.0) x.2.next.fits in
+    let done = stopped_next a b c.args.volume.now c.slot.new.self c.slot.new.self x.0 i h c.args.expected.now page c.in-Some.slot c.requires.not_golden c.requires.known_image x.2.next.held_here lends.0 c.receive_page.ensures.touches x.1 (c.slot.ensures.mounted a.image x.0 x.1) opened halted (c.in-Err.ensures.stopped h opened) in
     subst (λ (t : Store). Stops (next_trail (fits_root c.args.expected.now page) t i page) a b) (sym (one_store a.image s x.0 mounted.stands x.1.stands)) done

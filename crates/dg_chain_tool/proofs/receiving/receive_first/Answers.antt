@@ -1,7 +1,7 @@
 use Rattle.std.proofs.Common.{sym, ap, ◌∙◌, Err}
 use Rattle.std.proofs.lemmas.Bool.{eqb-true}
 use Rattle.dg_object.specs.Object.{row_of}
-use Rattle.dg_end.specs.Widened.{end_of_mount}
+use Rattle.dg_end.specs.Conversions.{end_of_mount}
 use Rattle.dg_tool.specs.Input.{end_of_image}
 use Rattle.dg_tool.proofs.BoardLemmas.{some_of}
 use Rattle.dg_tool.proofs.InputLemmas.{at_fed, fed_nothing}

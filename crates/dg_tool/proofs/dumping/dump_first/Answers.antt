@@ -3,7 +3,7 @@ use Rattle.std.proofs.lemmas.Bool.{eqb-true}
 use Rattle.dg_nor.specs.Reads.{Looked, ReadStopped}
 use Rattle.dg_volume.specs.Store.{held}
 use Rattle.dg_volume.proofs.ReadLemmas.{Looked_then, Looked_stopped}
-use Rattle.dg_end.specs.Widened.{end_of_mount}
+use Rattle.dg_end.specs.Conversions.{end_of_mount}
 use Rattle.dg_tool.specs.Verbs.{dump_by}
 use Rattle.dg_tool.proofs.BoardLemmas.{some_of, no_boards, at_boards, same_bytes}
 use Rattle.dg_tool.proofs.TrailLemmas.{unmounted_first, acted_first}

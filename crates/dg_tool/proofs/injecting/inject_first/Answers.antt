@@ -6,7 +6,7 @@ use Rattle.dg_volume.specs.Changes.{inject_refusal}
 use Rattle.dg_volume.specs.Trails.{inject_trail}
 use Rattle.dg_volume.proofs.BeginLemmas.{inject_begins}
 use Rattle.dg_end.specs.Texts.{numbers, line}
-use Rattle.dg_end.specs.Widened.{end_of_mount}
+use Rattle.dg_end.specs.Conversions.{end_of_mount}
 use Rattle.dg_end.specs.declared.ends.End.TheVariants as ends
 use Rattle.dg_tool.specs.Verbs.{inject_ending_by}
 use Rattle.dg_tool.specs.Input.{end_of_image}

@@ -8,7 +8,7 @@ use Rattle.dg_volume.specs.Stands.{form_of}
 use Rattle.dg_volume.proofs.BeginLemmas.{migrate_begins}
 use Rattle.dg_boot.proofs.BootLemmas.{stops_looked}
 use Rattle.dg_end.specs.Texts.{numbers, line}
-use Rattle.dg_end.specs.Widened.{end_of_mount, end_of_commit}
+use Rattle.dg_end.specs.Conversions.{end_of_mount, end_of_commit}
 use Rattle.dg_end.specs.declared.ends.End.TheVariants as ends
 use Rattle.dg_tool.specs.Verbs.{migrate_by}
 use Rattle.dg_tool.specs.Done.{MigratedOn, StopsOn}

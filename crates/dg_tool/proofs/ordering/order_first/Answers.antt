@@ -5,7 +5,7 @@ use Rattle.dg_volume.specs.Changes.{order_refusal}
 use Rattle.dg_volume.specs.Trails.{order_trail}
 use Rattle.dg_volume.proofs.BeginLemmas.{begins_committing}
 use Rattle.dg_end.specs.Texts.{numbers, line}
-use Rattle.dg_end.specs.Widened.{end_of_mount, end_of_order}
+use Rattle.dg_end.specs.Conversions.{end_of_mount, end_of_order}
 use Rattle.dg_end.specs.declared.ends.End.TheVariants as ends
 use Rattle.dg_tool.specs.Verbs.{order_by}
 use Rattle.dg_tool.proofs.BoardLemmas.{some_of, no_boards, at_boards}

@@ -2,10 +2,10 @@ use Rattle.std.proofs.Common.{sym, ap, ◌∙◌, Err, Ok, ℕ}
 use Rattle.std.proofs.lemmas.Bool.{eqb-true}
 use Rattle.dg_nor.specs.Reads.{Looked, ReadStopped}
 use Rattle.dg_volume.proofs.ReadLemmas.{Looked_then, Looked_stopped}
-use Rattle.dg_end.specs.Widened.{end_of_mount}
+use Rattle.dg_end.specs.Conversions.{end_of_mount}
 use Rattle.dg_tool.specs.Endings.{Acting}
 use Rattle.dg_tool.specs.Verbs.{ping_text}
-use Rattle.dg_tool.specs.Inner.{end_of_page}
+use Rattle.dg_tool.specs.inner.OneBoard.{end_of_page}
 use Rattle.dg_tool.proofs.BoardLemmas.{some_of, no_boards, at_boards, same_bytes}
 use Rattle.dg_tool.proofs.OutcomeLemmas.{made_store}
 use Rattle.dg_tool.proofs.ReadLemmas.{reads_fail, reads_image}

@@ -1,6 +1,6 @@
 use Rattle.std.proofs.Common.{sym, ap, ◌∙◌, Err}
 use Rattle.std.proofs.lemmas.Bool.{eqb-true}
-use Rattle.dg_end.specs.Widened.{end_of_boot}
+use Rattle.dg_end.specs.Conversions.{end_of_boot}
 use Rattle.dg_end.specs.declared.ends.End.TheVariants as ends
 use Rattle.dg_tool.proofs.BoardLemmas.{some_of, no_boards, at_boards}
 use Rattle.dg_tool.proofs.StartLemmas.{boot_started, boot_wants, boot_done, boot_fails}

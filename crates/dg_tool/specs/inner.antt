@@ -1,0 +1,2 @@
+pub mod OneBoard
+pub mod Started
