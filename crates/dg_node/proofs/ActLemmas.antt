@@ -1,6 +1,6 @@
 -- What injections and orders do at a board.
 use Rattle.std.proofs.Common.{◌≡◌, ◌≢◌, ◌⊎◌, ⊎_elim, inl, inr, ℕ, ◌+◌, Bool, true, false, List, [], ◌∷◌, refl, ap, sym, ◌∙◌, subst, arith}
-use Rattle.std.specs.Prelude.{Option, Some, None, option_map, Result, Ok, Err, IsErrAnd}
+use Rattle.std.specs.Prelude.{Option, Some, None, option_map, Result, Ok, Err, IsErrAnd, IfOk}
 use Rattle.std.proofs.lemmas.Bool.{both_ways}
 use Rattle.dg_nor.specs.Device.{Device, Halts}
 use Rattle.dg_nor.specs.Trail.{Stage, Trail, operations, last, LeavesFrom, Leaves, EachWorks, resting}
@@ -31,17 +31,16 @@ use Rattle.dg_node.specs.declared.acts.ActFault.{ActFault}
 use Rattle.dg_node.specs.declared.acts.Change.{Change}
 use Rattle.dg_node.specs.Hosts.{host}
 use Rattle.dg_node.specs.Known.{MountDone, SeesOrder}
-use Rattle.dg_node.specs.Nodes.{NodeStands, Running, motes_of, runs_by, version_in, mote_in}
+use Rattle.dg_node.specs.Nodes.{NodeStands, Running, running_mote, runs_by, node_image, node_mote}
 use Rattle.dg_node.specs.Reports.{IsReportOf}
-use Rattle.dg_node.specs.Acts.{acts_effect, Kept, trail_unless, ActFails, OrderDone, InjectDone, mount_failed, order_failed, inject_failed}
+use Rattle.dg_node.specs.Acts.{acts_effect, ActKept, trail_unless, ActFails, NodeOrdered, NodeInjected, mount_failed, InjectTook, is_orderly_ordered, is_orderly_injected}
+use Rattle.dg_node.specs.inner.Faults.{order_failed, inject_failed}
 use Rattle.dg_nor.specs.Device.{Took}
 use Rattle.dg_nor.proofs.TakenLemmas.{Took_then}
 use Rattle.dg_object.specs.Object.{Row}
 use Rattle.dg_slot.specs.Layout.{page_size}
 use Rattle.dg_volume.specs.Changes.{inject_refusal}
 use Rattle.dg_volume.specs.Trails.{inject_by, inject_trail}
-use Rattle.std.specs.Prelude.{IfOk}
-use Rattle.dg_node.specs.Acts.{InjectTook, is_orderly_ordered, is_orderly_injected}
 use Rattle.dg_node.proofs.KnownLemmas.{took_within}
 use Rattle.dg_node.proofs.NodeLemmas.{ran_after, stops_after}
 
@@ -88,8 +87,8 @@ handed P (Err e) f is p = subst (λ (x : ActFault). P (Err x)) (sym is) p
 
 -- ---- the node goes on
 
-pub reloads : (p : Option Node) (v : Node) (q : Option Node) (u : Mote) (c d : List ℕ) (s t : Store) (r : Option Running) (now draw : ℕ) → p ≡ Some v → q ≡ Some (record v { mote = u }) → ((m : MoteState) → IsMote c (mote_in v) m s → IsMote d u (maintains m now draw) t) → NodeStands c p s r
-    → NodeStands d q t (runs_by (option_map (λ m. maintains m now draw) (motes_of r)) None (option_map version_in p))
+pub reloads : (p : Option Node) (v : Node) (q : Option Node) (u : Mote) (c d : List ℕ) (s t : Store) (r : Option Running) (now draw : ℕ) → p ≡ Some v → q ≡ Some (record v { mote = u }) → ((m : MoteState) → IsMote c (node_mote v) m s → IsMote d u (maintains m now draw) t) → NodeStands c p s r
+    → NodeStands d q t (runs_by (option_map (λ m. maintains m now draw) (running_mote r)) None (option_map node_image p))
 reloads None v q u c d s t r now draw is to goes stands = cc
 reloads (Some w) v None u c d s t r now draw is to goes stands = cc
 reloads (Some w) v (Some x) u c d s t None now draw is to goes stands = absurd stands
@@ -103,7 +102,7 @@ reloads (Some w) v (Some x) u c d s t (Some r) now draw is to goes stands =
 -- ---- acts that were done, and that were not
 
 pub act_kept : {R : Type 0} (x : Change) (refusal : Option R) (o : Option MoteState) (t : Trail Store) (now draw : ℕ) (s : Store) (v : Volume) (p u : Option Node) (a m b : Device) → refusal ≡ None → Looked a m → Acted t m b v → IsReportOf x.before s → IsReportOf x.after (last t) → SeesOrder x.orderly b.image
-    → NodeStands b.image u (last t) (runs_by (option_map (λ y. maintains y now draw) o) None (option_map version_in p)) → Kept x refusal (acts_effect o t now draw) s (host a p) (host b u)
+    → NodeStands b.image u (last t) (runs_by (option_map (λ y. maintains y now draw) o) None (option_map node_image p)) → ActKept x refusal (acts_effect o t now draw) s (host a p) (host b u)
 act_kept x refusal o t now draw s v p u a m b none looked acted before after tells stands = record {
   allowed = none;
   went = record { ran = ran_after (operations t) a m b looked.ran acted.ran; stands = acted.mounted.stands; runs = stands; sent = refl; read = tt; memory = tt };
@@ -123,7 +122,7 @@ took_same_device n a m b took same = took_within n (n + 0) a b (omega arith) (su
 
 module _ (before : ChipReport) (orderly : Bool) (e : Effect) (s : Store) (v : Option Node) (a m b : Device) where
   pub order_fails : (f : OrderFault) (refusal : Option OrderFault) → UnlessOrderRefused {T = Unit {0}} (Err f) refusal → (f ≢ order_fault.Stopped → refusal ≡ Some f) → Looked a m → (f ≢ order_fault.Stopped → b ≡ m) → (f ≡ order_fault.Stopped → Stops e.trail m b) → IsReportOf before s
-      → (f ≢ order_fault.Stopped → SeesOrder orderly b.image) → OrderDone (order_failed f before orderly) refusal e s (host a v) (host b v)
+      → (f ≢ order_fault.Stopped → SeesOrder orderly b.image) → NodeOrdered (order_failed f before orderly) refusal e s (host a v) (host b v)
   order_fails order_fault.Stopped refusal none some looked same stops report tells =
       record { stops = stops_unless refusal e.trail s a b none (stops_after e.trail a m b looked.ran (stops refl)); told = λ whole blown. report }
   order_fails (order_fault.Worn room) refusal none some looked same stops report tells =
@@ -133,7 +132,7 @@ module _ (before : ChipReport) (orderly : Bool) (e : Effect) (s : Store) (v : Op
 
   pub inject_fails : (f : InjectFault) (refusal : Option InjectFault) → UnlessInjectRefused {T = VolumeInjected} (Err f) refusal → (f ≢ inject.Stopped → refusal ≡ Some f) → (refusal ≡ Some inject.Taken → e.trail ≡ resting s 0) → Looked a m
       → (f ≢ inject.Stopped → f ≢ inject.Taken → b ≡ m) → (f ≡ inject.Taken → Looked m b) → (f ≡ inject.Stopped → Stops e.trail m b) → IsReportOf before s → (f ≢ inject.Stopped → SeesOrder orderly b.image)
-      → InjectDone (inject_failed f before orderly) refusal e s (host a v) (host b v)
+      → NodeInjected (inject_failed f before orderly) refusal e s (host a v) (host b v)
   inject_fails inject.Stopped refusal none some rests looked same taken stops report tells =
       let all = stops_after e.trail a m b looked.ran (stops refl) in
       record {

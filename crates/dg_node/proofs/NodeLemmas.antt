@@ -41,10 +41,11 @@ use Rattle.dg_mote.specs.declared.mote.Did.TheVariants as did
 use Rattle.dg_mote.specs.declared.mote.Heard.{Heard}
 use Rattle.dg_node.specs.declared.node.Node.{Node}
 use Rattle.dg_node.specs.declared.answers.Powered.{Powered}
-use Rattle.dg_node.specs.Begins.{BeginsOver}
+use Rattle.dg_node.specs.inner.Begins.{BeginsOver}
 use Rattle.dg_node.specs.Hosts.{host}
 use Rattle.dg_node.specs.Nodes.{image_version_of, rest_effect}
-use Rattle.dg_node.specs.Ends.{NodeEnd, Quiet, Sent, Starts, Stopped, NotAVolume, NoImage, NodeDone, Went, power_end, tick_end, restart_fault}
+use Rattle.dg_node.specs.Ends.{NodeEnd, Quiet, Sent, Starts, Stopped, NotAVolume, NoImage, NodeDone, EffectDone, power_end, tick_end}
+use Rattle.dg_node.specs.inner.Faults.{restart_fault}
 
 -- ---- behind a reading
 
@@ -57,7 +58,7 @@ stops_after t a b c l s =
     subst (λ (n : ℕ). Halted n (MayLeave Stands IsNear t) a c) e
     (Halted_second (MayLeave Stands IsNear t) l (λ k within x. let f : k ≡ 0 + k = omega arith in subst (λ (j : ℕ). MayLeave Stands IsNear t j c.image) f x) s)
 
-went_after : (e : Effect) (frame : Option (List ℕ)) (v u : Option Node) (a b c : Device) → Ran 0 a b → Went e frame (host b v) (host c u) → Went e frame (host a v) (host c u)
+went_after : (e : Effect) (frame : Option (List ℕ)) (v u : Option Node) (a b c : Device) → Ran 0 a b → EffectDone e frame (host b v) (host c u) → EffectDone e frame (host a v) (host c u)
 went_after e frame v u a b c l x = record { ran = ran_after (operations e.trail) a b c l x.ran; stands = x.stands; runs = x.runs; sent = x.sent; read = x.read; memory = x.memory }
 
 pub done_after : (r : NodeEnd) (frame : Option (List ℕ)) (e : Effect) (v u : Option Node) (a b c : Device) → Ran 0 a b → NodeDone r frame e (host b v) (host c u) → NodeDone r frame e (host a v) (host c u)
@@ -183,9 +184,9 @@ module _ (m : MoteState) (s : Store) (now draw : ℕ) where
   ticks_on d is same = acted_on step now draw d is same
 
   tick_went : (v u : Node) (a b : Device) (d : Did) (o : Option (List ℕ)) → (d ≡ did.Sent) ⊎ (d ≡ did.Idle) → u.image_version ≡ v.image_version → IsMote a.image v.mote m s → Done step a b u.mote d → o ≡ option_map frame_of step.sent → IfSome step.sent (IsRead m.wide)
-      → Went (tick_effect m s now draw) o (host a (Some v)) (host b (Some u))
+      → EffectDone (tick_effect m s now draw) o (host a (Some v)) (host b (Some u))
   tick_went v u a b d o is same mote done sent read =
-      subst (λ (e : Effect). Went e o (host a (Some v)) (host b (Some u))) (sym (ticks_on d is done.answers))
+      subst (λ (e : Effect). EffectDone e o (host a (Some v)) (host b (Some u))) (sym (ticks_on d is done.answers))
       (record {
         ran = done.ran;
         stands = done.mote.mounted.stands;

@@ -9,16 +9,14 @@ use Rattle.dg_volume.specs.Store.{Store}
 use Rattle.dg_volume.specs.Acts.{Stops}
 use Rattle.dg_volume.specs.Trails.{order_trail, inject_trail}
 use Rattle.dg_volume.specs.declared.volume.InjectFault.{InjectFault}
-use Rattle.dg_volume.specs.declared.volume.InjectFault.TheVariants as inject
 use Rattle.dg_volume.specs.declared.volume.OrderFault.{OrderFault}
-use Rattle.dg_volume.specs.declared.volume.OrderFault.TheVariants as order_fault
 use Rattle.dg_volume.specs.declared.volume.MountFault.{MountFault}
 use Rattle.dg_volume.specs.declared.volume.MountFault.TheVariants as mount_fault
 use Rattle.dg_mote.specs.Model.{MoteState, maintains}
 use Rattle.dg_mote.specs.Effects.{Effect}
-use Rattle.dg_node.specs.Ends.{Went}
+use Rattle.dg_node.specs.Ends.{EffectDone}
 use Rattle.dg_node.specs.Hosts.{Host}
-use Rattle.dg_node.specs.Known.{SeesOrder, beyond}
+use Rattle.dg_node.specs.Known.{SeesOrder, bytes_looked_at}
 use Rattle.dg_node.specs.Reports.{IsReportOf}
 use Rattle.dg_node.specs.declared.report.ChipReport.{ChipReport}
 use Rattle.dg_node.specs.declared.acts.Change.{Change}
@@ -44,15 +42,15 @@ inject_effect o s row now draw = acts_effect o (inject_trail s row) now draw
 -- ---- how an act ends
 
 -- the act was done
-pub record Kept {R : Type 0} (x : Change) (refusal : Option R) (e : Effect) (s : Store) (a b : Host) : Type 0 where
+pub record ActKept {R : Type 0} (x : Change) (refusal : Option R) (e : Effect) (s : Store) (a b : Host) : Type 0 where
   pub allowed : refusal ≡ None
-  pub went : Went e None a b
+  pub went : EffectDone e None a b
   pub before : IsReportOf x.before s
   pub after : IsReportOf x.after (last e.trail)
   pub tells : SeesOrder x.orderly b.board.image
 
 -- it was refused, and nothing has changed
-pub record Refused {R : Type 0} (why : R) (orderly : Bool) (refusal : Option R) (a b : Host) : Type 0 where
+pub record ActRefused {R : Type 0} (why : R) (orderly : Bool) (refusal : Option R) (a b : Host) : Type 0 where
   pub cause : refusal ≡ Some why
   pub looked : Looked a.board b.board
   pub same : b.runs ≡ a.runs
@@ -64,30 +62,30 @@ trail_unless None t s = t
 trail_unless (Some why) t s = resting s 0
 
 -- The chip stopped. Where a fuse blew in the act, this was reported of the chip before.
-pub record ActStopped {R : Type 0} (before : Option ChipReport) (refusal : Option R) (e : Effect) (s : Store)
+pub record StoppedInAct {R : Type 0} (before : Option ChipReport) (refusal : Option R) (e : Effect) (s : Store)
     (old new : Device) : Type 0 where
   pub stops : Stops (trail_unless refusal e.trail s) old new
   pub told : old.blown ≡ false → new.blown ≡ true → IsSomeAnd before (λ x. IsReportOf x s)
 
 abbrev pub ActFails : {R : Type 0} → ActFault → Option R → Effect → Store → (a b : Host) → Type 0
-ActFails (act_fault.Stopped before) refusal e s a b = ActStopped before refusal e s a.board b.board
+ActFails (act_fault.Stopped before) refusal e s a b = StoppedInAct before refusal e s a.board b.board
 ActFails act_fault.NotAVolume refusal e s a b = ⊥
 
 -- What an order did of which this is the effect, at a board that stood for s: the host was a and is b.
-abbrev pub OrderDone : Result Ordered ActFault → Option OrderFault → Effect → Store → (a b : Host) → Type 0
-OrderDone (Ok (ordered.Kept x)) refusal e s a b = Kept x refusal e s a b
-OrderDone (Ok (ordered.Refused why orderly)) refusal e s a b = Refused why orderly refusal a b
-OrderDone (Err fault) refusal e s a b = ActFails fault refusal e s a b
+abbrev pub NodeOrdered : Result Ordered ActFault → Option OrderFault → Effect → Store → (a b : Host) → Type 0
+NodeOrdered (Ok (ordered.Kept x)) refusal e s a b = ActKept x refusal e s a b
+NodeOrdered (Ok (ordered.Refused why orderly)) refusal e s a b = ActRefused why orderly refusal a b
+NodeOrdered (Err fault) refusal e s a b = ActFails fault refusal e s a b
 
-abbrev pub InjectDone : Result Injected ActFault → Option InjectFault → Effect → Store → (a b : Host) → Type 0
-InjectDone (Ok (injected.Kept x)) refusal e s a b = Kept x refusal e s a b
-InjectDone (Ok (injected.Refused why orderly)) refusal e s a b = Refused why orderly refusal a b
-InjectDone (Err fault) refusal e s a b = ActFails fault refusal e s a b
+abbrev pub NodeInjected : Result Injected ActFault → Option InjectFault → Effect → Store → (a b : Host) → Type 0
+NodeInjected (Ok (injected.Kept x)) refusal e s a b = ActKept x refusal e s a b
+NodeInjected (Ok (injected.Refused why orderly)) refusal e s a b = ActRefused why orderly refusal a b
+NodeInjected (Err fault) refusal e s a b = ActFails fault refusal e s a b
 
 -- what a refused injection read of a board that is mounted again by n bytes
 abbrev pub InjectTook : Result Injected ActFault → (n : ℕ) → (old new : Device) → Type 0
 InjectTook (Ok (injected.Kept x)) n old new = Unit {0}
-InjectTook (Ok (injected.Refused why orderly)) n old new = Took (n + beyond why) old new
+InjectTook (Ok (injected.Refused why orderly)) n old new = Took (n + bytes_looked_at why) old new
 InjectTook (Err fault) n old new = Unit {0}
 
 -- whether the chip is told to be orderly
@@ -104,11 +102,3 @@ is_orderly_injected (injected.Refused why orderly) = orderly
 abbrev pub mount_failed : MountFault → ActFault
 mount_failed mount_fault.Stopped = act_fault.Stopped None
 mount_failed mount_fault.NotAVolume = act_fault.NotAVolume
-
-abbrev pub order_failed : OrderFault → ChipReport → Bool → Result Ordered ActFault
-order_failed order_fault.Stopped before orderly = Err (act_fault.Stopped (Some before))
-order_failed why before orderly = Ok (ordered.Refused why orderly)
-
-abbrev pub inject_failed : InjectFault → ChipReport → Bool → Result Injected ActFault
-inject_failed inject.Stopped before orderly = Err (act_fault.Stopped (Some before))
-inject_failed why before orderly = Ok (injected.Refused why orderly)

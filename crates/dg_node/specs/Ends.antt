@@ -23,7 +23,7 @@ use Rattle.dg_node.specs.declared.answers.TickFault.TheVariants as tick_fault
 use Rattle.dg_node.specs.declared.answers.Ticked.{Ticked}
 use Rattle.dg_node.specs.declared.answers.Ticked.TheVariants as ticked
 use Rattle.dg_node.specs.Hosts.{Host}
-use Rattle.dg_node.specs.Nodes.{NodeStands, runs_by, version_in, wide_in}
+use Rattle.dg_node.specs.Nodes.{NodeStands, runs_by, node_image, node_is_wide}
 
 -- how an event ended
 pub data NodeEnd : Type 0 where
@@ -39,17 +39,17 @@ pub data NodeEnd : Type 0 where
 
 -- The effect was done: the chip went its trail, what runs then is the effect's, what is sent is in the outbox, and what was
 -- started stands in program memory.
-pub record Went (e : Effect) (frame : Option (List ℕ)) (a b : Host) : Type 0 where
+pub record EffectDone (e : Effect) (frame : Option (List ℕ)) (a b : Host) : Type 0 where
   pub ran : Ran (operations e.trail) a.board b.board
   pub stands : Stands b.board.image (last e.trail)
-  pub runs : NodeStands b.board.image b.runs (last e.trail) (runs_by e.mote e.started (option_map version_in a.runs))
+  pub runs : NodeStands b.board.image b.runs (last e.trail) (runs_by e.mote e.started (option_map node_image a.runs))
   pub sent : frame ≡ option_map frame_of e.sent
   -- a mote of the same width reads what is sent as its message
-  pub read : IfSome e.sent (IsRead (wide_in a.runs))
+  pub read : IfSome e.sent (IsRead (node_is_wide a.runs))
   pub memory : IfSome e.started (λ r. program b.board.image (length r.pages) ≡ r.pages)
 
 -- a start found no image
-pub record Lacked (e : Effect) (frame : Option (List ℕ)) (old new : Device) : Type 0 where
+pub record FoundNoImage (e : Effect) (frame : Option (List ℕ)) (old new : Device) : Type 0 where
   pub none : e.mote ≡ None
   pub silent : e.sent ≡ None
   pub unsent : frame ≡ None
@@ -65,11 +65,12 @@ pub record IsStart (told : StartedImage) (r : Runs) : Type 0 where
 
 -- What an event did that has this effect, and ended so: the host was a and is b, and the outbox has this frame.
 abbrev pub NodeDone : NodeEnd → (frame : Option (List ℕ)) → Effect → (a b : Host) → Type 0
-NodeDone Quiet frame e a b = Went e frame a b × (e.started ≡ None) × (e.sent ≡ None)
-NodeDone Sent frame e a b = Went e frame a b × (e.started ≡ None) × ((message : Message) × (e.sent ≡ Some message))
-NodeDone (Starts told) frame e a b = Went e frame a b × (e.sent ≡ None) × ((r : Runs) × (e.started ≡ Some r) × IsStart told r)
+NodeDone Quiet frame e a b = EffectDone e frame a b × (e.started ≡ None) × (e.sent ≡ None)
+NodeDone Sent frame e a b = EffectDone e frame a b × (e.started ≡ None) × ((message : Message) × (e.sent ≡ Some message))
+NodeDone (Starts told) frame e a b =
+    EffectDone e frame a b × (e.sent ≡ None) × ((r : Runs) × (e.started ≡ Some r) × IsStart told r)
 NodeDone Stopped frame e a b = Stops e.trail a.board b.board × (frame ≡ None)
-NodeDone NoImage frame e a b = Lacked e frame a.board b.board
+NodeDone NoImage frame e a b = FoundNoImage e frame a.board b.board
 NodeDone NotAVolume frame e a b = ⊥
 
 -- ---- by the answers of the calls
@@ -90,12 +91,6 @@ tick_end (Ok ticked.Sent) = Sent
 tick_end (Ok (ticked.Restarted image)) = Starts image
 tick_end (Err tick_fault.Stopped) = Stopped
 tick_end (Err tick_fault.NoImage) = NoImage
-
--- why a restart failed, at a board that is a volume
-abbrev pub restart_fault : BootFault → TickFault
-restart_fault boot_fault.Stopped = tick_fault.Stopped
-restart_fault boot_fault.NotAVolume = tick_fault.Stopped
-restart_fault boot_fault.NoImage = tick_fault.NoImage
 
 abbrev pub hear_end : Result Heard StoppedValue → NodeEnd
 hear_end (Ok heard) = Quiet

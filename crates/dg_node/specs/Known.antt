@@ -24,14 +24,14 @@ abbrev pub SeesOrder : Bool → List ℕ → Type 0
 SeesOrder orderly c = (orderly ≡ true) ↔ IsOrderlyChip c
 
 -- the board was mounted
-pub record MountedTo (v : Volume) (old new : Device) : Type 0 where
+pub record BoardMounted (v : Volume) (old new : Device) : Type 0 where
   pub mounted : (s : Store) → Stands old.image s → Mounted new.image v s
   pub volume : IsMounted new.image v
   pub free : NothingLent v
   pub looked : Looked old new
 
 abbrev pub MountDone : Result Volume MountFault → Device → Device → Type 0
-MountDone (Ok v) old new = MountedTo v old new
+MountDone (Ok v) old new = BoardMounted v old new
 MountDone (Err mount_fault.Stopped) old new = ReadStopped old new
 MountDone (Err mount_fault.NotAVolume) old new = IsNoVolume old.image × Looked old new
 
@@ -45,11 +45,11 @@ pub record OrderReads (known : Bool) (a b : Device) : Type 0 where
   pub bytes : (m n : ℕ) → RemountBytes a.image m → RemountBytes b.image n → n ≤ m + place_size
 
 -- beyond mounting it again, where an injection is refused so
-abbrev pub beyond : InjectFault → ℕ
-beyond inject.Taken = page_size
-beyond inject.Stopped = 0
-beyond inject.Empty = 0
-beyond inject.TooLarge = 0
-beyond inject.Reserved = 0
-beyond (inject.Stale version) = 0
-beyond (inject.Worn room) = 0
+abbrev pub bytes_looked_at : InjectFault → ℕ
+bytes_looked_at inject.Taken = page_size
+bytes_looked_at inject.Stopped = 0
+bytes_looked_at inject.Empty = 0
+bytes_looked_at inject.TooLarge = 0
+bytes_looked_at inject.Reserved = 0
+bytes_looked_at (inject.Stale version) = 0
+bytes_looked_at (inject.Worn room) = 0

@@ -1,7 +1,7 @@
 pub mod Nodes
 pub mod Hosts
 pub mod Ends
-pub mod Begins
 pub mod Known
 pub mod Reports
 pub mod Acts
+pub mod inner

@@ -16,11 +16,11 @@ pub record Running : Type 0 where
   pub image_version : ImageVersion
   pub mote : MoteState
 
-abbrev pub version_in : Node → ImageVersion
-version_in v = v.image_version
+abbrev pub node_image : Node → ImageVersion
+node_image v = v.image_version
 
-abbrev pub mote_in : Node → Mote
-mote_in v = v.mote
+abbrev pub node_mote : Node → Mote
+node_mote v = v.mote
 
 -- what the code keeps of a node over these bytes is what the node is, None where it is off
 abbrev pub NodeStands : List ℕ → Option Node → Store → Option Running → Type 0
@@ -44,14 +44,14 @@ runs_by (Some m) None (Some version) = Some (record { image_version = version; m
 runs_by (Some m) None None = None
 
 -- the mote of a node that is on
-abbrev pub motes_of : Option Running → Option MoteState
-motes_of None = None
-motes_of (Some r) = Some r.mote
+abbrev pub running_mote : Option Running → Option MoteState
+running_mote None = None
+running_mote (Some r) = Some r.mote
 
 -- the width of the radio of a node that is on
-abbrev pub wide_in : Option Node → Bool
-wide_in None = true
-wide_in (Some v) = wide_told v.mote
+abbrev pub node_is_wide : Option Node → Bool
+node_is_wide None = true
+node_is_wide (Some v) = wide_told v.mote
 
 -- nothing changes, and nothing is sent
 abbrev pub rest_effect : MoteState → Store → Effect

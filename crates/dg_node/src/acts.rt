@@ -1,6 +1,6 @@
 //! What injections and orders answer.
 ghost use Rattle.std.specs.Prelude.{◌≡◌};
-ghost use Rattle.dg_node.specs.Acts.{order_failed, inject_failed};
+ghost use Rattle.dg_node.specs.inner.Faults.{order_failed, inject_failed};
 
 use crate::report::ChipReport;
 use dg_volume::{InjectFault, MountFault, OrderFault};

@@ -9,7 +9,7 @@ ghost use Rattle.dg_mote.specs.Effects.{frame_effect};
 ghost use Rattle.dg_mote.specs.Hearing.{StaysIf};
 ghost use Rattle.dg_mote.specs.Motes.{IsMote};
 ghost use Rattle.dg_node.specs.Hosts.{host};
-ghost use Rattle.dg_node.specs.Nodes.{IsTimelyNode, mote_in};
+ghost use Rattle.dg_node.specs.Nodes.{IsTimelyNode, node_mote};
 ghost use Rattle.dg_node.specs.Ends.{NodeDone, hear_end};
 
 use crate::node::Node;
@@ -29,11 +29,11 @@ impl Node {
     ) -> Result<Heard, Stopped>
         requires node { IsTimelyNode (N.device board.old).image self.old now }
         requires moment { now < 2 ^ 62 }
-        ensures done { (m : MoteState) (s : Store) → IsMote (N.device board.old).image (mote_in self.old) m s
+        ensures done { (m : MoteState) (s : Store) → IsMote (N.device board.old).image (node_mote self.old) m s
             → NodeDone (hear_end result) None (frame_effect m s now draw bytes.now)
             (host (N.device board.old) (Some self.old)) (host (N.device board.new) (Some self.new)) }
         ensures answers { IfOk result (λ heard. (m : MoteState) (s : Store)
-            → IsMote (N.device board.old).image (mote_in self.old) m s → heard ≡ (heard_of m s now draw bytes.now).answer) }
+            → IsMote (N.device board.old).image (node_mote self.old) m s → heard ≡ (heard_of m s now draw bytes.now).answer) }
         // a frame that is refused or dropped changes nothing
         ensures unchanged { IfOk result (λ heard. StaysIf heard
             ((N.device board.new ≡ N.device board.old) × (self.new ≡ self.old))) }
@@ -57,11 +57,11 @@ impl Node {
         requires node { IsTimelyNode (N.device board.old).image self.old now }
         requires moment { now < 2 ^ 62 }
         requires range { in_range true message.now ≡ true }
-        ensures done { (m : MoteState) (s : Store) → IsMote (N.device board.old).image (mote_in self.old) m s
+        ensures done { (m : MoteState) (s : Store) → IsMote (N.device board.old).image (node_mote self.old) m s
             → NodeDone (hear_end result) None (frame_effect m s now draw (frame_of message.now))
             (host (N.device board.old) (Some self.old)) (host (N.device board.new) (Some self.new)) }
         ensures answers { IfOk result (λ heard. (m : MoteState) (s : Store)
-            → IsMote (N.device board.old).image (mote_in self.old) m s
+            → IsMote (N.device board.old).image (node_mote self.old) m s
             → heard ≡ (heard_of m s now draw (frame_of message.now)).answer) }
         // a frame that is refused or dropped changes nothing
         ensures unchanged { IfOk result (λ heard. StaysIf heard

@@ -7,10 +7,10 @@ ghost use Rattle.dg_volume.specs.Store.{Store};
 ghost use Rattle.dg_volume.specs.Stands.{Stands};
 ghost use Rattle.dg_volume.specs.Changes.{inject_refusal};
 ghost use Rattle.dg_volume.specs.Remount.{RemountBytes};
-ghost use Rattle.dg_node.specs.Acts.{InjectDone, InjectTook, inject_effect, is_orderly_injected};
+ghost use Rattle.dg_node.specs.Acts.{NodeInjected, InjectTook, inject_effect, is_orderly_injected};
 ghost use Rattle.dg_node.specs.Hosts.{host};
 ghost use Rattle.dg_node.specs.Known.{IsKnownChip, SeesOrder};
-ghost use Rattle.dg_node.specs.Nodes.{IsTimelyNode, NodeStands, Running, motes_of};
+ghost use Rattle.dg_node.specs.Nodes.{IsTimelyNode, NodeStands, Running, running_mote};
 
 use crate::acts::{ActFault, Change, Injected, inject_failed};
 use crate::mounting::mount_known;
@@ -48,8 +48,9 @@ impl Node {
         requires known_chip { IsTrue known → IsKnownChip (N.device board.old).image }
         ensures done { (r : Option Running) (s : Store) → Stands (N.device board.old).image s
             → NodeStands (N.device board.old).image runs.old s r
-            → let row = row_of image.now.image_version.image image.now.image_version.version image.now.name.now image.now.bytes.now in
-            InjectDone result (inject_refusal s row) (inject_effect (motes_of r) s row now draw) s
+            → let row = row_of image.now.image_version.image image.now.image_version.version image.now.name.now
+            image.now.bytes.now in
+            NodeInjected result (inject_refusal s row) (inject_effect (running_mote r) s row now draw) s
             (host (N.device board.old) runs.old) (host (N.device board.new) runs.new) }
         // a refused one mounts a known board again, and may look at a page
         ensures reads { IsTrue known → (n : ℕ) → RemountBytes (N.device board.old).image n

@@ -4,7 +4,7 @@ ghost use Rattle.dg_volume.specs.Store.{Store};
 ghost use Rattle.dg_mote.specs.Model.{MoteState};
 ghost use Rattle.dg_mote.specs.Effects.{tick_effect};
 ghost use Rattle.dg_mote.specs.Motes.{IsMote, volume_of};
-ghost use Rattle.dg_node.specs.Nodes.{version_in, mote_in, rest_effect};
+ghost use Rattle.dg_node.specs.Nodes.{node_image, node_mote, rest_effect};
 
 use dg_base::ImageVersion;
 use dg_mote::Mote;
@@ -32,14 +32,14 @@ pub struct At {
 impl Node {
     /// The image that it runs.
     pub fn image_version(&self) -> ImageVersion
-        ensures { result ≡ version_in self.now }
+        ensures { result ≡ node_image self.now }
     {
         self.image_version
     }
 
     /// The moment before which a tick changes nothing and sends nothing. Nothing is read.
     pub fn due(&self) -> u64
-        ensures { (c : List ℕ) (m : MoteState) (s : Store) (now draw : ℕ) → IsMote c (mote_in self.now) m s → now < result
+        ensures { (c : List ℕ) (m : MoteState) (s : Store) (now draw : ℕ) → IsMote c (node_mote self.now) m s → now < result
             → tick_effect m s now draw ≡ rest_effect m s }
     {
         self.mote.due()
@@ -47,7 +47,7 @@ impl Node {
 
     /// The volume of its board.
     pub fn volume(&self) -> &Volume
-        ensures { result.now ≡ volume_of (mote_in self.now) }
+        ensures { result.now ≡ volume_of (node_mote self.now) }
     {
         self.mote.volume()
     }

@@ -5,10 +5,10 @@ ghost use Rattle.dg_volume.specs.Store.{Store};
 ghost use Rattle.dg_volume.specs.Stands.{Stands, Mounted, NothingLent};
 ghost use Rattle.dg_volume.specs.Changes.{order_refusal};
 ghost use Rattle.dg_mote.specs.Model.{maintains};
-ghost use Rattle.dg_node.specs.Acts.{OrderDone, order_effect, is_orderly_ordered};
+ghost use Rattle.dg_node.specs.Acts.{NodeOrdered, order_effect, is_orderly_ordered};
 ghost use Rattle.dg_node.specs.Hosts.{host};
 ghost use Rattle.dg_node.specs.Known.{IsKnownChip, OrderReads, SeesOrder};
-ghost use Rattle.dg_node.specs.Nodes.{IsTimelyNode, NodeStands, Running, motes_of, runs_by, version_in};
+ghost use Rattle.dg_node.specs.Nodes.{IsTimelyNode, NodeStands, Running, running_mote, runs_by, node_image};
 
 use crate::acts::{ActFault, Change, Ordered, order_failed};
 use crate::mounting::mount_known;
@@ -25,7 +25,7 @@ pub(crate) fn reload(runs: &mut Option<Node>, volume: Volume, now: u64, draw: u3
     requires moment { now < 2 ^ 62 }
     ensures { (c d : List ℕ) (s t : Store) (r : Option Running) → NodeStands c runs.old s r → Mounted d volume t
         → NodeStands d runs.new t
-        (runs_by (option_map (λ m. maintains m now draw) (motes_of r)) None (option_map version_in runs.old)) }
+        (runs_by (option_map (λ m. maintains m now draw) (running_mote r)) None (option_map node_image runs.old)) }
 {
     if let Some(node) = runs {
         node.mote.reload(volume, now, draw);
@@ -52,7 +52,7 @@ impl Node {
         requires known_chip { IsTrue known → IsKnownChip (N.device board.old).image }
         ensures done { (r : Option Running) (s : Store) → Stands (N.device board.old).image s
             → NodeStands (N.device board.old).image runs.old s r
-            → OrderDone result (order_refusal s order) (order_effect (motes_of r) s order now draw) s
+            → NodeOrdered result (order_refusal s order) (order_effect (running_mote r) s order now draw) s
             (host (N.device board.old) runs.old) (host (N.device board.new) runs.new) }
         // a known board is mounted again, and nothing else is read; it stays known
         ensures reads { OrderReads known (N.device board.old) (N.device board.new) }

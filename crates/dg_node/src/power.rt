@@ -5,7 +5,7 @@ ghost use Rattle.dg_volume.specs.Stands.{Stands, NothingLent};
 ghost use Rattle.dg_mote.specs.Effects.{boots, reset_effect};
 ghost use Rattle.dg_node.specs.Hosts.{host};
 ghost use Rattle.dg_node.specs.Ends.{NodeDone, PowerFinds, power_end, powered_in};
-ghost use Rattle.dg_node.specs.Begins.{BeginsOver};
+ghost use Rattle.dg_node.specs.inner.Begins.{BeginsOver};
 
 use crate::answers::{Powered, StartedImage};
 use crate::node::{At, Node};

@@ -6,8 +6,9 @@ ghost use Rattle.dg_mote.specs.Model.{MoteState};
 ghost use Rattle.dg_mote.specs.Effects.{boots, tick_effect};
 ghost use Rattle.dg_mote.specs.Motes.{IsMote, sent_in};
 ghost use Rattle.dg_node.specs.Hosts.{host};
-ghost use Rattle.dg_node.specs.Nodes.{IsTimelyNode, mote_in};
-ghost use Rattle.dg_node.specs.Ends.{NodeDone, tick_end, restart_fault};
+ghost use Rattle.dg_node.specs.Nodes.{IsTimelyNode, node_mote};
+ghost use Rattle.dg_node.specs.Ends.{NodeDone, tick_end};
+ghost use Rattle.dg_node.specs.inner.Faults.{restart_fault};
 
 use crate::answers::{Powered, TickFault, Ticked};
 use crate::node::{At, Node};
@@ -30,7 +31,7 @@ impl Node {
         requires node { IsTimelyNode (N.device board.old).image self.old now }
         requires moment { now < 2 ^ 62 }
         requires empty { sent_in out.old ≡ None }
-        ensures { (m : MoteState) (s : Store) → IsMote (N.device board.old).image (mote_in self.old) m s
+        ensures { (m : MoteState) (s : Store) → IsMote (N.device board.old).image (node_mote self.old) m s
             → NodeDone (tick_end result) (sent_in out.new) (tick_effect m s now draw)
             (host (N.device board.old) (Some self.old)) (host (N.device board.new) (Some self.new)) }
     {
@@ -49,7 +50,8 @@ impl Node {
         requires moment { now < 2 ^ 62 }
         requires stands { (s : Store) × Stands (N.device board.old).image s }
         ensures { (s : Store) (before : Option Node) → Stands (N.device board.old).image s
-            → NodeDone (tick_end result) None (boots StartCause.Order s (mote_in self.old).id (mote_in self.old).wide now draw)
+            → NodeDone (tick_end result) None
+            (boots StartCause.Order s (node_mote self.old).id (node_mote self.old).wide now draw)
             (host (N.device board.old) before) (host (N.device board.new) (Some self.new)) }
     {
         let at = At {

@@ -11,7 +11,7 @@ ghost use Rattle.dg_rules.specs.World.{World as RuleWorld};
 ghost use Rattle.dg_rules.specs.Premises.{LinkFits};
 ghost use Rattle.dg_script.specs.Ranges.{IsDeclared, StepInRange};
 ghost use Rattle.dg_world.specs.Worlds.{IsWorld};
-ghost use Rattle.dg_world.specs.Occasions.{step_of};
+ghost use Rattle.dg_world.specs.Applying.{step_of};
 ghost use Rattle.dg_world.specs.Boards.{WorldStands};
 ghost use Rattle.dg_replay.specs.Playing.{ItemsPlayedAs, KeepsMotes};
 ghost use Rattle.dg_replay.specs.Stages.{boards_reported};

@@ -26,16 +26,16 @@ use Rattle.dg_mote.specs.declared.mote.Mote.{Mote}
 use Rattle.dg_serial.specs.Line.{line_of}
 use Rattle.dg_serial_base.specs.Based.{IsFront}
 use Rattle.dg_serial_base.specs.Deeds.{Base, At, Deed, Hears, Ticks, powered, moment_at, draw_at, effect_of, after_deed, sent_too, said}
-use Rattle.dg_serial_base.specs.Standing.{Outset, code_at, DeedLeft, deed_left, IsLeft, LeavesNone, StopsOn, FailedBy, EffectEnds, IsTime, Stood, IsStood, one_if, DoneOne, LacksIn, StopsInDeed, DeedFails, DeedEnds, SendFails, StoppedBy, DeedsHalted, WentOn}
+use Rattle.dg_serial_base.specs.inner.Standing.{Outset, code_at, DeedLeft, deed_left, IsLeft, LeavesNone, StopsOn, FailedBy, EffectEnds, IsTime, Stood, IsStood, one_if, DoneOne, LacksIn, StopsInDeed, DeedFails, DeedEnds, SendFails, StoppedBy, DeedsHalted, CompletedOn}
 use Rattle.dg_serial_base.specs.declared.running.Running.{Running}
 use Rattle.dg_serial_base.specs.declared.stop.Stop.{Stop}
 use Rattle.dg_serial_base.specs.declared.stop.Stop.TheVariants as stop
 use Rattle.dg_serial_base.proofs.RunLemmas.{run_goes, sent_one, said_one}
 use Rattle.dg_serial_base.proofs.StartLemmas.{effect_ends, frame_said}
 use Rattle.dg_node.specs.Hosts.{host}
-use Rattle.dg_node.specs.Nodes.{mote_in}
+use Rattle.dg_node.specs.Nodes.{node_mote}
 use Rattle.dg_node.specs.Ends.{NodeEnd, NodeDone}
-use Rattle.dg_serial_base.specs.Stops.{result_of}
+use Rattle.dg_serial_base.specs.inner.Stops.{result_of}
 use Rattle.dg_serial_base.proofs.WriteLemmas.{puts_then, puts_front_then}
 
 -- ---- one deed
@@ -44,7 +44,7 @@ module _ (b : Base) (s : Store) (done : List Deed) (d : Deed) (before : At) (v :
   abbrev e : Effect
   e = effect_of b stood.state before d
 
-  pub one_done : (u : Running) (new : Device) (frame : Option (List ℕ)) → IsTime u.timeline b (suc before.events) → frame ≡ option_map frame_of e.sent → IsLeft e new.image (mote_in u.node) u.timeline.moment
+  pub one_done : (u : Running) (new : Device) (frame : Option (List ℕ)) → IsTime u.timeline b (suc before.events) → frame ≡ option_map frame_of e.sent → IsLeft e new.image (node_mote u.node) u.timeline.moment
       → DoneOne b s done d before (deed_left u new frame)
   one_done u new frame time sent left =
       record {
@@ -80,7 +80,7 @@ module _ (b : Base) (s : Store) (done : List Deed) (d : Deed) (before : At) (v :
   fails stop.TooLong new x = x
 
   pub deed_ends : (r : Result (Unit {0}) Stop) (u : Running) (new : Device) (frame : Option (List ℕ)) → IsTime u.timeline b (suc before.events)
-      → ((x : Unit {0}) → r ≡ Ok x → frame ≡ option_map frame_of e.sent) → EffectEnds r before.store e u.timeline.moment new (mote_in u.node) → DeedEnds r b s done d before (deed_left u new frame)
+      → ((x : Unit {0}) → r ≡ Ok x → frame ≡ option_map frame_of e.sent) → EffectEnds r before.store e u.timeline.moment new (node_mote u.node) → DeedEnds r b s done d before (deed_left u new frame)
   deed_ends (Ok x) u new frame time sent ends = one_done u new frame time (sent x refl) ends
   deed_ends (Err why) u new frame time sent ends = fails why new ends
 
@@ -187,7 +187,7 @@ module _ (a : Outset) (done : List Deed) (d : Deed) (before : At) (old now : Opt
   said_then : (there : At) (frame : Option (List ℕ)) → map frame_of there.sent ≡ map frame_of before.sent ++ one_if frame → said there ≡ said before ++ line_of (one_if frame)
   said_then there frame e = ap line_of e ∙ said_one (map frame_of before.sent) (one_if frame)
 
-  pub sent_goes : (left : DeedLeft) → DoneOne a.base a.store done d before left → Puts old now (line_of (one_if left.frame)) → WentOn a (done ++ d ∷ []) (code_at now left.mote left.chip)
+  pub sent_goes : (left : DeedLeft) → DoneOne a.base a.store done d before left → Puts old now (line_of (one_if left.frame)) → CompletedOn a (done ++ d ∷ []) (code_at now left.mote left.chip)
   sent_goes left one w =
       record {
         there = one.there;

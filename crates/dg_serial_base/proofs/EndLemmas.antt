@@ -16,8 +16,8 @@ use Rattle.dg_serial.specs.Line.{line_of}
 use Rattle.dg_serial.specs.Reading.{Reading}
 use Rattle.dg_serial_base.specs.Deeds.{Base, deeds_of, powered, said}
 use Rattle.dg_serial_base.specs.Based.{Outside, closing, Came, AtPower, Later, Based, Refused, Causes}
-use Rattle.dg_serial_base.specs.Standing.{Calm, WhyStopped, Outset, code_on_line, StreamPlayed, DeedsHalted, InputEnds, Counts, WriteCounts, ReadCounts}
-use Rattle.dg_serial_base.specs.Ending.{TellsStatus, TellsStop, TellsResult, outset_of, FailsAtPower, LineEnds, LineRefused}
+use Rattle.dg_serial_base.specs.inner.Standing.{Calm, WhyStopped, Outset, code_on_line, StreamPlayed, DeedsHalted, InputEnds, Counts, WriteCounts, ReadCounts}
+use Rattle.dg_serial_base.specs.inner.Ending.{TellsStatus, TellsStop, TellsResult, outset_of, FailsAtPower, LineEnds, LineRefused}
 use Rattle.dg_serial_base.specs.declared.running.Running.{Running}
 use Rattle.dg_serial_base.specs.declared.stop.Stop.{Stop}
 use Rattle.dg_serial_base.specs.declared.stop.Stop.TheVariants as stop

@@ -10,8 +10,8 @@ use Rattle.dg_serial.specs.Line.{split_of, items, line_of}
 use Rattle.dg_serial.specs.Reading.{Reading, reading_behind}
 use Rattle.dg_serial_base.specs.Deeds.{Base, Deed, deeds_of, powered}
 use Rattle.dg_serial_base.specs.Based.{Outside}
-use Rattle.dg_serial_base.specs.Standing.{Outset, code_on_line, Stood, StreamPlayed, InputEnds}
-use Rattle.dg_serial_base.specs.Ending.{outset_of, LineEnds}
+use Rattle.dg_serial_base.specs.inner.Standing.{Outset, code_on_line, Stood, StreamPlayed, InputEnds}
+use Rattle.dg_serial_base.specs.inner.Ending.{outset_of, LineEnds}
 use Rattle.dg_serial_base.specs.declared.running.Running.{Running}
 use Rattle.dg_serial_base.specs.declared.stop.Stop.{Stop}
 use Rattle.dg_serial_base.proofs.WriteLemmas.{puts_nothing}

@@ -7,7 +7,7 @@ use Rattle.dg_base.specs.Sizes.{most_input}
 use Rattle.dg_base.proofs.OutsideLemmas.{Takes-join}
 use Rattle.dg_nor.specs.Device.{Device}
 use Rattle.dg_serial_base.specs.Deeds.{deeds_of}
-use Rattle.dg_serial_base.specs.Standing.{Calm, Counts, Outset, LineAt, WriteCounts, DeedsHalted, StreamPlayed, PieceRead, PieceHalted, PieceFails, LastEnds, Consumed, InputBy, InputEnds}
+use Rattle.dg_serial_base.specs.inner.Standing.{Calm, Counts, Outset, LineAt, WriteCounts, DeedsHalted, StreamPlayed, PieceRead, PieceHalted, PieceFails, LastEnds, Consumed, InputBy, InputEnds}
 use Rattle.dg_serial_base.specs.declared.stop.Stop.{Stop}
 use Rattle.dg_serial_base.specs.declared.stop.Stop.TheVariants as stop
 use Rattle.dg_serial_base.proofs.PlayLemmas.{played_along}

@@ -6,36 +6,36 @@ use Rattle.dg_serial.specs.Line.{Item, items}
 use Rattle.dg_serial.specs.Reading.{Reading, told, Feeds}
 use Rattle.dg_serial.specs.declared.unstuffing.Fed.{Fed}
 use Rattle.dg_serial_base.specs.Deeds.{Deed, Hears, Ticks, deeds_of_items, deeds_of}
-use Rattle.dg_serial_base.specs.Standing.{Outset, CodeAt, code_at, deed_left, DeedsHalted, WentOn, GoesEnds, DoneOne, DeedFails}
+use Rattle.dg_serial_base.specs.inner.Standing.{Outset, CodeAt, code_at, deed_left, DeedsHalted, CompletedOn, ContinueEnds, DoneOne, DeedFails}
 use Rattle.dg_serial_base.specs.declared.running.Running.{Running}
 use Rattle.dg_serial_base.specs.declared.stop.Stop.{Stop}
 use Rattle.dg_serial_base.proofs.RunLemmas.{deeds_goes}
 use Rattle.dg_serial_base.proofs.WriteLemmas.{puts_nothing}
 use Rattle.dg_serial_base.proofs.DeedLemmas.{deed_halts, halted_more, sent_goes}
 
-pub went_along : (a : Outset) (x y : List Deed) (now : CodeAt) → x ≡ y → WentOn a x now → WentOn a y now
-went_along a x y now e w = subst (λ (all : List Deed). WentOn a all now) e w
+pub went_along : (a : Outset) (x y : List Deed) (now : CodeAt) → x ≡ y → CompletedOn a x now → CompletedOn a y now
+went_along a x y now e w = subst (λ (all : List Deed). CompletedOn a all now) e w
 
 pub halted_along : (why : Stop) (a : Outset) (x y : List Deed) (now : Option (List ℕ)) (new : Device) → x ≡ y → DeedsHalted why a x now new → DeedsHalted why a y now new
 halted_along why a x y now new e h = subst (λ (all : List Deed). DeedsHalted why a all now new) e h
 
-pub goes_along : {T : Type 0} (r : Result T Stop) (a : Outset) (x y : List Deed) (now : CodeAt) → x ≡ y → GoesEnds r a x now → GoesEnds r a y now
-goes_along r a x y now e g = subst (λ (all : List Deed). GoesEnds r a all now) e g
+pub goes_along : {T : Type 0} (r : Result T Stop) (a : Outset) (x y : List Deed) (now : CodeAt) → x ≡ y → ContinueEnds r a x now → ContinueEnds r a y now
+goes_along r a x y now e g = subst (λ (all : List Deed). ContinueEnds r a all now) e g
 
 -- ---- frames
 
 -- a frame that was heard sends nothing
-pub hear_goes : (a : Outset) (done : List Deed) (bytes : List ℕ) (old : CodeAt) (u : Running) (new : Device) (went : WentOn a done old)
-    → DoneOne a.base a.store done (Hears bytes) went.there (deed_left u new None) → WentOn a (done ++ Hears bytes ∷ []) (code_at old.written u new)
+pub hear_goes : (a : Outset) (done : List Deed) (bytes : List ℕ) (old : CodeAt) (u : Running) (new : Device) (went : CompletedOn a done old)
+    → DoneOne a.base a.store done (Hears bytes) went.there (deed_left u new None) → CompletedOn a (done ++ Hears bytes ∷ []) (code_at old.written u new)
 hear_goes a done bytes old u new went one = sent_goes a done (Hears bytes) went.there old.written old.written went.put (deed_left u new None) one (puts_nothing old.written)
 
-pub hear_halts : (why : Stop) (a : Outset) (done : List Deed) (bytes : List ℕ) (old : CodeAt) (new : Device) (went : WentOn a done old)
+pub hear_halts : (why : Stop) (a : Outset) (done : List Deed) (bytes : List ℕ) (old : CodeAt) (new : Device) (went : CompletedOn a done old)
     → DeedFails why a.base a.store done (Hears bytes) went.there new → DeedsHalted why a (done ++ Hears bytes ∷ Ticks ∷ []) old.written new
 hear_halts why a done bytes old new went x =
     halted_along why a ((done ++ Hears bytes ∷ []) ++ Ticks ∷ []) (done ++ Hears bytes ∷ Ticks ∷ []) old.written new (append_assoc done (Hears bytes ∷ []) (Ticks ∷ []))
     (halted_more why a (done ++ Hears bytes ∷ []) (Ticks ∷ []) old.written new (deed_halts why a done (Hears bytes) went.there old.mote old.chip.image old.written new went.stood went.put x))
 
-pub pass_halts : (why : Stop) (a : Outset) (done : List Deed) (old : CodeAt) (new : Device) (went : WentOn a done old)
+pub pass_halts : (why : Stop) (a : Outset) (done : List Deed) (old : CodeAt) (new : Device) (went : CompletedOn a done old)
     → DeedFails why a.base a.store done Ticks went.there new → DeedsHalted why a (done ++ Ticks ∷ []) old.written new
 pass_halts why a done old new went x = deed_halts why a done Ticks went.there old.mote old.chip.image old.written new went.stood went.put x
 

@@ -8,7 +8,7 @@ use Rattle.dg_serial.specs.Line.{line_of}
 use Rattle.dg_serial.specs.Reading.{Reading, told, Feeds}
 use Rattle.dg_serial.specs.declared.unstuffing.Fed.{Fed}
 use Rattle.dg_serial_base.specs.Deeds.{Base, At, Deed, Ticks, deeds_of_items, deeds_of}
-use Rattle.dg_serial_base.specs.Standing.{Calm, CountsBy, Counts, Outset, CodeAt, code_at, LineAt, DeedLeft, WritesBy, ReadsBy, ReadCounts, one_if, DoneOne, DeedFails, SendFails, SendEnds, DeedsHalted, WentOn, GoesEnds, StreamPlayed, StreamEnds}
+use Rattle.dg_serial_base.specs.inner.Standing.{Calm, CountsBy, Counts, Outset, CodeAt, code_at, LineAt, DeedLeft, WritesBy, ReadsBy, ReadCounts, one_if, DoneOne, DeedFails, SendFails, SendEnds, DeedsHalted, CompletedOn, ContinueEnds, StreamPlayed, StreamEnds}
 use Rattle.dg_serial_base.specs.declared.stop.Stop.{Stop}
 use Rattle.dg_serial_base.specs.declared.stop.Stop.TheVariants as stop
 use Rattle.dg_serial_base.proofs.DeedLemmas.{sent_goes, send_fails}
@@ -16,8 +16,8 @@ use Rattle.dg_serial_base.proofs.LineLemmas.{GoOn, went_along, halted_along, dee
 
 -- ---- a tick
 
-pub pass_goes : (r : Result (Unit {0}) Stop) (a : Outset) (done : List Deed) (old : CodeAt) (now : Option (List ℕ)) (left : DeedLeft) (went : WentOn a done old)
-    → DoneOne a.base a.store done Ticks went.there left → SendEnds r (line_of (one_if left.frame)) old.written now → GoesEnds r a (done ++ Ticks ∷ []) (code_at now left.mote left.chip)
+pub pass_goes : (r : Result (Unit {0}) Stop) (a : Outset) (done : List Deed) (old : CodeAt) (now : Option (List ℕ)) (left : DeedLeft) (went : CompletedOn a done old)
+    → DoneOne a.base a.store done Ticks went.there left → SendEnds r (line_of (one_if left.frame)) old.written now → ContinueEnds r a (done ++ Ticks ∷ []) (code_at now left.mote left.chip)
 pass_goes (Ok x) a done old now left went one w = sent_goes a done Ticks went.there old.written now went.put left one w
 pass_goes (Err why) a done old now left went one w = send_fails a done Ticks went.there old.written now went.put why left one w
 
@@ -71,7 +71,7 @@ send_reads (Err why) text before now n w = send_unread why text before now n w
 -- ---- a byte
 
 pub byte_goes : (r : Result (Unit {0}) Stop) (a : Outset) (stream : List ℕ) (byte : ℕ) (now : LineAt) (before : Reading) (fed : Fed) → Feeds stream byte fed before → now.reading ≡ before
-    → GoesEnds r a (deeds_of stream ++ deeds_of_items (told fed)) now.code → StreamEnds r a (stream ++ byte ∷ []) now
+    → ContinueEnds r a (deeds_of stream ++ deeds_of_items (told fed)) now.code → StreamEnds r a (stream ++ byte ∷ []) now
 byte_goes (Ok x) a stream byte now before fed f l g =
     record { line = l ∙ f.behind; went = went_along a (deeds_of stream ++ deeds_of_items (told fed)) (deeds_of (stream ++ byte ∷ [])) now.code (deeds_longer stream byte fed before f) g }
 byte_goes (Err why) a stream byte now before fed f l g =

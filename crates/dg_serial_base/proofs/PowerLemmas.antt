@@ -4,10 +4,10 @@ use Rattle.dg_nor.specs.Device.{Device}
 use Rattle.dg_volume.specs.Store.{Store}
 use Rattle.dg_volume.specs.declared.volume.StartCause.TheVariants as cause
 use Rattle.dg_mote.specs.Effects.{Effect, reset_effect}
-use Rattle.dg_node.specs.Nodes.{mote_in}
+use Rattle.dg_node.specs.Nodes.{node_mote}
 use Rattle.dg_mote.specs.Timely.{Timely}
 use Rattle.dg_serial_base.specs.Deeds.{Base, moment_at, draw_at, powered, power_effect, sent_too}
-use Rattle.dg_serial_base.specs.Standing.{IsLeft, FailedBy, IsTime, Stood}
+use Rattle.dg_serial_base.specs.inner.Standing.{IsLeft, FailedBy, IsTime, Stood}
 use Rattle.dg_serial_base.specs.declared.running.Running.{Running}
 use Rattle.dg_serial_base.specs.declared.stop.Stop.{Stop}
 use Rattle.dg_serial_base.proofs.RunLemmas.{run_rests}
@@ -20,9 +20,9 @@ power_is : (b : Base) (s : Store) (now draw : ℕ) → now ≡ moment_at b 0 →
 power_is b s now draw n w = ap (λ (x : ℕ). reset_effect s b.id true x draw) n ∙ ap (λ (x : ℕ). reset_effect s b.id true (moment_at b 0) x) w
 
 pub power_stood : (b : Base) (s : Store) (now draw : ℕ) → now ≡ moment_at b 0 → draw ≡ draw_at b 0 → (v : Running) (new : Device) → now ≡ v.timeline.moment → IsTime v.timeline b (suc 0)
-    → IsLeft (reset_effect s b.id true now draw) new.image (mote_in v.node) now → Stood b s [] v new.image (powered b s) × ((powered b s).sent ≡ [])
+    → IsLeft (reset_effect s b.id true now draw) new.image (node_mote v.node) now → Stood b s [] v new.image (powered b s) × ((powered b s).sent ≡ [])
 power_stood b s now draw n w v new at time left =
-    let x : IsLeft (power_effect b s) new.image (mote_in v.node) now = subst (λ (e : Effect). IsLeft e new.image (mote_in v.node) now) (power_is b s now draw n w) left in (
+    let x : IsLeft (power_effect b s) new.image (node_mote v.node) now = subst (λ (e : Effect). IsLeft e new.image (node_mote v.node) now) (power_is b s now draw n w) left in (
       record {
         state = x.state;
         run = run_rests b (powered b s);

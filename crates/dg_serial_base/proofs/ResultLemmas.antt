@@ -3,7 +3,7 @@ use Rattle.std.proofs.Common.{◌≡◌, ℕ, sym, ◌∙◌, subst, inl, inr}
 use Rattle.std.specs.Prelude.{Result, Ok, Err, OnOk, IsErr, IsErrAnd}
 use Rattle.dg_words.specs.Counts.{Rose}
 use Rattle.dg_nor.specs.Device.{Device}
-use Rattle.dg_serial_base.specs.Standing.{Calm, WhyStopped, CountsBy, Counts, WriteCounts}
+use Rattle.dg_serial_base.specs.inner.Standing.{Calm, WhyStopped, CountsBy, Counts, WriteCounts}
 use Rattle.dg_serial_base.specs.declared.stop.Stop.{Stop}
 use Rattle.dg_serial_base.specs.declared.stop.Stop.TheVariants as stop
 use Rattle.dg_serial_base.proofs.StartLemmas.{calm_then}

@@ -8,7 +8,7 @@ use Rattle.dg_frame.specs.declared.Message.{Message}
 use Rattle.dg_mote.specs.Model.{MoteState}
 use Rattle.dg_serial.specs.Line.{Item, line_of, stuffed}
 use Rattle.dg_serial_base.specs.Deeds.{Base, At, Deed, deeds_of_item, deeds_of_items, after_deed, sent_too, DeedsRun}
-use Rattle.dg_serial_base.specs.Standing.{one_if}
+use Rattle.dg_serial_base.specs.inner.Standing.{one_if}
 
 pub run_goes : (b : Base) (ds : List Deed) (a y : At) (d : Deed) (m : MoteState) → DeedsRun b a ds y → y.mote ≡ Some m → DeedsRun b a (ds ++ d ∷ []) (after_deed b m y d)
 unfolding DeedsRun

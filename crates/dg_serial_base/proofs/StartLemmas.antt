@@ -21,10 +21,10 @@ use Rattle.dg_node.specs.declared.answers.Ticked.TheVariants as ticked
 use Rattle.dg_node.specs.declared.answers.TickFault.{TickFault}
 use Rattle.dg_node.specs.declared.answers.TickFault.TheVariants as tick_fault
 use Rattle.dg_node.specs.Hosts.{host}
-use Rattle.dg_node.specs.Nodes.{NodeStands, runs_by, mote_in}
-use Rattle.dg_node.specs.Ends.{NodeEnd, Quiet, Sent, Starts, Stopped, NotAVolume, NoImage, NodeDone, Went, PowerFinds, power_end, tick_end}
-use Rattle.dg_serial_base.specs.Stops.{stop_of_start, stop_of_tick, result_of}
-use Rattle.dg_serial_base.specs.Standing.{Calm, Counts, CountsBy, IsLeft, FailedBy, EffectEnds, NoneBy, WritesBy, ReadsBy}
+use Rattle.dg_node.specs.Nodes.{NodeStands, runs_by, node_mote}
+use Rattle.dg_node.specs.Ends.{NodeEnd, Quiet, Sent, Starts, Stopped, NotAVolume, NoImage, NodeDone, EffectDone, PowerFinds, power_end, tick_end}
+use Rattle.dg_serial_base.specs.inner.Stops.{stop_of_start, stop_of_tick, result_of}
+use Rattle.dg_serial_base.specs.inner.Standing.{Calm, Counts, CountsBy, IsLeft, FailedBy, EffectEnds, NoneBy, WritesBy, ReadsBy}
 use Rattle.dg_serial_base.specs.declared.stop.Stop.{Stop}
 
 -- ---- chips that did not stop
@@ -51,19 +51,19 @@ reset_silent s id wide now draw = let b = boot cause.Power s in boot_silent b.ru
 -- ---- what an event of the node left
 
 left_by : (o : Option MoteState) (r : Option Runs) (w : Option ImageVersion) (c : List ℕ) (u : Node) (s : Store) (now : ℕ) → NodeStands c (Some u) s (runs_by o r w) → IfSome o (λ m. Timely m now)
-    → (state : MoteState) × (o ≡ Some state) × IsMote c (mote_in u) state s × Timely state now
+    → (state : MoteState) × (o ≡ Some state) × IsMote c (node_mote u) state s × Timely state now
 left_by None r w c u s now stands timely = absurd stands
 left_by (Some m) (Some r) w c u s now stands timely = (m, refl, stands.1, timely)
 left_by (Some m) None (Some w) c u s now stands timely = (m, refl, stands.1, timely)
 left_by (Some m) None None c u s now stands timely = absurd stands
 
 module _ (frame : Option (List ℕ)) (e : Effect) (x : Option Node) (a b : Device) where
-  pub leaves : (u : Node) (now : ℕ) → Went e frame (host a x) (host b (Some u)) → IfSome e.mote (λ m. Timely m now) → IsLeft e b.image (mote_in u) now
+  pub leaves : (u : Node) (now : ℕ) → EffectDone e frame (host a x) (host b (Some u)) → IfSome e.mote (λ m. Timely m now) → IsLeft e b.image (node_mote u) now
   leaves u now went timely =
       let left = left_by e.mote e.started _ b.image u (last e.trail) now went.runs timely in
       record { state = left.0; on = left.1; mote = left.2; timely = left.3 }
 
-  pub effect_ends : (r : NodeEnd) (s : Store) (u : Node) (now : ℕ) → NodeDone r frame e (host a x) (host b (Some u)) → Stands a.image s → IfSome e.mote (λ m. Timely m now) → EffectEnds (result_of r) s e now b (mote_in u)
+  pub effect_ends : (r : NodeEnd) (s : Store) (u : Node) (now : ℕ) → NodeDone r frame e (host a x) (host b (Some u)) → Stands a.image s → IfSome e.mote (λ m. Timely m now) → EffectEnds (result_of r) s e now b (node_mote u)
   effect_ends Quiet s u now done stands timely = leaves u now done.0 timely
   effect_ends Sent s u now done stands timely = leaves u now done.0 timely
   effect_ends (Starts image) s u now done stands timely = leaves u now done.0 timely

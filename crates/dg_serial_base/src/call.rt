@@ -9,8 +9,8 @@ ghost use Rattle.dg_mote.specs.Consistency.{StoreIsConsistent};
 ghost use Rattle.dg_serial_base.specs.Agreeing.{HonestLine, ChipAgrees};
 ghost use Rattle.dg_serial_base.specs.Based.{outside_base, Based, Refused, Causes};
 ghost use Rattle.dg_serial_base.specs.Consistency.{StaysConsistent};
-ghost use Rattle.dg_serial_base.specs.Ending.{TellsStatus, TellsStop, TellsResult, LineEnds, LineRefused};
-ghost use Rattle.dg_serial_base.specs.Standing.{Counts, WriteCounts, ReadCounts};
+ghost use Rattle.dg_serial_base.specs.inner.Ending.{TellsStatus, TellsStop, TellsResult, LineEnds, LineRefused};
+ghost use Rattle.dg_serial_base.specs.inner.Standing.{Counts, WriteCounts, ReadCounts};
 
 use crate::playing::Player;
 use crate::reading::PIECE;

@@ -3,8 +3,8 @@ ghost use Rattle.std.specs.Prelude.{◌≡◌, ℕ, ◌+◌, ◌*◌, ◌^◌, �
 ghost use Rattle.dg_base.specs.Sizes.{longest_frame};
 ghost use Rattle.dg_serial.specs.Reading.{told};
 ghost use Rattle.dg_serial_base.specs.Deeds.{Deed, Hears, Ticks, deeds_of_items};
-ghost use Rattle.dg_serial_base.specs.Standing.{Counts, WriteCounts, ReadCounts, Outset, code_at, code_on_line};
-ghost use Rattle.dg_serial_base.specs.Standing.{IsStood, WentOn, GoesEnds, StreamPlayed, StreamEnds};
+ghost use Rattle.dg_serial_base.specs.inner.Standing.{Counts, WriteCounts, ReadCounts, Outset, code_at, code_on_line};
+ghost use Rattle.dg_serial_base.specs.inner.Standing.{IsStood, CompletedOn, ContinueEnds, StreamPlayed, StreamEnds};
 
 use crate::running::Running;
 use crate::sending::send;
@@ -29,8 +29,8 @@ impl Player {
         requires early { self.old.running.timeline.moment < 2 ^ 61 }
         requires little { self.old.running.timeline.step ≤ 60000 }
         ensures ends { (a : Outset) (done : List Deed)
-            → WentOn a done (code_at (K.written out.old) self.old.running (N.device nor.old))
-            → GoesEnds result a (done ++ Ticks ∷ []) (code_at (K.written out.new) self.new.running (N.device nor.new)) }
+            → CompletedOn a done (code_at (K.written out.old) self.old.running (N.device nor.old))
+            → ContinueEnds result a (done ++ Ticks ∷ []) (code_at (K.written out.new) self.new.running (N.device nor.new)) }
         ensures stood { OnOk result (IsStood self.new.running (N.device nor.new).image) }
         ensures counts { Counts result (N.device nor.old) (N.device nor.new) }
         ensures writes { WriteCounts result (K.faults out.old) (K.faults out.new) }
@@ -57,8 +57,8 @@ impl Player {
         requires early { self.old.running.timeline.moment < 2 ^ 60 }
         requires little { self.old.running.timeline.step ≤ 60000 }
         ensures ends { (a : Outset) (done : List Deed)
-            → WentOn a done (code_at (K.written out.old) self.old.running (N.device nor.old))
-            → GoesEnds result a (done ++ Hears bytes.now ∷ Ticks ∷ [])
+            → CompletedOn a done (code_at (K.written out.old) self.old.running (N.device nor.old))
+            → ContinueEnds result a (done ++ Hears bytes.now ∷ Ticks ∷ [])
             (code_at (K.written out.new) self.new.running (N.device nor.new)) }
         ensures stood { OnOk result (IsStood self.new.running (N.device nor.new).image) }
         ensures counts { Counts result (N.device nor.old) (N.device nor.new) }
@@ -80,8 +80,8 @@ impl Player {
         requires early { self.old.running.timeline.moment < 2 ^ 60 }
         requires little { self.old.running.timeline.step ≤ 60000 }
         ensures ends { (a : Outset) (done : List Deed)
-            → WentOn a done (code_at (K.written out.old) self.old.running (N.device nor.old))
-            → GoesEnds result a (done ++ deeds_of_items (told fed.now))
+            → CompletedOn a done (code_at (K.written out.old) self.old.running (N.device nor.old))
+            → ContinueEnds result a (done ++ deeds_of_items (told fed.now))
             (code_at (K.written out.new) self.new.running (N.device nor.new)) }
         ensures stood { OnOk result (IsStood self.new.running (N.device nor.new).image) }
         ensures counts { Counts result (N.device nor.old) (N.device nor.new) }

@@ -2,8 +2,8 @@
 ghost use Rattle.std.specs.Prelude.{◌≡◌, ℕ, ◌+◌, ◌-◌, ◌*◌, ◌^◌, ◌<◌, ◌≤◌, List, [], length, take, Ok, IfOk, IfErr, OnOk, OnErr};
 ghost use Rattle.dg_base.specs.Outside.{Takes, AtEnd};
 ghost use Rattle.dg_base.specs.Sizes.{most_input};
-ghost use Rattle.dg_serial_base.specs.Standing.{Counts, WriteCounts, ReadCounts, Outset, code_on_line};
-ghost use Rattle.dg_serial_base.specs.Standing.{IsStood, StreamPlayed, PieceEnds, InputEnds, LastEnds};
+ghost use Rattle.dg_serial_base.specs.inner.Standing.{Counts, WriteCounts, ReadCounts, Outset, code_on_line};
+ghost use Rattle.dg_serial_base.specs.inner.Standing.{IsStood, StreamPlayed, PieceEnds, InputEnds, LastEnds};
 
 use crate::playing::Player;
 use crate::stop::Stop;

@@ -4,8 +4,8 @@ ghost use Rattle.dg_volume.specs.Store.{Store};
 ghost use Rattle.dg_volume.specs.Stands.{Stands, IsNoVolume};
 ghost use Rattle.dg_mote.specs.Motes.{sent_in};
 ghost use Rattle.dg_serial_base.specs.Deeds.{Base, At as Place, Deed, Hears, Ticks};
-ghost use Rattle.dg_serial_base.specs.Standing.{NoneEnds, PowerEnds, DeedEnds, deed_left};
-ghost use Rattle.dg_serial_base.specs.Standing.{Counts, WriteCounts, ReadCounts, Stood, IsStood};
+ghost use Rattle.dg_serial_base.specs.inner.Standing.{NoneEnds, PowerEnds, DeedEnds, deed_left};
+ghost use Rattle.dg_serial_base.specs.inner.Standing.{Counts, WriteCounts, ReadCounts, Stood, IsStood};
 
 use crate::stop::Stop;
 use crate::timeline::Timeline;

@@ -3,7 +3,7 @@ ghost use Rattle.std.specs.Prelude.{◌≡◌, ◌≤◌, IfSome, IfOk, OnOk, le
 ghost use Rattle.dg_base.specs.Sizes.{longest_frame};
 ghost use Rattle.dg_mote.specs.Motes.{sent_in};
 ghost use Rattle.dg_serial.specs.Line.{stuffed, line_of};
-ghost use Rattle.dg_serial_base.specs.Standing.{SendEnds, WriteCounts, one_if};
+ghost use Rattle.dg_serial_base.specs.inner.Standing.{SendEnds, WriteCounts, one_if};
 
 use crate::stop::Stop;
 use dg_base::{Sink, WriteFailed};

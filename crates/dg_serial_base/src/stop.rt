@@ -35,7 +35,7 @@ impl From<AllocError> for Stop {
 
 impl From<BootFault> for Stop {
     ghost use Rattle.std.specs.Prelude.{◌≡◌};
-    ghost use Rattle.dg_serial_base.specs.Stops.{stop_of_start};
+    ghost use Rattle.dg_serial_base.specs.inner.Stops.{stop_of_start};
 
     ghost from_gives = { λ fault e. e ≡ stop_of_start fault };
 
@@ -50,7 +50,7 @@ impl From<BootFault> for Stop {
 
 impl From<TickFault> for Stop {
     ghost use Rattle.std.specs.Prelude.{◌≡◌};
-    ghost use Rattle.dg_serial_base.specs.Stops.{stop_of_tick};
+    ghost use Rattle.dg_serial_base.specs.inner.Stops.{stop_of_tick};
 
     ghost from_gives = { λ fault e. e ≡ stop_of_tick fault };
 

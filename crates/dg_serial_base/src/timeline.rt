@@ -1,7 +1,7 @@
 //! When events happen, and what they draw.
 ghost use Rattle.std.specs.Prelude.{◌≡◌, ℕ, suc, ◌+◌, ◌^◌, ◌<◌, ◌≤◌};
 ghost use Rattle.dg_serial_base.specs.Deeds.{Base, moment_at, draw_at};
-ghost use Rattle.dg_serial_base.specs.Standing.{IsTime};
+ghost use Rattle.dg_serial_base.specs.inner.Standing.{IsTime};
 
 use dg_seed::Draws;
 

@@ -17,7 +17,7 @@ use Rattle.dg_rules.specs.Events.{does, mote_of, dt_of}
 use Rattle.dg_rules.specs.Steps.{cut_world}
 use Rattle.dg_script.specs.declared.report.Report.{Report}
 use Rattle.dg_world.specs.Airs.{sent_now}
-use Rattle.dg_world.specs.Cuts.{IsStopped, IsLacking}
+use Rattle.dg_world.specs.Cuts.{IsStopped, StepFoundNoImage}
 use Rattle.dg_world.specs.Worlds.{SiteStands}
 use Rattle.dg_world.specs.Stepped.{StepDone, station}
 use Rattle.dg_world.specs.Alone.{uncut}
@@ -215,7 +215,7 @@ module _ (links : List (ℕ × ℕ)) (motes begun on ahead : ℕ) (event : Event
     boards = all_stand s.world (λ m other. refl) h.stands.sites (λ a was. (λ volume. absurd (no_volume a was volume.0 volume.1), λ none. same ∙ h.image_of a was none));
   }
 
-  pub finds_no_image : ((a : Device) → slice_get first (mote_of event) ≡ Some a → IsVolume a.image) → IsLacking (does s.world event) None after.image → FindsNoImage s.world event first q.boards
+  pub finds_no_image : ((a : Device) → slice_get first (mote_of event) ≡ Some a → IsVolume a.image) → StepFoundNoImage (does s.world event) None after.image → FindsNoImage s.world event first q.boards
   finds_no_image volume l =
       let m = mote_of event in
       let then_site : Site = record { store = last l.deed.trail; runs = None } in

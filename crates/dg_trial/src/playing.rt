@@ -7,7 +7,7 @@ ghost use Rattle.dg_trial.specs.Playing.{PartsPlay, MayPlayOver};
 ghost use Rattle.dg_rules.specs.Sizes.{most_motes};
 ghost use Rattle.dg_rules.specs.World.{World as RuleWorld};
 ghost use Rattle.dg_world.specs.Worlds.{IsWorld};
-ghost use Rattle.dg_world.specs.Occasions.{step_of};
+ghost use Rattle.dg_world.specs.Applying.{step_of};
 
 use crate::disturbing::disturbance;
 use crate::laws::what_is_left_may_be_played;

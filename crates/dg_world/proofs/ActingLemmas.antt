@@ -23,19 +23,20 @@ use Rattle.dg_node.specs.declared.acts.Ordered.{Ordered}
 use Rattle.dg_node.specs.declared.acts.Ordered.TheVariants as ordered
 use Rattle.dg_node.specs.declared.acts.Injected.{Injected}
 use Rattle.dg_node.specs.declared.acts.Injected.TheVariants as injected
-use Rattle.dg_node.specs.Acts.{acts_effect, order_effect, inject_effect, Kept, trail_unless, ActStopped, ActFails, OrderDone, InjectDone, InjectTook}
+use Rattle.dg_node.specs.Acts.{acts_effect, order_effect, inject_effect, ActKept, trail_unless, StoppedInAct, ActFails, NodeOrdered, NodeInjected, InjectTook}
 use Rattle.dg_node.specs.Hosts.{host}
-use Rattle.dg_node.specs.Known.{beyond as node_beyond}
-use Rattle.dg_node.specs.Nodes.{NodeStands, Running as NodeRunning, motes_of, runs_by as node_runs, version_in}
+use Rattle.dg_node.specs.Known.{bytes_looked_at}
+use Rattle.dg_node.specs.Nodes.{NodeStands, Running as NodeRunning, running_mote, runs_by as node_runs, node_image}
 use Rattle.dg_node.specs.Reports.{IsReportOf}
 use Rattle.dg_rules.specs.World.{World as RuleWorld, Running, site, store_at}
 use Rattle.dg_rules.specs.Events.{Does, trail_of, acts, reloaded, inject_cause, inject_unless, order_unless}
 use Rattle.dg_rules.specs.Changes.{changes}
 use Rattle.dg_script.specs.declared.report.Cause.{Cause}
-use Rattle.dg_world.specs.Acting.{injected_refusal, halt_of_act, order_outcome, inject_outcome}
-use Rattle.dg_world.specs.EventOutcomes.{Changes}
-use Rattle.dg_world.specs.Known.{beyond, InjectReads}
-use Rattle.dg_world.specs.OutcomeEndings.{BeforeReports, StoppedOn, DeedWent, OutcomeEnds}
+use Rattle.dg_world.specs.inner.ActOutcomes.{injected_refusal, halt_of_act, order_outcome, inject_outcome}
+use Rattle.dg_world.specs.inner.EventOutcomes.{Changes}
+use Rattle.dg_world.specs.Known.{beyond}
+use Rattle.dg_world.specs.inner.Sees.{InjectReads}
+use Rattle.dg_world.specs.inner.OutcomeEndings.{BeforeReports, EventStopped, EventDone, OutcomeEnds}
 use Rattle.dg_world.specs.Worlds.{MoteStands}
 use Rattle.dg_world.proofs.ChipReportLemmas.{changes_are_reported}
 
@@ -51,7 +52,7 @@ stands_in c None s (Some r) x = x
 stands_in c (Some v) s None x = x
 stands_in c (Some v) s (Some r) x = x
 
-goes_on : (c d : List ℕ) (v u : Option Node) (s t : Store) (o : Option Running) (now draw : ℕ) → MoteStands c v s o → NodeStands d u t (node_runs (option_map (λ m. maintains m now draw) (motes_of (node_running o))) None (option_map version_in v))
+goes_on : (c d : List ℕ) (v u : Option Node) (s t : Store) (o : Option Running) (now draw : ℕ) → MoteStands c v s o → NodeStands d u t (node_runs (option_map (λ m. maintains m now draw) (running_mote (node_running o))) None (option_map node_image v))
     → MoteStands d u t (reloaded o now draw)
 goes_on c d v None s t None now draw was x = x
 goes_on c d v (Some n) s t None now draw was x = x
@@ -66,9 +67,9 @@ module _ (w : RuleWorld) (m now draw : ℕ) (v u : Option Node) (a b : Device) (
   s = store_at w m
 
   abbrev o : Option MoteState
-  o = motes_of (node_running (site w m).runs)
+  o = running_mote (node_running (site w m).runs)
 
-  kept_went : {R : Type 0} (refusal : Option R) (t : Trail Store) (table : List Row) (x : Change) → Kept x refusal (acts_effect o t now draw) s (host a v) (host b u) → DeedWent w m (acts w m t table now draw) u a b (Changes x.before x.after)
+  kept_went : {R : Type 0} (refusal : Option R) (t : Trail Store) (table : List Row) (x : Change) → ActKept x refusal (acts_effect o t now draw) s (host a v) (host b u) → EventDone w m (acts w m t table now draw) u a b (Changes x.before x.after)
   kept_went refusal t table x k =
       let lines = changes m s (last t) in
       record {
@@ -90,7 +91,7 @@ module _ (w : RuleWorld) (m now draw : ℕ) (v u : Option Node) (a b : Device) (
   before_by None t x = absurd x
   before_by (Some y) t x = x
 
-  stopped_on : {R : Type 0} (D : Does) (before : Option ChipReport) (refusal : Option R) (t : Trail Store) → trail_of D s ≡ trail_unless refusal t s → ActStopped before refusal (acts_effect o t now draw) s a b → StoppedOn D s a b before
+  stopped_on : {R : Type 0} (D : Does) (before : Option ChipReport) (refusal : Option R) (t : Trail Store) → trail_of D s ≡ trail_unless refusal t s → StoppedInAct before refusal (acts_effect o t now draw) s a b → EventStopped D s a b before
   stopped_on D before refusal t same x =
       record { stops = subst (λ (y : Trail Store). Rattle.dg_volume.specs.Acts.Stops y a b) (sym same) x.stops; is_report = λ whole blown. before_by before (trail_of D s) (x.told whole blown) }
 
@@ -104,9 +105,9 @@ module _ (w : RuleWorld) (m now draw : ℕ) (v u : Option Node) (a b : Device) (
   order_trail_is None q = refl
   order_trail_is (Some why) q = refl
 
-  pub order_ends : (r : Result Ordered ActFault) (refusal : Option OrderFault) (q : Order) → OrderDone r refusal (order_effect o s q now draw) s (host a v) (host b u) → OutcomeEnds (order_outcome r) w m (order_unless refusal w m q now draw) (host a v) (host b u)
+  pub order_ends : (r : Result Ordered ActFault) (refusal : Option OrderFault) (q : Order) → NodeOrdered r refusal (order_effect o s q now draw) s (host a v) (host b u) → OutcomeEnds (order_outcome r) w m (order_unless refusal w m q now draw) (host a v) (host b u)
   order_ends (Ok (ordered.Kept x)) refusal q k =
-      subst (λ (y : Option OrderFault). DeedWent w m (order_unless y w m q now draw) u a b (Changes x.before x.after)) (sym k.allowed) (kept_went refusal (order_trail s q) w.table x k)
+      subst (λ (y : Option OrderFault). EventDone w m (order_unless y w m q now draw) u a b (Changes x.before x.after)) (sym k.allowed) (kept_went refusal (order_trail s q) w.table x k)
   order_ends (Ok (ordered.Refused why orderly)) refusal q k = (ap (λ (y : Option OrderFault). order_unless y w m q now draw) k.cause, k.looked, k.same)
   order_ends (Err f) refusal q k = act_ends f (order_unless refusal w m q now draw) refusal (order_trail s q) (order_trail_is refusal q) k
 
@@ -116,16 +117,16 @@ module _ (w : RuleWorld) (m now draw : ℕ) (v u : Option Node) (a b : Device) (
   inject_trail_is None row = refl
   inject_trail_is (Some why) row = refl
 
-  pub inject_ends : (r : Result Injected ActFault) (refusal : Option InjectFault) (row : Row) → InjectDone r refusal (inject_effect o s row now draw) s (host a v) (host b u)
+  pub inject_ends : (r : Result Injected ActFault) (refusal : Option InjectFault) (row : Row) → NodeInjected r refusal (inject_effect o s row now draw) s (host a v) (host b u)
       → OutcomeEnds (inject_outcome row r) w m (inject_unless refusal w m row now draw) (host a v) (host b u)
   inject_ends (Ok (injected.Kept x)) refusal row k =
-      subst (λ (y : Option InjectFault). DeedWent w m (inject_unless y w m row now draw) u a b (Changes x.before x.after)) (sym k.allowed) (kept_went refusal (inject_trail s row) (with_row w.table row) x k)
+      subst (λ (y : Option InjectFault). EventDone w m (inject_unless y w m row now draw) u a b (Changes x.before x.after)) (sym k.allowed) (kept_went refusal (inject_trail s row) (with_row w.table row) x k)
   inject_ends (Ok (injected.Refused why orderly)) refusal row k = (ap (λ (y : Option InjectFault). inject_unless y w m row now draw) k.cause, k.looked, k.same)
   inject_ends (Err f) refusal row k = act_ends f (inject_unless refusal w m row now draw) refusal (inject_trail s row) (inject_trail_is refusal row) k
 
 -- ---- what was read
 
-beyond_is : (row : Row) (f : InjectFault) → beyond (inject_cause row f) ≡ node_beyond f
+beyond_is : (row : Row) (f : InjectFault) → beyond (inject_cause row f) ≡ bytes_looked_at f
 beyond_is row inject.Stopped = refl
 beyond_is row inject.Empty = refl
 beyond_is row inject.TooLarge = refl

@@ -1,6 +1,6 @@
 -- What a mote does alone at its board, as a step of the world.
 use Rattle.std.proofs.Common.{◌≡◌, ℕ, ◌+◌, ◌<◌, Bool, true, List, [], length, refl, sym, subst}
-use Rattle.std.specs.Prelude.{Option, Result, Ok, Err, IsErrAnd}
+use Rattle.std.specs.Prelude.{Option, Result, Ok, Err, IsErrAnd, None}
 use Rattle.std.specs.List.{filter}
 use Rattle.std.proofs.lemmas.Bool.{both_ways}
 use Rattle.dg_nor.specs.Device.{Device, Endures}
@@ -14,18 +14,17 @@ use Rattle.dg_rules.specs.Events.{Does, of_effect, tick_does, hear_by, does, mot
 use Rattle.dg_rules.specs.Changes.{is_reported}
 use Rattle.dg_base.specs.declared.events.Event.{Event}
 use Rattle.dg_base.specs.declared.events.Event.TheVariants.{Tick, Reset, Frame}
-use Rattle.std.specs.Prelude.{None}
 use Rattle.dg_script.specs.declared.report.Report.{Report}
 use Rattle.dg_world.specs.Alone.{uncut as uncut_step, PlaysAlone, Powers}
-use Rattle.dg_world.specs.Outcomes.{outcome_of, halt_of}
-use Rattle.dg_world.specs.OutcomeEndings.{outcome_lines, OutcomeEnds}
+use Rattle.dg_world.specs.inner.Outcomes.{outcome_of, halt_of}
+use Rattle.dg_world.specs.inner.OutcomeEndings.{outcome_lines, OutcomeEnds}
 use Rattle.dg_node.specs.Hosts.{host}
 use Rattle.dg_world.specs.Worlds.{SiteStands}
 use Rattle.dg_world.specs.declared.outcome.Fault.{Fault}
 use Rattle.dg_world.specs.declared.outcome.Fault.TheVariants as fault
 use Rattle.dg_world.specs.declared.outcome.Outcome.{Outcome}
 use Rattle.dg_node.specs.declared.node.Node.{Node}
-use Rattle.dg_world.specs.EventOutcomes.{EventOutcome, Halt, Stopped, NoImage}
+use Rattle.dg_world.specs.inner.EventOutcomes.{EventOutcome, Halt, Stopped, NoImage}
 use Rattle.dg_world.proofs.CutLemmas.{uncut}
 use Rattle.dg_world.proofs.DoneLemmas.{step_outcome}
 use Rattle.dg_world.proofs.OutcomeLemmas.{frame_told}

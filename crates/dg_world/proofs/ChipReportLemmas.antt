@@ -13,9 +13,9 @@ use Rattle.dg_volume.specs.declared.volume.Kept.{Kept}
 use Rattle.dg_rules.specs.Changes.{same_held, order_change, have_change, changes, is_reported}
 use Rattle.dg_script.specs.declared.report.Report.{Report}
 use Rattle.dg_script.specs.declared.report.Report.TheVariants.{Order as OrderLine, Lost, Have, Start, Off, SentAdvert, SentRequest, SentData, Refused, Taken, End, MoteOn, MoteOff, Kept as KeptLine}
-use Rattle.dg_world.specs.ChipReports.{have_line, have_lines, change_lines}
+use Rattle.dg_world.specs.inner.ChipReports.{have_line, have_lines, change_lines}
 use Rattle.dg_node.specs.Reports.{IsReportOf}
-use Rattle.dg_world.specs.OutcomeEndings.{SameReport}
+use Rattle.dg_world.specs.inner.OutcomeEndings.{SameReport}
 use Rattle.dg_node.specs.declared.report.ChipReport.{ChipReport}
 use Rattle.dg_mote.specs.Summary.{same_order}
 

@@ -16,16 +16,17 @@ use Rattle.dg_volume.specs.Stands.{Stands}
 use Rattle.dg_rules.specs.World.{World as RuleWorld, store_at}
 use Rattle.dg_rules.specs.Events.{Does, Refuses, Goes, trail_of}
 use Rattle.dg_base.specs.declared.events.Cut.{Cut as PowerCut}
-use Rattle.dg_world.specs.OutcomeEndings.{TellsDeed, DeedWent, StoppedOn, OutcomeEnds}
-use Rattle.dg_world.specs.Cuts.{ended, EventIsWhole, EventIsCut, IsStopped, EventPlayed}
+use Rattle.dg_world.specs.inner.OutcomeEndings.{ReportsEffect, EventDone, EventStopped, OutcomeEnds}
+use Rattle.dg_world.specs.inner.CutEnds.{ended, EventIsWhole, EventIsCut, EventPlayed}
+use Rattle.dg_world.specs.Cuts.{IsStopped}
 use Rattle.dg_node.specs.Hosts.{host}
 use Rattle.dg_node.specs.declared.report.ChipReport.{ChipReport}
 use Rattle.dg_node.specs.declared.node.Node.{Node}
-use Rattle.dg_world.specs.EventOutcomes.{EventOutcome, Refused, Unreported, Sends, Changes, Starts, EventEnded, Halt, Stopped, NotAVolume, NoImage}
+use Rattle.dg_world.specs.inner.EventOutcomes.{EventOutcome, EventEnded, Halt, Refused, Unreported, Sends, Changes, Starts, Stopped, NotAVolume, NoImage}
 
 -- ---- without a cut
 
-went_whole : (w : RuleWorld) (m : ℕ) (does : Does) (u : Option Node) (a b : Device) (outcome : EventOutcome) → DeedWent w m does u a b outcome → EventIsWhole w m does None u b.image outcome
+went_whole : (w : RuleWorld) (m : ℕ) (does : Does) (u : Option Node) (a b : Device) (outcome : EventOutcome) → EventDone w m does u a b outcome → EventIsWhole w m does None u b.image outcome
 went_whole w m does u a b outcome x = record { deed = x.deed; goes = x.goes; whole = refl; tells = x.tells }
 
 pub uncut : (r : Result EventOutcome Halt) (w : RuleWorld) (m : ℕ) (does : Does) (v u : Option Node) (a b : Device) → OutcomeEnds r w m does (host a v) (host b u) → EventPlayed (ended false r) w m does None (host a v) (host b u)
@@ -76,16 +77,16 @@ fused_count cut a b x y f r = sym (f.faults_then (r.blown ∙ f.whole)) ∙ r.fa
 fused_halts : {n done : ℕ} (cut : PowerCut) (a b x y : Device) → IsFused cut a b x y → Halts n done x y → Endures (beneath_of a) (beneath_of b)
 fused_halts cut a b x y f h = endures_by (beneath_of a) (beneath_of b) x.beneath y.beneath f.beneath f.beneath_then h.beneath
 
-fused_whole : (cut : PowerCut) (w : RuleWorld) (m : ℕ) (does : Does) (u : Option Node) (a b x y : Device) (outcome : EventOutcome) → IsFused cut a b x y → DeedWent w m does u x y outcome → EventIsWhole w m does (Some cut) u b.image outcome
+fused_whole : (cut : PowerCut) (w : RuleWorld) (m : ℕ) (does : Does) (u : Option Node) (a b x y : Device) (outcome : EventOutcome) → IsFused cut a b x y → EventDone w m does u x y outcome → EventIsWhole w m does (Some cut) u b.image outcome
 fused_whole cut w m does u a b x y outcome f g = record {
   deed = g.deed;
   goes = g.goes;
   whole = not_reached cut (operations g.deed.trail) a b x y f g.ran;
-  tells = subst (TellsDeed w m g.deed outcome u) f.image_then g.tells;
+  tells = subst (ReportsEffect w m g.deed outcome u) f.image_then g.tells;
 }
 
 -- a refused event makes no operation, so that no cut blows in it
-blown_deed : (cut : PowerCut) (w : RuleWorld) (m : ℕ) (does : Does) (a b x y : Device) (before : Option ChipReport) → IsFused cut a b x y → y.blown ≡ true → StoppedOn does (store_at w m) x y before → EventIsCut w m does (Some cut) b.image before
+blown_deed : (cut : PowerCut) (w : RuleWorld) (m : ℕ) (does : Does) (a b x y : Device) (before : Option ChipReport) → IsFused cut a b x y → y.blown ≡ true → EventStopped does (store_at w m) x y before → EventIsCut w m does (Some cut) b.image before
 blown_deed cut w m (Refuses why) a b x y before f blown s =
     let h = left_blown (cut.after - 1) s.stops f.whole blown f.left in
     absurd (omega (arith, h.0, operations-resting (store_at w m) 0))
@@ -105,7 +106,7 @@ made_within n k None h = cc
 made_within n k (Some m) h = let e : k ≡ m + n = same_Some k (m + n) h in omega (arith, e)
 
 -- the board itself stopped, whether the cut blew or not
-stopped_itself : (cut : PowerCut) (w : RuleWorld) (m : ℕ) (does : Does) (a b x y : Device) (before : Option ChipReport) → b.stopped ≡ true → IsFused cut a b x y → StoppedOn does (store_at w m) x y before → IsStopped w m does (Some cut) b
+stopped_itself : (cut : PowerCut) (w : RuleWorld) (m : ℕ) (does : Does) (a b x y : Device) (before : Option ChipReport) → b.stopped ≡ true → IsFused cut a b x y → EventStopped does (store_at w m) x y before → IsStopped w m does (Some cut) b
 stopped_itself cut w m does a b x y before stopped f s = record {
   stopped = stopped;
   done = s.stops.done;
@@ -114,7 +115,7 @@ stopped_itself cut w m does a b x y before stopped f s = record {
   leaves = subst (λ c. MayLeave Stands IsNear (trail_of does (store_at w m)) s.stops.done c) f.image_then s.stops.leaves;
 }
 
-fused_stopped : (cut : PowerCut) (w : RuleWorld) (m : ℕ) (does : Does) (v u : Option Node) (a b x y : Device) (before : Option ChipReport) (blown stopped : Bool) → y.blown ≡ blown → b.stopped ≡ stopped → IsFused cut a b x y → StoppedOn does (store_at w m) x y before
+fused_stopped : (cut : PowerCut) (w : RuleWorld) (m : ℕ) (does : Does) (v u : Option Node) (a b x y : Device) (before : Option ChipReport) (blown stopped : Bool) → y.blown ≡ blown → b.stopped ≡ stopped → IsFused cut a b x y → EventStopped does (store_at w m) x y before
     → EventPlayed (ended (blown && not stopped) (Err (Stopped before))) w m does (Some cut) (host a v) (host b u)
 fused_stopped cut w m does v u a b x y before true false blew awake f s =
     let endures = fused_halts cut a b x y f s.stops.halts in

@@ -15,18 +15,18 @@ use Rattle.dg_script.specs.declared.report.Cause.{Cause}
 use Rattle.dg_script.specs.declared.report.Cause.TheVariants as cause
 use Rattle.dg_world.specs.Shareds.{IsShared}
 use Rattle.dg_world.specs.Worlds.{MoteStands, SiteStands}
-use Rattle.dg_world.specs.OutcomeEndings.{OutcomeEnds}
+use Rattle.dg_world.specs.inner.OutcomeEndings.{OutcomeEnds}
 use Rattle.dg_node.specs.Hosts.{host}
-use Rattle.dg_world.specs.Occasions.{AppliesIn}
-use Rattle.dg_world.specs.declared.occasion.Occasion.{Occasion}
+use Rattle.dg_world.specs.inner.Contexts.{AppliesIn}
+use Rattle.dg_world.specs.declared.context.EventContext.{EventContext}
 use Rattle.dg_node.specs.declared.node.Node.{Node}
-use Rattle.dg_world.specs.EventOutcomes.{EventOutcome, Refused, Halt}
+use Rattle.dg_world.specs.inner.EventOutcomes.{EventOutcome, Halt, Refused}
 
 -- what `apply_event` ensures
-abbrev pub ApplyEnsures : Result EventOutcome Halt → RuleWorld → Occasion → (v u : Option Node) → Device → Device → Event → Type 0
+abbrev pub ApplyEnsures : Result EventOutcome Halt → RuleWorld → EventContext → (v u : Option Node) → Device → Device → Event → Type 0
 ApplyEnsures r w o v u a b event = AppliesIn o w event a v → OutcomeEnds r w (mote_of event) (does w event) (host a v) (host b u)
 
-module _ (r : Result EventOutcome Halt) (w : RuleWorld) (o : Occasion) (v u : Option Node) (a b : Device) where
+module _ (r : Result EventOutcome Halt) (w : RuleWorld) (o : EventContext) (v u : Option Node) (a b : Device) where
   -- at the mote and the moment of the event
   placed : (m moment : ℕ) (D : ℕ → ℕ → Does) → o.mote ≡ m → o.moment ≡ moment
       → (SiteStands a v (site w o.mote) → OutcomeEnds r w o.mote (D o.mote o.moment) (host a v) (host b u)) → SiteStands a v (site w m) → OutcomeEnds r w m (D m moment) (host a v) (host b u)

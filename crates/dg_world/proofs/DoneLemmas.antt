@@ -29,19 +29,20 @@ use Rattle.dg_script.specs.declared.report.Report.{Report}
 use Rattle.dg_script.specs.declared.report.Report.TheVariants.{Off, Refused as RefusedLine}
 use Rattle.dg_world.specs.Airs.{sent_now}
 use Rattle.dg_world.specs.Worlds.{MoteStands, SiteStands}
-use Rattle.dg_world.specs.OutcomeEndings.{outcome_frame, outcome_lines}
-use Rattle.dg_world.specs.Cuts.{EventIsWhole, EventIsCut, EventPlayed}
+use Rattle.dg_world.specs.inner.OutcomeEndings.{outcome_frame, outcome_lines}
+use Rattle.dg_world.specs.inner.CutEnds.{EventIsWhole, EventIsCut, EventPlayed}
 use Rattle.dg_node.specs.Hosts.{host}
-use Rattle.dg_world.specs.Stepped.{CutChangesAre, StepDone, Stepped, station}
+use Rattle.dg_world.specs.inner.Steps.{CutChangesAre, Stepped}
+use Rattle.dg_world.specs.Stepped.{StepDone, station}
 use Rattle.dg_node.specs.declared.report.ChipReport.{ChipReport}
 use Rattle.dg_node.specs.declared.node.Node.{Node}
 use Rattle.dg_world.specs.declared.outcome.Outcome.{Outcome}
 use Rattle.dg_world.specs.declared.outcome.Fault.{Fault}
 use Rattle.dg_world.specs.declared.outcome.Fault.TheVariants as fault
-use Rattle.dg_world.specs.Outcomes.{halt_of, stepped}
+use Rattle.dg_world.specs.inner.Outcomes.{halt_of, stepped}
 use Rattle.dg_world.proofs.ChipReportLemmas.{cut_told}
 use Rattle.dg_world.proofs.StepLemmas.{ReadAndTold}
-use Rattle.dg_world.specs.EventOutcomes.{EventOutcome, Refused, Unreported, Sends, Changes, Starts, Whole, Cut, Halt, Stopped, NotAVolume, NoImage}
+use Rattle.dg_world.specs.inner.EventOutcomes.{EventOutcome, Halt, Refused, Unreported, Sends, Changes, Starts, Whole, Cut, Stopped, NotAVolume, NoImage}
 
 same_deed : (d e : Deed) → Goes d ≡ Goes e → d ≡ e
 same_deed d e h = cc

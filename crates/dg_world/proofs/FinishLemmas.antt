@@ -23,7 +23,7 @@ use Rattle.dg_base.specs.declared.events.ImageVersion.{ImageVersion}
 use Rattle.dg_script.specs.declared.report.Report.{Report}
 use Rattle.dg_script.specs.declared.report.Report.TheVariants.{MoteOn}
 use Rattle.dg_world.specs.Applied.{SameBoards, ReadFlash}
-use Rattle.dg_world.specs.Finished.{mote_report, kept_report, kept_reports}
+use Rattle.dg_world.specs.inner.Finished.{mote_report, kept_report, kept_reports}
 use Rattle.dg_world.specs.Formatted.{FirstBoards}
 use Rattle.dg_node.specs.Reports.{IsReportOf}
 use Rattle.dg_world.specs.Worlds.{MoteStands, SiteStands, IsWorld}

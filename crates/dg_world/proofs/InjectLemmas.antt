@@ -9,8 +9,8 @@ use Rattle.dg_node.specs.Hosts.{host}
 use Rattle.dg_rules.specs.World.{World as RuleWorld}
 use Rattle.dg_rules.specs.Events.{Refuses, inject_row}
 use Rattle.dg_script.specs.declared.report.Cause.TheVariants as cause
-use Rattle.dg_world.specs.EventOutcomes.{EventOutcome, Halt}
-use Rattle.dg_world.specs.OutcomeEndings.{OutcomeEnds}
+use Rattle.dg_world.specs.inner.EventOutcomes.{EventOutcome, Halt}
+use Rattle.dg_world.specs.inner.OutcomeEndings.{OutcomeEnds}
 
 -- which injection an event is
 pub known_image : (r : Result EventOutcome Halt) (w : RuleWorld) (m now draw : ℕ) (image : ℕ) (known : Option Row) (row : Row) (v u : Option Node) (a b : Device) → (image == 0) ≡ false → known ≡ Some row

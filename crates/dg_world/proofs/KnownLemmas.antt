@@ -16,18 +16,19 @@ use Rattle.std.proofs.lemmas.Option.{same_Some}
 use Rattle.dg_base.specs.declared.events.Cut.{Cut as PowerCut}
 use Rattle.dg_base.specs.declared.events.Event.TheVariants.{Tick, Hear, Last, Reset, Inject, Order as OrderEvent, Frame}
 use Rattle.dg_world.specs.Worlds.{MoteStands}
-use Rattle.dg_world.specs.EventOutcomes.{EventOutcome, Refused, Unreported, Sends, Changes, Starts, Whole}
-use Rattle.dg_world.specs.OutcomeEndings.{OutcomeEnds}
-use Rattle.dg_world.specs.Cuts.{PlayEnds, ended}
+use Rattle.dg_world.specs.inner.EventOutcomes.{EventOutcome, Refused, Unreported, Sends, Changes, Starts, Whole}
+use Rattle.dg_world.specs.inner.OutcomeEndings.{OutcomeEnds}
+use Rattle.dg_world.specs.inner.CutEnds.{PlayEnds, ended}
 use Rattle.dg_node.specs.Hosts.{host}
-use Rattle.dg_world.specs.Outcomes.{outcome_by, outcome_of, halt_of, as_outcome, ended_as}
+use Rattle.dg_world.specs.inner.Outcomes.{outcome_by, outcome_of, halt_of, as_outcome, ended_as}
 use Rattle.dg_node.specs.declared.report.ChipReport.{ChipReport}
 use Rattle.dg_node.specs.declared.answers.StartedImage.{StartedImage}
 use Rattle.dg_world.specs.declared.outcome.Power.{Power}
 use Rattle.dg_world.specs.declared.outcome.Power.TheVariants as power
 use Rattle.dg_script.specs.declared.report.Cause.{Cause}
 use Rattle.dg_script.specs.declared.report.Cause.TheVariants as cause
-use Rattle.dg_world.specs.Known.{InjectReads, beyond, EventSees, EventReads, StepSees, SeesCut, SeesInjected, IsUndeclared, IsLookedInto, MakesKnown, KnownAfter, IsInject, IsOrder, OrderTakes, InjectTakes}
+use Rattle.dg_world.specs.inner.Sees.{InjectReads, EventSees, EventReads, StepSees, SeesCut, SeesInjected, IsUndeclared, KnownAfter}
+use Rattle.dg_world.specs.Known.{beyond, IsLookedInto, MakesKnown, IsInject, IsOrder, OrderTakes, InjectTakes}
 use Rattle.dg_node.specs.Known.{IsKnownChip, OrderReads}
 use Rattle.dg_base.specs.declared.events.Event.{Event}
 use Rattle.dg_world.specs.declared.outcome.Outcome.{Outcome}

@@ -11,14 +11,14 @@ use Rattle.dg_volume.specs.Stands.{Stands}
 use Rattle.dg_volume.specs.Trails.{BeginsAt}
 use Rattle.dg_rules.specs.World.{World as RuleWorld, store_at}
 use Rattle.dg_rules.specs.Events.{Does, trail_of}
-use Rattle.dg_world.specs.OutcomeEndings.{DeedWent, OutcomeEnds}
+use Rattle.dg_world.specs.inner.OutcomeEndings.{EventDone, OutcomeEnds}
 use Rattle.dg_node.specs.Hosts.{host}
 use Rattle.dg_node.specs.declared.answers.StartedImage.{StartedImage}
 use Rattle.dg_node.specs.declared.node.Node.{Node}
 use Rattle.dg_world.specs.declared.outcome.Fault.{Fault}
 use Rattle.dg_world.specs.declared.outcome.Fault.TheVariants as fault
-use Rattle.dg_world.specs.Outcomes.{halt_of}
-use Rattle.dg_world.specs.EventOutcomes.{EventOutcome, Refused, Unreported, Sends, Changes, Starts, Halt, Stopped, NotAVolume, NoImage}
+use Rattle.dg_world.specs.inner.Outcomes.{halt_of}
+use Rattle.dg_world.specs.inner.EventOutcomes.{EventOutcome, Halt, Refused, Unreported, Sends, Changes, Starts, Stopped, NotAVolume, NoImage}
 
 -- ---- before the first operation
 
@@ -67,10 +67,10 @@ stops_after t a b c l s =
     subst (λ (n : ℕ). Halted n (MayLeave Stands IsNear t) a c) e
     (Halted_second (MayLeave Stands IsNear t) l (λ k within x. let f : k ≡ 0 + k = omega arith in subst (λ (j : ℕ). MayLeave Stands IsNear t j c.image) f x) s)
 
-went_after : (w : RuleWorld) (m : ℕ) (does : Does) (u : Option Node) (a b c : Device) (outcome : EventOutcome) → Ran 0 a b → DeedWent w m does u b c outcome → DeedWent w m does u a c outcome
+went_after : (w : RuleWorld) (m : ℕ) (does : Does) (u : Option Node) (a b c : Device) (outcome : EventOutcome) → Ran 0 a b → EventDone w m does u b c outcome → EventDone w m does u a c outcome
 went_after w m does u a b c outcome l x = record { deed = x.deed; goes = x.goes; ran = ran_after (operations x.deed.trail) a b c l x.ran; tells = x.tells }
 
-pub start_after : (w : RuleWorld) (m : ℕ) (does : Does) (u : Option Node) (a b c : Device) (x : StartedImage) → Ran 0 a b → DeedWent w m does u b c (Starts x) → DeedWent w m does u a c (Starts x)
+pub start_after : (w : RuleWorld) (m : ℕ) (does : Does) (u : Option Node) (a b c : Device) (x : StartedImage) → Ran 0 a b → EventDone w m does u b c (Starts x) → EventDone w m does u a c (Starts x)
 start_after w m does u a b c x l went = went_after w m does u a b c (Starts x) l went
 
 pub halt_after : (h : Halt) (w : RuleWorld) (m : ℕ) (does : Does) (v u : Option Node) (a b c : Device) → Ran 0 a b → OutcomeEnds (Err h) w m does (host b v) (host c u) → OutcomeEnds (Err h) w m does (host a v) (host c u)

@@ -6,10 +6,10 @@ use Rattle.dg_mote.specs.Motes.{sent_in}
 use Rattle.dg_rules.specs.World.{World as RuleWorld}
 use Rattle.dg_rules.specs.Events.{Does}
 use Rattle.dg_script.specs.declared.report.Cause.{Cause}
-use Rattle.dg_world.specs.EventOutcomes.{EventOutcome, Refused, Unreported, Changes, Starts}
-use Rattle.dg_world.specs.OutcomeEndings.{outcome_frame, outcome_sent, OutcomeEnds}
+use Rattle.dg_world.specs.inner.EventOutcomes.{EventOutcome, Refused, Unreported, Changes, Starts}
+use Rattle.dg_world.specs.inner.OutcomeEndings.{outcome_frame, outcome_sent, OutcomeEnds}
 use Rattle.dg_node.specs.Hosts.{host}
-use Rattle.dg_world.specs.Outcomes.{outcome_by, outcome_of, halt_of, as_outcome}
+use Rattle.dg_world.specs.inner.Outcomes.{outcome_by, outcome_of, halt_of, as_outcome}
 use Rattle.dg_node.specs.declared.report.ChipReport.{ChipReport}
 use Rattle.dg_node.specs.declared.answers.StartedImage.{StartedImage}
 use Rattle.dg_world.specs.declared.outcome.Outcome.{Outcome}

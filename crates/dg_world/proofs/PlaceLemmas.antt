@@ -35,17 +35,19 @@ use Rattle.dg_world.specs.declared.links.Links.{Links}
 use Rattle.dg_world.specs.Neighbours.{KnowsLinks}
 use Rattle.dg_world.specs.Worlds.{MoteStands, SiteStands, MayRun, IsWorld}
 use Rattle.dg_world.specs.Counts.{NoneRose}
-use Rattle.dg_world.specs.Applied.{OneBoard, Applied, FlashAt, RunEnded, fault_of}
+use Rattle.dg_world.specs.Applied.{OneBoard, Applied, FlashAt, RunEnded}
+use Rattle.dg_world.specs.inner.Outcomes.{fault_of}
 use Rattle.dg_world.specs.Deployments.{Deployment, deployed}
-use Rattle.dg_world.specs.Cuts.{IsStopped, IsLacking}
-use Rattle.dg_world.specs.Stepped.{StepDone, Stepped, station}
+use Rattle.dg_world.specs.Cuts.{IsStopped, StepFoundNoImage}
+use Rattle.dg_world.specs.Stepped.{StepDone, station}
+use Rattle.dg_world.specs.inner.Steps.{Stepped}
 use Rattle.dg_world.specs.declared.air.Air.{Air}
 use Rattle.dg_world.specs.declared.images.Images.{Images}
 use Rattle.dg_world.specs.declared.world.WorldFault.{WorldFault}
 use Rattle.dg_world.specs.declared.world.WorldFault.TheVariants as world_fault
 use Rattle.dg_world.specs.declared.world.World.{World}
 use Rattle.dg_node.specs.declared.node.Node.{Node}
-use Rattle.dg_world.specs.EventOutcomes.{Halt, Stopped, NotAVolume, NoImage}
+use Rattle.dg_world.specs.inner.EventOutcomes.{Halt, Stopped, NotAVolume, NoImage}
 
 -- ---- lists by their indices
 
@@ -221,7 +223,7 @@ flashed v bs w x i a b is at known here endures s =
     }
 
 pub lacked : (v : World) (bs : List Device) (w : RuleWorld) (x : Step) (i : ℕ) (a b : Device) → IsWorld v bs w → i ≡ mote_of x.event → i < length w.sites → slice_get bs i ≡ Some a → Endures (beneath_of a) (beneath_of b) → b.faults ≡ a.faults
-    → IsLacking (does w x.event) x.cut b.image → RunEnded w x bs (set bs i b)
+    → StepFoundNoImage (does w x.event) x.cut b.image → RunEnded w x bs (set bs i b)
 lacked v bs w x i a b is at known here endures stays s =
     let wide : i < length bs = omega (arith, known, is.boards_enough) in
     let m = mote_of x.event in

@@ -32,7 +32,7 @@ use Rattle.dg_mote.specs.Packets.{is_wanted, accepted, seal_by, takes, on_packet
 use Rattle.dg_mote.specs.Hears.{source_of, on_message, by_message, heard_of}
 use Rattle.dg_mote.specs.declared.mote.Heard.{Heard}
 use Rattle.dg_mote.specs.declared.mote.Heard.TheVariants.{Asks, Sealed, Bad}
-use Rattle.dg_world.specs.OutcomeEndings.{SameReport, LeavesChip}
+use Rattle.dg_world.specs.inner.OutcomeEndings.{SameReport, LeavesChip}
 use Rattle.dg_world.proofs.StartLemmas.{same_report}
 
 asks_other : (i : ℕ) (answer : Heard) {p : ℕ} → answer ≡ Asks i p → LeavesChip answer → ⊥

@@ -12,7 +12,7 @@ use Rattle.dg_volume.specs.Changes.{spent}
 use Rattle.dg_volume.specs.Trails.{committing, clear_trail}
 use Rattle.dg_volume.specs.Start.{Runs, Boot, counts, count_trail, by_gesture, order_waits, blank_by, blank_trail, copy_trail, app_of, kept_runs, order_boot, finish_trail, golden_copied, golden_by, golden_boot, kept_by, kept_boot, waived_once, boot_counted, boot, is_set_to, sound}
 use Rattle.dg_volume.specs.declared.volume.StartCause.{StartCause}
-use Rattle.dg_world.specs.OutcomeEndings.{SameReport}
+use Rattle.dg_world.specs.inner.OutcomeEndings.{SameReport}
 
 -- of a store that is near another the same is reported
 same_report_near : (s a t : Store) → SameReport s a → IsNear a t → SameReport s t

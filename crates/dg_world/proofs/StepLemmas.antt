@@ -10,9 +10,9 @@ use Rattle.dg_nor.proofs.DeviceLemmas.{Endures-same}
 use Rattle.dg_nor.proofs.MaskLemmas.{Endures_ran, Endures_halts}
 use Rattle.dg_volume.specs.Store.{Store}
 use Rattle.dg_script.specs.declared.report.Report.{Report}
-use Rattle.dg_world.specs.ChipReports.{change_lines}
+use Rattle.dg_world.specs.inner.ChipReports.{change_lines}
 use Rattle.dg_node.specs.Reports.{IsReportOf}
-use Rattle.dg_world.specs.Stepped.{BoardOnlyRead, CutChangesAre, CutReported, CutRead}
+use Rattle.dg_world.specs.inner.Steps.{BoardOnlyRead, CutChangesAre, CutReported, CutRead}
 use Rattle.dg_node.specs.declared.report.ChipReport.{ChipReport}
 use Rattle.dg_world.proofs.ChipReportLemmas.{changes_same, changes_are_reported}
 use Rattle.dg_world.specs.declared.outcome.Fault.{Fault}
@@ -20,7 +20,7 @@ use Rattle.dg_world.specs.declared.outcome.Fault.TheVariants as fault
 use Rattle.dg_volume.specs.declared.volume.MountFault.{MountFault}
 use Rattle.dg_volume.specs.declared.volume.MountFault.TheVariants as mount_fault
 use Rattle.dg_node.specs.Known.{MountDone}
-use Rattle.dg_world.specs.Faults.{fault_of_mount}
+use Rattle.dg_world.specs.inner.Faults.{fault_of_mount}
 
 -- ---- readings
 

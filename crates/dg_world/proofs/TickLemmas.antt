@@ -36,16 +36,15 @@ use Rattle.dg_mote.specs.Model.{MoteState, Mode, Maintain, Receive, Transmit, Re
 use Rattle.dg_mote.specs.Ticks.{clears, maintain_by, receive_by, transmit_by, mode_tick, tick_of}
 use Rattle.dg_mote.specs.Hears.{heard_of}
 use Rattle.dg_mote.specs.Effects.{Effect, boot_by, boots, tick_by, reset_effect, tick_effect, frame_effect}
-use Rattle.dg_node.specs.Nodes.{NodeStands, mote_in, version_in, wide_in, runs_by as node_runs}
-use Rattle.dg_node.specs.Ends.{NodeEnd, Quiet, Sent, NodeDone, Went, IsStart, Starts as NodeStarts, Stopped as NodeStopped, NotAVolume as NodeNotAVolume, NoImage as NodeNoImage, Lacked as NodeLacked}
-use Rattle.dg_node.specs.Ends.{power_end, tick_end, PowerFinds}
+use Rattle.dg_node.specs.Nodes.{NodeStands, node_mote, node_image, node_is_wide, runs_by as node_runs}
+use Rattle.dg_node.specs.Ends.{NodeEnd, Quiet, Sent, NodeDone, EffectDone, IsStart, Starts as NodeStarts, Stopped as NodeStopped, NotAVolume as NodeNotAVolume, NoImage as NodeNoImage, FoundNoImage, power_end, tick_end, PowerFinds}
 use Rattle.dg_node.specs.declared.answers.Ticked.{Ticked}
 use Rattle.dg_node.specs.declared.answers.Ticked.TheVariants as ticked
 use Rattle.dg_node.specs.declared.answers.TickFault.{TickFault}
 use Rattle.dg_node.specs.declared.answers.TickFault.TheVariants as tick_fault
 use Rattle.dg_boot.specs.declared.BootFault.{BootFault}
 use Rattle.dg_boot.specs.declared.BootFault.TheVariants as boot_fault
-use Rattle.dg_world.specs.Faults.{outcome_by_end, fault_of_start, fault_of_tick}
+use Rattle.dg_world.specs.inner.Faults.{outcome_by_end, fault_of_start, fault_of_tick}
 use Rattle.dg_mote.specs.Motes.{IsRead}
 use Rattle.dg_mote.specs.declared.mote.Did.{Did}
 use Rattle.dg_mote.specs.declared.mote.Did.TheVariants as did
@@ -58,16 +57,16 @@ use Rattle.dg_script.specs.declared.report.Report.{Report}
 use Rattle.dg_script.specs.declared.report.Report.TheVariants.{Start}
 use Rattle.dg_node.specs.Reports.{IsReportOf}
 use Rattle.dg_world.specs.Worlds.{MoteStands}
-use Rattle.dg_world.specs.OutcomeEndings.{SameReport, LeavesChip, outcome_frame, outcome_sent, outcome_lines, frame_lines, DeedWent, Lacked, OutcomeEnds}
+use Rattle.dg_world.specs.inner.OutcomeEndings.{SameReport, LeavesChip, outcome_frame, outcome_sent, outcome_lines, frame_lines, EventDone, EventFoundNoImage, OutcomeEnds}
 use Rattle.dg_node.specs.Hosts.{host}
 use Rattle.dg_node.specs.declared.report.ChipReport.{ChipReport}
 use Rattle.dg_node.specs.declared.answers.StartedImage.{StartedImage}
 use Rattle.dg_node.specs.declared.node.Node.{Node}
-use Rattle.dg_world.specs.Outcomes.{halt_of}
+use Rattle.dg_world.specs.inner.Outcomes.{halt_of}
 use Rattle.dg_world.proofs.ChipReportLemmas.{changes_same, changes_are_reported}
 use Rattle.dg_world.proofs.StartLemmas.{boot_same, boot_same_from, clear_same, same_report, leaves_same}
 use Rattle.dg_world.proofs.SameLemmas.{heard_calm}
-use Rattle.dg_world.specs.EventOutcomes.{EventOutcome, Refused, Changes, Starts, Halt, Stopped, Unreported}
+use Rattle.dg_world.specs.inner.EventOutcomes.{EventOutcome, Halt, Refused, Changes, Starts, Stopped, Unreported}
 
 -- ---- acts that are not reported
 
@@ -137,7 +136,7 @@ sent_frame : (o : Option (List ℕ)) → outcome_frame (outcome_sent o) ≡ o
 sent_frame None = refl
 sent_frame (Some bytes) = refl
 
-sent_outcome : (o : Option (List ℕ)) (w : RuleWorld) (m : ℕ) (does : Does) (v u : Option Node) (a b : Device) → DeedWent w m does u a b (outcome_sent o) → OutcomeEnds (Ok (outcome_sent o)) w m does (host a v) (host b u)
+sent_outcome : (o : Option (List ℕ)) (w : RuleWorld) (m : ℕ) (does : Does) (v u : Option Node) (a b : Device) → EventDone w m does u a b (outcome_sent o) → OutcomeEnds (Ok (outcome_sent o)) w m does (host a v) (host b u)
 sent_outcome None w m does v u a b x = x
 sent_outcome (Some bytes) w m does v u a b x = x
 
@@ -177,14 +176,14 @@ start_lines m x r is = line_is m x r is.image is.version is.length is.crc
         → Start m x.image_version.image x.image_version.version x.length x.crc ∷ [] ≡ start_line m (Some r)
     line_is m x r i v l c = cc
 
-module _ (w : RuleWorld) (m : ℕ) (e : Effect) (old : Option ImageVersion) (v : Option Node) (a b : Device) (same : e.started ≡ None → old ≡ option_map version_in v) where
+module _ (w : RuleWorld) (m : ℕ) (e : Effect) (old : Option ImageVersion) (v : Option Node) (a b : Device) (same : e.started ≡ None → old ≡ option_map node_image v) where
   abbrev D : Does
   D = of_effect w e old
 
-  went_with : (n : Node) (frame : Option (List ℕ)) (outcome : EventOutcome) → Went e frame (host a v) (host b (Some n)) → outcome_frame outcome ≡ option_map frame_of e.sent
-      → outcome_lines m outcome ≡ (changes m (store_at w m) (last e.trail) ++ start_line m e.started) ++ sent_line m e.sent → DeedWent w m D (Some n) a b outcome
+  went_with : (n : Node) (frame : Option (List ℕ)) (outcome : EventOutcome) → EffectDone e frame (host a v) (host b (Some n)) → outcome_frame outcome ≡ option_map frame_of e.sent
+      → outcome_lines m outcome ≡ (changes m (store_at w m) (last e.trail) ++ start_line m e.started) ++ sent_line m e.sent → EventDone w m D (Some n) a b outcome
   went_with n frame outcome x sent lines =
-      let runs = runs_of e.mote e.started old (option_map version_in v) b.image n (last e.trail) x.runs same in
+      let runs = runs_of e.mote e.started old (option_map node_image v) b.image n (last e.trail) x.runs same in
       record {
         deed = record { trail = e.trail; table = w.table; started = e.started; sent = e.sent; runs = option_map (runs_by e.started old) e.mote };
         goes = refl;
@@ -211,7 +210,7 @@ module _ (w : RuleWorld) (m : ℕ) (e : Effect) (old : Option ImageVersion) (v :
   pub node_stopped_with : (u : Option Node) (before : ChipReport) → Stops e.trail a b → IsReportOf before (store_at w m) → OutcomeEnds (Err (Stopped (Some before))) w m D (host a v) (host b u)
   node_stopped_with u before stops is_report = record { stops = stops; is_report = λ whole blown. is_report }
 
-  pub node_lacks : (frame : Option (List ℕ)) → NodeLacked e frame a b → Lacked D a b
+  pub node_lacks : (frame : Option (List ℕ)) → FoundNoImage e frame a b → EventFoundNoImage D a b
   node_lacks frame l = record {
     deed = record { trail = e.trail; table = w.table; started = e.started; sent = e.sent; runs = option_map (runs_by e.started old) e.mote };
     goes = refl;
@@ -226,17 +225,17 @@ module _ (w : RuleWorld) (m : ℕ) (e : Effect) (old : Option ImageVersion) (v :
     unreported : changes m (store_at w m) (last e.trail) ≡ []
     unreported = changes_same m (store_at w m) (last e.trail) (Through-last (SameReport (store_at w m)) e.trail nothing)
 
-    went : (n : Node) (frame : Option (List ℕ)) (outcome : EventOutcome) → Went e frame (host a v) (host b (Some n)) → outcome_frame outcome ≡ option_map frame_of e.sent → outcome_lines m outcome ≡ ([] ++ start_line m e.started) ++ sent_line m e.sent
-        → DeedWent w m D (Some n) a b outcome
+    went : (n : Node) (frame : Option (List ℕ)) (outcome : EventOutcome) → EffectDone e frame (host a v) (host b (Some n)) → outcome_frame outcome ≡ option_map frame_of e.sent → outcome_lines m outcome ≡ ([] ++ start_line m e.started) ++ sent_line m e.sent
+        → EventDone w m D (Some n) a b outcome
     went n frame outcome x sent lines = went_with n frame outcome x sent (lines ∙ ap (λ (l : List Report). (l ++ start_line m e.started) ++ sent_line m e.sent) (sym unreported))
 
-    sends : (n : Node) (frame : Option (List ℕ)) → Went e frame (host a v) (host b (Some n)) → e.started ≡ None → OutcomeEnds (Ok (outcome_sent frame)) w m D (host a v) (host b (Some n))
+    sends : (n : Node) (frame : Option (List ℕ)) → EffectDone e frame (host a v) (host b (Some n)) → e.started ≡ None → OutcomeEnds (Ok (outcome_sent frame)) w m D (host a v) (host b (Some n))
     sends n frame x none =
         sent_outcome frame w m D v (Some n) a b
         (went n frame (outcome_sent frame) x (sent_frame frame ∙ x.sent)
-        (ap (λ (o : Option (List ℕ)). outcome_lines m (outcome_sent o)) x.sent ∙ sent_lines m e.sent (reads_wider (wide_in v) e.sent wider x.read) ∙ ap (λ (o : Option Runs). ([] ++ start_line m o) ++ sent_line m e.sent) (sym none)))
+        (ap (λ (o : Option (List ℕ)). outcome_lines m (outcome_sent o)) x.sent ∙ sent_lines m e.sent (reads_wider (node_is_wide v) e.sent wider x.read) ∙ ap (λ (o : Option Runs). ([] ++ start_line m o) ++ sent_line m e.sent) (sym none)))
 
-    starts : (n : Node) (x : StartedImage) → Went e None (host a v) (host b (Some n)) → e.sent ≡ None → (r : Runs) → e.started ≡ Some r → IsStart x r → DeedWent w m D (Some n) a b (Starts x)
+    starts : (n : Node) (x : StartedImage) → EffectDone e None (host a v) (host b (Some n)) → e.sent ≡ None → (r : Runs) → e.started ≡ Some r → IsStart x r → EventDone w m D (Some n) a b (Starts x)
     starts n x d silent r some is =
         went n None (Starts x) d (ap (option_map frame_of) (sym silent))
         (start_lines m x r is ∙ ap (λ (o : Option Runs). ([] ++ start_line m o) ++ []) (sym some) ∙ ap (λ (o : Option Message). ([] ++ start_line m e.started) ++ sent_line m o) (sym silent))
@@ -248,20 +247,20 @@ module _ (w : RuleWorld) (m : ℕ) (e : Effect) (old : Option ImageVersion) (v :
     pub node_ends : (r : NodeEnd) (frame : Option (List ℕ)) (n : Node) → NodeDone r frame e (host a v) (host b (Some n)) → OutcomeEnds (outcome_by_end r frame) w m D (host a v) (host b (Some n))
     node_ends Quiet frame n x = sends n frame x.0 x.1
     node_ends Sent frame n x = sends n frame x.0 x.1
-    node_ends (NodeStarts image) frame n x = starts n image (subst (λ (o : Option (List ℕ)). Went e o (host a v) (host b (Some n))) (x.0.sent ∙ ap (option_map frame_of) x.1) x.0) x.1 x.2.0 x.2.1 x.2.2
+    node_ends (NodeStarts image) frame n x = starts n image (subst (λ (o : Option (List ℕ)). EffectDone e o (host a v) (host b (Some n))) (x.0.sent ∙ ap (option_map frame_of) x.1) x.0) x.1 x.2.0 x.2.1 x.2.2
     node_ends NodeStopped frame n x = node_stops (Some n) x.0
     node_ends NodeNotAVolume frame n x = absurd x
     node_ends NodeNoImage frame n x = node_lacks frame x
 
 -- what the volume of a node tells then
-tells_by : (o : Option MoteState) (r : Option Runs) (was : Option ImageVersion) (c : List ℕ) (n : Node) (t : Store) → NodeStands c (Some n) t (node_runs o r was) → Tells (volume_of (mote_in n)) t
+tells_by : (o : Option MoteState) (r : Option Runs) (was : Option ImageVersion) (c : List ℕ) (n : Node) (t : Store) → NodeStands c (Some n) t (node_runs o r was) → Tells (volume_of (node_mote n)) t
 tells_by None r was c n t stands = absurd stands
 tells_by (Some m) (Some r) was c n t stands = stands.1.mounted.tells
 tells_by (Some m) None None c n t stands = absurd stands
 tells_by (Some m) None (Some was) c n t stands = stands.1.mounted.tells
 
-pub node_tells : (e : Effect) (frame : Option (List ℕ)) (v : Option Node) (n : Node) (a b : Device) → Went e frame (host a v) (host b (Some n)) → Tells (volume_of (mote_in n)) (last e.trail)
-node_tells e frame v n a b x = tells_by e.mote e.started (option_map version_in v) b.image n (last e.trail) x.runs
+pub node_tells : (e : Effect) (frame : Option (List ℕ)) (v : Option Node) (n : Node) (a b : Device) → EffectDone e frame (host a v) (host b (Some n)) → Tells (volume_of (node_mote n)) (last e.trail)
+node_tells e frame v n a b x = tells_by e.mote e.started (option_map node_image v) b.image n (last e.trail) x.runs
 
 stopped_endures : (a b : Device) → ActStopped a b → Endures (beneath_of a) (beneath_of b)
 stopped_endures a b x = record { faults = x.faults; cause = λ stopped. x.cause; stays = λ was. x.stopped; calm = λ awake. absurd (both_ways b.stopped awake x.stopped) }

@@ -20,11 +20,11 @@ use Rattle.dg_script.specs.declared.report.Cause.TheVariants as cause
 use Rattle.dg_world.specs.Shareds.{IsShared}
 use Rattle.dg_world.specs.Worlds.{MoteStands, SiteStands}
 use Rattle.dg_world.specs.Unseen.{RefusesUnseen}
-use Rattle.dg_world.specs.EventOutcomes.{Whole, Cut}
-use Rattle.dg_world.specs.Cuts.{ended}
-use Rattle.dg_world.specs.Outcomes.{outcome_of, halt_of, as_outcome, ended_as}
-use Rattle.dg_world.specs.Occasions.{AppliesIn}
-use Rattle.dg_world.specs.declared.occasion.Occasion.{Occasion}
+use Rattle.dg_world.specs.inner.EventOutcomes.{Whole, Cut}
+use Rattle.dg_world.specs.inner.CutEnds.{ended}
+use Rattle.dg_world.specs.inner.Outcomes.{outcome_of, halt_of, as_outcome, ended_as}
+use Rattle.dg_world.specs.inner.Contexts.{AppliesIn}
+use Rattle.dg_world.specs.declared.context.EventContext.{EventContext}
 use Rattle.dg_world.specs.declared.outcome.Fault.{Fault}
 use Rattle.dg_world.specs.declared.outcome.Power.{Power}
 use Rattle.dg_world.specs.declared.outcome.Power.TheVariants as power
@@ -115,10 +115,10 @@ abbrev pub Unused : {N E : Type 0} (r : Result (Unit {0}) E) (old new : N) → T
 Unused r old new = (new ≡ old) × OnErr r ⊥
 
 -- what the clause `unseen` of `apply_event` says
-abbrev pub StaysUnused : {N E : Type 0} → Result (Unit {0}) E → (old new : N) → RuleWorld → Occasion → Device → Option Node → Event → Type 0
+abbrev pub StaysUnused : {N E : Type 0} → Result (Unit {0}) E → (old new : N) → RuleWorld → EventContext → Device → Option Node → Event → Type 0
 StaysUnused r old new w o a v event = AppliesIn o w event a v → RefusesUnseen (does w event) → Unused r old new
 
-module _ {N E : Type 0} (r : Result (Unit {0}) E) (old new : N) (w : RuleWorld) (o : Occasion) (a : Device) (v : Option Node) where
+module _ {N E : Type 0} (r : Result (Unit {0}) E) (old new : N) (w : RuleWorld) (o : EventContext) (a : Device) (v : Option Node) where
   -- at the moment of the event
   at_moment : (D : ℕ → Does) (moment : ℕ) → o.moment ≡ moment → RefusesUnseen (D moment) → RefusesUnseen (D o.moment)
   at_moment D moment e unseen = subst (λ (n : ℕ). RefusesUnseen (D n)) (sym e) unseen

@@ -7,16 +7,18 @@ use Rattle.dg_rules.specs.Changes.{is_reported}
 use Rattle.dg_rules.specs.Events.{does, mote_of}
 use Rattle.dg_base.specs.declared.events.Cut.{Cut as PowerCut}
 use Rattle.dg_base.specs.declared.events.Event.{Event}
-use Rattle.dg_world.specs.Cuts.{ended}
-use Rattle.dg_world.specs.Known.{EventSees, EventReads}
-use Rattle.dg_world.specs.Occasions.{AppliesIn, step_of}
-use Rattle.dg_world.specs.Stepped.{StepDid, Station, station}
-use Rattle.dg_world.specs.Outcomes.{outcome_of, halt_of, as_outcome}
-use Rattle.dg_world.specs.EventOutcomes.{Whole}
-use Rattle.dg_world.specs.OutcomeEndings.{outcome_lines, OutcomeEnds}
+use Rattle.dg_world.specs.inner.CutEnds.{ended}
+use Rattle.dg_world.specs.inner.Sees.{EventSees, EventReads}
+use Rattle.dg_world.specs.inner.Contexts.{AppliesIn}
+use Rattle.dg_world.specs.Applying.{step_of}
+use Rattle.dg_world.specs.inner.Steps.{StepDid}
+use Rattle.dg_world.specs.Stepped.{Station, station}
+use Rattle.dg_world.specs.inner.Outcomes.{outcome_of, halt_of, as_outcome}
+use Rattle.dg_world.specs.inner.EventOutcomes.{Whole}
+use Rattle.dg_world.specs.inner.OutcomeEndings.{outcome_lines, OutcomeEnds}
 use Rattle.dg_node.specs.Hosts.{host}
 use Rattle.dg_world.specs.Unseen.{RefusesUnseen}
-use Rattle.dg_world.specs.declared.occasion.Occasion.{Occasion}
+use Rattle.dg_world.specs.declared.context.EventContext.{EventContext}
 use Rattle.dg_world.specs.declared.outcome.Fault.{Fault}
 use Rattle.dg_world.specs.declared.outcome.Outcome.{Outcome}
 use Rattle.dg_world.proofs.CutLemmas.{uncut, halted, played_as}
@@ -25,7 +27,7 @@ use Rattle.dg_world.proofs.KnownLemmas.{step_sees, outcome_refused, refused_outc
 use Rattle.dg_world.proofs.OutcomeLemmas.{frame_told}
 
 -- what the clauses of `apply_event` say
-pub record AppliedSo (r : Result (Unit {0}) Fault) (o : Occasion) (event : Event) (t : Outcome) (a b : Station) : Type 0 where
+pub record AppliedSo (r : Result (Unit {0}) Fault) (o : EventContext) (event : Event) (t : Outcome) (a b : Station) : Type 0 where
   pub ends : (w : RuleWorld) → AppliesIn o w event a.board a.runs → OutcomeEnds (as_outcome r t) w (mote_of event) (does w event) (host a.board a.runs) (host b.board b.runs)
   pub unseen : (w : RuleWorld) → AppliesIn o w event a.board a.runs → RefusesUnseen (does w event) → (b.board ≡ a.board) × OnErr r ⊥
   pub sees : OnOk r (EventSees event t b.runs a.board.image b.board.image)
@@ -37,7 +39,7 @@ done = Ok tt
 abbrev failed : Fault → Result (Unit {0}) Fault
 failed f = Err f
 
-module _ (o : Occasion) (event : Event) (t : Outcome) (a b : Station) (cut : Option PowerCut) (none : cut ≡ None) where
+module _ (o : EventContext) (event : Event) (t : Outcome) (a b : Station) (cut : Option PowerCut) (none : cut ≡ None) where
   -- its lines were told
   pub whole_did : AppliedSo done o event t a b → o.mote ≡ mote_of event → b.reported ≡ a.reported ++ filter (is_reported o.reported) (outcome_lines o.mote (outcome_of t)) → StepDid done o (step_of event cut) t a b
   whole_did h here told =

@@ -13,7 +13,7 @@ use Rattle.dg_base.specs.declared.events.Event.{Event}
 use Rattle.dg_base.specs.declared.events.Event.TheVariants.{Tick, Hear, Last, Reset, Inject, Order as OrderEvent, Frame}
 use Rattle.dg_base.specs.declared.events.Step.{Step}
 use Rattle.dg_script.specs.declared.report.Report.{Report}
-use Rattle.dg_world.specs.Cuts.{IsStopped, IsLacking}
+use Rattle.dg_world.specs.Cuts.{IsStopped, StepFoundNoImage}
 use Rattle.dg_world.specs.Stepped.{StepDone, station}
 use Rattle.dg_world.specs.declared.outcome.Fault.{Fault}
 use Rattle.dg_world.specs.declared.outcome.Fault.TheVariants as fault
@@ -54,7 +54,7 @@ abbrev pub AloneEnds : Result Outbox Fault → RuleWorld → Event → Option No
 AloneEnds (Ok out) w event u new = AloneDone w event u (sent_in out) new
 AloneEnds (Err fault.Stopped) w event u new = IsStopped w (mote_of event) (does w event) None new
 AloneEnds (Err fault.NotAVolume) w event u new = ⊥
-AloneEnds (Err fault.NoImage) w event u new = IsLacking (does w event) None new.image
+AloneEnds (Err fault.NoImage) w event u new = StepFoundNoImage (does w event) None new.image
 
 -- the count of a board stays unless the board stopped
 abbrev pub CountKeeps : {T : Type 0} → Result T Fault → Device → Device → Type 0

@@ -18,14 +18,10 @@ use Rattle.dg_rules.specs.Changes.{is_reported}
 use Rattle.dg_rules.specs.Steps.{WorldStep, EndsRun, blows}
 use Rattle.dg_base.specs.declared.events.Step.{Step}
 use Rattle.dg_script.specs.declared.report.Report.{Report}
-use Rattle.dg_world.specs.declared.world.WorldFault.{WorldFault}
-use Rattle.dg_world.specs.declared.world.WorldFault.TheVariants.{Flash, NotAVolume as NotAVolumeFault}
-use Rattle.dg_world.specs.declared.world.WorldFault.TheVariants.{NoImage as NoImageFault}
 use Rattle.dg_world.specs.declared.world.World.{World}
 use Rattle.dg_world.specs.Worlds.{IsWorld}
 use Rattle.dg_world.specs.Deployments.{Deployment}
 use Rattle.dg_world.specs.Counts.{NoneRose}
-use Rattle.dg_world.specs.EventOutcomes.{Halt, Stopped, NotAVolume, NoImage}
 
 -- No board but this one was used. No count fell, and a board is stopped only where it was, or where its count rose.
 pub record OneBoard (board : ℕ) (old new : List Device) : Type 0 where
@@ -88,13 +84,6 @@ pub record ReadFlash (board : ℕ) (old new : List Device) : Type 0 where
   pub is : slice_get new board ≡ Some after
   pub stopped : after.stopped ≡ true
   pub cause : (before.stopped ≡ true) ⊎ Rose before.faults after.faults
-
--- ---- the answer of a step
-
-abbrev pub fault_of : Halt → ℕ → WorldFault
-fault_of (Stopped before) mote = Flash mote
-fault_of NotAVolume mote = NotAVolumeFault
-fault_of NoImage mote = NoImageFault
 
 -- ---- whatever frames carry
 

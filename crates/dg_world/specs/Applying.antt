@@ -1,5 +1,5 @@
 -- All that is promised of a step of a world (docs/PROMISES.md, "What other calls promise").
-use Rattle.std.specs.Prelude.{◌≡◌, ◌⊎◌, ℕ, true, Bool, slice_get, Some, IfSome, OnOk, OnErr, Result, Err}
+use Rattle.std.specs.Prelude.{◌≡◌, ◌⊎◌, ℕ, true, Bool, slice_get, Some, IfSome, OnOk, OnErr, Result, Err, Option}
 use Rattle.dg_nor.specs.Device.{Device}
 use Rattle.dg_object.specs.Object.{Row}
 use Rattle.dg_base.specs.declared.events.Step.{Step}
@@ -14,6 +14,12 @@ use Rattle.dg_world.specs.Worlds.{IsWorld}
 use Rattle.dg_world.specs.Deployments.{Deployment}
 use Rattle.dg_world.specs.declared.world.WorldFault.{WorldFault}
 use Rattle.dg_world.specs.declared.world.WorldFault.TheVariants.{Memory, Flash, TooMany, NotAVolume, NoImage}
+use Rattle.dg_base.specs.declared.events.Cut.{Cut as PowerCut}
+use Rattle.dg_base.specs.declared.events.Event.{Event}
+
+-- the step that an event and its cut make
+abbrev pub step_of : Event → Option PowerCut → Step
+step_of event cut = record { event = event; cut = cut }
 
 -- it stands for world w by the rules
 abbrev pub IsOf : Deployment → RuleWorld → Type 0

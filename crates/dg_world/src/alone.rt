@@ -3,8 +3,8 @@ ghost use Rattle.std.specs.Prelude.{◌≡◌, ◌+◌, ◌^◌, ◌<◌, true, 
 ghost use Rattle.dg_rules.specs.World.{World as RuleWorld, site, wide_at};
 ghost use Rattle.dg_rules.specs.Events.{does, mote_of, dt_of};
 ghost use Rattle.dg_world.specs.Alone.{IsAlone, IsReset, PlaysAlone, Powers};
-ghost use Rattle.dg_world.specs.Outcomes.{IsNothing, as_outcome};
-ghost use Rattle.dg_world.specs.OutcomeEndings.{OutcomeEnds};
+ghost use Rattle.dg_world.specs.inner.Outcomes.{IsNothing, as_outcome};
+ghost use Rattle.dg_world.specs.inner.OutcomeEndings.{OutcomeEnds};
 ghost use Rattle.dg_node.specs.Hosts.{host};
 ghost use Rattle.dg_world.specs.Worlds.{SiteStands, MayRun};
 

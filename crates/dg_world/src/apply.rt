@@ -3,16 +3,14 @@ ghost use Rattle.std.specs.Prelude.{◌≡◌, Option, map, length, option_copie
 ghost use Rattle.dg_rules.specs.World.{World as RuleWorld};
 ghost use Rattle.dg_script.specs.Ranges.{StepInRange};
 ghost use Rattle.dg_world.specs.Worlds.{IsWorld};
-ghost use Rattle.dg_world.specs.Occasions.{step_of};
-ghost use Rattle.dg_world.specs.Applied.{fault_of};
-ghost use Rattle.dg_world.specs.Applying.{ApplyDone};
+ghost use Rattle.dg_world.specs.Applying.{step_of, ApplyDone};
+ghost use Rattle.dg_world.specs.inner.Outcomes.{fault_of, halt_of};
 ghost use Rattle.dg_world.specs.Deployments.{deployed};
-ghost use Rattle.dg_world.specs.Outcomes.{halt_of};
 ghost use Rattle.dg_node.specs.declared.report.ChipReport.{ChipReport};
 
+use crate::context::EventContext;
 use crate::events::{dt_at, mote_at};
-use crate::knowing::{has, is_watched, known_after, makes_known, note};
-use crate::occasion::Occasion;
+use crate::known_boards::{has, is_watched, known_after, makes_known, note};
 use crate::outcome::Fault;
 use crate::stepping::{MOST_LINES, step_at};
 use crate::world::{World, WorldFault};
@@ -57,14 +55,14 @@ impl World {
         let board = &mut boards[index];
         let known = has(&self.known, mote);
         let makes = makes_known(&self.shared, mote, event);
-        let occasion = Occasion {
+        let context = EventContext {
             shared: &self.shared,
             mote,
             moment,
             known,
             reported,
         };
-        match step_at(&occasion, runs, event, cut, board, &mut self.outcome, out) {
+        match step_at(&context, runs, event, cut, board, &mut self.outcome, out) {
             Ok(()) => {
                 self.moment = moment;
                 self.events += 1;

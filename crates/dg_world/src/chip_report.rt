@@ -5,7 +5,7 @@ ghost use Rattle.dg_volume.specs.Store.{Store};
 ghost use Rattle.dg_volume.specs.Stands.{Tells};
 ghost use Rattle.dg_volume.specs.Sizes.{images};
 ghost use Rattle.dg_rules.specs.Changes.{order_change};
-ghost use Rattle.dg_world.specs.ChipReports.{have_line, have_lines, change_lines};
+ghost use Rattle.dg_world.specs.inner.ChipReports.{have_line, have_lines, change_lines};
 ghost use Rattle.dg_node.specs.Reports.{IsReportOf};
 
 use dg_control::{IMAGES, Order};

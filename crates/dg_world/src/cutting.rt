@@ -5,15 +5,15 @@ ghost use Rattle.dg_rules.specs.Sizes.{most_motes};
 ghost use Rattle.dg_rules.specs.World.{World as RuleWorld};
 ghost use Rattle.dg_rules.specs.Events.{does, mote_of};
 ghost use Rattle.dg_script.specs.Ranges.{EventInRange, CutInRange};
-ghost use Rattle.dg_world.specs.Occasions.{MayApply, AppliesIn};
-ghost use Rattle.dg_world.specs.Cuts.{ended, EventPlayed};
+ghost use Rattle.dg_world.specs.inner.Contexts.{MayApply, AppliesIn};
+ghost use Rattle.dg_world.specs.inner.CutEnds.{ended, EventPlayed};
 ghost use Rattle.dg_node.specs.Hosts.{host};
-ghost use Rattle.dg_world.specs.Outcomes.{IsNothing, as_outcome, ended_as};
+ghost use Rattle.dg_world.specs.inner.Outcomes.{IsNothing, as_outcome, ended_as};
 ghost use Rattle.dg_world.specs.Unseen.{RefusesUnseen};
-ghost use Rattle.dg_world.specs.Known.{EventReads, EventSees};
+ghost use Rattle.dg_world.specs.inner.Sees.{EventReads, EventSees};
 
+use crate::context::EventContext;
 use crate::dispatch::apply_event;
-use crate::occasion::Occasion;
 use crate::outcome::{Fault, Outcome, Power};
 use dg_node::Node;
 use dg_nor::{Fused, Nor};
@@ -53,7 +53,7 @@ fn fuse_of<'a, N: Nor>(cut: &'a Cut, board: &'a mut N) -> Fused<'a, N>
 /// An event whose power is cut, where it makes so many operations. Where the board stops in that operation, it is told as
 /// stopped.
 pub(crate) fn play_cut<N: Nor>(
-    occasion: &Occasion<'_>,
+    context: &EventContext<'_>,
     runs: &mut Option<Node>,
     event: &Event,
     cut: &Cut,
@@ -62,20 +62,20 @@ pub(crate) fn play_cut<N: Nor>(
 ) -> Result<Power, Fault>
     requires fits { (motes : ℕ) × EventInRange motes event.now × (motes ≤ most_motes) }
     requires cut { CutInRange cut.now }
-    requires may { MayApply occasion.now event.now (N.device board.old) runs.old }
+    requires may { MayApply context.now event.now (N.device board.old) runs.old }
     requires nothing { IsNothing outcome.old }
-    ensures played { (w : RuleWorld) → AppliesIn occasion.now w event.now (N.device board.old) runs.old
+    ensures played { (w : RuleWorld) → AppliesIn context.now w event.now (N.device board.old) runs.old
         → EventPlayed (ended_as result outcome.new) w (mote_of event.now) (does w event.now) (Some cut.now)
         (host (N.device board.old) runs.old) (host (N.device board.new) runs.new) }
-    ensures unseen { (w : RuleWorld) → AppliesIn occasion.now w event.now (N.device board.old) runs.old
+    ensures unseen { (w : RuleWorld) → AppliesIn context.now w event.now (N.device board.old) runs.old
         → RefusesUnseen (does w event.now) → (board.new ≡ board.old) × (result ≡ Ok Power.Stays) }
-    ensures reads { EventReads event.now occasion.now.known (result ≡ Ok Power.Stays) outcome.new.refused (N.device board.old)
+    ensures reads { EventReads event.now context.now.known (result ≡ Ok Power.Stays) outcome.new.refused (N.device board.old)
         (N.device board.new) }
     ensures sees { result ≡ Ok Power.Stays → EventSees event.now outcome.new runs.new (N.device board.old).image
         (N.device board.new).image }
 {
     let mut fused = fuse_of(cut, board);
-    let done = apply_event(occasion, runs, event, &mut fused, outcome);
+    let done = apply_event(context, runs, event, &mut fused, outcome);
     let blown = fused.blown();
     let stopped = board.is_stopped();
     end_outcome(blown, stopped, done)

@@ -4,16 +4,16 @@ ghost use Rattle.dg_rules.specs.World.{World as RuleWorld};
 ghost use Rattle.dg_rules.specs.Events.{does, mote_of};
 ghost use Rattle.dg_script.specs.Ranges.{EventInRange};
 ghost use Rattle.dg_rules.specs.Sizes.{most_motes};
-ghost use Rattle.dg_world.specs.OutcomeEndings.{OutcomeEnds};
+ghost use Rattle.dg_world.specs.inner.OutcomeEndings.{OutcomeEnds};
 ghost use Rattle.dg_node.specs.Hosts.{host};
 ghost use Rattle.dg_world.specs.Unseen.{RefusesUnseen};
-ghost use Rattle.dg_world.specs.Outcomes.{IsNothing, as_outcome};
-ghost use Rattle.dg_world.specs.Known.{EventSees, EventReads};
-ghost use Rattle.dg_world.specs.Occasions.{MayApply, AppliesIn};
+ghost use Rattle.dg_world.specs.inner.Outcomes.{IsNothing, as_outcome};
+ghost use Rattle.dg_world.specs.inner.Sees.{EventSees, EventReads};
+ghost use Rattle.dg_world.specs.inner.Contexts.{MayApply, AppliesIn};
 
+use crate::context::EventContext;
 use crate::hearing::{hear, hear_last, hear_numbered};
 use crate::injecting::inject_known;
-use crate::occasion::Occasion;
 use crate::ordering::order_known;
 use crate::outcome::{Fault, Outcome};
 use crate::starting::reset_here;
@@ -25,38 +25,38 @@ use dg_rules::{Event, ImageVersion};
 /// What an event does at the board of its mote, which runs `runs`. Where the board is known it is mounted again by halving.
 #[inline(always)]
 pub(crate) fn apply_event<N: Nor>(
-    occasion: &Occasion<'_>,
+    context: &EventContext<'_>,
     runs: &mut Option<Node>,
     event: &Event,
     board: &mut N,
     outcome: &mut Outcome,
 ) -> Result<(), Fault>
     requires fits { (motes : ℕ) × EventInRange motes event.now × (motes ≤ most_motes) }
-    requires may { MayApply occasion.now event.now (N.device board.old) runs.old }
+    requires may { MayApply context.now event.now (N.device board.old) runs.old }
     requires nothing { IsNothing outcome.old }
-    ensures ends { (w : RuleWorld) → AppliesIn occasion.now w event.now (N.device board.old) runs.old
+    ensures ends { (w : RuleWorld) → AppliesIn context.now w event.now (N.device board.old) runs.old
         → OutcomeEnds (as_outcome result outcome.new) w (mote_of event.now) (does w event.now)
         (host (N.device board.old) runs.old) (host (N.device board.new) runs.new) }
     // an event that is refused without a look at the chip uses no board
-    ensures unseen { (w : RuleWorld) → AppliesIn occasion.now w event.now (N.device board.old) runs.old
+    ensures unseen { (w : RuleWorld) → AppliesIn context.now w event.now (N.device board.old) runs.old
         → RefusesUnseen (does w event.now) → (board.new ≡ board.old) × OnErr result ⊥ }
     ensures sees { OnOk result (EventSees event.now outcome.new runs.new (N.device board.old).image (N.device board.new).image) }
-    ensures reads { EventReads event.now occasion.now.known (OnErr result ⊥) outcome.new.refused (N.device board.old)
+    ensures reads { EventReads event.now context.now.known (OnErr result ⊥) outcome.new.refused (N.device board.old)
         (N.device board.new) }
     ensures same_reference { (N.device board.new).references ≡ (N.device board.old).references }
 {
-    let now = occasion.moment;
+    let now = context.moment;
     match event {
         Event::Tick { draw, .. } => tick(runs, now, *draw, board, outcome),
         Event::Hear { draw, frame, .. } => {
-            hear_numbered(occasion, runs, *frame, *draw, board, outcome)
+            hear_numbered(context, runs, *frame, *draw, board, outcome)
         }
-        Event::Last { from, draw, .. } => hear_last(occasion, runs, *from, *draw, board, outcome),
+        Event::Last { from, draw, .. } => hear_last(context, runs, *from, *draw, board, outcome),
         Event::Frame { draw, bytes, .. } => {
             let frame = bytes.as_slice();
             hear(runs, now, *draw, frame, board, outcome)
         }
-        Event::Reset { draw, .. } => reset_here(occasion, runs, *draw, board, outcome),
+        Event::Reset { draw, .. } => reset_here(context, runs, *draw, board, outcome),
         Event::Inject {
             image,
             version,
@@ -67,7 +67,7 @@ pub(crate) fn apply_event<N: Nor>(
                 image: *image,
                 version: *version,
             };
-            inject_known(occasion, runs, image_version, *draw, board, outcome)
+            inject_known(context, runs, image_version, *draw, board, outcome)
         }
         Event::Order {
             number,
@@ -80,7 +80,7 @@ pub(crate) fn apply_event<N: Nor>(
                 image: *image,
                 version: *version,
             };
-            order_known(occasion, runs, *number, ordered, *draw, board, outcome)
+            order_known(context, runs, *number, ordered, *draw, board, outcome)
         }
     }
 }

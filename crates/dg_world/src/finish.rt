@@ -11,7 +11,7 @@ ghost use Rattle.dg_rules.specs.Changes.{site_lines, final_lines};
 ghost use Rattle.dg_world.specs.Worlds.{IsWorld, SiteStands};
 ghost use Rattle.dg_world.specs.Counts.{NoneRose};
 ghost use Rattle.dg_world.specs.Applied.{SameBoards, ReadFlash};
-ghost use Rattle.dg_world.specs.Finished.{mote_report, kept_report, kept_reports};
+ghost use Rattle.dg_world.specs.inner.Finished.{mote_report, kept_report, kept_reports};
 
 use crate::chip_report::push_line;
 use crate::world::World;

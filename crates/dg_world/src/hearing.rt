@@ -7,13 +7,13 @@ ghost use Rattle.dg_rules.specs.Events.{Refuses, hear_by, heard_sent, heard_last
 ghost use Rattle.dg_rules.specs.Sizes.{most_motes};
 ghost use Rattle.dg_world.specs.Shareds.{IsShared};
 ghost use Rattle.dg_world.specs.Worlds.{SiteStands, MayRun};
-ghost use Rattle.dg_world.specs.OutcomeEndings.{LeavesChip, OutcomeEnds};
+ghost use Rattle.dg_world.specs.inner.OutcomeEndings.{LeavesChip, OutcomeEnds};
 ghost use Rattle.dg_node.specs.Hosts.{host};
 ghost use Rattle.dg_world.specs.Unseen.{RefusesUnseen};
-ghost use Rattle.dg_world.specs.Outcomes.{IsNothing, as_outcome};
-ghost use Rattle.dg_world.specs.Known.{SeesMote};
+ghost use Rattle.dg_world.specs.inner.Outcomes.{IsNothing, as_outcome};
+ghost use Rattle.dg_world.specs.inner.Sees.{SeesMote};
 
-use crate::occasion::Occasion;
+use crate::context::EventContext;
 use crate::outcome::{Fault, Outcome};
 use dg_frame::Message;
 use dg_mote::Heard;
@@ -120,24 +120,24 @@ pub(crate) fn hear_sent<N: Nor>(
 /// The frame with a number is heard, if it was sent, and by a neighbour.
 #[inline(never)]
 pub(crate) fn hear_numbered<N: Nor>(
-    occasion: &Occasion<'_>,
+    context: &EventContext<'_>,
     runs: &mut Option<Node>,
     number: u32,
     draw: u32,
     board: &mut N,
     outcome: &mut Outcome,
 ) -> Result<(), Fault>
-    requires mote { MayRun (N.device board.old).image occasion.now.moment runs.old }
+    requires mote { MayRun (N.device board.old).image context.now.moment runs.old }
     requires nothing { IsNothing outcome.old }
-    ensures ends { (w : RuleWorld) → IsShared occasion.now.shared.now w
-        → SiteStands (N.device board.old) runs.old (site w occasion.now.mote)
-        → OutcomeEnds (as_outcome result outcome.new) w occasion.now.mote
-        (unless_off (site w occasion.now.mote).runs (heard_sent w occasion.now.mote occasion.now.moment draw
+    ensures ends { (w : RuleWorld) → IsShared context.now.shared.now w
+        → SiteStands (N.device board.old) runs.old (site w context.now.mote)
+        → OutcomeEnds (as_outcome result outcome.new) w context.now.mote
+        (unless_off (site w context.now.mote).runs (heard_sent w context.now.mote context.now.moment draw
         (frame_at w number)))
         (host (N.device board.old) runs.old) (host (N.device board.new) runs.new) }
-    ensures unseen { (w : RuleWorld) → IsShared occasion.now.shared.now w
-        → SiteStands (N.device board.old) runs.old (site w occasion.now.mote)
-        → RefusesUnseen (unless_off (site w occasion.now.mote).runs (heard_sent w occasion.now.mote occasion.now.moment draw
+    ensures unseen { (w : RuleWorld) → IsShared context.now.shared.now w
+        → SiteStands (N.device board.old) runs.old (site w context.now.mote)
+        → RefusesUnseen (unless_off (site w context.now.mote).runs (heard_sent w context.now.mote context.now.moment draw
         (frame_at w number)))
         → (board.new ≡ board.old) × OnErr result ⊥ }
     ensures sees { OnOk result (SeesMote outcome.new runs.new (N.device board.old).image (N.device board.new).image) }
@@ -147,14 +147,14 @@ pub(crate) fn hear_numbered<N: Nor>(
         outcome.refused = Some(Cause::Off);
         return Ok(());
     }
-    match occasion.shared.air.get(number as usize) {
+    match context.shared.air.get(number as usize) {
         None => {
             outcome.refused = Some(Cause::Frame);
             Ok(())
         }
         Some(sent) => {
-            if occasion.shared.links.are_joined(sent.by, occasion.mote) {
-                hear_sent(runs, occasion.moment, draw, &sent.message, board, outcome)
+            if context.shared.links.are_joined(sent.by, context.mote) {
+                hear_sent(runs, context.moment, draw, &sent.message, board, outcome)
             } else {
                 outcome.refused = Some(Cause::Link);
                 Ok(())
@@ -166,7 +166,7 @@ pub(crate) fn hear_numbered<N: Nor>(
 /// The last frame of a mote is heard, if it is a neighbour, and sent one.
 #[inline(always)]
 pub(crate) fn hear_last<N: Nor>(
-    occasion: &Occasion<'_>,
+    context: &EventContext<'_>,
     runs: &mut Option<Node>,
     from: u8,
     draw: u32,
@@ -174,18 +174,18 @@ pub(crate) fn hear_last<N: Nor>(
     outcome: &mut Outcome,
 ) -> Result<(), Fault>
     requires sender { from < most_motes }
-    requires mote { MayRun (N.device board.old).image occasion.now.moment runs.old }
+    requires mote { MayRun (N.device board.old).image context.now.moment runs.old }
     requires nothing { IsNothing outcome.old }
-    ensures ends { (w : RuleWorld) → IsShared occasion.now.shared.now w
-        → SiteStands (N.device board.old) runs.old (site w occasion.now.mote)
-        → OutcomeEnds (as_outcome result outcome.new) w occasion.now.mote
-        (unless_off (site w occasion.now.mote).runs (if linked w from occasion.now.mote
-        then heard_last w from occasion.now.mote occasion.now.moment draw (last_frame w from) else Refuses Cause.Link))
+    ensures ends { (w : RuleWorld) → IsShared context.now.shared.now w
+        → SiteStands (N.device board.old) runs.old (site w context.now.mote)
+        → OutcomeEnds (as_outcome result outcome.new) w context.now.mote
+        (unless_off (site w context.now.mote).runs (if linked w from context.now.mote
+        then heard_last w from context.now.mote context.now.moment draw (last_frame w from) else Refuses Cause.Link))
         (host (N.device board.old) runs.old) (host (N.device board.new) runs.new) }
-    ensures unseen { (w : RuleWorld) → IsShared occasion.now.shared.now w
-        → SiteStands (N.device board.old) runs.old (site w occasion.now.mote)
-        → RefusesUnseen (unless_off (site w occasion.now.mote).runs (if linked w from occasion.now.mote
-        then heard_last w from occasion.now.mote occasion.now.moment draw (last_frame w from) else Refuses Cause.Link))
+    ensures unseen { (w : RuleWorld) → IsShared context.now.shared.now w
+        → SiteStands (N.device board.old) runs.old (site w context.now.mote)
+        → RefusesUnseen (unless_off (site w context.now.mote).runs (if linked w from context.now.mote
+        then heard_last w from context.now.mote context.now.moment draw (last_frame w from) else Refuses Cause.Link))
         → (board.new ≡ board.old) × OnErr result ⊥ }
     ensures sees { OnOk result (SeesMote outcome.new runs.new (N.device board.old).image (N.device board.new).image) }
     ensures same_reference { (N.device board.new).references ≡ (N.device board.old).references }
@@ -194,15 +194,15 @@ pub(crate) fn hear_last<N: Nor>(
         outcome.refused = Some(Cause::Off);
         return Ok(());
     }
-    if !occasion.shared.links.are_joined(from, occasion.mote) {
+    if !context.shared.links.are_joined(from, context.mote) {
         outcome.refused = Some(Cause::Link);
         return Ok(());
     }
-    match occasion.shared.air.last_of(from) {
+    match context.shared.air.last_of(from) {
         None => {
             outcome.refused = Some(Cause::Frame);
             Ok(())
         }
-        Some(sent) => hear_sent(runs, occasion.moment, draw, &sent.message, board, outcome),
+        Some(sent) => hear_sent(runs, context.moment, draw, &sent.message, board, outcome),
     }
 }

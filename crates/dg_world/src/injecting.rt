@@ -11,16 +11,16 @@ ghost use Rattle.dg_rules.specs.Events.{Refuses, reloaded, inject_cause, inject_
 ghost use Rattle.dg_world.specs.Images.{Declares, row_of_image};
 ghost use Rattle.dg_world.specs.Shareds.{IsShared};
 ghost use Rattle.dg_world.specs.Worlds.{MoteStands, SiteStands, MayRun};
-ghost use Rattle.dg_world.specs.OutcomeEndings.{OutcomeEnds};
+ghost use Rattle.dg_world.specs.inner.OutcomeEndings.{OutcomeEnds};
 ghost use Rattle.dg_node.specs.Hosts.{host};
 ghost use Rattle.dg_world.specs.Unseen.{RefusesUnseen};
-ghost use Rattle.dg_world.specs.Outcomes.{IsNothing, as_outcome, outcome_of};
-ghost use Rattle.dg_world.specs.Known.{SeesInjected, InjectReads};
+ghost use Rattle.dg_world.specs.inner.Outcomes.{IsNothing, as_outcome, outcome_of};
+ghost use Rattle.dg_world.specs.inner.Sees.{SeesInjected, InjectReads};
 ghost use Rattle.dg_node.specs.Known.{IsKnownChip, SeesOrder};
 
-use crate::acting::{act_fault, tell_injected};
+use crate::act_outcomes::{act_fault, note_injected};
+use crate::context::EventContext;
 use crate::images::Image;
-use crate::occasion::Occasion;
 use crate::outcome::{Fault, Outcome};
 use dg_frame::NARROW_IMAGES;
 use dg_node::{ImageBytes, Node};
@@ -29,7 +29,7 @@ use dg_rules::{Cause, ImageVersion};
 
 /// Injects an image.
 fn inject_image<N: Nor>(
-    occasion: &Occasion<'_>,
+    context: &EventContext<'_>,
     runs: &mut Option<Node>,
     image_version: ImageVersion,
     image: &Image,
@@ -39,15 +39,15 @@ fn inject_image<N: Nor>(
 ) -> Result<(), Fault>
     requires known_image { image_version.image < images }
     requires some_version { 1 ≤ image_version.version }
-    requires mote { MayRun (N.device board.old).image occasion.now.moment runs.old }
-    requires known_chip { IsTrue occasion.now.known → IsKnownChip (N.device board.old).image }
+    requires mote { MayRun (N.device board.old).image context.now.moment runs.old }
+    requires known_chip { IsTrue context.now.known → IsKnownChip (N.device board.old).image }
     requires nothing { IsNothing outcome.old }
     ensures ends { (w : RuleWorld) (m : ℕ) → SiteStands (N.device board.old) runs.old (site w m)
         → OutcomeEnds (as_outcome result outcome.new) w m
-        (inject_row w m (Some (row_of_image image_version image.now)) occasion.now.moment draw)
+        (inject_row w m (Some (row_of_image image_version image.now)) context.now.moment draw)
         (host (N.device board.old) runs.old) (host (N.device board.new) runs.new) }
     ensures sees { OnOk result (IsSomeAnd outcome.new.orderly (λ orderly. SeesOrder orderly (N.device board.new).image)) }
-    ensures reads { OnOk result (InjectReads occasion.now.known outcome.new.refused (N.device board.old) (N.device board.new)) }
+    ensures reads { OnOk result (InjectReads context.now.known outcome.new.refused (N.device board.old) (N.device board.new)) }
     ensures same_reference { (N.device board.new).references ≡ (N.device board.old).references }
 {
     let bytes = ImageBytes {
@@ -55,9 +55,9 @@ fn inject_image<N: Nor>(
         name: image.name.as_slice(),
         bytes: image.content.as_slice(),
     };
-    match Node::inject(runs, board, occasion.known, &bytes, occasion.moment, draw) {
+    match Node::inject(runs, board, context.known, &bytes, context.moment, draw) {
         Ok(injected) => {
-            tell_injected(injected, bytes.bytes.len(), outcome);
+            note_injected(injected, bytes.bytes.len(), outcome);
             Ok(())
         }
         Err(fault) => Err(act_fault(fault, outcome)),
@@ -66,7 +66,7 @@ fn inject_image<N: Nor>(
 
 /// Injects this version of an image, if it was declared.
 fn inject<N: Nor>(
-    occasion: &Occasion<'_>,
+    context: &EventContext<'_>,
     runs: &mut Option<Node>,
     image_version: ImageVersion,
     draw: u32,
@@ -75,35 +75,35 @@ fn inject<N: Nor>(
 ) -> Result<(), Fault>
     requires known_image { image_version.image < images }
     requires some_version { 1 ≤ image_version.version }
-    requires mote { MayRun (N.device board.old).image occasion.now.moment runs.old }
-    requires known_chip { IsTrue occasion.now.known → IsKnownChip (N.device board.old).image }
+    requires mote { MayRun (N.device board.old).image context.now.moment runs.old }
+    requires known_chip { IsTrue context.now.known → IsKnownChip (N.device board.old).image }
     requires nothing { IsNothing outcome.old }
-    ensures ends { (w : RuleWorld) (m : ℕ) → Declares occasion.now.shared.now.images w.declared
+    ensures ends { (w : RuleWorld) (m : ℕ) → Declares context.now.shared.now.images w.declared
         → SiteStands (N.device board.old) runs.old (site w m)
         → OutcomeEnds (as_outcome result outcome.new) w m
         (if image_version.image == 0 then Refuses Cause.Reserved else inject_row w m
-        (row_at w.declared image_version.image image_version.version) occasion.now.moment draw)
+        (row_at w.declared image_version.image image_version.version) context.now.moment draw)
         (host (N.device board.old) runs.old) (host (N.device board.new) runs.new) }
-    ensures unseen { (w : RuleWorld) (m : ℕ) → Declares occasion.now.shared.now.images w.declared
+    ensures unseen { (w : RuleWorld) (m : ℕ) → Declares context.now.shared.now.images w.declared
         → RefusesUnseen
         (if image_version.image == 0 then Refuses Cause.Reserved else inject_row w m
-        (row_at w.declared image_version.image image_version.version) occasion.now.moment draw)
+        (row_at w.declared image_version.image image_version.version) context.now.moment draw)
         → (board.new ≡ board.old) × OnErr result ⊥ }
     ensures sees { OnOk result (SeesInjected outcome.new.orderly (outcome_of outcome.new) (N.device board.old).image
         (N.device board.new).image) }
-    ensures reads { OnOk result (InjectReads occasion.now.known outcome.new.refused (N.device board.old) (N.device board.new)) }
+    ensures reads { OnOk result (InjectReads context.now.known outcome.new.refused (N.device board.old) (N.device board.new)) }
     ensures same_reference { (N.device board.new).references ≡ (N.device board.old).references }
 {
     if image_version.image == 0 {
         outcome.refused = Some(Cause::Reserved);
         return Ok(());
     }
-    match occasion.shared.images.get(image_version) {
+    match context.shared.images.get(image_version) {
         None => {
             outcome.refused = Some(Cause::Image);
             Ok(())
         }
-        Some(image) => inject_image(occasion, runs, image_version, image, draw, board, outcome),
+        Some(image) => inject_image(context, runs, image_version, image, draw, board, outcome),
     }
 }
 
@@ -117,7 +117,7 @@ pub(crate) fn knows(wide: bool, image: u8) -> bool
 /// Injects this version of an image, if the mote knows the image and it was declared.
 #[inline(never)]
 pub(crate) fn inject_known<N: Nor>(
-    occasion: &Occasion<'_>,
+    context: &EventContext<'_>,
     runs: &mut Option<Node>,
     image_version: ImageVersion,
     draw: u32,
@@ -126,29 +126,29 @@ pub(crate) fn inject_known<N: Nor>(
 ) -> Result<(), Fault>
     requires known_image { image_version.image < images }
     requires some_version { 1 ≤ image_version.version }
-    requires mote { MayRun (N.device board.old).image occasion.now.moment runs.old }
-    requires known_chip { IsTrue occasion.now.known → IsKnownChip (N.device board.old).image }
+    requires mote { MayRun (N.device board.old).image context.now.moment runs.old }
+    requires known_chip { IsTrue context.now.known → IsKnownChip (N.device board.old).image }
     requires nothing { IsNothing outcome.old }
-    ensures ends { (w : RuleWorld) → IsShared occasion.now.shared.now w
-        → SiteStands (N.device board.old) runs.old (site w occasion.now.mote)
-        → OutcomeEnds (as_outcome result outcome.new) w occasion.now.mote
-        (if knows (wide_at w occasion.now.mote) image_version.image
-        then injects w occasion.now.mote image_version.image image_version.version occasion.now.moment draw
+    ensures ends { (w : RuleWorld) → IsShared context.now.shared.now w
+        → SiteStands (N.device board.old) runs.old (site w context.now.mote)
+        → OutcomeEnds (as_outcome result outcome.new) w context.now.mote
+        (if knows (wide_at w context.now.mote) image_version.image
+        then injects w context.now.mote image_version.image image_version.version context.now.moment draw
         else Refuses Cause.Image)
         (host (N.device board.old) runs.old) (host (N.device board.new) runs.new) }
-    ensures unseen { (w : RuleWorld) → IsShared occasion.now.shared.now w
-        → RefusesUnseen (if knows (wide_at w occasion.now.mote) image_version.image
-        then injects w occasion.now.mote image_version.image image_version.version occasion.now.moment draw
+    ensures unseen { (w : RuleWorld) → IsShared context.now.shared.now w
+        → RefusesUnseen (if knows (wide_at w context.now.mote) image_version.image
+        then injects w context.now.mote image_version.image image_version.version context.now.moment draw
         else Refuses Cause.Image)
         → (board.new ≡ board.old) × OnErr result ⊥ }
     ensures sees { OnOk result (SeesInjected outcome.new.orderly (outcome_of outcome.new) (N.device board.old).image
         (N.device board.new).image) }
-    ensures reads { OnOk result (InjectReads occasion.now.known outcome.new.refused (N.device board.old) (N.device board.new)) }
+    ensures reads { OnOk result (InjectReads context.now.known outcome.new.refused (N.device board.old) (N.device board.new)) }
     ensures same_reference { (N.device board.new).references ≡ (N.device board.old).references }
 {
-    if !knows(occasion.shared.is_wide(occasion.mote), image_version.image) {
+    if !knows(context.shared.is_wide(context.mote), image_version.image) {
         outcome.refused = Some(Cause::Image);
         return Ok(());
     }
-    inject(occasion, runs, image_version, draw, board, outcome)
+    inject(context, runs, image_version, draw, board, outcome)
 }

@@ -1,11 +1,12 @@
 //! The world of motes over their boards: how it begins, what is declared, its steps, and its last state.
 #![tactic(auto)]
 
-mod acting;
+mod act_outcomes;
 mod air;
 mod alone;
 mod apply;
 mod chip_report;
+mod context;
 mod cutting;
 mod declare;
 mod dispatch;
@@ -15,10 +16,9 @@ mod format;
 mod hearing;
 mod images;
 mod injecting;
-mod knowing;
+mod known_boards;
 mod links;
 mod mount;
-mod occasion;
 mod ordering;
 mod outcome;
 mod sending;

@@ -1,7 +1,7 @@
 //! What comes of an event at a mote.
 ghost use Rattle.std.specs.Prelude.{◌≡◌, None};
 ghost use Rattle.dg_mote.specs.Motes.{sent_in};
-ghost use Rattle.dg_world.specs.Outcomes.{IsNothing};
+ghost use Rattle.dg_world.specs.inner.Outcomes.{IsNothing};
 
 use dg_boot::BootFault;
 use dg_mote::Outbox;
@@ -84,7 +84,7 @@ pub enum Fault {
 
 impl From<BootFault> for Fault {
     ghost use Rattle.std.specs.Prelude.{◌≡◌};
-    ghost use Rattle.dg_world.specs.Faults.{fault_of_start};
+    ghost use Rattle.dg_world.specs.inner.Faults.{fault_of_start};
 
     ghost from_gives = { λ fault e. e ≡ fault_of_start fault };
 
@@ -99,7 +99,7 @@ impl From<BootFault> for Fault {
 
 impl From<MountFault> for Fault {
     ghost use Rattle.std.specs.Prelude.{◌≡◌};
-    ghost use Rattle.dg_world.specs.Faults.{fault_of_mount};
+    ghost use Rattle.dg_world.specs.inner.Faults.{fault_of_mount};
 
     ghost from_gives = { λ fault e. e ≡ fault_of_mount fault };
 
@@ -113,7 +113,7 @@ impl From<MountFault> for Fault {
 
 impl From<TickFault> for Fault {
     ghost use Rattle.std.specs.Prelude.{◌≡◌};
-    ghost use Rattle.dg_world.specs.Faults.{fault_of_tick};
+    ghost use Rattle.dg_world.specs.inner.Faults.{fault_of_tick};
 
     ghost from_gives = { λ fault e. e ≡ fault_of_tick fault };
 

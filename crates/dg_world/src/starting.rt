@@ -5,13 +5,13 @@ ghost use Rattle.dg_mote.specs.Effects.{reset_effect};
 ghost use Rattle.dg_rules.specs.World.{World as RuleWorld, store_at, wide_at};
 ghost use Rattle.dg_rules.specs.Events.{of_effect};
 ghost use Rattle.dg_world.specs.Shareds.{IsShared};
-ghost use Rattle.dg_world.specs.OutcomeEndings.{OutcomeEnds};
+ghost use Rattle.dg_world.specs.inner.OutcomeEndings.{OutcomeEnds};
 ghost use Rattle.dg_node.specs.Hosts.{host};
 ghost use Rattle.dg_world.specs.Alone.{Powers};
-ghost use Rattle.dg_world.specs.Outcomes.{IsNothing, as_outcome};
-ghost use Rattle.dg_world.specs.Known.{SeesStart};
+ghost use Rattle.dg_world.specs.inner.Outcomes.{IsNothing, as_outcome};
+ghost use Rattle.dg_world.specs.inner.Sees.{SeesStart};
 
-use crate::occasion::Occasion;
+use crate::context::EventContext;
 use crate::outcome::{Fault, Outcome};
 use dg_node::{At, Node};
 use dg_nor::Nor;
@@ -50,28 +50,28 @@ pub(crate) fn reset<N: Nor>(
 /// The board of the mote starts by power, where the event is applied.
 #[inline(never)]
 pub(crate) fn reset_here<N: Nor>(
-    occasion: &Occasion<'_>,
+    context: &EventContext<'_>,
     runs: &mut Option<Node>,
     draw: u32,
     board: &mut N,
     outcome: &mut Outcome,
 ) -> Result<(), Fault>
     requires nothing { IsNothing outcome.old }
-    ensures ends { (w : RuleWorld) → IsShared occasion.now.shared.now w
-        → Stands (N.device board.old).image (store_at w occasion.now.mote)
-        → OutcomeEnds (as_outcome result outcome.new) w occasion.now.mote (of_effect w
-        (reset_effect (store_at w occasion.now.mote) occasion.now.mote
-        (wide_at w occasion.now.mote) occasion.now.moment draw) None)
+    ensures ends { (w : RuleWorld) → IsShared context.now.shared.now w
+        → Stands (N.device board.old).image (store_at w context.now.mote)
+        → OutcomeEnds (as_outcome result outcome.new) w context.now.mote (of_effect w
+        (reset_effect (store_at w context.now.mote) context.now.mote
+        (wide_at w context.now.mote) context.now.moment draw) None)
         (host (N.device board.old) runs.old) (host (N.device board.new) runs.new) }
     ensures sees { OnOk result (SeesStart outcome.new runs.new) }
     ensures same_reference { (N.device board.new).references ≡ (N.device board.old).references }
 {
-    let wide = occasion.shared.is_wide(occasion.mote);
+    let wide = context.shared.is_wide(context.mote);
     reset(
         runs,
-        u16::from(occasion.mote),
+        u16::from(context.mote),
         wide,
-        occasion.moment,
+        context.moment,
         draw,
         board,
         outcome,

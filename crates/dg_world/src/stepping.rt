@@ -13,18 +13,21 @@ ghost use Rattle.dg_rules.specs.Sizes.{most_motes};
 ghost use Rattle.dg_rules.specs.World.{World as RuleWorld};
 ghost use Rattle.dg_rules.specs.Changes.{sent_line, is_reported};
 ghost use Rattle.dg_script.specs.Ranges.{StepInRange};
-ghost use Rattle.dg_world.specs.Occasions.{step_of, MayApply};
-ghost use Rattle.dg_world.specs.EventOutcomes.{Refused, Starts};
-ghost use Rattle.dg_world.specs.OutcomeEndings.{outcome_lines, frame_lines};
-ghost use Rattle.dg_world.specs.Outcomes.{IsNothing, outcome_of};
-ghost use Rattle.dg_world.specs.Stepped.{CutChangesAre, CutReported, CutRead, StepDid, station};
-ghost use Rattle.dg_world.specs.Known.{IsOrder, MakesKnown, SeesCut};
+ghost use Rattle.dg_world.specs.Applying.{step_of};
+ghost use Rattle.dg_world.specs.inner.Contexts.{MayApply};
+ghost use Rattle.dg_world.specs.inner.EventOutcomes.{Refused, Starts};
+ghost use Rattle.dg_world.specs.inner.OutcomeEndings.{outcome_lines, frame_lines};
+ghost use Rattle.dg_world.specs.inner.Outcomes.{IsNothing, outcome_of};
+ghost use Rattle.dg_world.specs.inner.Steps.{CutChangesAre, CutReported, CutRead, StepDid};
+ghost use Rattle.dg_world.specs.Stepped.{station};
+ghost use Rattle.dg_world.specs.Known.{IsOrder, MakesKnown};
+ghost use Rattle.dg_world.specs.inner.Sees.{SeesCut};
 ghost use Rattle.dg_node.specs.Known.{IsKnownChip, SeesOrder};
 
 use crate::chip_report::{MOST_CHANGES, push_changes, push_line};
+use crate::context::EventContext;
 use crate::cutting::play_cut;
 use crate::dispatch::apply_event;
-use crate::occasion::Occasion;
 use crate::outcome::{Fault, Outcome, Power};
 use dg_frame::{Message, is_read_back};
 use dg_mote::Outbox;
@@ -141,7 +144,7 @@ fn push_start(mote: u8, line: StartedImage, out: &mut Vec<Report>)
 }
 
 /// Whether an event looks at its chip by itself.
-fn is_look(event: &Event) -> bool
+fn mounts_board(event: &Event) -> bool
     ensures { (w : RuleWorld) → result ≡ false → MakesKnown w event.now → ⊥ }
 {
     match event {
@@ -225,7 +228,7 @@ fn look_after_cut<N: Nor>(
     ensures capacity { vec_capacity out.new ≡ vec_capacity out.old }
     ensures few { vec_len out.new ≤ vec_len out.old + MOST_CHANGES }
 {
-    if before.is_none() && !known && !is_look(event) {
+    if before.is_none() && !known && !mounts_board(event) {
         return Ok(None);
     }
     let again = is_kept_known(known, event);
@@ -237,7 +240,7 @@ fn look_after_cut<N: Nor>(
 /// reported.
 #[inline(never)]
 fn step_cut<N: Nor>(
-    occasion: &Occasion<'_>,
+    context: &EventContext<'_>,
     runs: &mut Option<Node>,
     event: &Event,
     cut: &Cut,
@@ -247,17 +250,17 @@ fn step_cut<N: Nor>(
 ) -> Result<(), Fault>
     requires capacity { vec_len out.old + MOST_LINES ≤ vec_capacity out.old }
     requires fits { (motes : ℕ) × StepInRange motes (step_of event.now (Some cut.now)) × (motes ≤ most_motes) }
-    requires may { MayApply occasion.now event.now (N.device board.old) runs.old }
+    requires may { MayApply context.now event.now (N.device board.old) runs.old }
     requires nothing { IsNothing outcome.old }
-    ensures { StepDid result occasion.now (step_of event.now (Some cut.now)) outcome.new
+    ensures { StepDid result context.now (step_of event.now (Some cut.now)) outcome.new
         (station (N.device board.old) runs.old out.old.items) (station (N.device board.new) runs.new out.new.items) }
 {
-    let mote = occasion.mote;
-    match play_cut(occasion, runs, event, cut, board, outcome)? {
-        Power::Stays => push_outcome(mote, outcome, occasion.reported, out),
+    let mote = context.mote;
+    match play_cut(context, runs, event, cut, board, outcome)? {
+        Power::Stays => push_outcome(mote, outcome, context.reported, out),
         Power::Cut => {
             a_volume_bounds_a_remount();
-            let orderly = look_after_cut(mote, event, &outcome.before, occasion.known, board, out)?;
+            let orderly = look_after_cut(mote, event, &outcome.before, context.known, board, out)?;
             outcome.orderly = orderly;
             out.push_reserved(Report::Off { mote });
             *runs = None;
@@ -271,7 +274,7 @@ fn step_cut<N: Nor>(
 /// reported.
 #[inline(always)]
 pub(crate) fn step_at<N: Nor>(
-    occasion: &Occasion<'_>,
+    context: &EventContext<'_>,
     runs: &mut Option<Node>,
     event: &Event,
     cut: Option<&Cut>,
@@ -281,17 +284,17 @@ pub(crate) fn step_at<N: Nor>(
 ) -> Result<(), Fault>
     requires capacity { vec_len out.old + MOST_LINES ≤ vec_capacity out.old }
     requires fits { (motes : ℕ) × StepInRange motes (step_of event.now (option_copied cut)) × (motes ≤ most_motes) }
-    requires may { MayApply occasion.now event.now (N.device board.old) runs.old }
+    requires may { MayApply context.now event.now (N.device board.old) runs.old }
     requires nothing { IsNothing outcome.old }
-    ensures { StepDid result occasion.now (step_of event.now (option_copied cut.entry)) outcome.new
+    ensures { StepDid result context.now (step_of event.now (option_copied cut.entry)) outcome.new
         (station (N.device board.old) runs.old out.old.items) (station (N.device board.new) runs.new out.new.items) }
 {
     match cut {
         None => {
-            apply_event(occasion, runs, event, board, outcome)?;
-            push_outcome(occasion.mote, outcome, occasion.reported, out);
+            apply_event(context, runs, event, board, outcome)?;
+            push_outcome(context.mote, outcome, context.reported, out);
             Ok(())
         }
-        Some(cut) => step_cut(occasion, runs, event, cut, board, outcome, out),
+        Some(cut) => step_cut(context, runs, event, cut, board, outcome, out),
     }
 }

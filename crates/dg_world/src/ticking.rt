@@ -5,11 +5,11 @@ ghost use Rattle.dg_mote.specs.Effects.{tick_effect};
 ghost use Rattle.dg_rules.specs.World.{World as RuleWorld, Running, site, store_at};
 ghost use Rattle.dg_rules.specs.Events.{of_effect, tick_does};
 ghost use Rattle.dg_world.specs.Worlds.{MoteStands, SiteStands, IsTimelyMote, MayRun};
-ghost use Rattle.dg_world.specs.OutcomeEndings.{OutcomeEnds};
+ghost use Rattle.dg_world.specs.inner.OutcomeEndings.{OutcomeEnds};
 ghost use Rattle.dg_node.specs.Hosts.{host};
 ghost use Rattle.dg_world.specs.Unseen.{RefusesUnseen};
-ghost use Rattle.dg_world.specs.Outcomes.{IsNothing, as_outcome};
-ghost use Rattle.dg_world.specs.Known.{SeesMote};
+ghost use Rattle.dg_world.specs.inner.Outcomes.{IsNothing, as_outcome};
+ghost use Rattle.dg_world.specs.inner.Sees.{SeesMote};
 
 use crate::outcome::{Fault, Outcome};
 use dg_frame::one_reading;

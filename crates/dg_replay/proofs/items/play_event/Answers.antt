@@ -1,5 +1,5 @@
 use Rattle.std.proofs.Common.{Err, option_copied, ap, refl, inl, inr}
-use Rattle.dg_world.specs.Occasions.{step_of}
+use Rattle.dg_world.specs.Applying.{step_of}
 use Rattle.dg_replay.proofs.ItemStepLemmas.{told_as, goes_on, not_full, applied_goes, nothing_applied, not_applied, stopped_in, ended_in}
 use Rattle.dg_replay.proofs.items.play_event.Goals as goal
 

@@ -1,6 +1,6 @@
 use Rattle.std.proofs.Common.{ℕ, List, ap, sym, ◌∙◌, subst, Ok}
 use Rattle.dg_base.specs.Outside.{Takes}
-use Rattle.dg_serial_base.specs.Standing.{LastEnds, ReadCounts}
+use Rattle.dg_serial_base.specs.inner.Standing.{LastEnds, ReadCounts}
 use Rattle.dg_serial_base.proofs.ResultLemmas.{handed}
 use Rattle.dg_serial_base.proofs.InputLemmas.{none_of_length, one_of, last_unread}
 use Rattle.dg_serial_base.proofs.reading.expect_end.Goals as goal

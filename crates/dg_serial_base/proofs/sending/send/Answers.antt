@@ -2,7 +2,7 @@ use Rattle.std.proofs.Common.{◌≤◌, ℕ, List, [], ◌∷◌, length, ap, s
 use Rattle.std.specs.Prelude.{Option, IfSome}
 use Rattle.dg_base.specs.Outside.{Puts}
 use Rattle.dg_serial.specs.Line.{stuffed, line_of}
-use Rattle.dg_serial_base.specs.Standing.{SendEnds, one_if}
+use Rattle.dg_serial_base.specs.inner.Standing.{SendEnds, one_if}
 use Rattle.dg_serial_base.proofs.WriteLemmas.{puts_nothing}
 use Rattle.dg_serial_base.proofs.sending.send.Goals as goal
 

@@ -1,6 +1,6 @@
 use Rattle.std.proofs.Common.{refl}
 use Rattle.dg_serial.specs.Line.{stuffed}
-use Rattle.dg_serial_base.specs.Standing.{SendEnds, WriteCounts}
+use Rattle.dg_serial_base.specs.inner.Standing.{SendEnds, WriteCounts}
 use Rattle.dg_serial_base.proofs.ResultLemmas.{handed_memory}
 use Rattle.dg_serial_base.proofs.sending.write_frame.Goals as goal
 

@@ -1,7 +1,7 @@
 use Rattle.std.proofs.Common.{Option, List, ◌∷◌, [], map, refl, sym, ap, subst, ◌∙◌, arith}
 use Rattle.dg_base.specs.declared.events.Cut.{Cut as PowerCut}
 use Rattle.dg_seed.specs.Draws.{generator_of}
-use Rattle.dg_world.specs.Occasions.{step_of}
+use Rattle.dg_world.specs.Applying.{step_of}
 use Rattle.dg_trial.specs.Schedule.{Part, only, disturbance}
 use Rattle.dg_trial.specs.Playing.{MayPlayOver, PartsPlay}
 use Rattle.dg_trial.proofs.ScheduleLemmas.{one_disturbance}

@@ -1,5 +1,5 @@
 use Rattle.std.proofs.Common.{Err, option_copied, ap, inr, ◌∷◌, []}
-use Rattle.dg_world.specs.Occasions.{step_of}
+use Rattle.dg_world.specs.Applying.{step_of}
 use Rattle.dg_trial.proofs.PartLemmas.{applied_played, nothing_played, stopped_in, may_apply, not_lacking}
 use Rattle.dg_trial.proofs.playing.play_step.Goals as goal
 

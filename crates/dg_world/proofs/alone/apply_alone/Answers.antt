@@ -2,7 +2,7 @@ use Rattle.std.proofs.Common.{sym, subst}
 use Rattle.dg_rules.specs.World.{site, store_at}
 use Rattle.dg_rules.specs.Events.{hear_by}
 use Rattle.dg_world.specs.Alone.{IsReset}
-use Rattle.dg_world.specs.Outcomes.{as_outcome}
+use Rattle.dg_world.specs.inner.Outcomes.{as_outcome}
 use Rattle.dg_world.proofs.DispatchLemmas.{ends_at}
 use Rattle.dg_world.proofs.AloneLemmas.{AppliesAlone, alone_ticks, alone_hears, alone_starts}
 use Rattle.dg_world.proofs.alone.apply_alone.Goals as goal

@@ -1,7 +1,7 @@
 use Rattle.std.proofs.Common.{List, ◌++◌, ap, sym, ◌∙◌, arith}
 use Rattle.std.specs.Prelude.{option_to_list}
 use Rattle.dg_script.specs.declared.report.Report.{Report}
-use Rattle.dg_world.specs.ChipReports.{have_lines}
+use Rattle.dg_world.specs.inner.ChipReports.{have_lines}
 use Rattle.dg_world.proofs.ChipReportLemmas.{haves_more, told_then}
 use Rattle.dg_world.proofs.chip_report.push_haves.Goals as goal
 

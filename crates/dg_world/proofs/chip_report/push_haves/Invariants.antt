@@ -1,6 +1,6 @@
 use Rattle.std.proofs.Common.{◌≡◌, ◌+◌, ◌≤◌, ◌++◌, vec_len}
 use Rattle.std.specs.Vec.{vec_capacity}
-use Rattle.dg_world.specs.ChipReports.{have_lines}
+use Rattle.dg_world.specs.inner.ChipReports.{have_lines}
 use Rattle.dg_world.proofs.chip_report.push_haves.Given as goal
 
 abbrev pub invariant-loop-image : goal.invariant-loop-image

@@ -8,13 +8,13 @@ use Rattle.dg_rules.specs.World.{Site, site}
 use Rattle.dg_rules.specs.Events.{does, mote_of}
 use Rattle.dg_world.specs.Worlds.{MoteStands, SiteStands, MayRun}
 use Rattle.dg_node.specs.declared.node.Node.{Node}
-use Rattle.dg_world.specs.Cuts.{ended, EventPlayed}
+use Rattle.dg_world.specs.inner.CutEnds.{ended, EventPlayed}
 use Rattle.dg_node.specs.Hosts.{host}
-use Rattle.dg_world.specs.Outcomes.{as_outcome, ended_as}
+use Rattle.dg_world.specs.inner.Outcomes.{as_outcome, ended_as}
 use Rattle.dg_world.proofs.CutLemmas.{is_fused, fused, played_as}
 use Rattle.dg_world.proofs.UnseenLemmas.{ended_on}
 use Rattle.std.proofs.Common.{Ok}
-use Rattle.dg_world.specs.Known.{EventSees, EventReads}
+use Rattle.dg_world.specs.inner.Sees.{EventSees, EventReads}
 use Rattle.dg_node.specs.Known.{IsKnownChip}
 use Rattle.dg_world.specs.declared.outcome.Power.TheVariants as power
 use Rattle.dg_world.proofs.KnownLemmas.{reads_over, stays_done, when_ok}
@@ -30,7 +30,7 @@ begun a d v x same stands = record {
 pub apply_event-done-requires-clause-may : goal.apply_event-done-requires-clause-may
 apply_event-done-requires-clause-may g c =
     let made = ap (λ (d : Device). d.image) c.fuse_of-fused.ensures.device in
-    let o = c.args.occasion.now in
+    let o = c.args.context.now in
     let may = c.requires.may in
     record {
       here = may.here;
@@ -77,9 +77,9 @@ returns-clause-reads g c =
     let name = sym (same_reference device c.fuse_of-fused.result c.apply_event-done.new.board c.apply_event-done.ensures.same_reference ∙ c.fuse_of-fused.ensures.same_reference) in
     let last = c.board-1.given.1 name in
     let y = c.apply_event-done.new.board in
-    let P : g.row.N.Denot → Type 0 = λ x. EventReads c.args.event.now c.args.occasion.now.known (c.end_outcome.result ≡ Ok power.Stays) t.refused (device c.args.board.now) (device x) in
+    let P : g.row.N.Denot → Type 0 = λ x. EventReads c.args.event.now c.args.context.now.known (c.end_outcome.result ≡ Ok power.Stays) t.refused (device c.args.board.now) (device x) in
     subst P (sym last)
-    (reads_over c.args.event.now c.args.occasion.now.known _ (c.end_outcome.result ≡ Ok power.Stays) t.refused _ (fused_device device y) (device c.args.board.now) (device (inner_of y)) (λ is. stays_done c.end_outcome.result c.apply_event-done.result _ t (c.end_outcome.ensures t) is)
+    (reads_over c.args.event.now c.args.context.now.known _ (c.end_outcome.result ≡ Ok power.Stays) t.refused _ (fused_device device y) (device c.args.board.now) (device (inner_of y)) (λ is. stays_done c.end_outcome.result c.apply_event-done.result _ t (c.end_outcome.ensures t) is)
     (ap (λ (d : Device). d.image) made) refl (ap (λ (d : Device). d.taken) made) refl c.apply_event-done.ensures.reads)
 
 pub returns-clause-sees : goal.returns-clause-sees

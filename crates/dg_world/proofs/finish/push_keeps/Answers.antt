@@ -2,7 +2,7 @@ use Rattle.std.proofs.Common.{◌≡◌, ℕ, List, ◌-◌, ◌++◌, ap, sym, 
 use Rattle.std.specs.Prelude.{option_to_list}
 use Rattle.dg_volume.specs.Sizes.{images}
 use Rattle.dg_script.specs.declared.report.Report.{Report}
-use Rattle.dg_world.specs.Finished.{kept_reports}
+use Rattle.dg_world.specs.inner.Finished.{kept_reports}
 use Rattle.dg_world.proofs.ChipReportLemmas.{told_then}
 use Rattle.dg_world.proofs.FinishLemmas.{keeps_with}
 use Rattle.dg_world.proofs.finish.push_keeps.Goals as goal

@@ -1,6 +1,6 @@
 use Rattle.std.proofs.Common.{◌≡◌, ◌+◌, ◌-◌, ◌≤◌, ◌++◌, vec_len}
 use Rattle.std.specs.Vec.{vec_capacity}
-use Rattle.dg_world.specs.Finished.{kept_reports}
+use Rattle.dg_world.specs.inner.Finished.{kept_reports}
 use Rattle.dg_world.proofs.finish.push_keeps.Given as goal
 
 abbrev pub invariant-loop-image : goal.invariant-loop-image

@@ -1,7 +1,7 @@
 use Rattle.std.proofs.Common.{◌∷◌, ◌-◌, ap, ◌∙◌, Err}
 use Rattle.dg_volume.specs.Sizes.{images}
 use Rattle.dg_script.specs.declared.report.Report.{Report}
-use Rattle.dg_world.specs.Finished.{kept_reports}
+use Rattle.dg_world.specs.inner.Finished.{kept_reports}
 use Rattle.dg_world.proofs.FinishLemmas.{site_told, told_behind}
 use Rattle.dg_world.proofs.finish.push_site.Goals as goal
 

@@ -4,13 +4,13 @@ use Rattle.dg_volume.specs.Stands.{Tells}
 use Rattle.dg_rules.specs.World.{site, store_at}
 use Rattle.dg_rules.specs.Events.{hear_by}
 use Rattle.dg_frame.specs.Spelling.{frame_of}
-use Rattle.dg_world.specs.EventOutcomes.{Unreported, Changes, Stopped}
+use Rattle.dg_world.specs.inner.EventOutcomes.{Unreported, Changes, Stopped}
 use Rattle.dg_node.specs.declared.node.Node.{Node}
 use Rattle.dg_world.proofs.OutcomeLemmas.{told_as, is_refused, is_begun, is_changed}
 use Rattle.dg_world.proofs.TickLemmas.{off_as, on_as, node_changes, node_rests, node_stopped_with, node_tells, hear_same}
 use Rattle.dg_mote.specs.Effects.{frame_effect}
 use Rattle.dg_world.specs.Worlds.{MayRun}
-use Rattle.dg_world.specs.OutcomeEndings.{LeavesChip}
+use Rattle.dg_world.specs.inner.OutcomeEndings.{LeavesChip}
 use Rattle.dg_world.proofs.UnseenLemmas.{on_unseen}
 use Rattle.dg_world.proofs.hearing.hear_sent.Goals as goal
 

@@ -5,7 +5,7 @@ use Rattle.dg_rules.specs.Events.{of_effect}
 use Rattle.dg_mote.specs.Effects.{reset_effect}
 use Rattle.dg_node.specs.Ends.{NodeDone, power_end}
 use Rattle.dg_node.specs.Hosts.{host}
-use Rattle.dg_world.specs.Faults.{fault_of_start}
+use Rattle.dg_world.specs.inner.Faults.{fault_of_start}
 use Rattle.dg_world.proofs.AloneLemmas.{powers_on}
 use Rattle.dg_world.proofs.OutcomeLemmas.{as_outcome_err, told_as, is_started}
 use Rattle.dg_world.proofs.TickLemmas.{reset_same, node_begins, power_halts, power_references, powers_of}

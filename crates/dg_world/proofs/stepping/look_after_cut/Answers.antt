@@ -4,8 +4,8 @@ use Rattle.dg_world.proofs.StepLemmas.{unread_told, as_failed}
 use Rattle.std.proofs.Common.{true, None, Option, Bool}
 use Rattle.dg_world.proofs.stepping.look_after_cut.Goals as goal
 
-pub returns-then-not-is_look-clause-reported : goal.returns-then-not-is_look-clause-reported
-returns-then-not-is_look-clause-reported g c = λ s stands.
+pub returns-then-not-mounts_board-clause-reported : goal.returns-then-not-mounts_board-clause-reported
+returns-then-not-mounts_board-clause-reported g c = λ s stands.
     let none : Option Bool = None in
     unread_told none c.args.mote c.args.before.now s _ c.args.out.now.items (no_value c.args.before.now (none_told c.args.before.now c.is_none.result true c.is_none.ensures c.if-is_none.true))
 

@@ -1,4 +1,4 @@
-use Rattle.dg_world.specs.Faults.{fault_of_mount}
+use Rattle.dg_world.specs.inner.Faults.{fault_of_mount}
 use Rattle.dg_world.proofs.StepLemmas.{read_told, reading_stopped, mount_stopped}
 use Rattle.dg_world.proofs.stepping.look_again.Goals as goal
 

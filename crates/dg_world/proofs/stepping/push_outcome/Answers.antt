@@ -4,9 +4,9 @@ use Rattle.std.specs.List.{filter}
 use Rattle.dg_frame.specs.Spelling.{frame_of}
 use Rattle.dg_rules.specs.Changes.{is_reported}
 use Rattle.dg_script.specs.declared.report.Report.{Report}
-use Rattle.dg_world.specs.EventOutcomes.{EventOutcome, Changes}
-use Rattle.dg_world.specs.OutcomeEndings.{outcome_lines}
-use Rattle.dg_world.specs.Outcomes.{outcome_of}
+use Rattle.dg_world.specs.inner.EventOutcomes.{EventOutcome, Changes}
+use Rattle.dg_world.specs.inner.OutcomeEndings.{outcome_lines}
+use Rattle.dg_world.specs.inner.Outcomes.{outcome_of}
 use Rattle.dg_world.proofs.ChipReportLemmas.{changes_reported}
 use Rattle.dg_world.proofs.OutcomeLemmas.{changes_of}
 use Rattle.dg_world.proofs.stepping.push_outcome.Goals as goal

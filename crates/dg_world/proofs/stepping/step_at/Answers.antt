@@ -16,8 +16,8 @@ returns-in_ok-apply_event-in-None g c =
     let h = c.apply_event in
     let a = station (device c.args.board.now) c.args.runs.now c.args.out.now.items in
     let b = station (device h.new.board) h.new.runs c.push_outcome.new.out.items in
-    whole_did c.args.occasion.now c.args.event.now h.new.outcome a b (option_copied c.args.cut) (ap option_copied c.in-None.is)
-    (subst (λ r. AppliedSo r c.args.occasion.now c.args.event.now h.new.outcome a b) c.in_ok-apply_event-in-None.was
+    whole_did c.args.context.now c.args.event.now h.new.outcome a b (option_copied c.args.cut) (ap option_copied c.in-None.is)
+    (subst (λ r. AppliedSo r c.args.context.now c.args.event.now h.new.outcome a b) c.in_ok-apply_event-in-None.was
     (record { ends = h.ensures.ends; unseen = λ w on unseen. let x = h.ensures.unseen w on unseen in (ap device x.0, x.1); sees = h.ensures.sees; reads = h.ensures.reads }))
     c.requires.may.here c.push_outcome.ensures
 
@@ -27,8 +27,8 @@ returns-in_err-apply_event-in-None g c =
     let h = c.apply_event in
     let a = station (device c.args.board.now) c.args.runs.now c.args.out.now.items in
     let b = station (device h.new.board) h.new.runs c.args.out.now.items in
-    whole_failed c.args.occasion.now c.args.event.now h.new.outcome a b (option_copied c.args.cut) (ap option_copied c.in-None.is) c.from_residual.result c.in_err-apply_event-in-None.field-0.0 c.from_residual.ensures.1
-    (subst (λ r. AppliedSo r c.args.occasion.now c.args.event.now h.new.outcome a b) c.in_err-apply_event-in-None.was
+    whole_failed c.args.context.now c.args.event.now h.new.outcome a b (option_copied c.args.cut) (ap option_copied c.in-None.is) c.from_residual.result c.in_err-apply_event-in-None.field-0.0 c.from_residual.ensures.1
+    (subst (λ r. AppliedSo r c.args.context.now c.args.event.now h.new.outcome a b) c.in_err-apply_event-in-None.was
     (record { ends = h.ensures.ends; unseen = λ w on unseen. let x = h.ensures.unseen w on unseen in (ap device x.0, x.1); sees = h.ensures.sees; reads = h.ensures.reads }))
 
 pub returns-in-Some : goal.returns-in-Some

@@ -1,7 +1,7 @@
 use Rattle.std.proofs.Common.{refl}
 use Rattle.dg_rules.specs.World.{site, store_at}
 use Rattle.dg_rules.specs.Events.{tick_does}
-use Rattle.dg_world.specs.Outcomes.{as_outcome}
+use Rattle.dg_world.specs.inner.Outcomes.{as_outcome}
 use Rattle.dg_world.proofs.OutcomeLemmas.{told_as, is_refused}
 use Rattle.dg_world.proofs.TickLemmas.{off_as, on_as}
 use Rattle.dg_world.proofs.UnseenLemmas.{on_unseen}

@@ -8,9 +8,9 @@ use Rattle.dg_mote.specs.Motes.{sent_in}
 use Rattle.dg_node.specs.Ends.{NodeDone, tick_end}
 use Rattle.dg_node.specs.Hosts.{host}
 use Rattle.dg_node.specs.declared.answers.Ticked.TheVariants as ticked
-use Rattle.dg_world.specs.Faults.{fault_of_tick}
+use Rattle.dg_world.specs.inner.Faults.{fault_of_tick}
 use Rattle.dg_world.specs.declared.outcome.Outcome.{Outcome}
-use Rattle.dg_world.specs.OutcomeEndings.{OutcomeEnds}
+use Rattle.dg_world.specs.inner.OutcomeEndings.{OutcomeEnds}
 use Rattle.dg_world.proofs.OutcomeLemmas.{as_outcome_err, told_as, is_started, is_sent}
 use Rattle.dg_world.proofs.TickLemmas.{effect_same, node_ends, tick_quiet, tick_halts, node_references}
 use Rattle.dg_world.proofs.ticking.tick_on.Goals as goal

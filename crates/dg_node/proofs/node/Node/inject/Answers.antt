@@ -4,11 +4,11 @@ use Rattle.dg_volume.proofs.BeginLemmas.{inject_begins}
 use Rattle.dg_volume.specs.Changes.{inject_refusal}
 use Rattle.dg_volume.specs.Trails.{inject_trail}
 use Rattle.dg_volume.specs.declared.volume.InjectFault.TheVariants as inject
-use Rattle.dg_node.specs.Acts.{InjectDone, InjectTook, inject_effect, mount_failed, is_orderly_injected}
+use Rattle.dg_node.specs.Acts.{NodeInjected, InjectTook, inject_effect, mount_failed, is_orderly_injected}
 use Rattle.dg_node.specs.Known.{SeesOrder}
 use Rattle.std.specs.Prelude.{IfOk}
 use Rattle.dg_node.specs.Hosts.{host}
-use Rattle.dg_node.specs.Nodes.{motes_of}
+use Rattle.dg_node.specs.Nodes.{running_mote}
 use Rattle.dg_node.specs.declared.acts.Change.{Change}
 use Rattle.dg_node.proofs.ActLemmas.{mount_fails, handed, act_kept, inject_fails, inject_took, inject_sees, refused_trail, inject_same}
 use Rattle.dg_node.proofs.KnownLemmas.{same_order}
@@ -20,10 +20,10 @@ returns-in_err-volume-clause-done g c = λ r s stands node.
     let b = g.N.Nor.device c.mount_known.new.board in
     let x = c.args.image.now in
     let row : Row = row_of x.image_version.image x.image_version.version x.name.now x.bytes.now in
-    let e = inject_effect (motes_of r) s row c.args.now c.args.draw in
+    let e = inject_effect (running_mote r) s row c.args.now c.args.draw in
     let refusal = inject_refusal s row in
     let v = c.args.runs.now in
-    handed (λ y. InjectDone y refusal e s (host a v) (host b v)) c.from_residual.result (mount_failed c.in_err-volume.field-0.0) c.from_residual.ensures.1
+    handed (λ y. NodeInjected y refusal e s (host a v) (host b v)) c.from_residual.result (mount_failed c.in_err-volume.field-0.0) c.from_residual.ensures.1
     (mount_fails c.in_err-volume.field-0.0 refusal e s v v a b (inject_begins s row) stands c.in_err-volume.ensures.done)
 
 pub returns-in_err-volume-clause-reads : goal.returns-in_err-volume-clause-reads
@@ -47,7 +47,7 @@ returns-in-Ok-clause-done g c = λ r s stands node.
     let mounted = to.mounted s stands in
     let ends = c.in-Ok.ensures.ends s mounted in
     let change : Change = record { before = c.report_chip-before.result; after = c.report_chip.result; orderly = c.orderly.result } in
-    act_kept change (inject_refusal s row) (motes_of r) (inject_trail s row) c.args.now c.args.draw s c.inject.new.self c.args.runs.now c.reload.new.runs a m b ends.allowed to.looked ends.acted
+    act_kept change (inject_refusal s row) (running_mote r) (inject_trail s row) c.args.now c.args.draw s c.inject.new.self c.args.runs.now c.reload.new.runs a m b ends.allowed to.looked ends.acted
     (c.report_chip-before.ensures s mounted.tells) (c.report_chip.ensures _ ends.acted.mounted.tells) (c.orderly.ensures b.image ends.acted.mounted.control) (c.reload.ensures a.image b.image s _ r node ends.acted.mounted)
 
 pub returns-in-Err-clause-done : goal.returns-in-Err-clause-done
@@ -63,9 +63,9 @@ returns-in-Err-clause-done g c = λ r s stands node.
     let ends = e.ends s mounted in
     let why = c.in-Err.why in
     let v = c.args.runs.now in
-    let effect = inject_effect (motes_of r) s row c.args.now c.args.draw in
+    let effect = inject_effect (running_mote r) s row c.args.now c.args.draw in
     let refusal = inject_refusal s row in
-    subst (λ y. InjectDone y refusal effect s (host a v) (host b v)) (sym c.inject_failed.ensures)
+    subst (λ y. NodeInjected y refusal effect s (host a v) (host b v)) (sym c.inject_failed.ensures)
     (inject_fails c.report_chip-before.result c.orderly-in-Err.result effect s v a m b why refusal ends.allowed (λ other. ends.refused why refl other) (λ taken. refused_trail s row inject.Taken taken) to.looked
     (λ other not_taken. (e.unchanged why refl other not_taken).0) (λ is. (e.taken (ap (λ e. Err e) is)).0) (λ is. ends.stopped (ap (λ e. Err e) is)) (c.report_chip-before.ensures s mounted.tells)
     (λ other. same_order c.orderly-in-Err.result c.in_ok-volume.volume c.inject.new.self m b (inject_same why _ _ _ _ (λ not_taken. e.unchanged why refl other not_taken) (λ is. e.taken (ap (λ e. Err e) is))) mounted.control c.orderly-in-Err.ensures))

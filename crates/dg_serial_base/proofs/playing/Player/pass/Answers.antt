@@ -1,6 +1,6 @@
 use Rattle.dg_mote.specs.Motes.{sent_in}
 use Rattle.dg_serial.specs.Line.{line_of}
-use Rattle.dg_serial_base.specs.Standing.{deed_left, one_if}
+use Rattle.dg_serial_base.specs.inner.Standing.{deed_left, one_if}
 use Rattle.dg_serial_base.proofs.LineLemmas.{pass_halts}
 use Rattle.dg_serial_base.proofs.PlayLemmas.{pass_goes, send_counts, send_reads, write_calm, read_calm}
 use Rattle.dg_serial_base.proofs.ResultLemmas.{on_ok}

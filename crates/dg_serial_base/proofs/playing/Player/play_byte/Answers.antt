@@ -1,5 +1,5 @@
 use Rattle.dg_serial_base.specs.Deeds.{deeds_of}
-use Rattle.dg_serial_base.specs.Standing.{code_on_line}
+use Rattle.dg_serial_base.specs.inner.Standing.{code_on_line}
 use Rattle.dg_serial_base.proofs.PlayLemmas.{byte_goes}
 use Rattle.dg_serial_base.proofs.playing.Player.play_byte.Goals as goal
 

@@ -1,6 +1,6 @@
 use Rattle.std.proofs.Common.{ℕ, ◌≤◌, List, ◌++◌, length, take, refl, ap, sym, ◌∙◌, append-nil, arith}
 use Rattle.std.proofs.lemmas.List.{take_all}
-use Rattle.dg_serial_base.specs.Standing.{code_on_line, StreamEnds, Counts, ReadCounts}
+use Rattle.dg_serial_base.specs.inner.Standing.{code_on_line, StreamEnds, Counts, ReadCounts}
 use Rattle.dg_serial_base.proofs.StartLemmas.{calm_same, calm_then}
 use Rattle.dg_serial_base.proofs.ResultLemmas.{handed, counts_by_after}
 use Rattle.dg_serial_base.proofs.PlayLemmas.{played_along, next_byte, halted_bytes}

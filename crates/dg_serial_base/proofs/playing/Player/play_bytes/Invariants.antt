@@ -1,5 +1,5 @@
 use Rattle.std.proofs.Common.{◌≡◌, ℕ, ◌+◌, ◌*◌, ◌≤◌, List, ◌++◌, take}
-use Rattle.dg_serial_base.specs.Standing.{Calm, Outset, code_on_line, IsStood, StreamPlayed}
+use Rattle.dg_serial_base.specs.inner.Standing.{Calm, Outset, code_on_line, IsStood, StreamPlayed}
 use Rattle.dg_serial_base.proofs.playing.Player.play_bytes.Given as goal
 
 abbrev pub invariant-loop-byte : goal.invariant-loop-byte

@@ -1,6 +1,6 @@
 use Rattle.std.proofs.Common.{◌≡◌, ◌≤◌, ℕ, refl, sym, ◌∙◌, subst, arith}
 use Rattle.dg_base.specs.Sizes.{most_input}
-use Rattle.dg_serial_base.specs.Standing.{code_on_line, Counts, WriteCounts, ReadCounts, WritesBy, ReadsBy, Consumed, InputEnds}
+use Rattle.dg_serial_base.specs.inner.Standing.{code_on_line, Counts, WriteCounts, ReadCounts, WritesBy, ReadsBy, Consumed, InputEnds}
 use Rattle.dg_serial_base.proofs.StartLemmas.{calm_same, calm_then}
 use Rattle.dg_serial_base.proofs.ResultLemmas.{handed, counts_by_after}
 use Rattle.dg_serial_base.proofs.InputLemmas.{consumed_none, consumed_more, input_ends, input_fails, last_ends, last_counts, last_writes}

@@ -1,6 +1,6 @@
 use Rattle.std.proofs.Common.{◌≡◌, ◌+◌, ◌-◌, ◌*◌, ◌≤◌, ◌<◌, [], length}
 use Rattle.dg_base.specs.Sizes.{most_input}
-use Rattle.dg_serial_base.specs.Standing.{Calm, Outset, code_on_line, IsStood, StreamPlayed, Consumed}
+use Rattle.dg_serial_base.specs.inner.Standing.{Calm, Outset, code_on_line, IsStood, StreamPlayed, Consumed}
 use Rattle.dg_serial_base.proofs.playing.Player.play_input.Given as goal
 
 abbrev pub invariant-loop-used : goal.invariant-loop-used

@@ -1,5 +1,5 @@
 use Rattle.std.proofs.Common.{ℕ, List, length, take, refl, ap, sym, ◌∙◌, subst, Ok, arith}
-use Rattle.dg_serial_base.specs.Standing.{code_on_line, CountsBy, WritesBy, ReadsBy}
+use Rattle.dg_serial_base.specs.inner.Standing.{code_on_line, CountsBy, WritesBy, ReadsBy}
 use Rattle.dg_serial_base.specs.declared.stop.Stop.{Stop}
 use Rattle.dg_serial_base.proofs.StartLemmas.{calm_same}
 use Rattle.dg_serial_base.proofs.InputLemmas.{piece_read, piece_halts, piece_unread, take_fits}

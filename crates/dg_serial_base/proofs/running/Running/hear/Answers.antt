@@ -2,7 +2,7 @@ use Rattle.std.proofs.Common.{◌∷◌, [], ◌++◌, refl, None}
 use Rattle.dg_mote.specs.Effects.{frame_effect}
 use Rattle.dg_node.specs.Ends.{Quiet, Stopped}
 use Rattle.dg_serial_base.specs.Deeds.{Hears}
-use Rattle.dg_serial_base.specs.Standing.{DeedEnds, deed_left}
+use Rattle.dg_serial_base.specs.inner.Standing.{DeedEnds, deed_left}
 use Rattle.dg_serial_base.specs.declared.running.Running.{Running}
 use Rattle.dg_serial_base.specs.declared.stop.Stop.TheVariants as stop
 use Rattle.dg_serial_base.proofs.DeedLemmas.{timely_next, done_at}

@@ -3,8 +3,8 @@ use Rattle.dg_mote.specs.Effects.{tick_effect}
 use Rattle.dg_mote.specs.Motes.{sent_in}
 use Rattle.dg_node.specs.Ends.{tick_end}
 use Rattle.dg_serial_base.specs.Deeds.{Ticks}
-use Rattle.dg_serial_base.specs.Standing.{DeedEnds, deed_left}
-use Rattle.dg_serial_base.specs.Stops.{stop_of_tick}
+use Rattle.dg_serial_base.specs.inner.Standing.{DeedEnds, deed_left}
+use Rattle.dg_serial_base.specs.inner.Stops.{stop_of_tick}
 use Rattle.dg_serial_base.specs.declared.running.Running.{Running}
 use Rattle.dg_serial_base.proofs.DeedLemmas.{timely_next, done_at, ends_stood, frame_longs}
 use Rattle.dg_serial_base.proofs.ResultLemmas.{handed}

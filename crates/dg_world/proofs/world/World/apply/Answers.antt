@@ -8,9 +8,10 @@ use Rattle.dg_rules.specs.Events.{mote_of, dt_of}
 use Rattle.dg_mote.specs.Motes.{sent_in}
 use Rattle.dg_script.specs.declared.report.Report.{Report}
 use Rattle.dg_world.specs.Deployments.{deployed}
-use Rattle.dg_world.specs.Known.{known_of, KnownAfter, OrderTakes, InjectTakes}
-use Rattle.dg_world.specs.Occasions.{step_of}
-use Rattle.dg_world.specs.Outcomes.{halt_of}
+use Rattle.dg_world.specs.Known.{known_of, OrderTakes, InjectTakes}
+use Rattle.dg_world.specs.inner.Sees.{KnownAfter}
+use Rattle.dg_world.specs.Applying.{step_of}
+use Rattle.dg_world.specs.inner.Outcomes.{halt_of}
 use Rattle.dg_world.specs.Worlds.{IsWorld}
 use Rattle.dg_world.specs.declared.world.World.{World}
 use Rattle.dg_world.proofs.ApplyLemmas.{ApplyMade, full_done, lacking_done, made_done}
@@ -31,8 +32,8 @@ pub returns-then-is_err-2 : goal.returns-then-is_err-2
 returns-then-is_err-2 g c =
     lacking_done _ c.args.reported _ _ c.if-self-ge-MOST_EVENTS.false refl c.reserve-2.ensures.items (λ w is. reserved c.args.self.now c.reserve.new.self _ w c.reserve.ensures.same is)
 
-pub invariant_of-occasion : goal.invariant_of-occasion
-invariant_of-occasion g c =
+pub invariant_of-context : goal.invariant_of-context
+invariant_of-context g c =
     let x = c.requires.world in
     let in_world = event_mote (length x.0.sites) c.args.event.now x.2.event in
     record {

@@ -7,9 +7,9 @@ use Rattle.dg_volume.specs.declared.volume.MountFault.TheVariants as mount_fault
 use Rattle.dg_node.specs.declared.answers.TickFault.{TickFault}
 use Rattle.dg_node.specs.declared.answers.TickFault.TheVariants as tick_fault
 use Rattle.dg_node.specs.Ends.{NodeEnd, Quiet, Sent, Starts, Stopped, NotAVolume, NoImage}
-use Rattle.dg_world.specs.EventOutcomes.{EventOutcome, Halt}
-use Rattle.dg_world.specs.EventOutcomes as event
-use Rattle.dg_world.specs.OutcomeEndings.{outcome_sent}
+use Rattle.dg_world.specs.inner.EventOutcomes.{EventOutcome, Halt}
+use Rattle.dg_world.specs.inner.EventOutcomes as event
+use Rattle.dg_world.specs.inner.OutcomeEndings.{outcome_sent}
 use Rattle.dg_world.specs.declared.outcome.Fault.{Fault}
 use Rattle.dg_world.specs.declared.outcome.Fault.TheVariants as fault
 

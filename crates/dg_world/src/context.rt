@@ -6,7 +6,7 @@ use crate::shared::Shared;
 
 /// Where and when an event is applied: what it has at hand beside its board and what the mote there runs.
 #[derive(Drop)]
-pub(crate) struct Occasion<'a> {
+pub(crate) struct EventContext<'a> {
     /// What the motes of the world share.
     pub(crate) shared: &'a Shared,
     /// The number of its mote.

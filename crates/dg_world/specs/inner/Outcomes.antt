@@ -2,9 +2,8 @@
 use Rattle.std.specs.Prelude.{◌≡◌, ℕ, List, Option, Some, None, Result, Ok, Err}
 use Rattle.dg_mote.specs.Motes.{sent_in}
 use Rattle.dg_script.specs.declared.report.Cause.{Cause}
-use Rattle.dg_world.specs.EventOutcomes.{EventOutcome, Refused, Unreported, Sends, Changes, Starts, EventEnded}
-use Rattle.dg_world.specs.EventOutcomes.{Halt, Stopped, NotAVolume, NoImage}
-use Rattle.dg_world.specs.EventOutcomes.{Whole, Cut}
+use Rattle.dg_world.specs.inner.EventOutcomes.{EventOutcome, EventEnded, Refused, Unreported, Sends, Changes, Starts, Halt}
+use Rattle.dg_world.specs.inner.EventOutcomes.{Stopped, NotAVolume, NoImage, Whole, Cut}
 use Rattle.dg_node.specs.declared.report.ChipReport.{ChipReport}
 use Rattle.dg_node.specs.declared.answers.StartedImage.{StartedImage}
 use Rattle.dg_world.specs.declared.outcome.Outcome.{Outcome}
@@ -12,6 +11,8 @@ use Rattle.dg_world.specs.declared.outcome.Fault.{Fault}
 use Rattle.dg_world.specs.declared.outcome.Fault.TheVariants as fault
 use Rattle.dg_world.specs.declared.outcome.Power.{Power}
 use Rattle.dg_world.specs.declared.outcome.Power.TheVariants as power
+use Rattle.dg_world.specs.declared.world.WorldFault.{WorldFault}
+use Rattle.dg_world.specs.declared.world.WorldFault.TheVariants.{Flash, NotAVolume as NotAVolumeFault, NoImage as NoImageFault}
 
 -- nothing came of it yet
 pub record IsNothing (t : Outcome) : Type 0 where
@@ -22,7 +23,7 @@ pub record IsNothing (t : Outcome) : Type 0 where
   pub sent : sent_in t.outbox ≡ None
   pub orderly : t.orderly ≡ None
 
-abbrev pub outcome_by : Option (List ℕ) → Option Cause → Option StartedImage → Option ChipReport → Option ChipReport → EventOutcome
+abbrev pub outcome_by : Option (List ℕ) → Option Cause → Option StartedImage → (before after : Option ChipReport) → EventOutcome
 outcome_by (Some bytes) why x a b = Sends bytes
 outcome_by None (Some why) x a b = Refused why
 outcome_by None None (Some x) a b = Starts x
@@ -53,3 +54,8 @@ ended_as (Err f) t = Err (halt_of f t.before)
 abbrev pub stepped : {T : Type 0} → Result T Fault → Outcome → Result (Option (List ℕ)) Halt
 stepped (Ok x) t = Ok (sent_in t.outbox)
 stepped (Err f) t = Err (halt_of f t.before)
+
+abbrev pub fault_of : Halt → ℕ → WorldFault
+fault_of (Stopped before) mote = Flash mote
+fault_of NotAVolume mote = NotAVolumeFault
+fault_of NoImage mote = NoImageFault

@@ -19,14 +19,14 @@ use Rattle.dg_rules.specs.Events.{Deed, Does, Refuses, Goes, trail_of}
 use Rattle.dg_rules.specs.Steps.{done_reports}
 use Rattle.dg_script.specs.declared.report.Report.{Report}
 use Rattle.dg_script.specs.declared.report.Report.TheVariants.{Start, Refused as RefusedLine}
-use Rattle.dg_world.specs.ChipReports.{change_lines}
+use Rattle.dg_world.specs.inner.ChipReports.{change_lines}
 use Rattle.dg_node.specs.Reports.{IsReportOf}
 use Rattle.dg_world.specs.Worlds.{MoteStands}
 use Rattle.dg_node.specs.Hosts.{Host}
 use Rattle.dg_node.specs.declared.node.Node.{Node}
 use Rattle.dg_node.specs.declared.report.ChipReport.{ChipReport}
-use Rattle.dg_world.specs.EventOutcomes.{EventOutcome, Refused, Unreported, Sends, Changes, Starts}
-use Rattle.dg_world.specs.EventOutcomes.{Halt, Stopped, NotAVolume, NoImage}
+use Rattle.dg_world.specs.inner.EventOutcomes.{EventOutcome, Refused, Unreported, Sends, Changes, Starts, Halt}
+use Rattle.dg_world.specs.inner.EventOutcomes.{Stopped, NotAVolume, NoImage}
 
 -- the frame of a outcome, and the outcome of what a tick sent, if anything
 abbrev pub outcome_frame : EventOutcome → Option (List ℕ)
@@ -54,7 +54,7 @@ outcome_lines m (Starts x) = Start m x.image_version.image x.image_version.versi
 
 -- The outcome is the deed: the mote, the report and what is sent are the rules', the chip stands for the last store,
 -- and what was started stands in program memory.
-pub record TellsDeed (w : RuleWorld) (m : ℕ) (d : Deed) (outcome : EventOutcome) (u : Option Node)
+pub record ReportsEffect (w : RuleWorld) (m : ℕ) (d : Deed) (outcome : EventOutcome) (u : Option Node)
     (image : List ℕ) : Type 0 where
   pub runs : Option Running
   pub runs_then : d.runs ≡ Some runs
@@ -65,12 +65,12 @@ pub record TellsDeed (w : RuleWorld) (m : ℕ) (d : Deed) (outcome : EventOutcom
   pub memory : IfSome d.started (λ r. program image (length r.pages) ≡ r.pages)
 
 -- an event that is not refused was done
-pub record DeedWent (w : RuleWorld) (m : ℕ) (does : Does) (u : Option Node) (old new : Device)
+pub record EventDone (w : RuleWorld) (m : ℕ) (does : Does) (u : Option Node) (old new : Device)
     (outcome : EventOutcome) : Type 0 where
   pub deed : Deed
   pub goes : does ≡ Goes deed
   pub ran : Ran (operations deed.trail) old new
-  pub tells : TellsDeed w m deed outcome u new.image
+  pub tells : ReportsEffect w m deed outcome u new.image
 
 -- neither the order nor what is kept is another
 pub record SameReport (s t : Store) : Type 0 where
@@ -89,12 +89,12 @@ abbrev pub BeforeReports : Option ChipReport → Trail Store → Store → Type 
 BeforeReports None t s = (k : ℕ) (u : Store) → Leaves IsNear t k u → SameReport s u
 BeforeReports (Some x) t s = IsReportOf x s
 
-pub record StoppedOn (does : Does) (s : Store) (old new : Device) (before : Option ChipReport) : Type 0 where
+pub record EventStopped (does : Does) (s : Store) (old new : Device) (before : Option ChipReport) : Type 0 where
   pub stops : StopsIn Stands IsNear (trail_of does s) old new
   pub is_report : old.blown ≡ false → new.blown ≡ true → BeforeReports before (trail_of does s) s
 
 -- a start found no image
-pub record Lacked (does : Does) (old new : Device) : Type 0 where
+pub record EventFoundNoImage (does : Does) (old new : Device) : Type 0 where
   pub deed : Deed
   pub goes : does ≡ Goes deed
   pub none : deed.runs ≡ None
@@ -104,10 +104,10 @@ pub record Lacked (does : Does) (old new : Device) : Type 0 where
 -- What an event answers that does this at mote m, from a board that stood for the mote's store: the host was a and is b.
 abbrev pub OutcomeEnds : Result EventOutcome Halt → RuleWorld → (m : ℕ) → Does → (a b : Host) → Type 0
 OutcomeEnds (Ok (Refused why)) w m does a b = (does ≡ Refuses why) × Looked a.board b.board × (b.runs ≡ a.runs)
-OutcomeEnds (Ok Unreported) w m does a b = DeedWent w m does b.runs a.board b.board Unreported
-OutcomeEnds (Ok (Sends bytes)) w m does a b = DeedWent w m does b.runs a.board b.board (Sends bytes)
-OutcomeEnds (Ok (Changes old new)) w m does a b = DeedWent w m does b.runs a.board b.board (Changes old new)
-OutcomeEnds (Ok (Starts x)) w m does a b = DeedWent w m does b.runs a.board b.board (Starts x)
-OutcomeEnds (Err (Stopped before)) w m does a b = StoppedOn does (store_at w m) a.board b.board before
-OutcomeEnds (Err NoImage) w m does a b = Lacked does a.board b.board
+OutcomeEnds (Ok Unreported) w m does a b = EventDone w m does b.runs a.board b.board Unreported
+OutcomeEnds (Ok (Sends bytes)) w m does a b = EventDone w m does b.runs a.board b.board (Sends bytes)
+OutcomeEnds (Ok (Changes old new)) w m does a b = EventDone w m does b.runs a.board b.board (Changes old new)
+OutcomeEnds (Ok (Starts x)) w m does a b = EventDone w m does b.runs a.board b.board (Starts x)
+OutcomeEnds (Err (Stopped before)) w m does a b = EventStopped does (store_at w m) a.board b.board before
+OutcomeEnds (Err NoImage) w m does a b = EventFoundNoImage does a.board b.board
 OutcomeEnds (Err NotAVolume) w m does a b = ⊥

@@ -16,7 +16,7 @@ use Rattle.dg_mote.specs.Effects.{Effect}
 use Rattle.dg_mote.specs.Motes.{IsMote}
 use Rattle.dg_mote.specs.Timely.{Timely}
 use Rattle.dg_mote.specs.declared.mote.Mote.{Mote}
-use Rattle.dg_node.specs.Nodes.{mote_in}
+use Rattle.dg_node.specs.Nodes.{node_mote}
 use Rattle.dg_seed.specs.Draws.{generator_of, generator_after}
 use Rattle.dg_serial.specs.Reading.{Reading, reading_behind}
 use Rattle.dg_serial_base.specs.Deeds.{Base, At, Deed, deeds_of, powered, power_effect, effect_of, DeedsRun, said}
@@ -147,7 +147,7 @@ pub record Stood (b : Base) (s : Store) (done : List Deed) (v : Running) (c : Li
   pub state : MoteState
   pub run : DeedsRun b (powered b s) done there
   pub on : there.mote ≡ Some state
-  pub mote : IsMote c (mote_in v.node) state there.store
+  pub mote : IsMote c (node_mote v.node) state there.store
   pub timely : Timely state v.timeline.moment
   pub time : IsTime v.timeline b there.events
 
@@ -266,21 +266,21 @@ pub record DeedsHalted (why : Stop) (a : Outset) (all : List Deed) (now : Option
   pub by : StoppedBy why a.base there rest a.written now new
 
 -- These deeds were done, and what was sent is written.
-pub record WentOn (a : Outset) (all : List Deed) (now : CodeAt) : Type 0 where
+pub record CompletedOn (a : Outset) (all : List Deed) (now : CodeAt) : Type 0 where
   pub there : At
   pub stood : Stood a.base a.store all now.mote now.chip.image there
   pub put : Puts a.written now.written (said there)
 
-abbrev pub GoesEnds : {T : Type 0} → Result T Stop → Outset → (all : List Deed) → CodeAt → Type 0
-GoesEnds (Ok x) a all now = WentOn a all now
-GoesEnds (Err why) a all now = DeedsHalted why a all now.written now.chip
+abbrev pub ContinueEnds : {T : Type 0} → Result T Stop → Outset → (all : List Deed) → CodeAt → Type 0
+ContinueEnds (Ok x) a all now = CompletedOn a all now
+ContinueEnds (Err why) a all now = DeedsHalted why a all now.written now.chip
 
 -- ---- the line
 
 -- The bytes of the line were played.
 pub record StreamPlayed (a : Outset) (stream : List ℕ) (now : LineAt) : Type 0 where
   pub line : now.reading ≡ reading_behind stream
-  pub went : WentOn a (deeds_of stream) now.code
+  pub went : CompletedOn a (deeds_of stream) now.code
 
 abbrev pub StreamEnds : {T : Type 0} → Result T Stop → Outset → (stream : List ℕ) → LineAt → Type 0
 StreamEnds (Ok x) a stream now = StreamPlayed a stream now

@@ -1,30 +1,24 @@
--- An event, with the cut that waits for it and what it has at hand (docs/ARCHITECTURE.md, "The way of a script line").
+-- What an event has at hand (docs/ARCHITECTURE.md, "The way of a script line").
 use Rattle.std.specs.Prelude.{◌≡◌, ◌+◌, IsTrue, Option}
 use Rattle.dg_nor.specs.Device.{Device}
 use Rattle.dg_rules.specs.World.{World as RuleWorld, site}
 use Rattle.dg_rules.specs.Events.{mote_of, dt_of}
-use Rattle.dg_base.specs.declared.events.Cut.{Cut as PowerCut}
 use Rattle.dg_base.specs.declared.events.Event.{Event}
-use Rattle.dg_base.specs.declared.events.Step.{Step}
 use Rattle.dg_node.specs.Known.{IsKnownChip}
 use Rattle.dg_world.specs.Shareds.{IsShared}
 use Rattle.dg_world.specs.Worlds.{SiteStands, MayRun}
-use Rattle.dg_world.specs.declared.occasion.Occasion.{Occasion}
+use Rattle.dg_world.specs.declared.context.EventContext.{EventContext}
 use Rattle.dg_node.specs.declared.node.Node.{Node}
-
--- the step that an event and its cut make
-abbrev pub step_of : Event → Option PowerCut → Step
-step_of event cut = record { event = event; cut = cut }
 
 -- The event may be applied so: the mote is its own, what runs there is in time, and a board that is known is one that may be
 -- mounted again by halving.
-pub record MayApply (o : Occasion) (event : Event) (board : Device) (runs : Option Node) : Type 0 where
+pub record MayApply (o : EventContext) (event : Event) (board : Device) (runs : Option Node) : Type 0 where
   pub here : o.mote ≡ mote_of event
   pub mote : MayRun board.image o.moment runs
   pub known : IsTrue o.known → IsKnownChip board.image
 
 -- it is applied so in world w
-pub record AppliesIn (o : Occasion) (w : RuleWorld) (event : Event) (board : Device) (runs : Option Node) : Type 0 where
+pub record AppliesIn (o : EventContext) (w : RuleWorld) (event : Event) (board : Device) (runs : Option Node) : Type 0 where
   pub shared : IsShared o.shared.now w
   pub stands : SiteStands board runs (site w (mote_of event))
   pub moment : o.moment ≡ w.moment + dt_of event

@@ -2,7 +2,7 @@ use Rattle.std.proofs.Common.{sym, subst}
 use Rattle.dg_base.specs.declared.events.Event.{Event}
 use Rattle.dg_world.specs.Known.{MakesKnown}
 use Rattle.dg_world.proofs.MakesLemmas.{order_known_then, inject_known_then, mote_in}
-use Rattle.dg_world.proofs.knowing.makes_known.Goals as goal
+use Rattle.dg_world.proofs.known_boards.makes_known.Goals as goal
 
 pub returns-in-Order : goal.returns-in-Order
 returns-in-Order c = λ w is at. let e = c.in-Order in

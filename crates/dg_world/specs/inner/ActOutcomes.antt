@@ -9,7 +9,7 @@ use Rattle.dg_node.specs.declared.acts.Ordered.{Ordered}
 use Rattle.dg_node.specs.declared.acts.Ordered.TheVariants as ordered
 use Rattle.dg_node.specs.declared.acts.Injected.{Injected}
 use Rattle.dg_node.specs.declared.acts.Injected.TheVariants as injected
-use Rattle.dg_world.specs.EventOutcomes.{EventOutcome, Refused, Changes, Halt, Stopped, NotAVolume}
+use Rattle.dg_world.specs.inner.EventOutcomes.{EventOutcome, Halt, Refused, Changes, Stopped, NotAVolume}
 
 abbrev pub ordered_outcome : Ordered → EventOutcome
 ordered_outcome (ordered.Kept x) = Changes x.before x.after

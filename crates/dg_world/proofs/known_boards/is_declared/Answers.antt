@@ -4,7 +4,7 @@ use Rattle.dg_world.specs.Images.{row_of_image}
 use Rattle.dg_world.proofs.ImageLemmas.{known_row, unknown_row}
 use Rattle.dg_world.proofs.InjectLemmas.{not_zero}
 use Rattle.dg_world.proofs.MakesLemmas.{narrow_injects, golden_makes, unknown_makes, known_makes}
-use Rattle.dg_world.proofs.knowing.is_declared.Goals as goal
+use Rattle.dg_world.proofs.known_boards.is_declared.Goals as goal
 
 pub returns-then-not-is_known_to : goal.returns-then-not-is_known_to
 returns-then-not-is_known_to c = λ w dt draw is. (λ x. absurd cc, λ made. absurd (narrow_injects w c.args.mote c.args.image c.args.version dt draw (c.is_known_to.ensures w is ∙ c.if-not-is_known_to.true) made))

@@ -3,8 +3,8 @@ ghost use Rattle.std.specs.Prelude.{◌≡◌, ◌<◌, ◌^◌, Some, length};
 ghost use Rattle.dg_object.specs.Object.{Row};
 ghost use Rattle.dg_node.specs.Acts.{is_orderly_ordered, is_orderly_injected};
 ghost use Rattle.dg_rules.specs.Events.{order_cause, inject_cause};
-ghost use Rattle.dg_world.specs.Acting.{ordered_outcome, injected_outcome, injected_refusal, halt_of_act};
-ghost use Rattle.dg_world.specs.Outcomes.{IsNothing, outcome_of, halt_of};
+ghost use Rattle.dg_world.specs.inner.ActOutcomes.{ordered_outcome, injected_outcome, injected_refusal, halt_of_act};
+ghost use Rattle.dg_world.specs.inner.Outcomes.{IsNothing, outcome_of, halt_of};
 
 use crate::outcome::{Fault, Outcome};
 use dg_node::{ActFault, Change, Injected, Ordered};
@@ -12,13 +12,13 @@ use dg_rules::Cause;
 use dg_volume::{InjectFault, OrderFault};
 
 /// What an order did is its outcome.
-pub(crate) fn tell_ordered(ordered: Ordered, outcome: &mut Outcome)
+pub(crate) fn note_ordered(ordered: Ordered, outcome: &mut Outcome)
     requires { IsNothing outcome.old }
     ensures outcome { outcome_of outcome.new ≡ ordered_outcome ordered }
     ensures orderly { outcome.new.orderly ≡ Some (is_orderly_ordered ordered) }
 {
     match ordered {
-        Ordered::Kept(change) => tell_change(change, outcome),
+        Ordered::Kept(change) => note_change(change, outcome),
         Ordered::Refused { why, orderly } => {
             outcome.refused = Some(order_cause(why));
             outcome.orderly = Some(orderly);
@@ -27,7 +27,7 @@ pub(crate) fn tell_ordered(ordered: Ordered, outcome: &mut Outcome)
 }
 
 /// What an injection of so many bytes did is its outcome.
-pub(crate) fn tell_injected(injected: Injected, bytes: usize, outcome: &mut Outcome)
+pub(crate) fn note_injected(injected: Injected, bytes: usize, outcome: &mut Outcome)
     requires few { bytes < 2 ^ 32 }
     requires nothing { IsNothing outcome.old }
     ensures outcome { (row : Row) → length row.bytes ≡ bytes → outcome_of outcome.new ≡ injected_outcome row injected }
@@ -35,7 +35,7 @@ pub(crate) fn tell_injected(injected: Injected, bytes: usize, outcome: &mut Outc
     ensures orderly { outcome.new.orderly ≡ Some (is_orderly_injected injected) }
 {
     match injected {
-        Injected::Kept(change) => tell_change(change, outcome),
+        Injected::Kept(change) => note_change(change, outcome),
         Injected::Refused { why, orderly } => {
             outcome.refused = Some(inject_cause(why, bytes));
             outcome.orderly = Some(orderly);
@@ -43,7 +43,7 @@ pub(crate) fn tell_injected(injected: Injected, bytes: usize, outcome: &mut Outc
     }
 }
 
-fn tell_change(change: Change, outcome: &mut Outcome)
+fn note_change(change: Change, outcome: &mut Outcome)
     ensures { outcome.new ≡ record outcome.old {
       before = Some change.before;
       after = Some change.after;

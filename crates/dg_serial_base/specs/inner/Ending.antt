@@ -8,7 +8,7 @@ use Rattle.dg_volume.specs.Store.{Store}
 use Rattle.dg_serial.specs.Reading.{Reading}
 use Rattle.dg_serial_base.specs.Deeds.{Base, powered, power_effect}
 use Rattle.dg_serial_base.specs.Based.{Outside, closing}
-use Rattle.dg_serial_base.specs.Standing.{Outset, code_on_line, FailedBy, InputEnds, NoneBy}
+use Rattle.dg_serial_base.specs.inner.Standing.{Outset, code_on_line, FailedBy, InputEnds, NoneBy}
 use Rattle.dg_serial_base.specs.declared.running.Running.{Running}
 use Rattle.dg_serial_base.specs.declared.stop.Stop.{Stop}
 use Rattle.dg_serial_base.specs.declared.stop.Stop.TheVariants as stop

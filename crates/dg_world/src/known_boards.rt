@@ -8,7 +8,8 @@ ghost use Rattle.dg_rules.specs.Events.{knows, mote_of};
 ghost use Rattle.dg_base.specs.declared.events.Event.TheVariants.{Inject};
 ghost use Rattle.dg_world.specs.Shareds.{IsShared};
 ghost use Rattle.dg_world.specs.Worlds.{IsWorld};
-ghost use Rattle.dg_world.specs.Known.{known_of, MakesKnown, KnownAfter};
+ghost use Rattle.dg_world.specs.Known.{known_of, MakesKnown};
+ghost use Rattle.dg_world.specs.inner.Sees.{KnownAfter};
 
 use crate::injecting::knows;
 use crate::links::MOST_MOTES;

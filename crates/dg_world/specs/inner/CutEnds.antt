@@ -1,0 +1,64 @@
+-- How an event ends at a board whose power may be cut.
+use Rattle.std.specs.Prelude.{◌≡◌, ℕ, ◌-◌, Bool, true, false, List, Option, Result, Ok, Err}
+use Rattle.dg_nor.specs.Device.{Endures}
+use Rattle.dg_nor.specs.Fuse.{beneath_of}
+use Rattle.dg_nor.specs.Trail.{MayLeave}
+use Rattle.dg_volume.specs.Store.{IsNear}
+use Rattle.dg_volume.specs.Stands.{Stands}
+use Rattle.dg_rules.specs.World.{World as RuleWorld, store_at}
+use Rattle.dg_rules.specs.Events.{Deed, Does, Refuses, Goes}
+use Rattle.dg_rules.specs.Steps.{blows, before_cut}
+use Rattle.dg_base.specs.declared.events.Cut.{Cut as PowerCut}
+use Rattle.dg_world.specs.Cuts.{IsStopped, StepFoundNoImage}
+use Rattle.dg_world.specs.inner.OutcomeEndings.{ReportsEffect, BeforeReports}
+use Rattle.dg_world.specs.inner.Counts.{CountStays}
+use Rattle.dg_node.specs.Hosts.{Host}
+use Rattle.dg_node.specs.declared.report.ChipReport.{ChipReport}
+use Rattle.dg_node.specs.declared.node.Node.{Node}
+use Rattle.dg_world.specs.inner.EventOutcomes.{EventOutcome, EventEnded, Refused, Unreported, Sends, Changes, Starts, Halt}
+use Rattle.dg_world.specs.inner.EventOutcomes.{Stopped, NotAVolume, NoImage, Whole, Cut}
+
+-- how an event ended that answered this, where a cut blew over a board that is not stopped itself, or not
+abbrev pub ended : Bool → Result EventOutcome Halt → Result EventEnded Halt
+ended blown (Ok outcome) = Ok (Whole outcome)
+ended true (Err (Stopped before)) = Ok (Cut before)
+ended false (Err (Stopped before)) = Err (Stopped before)
+ended blown (Err NotAVolume) = Err NotAVolume
+ended blown (Err NoImage) = Err NoImage
+
+-- the whole event was done, and no cut blew
+pub record EventIsWhole (w : RuleWorld) (m : ℕ) (does : Does) (cut : Option PowerCut) (u : Option Node)
+    (image : List ℕ) (outcome : EventOutcome) : Type 0 where
+  pub deed : Deed
+  pub goes : does ≡ Goes deed
+  pub whole : blows cut deed.trail ≡ false
+  pub tells : ReportsEffect w m deed outcome u image
+
+-- the cut blew in the operation with its number
+pub record EventIsCut (w : RuleWorld) (m : ℕ) (does : Does) (cut : Option PowerCut) (image : List ℕ)
+    (before : Option ChipReport) : Type 0 where
+  pub deed : Deed
+  pub goes : does ≡ Goes deed
+  pub blown : blows cut deed.trail ≡ true
+  pub leaves : MayLeave Stands IsNear deed.trail (before_cut cut) image
+  pub is_report : BeforeReports before deed.trail (store_at w m)
+
+-- What an event answers whose power may have been cut. The host was a and is b.
+abbrev pub PlayEnds : Result EventEnded Halt → RuleWorld → (m : ℕ) → Does → Option PowerCut → (a b : Host) → Type 0
+PlayEnds (Ok (Whole (Refused why))) w m does cut a b = (does ≡ Refuses why) × (b.board.image ≡ a.board.image) × (b.runs ≡ a.runs)
+PlayEnds (Ok (Whole Unreported)) w m does cut a b = EventIsWhole w m does cut b.runs b.board.image Unreported
+PlayEnds (Ok (Whole (Sends frame))) w m does cut a b = EventIsWhole w m does cut b.runs b.board.image (Sends frame)
+PlayEnds (Ok (Whole (Changes old new))) w m does cut a b = EventIsWhole w m does cut b.runs b.board.image (Changes old new)
+PlayEnds (Ok (Whole (Starts x))) w m does cut a b = EventIsWhole w m does cut b.runs b.board.image (Starts x)
+PlayEnds (Ok (Cut before)) w m does cut a b = EventIsCut w m does cut b.board.image before
+PlayEnds (Err (Stopped before)) w m does cut a b = IsStopped w m does cut b.board
+PlayEnds (Err NoImage) w m does cut a b = StepFoundNoImage does cut b.board.image
+PlayEnds (Err NotAVolume) w m does cut a b = ⊥
+
+-- The event ended so, and the board's count did not fall: it is stopped only where it was, or where its count rose. The count
+-- stays unless the board stopped, also where a cut blew.
+pub record EventPlayed (r : Result EventEnded Halt) (w : RuleWorld) (m : ℕ) (does : Does) (cut : Option PowerCut)
+    (a b : Host) : Type 0 where
+  pub ends : PlayEnds r w m does cut a b
+  pub endures : Endures (beneath_of a.board) (beneath_of b.board)
+  pub count : CountStays r a.board b.board
