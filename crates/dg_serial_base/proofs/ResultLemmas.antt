@@ -12,10 +12,6 @@ pub on_ok : {T P : Type 0} (r : Result T Stop) → P → OnOk r P
 on_ok (Ok x) p = p
 on_ok (Err e) p = tt
 
-pub on_ok_then : {T P Q : Type 0} (r : Result T Stop) → (P → Q) → OnOk r P → OnOk r Q
-on_ok_then (Ok x) f p = f p
-on_ok_then (Err e) f p = tt
-
 -- what holds of the fault that is handed on holds of the answer
 pub handed : {T : Type 0} (P : Result T Stop → Type 0) (r : Result T Stop) (f : Stop) → IsErrAnd r (λ e. e ≡ f) → P (Err f) → P r
 handed P (Ok x) f is p = absurd is
@@ -37,9 +33,6 @@ counts_by_after stop.TooLong a b c l r = calm_then a b c l r
 pub counts_after : {T : Type 0} (r : Result T Stop) (a b c : Device) → Calm a b → Counts r b c → Counts r a c
 counts_after (Ok x) a b c l r = calm_then a b c l r
 counts_after (Err why) a b c l r = counts_by_after why a b c l r
-
-pub writes_after : {T : Type 0} (r : Result T Stop) (a b c : ℕ) → b ≡ a → WriteCounts r b c → WriteCounts r a c
-writes_after {T} r a b c e w = subst (λ (n : ℕ). WriteCounts r n c) e w
 
 -- want of memory that is handed on
 pub handed_memory : {T : Type 0} (P : Result T Stop → Type 0) (r : Result T Stop) → IsErr r × IsErrAnd r (λ x. x ≡ stop.Memory) → P (Err stop.Memory) → P r

@@ -79,14 +79,6 @@ module _ (frame : Option (List ℕ)) (e : Effect) (x : Option Node) (a b : Devic
   frame_said NotAVolume y done t ok = cc
   frame_said NoImage y done t ok = cc
 
-  pub counts_done : (r : NodeEnd) (y : Option Node) → NodeDone r frame e (host a x) (host b y) → Counts (result_of r) a b
-  counts_done Quiet y done = calm_ran _ a b done.0.ran
-  counts_done Sent y done = calm_ran _ a b done.0.ran
-  counts_done (Starts image) y done = calm_ran _ a b done.0.ran
-  counts_done Stopped y done = done.0.halts.cause
-  counts_done NotAVolume y done = absurd done
-  counts_done NoImage y done = calm_ran _ a b done.ran
-
   -- a start that failed
   pub start_failed : (f : BootFault) (s : Store) (y : Option Node) → NodeDone (power_end (Err f)) frame e (host a x) (host b y) → Stands a.image s → FailedBy (stop_of_start f) s e b
   start_failed boot_fault.Stopped s y done stands = record { between = a; stands = stands; stops = done.0 }
@@ -113,13 +105,3 @@ pub start_counts : (f : BootFault) (E : Store → Effect) (x y : Option Node) (a
 start_counts boot_fault.Stopped E x y a b finds done = finds.0.cause
 start_counts boot_fault.NotAVolume E x y a b finds done = calm_ran 0 a b finds.1.ran
 start_counts boot_fault.NoImage E x y a b finds done = calm_ran _ a b (done finds.0 finds.1).ran
-
-pub start_writes : (f : BootFault) (n : ℕ) → WritesBy (stop_of_start f) n n
-start_writes boot_fault.Stopped n = refl
-start_writes boot_fault.NotAVolume n = refl
-start_writes boot_fault.NoImage n = refl
-
-pub start_reads : (f : BootFault) (n : ℕ) → ReadsBy (stop_of_start f) n n
-start_reads boot_fault.Stopped n = refl
-start_reads boot_fault.NotAVolume n = refl
-start_reads boot_fault.NoImage n = refl

@@ -29,6 +29,3 @@ puts_front_then a b c x y p q =
       put = puts_then a b c x (take q.0 y) p q.2;
       front = (drop q.0 y, append_assoc x (take q.0 y) (drop q.0 y) ∙ ap (λ (z : List ℕ). x ++ z) (take-append-drop q.0 y));
     }
-
-pub puts_all : (a c : Option (List ℕ)) (whole : List ℕ) → Puts a c whole → Fronted a c whole
-puts_all a c whole p = record { text = whole; put = p; front = ([], append-nil whole) }

@@ -5,9 +5,6 @@ use Rattle.dg_nor.specs.Device.{Device}
 use Rattle.dg_world.specs.Counts.{NoneRose}
 use Rattle.dg_world.proofs.BoardLemmas.{same_some}
 
-pub NoneRose-same : (ds : List Device) → NoneRose ds ds
-NoneRose-same ds = λ m a b here there. ap (λ (d : Device). d.faults) (same_some b a (sym there ∙ here))
-
 -- over one list of boards and then another
 pub NoneRose_then : (old mid new : List Device) → length mid ≡ length old → NoneRose old mid → NoneRose mid new → NoneRose old new
 NoneRose_then old mid new count first second = λ m a b here there.

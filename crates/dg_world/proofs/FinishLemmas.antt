@@ -32,7 +32,7 @@ use Rattle.dg_node.specs.declared.report.ChipReport.{ChipReport}
 use Rattle.dg_node.specs.declared.node.Node.{Node}
 use Rattle.dg_world.specs.declared.world.World.{World}
 use Rattle.dg_world.proofs.BoardLemmas.{Used, same_some}
-use Rattle.dg_world.proofs.FormatLemmas.{same_err, first_none, first_more, unused, is_now, is_other}
+use Rattle.dg_world.proofs.FormatLemmas.{same_err, first_more, unused, is_now, is_other}
 use Rattle.dg_world.proofs.ChipReportLemmas.{range_more, same_over}
 
 -- ---- the lines of one mote
@@ -92,9 +92,6 @@ pub record ReadTo (n : ℕ) (old new : List Device) : Type 0 where
   pub first : FirstBoards n old new
   pub images : (m : ℕ) (a b : Device) → slice_get old m ≡ Some a → slice_get new m ≡ Some b → b.image ≡ a.image
 
-pub read_none : (ds : List Device) → ReadTo 0 ds ds
-read_none ds = record { first = first_none ds; images = λ m a b here there. ap (λ (d : Device). d.image) (same_some b a (sym there ∙ here)) }
-
 pub read_more : (n : ℕ) (old now new : List Device) (d e : Device) → ReadTo n old now → Used n now new d e → Endures (beneath_of d) (beneath_of e) → e.image ≡ d.image → ReadTo (n + 1) old new
 read_more n old now new d e to used kept same =
     record {
@@ -110,9 +107,6 @@ read_more n old now new d e to used kept same =
 
 pub same_boards : (n : ℕ) (old new : List Device) → ReadTo n old new → SameBoards old new
 same_boards n old new to = record { count = to.first.count; images = to.images; counts = to.first.counts; endures = to.first.endures }
-
-pub unread : (ds : List Device) → SameBoards ds ds
-unread ds = same_boards 0 ds ds (read_none ds)
 
 pub read_flash : (n : ℕ) (old now new : List Device) (d e : Device) → ReadTo n old now → Used n now new d e → ReadStopped d e → ReadFlash n old new
 read_flash n old now new d e to used stopped =

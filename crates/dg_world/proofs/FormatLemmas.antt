@@ -16,7 +16,6 @@ use Rattle.dg_world.specs.Counts.{NoneRose}
 use Rattle.dg_world.specs.Formatted.{FirstBoards, FormatStops}
 use Rattle.dg_world.specs.declared.format.FormatStopped.{FormatStopped}
 use Rattle.dg_world.proofs.BoardLemmas.{Used, same_some, get_same, get_other}
-use Rattle.dg_world.proofs.CountLemmas.{NoneRose-same}
 
 pub same_err : {E : Type 0} (a b : E) → (let x : Result (Unit {0}) E = Err a in x ≡ Err b) → a ≡ b
 same_err a b e = cc
@@ -28,25 +27,6 @@ pub record FormattedTo (n : ℕ) (s : Store) (old new : List Device) : Type 0 wh
   pub written : (m : ℕ) (d : Device) → m < n → slice_get new m ≡ Some d → HasForm d.image new_form
   pub awake : (m : ℕ) (d : Device) → m < n → slice_get old m ≡ Some d → d.stopped ≡ false
   pub calm : NoneRose old new
-
-pub first_none : (ds : List Device) → FirstBoards 0 ds ds
-first_none ds =
-    record {
-      count = refl;
-      others = λ m h. refl;
-      counts = λ m a b here there. let e : a.faults ≡ b.faults = ap (λ (d : Device). d.faults) (same_some a b (sym here ∙ there)) in omega (arith, e);
-      endures = λ m a b here there. subst (λ (d : Device). Endures (beneath_of a) (beneath_of d)) (same_some a b (sym here ∙ there)) (Endures-same (beneath_of a));
-    }
-
-pub formatted_none : (s : Store) (ds : List Device) → FormattedTo 0 s ds ds
-formatted_none s ds =
-    record {
-      boards = first_none ds;
-      formatted = λ m d h here. absurd (omega (arith, h));
-      written = λ m d h here. absurd (omega (arith, h));
-      awake = λ m d h here. absurd (omega (arith, h));
-      calm = NoneRose-same ds;
-    }
 
 -- the board was not used before
 pub unused : (n : ℕ) (old now new : List Device) (d e : Device) → FirstBoards n old now → Used n now new d e → slice_get old n ≡ Some d

@@ -84,13 +84,6 @@ added old new image_version image rows put fresh declares =
           ∙ sym (row_behind rows (row_of_image image_version image) i v);
     }
 
-same_entries : (old new : Images) → new.by_image_version.entries ≡ old.by_image_version.entries → (q : ImageVersion) → found new q ≡ found old q
-same_entries old new same q = ap (lookup (is_image_version q)) same
-
--- where nothing changed the same rows are declared
-pub still_declared : (old new : Images) (rows : List Row) → new.by_image_version.entries ≡ old.by_image_version.entries → Declares old rows → Declares new rows
-still_declared old new rows same declares = record { each = λ i v. let q : ImageVersion = record { image = i; version = v } in ap (option_map (row_of_image q)) (same_entries old new same q) ∙ declares.each i v }
-
 -- ---- what is found
 
 pub unknown_row : (images : Images) (rows : List Row) (image_version : ImageVersion) → Declares images rows → None ≡ found images image_version → row_at rows image_version.image image_version.version ≡ None

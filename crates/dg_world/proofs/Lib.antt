@@ -3,7 +3,6 @@ pub mod LinkLemmas
 pub mod ImageLemmas
 pub mod WorldLemmas
 pub mod ChipReportLemmas
-pub mod OutcomeEndLemmas
 pub mod OutcomeLemmas
 pub mod StartLemmas
 pub mod SameLemmas

@@ -13,9 +13,8 @@ use Rattle.dg_world.specs.Mounted.{StandFor, MountedTo, MountStops, NoVolumeAt}
 use Rattle.dg_world.specs.declared.mount.MountStopped.{MountStopped}
 use Rattle.dg_world.specs.declared.mount.MountStopped.TheVariants.{Flash, NotAVolume}
 use Rattle.dg_world.proofs.BoardLemmas.{Used, same_some}
-use Rattle.dg_world.proofs.CountLemmas.{NoneRose-same}
 use Rattle.dg_world.proofs.FormatLemmas.{unused, is_now, is_other, calm_more}
-use Rattle.dg_world.proofs.FinishLemmas.{ReadTo, read_none, read_more}
+use Rattle.dg_world.proofs.FinishLemmas.{ReadTo, read_more}
 
 -- the first n boards are volumes, and were not stopped
 pub record AreMounted (n : ℕ) (old new : List Device) : Type 0 where
@@ -23,9 +22,6 @@ pub record AreMounted (n : ℕ) (old new : List Device) : Type 0 where
   pub volumes : (m : ℕ) (d : Device) → m < n → slice_get new m ≡ Some d → IsVolume d.image
   pub awake : (m : ℕ) (d : Device) → m < n → slice_get old m ≡ Some d → d.stopped ≡ false
   pub calm : NoneRose old new
-
-pub mounted_none : (ds : List Device) → AreMounted 0 ds ds
-mounted_none ds = record { read = read_none ds; volumes = λ m d h here. absurd (omega (arith, h)); awake = λ m d h here. absurd (omega (arith, h)); calm = NoneRose-same ds }
 
 -- one board more was mounted
 pub mounted_more : (n : ℕ) (old now new : List Device) (d e : Device) → AreMounted n old now → Used n now new d e → Endures (beneath_of d) (beneath_of e) → e.image ≡ d.image → d.stopped ≡ false → e.faults ≡ d.faults

@@ -293,10 +293,6 @@ halts_at NoImage f v u bs w x reported was runs i mote a b start end is_fault sa
     let P : WorldFault → Type 0 = λ y. ApplyEnds (Err y) w x reported (deployed v bs start) (deployed u (set bs i b) end) in
     subst P (sym is_fault) (lacked v bs w x i a b is at known here s.endures s.count s.ends.0, s.ends.1)
 
--- a step that fits one world that the code stands for fits every one
-pub fits_each : (v : World) (bs : List Device) (w u : RuleWorld) (x : Step) → IsWorld v bs w → IsWorld v bs u → StepInRange (length w.sites) x → StepInRange (length u.sites) x
-fits_each v bs w u x is other fits = subst (λ (n : ℕ). StepInRange n x) (is.motes ∙ sym other.motes) fits
-
 -- the same over boards that are given by an equation
 pub applied_at : (v u : World) (bs cs : List Device) (w : RuleWorld) (x : Step) (reported : Bool) (i : ℕ) (was runs : Option Node) (frame : Option (List ℕ)) (a b : Device) (start end : List Report) → cs ≡ set bs i b → IsWorld v bs w → i ≡ mote_of x.event → i < length w.sites → v.events < most_events → dt_of x.event < 2 ^ 32
     → Moves v u i (w.moment + dt_of x.event) runs frame → KnownKeeps v u i b → slice_get bs i ≡ Some a → (s : Stepped (Ok frame) w x reported (station a was start) (station b runs end)) → ((z : RuleWorld) (reports : List Report) → WorldStep w x z reports → WorldTimely z) → Applied w x reported (deployed v bs start) (deployed u cs end)
@@ -327,10 +323,6 @@ reserved v air bs w same is = record {
   sites = is.sites;
   orderly = is.orderly;
 }
-
-pub on_ok : {A F : Type 0} {P Q : Type 0} (r : Result A F) → (P → Q) → OnOk r P → OnOk r Q
-on_ok (Ok x) f p = f p
-on_ok (Err e) f p = tt
 
 -- ---- which boards are known
 
@@ -374,6 +366,3 @@ said_at P bs cs i m a b p q all wide here same old new said =
     let ep : p ≡ a = same_of (slice_get bs i) p a (ap (slice_get bs) same ∙ old) here in
     let eq : q ≡ b = same_of (slice_get (set bs i b) i) q b (ap (slice_get (set bs i b)) same ∙ sym (ap (λ (ds : List Device). slice_get ds m) all) ∙ new) (get_set_same bs i b wide) in
     subst (λ (d : Device). P p d) (sym eq) (subst (λ (d : Device). P d b) (sym ep) said)
-
-pub same_board : (o : Option Device) (p q : Device) → o ≡ Some p → o ≡ Some q → p ≡ q
-same_board o p q e f = same_of o p q e f

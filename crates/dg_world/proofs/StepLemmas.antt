@@ -68,12 +68,6 @@ reading_stopped {T} (Err e) f m before t a b told is x =
     let P : Fault → Type 0 = λ y. ReadAndTold {T = T} (Err y) m before t a b told told in
     subst P (sym is) (stopped_told T f m before t a b told x)
 
--- a reading that was handed on
-pub as_read : {T U : Type 0} (r : Result T Fault) (q : Result U Fault) (x : T) (y : U) (m : ℕ) (before : Option ChipReport) (t : Store) (a b : Device) (start end : List Report) → r ≡ Ok x → q ≡ Ok y → ReadAndTold r m before t a b start end → ReadAndTold q m before t a b start end
-as_read {T} {U} r q x y m before t a b start end is then told =
-    let here : ReadAndTold {T = T} (Ok x) m before t a b start end = subst (λ (z : Result T Fault). ReadAndTold z m before t a b start end) is told in
-    subst (λ (z : Result U Fault). ReadAndTold z m before t a b start end) (sym then) here
-
 failed_by : (T U : Type 0) (f : Fault) (m : ℕ) (before : Option ChipReport) (t : Store) (a b : Device) (start end : List Report) → ReadAndTold {T = T} (Err f) m before t a b start end → ReadAndTold {T = U} (Err f) m before t a b start end
 failed_by T U fault.Stopped m before t a b start end told = told
 failed_by T U fault.NotAVolume m before t a b start end told = absurd told.0

@@ -70,19 +70,3 @@ shares v s boards w rows links is shared = record {
   sites = is.sites;
   orderly = is.orderly;
 }
-
--- so may which motes are narrow
-pub narrows : (v : World) (new : List Bool → List Bool) (boards : List Device) (w : RuleWorld) → IsWorld v boards w → IsWorld (record v { shared = record v.shared { narrow = new v.shared.narrow } }) boards (record w { narrow = new w.narrow })
-narrows v new boards w is = record {
-  moment = is.moment;
-  events = is.events;
-  shared = record { declared = is.shared.declared; links = is.shared.links; narrow = ap new is.shared.narrow; sent = is.shared.sent };
-  motes = is.motes;
-  few_motes = is.few_motes;
-  boards_enough = is.boards_enough;
-  few_events = is.few_events;
-  early = is.early;
-  timely = is.timely;
-  sites = is.sites;
-  orderly = is.orderly;
-}
