@@ -6,3 +6,6 @@ mod verifying;
 
 pub use lines::signed_line;
 pub use verifying::{VerifyFault, verify_image};
+
+#[cfg(test)]
+mod tests;
