@@ -1,4 +1,4 @@
--- What is signed: a line that binds an image and a version to the root of its pages (docs/COMMANDS.md, "Signed images").
+-- What is signed: a line that binds an image and a version to the root of its pages (docs/HOSTILE.md, "Signed images").
 use Rattle.std.specs.Prelude.{ℕ, List, [], ◌∷◌, ◌++◌, codes, decimal}
 use Rattle.dg_base.specs.Hexadecimal.{hex_text}
 
