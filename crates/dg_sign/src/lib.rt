@@ -1,5 +1,4 @@
-//! Signed images: the line that is signed, whether a signature is one of it under a key, and keys and signatures as files have
-//! them.
+//! Signed images: the line that is signed, whether a signature is one of it under a key, and signatures as files have them.
 #![tactic(auto)]
 
 mod lines;
