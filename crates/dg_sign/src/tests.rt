@@ -1,6 +1,7 @@
-//! A line that `botan` signed.
-use crate::{VerifyFault, signed_line, verify_image};
-use dg_xmss::{PublicKey, SignatureFault};
+//! A line that `botan` signed, and signatures as files have them.
+use crate::{SignatureTextFault, VerifyFault, read_signature, signed_line, verify_image};
+use base64::DecodeError;
+use dg_xmss::{PublicKey, SIGNATURE_SIZE, SignatureFault};
 use std::test::Fail;
 
 const KEY: &[u8] = b"\
@@ -115,6 +116,32 @@ fn a_line_from_outside(rt: HostRuntime) -> Result<(), Fail> {
     assert_eq!(rt;
         verify_image(rt.alloc(), &key, 1, 2, &ROOT, SIGNATURE),
         other
+    );
+    Ok(())
+}
+
+/// In base64 each digit `A` is six bits 0, so 2,500 bytes 0 are 3,334 of them, and two of padding.
+const DIGITS: usize = 3_334;
+
+#[test]
+fn a_signature_as_a_file_has_it(rt: HostRuntime) -> Result<(), Fail> {
+    let alloc = rt.alloc();
+    let zeros = [0; SIGNATURE_SIZE];
+    assert_eq!(rt; read_signature(alloc, &zeros)?.as_slice(), zeros.as_slice());
+    let mut text = vec![in alloc; b'A'; DIGITS]?;
+    text.extend_from_slice(b"==")?;
+    assert_eq!(rt; read_signature(alloc, &text)?.as_slice(), zeros.as_slice());
+    text.push(b'\n')?;
+    assert_eq!(rt; read_signature(alloc, &text)?.as_slice(), zeros.as_slice());
+    text.push(b'\n')?;
+    let second = DecodeError::InvalidByte(3_336, b'\n');
+    assert_eq!(rt;
+        read_signature(alloc, &text).err(),
+        Some(SignatureTextFault::Base64(second))
+    );
+    assert_eq!(rt;
+        read_signature(alloc, b"AAAA").err(),
+        Some(SignatureTextFault::Length { length: 3 })
     );
     Ok(())
 }
