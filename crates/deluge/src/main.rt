@@ -1,7 +1,7 @@
 //! `deluge` reprograms a network of motes over many hops. `run` of `dg_cli` does all that it does.
 #![tactic(auto)]
 
-use dg_base::{MOST_MOTES, Status, StdSink, StdSource};
+use dg_base::{Clock, MOST_MOTES, Sink, Source, Status, StdSink, StdSource};
 use dg_cli::{flash_names, run};
 use dg_net::{SystemClock, UdpLink};
 use dg_nor::Board;
@@ -10,6 +10,9 @@ use std::env::Args;
 use std::fs::{File, OpenOptions};
 use std::io::ErrorKind;
 use std::process::ExitCode;
+
+#[cfg(test)]
+mod tests;
 
 /// What is handed on in place of words of which one is not UTF-8. It is no command.
 const NOT_TEXT: &str = "\u{fffd}";
@@ -79,6 +82,22 @@ fn boards_in_memory(rt: &HostRuntime) -> Option<Vec<Board>> {
     Some(boards)
 }
 
+/// Files that take the numbers of standard streams that are closed. Where one is closed, the file that is opened next takes
+/// its number, and gets what is written there: let that be one of these, and no chip.
+#[derive(Drop)]
+struct Guard {
+    files: [Option<File>; 3],
+}
+
+impl Guard {
+    /// A file that keeps nothing and gives nothing for each standard stream.
+    fn new(rt: &HostRuntime) -> Guard {
+        Guard {
+            files: [nothing(rt), nothing(rt), nothing(rt)],
+        }
+    }
+}
+
 /// The file that keeps nothing and gives nothing.
 fn nothing(rt: &HostRuntime) -> Option<File> {
     OpenOptions::new()
@@ -95,35 +114,43 @@ fn point_to_help(rt: &HostRuntime) {
 
 /// How the program ends without memory for its words or its boards.
 fn without_memory() -> ExitCode {
-    ExitCode::from(Status::Memory.code())
+    exit_code(Status::Memory)
+}
+
+/// How the program ends where its command ended so.
+fn exit_code(status: Status) -> ExitCode {
+    ExitCode::from(status.code())
+}
+
+/// Runs the command of these words over an input, an output and a clock, chips in files or in memory, and sockets of this
+/// machine. The guard stands while files of chips are open.
+fn run_words<S: Source, K: Sink, C: Clock>(
+    rt: &HostRuntime,
+    _guard: &Guard,
+    words: &Vec<String>,
+    input: &mut S,
+    out: &mut K,
+    clock: &mut C,
+) -> ExitCode {
+    let Some(mut boards) = boards(rt, words) else {
+        return without_memory();
+    };
+    let mut link = UdpLink::new(rt, rt.alloc());
+    let status = run(rt.alloc(), words, input, out, &mut boards, &mut link, clock);
+    if status == Status::Usage {
+        point_to_help(rt);
+    }
+    exit_code(status)
 }
 
 /// Runs the command over standard input and output, sockets of this machine and its clock.
 fn main(rt: HostRuntime) -> ExitCode {
     let mut clock = SystemClock::new(&rt);
-    // Where a standard stream is closed, the file that is opened next takes its number, and gets what is written there:
-    // let that be one of these, and no chip.
-    let _streams = (nothing(&rt), nothing(&rt), nothing(&rt));
+    let guard = Guard::new(&rt);
     let Some(words) = words(&rt) else {
-        return without_memory();
-    };
-    let Some(mut boards) = boards(&rt, &words) else {
         return without_memory();
     };
     let mut input = StdSource::new(rt.stdin());
     let mut out = StdSink::new(rt.stdout());
-    let mut link = UdpLink::new(&rt, rt.alloc());
-    let status = run(
-        rt.alloc(),
-        &words,
-        &mut input,
-        &mut out,
-        &mut boards,
-        &mut link,
-        &mut clock,
-    );
-    if status == Status::Usage {
-        point_to_help(&rt);
-    }
-    ExitCode::from(status.code())
+    run_words(&rt, &guard, &words, &mut input, &mut out, &mut clock)
 }
