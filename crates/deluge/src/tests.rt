@@ -116,7 +116,6 @@ fn commands_over_a_file_end_in_their_status(rt: HostRuntime) -> Result<(), Fail>
     let name = format!(in rt.alloc(); "{folder}/chip")?;
     let name = name.as_str();
     assert_eq!(rt; ended(&rt, FORMATTING, name, GOLDEN)?, ExitCode::from(0));
-    assert_eq!(rt; ended(&rt, "boot", name, "")?, ExitCode::from(0));
     assert_eq!(rt; ended(&rt, "dump --image 1", name, "")?, ExitCode::from(8));
     let mut chip = Board::on_file(&rt, rt.alloc(), name, false)?;
     program_in(&mut chip, GOLDEN_SECTOR, 0, &[0])?;
