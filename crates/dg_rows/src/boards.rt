@@ -61,7 +61,7 @@ pub(crate) fn are_same(one: &mut Board, other: &mut Board) -> Result<bool, Fail>
     for index in 0..530u32 {
         one.read(index * 2048, &mut sector)?;
         other.read(index * 2048, &mut others)?;
-        if sector.as_slice() != others.as_slice() {
+        if sector != others {
             return Ok(false);
         }
     }

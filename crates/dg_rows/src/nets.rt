@@ -164,12 +164,12 @@ fn a_service_ends_early(rt: HostRuntime) -> Result<(), Fail> {
 fn traces_and_their_replays(rt: HostRuntime) -> Result<(), Fail> {
     let alloc = rt.alloc();
     let rows = [
-        (2, "serve --turns 1 --seed 0 f g", TWO, ONE_TURN),
-        (2, "serve --turns 3 --seed 0 f g", TWO, THREE_TURNS),
-        (6, "serve --turns 1 --seed 0 f", SIX, SIX_MOTES),
+        ("serve --turns 1 --seed 0 f g", TWO, ONE_TURN),
+        ("serve --turns 3 --seed 0 f g", TWO, THREE_TURNS),
+        ("serve --turns 1 --seed 0 f", SIX, SIX_MOTES),
     ];
-    for (count, words, profile, trace) in rows {
-        let mut boards = formatted(alloc, count)?;
+    for (words, profile, trace) in rows {
+        let mut boards = formatted(alloc, 6)?;
         let mut before = copies(alloc, &boards)?;
         let served = answer(alloc, words, &lines_of(alloc, profile)?, &mut boards)?;
         expect(words, &served, 0, &lines_of(alloc, trace)?)?;

@@ -11,7 +11,7 @@ use dg_nor::{Board, Fused, Nor};
 use std::alloc::Global;
 use std::test::Fail;
 
-/// Each verb, over two chips that keep golden alone, with an input that it may read. It writes something.
+/// Each verb, over two chips that keep an image beside golden, with an input that it may read. It writes something.
 const VERBS: [(&str, &str); 15] = [
     ("format --name base --used 0 f", GOLDEN),
     ("inject --image 2 --ver 1 --name n f", BLINK),
@@ -30,7 +30,7 @@ const VERBS: [(&str, &str); 15] = [
     ("order --number 1 --image 1 --ver 1 f", ""),
     ("boot f", ""),
     ("ping f", ""),
-    ("dump --image 0 f", ""),
+    ("dump --image 1 f", ""),
     ("migrate f", ""),
     (
         "check --image 1 --root ea4207ef9cfe98aa59325b9754abc2546e4324a0aea79da0f6e830963b86c531 f",
@@ -42,15 +42,23 @@ const VERBS: [(&str, &str); 15] = [
 /// How many of them read an input. They stand first.
 const READING: usize = 8;
 
-/// A chip of the old form, with golden alone. Its first commit writes the new form.
+/// A chip of the old form.
 fn chip(alloc: Global) -> Result<Board, Fail> {
-    let row = (
-        "format --name base --used 0 --form 1 f",
-        GOLDEN,
-        0,
-        "room 520223",
-    );
-    played(alloc, &[row])
+    let rows = [
+        (
+            "format --name base --used 0 --form 1 f",
+            GOLDEN,
+            0,
+            "room 520223",
+        ),
+        (
+            "inject --image 1 --ver 1 --name blink f",
+            BLINK,
+            0,
+            "have 0 1 1 2",
+        ),
+    ];
+    played(alloc, &rows)
 }
 
 /// Two of them.
@@ -144,7 +152,7 @@ const WRITING: [Row; 11] = [
 /// Commands that only read a chip. One that came stopped is read by none.
 const READING_CHIPS: [Row; 5] = [
     ("ping f", "", 6, ""),
-    ("dump --image 0 f", "", 6, ""),
+    ("dump --image 1 f", "", 6, ""),
     (
         "check --image 1 --root ea4207ef9cfe98aa59325b9754abc2546e4324a0aea79da0f6e830963b86c531 f",
         "",
