@@ -10,9 +10,21 @@ mod fault_lines;
 #[cfg(test)]
 mod faults;
 #[cfg(test)]
+mod frames;
+#[cfg(test)]
+mod known;
+#[cfg(test)]
+mod links;
+#[cfg(test)]
 mod motes;
 #[cfg(test)]
+mod playing;
+#[cfg(test)]
 mod reports;
+#[cfg(test)]
+mod runs;
+#[cfg(test)]
+mod services;
 #[cfg(test)]
 mod shapes;
 #[cfg(test)]
@@ -20,4 +32,8 @@ mod slots;
 #[cfg(test)]
 mod starts;
 #[cfg(test)]
+mod stopped_runs;
+#[cfg(test)]
 mod stops;
+#[cfg(test)]
+mod streams;

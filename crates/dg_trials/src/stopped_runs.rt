@@ -3,10 +3,15 @@
 ghost use Rattle.std.specs.Prelude.{◌≤◌, ◌<◌};
 ghost use Rattle.dg_nor.specs.Sizes.{sectors};
 
-use crate::boards::{MASKS, played};
-use crate::playing::{Answered, GOLDEN, Row, answer, expect};
-use dg_base::Status;
+use crate::boards::{CONTENT, GOLDEN, IMAGE, MASKS, formatted, mounted};
+use crate::playing::{Answer, ample, play};
+use crate::stops::{NO_ORDER, ORDER, SPENT};
+use dg_base::{MemSource, Status};
+use dg_control::{MOST_ROOM, PLACE_SIZE};
+use dg_link::MemLink;
 use dg_nor::{Board, Fused, Nor, read_in};
+use dg_object::PAGE_SIZE;
+use dg_volume::{Kept, Program, Snapshot, Volume};
 use std::alloc::Global;
 use std::test::Fail;
 
@@ -25,33 +30,22 @@ const REPORTS: [&str; 6] = [
     "end 5\nmote 0 on 1 1\nkept 0 1 1 2\n",
 ];
 
-/// The descriptors: image, pages, version, length, name, and the CRC of the page of content, which was computed by Python's
-/// `binascii.crc_hqx`. The rest of each page is FF.
+/// What a chip keeps of golden. The CRCs of the descriptors were computed by Python's `binascii.crc_hqx`.
+const GOLDEN_KEPT: Kept = Kept {
+    version: 1,
+    pages: 2,
+    done: 2,
+    crc: 0xA965,
+};
+
+const IMAGE_CRC: u16 = 0xECCA;
+
+/// The descriptors: image, pages, version, length, name, and the CRC of the page of content. The rest of each page is FF.
 const GOLDEN_DESCRIPTOR: &[u8] =
     b"DG\x00\x02\x00\x00\x00\x01\x00\x00\x00\x01base\x00\x00\x00\x00\x00\x00\x00\x00\x00\x00\x00\x00\xF0\x93";
 
 const IMAGE_DESCRIPTOR: &[u8] =
     b"DG\x01\x02\x00\x00\x00\x01\x00\x00\x00\x09blink\x00\x00\x00\x00\x00\x00\x00\x00\x00\x00\x00\x32\xA5";
-
-/// The content of golden, and that of the image.
-const GOLDEN_CONTENT: &[u8] = b"A";
-
-const IMAGE_CONTENT: &[u8] = b"123456789";
-
-/// The bytes of a page, and of a place.
-const PAGE_SIZE: usize = 1104;
-
-const PLACE_SIZE: usize = 64;
-
-/// The commits of a new chip. With 31 of them spent no place is free, so that the next one hands over to the other sector.
-const MOST_ROOM: u32 = 520_223;
-
-const SPENT: u32 = 31;
-
-/// The chips on which the run begins, by the commits that are spent.
-const NEW: Row = ("format --name base --used 0 f", GOLDEN, 0, "room 520223");
-
-const FULL: Row = ("format --name base --used 31 f", GOLDEN, 0, "room 520192");
 
 /// The first sector of program memory, and that of the pages of the image's slot.
 const PROGRAM_MEMORY: u32 = 3;
@@ -113,8 +107,8 @@ const STEPS: [Step; 10] = [
 /// The first step where no place is free: an erase, a place by two programs, and a bit of the ledger.
 const HANDED_OVER: Step = (0, 4, End::Bit(0x80), None, None, false, 1, 1);
 
-/// The chips on which the run begins, with the commits that are spent before it, and its operations then.
-const RUNS: [(Row, u32, u32); 2] = [(NEW, 0, 154), (FULL, SPENT, 156)];
+/// The commits that are spent before the run, and its operations then.
+const RUNS: [(u32, u32); 2] = [(0, 154), (SPENT, 156)];
 
 /// What a run leaves: how many of the reports are written, and what stands on the board.
 #[derive(Clone, Copy)]
@@ -177,8 +171,11 @@ fn reported(alloc: Global, count: usize) -> Result<Vec<u8>, Fail> {
 }
 
 /// Replays the script over boards.
-fn replay<N: Nor>(alloc: Global, boards: &mut Vec<N>) -> Result<Answered, Fail> {
-    answer(alloc, "replay f", SCRIPT, boards)
+fn replay<N: Nor>(alloc: Global, boards: &mut Vec<N>) -> Result<Answer, Fail> {
+    let mut input = MemSource::new(Vec::from_slice(alloc, SCRIPT)?, Vec::new(alloc));
+    let mut out = ample(alloc)?;
+    let mut link = MemLink::new(alloc, 1);
+    play(alloc, &["replay"], &mut input, &mut out, boards, &mut link)
 }
 
 /// The same over a board that stops at operation `after`, if there is one.
@@ -187,7 +184,7 @@ fn replay_stopped(
     board: &mut Board,
     after: u32,
     mask: &[u8; PLACE_SIZE],
-) -> Result<Answered, Fail>
+) -> Result<Answer, Fail>
     requires { 1 ≤ after }
 {
     let mut boards = Vec::new(alloc);
@@ -195,25 +192,51 @@ fn replay_stopped(
     replay(alloc, &mut boards)
 }
 
-/// What `ping` tells of a board.
-fn told(alloc: Global, stand: Stand, used: u32) -> Result<String, Fail> {
-    let program = match stand.program {
-        None => "blank",
-        Some(0) => "0 1",
-        Some(_) => "1 1",
-    };
-    let order = if stand.ordered { "1 1 1" } else { "none" };
-    let kept = match stand.done {
-        None => "",
-        Some(0) => "kept 1 1 0 2 -\n",
-        Some(1) => "kept 1 1 1 2 blink\n",
-        Some(_) => "kept 1 1 2 2 blink\n",
-    };
-    let gesture = stand.gesture;
-    let room = MOST_ROOM.saturating_sub(used).saturating_sub(stand.spent);
-    Ok(format!(in alloc;
-        "golden base 1\nprogram {program}\norder {order}\ngesture {gesture}\nroom {room}\n{kept}"
-    )?)
+/// The complete pages of the image, where its slot is taken.
+fn done_of(volume: &Volume) -> Result<Option<u8>, Fail> {
+    for image in 2..7 {
+        if volume.kept(image).is_some() {
+            return Err("another slot is taken".into());
+        }
+    }
+    if volume.kept(0) != Some(GOLDEN_KEPT) {
+        return Err("golden is not kept".into());
+    }
+    match volume.kept(IMAGE) {
+        None => Ok(None),
+        Some(
+            Kept {
+                version: 1,
+                pages: 2,
+                done,
+                crc: IMAGE_CRC,
+            },
+        ) => Ok(Some(done)),
+        Some(_) => Err("another image is kept".into()),
+    }
+}
+
+/// The image to which program memory is set.
+fn program_of(snapshot: &Snapshot) -> Result<Option<u8>, Fail> {
+    match snapshot.program {
+        Program::Blank => Ok(None),
+        Program::Set { image, version: 1 } => Ok(Some(image)),
+        Program::Set { .. } => Err("another version is in program memory".into()),
+    }
+}
+
+/// Whether an order is kept.
+fn is_ordered(snapshot: &Snapshot) -> Result<bool, Fail> {
+    if snapshot.waived {
+        return Err("the order is waived".into());
+    }
+    if snapshot.order == NO_ORDER {
+        Ok(false)
+    } else if snapshot.order == ORDER {
+        Ok(true)
+    } else {
+        Err("another order is kept".into())
+    }
 }
 
 /// Whether a page stands in a sector: these bytes, and then FF.
@@ -243,66 +266,61 @@ fn objects_stand(board: &mut Board, stand: Stand) -> Result<bool, Fail> {
     if done >= 1 && !holds(board, SLOT, IMAGE_DESCRIPTOR)? {
         return Ok(false);
     }
-    if done >= 2 && !holds(board, SLOT + 1, IMAGE_CONTENT)? {
+    if done >= 2 && !holds(board, SLOT + 1, CONTENT)? {
         return Ok(false);
     }
     match stand.program {
         None => Ok(true),
         Some(0) => Ok(
             holds(board, PROGRAM_MEMORY, GOLDEN_DESCRIPTOR)?
-                && holds(board, PROGRAM_MEMORY + 1, GOLDEN_CONTENT)?,
+                && holds(board, PROGRAM_MEMORY + 1, GOLDEN)?,
         ),
         Some(_) => Ok(
             holds(board, PROGRAM_MEMORY, IMAGE_DESCRIPTOR)?
-                && holds(board, PROGRAM_MEMORY + 1, IMAGE_CONTENT)?,
+                && holds(board, PROGRAM_MEMORY + 1, CONTENT)?,
         ),
     }
 }
 
-/// Fails where another chip stands on the board.
-fn expect_stand(alloc: Global, mut board: Board, used: u32, stand: Stand) -> Result<(), Fail> {
-    if !objects_stand(&mut board, stand)? {
+/// What stands on a board.
+fn stand_of(board: &mut Board, used: u32) -> Result<Stand, Fail> {
+    let volume = mounted(board)?;
+    let snapshot = volume.snapshot();
+    let stand = Stand {
+        done: done_of(&volume)?,
+        program: program_of(&snapshot)?,
+        ordered: is_ordered(&snapshot)?,
+        gesture: snapshot.gesture,
+        spent: MOST_ROOM.saturating_sub(used).saturating_sub(volume.room()),
+    };
+    if !objects_stand(board, stand)? {
         return Err("a page does not stand".into());
     }
-    let mut boards = Vec::new(alloc);
-    boards.push(board)?;
-    let pinged = answer(alloc, "ping f", b"", &mut boards)?;
-    expect("ping", &pinged, 0, told(alloc, stand, used)?.as_bytes())
-}
-
-/// Runs over a copy of a chip, which stops at an operation, and fails where that does not leave what it must.
-fn stop_run(
-    alloc: Global,
-    chip: &Board,
-    used: u32,
-    after: u32,
-    mask: &[u8; PLACE_SIZE],
-) -> Result<Status, Fail>
-    requires { 1 ≤ after }
-{
-    let mut board = chip.copy(alloc)?;
-    let answered = replay_stopped(alloc, &mut board, after, mask)?;
-    let left = left_at(used, after, mask);
-    if answered.written.as_slice() != reported(alloc, left.reports)?.as_slice() {
-        return Err(Fail::new(format_args!("{used}, {after}, {mask:?}: another report")));
-    }
-    expect_stand(alloc, board, used, left.stand)?;
-    Ok(answered.status)
+    Ok(stand)
 }
 
 #[test]
 fn a_run_stops_at_each_operation(rt: HostRuntime) -> Result<(), Fail> {
-    for (format, used, operations) in RUNS {
-        let chip = played(rt.alloc(), &[format])?;
+    for (used, operations) in RUNS {
+        let board = formatted(&rt, used)?;
         for mask in &MASKS {
             for after in 1..=operations.saturating_add(1) {
-                let answered = stop_run(rt.alloc(), &chip, used, after, mask)?;
+                let mut copy = board.copy(rt.alloc())?;
+                let answered = replay_stopped(rt.alloc(), &mut copy, after, mask)?;
+                let left = left_at(used, after, mask);
                 let status = if after <= operations {
                     Status::FlashFault
                 } else {
                     Status::Done
                 };
-                assert_eq!(rt; answered, status, "{used}, {after}, {mask:?}");
+                assert_eq!(rt; answered.status, status, "{used}, {after}, {mask:?}");
+                let report = reported(rt.alloc(), left.reports)?;
+                assert!(rt;
+                    answered.written.as_slice() == report.as_slice(),
+                    "{used}, {after}, {mask:?}"
+                );
+                let stand = stand_of(&mut copy, used)?;
+                assert_eq!(rt; stand, left.stand, "{used}, {after}, {mask:?}");
             }
         }
     }
@@ -311,14 +329,15 @@ fn a_run_stops_at_each_operation(rt: HostRuntime) -> Result<(), Fail> {
 
 #[test]
 fn a_board_comes_stopped(rt: HostRuntime) -> Result<(), Fail> {
-    let mut board = played(rt.alloc(), &[NEW])?;
-    let mut fused = Vec::new(rt.alloc());
-    fused.push(Fused::new(&mut board, Some(3), &MASKS[1]))?;
+    let mut board = formatted(&rt, 0)?;
+    let mut boards = Vec::new(rt.alloc());
+    boards.push(Fused::new(&mut board, Some(3), &MASKS[1]))?;
     for _ in 0..2 {
-        let answered = replay(rt.alloc(), &mut fused)?;
+        let answered = replay(rt.alloc(), &mut boards)?;
         assert_eq!(rt; answered.status, Status::FlashFault);
         assert!(rt; answered.written.is_empty());
     }
-    drop(fused);
-    expect_stand(rt.alloc(), board, 0, left_at(0, 3, &MASKS[1]).stand)
+    drop(boards);
+    assert_eq!(rt; stand_of(&mut board, 0)?, left_at(0, 3, &MASKS[1]).stand);
+    Ok(())
 }

@@ -1,7 +1,7 @@
 //! A replay of which each read in turn fails, each write, and each write that passes the limit of the output.
 ghost use Rattle.std.specs.Prelude.{Some};
 
-use crate::playing::{AMPLE, Answered, ample, play};
+use crate::playing::{AMPLE, Answer, ample, play};
 use dg_base::{MemSink, MemSource, ReadFailed, Source, Status};
 use dg_link::MemLink;
 use dg_nor::Board;
@@ -64,11 +64,11 @@ fn script(alloc: Global) -> Result<Vec<u8>, Fail> {
 }
 
 /// Replays a script over a new board.
-fn replay<S: Source>(alloc: Global, input: &mut S, out: &mut MemSink) -> Result<Answered, Fail> {
+fn replay<S: Source>(alloc: Global, input: &mut S, out: &mut MemSink) -> Result<Answer, Fail> {
     let mut boards = Vec::new(alloc);
     boards.push(Board::memory(alloc)?)?;
     let mut link = MemLink::new(alloc, 1);
-    play(alloc, "replay", input, out, &mut boards, &mut link)
+    play(alloc, &["replay"], input, out, &mut boards, &mut link)
 }
 
 /// How many writes are made by the lines that are whole within so many bytes.

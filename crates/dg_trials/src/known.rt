@@ -1,7 +1,8 @@
 //! How much a replay reads of a board: one that the world knows is mounted again by halving.
 
-use crate::playing::answer;
-use dg_base::Status;
+use crate::playing::{ample, play};
+use dg_base::{MemSource, Status};
+use dg_link::MemLink;
 use dg_nor::{Board, Counted};
 use std::test::Fail;
 
@@ -26,7 +27,17 @@ fn taken(rt: &HostRuntime, script: &[u8]) -> Result<u64, Fail> {
     let mut board = Board::memory(alloc)?;
     let mut boards = Vec::new(alloc);
     boards.push(Counted::new(&mut board))?;
-    let answered = answer(alloc, "replay", script, &mut boards)?;
+    let mut input = MemSource::new(Vec::from_slice(alloc, script)?, Vec::new(alloc));
+    let mut out = ample(alloc)?;
+    let mut link = MemLink::new(alloc, 1);
+    let answered = play(
+        alloc,
+        &["replay"],
+        &mut input,
+        &mut out,
+        &mut boards,
+        &mut link,
+    )?;
     if answered.status != Status::Done {
         return Err("the replay is not done".into());
     }

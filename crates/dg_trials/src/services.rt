@@ -1,8 +1,8 @@
 //! Services over datagrams between sockets of this machine, and the replay of what they wrote.
 ghost use Rattle.std.specs.Prelude.{◌<◌};
 
-use crate::playing::{Answered, ample, input_of, play};
-use dg_base::Status;
+use crate::playing::{Answer, ample, play};
+use dg_base::{MemSource, Status};
 use dg_link::Link;
 use dg_net::UdpLink;
 use dg_nor::Board;
@@ -32,12 +32,12 @@ fn free_port<R: Net>(rt: &R, alloc: Global, process: u32) -> u16
 /// Runs a command over boards and a link.
 fn run_over<L: Link>(
     alloc: Global,
-    words: &str,
+    words: &[&str],
     input: &[u8],
     boards: &mut Vec<Board>,
     link: &mut L,
-) -> Result<Answered, Fail> {
-    let mut input = input_of(alloc, input)?;
+) -> Result<Answer, Fail> {
+    let mut input = MemSource::new(Vec::from_slice(alloc, input)?, Vec::new(alloc));
     play(alloc, words, &mut input, &mut ample(alloc)?, boards, link)
 }
 
@@ -49,7 +49,7 @@ fn two_motes(alloc: Global, port: u16) -> Result<String, Fail> {
 /// A new folder for the files of a test.
 fn new_folder(rt: &HostRuntime) -> Result<String, Fail> {
     let id = process::id(rt.process());
-    let name = format!(in rt.alloc(); "dg_rows-{id}")?;
+    let name = format!(in rt.alloc(); "dg_trials-{id}")?;
     let folder = env::temp_dir(rt)?.join(rt.alloc(), name.as_str())?;
     let folder = format!(in rt.alloc(); "{}", folder.display())?;
     fs::create_dir(rt, folder.as_str())?;
@@ -89,12 +89,14 @@ fn paths_in(alloc: Global, folder: &str) -> Result<Paths, Fail> {
 fn prepare<L: Link>(rt: &HostRuntime, paths: &Paths, link: &mut L) -> Result<(), Fail> {
     let alloc = rt.alloc();
     let [a, b] = &paths.chips;
-    let format = "format --name base --used 0 -";
-    let inject = "inject --image 1 --ver 1 --name blink -";
+    let format = ["format", "--name", "base", "--used", "0", "-"];
+    let inject = [
+        "inject", "--image", "1", "--ver", "1", "--name", "blink", "-",
+    ];
     for (first, second, words, input) in [
-        (b, a, format, GOLDEN),
-        (a, b, format, GOLDEN),
-        (a, b, inject, BLINK),
+        (b, a, format.as_slice(), GOLDEN),
+        (a, b, format.as_slice(), GOLDEN),
+        (a, b, inject.as_slice(), BLINK),
     ] {
         let mut boards = chips(rt, first.as_str(), second.as_str())?;
         let done = run_over(alloc, words, input, &mut boards, link)?;
@@ -108,11 +110,11 @@ fn prepare<L: Link>(rt: &HostRuntime, paths: &Paths, link: &mut L) -> Result<(),
 /// Runs a command over the chips of two files.
 fn run_on_files<L: Link>(
     rt: &HostRuntime,
-    words: &str,
+    words: &[&str],
     input: &[u8],
     files: &[String; 2],
     link: &mut L,
-) -> Result<Answered, Fail> {
+) -> Result<Answer, Fail> {
     let [first, second] = files;
     let mut boards = chips(rt, first.as_str(), second.as_str())?;
     run_over(rt.alloc(), words, input, &mut boards, link)
@@ -131,12 +133,13 @@ fn a_trace_leaves_the_same_bytes(rt: HostRuntime) -> Result<(), Fail> {
         let chip = fs::read(&rt, paths.chips[i].as_str())?;
         fs::write(&rt, paths.copies[i].as_str(), &chip)?;
     }
-    let serve = "serve --turns 50 --seed 7";
+    let serve = ["serve", "--turns", "50", "--seed", "7"];
     let profile = profile.as_bytes();
-    let trace = run_on_files(&rt, serve, profile, &paths.chips, &mut link)?;
+    let trace = run_on_files(&rt, serve.as_slice(), profile, &paths.chips, &mut link)?;
     assert_eq!(rt; trace.status, Status::Done);
+    let replay = ["replay"];
     let trace = trace.written.as_slice();
-    let report = run_on_files(&rt, "replay", trace, &paths.copies, &mut link)?;
+    let report = run_on_files(&rt, replay.as_slice(), trace, &paths.copies, &mut link)?;
     assert_eq!(rt; report.status, Status::Done);
     for i in 0..2 {
         let served = fs::read(&rt, paths.chips[i].as_str())?;
@@ -158,8 +161,14 @@ fn a_port_that_is_taken(rt: HostRuntime) -> Result<(), Fail> {
         boards.push(Board::memory(alloc)?)?;
     }
     let mut link = UdpLink::new(&rt, alloc);
-    let words = "serve --turns 1 --seed 0";
-    let done = run_over(alloc, words, profile.as_bytes(), &mut boards, &mut link)?;
+    let words = ["serve", "--turns", "1", "--seed", "0"];
+    let done = run_over(
+        alloc,
+        words.as_slice(),
+        profile.as_bytes(),
+        &mut boards,
+        &mut link,
+    )?;
     assert_eq!(rt; done.status, Status::LinkFault);
     assert_eq!(rt;
         done.written.as_slice(),

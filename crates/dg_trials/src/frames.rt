@@ -1,8 +1,11 @@
 //! Frames from outside that are not honest: they tell of an image that nobody injected.
 
-use crate::playing::{answer, expect, new_boards};
+use dg_base::{MemSink, MemSource, Status, StepClock};
+use dg_cli::run;
 use dg_control::Order;
 use dg_frame::{Entry, Message, NARROW_IMAGES, in_range, write};
+use dg_link::MemLink;
+use dg_nor::Board;
 use dg_object::{PACKET_SIZE, PACKETS};
 use std::alloc::Global;
 use std::test::Fail;
@@ -86,13 +89,25 @@ fn a_page_that_is_no_descriptor_is_not_kept(rt: HostRuntime) -> Result<(), Fail>
     let alloc = rt.alloc();
     // The CRC of 1,104 zero bytes is 0.
     for crc in [0, 4660] {
-        let answered = answer(
+        let mut words = Vec::new(alloc);
+        words.push(String::from_str(alloc, "replay")?)?;
+        let mut boards = Vec::new(alloc);
+        boards.push(Board::memory(alloc)?)?;
+        let mut input = MemSource::new(script_of(alloc, crc)?, Vec::new(alloc));
+        let mut out = MemSink::new(alloc, 4096, Vec::new(alloc))?;
+        let mut link = MemLink::new(alloc, 1);
+        let mut clock = StepClock::new(1);
+        let status = run(
             alloc,
-            "replay",
-            &script_of(alloc, crc)?,
-            &mut new_boards(alloc, 1)?,
-        )?;
-        expect("replay", &answered, 0, REPORT)?;
+            &words,
+            &mut input,
+            &mut out,
+            &mut boards,
+            &mut link,
+            &mut clock,
+        );
+        assert_eq!(rt; status, Status::Done);
+        assert_eq!(rt; out.bytes(), REPORT);
     }
     Ok(())
 }

@@ -1,8 +1,8 @@
 //! A link of which chosen calls fail, and services over it.
 
 use crate::boards::formatted;
-use crate::playing::{Answered, ample, input_of, play};
-use dg_base::{LONGEST_FRAME, Status};
+use crate::playing::{Answer, ample, play};
+use dg_base::{LONGEST_FRAME, MemSource, Status};
 use dg_link::{FailLink, Link, LinkFailed, MemLink};
 use std::alloc::Global;
 use std::test::Fail;
@@ -45,15 +45,19 @@ const SERVICES: [(&str, u32, Status, usize); 11] = [
 ];
 
 /// Serves two motes with golden alone over a link whose call `number` fails.
-fn serve(alloc: Global, turns: &str, number: u32) -> Result<Answered, Fail> {
-    let mut boards = formatted(alloc, 2)?;
+fn serve(rt: &HostRuntime, turns: &str, number: u32) -> Result<Answer, Fail> {
+    let alloc = rt.alloc();
+    let mut boards = Vec::new(alloc);
+    for _ in 0..2 {
+        boards.push(formatted(rt, 0)?)?;
+    }
     let mut link = FailLink::new(MemLink::new(alloc, 4), Vec::from_slice(alloc, &[number])?);
-    let mut input = input_of(alloc, PROFILE)?;
+    let mut input = MemSource::new(Vec::from_slice(alloc, PROFILE)?, Vec::new(alloc));
     let mut out = ample(alloc)?;
-    let words = format!(in alloc; "serve --turns {turns} --seed 0")?;
+    let words = ["serve", "--turns", turns, "--seed", "0"];
     play(
         alloc,
-        words.as_str(),
+        words.as_slice(),
         &mut input,
         &mut out,
         &mut boards,
@@ -73,7 +77,7 @@ fn first_lines(alloc: Global, count: usize) -> Result<Vec<u8>, Fail> {
 #[test]
 fn a_service_ends_at_each_call_of_its_link(rt: HostRuntime) -> Result<(), Fail> {
     for (turns, number, status, count) in SERVICES {
-        let answered = serve(rt.alloc(), turns, number)?;
+        let answered = serve(&rt, turns, number)?;
         assert_eq!(rt; answered.status, status, "{turns}, {number}");
         let lines = first_lines(rt.alloc(), count)?;
         assert!(rt;
