@@ -15,7 +15,7 @@ use Rattle.dg_frame.specs.declared.Message.{Message}
 use Rattle.dg_serial.specs.Line.{line_of}
 use Rattle.dg_serial.specs.Reading.{Reading}
 use Rattle.dg_serial_base.specs.Deeds.{Base, deeds_of, powered, said}
-use Rattle.dg_serial_base.specs.Based.{Outside, closing, Came, AtPower, Later, Based, Refused, Causes}
+use Rattle.dg_serial_base.specs.Based.{Outside, closing, ClosesBy, Came, AtPower, Later, Based, Refused, Causes}
 use Rattle.dg_serial_base.specs.inner.Standing.{Calm, WhyStopped, Outset, code_on_line, StreamPlayed, DeedsHalted, InputEnds, Counts, WriteCounts, ReadCounts}
 use Rattle.dg_serial_base.specs.inner.Ending.{TellsStatus, TellsStop, TellsResult, outset_of, FailsAtPower, LineEnds, LineRefused}
 use Rattle.dg_serial_base.specs.declared.running.Running.{Running}
@@ -84,11 +84,11 @@ module _ (b : Base) (s : Store) (before after : Outside) (now : Option (List ℕ
       }
 
   -- a last line that could not be written
-  front_ends : (input : List ℕ) → Takes left_old left_new input → length input ≤ most_input + 1 → (c : Came b s input) → Stands new.image c.there.store → (wanted : Status) → Puts first now (said c.there) → PutsFront now last (closing wanted)
+  front_ends : (input : List ℕ) → Takes left_old left_new input → length input ≤ most_input + 1 → (c : Came b s input) → Stands new.image c.there.store → (wanted : Status) → ClosesBy c (closing wanted) → Puts first now (said c.there) → PutsFront now last (closing wanted)
       → Ends status.WriteFault
-  front_ends input taken few c stands wanted put front =
+  front_ends input taken few c stands wanted closes put front =
       let x = puts_front_then first now last (said c.there) (closing wanted) put front in
-      record { input = input; taken = taken; few = few; text = x.text; put = x.put; ends = (c, (wanted, x.front), stands) }
+      record { input = input; taken = taken; few = few; text = x.text; put = x.put; ends = (c, (closing wanted, closes, x.front), stands) }
 
   long_ends : (input : List ℕ) → Takes left_old left_new input → length input ≤ most_input + 1 → (v : Running) (line : Reading) → StreamPlayed a (take most_input input) (code_on_line now v line new) → most_input < length input
       → (answer : Status) (f g : ℕ) → TellsStatus answer status.TooLong (closing status.TooLong) now last f g → Ends answer
@@ -103,7 +103,7 @@ module _ (b : Base) (s : Store) (before after : Outside) (now : Option (List ℕ
         ends = (came_all input v line p, ((refl, (p.went.stood.state, p.went.stood.on)), refl, more), p.went.stood.mote.mounted.stands);
       })
   long_ends input taken few v line p more answer f g (inr x) =
-      subst Ends (sym x.0) (front_ends input taken few (came_all input v line p) p.went.stood.mote.mounted.stands status.TooLong p.went.put x.1)
+      subst Ends (sym x.0) (front_ends input taken few (came_all input v line p) p.went.stood.mote.mounted.stands status.TooLong (inr (inl ((refl, (p.went.stood.state, p.went.stood.on)), more, refl))) p.went.put x.1)
 
   lack_ends : (input : List ℕ) → Takes left_old left_new input → length input ≤ most_input + 1 → DeedsHalted stop.NoImage a (deeds_of (take most_input input)) now new
       → (answer : Status) (f g : ℕ) → TellsStatus answer status.NoImage (closing status.NoImage) now last f g → Ends answer
@@ -118,7 +118,7 @@ module _ (b : Base) (s : Store) (before after : Outside) (now : Option (List ℕ
         ends = (came_some stop.NoImage input h, (h.by.0, refl), h.by.2);
       })
   lack_ends input taken few h answer f g (inr x) =
-      subst Ends (sym x.0) (front_ends input taken few (came_some stop.NoImage input h) h.by.2 status.NoImage h.by.1 x.1)
+      subst Ends (sym x.0) (front_ends input taken few (came_some stop.NoImage input h) h.by.2 status.NoImage (inr (inr (h.by.0, refl))) h.by.1 x.1)
 
   -- the mote halted, and nothing is told of it
   memory_ends : (input : List ℕ) → Takes left_old left_new input → length input ≤ most_input + 1 → DeedsHalted stop.Memory a (deeds_of (take most_input input)) now new → last ≡ now → Ends status.Memory
@@ -133,7 +133,7 @@ module _ (b : Base) (s : Store) (before after : Outside) (now : Option (List ℕ
         few = few;
         text = h.by.0;
         put = same ∙ h.by.1;
-        ends = (came_some stop.Write input h, (status.Done, (h.by.2.0, h.by.2.1 ∙ sym (append-nil (said h.there)))), h.by.3);
+        ends = (came_some stop.Write input h, ([], inl refl, (h.by.2.0, h.by.2.1 ∙ sym (append-nil (said h.there)))), h.by.3);
       }
 
   flash_ends : (input : List ℕ) → Takes left_old left_new input → length input ≤ most_input + 1 → DeedsHalted stop.Flash a (deeds_of (take most_input input)) now new → last ≡ now → Ends status.FlashFault

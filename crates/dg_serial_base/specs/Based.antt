@@ -52,6 +52,13 @@ pub record Came (b : Base) (s : Store) (input : List ℕ) : Type 0 where
 abbrev pub PlayedAll : {b : Base} {s : Store} {input : List ℕ} → Came b s input → Type 0
 PlayedAll c = (c.rest ≡ []) × HasMote c.there
 
+-- the last line of the status that the played items and the bytes ask for: of too many bytes, of a start that lacks an image,
+-- or none
+abbrev pub ClosesBy : {b : Base} {s : Store} {input : List ℕ} → Came b s input → (line : List ℕ) → Type 0
+ClosesBy {b} {s} {input} c line =
+    (line ≡ []) ⊎ ((PlayedAll c × (most_input < length input) × (line ≡ closing status.TooLong))
+    ⊎ ((c.there.mote ≡ None) × (line ≡ closing status.NoImage)))
+
 -- what was written, by the status
 abbrev pub WroteBy : Status → {b : Base} {s : Store} {input : List ℕ} → Came b s input → (text : List ℕ)
     → (left : Option (List ℕ)) → Type 0
@@ -61,7 +68,8 @@ WroteBy status.TooLong {b} {s} {input} c text left =
     PlayedAll c × (text ≡ said c.there ++ closing status.TooLong) × (most_input < length input)
 WroteBy status.NoImage {b} {s} {input} c text left = (c.there.mote ≡ None) × (text ≡ said c.there ++ closing status.NoImage)
 WroteBy status.Memory {b} {s} {input} c text left = IsFront text (said c.there)
-WroteBy status.WriteFault {b} {s} {input} c text left = (answer : Status) × IsFront text (said c.there ++ closing answer)
+WroteBy status.WriteFault {b} {s} {input} c text left =
+    (line : List ℕ) × ClosesBy c line × IsFront text (said c.there ++ line)
 WroteBy answer {b} {s} {input} c text left = ⊥
 
 -- The chip stopped as the power came, or in the next deed.
