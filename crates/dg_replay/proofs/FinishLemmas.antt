@@ -20,15 +20,18 @@ pub read_stopped : (w : World) (board : ℕ) (initial old new : List Device) →
 read_stopped w board initial old new known same others f b motes count =
     record {
       stopped = board_stops motes board initial old new f.before f.after (omega (arith, known, count)) b.all f.was f.is f.stopped (same.counts board f.before f.after f.was f.is) f.cause;
-      there = (
-        chips_read w initial old new same b board f.after known f.is,
-        record {
+      there = record {
+        stands = chips_read w initial old new same b board f.after known f.is;
+        others = record {
           all = boards_through initial old new b.all same.count same.endures;
           stands = λ m d within other here. chips_read w initial old new same b m d within here;
           came = b.came;
           others = λ m past. others m past ∙ b.others m past;
-        },
-      );
+        };
+        unread = old;
+        stood = b;
+        read = same;
+      };
     }
 
 pub finished_as : (result : Status) (w : World) (told lines : List Report) (initial new : List Device) (before after : Option (List ℕ)) (failed : Type 0) → told ≡ lines → lines ≡ final_lines w → EndsWith result status.Done (report_text told) before after failed

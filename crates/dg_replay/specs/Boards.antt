@@ -72,10 +72,18 @@ LineStops (Golden name used content) left None board image old new = OthersForma
 LineStops Boards left None board image old new = OthersMounted board old new
 LineStops line left last board image old new = ItemStops left last board image old new
 
--- The same in the reading at the end, which changes no store.
+-- It stopped in the reading at the end. The boards before that reading stood for the world's stores, and each keeps its bytes.
+pub record ReadingStops (w : World) (board : ℕ) (image : List ℕ) (old new : List Device) : Type 0 where
+  pub stands : Stands image (store_at w board)
+  pub others : OthersStand w board old new
+  pub unread : List Device
+  pub stood : WorldStands w old unread
+  pub read : SameBoards unread new
+
+-- where it stopped, in one of these lines or in the reading behind them
 abbrev pub BoardStops : List Line → List Item → Option World → (board : ℕ) → List ℕ → (old new : List Device) → Type 0
 BoardStops [] left None board image old new = ⊥
-BoardStops [] left (Some w) board image old new = Stands image (store_at w board) × OthersStand w board old new
+BoardStops [] left (Some w) board image old new = ReadingStops w board image old new
 BoardStops (line ∷ rest) left last board image old new = LineStops line left last board image old new
 
 -- A board of so many motes is stopped where a replay had come to this world, with these lines to do,

@@ -1,5 +1,5 @@
 -- How a trial ends.
-use Rattle.std.proofs.Common.{◌≡◌, ◌≢◌, ◌⊎◌, inl, inr, ⊎_elim, ℕ, ◌<◌, ◌≤◌, List, [], ◌∷◌, ◌++◌, codes, length, refl, ap, sym, subst, ◌∙◌, append_assoc}
+use Rattle.std.proofs.Common.{◌≡◌, ◌≢◌, ◌⊎◌, inl, inr, ⊎_elim, ℕ, ◌+◌, ◌-◌, ◌*◌, ◌<◌, ◌≤◌, List, [], ◌∷◌, ◌++◌, codes, length, refl, ap, sym, subst, ◌∙◌, append_assoc, arith}
 use Rattle.std.specs.Prelude.{Option, Ok}
 use Rattle.std.specs.Fmt.{decimal}
 use Rattle.dg_words.specs.Counts.{Rose}
@@ -7,10 +7,15 @@ use Rattle.dg_base.specs.Outside.{Puts, PutsFront}
 use Rattle.dg_base.specs.declared.answers.Status.{Status}
 use Rattle.dg_base.specs.declared.answers.Status.TheVariants as status
 use Rattle.dg_nor.specs.Device.{Device}
-use Rattle.dg_trial.specs.Schedule.{sweep_count}
+use Rattle.dg_trial.specs.Schedule.{row_of_seed, schedule, sweep_count, event_count}
 use Rattle.dg_rules.specs.Sizes.{most_motes}
+use Rattle.dg_rules.specs.World.{World}
+use Rattle.dg_seed.specs.Draws.{first_generator}
+use Rattle.rand_pcg.specs.Pcg.{pcg32}
 use Rattle.dg_trial.specs.AroundTrial.{around_trial}
-use Rattle.dg_trial.specs.Trials.{summary_line, no_board_line, trial_text, WholeLaw, LineEnds, TellsWhole, TrialComplete, TrialEnds, TrialOutcome, TrialPlayed, TellsTrial, Unplayed}
+use Rattle.dg_trial.specs.Trials.{summary_line, no_board_line, trial_text, begins, wholes, TrialRun, WholeLaw, LineEnds, TellsWhole, TrialComplete, TrialEnds, TrialOutcome, TrialPlayed, TellsTrial, Unplayed}
+use Rattle.dg_trial.proofs.FitLemmas.{length-schedule}
+use Rattle.dg_trial.proofs.RunLemmas.{leads_events}
 use Rattle.dg_trial.proofs.TrialLemmas.{read_unread}
 use Rattle.dg_trial.specs.declared.summary.Summary.{Summary}
 
@@ -55,12 +60,25 @@ trial_told law r motes pages seed before after fb fa old new s some few some_pag
     (λ x. ⊎_elim (λ b. subst E (sym b.0) (inl (record { boards = enough; played = run.0; written = b.1 })))
     (λ c. subst E (sym c.0) (unread motes pages seed old new run.0, c.1)) x) at
 
+-- a whole schedule has as many events as its motes and pages say
+pub counts_events : (motes pages seed : ℕ) (v : World) → 1 ≤ motes → TrialRun motes pages seed v → v.events ≡ event_count motes pages
+counts_events motes pages seed v some run =
+    let s = sweep_count motes pages in
+    let played : v.events ≡ 0 + length (schedule motes pages seed) = leads_events (begins motes pages seed) v (schedule motes pages seed) run in
+    let count = length-schedule motes (100 * motes) s (pcg32 (first_generator seed)).1 some in
+    let links : 404 * (motes - 1) ≡ 2 * (motes - 1) * 202 = omega arith in
+    let sweeps : s * (404 * (motes - 1)) ≡ s * (2 * (motes - 1) * 202) = ap (λ (n : ℕ). s * n) links in
+    omega (arith, played, count, sweeps)
+
 -- where it was played and told, the line says that every mote keeps the image whole
-pub tells_whole : (r : Status) (motes pages seed : ℕ) (before after : Option (List ℕ)) (old new : List Device) → TrialEnds r motes pages seed (around_trial before old) (around_trial after new) → r ≡ status.Done → TellsWhole motes pages before after
-tells_whole r motes pages seed before after old new ends is =
+pub tells_whole : (r : Status) (motes pages seed : ℕ) (before after : Option (List ℕ)) (old new : List Device) → 1 ≤ motes → TrialEnds r motes pages seed (around_trial before old) (around_trial after new) → r ≡ status.Done → TellsWhole motes pages before after
+tells_whole r motes pages seed before after old new some ends is =
     let d : TrialComplete motes pages seed (around_trial before old) (around_trial after new) = subst (λ (s : Status). TrialEnds s motes pages seed (around_trial before old) (around_trial after new)) is ends in
     let w = d.played.last in
-    (w.events, subst (λ (n : ℕ). Puts before after (summary_line motes pages (sweep_count motes pages) w.events n)) d.whole d.written)
+    let text : ℕ → ℕ → List ℕ = λ events whole. summary_line motes pages (sweep_count motes pages) events whole in
+    let counted : Puts before after (text (event_count motes pages) (wholes (row_of_seed pages seed) w)) =
+    subst (λ (n : ℕ). Puts before after (text n (wholes (row_of_seed pages seed) w))) (counts_events motes pages seed w some d.played.run) d.written in
+    subst (λ (n : ℕ). Puts before after (text (event_count motes pages) n)) d.whole counted
 
 pub summary_text : (t0 t1 t2 t3 t4 t5 t6 : List ℕ) (a b c d e m p s v w : ℕ) → t1 ≡ t0 ++ (codes "trial motes " ++ decimal a) → t2 ≡ t1 ++ (codes " pages " ++ decimal b) → t3 ≡ t2 ++ (codes " sweeps " ++ decimal c) → t4 ≡ t3 ++ (codes " events " ++ decimal d)
     → t5 ≡ t4 ++ (codes " whole " ++ decimal e) → t6 ≡ t5 ++ 10 ∷ [] → a ≡ m → b ≡ p → c ≡ s → d ≡ v → e ≡ w → t6 ≡ t0 ++ summary_line m p s v w

@@ -113,5 +113,10 @@ shaking motes seed = disturbances motes (100 * motes) (pcg32 (first_generator se
 abbrev pub rest_events : (motes pages : ℕ) → List Event
 rest_events motes pages = resets motes ++ times (sweep_count motes pages) (sweep (line motes))
 
+-- how many events it has: two resets of each mote, the injection, a hundred disturbances for each mote, and for each sweep
+-- two rounds of each link, of 202 events each
+abbrev pub event_count : (motes pages : ℕ) → ℕ
+event_count motes pages = 102 * motes + 1 + sweep_count motes pages * (2 * (motes - 1) * 202)
+
 abbrev pub schedule : (motes pages seed : ℕ) → List Part
 schedule motes pages seed = opening motes ++ (shaking motes seed ++ map always (rest_events motes pages))

@@ -19,7 +19,7 @@ use Rattle.dg_world.specs.Formatted.{FirstBoards, FormatStops}
 use Rattle.dg_world.specs.Worlds.{IsWorld}
 use Rattle.dg_world.specs.declared.world.World.{World as KeptWorld}
 use Rattle.dg_trial.specs.AroundTrial.{AroundTrial}
-use Rattle.dg_trial.specs.Schedule.{Part, row_of_seed, schedule, sweep_count}
+use Rattle.dg_trial.specs.Schedule.{Part, row_of_seed, schedule, sweep_count, event_count}
 use Rattle.dg_world.specs.Boards.{WorldStands, BoardStopped}
 use Rattle.dg_trial.specs.Playing.{LeadsTo, first, chip, PartsBegun, StopsInPart}
 use Rattle.dg_trial.specs.declared.playing.Stop.{Stop}
@@ -164,10 +164,10 @@ pub record TrialCut (motes pages seed : ℕ) (a b : AroundTrial) : Type 0 where
   pub played : TrialPlayed motes pages seed a.boards b.boards
   pub written : PutsFront a.written b.written (trial_text motes pages seed played.last)
 
--- the line of a trial in which every mote keeps the image whole
+-- the line of a trial in which every mote keeps the image whole. Its numbers are those of the motes and the pages
 abbrev pub TellsWhole : (motes pages : ℕ) → (before after : Option (List ℕ)) → Type 0
 TellsWhole motes pages before after =
-    (events : ℕ) × Puts before after (summary_line motes pages (sweep_count motes pages) events motes)
+    Puts before after (summary_line motes pages (sweep_count motes pages) (event_count motes pages) motes)
 
 -- How a trial ends, by its status. Only a write that failed raises the count of such.
 abbrev pub TrialEnds : Status → (motes pages seed : ℕ) → (a b : AroundTrial) → Type 0

@@ -179,7 +179,8 @@ pub fn trial<K: Sink, N: Nor>(
     ensures ends { TrialEnds result motes pages seed
         (around_trial (K.written out.old) (map N.device boards.old.items))
         (around_trial (K.written out.new) (map N.device boards.new.items)) }
-    // where it is played and told, the line says that every mote keeps the image whole
+    // where it is played and told, the line says that every mote keeps the image whole, and its number of events is that of
+    // the motes and the pages
     ensures whole { result ≡ Status.Done → TellsWhole motes pages (K.written out.old) (K.written out.new) }
     // only a write that failed raises the count of such
     ensures cause { result ≡ Status.WriteFault → Rose (K.faults out.old) (K.faults out.new) }

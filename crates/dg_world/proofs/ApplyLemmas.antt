@@ -50,6 +50,7 @@ full_done x reported a most =
       too_many = λ e w is. omega (arith, most, is.events, is.few_events);
       full = λ w is e. refl;
       unchanged = λ e. (λ w is. is, refl);
+      known_kept = λ e m. refl;
       unreported = refl;
       flash = λ board e. absurd (other TooMany (Flash board) e (λ f. cc));
       no_image = λ e. absurd (other TooMany NoImage e (λ f. cc));
@@ -64,13 +65,14 @@ full_done x reported a most =
 
 -- Where there is no memory, nothing is done.
 pub lacking_done : (x : Step) (reported : Bool) (a b : Deployment) → a.world.events < most_events → b.boards ≡ a.boards → b.reported ≡ a.reported → ((w : RuleWorld) → IsOf a w → IsOf b w)
-    → ApplyDone (Err Memory) x reported a b
-lacking_done x reported a b few boards told kept =
+    → ((m : ℕ) → known_of b.world m ≡ known_of a.world m) → ApplyDone (Err Memory) x reported a b
+lacking_done x reported a b few boards told kept known =
     record {
       applied = tt;
       too_many = λ e. absurd (other Memory TooMany e (λ f. cc));
       full = λ w is e. absurd (omega (arith, few, is.events, e));
       unchanged = λ e. (kept, boards);
+      known_kept = λ e. known;
       unreported = told;
       flash = λ board e. absurd (other Memory (Flash board) e (λ f. cc));
       no_image = λ e. absurd (other Memory NoImage e (λ f. cc));
@@ -108,6 +110,7 @@ module _ (x : Step) (reported : Bool) (a b : Deployment) (air : Air) (z : RuleWo
         too_many = λ e. absurd (no_fault TooMany e);
         full = λ w at full. absurd (not_full w at full);
         unchanged = λ e. absurd (⊎_elim (λ y. no_fault TooMany y) (λ y. no_fault Memory y) e);
+        known_kept = λ e. absurd (⊎_elim (λ y. no_fault TooMany y) (λ y. no_fault Memory y) e);
         unreported = tt;
         flash = λ board e. absurd (no_fault (Flash board) e);
         no_image = λ e. absurd (no_fault NoImage e);
@@ -134,6 +137,7 @@ module _ (x : Step) (reported : Bool) (a b : Deployment) (air : Air) (z : RuleWo
         too_many = λ e. absurd (other (Flash n) TooMany e (λ f. cc));
         full = λ w at full. absurd (not_full w at full);
         unchanged = λ e. absurd (⊎_elim (λ y. other (Flash n) TooMany y (λ f. cc)) (λ y. other (Flash n) Memory y (λ f. cc)) e);
+        known_kept = λ e. absurd (⊎_elim (λ y. other (Flash n) TooMany y (λ f. cc)) (λ y. other (Flash n) Memory y (λ f. cc)) e);
         unreported = (m.ends z (roomy z is) fits).1;
         flash = flash_at;
         no_image = λ e. absurd (other (Flash n) NoImage e (λ f. cc));
@@ -156,6 +160,7 @@ module _ (x : Step) (reported : Bool) (a b : Deployment) (air : Air) (z : RuleWo
         too_many = λ e. absurd (other NoImage TooMany e (λ f. cc));
         full = λ w at full. absurd (not_full w at full);
         unchanged = λ e. absurd (⊎_elim (λ y. other NoImage TooMany y (λ f. cc)) (λ y. other NoImage Memory y (λ f. cc)) e);
+        known_kept = λ e. absurd (⊎_elim (λ y. other NoImage TooMany y (λ f. cc)) (λ y. other NoImage Memory y (λ f. cc)) e);
         unreported = (m.ends z (roomy z is) fits).1;
         flash = λ board e. absurd (other NoImage (Flash board) e (λ f. cc));
         no_image = λ e w at. (m.ends w (roomy w at) (fits_in w at)).0;

@@ -32,6 +32,7 @@ pub record ApplyDone (r : Result (Unit {0}) WorldFault) (x : Step) (reported : B
   pub too_many : r ≡ Err TooMany → (w : RuleWorld) → IsOf a w → w.events ≡ most_events
   pub full : (w : RuleWorld) → IsOf a w → w.events ≡ most_events → r ≡ Err TooMany
   pub unchanged : (r ≡ Err TooMany) ⊎ (r ≡ Err Memory) → ((w : RuleWorld) → IsOf a w → IsOf b w) × (b.boards ≡ a.boards)
+  pub known_kept : (r ≡ Err TooMany) ⊎ (r ≡ Err Memory) → (m : ℕ) → known_of b.world m ≡ known_of a.world m
   pub unreported : OnErr r (b.reported ≡ a.reported)
   pub flash : (board : ℕ) → r ≡ Err (Flash board) → (w : RuleWorld) → IsOf a w → FlashAt w x board a.boards b.boards
   pub no_image : r ≡ Err NoImage → (w : RuleWorld) → IsOf a w → RunEnded w x a.boards b.boards

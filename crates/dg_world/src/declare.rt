@@ -78,16 +78,18 @@ impl World {
 
     /// Two motes become neighbours.
     pub fn link(&mut self, a: u8, b: u8)
-        ensures { (boards : List Device) (w : RuleWorld) → IsWorld self.old boards w
+        ensures linked { (boards : List Device) (w : RuleWorld) → IsWorld self.old boards w
             → IsWorld self.new boards (record w { links = w.links ++ (a, b) ∷ [] }) }
+        ensures known { (m : ℕ) → known_of self.new m ≡ known_of self.old m }
     {
         self.shared.links.join(a, b);
     }
 
     /// A mote has the old radio: its frames speak of images 1 to 3.
     pub fn narrow(&mut self, mote: u8)
-        ensures { (boards : List Device) (w : RuleWorld) → IsWorld self.old boards w
+        ensures marked { (boards : List Device) (w : RuleWorld) → IsWorld self.old boards w
             → IsWorld self.new boards (record w { narrow = slice_set w.narrow mote true }) }
+        ensures known { (m : ℕ) → known_of self.new m ≡ known_of self.old m }
     {
         mark(&mut self.shared.narrow, usize::from(mote));
     }
@@ -113,6 +115,8 @@ impl World {
             → is_taken (row_at w.declared image version) (row_of image version name content) ≡ true }
         ensures unchanged { OnErr result ((boards : List Device) (w : RuleWorld) → IsWorld self.old boards w
             → IsWorld self.new boards w) }
+        // what is known of boards stays, whatever it answers
+        ensures known { (m : ℕ) → known_of self.new m ≡ known_of self.old m }
     {
         let image_version = ImageVersion { image, version };
         if let Some(kept) = self.shared.images.get(image_version) {

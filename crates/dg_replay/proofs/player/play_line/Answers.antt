@@ -50,7 +50,7 @@ returns-in-Link-clause-played g c = λ basis behind stood.
     let m = c.requires.may in
     let p = c.args.player.now in
     let at = link_at p.place e.a e.b (rw e.is at m.stands) in
-    rw e.is (link_played p _ behind.lines behind.world e.a e.b _ basis.boards _ (rw e.is at m.stands) (rw e.is at m.fits) at.0.0 at.1 refl c.link.ensures stood)
+    rw e.is (link_played p _ behind.lines behind.world e.a e.b _ basis.boards _ (rw e.is at m.stands) (rw e.is at m.fits) at.0.0 at.1 refl c.link.ensures.linked stood)
 
 pub returns-in-Narrow-clause-played : goal.returns-in-Narrow-clause-played
 returns-in-Narrow-clause-played g c = λ basis behind stood.
@@ -58,7 +58,7 @@ returns-in-Narrow-clause-played g c = λ basis behind stood.
     let m = c.requires.may in
     let p = c.args.player.now in
     let at = narrow_at p.place e.mote (rw e.is at m.stands) in
-    rw e.is (narrow_played p _ behind.lines behind.world e.mote _ basis.boards _ (rw e.is at m.stands) (rw e.is at m.fits) at.0.0 at.1 refl c.narrow.ensures stood)
+    rw e.is (narrow_played p _ behind.lines behind.world e.mote _ basis.boards _ (rw e.is at m.stands) (rw e.is at m.fits) at.0.0 at.1 refl c.narrow.ensures.marked stood)
 
 pub returns-in-Event-clause-played : goal.returns-in-Event-clause-played
 returns-in-Event-clause-played g c = λ basis behind stood.

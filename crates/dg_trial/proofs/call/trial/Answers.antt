@@ -42,8 +42,8 @@ returns-in-Err-Flash-clause-ends g c =
 
 pub returns-then-len-from-clause-whole : goal.returns-then-len-from-clause-whole
 returns-then-len-from-clause-whole g c =
-    tells_whole c.end_without_boards.result c.args.motes c.args.pages c.args.seed _ _ _ _ (returns-then-len-from-clause-ends g c)
+    tells_whole c.end_without_boards.result c.args.motes c.args.pages c.args.seed _ _ _ _ (omega (arith, c.requires.some)) (returns-then-len-from-clause-ends g c)
 
 pub returns-in-Ok-clause-whole : goal.returns-in-Ok-clause-whole
 returns-in-Ok-clause-whole g c =
-    tells_whole c.end_played.result c.args.motes c.args.pages c.args.seed _ _ _ _ (returns-in-Ok-clause-ends g c)
+    tells_whole c.end_played.result c.args.motes c.args.pages c.args.seed _ _ _ _ (omega (arith, c.requires.some)) (returns-in-Ok-clause-ends g c)

@@ -26,11 +26,11 @@ returns-then-self-ge-MOST_EVENTS g c = full_done _ c.args.reported _ (omega (ari
 
 pub returns-then-is_err : goal.returns-then-is_err
 returns-then-is_err g c =
-    lacking_done _ c.args.reported _ _ c.if-self-ge-MOST_EVENTS.false refl refl (λ w is. reserved c.args.self.now c.reserve.new.self _ w c.reserve.ensures.same is)
+    lacking_done _ c.args.reported _ _ c.if-self-ge-MOST_EVENTS.false refl refl (λ w is. reserved c.args.self.now c.reserve.new.self _ w c.reserve.ensures.same is) (λ m. refl)
 
 pub returns-then-is_err-2 : goal.returns-then-is_err-2
 returns-then-is_err-2 g c =
-    lacking_done _ c.args.reported _ _ c.if-self-ge-MOST_EVENTS.false refl c.reserve-2.ensures.items (λ w is. reserved c.args.self.now c.reserve.new.self _ w c.reserve.ensures.same is)
+    lacking_done _ c.args.reported _ _ c.if-self-ge-MOST_EVENTS.false refl c.reserve-2.ensures.items (λ w is. reserved c.args.self.now c.reserve.new.self _ w c.reserve.ensures.same is) (λ m. refl)
 
 pub invariant_of-context : goal.invariant_of-context
 invariant_of-context g c =
