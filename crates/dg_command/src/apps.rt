@@ -17,6 +17,9 @@ const VERSION: &str = "0.9";
 
 const IMAGE: &str = "The image, 0 to 6; 0 is golden";
 
+const TURNS: &str =
+    "How many turns it takes, of 16 to 50 ms. Of N motes, replay takes a trace of about 700000 / N turns";
+
 const VERBS: &str = "Commands:
   replay [FLASH]..                                        replay a script over boards
   serve --turns T --seed S [FLASH]..                      run the motes of a network profile
@@ -155,7 +158,7 @@ fn arguments<'a>(alloc: Global, verb: Verb) -> Result<Vec<Arg<'a>>, AllocError>
 fn serve_arguments<'a>(alloc: Global) -> Result<Vec<Arg<'a>>, AllocError>
     ensures { IfOk result (λ v. map rule_of v.items ≡ rules_of Verb.Serve) }
 {
-    let turns = number(alloc, "turns", "How many turns it takes", 1, MOST_TURNS);
+    let turns = number(alloc, "turns", TURNS, 1, MOST_TURNS);
     Ok(vec![in alloc; turns, seed(alloc), flashes(alloc)]?)
 }
 

@@ -1,6 +1,7 @@
 //! The clock of the system.
 ghost use Rattle.std.specs.Prelude.{◌≡◌, ◌≤◌, None};
 
+use crate::pace::elapsed;
 use dg_base::Clock;
 use std::time::{Clock as Timer, Instant};
 
@@ -40,6 +41,5 @@ impl<'r, R: Timer> Clock for SystemClock<'r, R> {
 
 // The milliseconds since a moment, where the system tells them.
 fn passed<R: Timer>(began: Option<Instant>, timer: &R) -> Option<u64> {
-    let passed = began?.elapsed(timer).ok()?;
-    u64::try_from(passed.as_millis()).ok()
+    u64::try_from(elapsed(began, timer)?.as_millis()).ok()
 }

@@ -2,6 +2,7 @@
 #![tactic(auto)]
 
 mod clock;
+mod pace;
 mod udp;
 
 pub use clock::SystemClock;

@@ -9,14 +9,15 @@ use std::alloc::Global;
 use std::net::{IpAddr, Ipv4Addr, Net, SocketAddr, UdpSocket};
 use std::process;
 use std::test::Fail;
+use std::time::Clock as Timer;
 
-// A port from which two are free, as far as can be told. Each process looks elsewhere first.
-fn free_port<R: Net>(rt: &R, alloc: Global, process: u32) -> u16
+// A port from which four are free, as far as can be told. Each process looks elsewhere first.
+fn free_port<R: Net + Timer>(rt: &R, alloc: Global, process: u32) -> u16
     ensures { result < 65000 }
 {
     for step in 0..200 {
         let port = 20_000 + 200 * (((process % 200) as u16 + step) % 200);
-        if UdpLink::new(rt, alloc).open(alloc, port, 2).is_ok() {
+        if UdpLink::new(rt, alloc).open(alloc, port, 4).is_ok() {
             return port;
         }
     }
@@ -82,7 +83,7 @@ fn failed_calls_of_sockets_are_told(rt: HostRuntime) -> Result<(), Fail> {
 }
 
 #[test]
-fn the_clock_goes_on(rt: HostRuntime) -> Result<(), Fail> {
+fn a_turn_in_which_nothing_comes_lasts_16_milliseconds(rt: HostRuntime) -> Result<(), Fail> {
     let alloc = rt.alloc();
     let mut clock = SystemClock::new(&rt);
     let port = free_port(&rt, alloc, process::id(rt.process()));
@@ -90,15 +91,68 @@ fn the_clock_goes_on(rt: HostRuntime) -> Result<(), Fail> {
     let mut into = [0; LONGEST_FRAME];
     link.open(alloc, port, 1)?;
     let before = clock.read();
-    let mut shortest = u64::MAX;
     for _ in 0..50 {
-        let from = clock.read();
         assert_eq!(rt; link.receive(0, &mut into)?, None);
-        shortest = shortest.min(clock.read().saturating_sub(from));
     }
     let passed = clock.read().saturating_sub(before);
-    // each waits for a millisecond, which the system may lengthen; no machine makes five seconds of fifty
-    assert!(rt; 50 <= passed && passed <= 5_000, "{passed}");
-    assert!(rt; shortest < 10, "{shortest}");
+    // the last turn is not waited for; a machine under load makes the others longer
+    assert!(rt; 784 <= passed && passed < 4_000, "{passed}");
+    Ok(())
+}
+
+#[test]
+fn a_turn_of_four_motes_is_as_long(rt: HostRuntime) -> Result<(), Fail> {
+    let alloc = rt.alloc();
+    let mut clock = SystemClock::new(&rt);
+    let port = free_port(&rt, alloc, process::id(rt.process()));
+    let mut link = UdpLink::new(&rt, alloc);
+    let mut into = [0; LONGEST_FRAME];
+    link.open(alloc, port, 4)?;
+    let before = clock.read();
+    for _ in 0..25 {
+        assert_eq!(rt; link.receive(0, &mut into)?, None);
+        assert_eq!(rt; link.receive(1, &mut into)?, None);
+        assert_eq!(rt; link.receive(2, &mut into)?, None);
+        assert_eq!(rt; link.receive(3, &mut into)?, None);
+    }
+    let passed = clock.read().saturating_sub(before);
+    // a hundred waits would be 1,584
+    assert!(rt; 384 <= passed && passed < 1_500, "{passed}");
+    Ok(())
+}
+
+#[test]
+fn a_turn_in_which_a_frame_comes_does_not_wait(rt: HostRuntime) -> Result<(), Fail> {
+    let alloc = rt.alloc();
+    let mut clock = SystemClock::new(&rt);
+    let port = free_port(&rt, alloc, process::id(rt.process()));
+    let mut link = UdpLink::new(&rt, alloc);
+    let mut into = [0; LONGEST_FRAME];
+    link.open(alloc, port, 1)?;
+    let before = clock.read();
+    for _ in 0..50 {
+        link.send(0, 0, b"hello")?;
+        assert_eq!(rt; link.receive(0, &mut into)?, Some(5));
+    }
+    let passed = clock.read().saturating_sub(before);
+    assert!(rt; passed < 700, "{passed}");
+    Ok(())
+}
+
+#[test]
+fn turns_are_longer_where_nothing_came_for_a_second(rt: HostRuntime) -> Result<(), Fail> {
+    let alloc = rt.alloc();
+    let mut clock = SystemClock::new(&rt);
+    let port = free_port(&rt, alloc, process::id(rt.process()));
+    let mut link = UdpLink::new(&rt, alloc);
+    let mut into = [0; LONGEST_FRAME];
+    link.open(alloc, port, 1)?;
+    let before = clock.read();
+    for _ in 0..84 {
+        assert_eq!(rt; link.receive(0, &mut into)?, None);
+    }
+    let passed = clock.read().saturating_sub(before);
+    // 63 turns of 16 ms take a second, and 20 longer ones another
+    assert!(rt; 1_960 <= passed && passed < 6_000, "{passed}");
     Ok(())
 }

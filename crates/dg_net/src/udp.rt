@@ -3,30 +3,34 @@ ghost use Rattle.std.specs.Prelude.{◌≡◌, ◌+◌, ◌^◌, ◌<◌, ◌≤
 ghost use Rattle.dg_words.specs.Counts.{Rose};
 ghost use Rattle.dg_base.specs.Sizes.{longest_frame, most_motes, greatest_port};
 
+use crate::pace::Pace;
 use dg_base::LONGEST_FRAME;
 use dg_link::{Link, LinkFailed, OpenFault};
 use std::alloc::{AllocError, Global};
 use std::io;
 use std::io::ErrorKind;
 use std::net::{IpAddr, Ipv4Addr, Net, SocketAddr, UdpSocket};
-use std::time::Duration;
-
-/// How long a receive waits for a datagram, in milliseconds.
-const PATIENCE: u64 = 1;
+use std::time::Clock as Timer;
 
 /// A link of which each mote has a socket on 127.0.0.1. Mote m has the first mote's port and m more.
 ///
 /// What comes to a socket is received, whoever sent it. Of a datagram the first 64 bytes are kept. What is sent may
 /// be lost.
+///
+/// A receive takes what is there, and the link makes the pace of its motes. A turn in which nothing came lasts 16 ms,
+/// however many motes there are, and 50 ms once nothing came for a second; one in which a frame came does not wait. A turn
+/// begins with a receive at a mote that received before in the turn that is played, or whose number is below that of one
+/// that did. It is this receive that waits for what is left of the turn before.
 #[derive(Drop)]
 pub struct UdpLink<'r, R> {
     net: &'r R,
     port: u16,
     sockets: Vec<UdpSocket>,
+    pace: Pace,
     faults: u64,
 }
 
-impl<'r, R: Net> UdpLink<'r, R> {
+impl<'r, R: Net + Timer> UdpLink<'r, R> {
     /// A link without sockets.
     pub fn new(net: &'r R, alloc: Global) -> UdpLink<'r, R>
         ensures sockets { result.sockets.items ≡ [] }
@@ -36,6 +40,7 @@ impl<'r, R: Net> UdpLink<'r, R> {
             net,
             port: 0,
             sockets: Vec::new(alloc),
+            pace: Pace::begin(net),
             faults: 0,
         }
     }
@@ -50,7 +55,7 @@ impl<'r, R: Net> UdpLink<'r, R> {
     }
 }
 
-impl<'r, R: Net> Link for UdpLink<'r, R> {
+impl<'r, R: Net + Timer> Link for UdpLink<'r, R> {
     ghost inboxes = { λ _. None };
 
     ghost mote_count = { λ l. length l.sockets.items };
@@ -60,6 +65,7 @@ impl<'r, R: Net> Link for UdpLink<'r, R> {
     fn open(&mut self, alloc: Global, port: u16, motes: u16) -> Result<(), OpenFault> {
         self.sockets.clear();
         self.port = port;
+        self.pace = Pace::begin(self.net);
         match open_sockets(self.net, alloc, port, motes) {
             Ok(sockets) => {
                 self.sockets = sockets;
@@ -88,7 +94,10 @@ impl<'r, R: Net> Link for UdpLink<'r, R> {
         at: u16,
         into: &mut [u8; LONGEST_FRAME],
     ) -> Result<Option<usize>, LinkFailed> {
-        match receive_datagram(&self.sockets[usize::from(at)], into) {
+        self.pace.look(self.net, at);
+        let received = receive_datagram(&self.sockets[usize::from(at)], into);
+        self.pace.note(self.net, matches!(received, Ok(Some(_))));
+        match received {
             Ok(received) => Ok(received),
             Err(LinkFailed) => {
                 self.count_fault();
@@ -136,22 +145,22 @@ fn push(sockets: &mut Vec<UdpSocket>, socket: UdpSocket) -> Result<(), OpenFault
     }
 }
 
-// A socket at a port, whose receives wait no longer than told.
+// A socket at a port, whose calls do not wait.
 fn open_socket<R: Net>(net: &R, port: u16) -> io::Result<UdpSocket> {
     let socket = UdpSocket::bind(net, address(port))?;
-    socket.set_read_timeout(Some(Duration::from_millis(PATIENCE)))?;
+    socket.set_nonblocking(true)?;
     Ok(socket)
 }
 
-// Sends a datagram, and tells whether it went out whole.
+// Sends a datagram, and tells whether it went out whole. One for which the system has no room is lost on its way.
 pub(crate) fn is_sent(socket: &UdpSocket, to: SocketAddr, bytes: &[u8]) -> bool {
     match socket.send_to(bytes, to) {
         Ok(count) => count == bytes.len(),
-        Err(_) => false,
+        Err(error) => error.kind() == ErrorKind::WouldBlock,
     }
 }
 
-// Receives a datagram, if one comes in time. A receive that is interrupted has received none.
+// Receives a datagram, if one is there. A receive that is interrupted has received none.
 pub(crate) fn receive_datagram(
     socket: &UdpSocket,
     into: &mut [u8; LONGEST_FRAME],
@@ -160,13 +169,13 @@ pub(crate) fn receive_datagram(
 {
     match socket.recv_from(into.as_mut_slice()) {
         Ok((count, _sender)) => Ok(Some(count)),
-        Err(error) if is_late(error.kind()) => Ok(None),
+        Err(error) if is_none_there(error.kind()) => Ok(None),
         Err(_) => Err(LinkFailed),
     }
 }
 
-// Whether a receive failed with this since no datagram came in time.
-fn is_late(kind: ErrorKind) -> bool {
+// Whether a receive failed with this since no datagram was there.
+fn is_none_there(kind: ErrorKind) -> bool {
     matches!(
         kind,
         ErrorKind::WouldBlock | ErrorKind::TimedOut | ErrorKind::Interrupted

@@ -9,6 +9,7 @@ use dg_nor::Board;
 use std::alloc::Global;
 use std::net::{IpAddr, Ipv4Addr, Net, SocketAddr, UdpSocket};
 use std::test::Fail;
+use std::time::Clock;
 use std::{env, fs, process};
 
 /// A golden image of one byte, and an image of two pages with its descriptor.
@@ -17,7 +18,7 @@ const GOLDEN: &[u8] = b":0100000041BE\n:00000001FF\n";
 const BLINK: &[u8] = b":090000003132333435363738391A\n:00000001FF\n";
 
 /// A port from which two are free, as far as can be told. Each process looks elsewhere first.
-fn free_port<R: Net>(rt: &R, alloc: Global, process: u32) -> u16
+fn free_port<R: Net + Clock>(rt: &R, alloc: Global, process: u32) -> u16
     ensures { result < 65000 }
 {
     for step in 0..200 {
