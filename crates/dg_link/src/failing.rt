@@ -71,6 +71,8 @@ impl Link for FailLink {
 
     ghost faults = { λ l. l.faults };
 
+    ghost first_port = { λ _. None };
+
     fn open(&mut self, alloc: Global, port: u16, motes: u16) -> Result<(), OpenFault>
         requires some { 1 ≤ motes }
         requires most { motes ≤ most_motes }

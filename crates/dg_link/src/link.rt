@@ -73,8 +73,12 @@ pub trait Link {
     // How many calls failed.
     ghost faults: { Self → ℕ };
 
+    // The port of its first mote, where the link tells it.
+    ghost first_port: { Self → Option ℕ };
+
     /// Begins with so many motes, from 1 to 16, at which no frame waits. Where the link goes over ports, the first
-    /// mote has `port`, at most 65,500, and the others have those that follow. After a refusal the link has no motes.
+    /// mote has `port`, at most 65,500, and the others have those that follow. After a refusal the link has no motes, and
+    /// the port that it tells is the one that it was to have.
     fn open(&mut self, alloc: Global, port: u16, motes: u16) -> Result<(), OpenFault>
         requires some { 1 ≤ motes }
         requires most { motes ≤ most_motes }
@@ -82,6 +86,7 @@ pub trait Link {
 
         ensures opened { OnOk result (mote_count self.new ≡ motes) }
         ensures empty { OnOk result (inboxes self.new ≡ option_map (emptied motes) (inboxes self.old)) }
+        ensures at_port { first_port self.new ≡ option_map (λ _. port) (first_port self.old) }
 
         ensures closed { OnErr result (mote_count self.new ≡ 0) }
         ensures none { OnErr result (inboxes self.new ≡ option_map (emptied 0) (inboxes self.old)) }
@@ -100,6 +105,7 @@ pub trait Link {
         ensures delivered { OnOk result (inboxes self.new ≡ option_map (delivered to bytes.now) (inboxes self.old)) }
         ensures nothing { OnErr result (inboxes self.new ≡ inboxes self.old) }
         ensures same_motes { mote_count self.new ≡ mote_count self.old }
+        ensures same_port { first_port self.new ≡ first_port self.old }
 
         ensures counts { faults self.old ≤ faults self.new }
         ensures failed { OnErr result (Rose (faults self.old) (faults self.new)) }
@@ -118,6 +124,7 @@ pub trait Link {
         ensures received { IfOk result (λ r. Receives at into.new r (inboxes self.old) (inboxes self.new)) }
         ensures nothing { OnErr result (inboxes self.new ≡ inboxes self.old) }
         ensures same_motes { mote_count self.new ≡ mote_count self.old }
+        ensures same_port { first_port self.new ≡ first_port self.old }
 
         ensures counts { faults self.old ≤ faults self.new }
         ensures failed { OnErr result (Rose (faults self.old) (faults self.new)) }

@@ -60,6 +60,8 @@ impl Link for MemLink {
 
     ghost faults = { λ _. 0 };
 
+    ghost first_port = { λ _. None };
+
     fn open(&mut self, alloc: Global, _port: u16, motes: u16) -> Result<(), OpenFault>
         requires some { 1 ≤ motes }
         requires most { motes ≤ most_motes }

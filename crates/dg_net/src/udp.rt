@@ -1,5 +1,5 @@
 //! A link over datagrams between sockets of this machine.
-ghost use Rattle.std.specs.Prelude.{◌≡◌, ◌+◌, ◌^◌, ◌<◌, ◌≤◌, [], length, Err, None, IfOk, IfErr, IfSome, OnOk, OnErr};
+ghost use Rattle.std.specs.Prelude.{◌≡◌, ◌+◌, ◌^◌, ◌<◌, ◌≤◌, [], length, Err, None, Some, IfOk, IfErr, IfSome, OnOk, OnErr};
 ghost use Rattle.dg_words.specs.Counts.{Rose};
 ghost use Rattle.dg_base.specs.Sizes.{longest_frame, most_motes, greatest_port};
 
@@ -50,6 +50,7 @@ impl<'r, R: Net + Timer> UdpLink<'r, R> {
         ensures rose { Rose self.old.faults self.new.faults }
         ensures counts { self.old.faults ≤ self.new.faults }
         ensures same_sockets { self.new.sockets ≡ self.old.sockets }
+        ensures same_port { self.new.port ≡ self.old.port }
     {
         self.faults = self.faults.saturating_add(1);
     }
@@ -61,6 +62,8 @@ impl<'r, R: Net + Timer> Link for UdpLink<'r, R> {
     ghost mote_count = { λ l. length l.sockets.items };
 
     ghost faults = { λ l. l.faults };
+
+    ghost first_port = { λ l. Some l.port };
 
     fn open(&mut self, alloc: Global, port: u16, motes: u16) -> Result<(), OpenFault> {
         self.sockets.clear();

@@ -18,10 +18,11 @@ pub record OutputState : Type 0 where
   pub written : Option (List ℕ)
   pub writes : ℕ
 
--- the frames that wait, and how many calls failed
+-- the frames that wait, how many calls failed, and the port of the first mote
 pub record LinkState : Type 0 where
   pub inboxes : Option Inboxes
   pub failures : ℕ
+  pub port : Option ℕ
 
 pub record Outside : Type 0 where
   pub input : InputState
@@ -40,7 +41,7 @@ abbrev pub output_of : {K : Type 0} → SinkTells K × K → OutputState
 output_of sink = record { written = sink.0.written sink.1; writes = sink.0.faults sink.1 }
 
 abbrev pub link_of : {L : Type 0} → LinkTells L × L → LinkState
-link_of net = record { inboxes = net.0.inboxes net.1; failures = net.0.faults net.1 }
+link_of net = record { inboxes = net.0.inboxes net.1; failures = net.0.faults net.1; port = net.0.first_port net.1 }
 
 -- all of it, of a call that is lent all of it
 abbrev pub outside : InputState → OutputState → LinkState → (clock : Option Answers) → (boards : List Device) → Outside
