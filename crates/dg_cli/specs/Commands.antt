@@ -34,12 +34,12 @@ use Rattle.dg_cli.specs.Chained.{root_in, Checked}
 pub record ServeDone (turns seed : ℕ) (status : Status) (a b : Outside) : Type 0 where
   pub served : NetworkServed status seed turns (around_service a.input.left a.input.reads (service_of a))
       (around_service b.input.left b.input.reads (service_of b))
-  -- whichever table its boards are held against: what agrees stays so where the frames that came are honest,
-  -- and what is consistent with any frames at all
+  -- whichever table its boards are held against: what agrees stays so where the frames that came are honest, as they are
+  -- over a link that tells its inboxes, and what is consistent with any frames at all
   pub keeps : (profile : NetProfile) → IsAllowed profile
       → (x : Began status profile seed turns (service_of a) (service_of b)) (table : List Row) (stores : List Store)
       → (fits : StoresOf profile.motes a.boards stores) → AreShaped stores
-      → KeepsRules table stores profile.links profile.motes x.events (x.came table stores fits).last.world
+      → KeepsRules a.link.inboxes table stores profile.links profile.motes x.events (x.came table stores fits).last
   -- the trace of its events is a script of them
   pub script : (profile : NetProfile) → IsAllowed profile
       → (x : Began status profile seed turns (service_of a) (service_of b)) (stores : List Store)

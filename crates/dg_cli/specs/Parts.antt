@@ -22,6 +22,7 @@ service_of a = record {
   clock = a.clock;
   inboxes = a.link.inboxes;
   failures = a.link.failures;
+  port = a.link.port;
   boards = a.boards;
 }
 

@@ -1,5 +1,5 @@
 //! The top call.
-ghost use Rattle.std.specs.Prelude.{◌≡◌, ◌≤◌, map, string_bytes};
+ghost use Rattle.std.specs.Prelude.{◌≡◌, ◌≢◌, ◌≤◌, map, string_bytes};
 ghost use Rattle.dg_mote.specs.Sizes.{buffered_bytes, BuffersFit, ValuesAreSmall};
 ghost use Rattle.dg_words.specs.Counts.{Rose};
 ghost use Rattle.dg_outside.specs.Outside.{input_of, output_of, link_of, outside};
@@ -50,8 +50,9 @@ pub fn run<S: Source, K: Sink, N: Nor, L: Link, C: Clock>(
     ensures untouched { (ReadsInput (asked_of (map string_bytes words.now.items)) → ⊥) → input.new ≡ input.old }
     ensures apart { (UsesLink (asked_of (map string_bytes words.now.items)) → ⊥) → (link.new ≡ link.old)
         × (clock.new ≡ clock.old) }
-    // A fault of the link is told only where one of its calls failed.
+    // A fault of the link is told exactly where one of its calls failed.
     ensures link_fault { result ≡ Status.LinkFault → Rose (L.faults link.old) (L.faults link.new) }
+    ensures unfailed { result ≢ Status.LinkFault → L.faults link.new ≡ L.faults link.old }
     ensures reads { S.faults input.old ≤ S.faults input.new }
     ensures writes { K.faults out.old ≤ K.faults out.new }
     ensures sends { L.faults link.old ≤ L.faults link.new }

@@ -1,5 +1,5 @@
 //! Carrying out a command.
-ghost use Rattle.std.specs.Prelude.{◌≡◌, ◌≤◌, true, map};
+ghost use Rattle.std.specs.Prelude.{◌≡◌, ◌≢◌, ◌≤◌, true, map};
 ghost use Rattle.dg_words.specs.Counts.{Rose};
 ghost use Rattle.dg_outside.specs.Outside.{input_of, output_of, link_of, outside};
 ghost use Rattle.dg_command.specs.Asking.{Asks, said_by, is_well_formed};
@@ -39,6 +39,7 @@ pub(crate) fn dispatch<S: Source, K: Sink, N: Nor, L: Link, C: Clock>(
     ensures untouched { (ReadsInput (Asks (said_by command.now)) → ⊥) → input.new ≡ input.old }
     ensures apart { (UsesLink (Asks (said_by command.now)) → ⊥) → (link.new ≡ link.old) × (clock.new ≡ clock.old) }
     ensures link_fault { result ≡ Status.LinkFault → Rose (L.faults link.old) (L.faults link.new) }
+    ensures unfailed { result ≢ Status.LinkFault → L.faults link.new ≡ L.faults link.old }
     ensures reads { S.faults input.old ≤ S.faults input.new }
     ensures writes { K.faults out.old ≤ K.faults out.new }
     ensures sends { L.faults link.old ≤ L.faults link.new }

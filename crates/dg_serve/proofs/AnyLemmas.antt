@@ -37,13 +37,13 @@ use Rattle.dg_world.specs.Alone.{uncut}
 use Rattle.dg_serve.specs.Promised.{event_item, item_played, RunOf, StoresConsistent, StoresKeepGolden, StaysConsistent, LeavesGolden, ServiceKeepsGolden, world_by, ReplaysTo}
 use Rattle.dg_serve.specs.Traces.{IsScript, trace, trace_lines}
 use Rattle.dg_serve.specs.Services.{Part, Begins, Looks, Ticks, Moment, Course, course}
-use Rattle.dg_serve.specs.Endings.{StoresOf, FindsNoImage, EndsInNext, event_of}
+use Rattle.dg_serve.specs.Endings.{StoresOf, FindsNoImage, Remains, remains, EndsInNext, event_of}
 use Rattle.dg_serve.specs.Served.{Outside, LeftBy, Wrote, Began}
 use Rattle.dg_serve.specs.declared.stop.Stop.{Stop}
 use Rattle.dg_serve.specs.declared.stop.Stop.TheVariants as stop
 use Rattle.dg_serve.proofs.EventLemmas.{same_of}
 use Rattle.dg_serve.proofs.RunLemmas.{PartFits, left_fits}
-use Rattle.dg_serve.proofs.TurnLemmas.{frame_runs}
+use Rattle.dg_serve.proofs.PartLemmas.{frame_runs}
 
 -- ---- the first world
 
@@ -51,7 +51,7 @@ module _ (table : List Row) (stores : List Store) (links : List (ℕ × ℕ)) wh
   abbrev First : World
   First = first_world table links none_narrow stores
 
-  first_count : length First.sites ≡ length stores
+  pub first_count : length First.sites ≡ length stores
   first_count = length-map stores off_site
 
   first_site : (m : ℕ) → site First m ≡ off_site (store_of stores m)
@@ -162,13 +162,13 @@ part_finds laws motes w (Looks m) dt draw bytes old new k fits none = frame_runs
 part_finds laws motes w (Ticks m) dt draw bytes old new k fits none =
     laws.goes_on w none.world (uncut (Tick m dt draw)) k.golden (record { event = subst (λ (n : ℕ). m < n) (sym k.count) fits; cut = tt }) none.ends
 
-next_finds : GoldenLaws → (motes : ℕ) (s : Moment) (left : List Part) (old new : List Device) → Keeps motes s.world → AllByRecursion (PartFits motes) left → EndsInNext stop.NoImage s left old new → ⊥
+next_finds : GoldenLaws → (motes : ℕ) (s : Moment) (left : List Part) (old : List Device) (new : Remains) → Keeps motes s.world → AllByRecursion (PartFits motes) left → EndsInNext stop.NoImage s left old new → ⊥
 next_finds laws motes s left old new k fits n =
-    part_finds laws motes s.world n.part n.dt n.draw n.bytes old new k (subst (AllByRecursion (PartFits motes)) n.is fits).0 n.ends
+    part_finds laws motes s.world n.part n.dt n.draw n.bytes old new.boards k (subst (AllByRecursion (PartFits motes)) n.is fits).0 n.ends
 
 -- a service ends so only where its last part did
 pub ends_found : (why : Option Stop) (answer : Status) (profile : NetProfile) (boards : ℕ) (s : Moment) (c : Course) (last : Moment) (first : List Device) (after : Outside) (text : List ℕ)
-    → Wrote why answer profile boards c.events text → LeftBy why profile.motes s c last first after → (EndsInNext stop.NoImage last c.left first after.boards → ⊥) → answer ≡ status.NoImage → ⊥
+    → Wrote why answer profile boards c.events text → LeftBy why profile.motes s c last first after → (EndsInNext stop.NoImage last c.left first (remains after.boards after.inboxes after.clock) → ⊥) → answer ≡ status.NoImage → ⊥
 ends_found None answer profile boards s c last first after text wrote ends never is = let e = wrote.0 in absurd cc
 ends_found (Some stop.Memory) answer profile boards s c last first after text wrote ends never is = let e = wrote.0 in absurd cc
 ends_found (Some stop.Write) answer profile boards s c last first after text wrote ends never is = let e = wrote.0 in absurd cc
@@ -184,7 +184,7 @@ finds_golden laws answer profile seed turns before after x table stores fits run
     let came = x.came table stores fits in
     let keeps = keeps_behind laws profile.motes table stores profile.links run.played came.last.world fits.count h run.plays run.ranges in
     ends_found x.why answer profile (length before.boards) _ (course x.done x.events x.left) came.last before.boards after x.text x.wrote came.ends
-    (λ n. next_finds laws profile.motes came.last x.left before.boards after.boards keeps (left_fits profile.motes turns x.done x.left x.parts) n) is
+    (λ n. next_finds laws profile.motes came.last x.left before.boards (remains after.boards after.inboxes after.clock) keeps (left_fits profile.motes turns x.done x.left x.parts) n) is
 
 -- ---- an uncut event leads to one world
 
@@ -196,16 +196,16 @@ one_world : (w v u : World) (event : Event) (r s : List Report) → WorldStep w 
 unfolding WorldStep
 one_world w v u event r s a b = one_done w v u event (does w event) r s a b
 
-first_is : (x y : Item) (xs ys : List Item) → x ∷ xs ≡ y ∷ ys → x ≡ y
+pub first_is : (x y : Item) (xs ys : List Item) → x ∷ xs ≡ y ∷ ys → x ≡ y
 first_is x y xs ys e = cc
 
-others_are : (x y : Item) (xs ys : List Item) → x ∷ xs ≡ y ∷ ys → xs ≡ ys
+pub others_are : (x y : Item) (xs ys : List Item) → x ∷ xs ≡ y ∷ ys → xs ≡ ys
 others_are x y xs ys e = cc
 
-none_is_some : (x : Item) (xs : List Item) → x ∷ xs ≡ [] → ⊥
+pub none_is_some : (x : Item) (xs : List Item) → x ∷ xs ≡ [] → ⊥
 none_is_some x xs e = absurd cc
 
-stepped_by : (u : World) (p : Played) (event : Event) → p.before ≡ u → p.item ≡ event_item event → ItemStep p.before p.item p.after p.reports → ItemStep u (event_item event) p.after p.reports
+pub stepped_by : (u : World) (p : Played) (event : Event) → p.before ≡ u → p.item ≡ event_item event → ItemStep p.before p.item p.after p.reports → ItemStep u (event_item event) p.after p.reports
 stepped_by u p event before item did = subst (λ (i : Item). ItemStep u i p.after p.reports) item (subst (λ (b : World). ItemStep b p.item p.after p.reports) before did)
 
 -- and so do uncut events one after the other

@@ -1,6 +1,6 @@
 -- How an event ends, from what the calls of it did.
 use Rattle.std.proofs.Common.{◌≡◌, ◌≢◌, ◌⊎◌, ℕ, ◌<◌, ◌≤◌, List, [], ◌∷◌, ◌++◌, length, get_or, set, append-nil, refl, ap, sym, ◌∙◌, subst, inl, inr, arith}
-use Rattle.std.specs.Prelude.{slice_get, slice_index_or, take, option_map, Option, None, Result, Ok, Err, IsErrAnd}
+use Rattle.std.specs.Prelude.{slice_get, slice_index_or, take, option_map, Option, Some, None, Result, Ok, Err, IsErrAnd}
 use Rattle.std.proofs.Math.ListN.{length-set}
 use Rattle.std.specs.Vec.{with_items}
 use Rattle.std.proofs.lemmas.List.{take_all, with_items_is}
@@ -44,10 +44,11 @@ one_line event = append-nil (line_text (EventLine event) ++ 10 ∷ [])
 
 -- ---- there was no memory for its line
 
-pub memory_ends : (motes : ℕ) (links : List (ℕ × ℕ)) (event : Event) (p q : Standing) → q.written ≡ p.written → q.inboxes ≡ p.inboxes → q.boards ≡ p.boards → q.failures ≡ p.failures → q.faults ≡ p.faults → NotApplied stop.Memory motes links event p q
-memory_ends motes links event p q untold link boards failures faults = record {
+pub memory_ends : (motes : ℕ) (links : List (ℕ × ℕ)) (event : Event) (p q : Standing) → q.written ≡ p.written → q.inboxes ≡ p.inboxes → q.boards ≡ p.boards → q.failures ≡ p.failures → q.faults ≡ p.faults → q.port ≡ p.port → NotApplied stop.Memory motes links event p q
+memory_ends motes links event p q untold link boards failures faults port = record {
   untold = untold;
   link = link;
+  port = port;
   run = λ first s st. subst (λ bs. BoardsStand s.world first bs) (sym boards) (stands_boards motes (begun_before motes event) (dt_of event) links first s p st);
   boards = subst (λ bs. BoardsAreUsed motes p.boards bs) (sym boards) (used_same motes p.boards);
   calm = λ other. subst (λ bs. BoardsAreCalm p.boards bs) (sym boards) (all_calm p.boards);
@@ -137,11 +138,12 @@ board_kept links motes event r p q alone x (inr y) =
 
 -- ---- it was not done
 
-fault_left : (motes : ℕ) (links : List (ℕ × ℕ)) (event : Event) (f : Fault) (p q : Standing) (alone : IsAlone event) (x : Setting motes (mote_of event) event (Err f) p q) → IsKnown motes links event p → q.written ≡ p.written → q.inboxes ≡ p.inboxes → q.failures ≡ p.failures → q.faults ≡ p.faults
+fault_left : (motes : ℕ) (links : List (ℕ × ℕ)) (event : Event) (f : Fault) (p q : Standing) (alone : IsAlone event) (x : Setting motes (mote_of event) event (Err f) p q) → IsKnown motes links event p → q.written ≡ p.written → q.inboxes ≡ p.inboxes → q.failures ≡ p.failures → q.faults ≡ p.faults → q.port ≡ p.port
     → (stop_by f ≢ stop.Flash → BoardsAreCalm p.boards q.boards) → NotApplied (stop_by f) motes links event p q
-fault_left motes links event f p q alone x known untold link failures faults calm = record {
+fault_left motes links event f p q alone x known untold link failures faults port calm = record {
   untold = untold;
   link = link;
+  port = port;
   run = λ first s st. failed_run links motes event f p q alone x first s st;
   boards = subst (λ bs. BoardsAreUsed motes p.boards bs) (sym x.played.put) (used_one motes p.boards (mote_of event) x.played.before x.played.after x.known x.played.was (board_kept links motes event (Err f) p q alone x known).0);
   calm = calm;
@@ -149,22 +151,22 @@ fault_left motes links event f p q alone x known untold link failures faults cal
   faults = faults;
 }
 
-fault_ends : (motes : ℕ) (links : List (ℕ × ℕ)) (event : Event) (f : Fault) (p q : Standing) (alone : IsAlone event) (x : Setting motes (mote_of event) event (Err f) p q) → IsKnown motes links event p → q.written ≡ p.written → q.inboxes ≡ p.inboxes → q.failures ≡ p.failures → q.faults ≡ p.faults
+fault_ends : (motes : ℕ) (links : List (ℕ × ℕ)) (event : Event) (f : Fault) (p q : Standing) (alone : IsAlone event) (x : Setting motes (mote_of event) event (Err f) p q) → IsKnown motes links event p → q.written ≡ p.written → q.inboxes ≡ p.inboxes → q.failures ≡ p.failures → q.faults ≡ p.faults → q.port ≡ p.port
     → ApplyEnds (Err (stop_by f)) motes links event p q
-fault_ends motes links event fault.Stopped p q alone x known untold link failures faults =
-    fault_left motes links event fault.Stopped p q alone x known untold link failures faults (λ other. absurd (other refl))
-fault_ends motes links event fault.NotAVolume p q alone x known untold link failures faults =
-    fault_left motes links event fault.NotAVolume p q alone x known untold link failures faults
+fault_ends motes links event fault.Stopped p q alone x known untold link failures faults port =
+    fault_left motes links event fault.Stopped p q alone x known untold link failures faults port (λ other. absurd (other refl))
+fault_ends motes links event fault.NotAVolume p q alone x known untold link failures faults port =
+    fault_left motes links event fault.NotAVolume p q alone x known untold link failures faults port
     (λ other. subst (λ bs. BoardsAreCalm p.boards bs) (sym x.played.put) (calm_one p.boards (mote_of event) x.played.before x.played.after x.played.was (board_kept links motes event (Err fault.NotAVolume) p q alone x known).1))
-fault_ends motes links event fault.NoImage p q alone x known untold link failures faults =
-    fault_left motes links event fault.NoImage p q alone x known untold link failures faults
+fault_ends motes links event fault.NoImage p q alone x known untold link failures faults port =
+    fault_left motes links event fault.NoImage p q alone x known untold link failures faults port
     (λ other. subst (λ bs. BoardsAreCalm p.boards bs) (sym x.played.put) (calm_one p.boards (mote_of event) x.played.before x.played.after x.played.was (board_kept links motes event (Err fault.NoImage) p q alone x known).1))
 
-pub stopped_ends : (motes mote : ℕ) (links : List (ℕ × ℕ)) (event : Event) (r : Result Outbox Fault) (why : Stop) (p q : Standing) → Err why ≡ stops_by r → IsAlone event → mote_of event ≡ mote → Setting motes mote event r p q → IsKnown motes links event p → q.written ≡ p.written → q.inboxes ≡ p.inboxes → q.failures ≡ p.failures → q.faults ≡ p.faults
+pub stopped_ends : (motes mote : ℕ) (links : List (ℕ × ℕ)) (event : Event) (r : Result Outbox Fault) (why : Stop) (p q : Standing) → Err why ≡ stops_by r → IsAlone event → mote_of event ≡ mote → Setting motes mote event r p q → IsKnown motes links event p → q.written ≡ p.written → q.inboxes ≡ p.inboxes → q.failures ≡ p.failures → q.faults ≡ p.faults → q.port ≡ p.port
     → ApplyEnds (Err why) motes links event p q
-stopped_ends motes mote links event (Ok x) why p q e alone at s known untold link failures faults = absurd (never_stopped x why e)
-stopped_ends motes mote links event (Err f) why p q e alone at s known untold link failures faults =
-    subst (λ (w : Stop). ApplyEnds (Err w) motes links event p q) (stopped_is f why e) (fault_ends motes links event f p q alone (subst (λ m. Setting motes m event (Err f) p q) (sym at) s) known untold link failures faults)
+stopped_ends motes mote links event (Ok x) why p q e alone at s known untold link failures faults port = absurd (never_stopped x why e)
+stopped_ends motes mote links event (Err f) why p q e alone at s known untold link failures faults port =
+    subst (λ (w : Stop). ApplyEnds (Err w) motes links event p q) (stopped_is f why e) (fault_ends motes links event f p q alone (subst (λ m. Setting motes m event (Err f) p q) (sym at) s) known untold link failures faults port)
 
 -- ---- it was done
 
@@ -186,9 +188,13 @@ module _ (motes : ℕ) (links : List (ℕ × ℕ)) (event : Event) (out : Outbox
   calm_is =
       subst (λ bs. BoardsAreCalm p.boards bs) (sym h.set.played.put) (calm_one p.boards (mote_of event) h.set.played.before h.set.played.after h.set.played.was (board_kept links motes event (Ok out) p q h.alone h.set h.known).1)
 
+  -- where it began, its board is a volume
+  volume_is : (a : Device) → IsReset event → slice_get p.boards (mote_of event) ≡ Some a → IsVolume a.image
+  volume_is a reset was = subst (λ (d : Device). IsVolume d.image) (same_of (slice_get p.boards (mote_of event)) h.set.played.before a h.set.played.was was) (h.set.played.powers reset).ends
+
   -- where its line was not written
-  pub untold_ends : PutsFront p.written q.written (event_lines (event ∷ [])) → q.inboxes ≡ p.inboxes → q.failures ≡ p.failures → p.faults ≤ q.faults → Rose p.faults q.faults → AppliedPartly stop.Write motes links event p q
-  untold_ends front link failures rise rose = record {
+  pub untold_ends : PutsFront p.written q.written (event_lines (event ∷ [])) → q.inboxes ≡ p.inboxes → q.failures ≡ p.failures → p.faults ≤ q.faults → Rose p.faults q.faults → q.port ≡ p.port → AppliedPartly stop.Write motes links event p q
+  untold_ends front link failures rise rose port = record {
     text = take front.0 (event_lines (event ∷ []));
     put = front.2;
     front = (front.0, refl);
@@ -199,6 +205,8 @@ module _ (motes : ℕ) (links : List (ℕ × ℕ)) (event : Event) (out : Outbox
       boards_behind links motes event out p q h.alone h.set h.time h.fits first s st,
       link,
     );
+    volumes = volume_is;
+    port = port;
     boards = boards_are motes h.set.known;
     calm = calm_is;
     counts = record {
@@ -213,8 +221,8 @@ module _ (motes : ℕ) (links : List (ℕ × ℕ)) (event : Event) (out : Outbox
   }
 
   -- where it was not handed to all
-  pub unsent_ends : Puts p.written q.written (event_lines (event ∷ [])) → HandedToSome links motes (mote_of event) (sent_in out) p.inboxes q.inboxes → q.faults ≡ p.faults → p.failures ≤ q.failures → Rose p.failures q.failures → AppliedPartly stop.Link motes links event p q
-  unsent_ends put some faults rise rose = record {
+  pub unsent_ends : Puts p.written q.written (event_lines (event ∷ [])) → HandedToSome links motes (mote_of event) (sent_in out) p.inboxes q.inboxes → q.faults ≡ p.faults → p.failures ≤ q.failures → Rose p.failures q.failures → q.port ≡ p.port → AppliedPartly stop.Link motes links event p q
+  unsent_ends put some faults rise rose port = record {
     text = event_lines (event ∷ []);
     put = put;
     front = (length (event_lines (event ∷ [])), sym (take_all (length (event_lines (event ∷ []))) (event_lines (event ∷ [])) (omega arith)));
@@ -226,6 +234,8 @@ module _ (motes : ℕ) (links : List (ℕ × ℕ)) (event : Event) (out : Outbox
           boards_behind links motes event out p q h.alone h.set h.time h.fits first s st,
           some_handed links motes (mote_of event) s (then links motes event out p q h.alone h.set h.time h.fits first s st) (sent_in out) p.inboxes q.inboxes all.0 all.1 some,
         );
+    volumes = volume_is;
+    port = port;
     boards = boards_are motes h.set.known;
     calm = calm_is;
     counts = record {
@@ -252,8 +262,8 @@ module _ (motes : ℕ) (links : List (ℕ × ℕ)) (event : Event) (out : Outbox
   }
 
   -- where all was done
-  pub done_ends : Puts p.written q.written (event_lines (event ∷ [])) → q.inboxes ≡ option_map (handed_by links motes (mote_of event) (sent_in out)) p.inboxes → q.clock ≡ p.clock → q.addressees ≡ p.addressees → q.failures ≡ p.failures → q.faults ≡ p.faults → AppliedAt motes links event p q
-  done_ends put handed_on clock addressees failures faults = record {
+  pub done_ends : Puts p.written q.written (event_lines (event ∷ [])) → q.inboxes ≡ option_map (handed_by links motes (mote_of event) (sent_in out)) p.inboxes → q.clock ≡ p.clock → q.addressees ≡ p.addressees → q.failures ≡ p.failures → q.faults ≡ p.faults → q.port ≡ p.port → AppliedAt motes links event p q
+  done_ends put handed_on clock addressees failures faults port = record {
     put = put;
     run = λ first s st. (
       then links motes event out p q h.alone h.set h.time h.fits first s st,
@@ -261,10 +271,11 @@ module _ (motes : ℕ) (links : List (ℕ × ℕ)) (event : Event) (out : Outbox
       stands_behind links motes event out p q h.alone h.set h.time h.fits first s st clock handed_on,
     );
     ready = ready_behind addressees;
-    volumes = λ a reset was. subst (λ (d : Device). IsVolume d.image) (same_of (slice_get p.boards (mote_of event)) h.set.played.before a h.set.played.was was) (h.set.played.powers reset).ends;
+    volumes = volume_is;
     boards = boards_are (begun_behind motes event) (inside motes event h.alone h.set.known);
     calm = calm_is;
     timeline = h.set.timeline;
+    port = port;
     failures = failures;
     faults = faults;
   }

@@ -20,7 +20,7 @@ use Rattle.dg_world.specs.Airs.{sent_now}
 use Rattle.dg_world.specs.Cuts.{IsStopped, StepFoundNoImage}
 use Rattle.dg_world.specs.Worlds.{SiteStands}
 use Rattle.dg_world.specs.Stepped.{StepDone, station}
-use Rattle.dg_world.specs.Alone.{uncut}
+use Rattle.dg_world.specs.Alone.{uncut, IsReset}
 use Rattle.dg_node.specs.declared.node.Node.{Node}
 use Rattle.dg_world.proofs.PlaceLemmas.{is_or}
 use Rattle.dg_seed.specs.Draws.{generator_of}
@@ -207,8 +207,9 @@ module _ (links : List (ℕ × ℕ)) (motes begun on ahead : ℕ) (event : Event
     others = others_stand s.world (λ m other. refl) h.stands.sites;
   }
 
-  pub finds_no_volume : ((a : Device) → slice_get first (mote_of event) ≡ Some a → IsNoVolume a.image) → after.image ≡ before.image → FindsNoVolume s.world event first q.boards
-  finds_no_volume no_volume same = record {
+  pub finds_no_volume : IsReset event → ((a : Device) → slice_get first (mote_of event) ≡ Some a → IsNoVolume a.image) → after.image ≡ before.image → FindsNoVolume s.world event first q.boards
+  finds_no_volume reset no_volume same = record {
+    reset = reset;
     board = here.0;
     was = here.1;
     no_volume = no_volume here.0 here.1;

@@ -1,7 +1,7 @@
 -- Parts that are done one after the other.
 use Rattle.std.proofs.Common.{◌≡◌, ℕ, ◌<◌, ◌≤◌, List, [], ◌∷◌, ◌++◌, take, map, append-nil, append_assoc, refl, ap, sym, ◌∙◌, subst, ⊎_elim, inl, inr, arith, length-append}
 use Rattle.std.specs.Prelude.{slice_get, Option, Some, None, Result, Ok, Err}
-use Rattle.std.specs.List.{flat_map}
+use Rattle.std.specs.List.{AllByRecursion, flat_map}
 use Rattle.std.proofs.lemmas.List.{map-append}
 use Rattle.std.proofs.lemmas.Bool.{cases_lt}
 use Rattle.std.proofs.lemmas.Grind.{flat_map-append}
@@ -14,12 +14,13 @@ use Rattle.dg_nor.specs.Device.{Device}
 use Rattle.dg_volume.specs.Stands.{IsVolume}
 use Rattle.dg_script.specs.Spelling.{line_text}
 use Rattle.dg_script.specs.declared.line.Line.TheVariants.{Event as EventLine}
-use Rattle.dg_serve.specs.Services.{Part, Moment, PartDone, PartsDone}
+use Rattle.dg_serve.specs.Services.{Part, Moment, PartDone, PartsDone, course}
 use Rattle.dg_serve.specs.Traces.{UnwrittenLast, event_lines}
-use Rattle.dg_serve.specs.Endings.{EndsInNext, BoardsLeft, FoundBy, PartlyHanded, LinkLeft}
-use Rattle.dg_serve.specs.Standings.{Standing, Ready, Went, CountsBy, PartsHalted, GoesOn, stretch}
+use Rattle.dg_serve.specs.Endings.{Remains, remains, EndsInNext, LosesFrame, FoundBy, PartlyHanded, StopLeaves}
+use Rattle.dg_serve.specs.Standings.{Standing, Ready, IsBelow, Went, CountsBy, PartsHalted, GoesOn, stretch}
 use Rattle.dg_serve.specs.declared.stop.Stop.{Stop}
 use Rattle.dg_serve.specs.declared.stop.Stop.TheVariants as stop
+use Rattle.dg_serve.proofs.RunLemmas.{all_both}
 use Rattle.dg_serve.proofs.BoardLemmas.{used_same, used_then, used_more, all_calm, calm_all_then}
 
 -- ---- services
@@ -58,9 +59,12 @@ went_none motes begun links p ready = record {
   run = λ first s stands. (s, no_part motes s, stands);
   ready = ready;
   volumes = λ m a low high was. absurd (omega arith);
+  below = tt;
+  rises = omega arith;
   boards = used_same begun p.boards;
   calm = all_calm p.boards;
   moved = omega arith;
+  port = refl;
   failures = refl;
   faults = refl;
   reached = omega arith;
@@ -76,6 +80,10 @@ volumes_then : (begun mid on : ℕ) (xs ys : List Device) → ((m : ℕ) → mid
 volumes_then begun mid on xs ys same first second m a low high was =
     ⊎_elim (λ less. first m a low less was) (λ more. second m a more high (same m more ∙ was)) (cases_lt m mid)
 
+pub below_more : (mid on : ℕ) (es : List Event) → mid ≤ on → AllByRecursion (IsBelow mid) es → AllByRecursion (IsBelow on) es
+below_more mid on [] order h = tt
+below_more mid on (e ∷ es) order h = (let k = h.0 in omega (arith, k, order), below_more mid on es order h.1)
+
 pub went_then : (motes begun mid on : ℕ) (links : List (ℕ × ℕ)) (ps qs : List Part) (p q r : Standing) → mid ≤ on → Went motes begun mid links ps p q → Went motes mid on links qs q r → Went motes begun on links (ps ++ qs) p r
 went_then motes begun mid on links ps qs p q r order a b = record {
   events = a.events ++ b.events;
@@ -86,6 +94,9 @@ went_then motes begun mid on links ps qs p q r order a b = record {
       (y.0, serves_then motes s x.0 y.0 ps qs a.events b.events x.1 y.1, y.2);
   ready = b.ready;
   volumes = volumes_then begun mid on p.boards q.boards a.boards.others a.volumes b.volumes;
+  below = all_both (IsBelow on) a.events b.events (below_more mid on a.events order a.below) b.below;
+  rises = omega (arith, order, a.rises);
+  port = b.port ∙ a.port;
   boards = used_then on p.boards q.boards r.boards (used_more mid on p.boards q.boards order a.boards) b.boards;
   calm = calm_all_then p.boards q.boards r.boards a.calm b.calm;
   moved = let n = length-append ps qs in let first = a.moved in let second = b.moved in omega (arith, n, first, second);
@@ -99,26 +110,41 @@ went_as motes begun on links ps qs p q e a = subst (λ l. Went motes begun on li
 
 -- ---- parts of which some were done
 
-next_more : (why : Stop) (s : Moment) (left more : List Part) (old new : List Device) → EndsInNext why s left old new → EndsInNext why s (left ++ more) old new
+next_more : (why : Stop) (s : Moment) (left more : List Part) (old : List Device) (new : Remains) → EndsInNext why s left old new → EndsInNext why s (left ++ more) old new
 next_more why s left more old new n = record {
   part = n.part;
   rest = n.rest ++ more;
   is = ap (λ l. l ++ more) n.is;
   bytes = n.bytes;
+  fits = n.fits;
   dt = n.dt;
   draw = n.draw;
   after = n.after;
   reads = n.reads;
+  takes = n.takes;
+  clock = n.clock;
   ends = n.ends;
 }
 
-left_more : (why : Stop) (s : Moment) (left more : List Part) (old new : List Device) → BoardsLeft why s left old new → BoardsLeft why s (left ++ more) old new
-left_more stop.Memory s left more old new h = h
-left_more stop.Write s left more old new h = h
-left_more stop.Link s left more old new h = h
-left_more stop.Flash s left more old new h = next_more stop.Flash s left more old new h
-left_more stop.NotAVolume s left more old new h = next_more stop.NotAVolume s left more old new h
-left_more stop.NoImage s left more old new h = next_more stop.NoImage s left more old new h
+lost_more : (s : Moment) (left more : List Part) (old : List Device) (new : Remains) → LosesFrame s left old new → LosesFrame s (left ++ more) old new
+lost_more s left more old new n = record {
+  mote = n.mote;
+  rest = n.rest ++ more;
+  is = ap (λ l. l ++ more) n.is;
+  bytes = n.bytes;
+  takes = n.takes;
+  clock = n.clock;
+  boards = n.boards;
+}
+
+left_more : (why : Stop) (motes : ℕ) (s : Moment) (done : List Part) (events : List Event) (left more : List Part) (last : Moment) (old : List Device) (new : Remains) → StopLeaves why motes s (course done events left) last old new → StopLeaves why motes s (course done events (left ++ more)) last old new
+left_more stop.Memory motes s done events left more last old new (inl h) = inl (lost_more last left more old new h)
+left_more stop.Memory motes s done events left more last old new (inr h) = inr (next_more stop.Memory last left more old new h)
+left_more stop.Write motes s done events left more last old new h = h
+left_more stop.Link motes s done events left more last old new h = h
+left_more stop.Flash motes s done events left more last old new h = next_more stop.Flash last left more old new h
+left_more stop.NotAVolume motes s done events left more last old new h = (next_more stop.NotAVolume last left more old new h.0, h.1)
+left_more stop.NoImage motes s done events left more last old new h = (next_more stop.NoImage last left more old new h.0, h.1)
 
 -- further parts are left
 pub halts_more : (why : Stop) (motes begun : ℕ) (links : List (ℕ × ℕ)) (ps more : List Part) (p q : Standing) → PartsHalted why motes begun links ps p q → PartsHalted why motes begun links (ps ++ more) p q
@@ -133,7 +159,12 @@ halts_more why motes begun links ps more p q h = record {
   whole = h.whole;
   run = λ first s stands.
       let x = h.run first s stands in
-      (x.0, x.1, record { boards = left_more why x.0 h.left more first q.boards x.2.boards; link = x.2.link; clock = x.2.clock });
+      (x.0, x.1, left_more why motes s h.done h.events h.left more x.0 first (remains q.boards q.inboxes q.clock) x.2);
+  on = h.on;
+  volumes = h.volumes;
+  below = h.below;
+  rises = h.rises;
+  port = h.port;
   boards = h.boards;
   calm = h.calm;
   counts = h.counts;
@@ -172,14 +203,14 @@ partly_then : (motes : ℕ) (s t u : Moment) (ps qs : List Part) (es fs : List E
 unfolding found_then
 partly_then motes s t u ps qs es fs after first h = record { found = h.found; by = found_then motes s t u ps qs es fs h.found first h.by; first = h.first }
 
-link_then : (why : Stop) (motes : ℕ) (s t u : Moment) (ps qs : List Part) (es fs : List Event) (after : Option Inboxes) → PartsDone motes s ps es t → LinkLeft why motes t qs fs u after → LinkLeft why motes s (ps ++ qs) (es ++ fs) u after
-link_then stop.Memory motes s t u ps qs es fs after first left = left
-link_then stop.Write motes s t u ps qs es fs after first left = found_then motes s t u ps qs es fs after first left
-link_then stop.Link motes s t u ps qs es fs after first (inl same) = inl same
-link_then stop.Link motes s t u ps qs es fs after first (inr partly) = inr (partly_then motes s t u ps qs es fs after first partly)
-link_then stop.Flash motes s t u ps qs es fs after first left = left
-link_then stop.NotAVolume motes s t u ps qs es fs after first left = left
-link_then stop.NoImage motes s t u ps qs es fs after first left = left
+stop_then : (why : Stop) (motes : ℕ) (s t u : Moment) (ps qs left : List Part) (es fs : List Event) (old : List Device) (new : Remains) → PartsDone motes s ps es t → StopLeaves why motes t (course qs fs left) u old new → StopLeaves why motes s (course (ps ++ qs) (es ++ fs) left) u old new
+stop_then stop.Memory motes s t u ps qs left es fs old new first h = h
+stop_then stop.Write motes s t u ps qs left es fs old new first h = (h.0, found_then motes s t u ps qs es fs new.inboxes first h.1, h.2)
+stop_then stop.Link motes s t u ps qs left es fs old new first h =
+    (h.0, ⊎_elim (λ same. inl same) (λ partly. inr (partly_then motes s t u ps qs es fs new.inboxes first partly)) h.1, h.2)
+stop_then stop.Flash motes s t u ps qs left es fs old new first h = h
+stop_then stop.NotAVolume motes s t u ps qs left es fs old new first h = h
+stop_then stop.NoImage motes s t u ps qs left es fs old new first h = h
 
 -- the lines of all events but the last were written, also where others came before
 untold_then : (es fs : List Event) (text : List ℕ) → UnwrittenLast [] fs text → UnwrittenLast [] (es ++ fs) (event_lines es ++ text)
@@ -209,8 +240,13 @@ went_halts why motes begun mid links ps qs p q r order a h = record {
       let y = h.run first x.0 x.2 in (
         y.0,
         serves_then motes s x.0 y.0 ps h.done a.events h.events x.1 y.1,
-        record { boards = y.2.boards; link = link_then why motes s x.0 y.0 ps h.done a.events h.events r.inboxes x.1 y.2.link; clock = y.2.clock },
+        stop_then why motes s x.0 y.0 ps h.done h.left a.events h.events first (remains r.boards r.inboxes r.clock) x.1 y.2,
       );
+  on = h.on;
+  volumes = volumes_then begun mid h.on p.boards q.boards a.boards.others a.volumes h.volumes;
+  below = all_both (IsBelow h.on) a.events h.events (below_more mid h.on a.events h.rises a.below) h.below;
+  rises = omega (arith, a.rises, h.rises);
+  port = h.port ∙ a.port;
   boards = used_then motes p.boards q.boards r.boards (used_more mid motes p.boards q.boards order a.boards) h.boards;
   calm = λ is. calm_all_then p.boards q.boards r.boards a.calm (h.calm is);
   counts = counts_then why p q r a.faults a.failures a.reached h.counts;

@@ -18,3 +18,4 @@ pub mod NetworkLemmas
 pub mod RunLemmas
 pub mod ScriptLemmas
 pub mod AnyLemmas
+pub mod HonestLemmas

@@ -1,12 +1,12 @@
 -- How a look ends that found no frame, or that failed.
-use Rattle.std.proofs.Common.{◌≡◌, ◌≢◌, ℕ, ◌≤◌, List, [], ◌∷◌, refl, ap, sym, ◌∙◌, subst, inl, inr, arith}
+use Rattle.std.proofs.Common.{◌≡◌, ◌≢◌, ℕ, ◌≤◌, List, [], ◌∷◌, refl, ap, sym, ◌∙◌, subst, inl, arith}
 use Rattle.std.specs.Prelude.{Option, Some, None, Result, Ok, Err, IsErrAnd}
 use Rattle.dg_words.specs.Counts.{Rose}
 use Rattle.dg_link.specs.Inboxes.{Inboxes, TakesFrame, IsEmptyAt}
 use Rattle.dg_script.specs.Ranges.{IsFrame}
 use Rattle.dg_nor.specs.Device.{Device}
-use Rattle.dg_serve.specs.Services.{Looks, Moment}
-use Rattle.dg_serve.specs.Endings.{BoardsStand, BoardsLeft, LinkLeft}
+use Rattle.dg_serve.specs.Services.{Looks, Moment, course}
+use Rattle.dg_serve.specs.Endings.{BoardsStand, remains, StopLeaves}
 use Rattle.dg_serve.specs.Standings.{Standing, Ready, BoardsAreUsed, BoardsAreCalm, Went, PartsHalted, GoesOn, stretch, ReceivedAt, FailuresBy}
 use Rattle.dg_serve.specs.declared.stop.Stop.{Stop}
 use Rattle.dg_serve.specs.declared.stop.Stop.TheVariants as stop
@@ -28,27 +28,32 @@ none_came_at motes mote links p q ready none same = subst (λ x. Went motes mote
   );
   ready = ready;
   volumes = λ m a low high was. absurd (omega (arith, low, high));
+  below = tt;
+  rises = omega arith;
   boards = used_same motes p.boards;
   calm = all_calm p.boards;
   moved = omega arith;
+  port = refl;
   failures = refl;
   faults = refl;
   reached = omega arith;
 })
 
-same_standing : (p : Standing) (i : Option Inboxes) (a n : ℕ) → i ≡ p.inboxes → a ≡ p.addressees → n ≡ p.failures → record p { inboxes = i; addressees = a; failures = n } ≡ p
-same_standing p i a n e f h =
-    ap (λ (x : Option Inboxes). record p { inboxes = x; addressees = a; failures = n }) e ∙ ap (λ (x : ℕ). record p { addressees = x; failures = n }) f ∙ ap (λ (x : ℕ). record p { failures = x }) h
+same_standing : (p : Standing) (i : Option Inboxes) (a n : ℕ) (o : Option ℕ) → i ≡ p.inboxes → a ≡ p.addressees → n ≡ p.failures → o ≡ p.port → record p { inboxes = i; addressees = a; failures = n; port = o } ≡ p
+same_standing p i a n o e f h k =
+    ap (λ (x : Option Inboxes). record p { inboxes = x; addressees = a; failures = n; port = o }) e ∙ ap (λ (x : ℕ). record p { addressees = x; failures = n; port = o }) f ∙ ap (λ (x : ℕ). record p { failures = x; port = o }) h ∙ ap (λ (x : Option ℕ). record p { port = x }) k
 
-pub none_came : (motes mote : ℕ) (links : List (ℕ × ℕ)) (p : Standing) (i : Option Inboxes) (a n : ℕ) → i ≡ p.inboxes → a ≡ p.addressees → n ≡ p.failures → Ready motes motes p → IsEmptyAt mote p.inboxes → Went motes motes motes links (Looks mote ∷ []) p (record p { inboxes = i; addressees = a; failures = n })
-none_came motes mote links p i a n e f h ready none = none_came_at motes mote links p (record p { inboxes = i; addressees = a; failures = n }) ready none (same_standing p i a n e f h)
+pub none_came : (motes mote : ℕ) (links : List (ℕ × ℕ)) (p : Standing) (i : Option Inboxes) (a n : ℕ) (o : Option ℕ) → i ≡ p.inboxes → a ≡ p.addressees → n ≡ p.failures → o ≡ p.port → Ready motes motes p → IsEmptyAt mote p.inboxes
+    → Went motes motes motes links (Looks mote ∷ []) p (record p { inboxes = i; addressees = a; failures = n; port = o })
+none_came motes mote links p i a n o e f h k ready none = none_came_at motes mote links p (record p { inboxes = i; addressees = a; failures = n; port = o }) ready none (same_standing p i a n o e f h k)
 
 -- ---- a look that failed
 
-module _ (motes mote : ℕ) (links : List (ℕ × ℕ)) (p q : Standing) (boards : q.boards ≡ p.boards) (written : q.written ≡ p.written) (faults : q.faults ≡ p.faults) (clock : q.clock ≡ p.clock) (reached : q.reached ≡ p.reached) where
-  unlooked : (why : Stop) → why ≢ stop.Write → ((first : List Device) (s : Moment) → BoardsStand s.world first q.boards → BoardsLeft why s (Looks mote ∷ []) first q.boards) → ((s : Moment) → p.inboxes ≡ s.inboxes → LinkLeft why motes s [] [] s q.inboxes)
+module _ (motes mote : ℕ) (links : List (ℕ × ℕ)) (p q : Standing) (boards : q.boards ≡ p.boards) (written : q.written ≡ p.written) (faults : q.faults ≡ p.faults) (clock : q.clock ≡ p.clock) (reached : q.reached ≡ p.reached) (port : q.port ≡ p.port) where
+  unlooked : (why : Stop) → why ≢ stop.Write
+      → ((first : List Device) (s : Moment) → p.inboxes ≡ s.inboxes → q.clock ≡ s.clock → BoardsStand s.world first q.boards → StopLeaves why motes s (course [] [] (Looks mote ∷ [])) s first (remains q.boards q.inboxes q.clock))
       → (why ≡ stop.Link → Rose p.failures q.failures) → (why ≢ stop.Link → q.failures ≡ p.failures) → p.failures ≤ q.failures → PartsHalted why motes motes links (Looks mote ∷ []) p q
-  unlooked why writes boards_left link_left sent failures rise = record {
+  unlooked why writes left sent failures rise = record {
     events = [];
     done = [];
     left = Looks mote ∷ [];
@@ -60,12 +65,13 @@ module _ (motes mote : ℕ) (links : List (ℕ × ℕ)) (p q : Standing) (boards
     run = λ first s st. (
       s,
       no_part motes s,
-      record {
-        boards = boards_left first s (subst (λ bs. BoardsStand s.world first bs) (sym boards) (stands_boards motes motes 0 links first s p st));
-        link = link_left s st.inboxes;
-        clock = inl (clock ∙ st.clock);
-      },
+      left first s st.inboxes (clock ∙ st.clock) (subst (λ bs. BoardsStand s.world first bs) (sym boards) (stands_boards motes motes 0 links first s p st)),
     );
+    on = motes;
+    volumes = λ m a low high was. absurd (omega (arith, low, high));
+    below = tt;
+    rises = omega arith;
+    port = port;
     boards = subst (λ bs. BoardsAreUsed motes p.boards bs) (sym boards) (used_same motes p.boards);
     calm = λ other. subst (λ bs. BoardsAreCalm p.boards bs) (sym boards) (all_calm p.boards);
     counts = record {
@@ -81,9 +87,11 @@ module _ (motes mote : ℕ) (links : List (ℕ × ℕ)) (p q : Standing) (boards
 
   pub look_fails : (why : Stop) → ReceivedAt (Err why) mote p.inboxes q.inboxes → FailuresBy {T = Option (List ℕ)} (Err why) p.failures q.failures → PartsHalted why motes motes links (Looks mote ∷ []) p q
   look_fails stop.Memory received counts =
-      unlooked stop.Memory (λ x. absurd cc) (λ first s x. x) (λ s same. inr (mote, received.0, subst (λ (o : Option Inboxes). TakesFrame mote received.0 o q.inboxes) same received.1)) (λ x. absurd cc) (λ other. counts) (omega (arith, counts))
+      unlooked stop.Memory (λ x. absurd cc)
+      (λ first s same clock_same stand. inl (record { mote = mote; rest = []; is = refl; bytes = received.0; takes = subst (λ (o : Option Inboxes). TakesFrame mote received.0 o q.inboxes) same received.1; clock = clock_same; boards = stand }))
+      (λ x. absurd cc) (λ other. counts) (omega (arith, counts))
   look_fails stop.Link received counts =
-      unlooked stop.Link (λ x. absurd cc) (λ first s x. x) (λ s same. inl (received ∙ same)) (λ x. counts.0) (λ other. absurd (other refl)) counts.1
+      unlooked stop.Link (λ x. absurd cc) (λ first s same clock_same stand. (stand, inl (received ∙ same), clock_same)) (λ x. counts.0) (λ other. absurd (other refl)) counts.1
   look_fails stop.Write received counts = absurd counts
   look_fails stop.Flash received counts = absurd counts
   look_fails stop.NotAVolume received counts = absurd counts

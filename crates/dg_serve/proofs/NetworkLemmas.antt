@@ -115,7 +115,7 @@ same_outside : (before : Outside) (w : Option (List ℕ)) (f : ℕ) → w ≡ be
 same_outside before w f e g = ap (λ (x : Option (List ℕ)). record before { written = x; faults = f }) e ∙ ap (λ (k : ℕ). record before { faults = k }) g
 
 alone : (answer of : Status) (line : List ℕ) (before : Outside) (w : Option (List ℕ)) (f : ℕ) → TellsLine answer of line before.written w before.faults f → TellsAlone answer of line before (record before { written = w; faults = f })
-alone answer of line before w f told = record { boards = refl; clock = refl; link = refl; failures = refl; written = told }
+alone answer of line before w f told = record { boards = refl; clock = refl; link = refl; port = refl; failures = refl; written = told }
 
 pub none_served : (why : NoProfile) (answer : Status) (seed turns : ℕ) (left_before left_after : Option (List ℕ)) (reads_before reads_after : ℕ) (before : Outside) (w : Option (List ℕ)) (f : ℕ) → NetworkRead (Err why) left_before left_after reads_before reads_after
     → TellsNone why answer before.written w before.faults f → NetworkServed answer seed turns (around_service left_before reads_before before) (around_service left_after reads_after (record before { written = w; faults = f }))
@@ -272,3 +272,35 @@ network_linked answer seed turns a b h e = by h.done
         unread (inl y) = unlike answer status.Memory status.LinkFault y.0 e memory_apart
         unread (inr y) = unlike answer status.ReadFault status.LinkFault y.0 e read_apart
     by (inr x) = done_linked (opening_of (length a.outside.boards) h.input) answer seed turns a.outside b.outside x.done e
+
+-- ---- a link that does not fail
+
+hindered_calm : (answer : Status) (profile : NetProfile) (before after : Outside) → answer ≢ status.LinkFault → Hindered answer profile before after → after.failures ≡ before.failures
+hindered_calm status.Memory profile before after other h = h.2
+hindered_calm status.WriteFault profile before after other h = h.2
+hindered_calm status.LinkFault profile before after other h = absurd (other refl)
+hindered_calm status.Done profile before after other h = absurd h
+hindered_calm status.Usage profile before after other h = absurd h
+hindered_calm status.BadInput profile before after other h = absurd h
+hindered_calm status.ReadFault profile before after other h = absurd h
+hindered_calm status.FlashFault profile before after other h = absurd h
+hindered_calm status.NotAVolume profile before after other h = absurd h
+hindered_calm status.Refused profile before after other h = absurd h
+hindered_calm status.TooLong profile before after other h = absurd h
+hindered_calm status.TooMany profile before after other h = absurd h
+hindered_calm status.NoBoard profile before after other h = absurd h
+hindered_calm status.NoImage profile before after other h = absurd h
+
+done_calm : (o : Opening) (answer : Status) (seed turns : ℕ) (before after : Outside) → answer ≢ status.LinkFault → DoneBy o answer seed turns before after → after.failures ≡ before.failures
+done_calm Over answer seed turns before after other h = h.failures
+done_calm (FaultAt f) answer seed turns before after other h = h.failures
+done_calm (TooFew profile) answer seed turns before after other h = h.failures
+done_calm (Serves profile) answer seed turns before after other (inl h) = hindered_calm answer profile before after other h.hindered
+done_calm (Serves profile) answer seed turns before after other (inr h) = h.causes.sends other
+
+pub network_calm : (answer : Status) (seed turns : ℕ) (a b : AroundService) → NetworkServed answer seed turns a b → answer ≢ status.LinkFault → b.outside.failures ≡ a.outside.failures
+network_calm answer seed turns a b h other = by h.done
+  where
+    by : NotRead answer a b ⊎ WasRead h.input answer seed turns a b → b.outside.failures ≡ a.outside.failures
+    by (inl x) = ap (λ (o : Outside). o.failures) x.same
+    by (inr x) = done_calm (opening_of (length a.outside.boards) h.input) answer seed turns a.outside b.outside other x.done

@@ -1,5 +1,5 @@
 -- A service that is opened.
-use Rattle.std.proofs.Common.{◌≡◌, ℕ, zero, suc, ◌+◌, List, [], ◌∷◌, ◌++◌, length, take, add-one, refl, ap, sym, ◌∙◌, subst, arith}
+use Rattle.std.proofs.Common.{◌≡◌, ℕ, zero, suc, ◌+◌, List, [], ◌∷◌, ◌++◌, length, take, add-one, refl, ap, sym, ◌∙◌, subst, arith, inr}
 use Rattle.std.specs.Prelude.{slice_index_or, replicate, Option, None, Result, Ok, Err, IsErrAnd}
 use Rattle.std.proofs.lemmas.List.{take_all}
 use Rattle.dg_base.specs.Outside.{Puts}
@@ -7,7 +7,7 @@ use Rattle.dg_netcfg.specs.declared.profile.NetProfile.{NetProfile}
 use Rattle.dg_node.specs.declared.node.Node.{Node}
 use Rattle.dg_serve.specs.Traces.{lines_text, head_lines}
 use Rattle.dg_serve.specs.Served.{Outside, Hindered}
-use Rattle.dg_serve.specs.Ran.{status_of, ServiceOpens, OpensLink}
+use Rattle.dg_serve.specs.Ran.{status_of, ServiceOpens, LinkTold, OpensLink}
 use Rattle.dg_serve.specs.declared.service.Service.{Service}
 use Rattle.dg_serve.specs.declared.stop.Stop.{Stop}
 use Rattle.dg_serve.specs.declared.stop.Stop.TheVariants as stop
@@ -43,14 +43,18 @@ pub opens_err : (r : Result Service Stop) (why : Stop) (profile : NetProfile) (s
 opens_err (Ok v) why profile seed before addressees reached after is hindered clock = absurd is
 opens_err (Err e) why profile seed before addressees reached after is hindered clock = subst (λ (w : Stop). ServiceOpens (Err w) profile seed before addressees reached after) (sym is) (hindered, clock)
 
-pub open_hindered : (why : Stop) (profile : NetProfile) (before after : Outside) (f g addressees : ℕ) → OpensLink (Err why) profile.motes before.inboxes after.inboxes before.failures after.failures addressees → Puts before.written after.written (lines_text (head_lines profile)) → after.faults ≡ before.faults → Hindered (status_of why) profile before after
-open_hindered stop.Memory profile before after f g addressees opens put faults =
-    ((length (lines_text (head_lines profile)), subst (λ l. Puts before.written after.written l) (sym (take_all (length (lines_text (head_lines profile))) (lines_text (head_lines profile)) (omega arith))) put), faults, opens)
-open_hindered stop.Link profile before after f g addressees opens put faults = (put, faults, opens.1, opens.0, opens.2)
-open_hindered stop.Write profile before after f g addressees opens put faults = absurd opens
-open_hindered stop.Flash profile before after f g addressees opens put faults = absurd opens
-open_hindered stop.NotAVolume profile before after f g addressees opens put faults = absurd opens
-open_hindered stop.NoImage profile before after f g addressees opens put faults = absurd opens
+-- what its link told
+abbrev pub link_then : Outside → ℕ → LinkTold
+link_then o addressees = record { inboxes = o.inboxes; failures = o.failures; addressees = addressees; port = o.port }
+
+pub open_hindered : (why : Stop) (profile : NetProfile) (before after : Outside) (n k : ℕ) → OpensLink (Err why) profile (link_then before n) (link_then after k) → Puts before.written after.written (lines_text (head_lines profile)) → after.faults ≡ before.faults → Hindered (status_of why) profile before after
+open_hindered stop.Memory profile before after n k opens put faults =
+    ((length (lines_text (head_lines profile)), subst (λ l. Puts before.written after.written l) (sym (take_all (length (lines_text (head_lines profile))) (lines_text (head_lines profile)) (omega arith))) put), faults, opens.1, inr (opens.0.0, opens.0.1))
+open_hindered stop.Link profile before after n k opens put faults = (put, faults, opens.1, (opens.0.0, opens.0.1), opens.2)
+open_hindered stop.Write profile before after n k opens put faults = absurd opens
+open_hindered stop.Flash profile before after n k opens put faults = absurd opens
+open_hindered stop.NotAVolume profile before after n k opens put faults = absurd opens
+open_hindered stop.NoImage profile before after n k opens put faults = absurd opens
 
 -- nothing was written
 pub nothing_put : (o : Option (List ℕ)) (xs : List ℕ) → (n : ℕ) × Puts o o (take n xs)

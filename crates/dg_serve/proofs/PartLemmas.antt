@@ -1,11 +1,14 @@
 -- The parts of a service, from what their calls did.
 use Rattle.std.proofs.Common.{◌≡◌, ℕ, ◌+◌, ◌≤◌, List, [], ◌∷◌, length, refl, ap, sym, ◌∙◌, subst, arith}
-use Rattle.std.specs.Prelude.{slice_get, slice_index_or, Option, None}
+use Rattle.std.specs.Prelude.{slice_get, slice_index_or, Option, Some, None}
 use Rattle.rand_pcg.specs.Pcg.{pcg32}
 use Rattle.dg_base.specs.Clock.{Answers, Answered}
 use Rattle.dg_base.specs.declared.events.Event.{Event}
+use Rattle.dg_base.specs.declared.events.Event.TheVariants.{Frame}
 use Rattle.dg_nor.specs.Device.{Device}
-use Rattle.dg_rules.specs.World.{site}
+use Rattle.dg_rules.specs.World.{World, Running, site, store_at}
+use Rattle.dg_rules.specs.Events.{Deed, Does, Refuses, Goes, does, hear_by}
+use Rattle.dg_mote.specs.Effects.{frame_effect}
 use Rattle.dg_script.specs.Fitting.{IsTimed}
 use Rattle.dg_world.specs.Worlds.{SiteStands}
 use Rattle.dg_seed.specs.Draws.{generator_of}
@@ -60,3 +63,20 @@ stands_drawn motes begun links first s p q dt draw st d boards motes_same inboxe
 -- an event that was applied after a timing
 pub applied_of : (motes : ℕ) (s t : Moment) (new : Timeline) (told_then : Option Answers) (event : (dt draw : ℕ) → Event) (dt draw : ℕ) → ReadsClock s dt draw (drawn s new told_then) → Steps motes (drawn s new told_then) (event dt draw) t → EventApplied motes s event (event dt draw ∷ []) t
 applied_of motes s t new told_then event dt draw reads steps = record { dt = dt; draw = draw; between = drawn s new told_then; reads = reads; one = refl; steps = steps }
+
+-- a frame that is heard leaves its mote on
+runs_in : Does → Option (Option Running)
+runs_in (Refuses why) = Some None
+runs_in (Goes deed) = deed.runs
+
+some_left : (o : Option (Option Running)) (x : Option Running) → Some x ≡ o → o ≡ None → ⊥
+some_left o x is none = absurd cc
+
+heard_runs : (w : World) (m dt draw : ℕ) (bytes : List ℕ) (deed : Deed) (o : Option Running) → hear_by w (store_at w m) o (w.moment + dt) draw bytes ≡ Goes deed → deed.runs ≡ None → ⊥
+unfolding frame_effect runs_in
+heard_runs w m dt draw bytes deed None e none = absurd cc
+heard_runs w m dt draw bytes deed (Some r) e none = some_left deed.runs _ (ap runs_in e) none
+
+pub frame_runs : (w : World) (m dt draw : ℕ) (bytes : List ℕ) (deed : Deed) → does w (Frame m dt draw bytes) ≡ Goes deed → deed.runs ≡ None → ⊥
+unfolding does
+frame_runs w m dt draw bytes deed e none = heard_runs w m dt draw bytes deed (site w m).runs e none

@@ -238,6 +238,20 @@ stopped_on links motes (Last from to dt draw) first s p q alone x st = absurd al
 stopped_on links motes (Inject m image version dt draw) first s p q alone x st = absurd alone
 stopped_on links motes (Order m number image version dt draw) first s p q alone x st = absurd alone
 
+-- a board that is found to be no volume is that of a mote that begins
+begins_there : (links : List (ℕ × ℕ)) (motes : ℕ) (event : Event) (first : List Device) (s : Moment) (p q : Standing) → (alone : IsAlone event) → (x : Setting motes (mote_of event) event (Err fault.NotAVolume) p q) → StandsFor motes (begun_before motes event) links (dt_of event) first s p → IsReset event
+begins_there links motes (Tick m dt draw) first s p q alone x st =
+    let a = first_at links motes motes dt m first s p x.played.before st x.played.was in
+    absurd (played_for links motes (Tick m dt draw) (Err fault.NotAVolume) p q alone x first s st a.0 a.1 (st.on m a.0 x.played.before x.known a.1 x.played.was).0).ends
+begins_there links motes (Frame m dt draw bytes) first s p q alone x st =
+    let a = first_at links motes motes dt m first s p x.played.before st x.played.was in
+    absurd (played_for links motes (Frame m dt draw bytes) (Err fault.NotAVolume) p q alone x first s st a.0 a.1 (st.on m a.0 x.played.before x.known a.1 x.played.was).0).ends
+begins_there links motes (Reset m dt draw) first s p q alone x st = tt
+begins_there links motes (Hear m dt draw frame) first s p q alone x st = absurd alone
+begins_there links motes (Last from to dt draw) first s p q alone x st = absurd alone
+begins_there links motes (Inject m image version dt draw) first s p q alone x st = absurd alone
+begins_there links motes (Order m number image version dt draw) first s p q alone x st = absurd alone
+
 pub failed_run : (links : List (ℕ × ℕ)) (motes : ℕ) (event : Event) (f : Fault) (p q : Standing) (alone : IsAlone event) (x : Setting motes (mote_of event) event (Err f) p q) (first : List Device) (s : Moment) → StandsFor motes (begun_before motes event) links (dt_of event) first s p
     → EventEnds (stop_by f) s.world event first q.boards
 failed_run links motes event fault.Stopped p q alone x first s st =
@@ -251,6 +265,7 @@ failed_run links motes event fault.NotAVolume p q alone x first s st =
     let a = first_at links motes (begun_before motes event) (dt_of event) (mote_of event) first s p x.played.before st x.played.was in
     finds_no_volume links motes (begun_before motes event) (begun_behind motes event) (dt_of event) event first s p q x.played.before x.played.after (ran_at p (mote_of event)) (ran_at q (mote_of event))
     (is_here links motes event (Err fault.NotAVolume) first s p q alone x st)
+    (begins_there links motes event first s p q alone x st)
     none
     (same_on links motes event (Err fault.NotAVolume) first s p q alone x st (λ reset never. (x.played.powers reset).ends.1.same_image) a.0 a.1 (none a.0 a.1))
 failed_run links motes event fault.NoImage p q alone x first s st =

@@ -68,7 +68,7 @@ unfolding Plays
 plays_both u v w [] qs h k = subst (λ (x : World). Plays x qs w) (sym h) k
 plays_both u v w (p ∷ ps) qs h k = (h.0, h.1, plays_both p.after v w ps qs h.2 k)
 
-plays_none : (u v : World) → u ≡ v → Plays u [] v
+pub plays_none : (u v : World) → u ≡ v → Plays u [] v
 unfolding Plays
 plays_none u v same = same
 

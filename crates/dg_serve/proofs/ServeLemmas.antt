@@ -1,7 +1,8 @@
 -- A service from its first line to its last.
-use Rattle.std.proofs.Common.{◌≡◌, ◌≢◌, ◌⊎◌, ℕ, ◌≤◌, List, [], ◌∷◌, ◌++◌, length, take, append-nil, append_assoc, refl, ap, sym, ◌∙◌, subst, inl, inr, arith}
+use Rattle.std.proofs.Common.{◌≡◌, ◌≢◌, ◌⊎◌, ℕ, ◌<◌, ◌≤◌, List, [], ◌∷◌, ◌++◌, length, take, append-nil, append_assoc, refl, ap, sym, ◌∙◌, subst, inl, inr, arith}
 use Rattle.std.specs.Prelude.{slice_get, Option, Some, None, option_map, Result, Ok, Err, IsErrAnd}
 use Rattle.std.proofs.lemmas.Option.{same_Some}
+use Rattle.std.specs.List.{AllByRecursion}
 use Rattle.dg_words.specs.Counts.{Rose}
 use Rattle.dg_base.specs.Outside.{Puts}
 use Rattle.dg_base.proofs.OutsideLemmas.{Puts-join}
@@ -14,12 +15,14 @@ use Rattle.dg_nor.specs.Device.{Device, Endures}
 use Rattle.dg_nor.specs.Fuse.{beneath_of}
 use Rattle.dg_object.specs.Object.{Row}
 use Rattle.dg_volume.specs.Store.{Store}
+use Rattle.dg_volume.specs.Stands.{IsVolume}
+use Rattle.dg_rules.specs.Events.{mote_of}
 use Rattle.dg_seed.specs.Draws.{first_generator}
 use Rattle.dg_serve.specs.Services.{Moment, Course, course, plan}
 use Rattle.dg_serve.specs.Endings.{StoresOf, begins}
 use Rattle.dg_serve.specs.Traces.{UnwrittenLast, trace, lines_text, head_lines, event_lines, last_line}
-use Rattle.dg_serve.specs.Standings.{Standing, StandsFor, Ready, BoardEndures, BoardIsCalm, BoardsAreUsed, Went, PartsHalted, GoesOn, stretch}
-use Rattle.dg_serve.specs.Served.{Outside, LeftBy, WroteLast, Wrote, MotesEndure, Causes, Began, Hindered, Served, TooFewBoards, outside}
+use Rattle.dg_serve.specs.Standings.{Standing, StandsFor, IsBelow, Ready, BoardEndures, BoardIsCalm, BoardsAreUsed, Went, PartsHalted, GoesOn, stretch}
+use Rattle.dg_serve.specs.Served.{Outside, IsAtVolume, LeftBy, WroteLast, Wrote, MotesEndure, Causes, Began, Hindered, Served, TooFewBoards, outside}
 use Rattle.dg_serve.specs.Ran.{status_of, IsOpened, WroteBy, ServiceRan, RanTo, LineWritten, TellsStop, TellsTooFew}
 use Rattle.dg_serve.specs.declared.stop.Stop.{Stop}
 use Rattle.dg_serve.specs.declared.stop.Stop.TheVariants as stop
@@ -28,7 +31,7 @@ use Rattle.dg_serve.proofs.StartLemmas.{stands_first}
 
 -- what is outside of where the code stands
 abbrev pub outside_of : Standing → Outside
-outside_of p = outside p.written p.faults p.clock p.inboxes p.failures p.boards
+outside_of p = outside p.written p.faults p.clock p.inboxes p.failures p.port p.boards
 
 -- ---- boards
 
@@ -44,6 +47,10 @@ calm_at o n a b was now e =
 
 boards_endure : (motes : ℕ) (old new : List Device) → BoardsAreUsed motes old new → MotesEndure motes old new
 boards_endure motes old new u = record { all = record { count = u.count; endures = λ m a b was now. endures_at (slice_get old m) (slice_get new m) a b was now (u.endures m) }; others = u.others }
+
+at_volumes : (on : ℕ) (boards : List Device) (events : List Event) → ((m : ℕ) (a : Device) → 0 ≤ m → m < on → slice_get boards m ≡ Some a → IsVolume a.image) → AllByRecursion (IsBelow on) events → AllByRecursion (IsAtVolume boards) events
+at_volumes on boards [] volumes below = tt
+at_volumes on boards (e ∷ es) volumes below = (λ a was. volumes (mote_of e) a (omega arith) below.0 was, at_volumes on boards es volumes below.1)
 
 -- ---- from the opening to where it ended
 
@@ -77,6 +84,8 @@ module _ (profile : NetProfile) (seed turns : ℕ) (b : Outside) (p q : Standing
     text = lines_text (head_lines profile) ++ event_lines w.events;
     put = Puts-join b.written p.written q.written (lines_text (head_lines profile)) (event_lines w.events) o.put w.put;
     wrote = refl;
+    volumes = at_volumes profile.motes p.boards w.events w.volumes w.below;
+    port = w.port ∙ o.port;
     boards = boards_endure profile.motes p.boards q.boards w.boards;
     counts = record {
       wrote = λ is. absurd cc;
@@ -101,10 +110,12 @@ module _ (profile : NetProfile) (seed turns : ℕ) (b : Outside) (p q : Standing
     all = λ is. absurd cc;
     came = λ table stores of.
         let x = h.run p.boards (begins table profile.links stores p.service.timeline.reading p.clock seed (option_map (emptied profile.motes) b.inboxes)) (stands_opened table stores of) in
-        record { last = x.0; serves = x.1; ends = (x.2.boards, x.2.link, x.2.clock) };
+        record { last = x.0; serves = x.1; ends = x.2 };
     text = lines_text (head_lines profile) ++ h.text;
     put = Puts-join b.written p.written q.written (lines_text (head_lines profile)) h.text o.put h.put;
     wrote = wrote_by why (lines_text (head_lines profile)) h.events h.text h.front h.whole;
+    volumes = at_volumes h.on p.boards h.events h.volumes h.below;
+    port = h.port ∙ o.port;
     boards = boards_endure profile.motes p.boards q.boards h.boards;
     counts = record {
       wrote = λ is. subst (λ n. Rose n q.faults) o.faults (h.counts.wrote (same_Some why stop.Write is));
@@ -158,6 +169,8 @@ began why answer profile seed turns before mid v g text r put wrote causes = rec
   text = text;
   put = put;
   wrote = wrote;
+  volumes = r.volumes;
+  port = r.port;
   boards = r.boards;
   causes = causes;
 }
@@ -168,7 +181,7 @@ served_done profile seed turns before mid r = inr (began None status.Done profil
   write_fault = λ is. absurd cc;
   writes = λ other. r.counts.faults (λ x. absurd cc);
   link_fault = λ is. absurd cc;
-  sends = λ is. r.counts.failures (λ x. absurd cc);
+  sends = λ other. r.counts.failures (λ x. absurd cc);
   calm = λ other. r.counts.calm (λ x. absurd cc);
   writes_rise = r.counts.faults_rise;
   sends_rise = r.counts.failures_rise;
@@ -182,7 +195,7 @@ module _ (profile : NetProfile) (seed turns : ℕ) (before mid : Outside) where
     write_fault = λ is. absurd cc;
     writes = λ other. r.counts.faults (λ x. absurd cc);
     link_fault = λ is. absurd cc;
-    sends = λ is. absurd cc;
+    sends = λ other. r.counts.failures (λ x. absurd cc);
     calm = λ other. r.counts.calm (λ x. absurd cc);
     writes_rise = r.counts.faults_rise;
     sends_rise = r.counts.failures_rise;
@@ -194,7 +207,7 @@ module _ (profile : NetProfile) (seed turns : ℕ) (before mid : Outside) where
     write_fault = λ is. r.counts.wrote refl;
     writes = λ other. absurd (other refl);
     link_fault = λ is. absurd cc;
-    sends = λ is. absurd cc;
+    sends = λ other. r.counts.failures (λ x. absurd cc);
     calm = λ other. r.counts.calm (λ x. absurd cc);
     writes_rise = r.counts.faults_rise;
     sends_rise = r.counts.failures_rise;
@@ -206,7 +219,7 @@ module _ (profile : NetProfile) (seed turns : ℕ) (before mid : Outside) where
     write_fault = λ is. absurd cc;
     writes = λ other. r.counts.faults (λ x. absurd cc);
     link_fault = λ is. r.counts.sent refl;
-    sends = λ is. absurd cc;
+    sends = λ other. absurd (other refl);
     calm = λ other. r.counts.calm (λ x. absurd cc);
     writes_rise = r.counts.faults_rise;
     sends_rise = r.counts.failures_rise;
@@ -218,7 +231,7 @@ module _ (profile : NetProfile) (seed turns : ℕ) (before mid : Outside) where
     write_fault = λ is. absurd cc;
     writes = λ other. r.counts.faults (λ x. absurd cc);
     link_fault = λ is. absurd cc;
-    sends = λ is. absurd cc;
+    sends = λ other. r.counts.failures (λ x. absurd cc);
     calm = λ other. absurd (other refl);
     writes_rise = r.counts.faults_rise;
     sends_rise = r.counts.failures_rise;
@@ -228,46 +241,46 @@ module _ (profile : NetProfile) (seed turns : ℕ) (before mid : Outside) where
   last_written : (line whole text : List ℕ) → text ≡ whole → text ++ line ≡ whole ++ line
   last_written line whole text e = ap (λ l. l ++ line) e
 
-  calm_told : (why : Stop) (answer : Status) (v : Option (List ℕ)) (g : ℕ) → ServiceRan (Some why) profile seed turns before mid → why ≢ stop.Write → why ≢ stop.Link → why ≢ stop.Flash → answer ≢ status.WriteFault → answer ≢ status.LinkFault → answer ≢ status.Done → g ≡ mid.faults → Causes answer before (told_after mid v g)
-  calm_told why answer v g r writes sends stops a b c same = record {
+  calm_told : (why : Stop) (answer : Status) (v : Option (List ℕ)) (g : ℕ) → ServiceRan (Some why) profile seed turns before mid → why ≢ stop.Write → why ≢ stop.Link → why ≢ stop.Flash → answer ≢ status.WriteFault → answer ≢ status.LinkFault → g ≡ mid.faults → Causes answer before (told_after mid v g)
+  calm_told why answer v g r writes links stops a b same = record {
     write_fault = λ is. absurd (a is);
     writes = λ other. same ∙ r.counts.faults (λ x. writes (same_Some why stop.Write x));
     link_fault = λ is. absurd (b is);
-    sends = λ is. absurd (c is);
+    sends = λ other. r.counts.failures (λ x. links (same_Some why stop.Link x));
     calm = λ other. r.counts.calm (λ x. stops (same_Some why stop.Flash x));
     writes_rise = omega (arith, same, r.counts.faults_rise);
     sends_rise = r.counts.failures_rise;
   }
 
-  failed_told : (why : Stop) (v : Option (List ℕ)) (g : ℕ) → ServiceRan (Some why) profile seed turns before mid → why ≢ stop.Write → why ≢ stop.Flash → Rose mid.faults g → mid.faults ≤ g → Causes status.WriteFault before (told_after mid v g)
-  failed_told why v g r writes stops rose rise = record {
+  failed_told : (why : Stop) (v : Option (List ℕ)) (g : ℕ) → ServiceRan (Some why) profile seed turns before mid → why ≢ stop.Write → why ≢ stop.Link → why ≢ stop.Flash → Rose mid.faults g → mid.faults ≤ g → Causes status.WriteFault before (told_after mid v g)
+  failed_told why v g r writes links stops rose rise = record {
     write_fault = λ is. subst (λ n. Rose n g) (r.counts.faults (λ x. writes (same_Some why stop.Write x))) rose;
     writes = λ other. absurd (other refl);
     link_fault = λ is. absurd cc;
-    sends = λ is. absurd cc;
+    sends = λ other. r.counts.failures (λ x. links (same_Some why stop.Link x));
     calm = λ other. r.counts.calm (λ x. stops (same_Some why stop.Flash x));
     writes_rise = omega (arith, rise, r.counts.faults_rise);
     sends_rise = r.counts.failures_rise;
   }
 
-  ends_told : (why : Stop) (of answer : Status) (line : List ℕ) (v : Option (List ℕ)) (g : ℕ) (r : ServiceRan (Some why) profile seed turns before mid) → why ≢ stop.Write → why ≢ stop.Link → why ≢ stop.Flash → of ≢ status.WriteFault → of ≢ status.LinkFault → of ≢ status.Done → r.text ≡ trace profile r.events
+  ends_told : (why : Stop) (of answer : Status) (line : List ℕ) (v : Option (List ℕ)) (g : ℕ) (r : ServiceRan (Some why) profile seed turns before mid) → why ≢ stop.Write → why ≢ stop.Link → why ≢ stop.Flash → of ≢ status.WriteFault → of ≢ status.LinkFault → r.text ≡ trace profile r.events
       → ((a : Status) (text : List ℕ) → WroteLast a of (trace profile r.events) line text → Wrote (Some why) a profile (length before.boards) r.events text) → LineWritten answer of line mid.written v mid.faults g → Began answer profile seed turns before (told_after mid v g)
-  ends_told why of answer line v g r writes sends stops a b c whole wrote (inl t) =
+  ends_told why of answer line v g r writes links stops a b whole wrote (inl t) =
       subst (λ (x : Status). Began x profile seed turns before (told_after mid v g)) (sym t.0)
       (began (Some why) of profile seed turns before mid v g (r.text ++ line) r (Puts-join before.written mid.written v r.text line r.put t.1)
       (wrote of (r.text ++ line) (inl (refl, last_written line (trace profile r.events) r.text whole)))
-      (calm_told why of v g r writes sends stops a b c t.2))
-  ends_told why of answer line v g r writes sends stops a b c whole wrote (inr t) =
+      (calm_told why of v g r writes links stops a b t.2))
+  ends_told why of answer line v g r writes links stops a b whole wrote (inr t) =
       subst (λ (x : Status). Began x profile seed turns before (told_after mid v g)) (sym t.0)
       (began (Some why) status.WriteFault profile seed turns before mid v g (r.text ++ take t.1.0 line) r (Puts-join before.written mid.written v r.text (take t.1.0 line) r.put t.1.1)
       (wrote status.WriteFault (r.text ++ take t.1.0 line) (inr (refl, (t.1.0, last_written (take t.1.0 line) (trace profile r.events) r.text whole))))
-      (failed_told why v g r writes stops t.2 t.3))
+      (failed_told why v g r writes links stops t.2 t.3))
 
   ends_no_volume : (answer : Status) (v : Option (List ℕ)) (g : ℕ) → ServiceRan (Some stop.NotAVolume) profile seed turns before mid → LineWritten answer status.NotAVolume (last_line status.NotAVolume 0 0) mid.written v mid.faults g → Began answer profile seed turns before (told_after mid v g)
-  ends_no_volume answer v g r t = ends_told stop.NotAVolume status.NotAVolume answer (last_line status.NotAVolume 0 0) v g r (λ x. absurd cc) (λ x. absurd cc) (λ x. absurd cc) (λ x. absurd cc) (λ x. absurd cc) (λ x. absurd cc) r.wrote (λ a text x. x) t
+  ends_no_volume answer v g r t = ends_told stop.NotAVolume status.NotAVolume answer (last_line status.NotAVolume 0 0) v g r (λ x. absurd cc) (λ x. absurd cc) (λ x. absurd cc) (λ x. absurd cc) (λ x. absurd cc) r.wrote (λ a text x. x) t
 
   ends_no_image : (answer : Status) (v : Option (List ℕ)) (g : ℕ) → ServiceRan (Some stop.NoImage) profile seed turns before mid → LineWritten answer status.NoImage (last_line status.NoImage 0 0) mid.written v mid.faults g → Began answer profile seed turns before (told_after mid v g)
-  ends_no_image answer v g r t = ends_told stop.NoImage status.NoImage answer (last_line status.NoImage 0 0) v g r (λ x. absurd cc) (λ x. absurd cc) (λ x. absurd cc) (λ x. absurd cc) (λ x. absurd cc) (λ x. absurd cc) r.wrote (λ a text x. x) t
+  ends_no_image answer v g r t = ends_told stop.NoImage status.NoImage answer (last_line status.NoImage 0 0) v g r (λ x. absurd cc) (λ x. absurd cc) (λ x. absurd cc) (λ x. absurd cc) (λ x. absurd cc) r.wrote (λ a text x. x) t
 
   nothing_more : (answer of : Status) (v : Option (List ℕ)) (g : ℕ) → answer ≡ of → v ≡ mid.written → g ≡ mid.faults → Served of profile seed turns before mid → Served answer profile seed turns before (told_after mid v g)
   nothing_more answer of v g is same count s =
@@ -292,7 +305,7 @@ count_of (Err why) profile seed turns before mid (inr ran) = ran.boards.all.coun
 -- ---- too few boards
 
 pub too_few_told : (answer : Status) (profile : NetProfile) (before : Outside) (v : Option (List ℕ)) (g n : ℕ) → n ≡ length before.boards → TellsTooFew answer (last_line status.NoBoard profile.motes n) before.written v before.faults g → TooFewBoards answer profile before (told_after before v g)
-too_few_told answer profile before v g n same t = record { boards = refl; clock = refl; link = refl; failures = refl; written = told (subst (λ k. TellsTooFew answer (last_line status.NoBoard profile.motes k) before.written v before.faults g) same t) }
+too_few_told answer profile before v g n same t = record { boards = refl; clock = refl; link = refl; port = refl; failures = refl; written = told (subst (λ k. TellsTooFew answer (last_line status.NoBoard profile.motes k) before.written v before.faults g) same t) }
   where
     told : TellsTooFew answer (last_line status.NoBoard profile.motes (length before.boards)) before.written v before.faults g
         → ((answer ≡ status.NoBoard) × Puts before.written v (last_line status.NoBoard profile.motes (length before.boards)) × (g ≡ before.faults))

@@ -2,7 +2,6 @@
 use Rattle.std.proofs.Common.{◌≡◌, ◌≢◌, ◌⊎◌, ℕ, ◌+◌, ◌^◌, ◌<◌, ◌≤◌, List, [], ◌∷◌, length, append-nil, refl, ap, sym, ◌∙◌, subst, ⊎_elim, inl, inr, arith}
 use Rattle.std.specs.Prelude.{slice_get, slice_index_or, Option, Some, None, Result, Ok, Err, IfSome}
 use Rattle.dg_words.specs.Counts.{Rose}
-use Rattle.dg_base.specs.Clock.{Answers, Answered}
 use Rattle.dg_base.specs.Outside.{Puts}
 use Rattle.dg_base.specs.declared.events.Event.{Event}
 use Rattle.dg_base.specs.declared.events.Event.TheVariants.{Tick, Reset, Frame}
@@ -12,25 +11,24 @@ use Rattle.dg_script.specs.Fitting.{FitsLine}
 use Rattle.dg_script.specs.declared.line.Line.TheVariants.{Event as EventLine}
 use Rattle.dg_nor.specs.Device.{Device}
 use Rattle.dg_volume.specs.Stands.{IsVolume}
-use Rattle.dg_rules.specs.World.{World, Running, site, store_at}
-use Rattle.dg_rules.specs.Events.{Deed, Does, Refuses, Goes, does, hear_by, mote_of, dt_of}
-use Rattle.dg_mote.specs.Effects.{frame_effect}
+use Rattle.dg_rules.specs.World.{World, Running, site}
+use Rattle.dg_rules.specs.Events.{mote_of, dt_of}
 use Rattle.dg_volume.specs.Store.{Store}
 use Rattle.dg_mote.specs.Timely.{Timely}
 use Rattle.dg_mote.proofs.TimelyLemmas.{timely_later}
 use Rattle.dg_world.specs.Alone.{IsAlone, IsReset}
 use Rattle.dg_world.specs.Worlds.{MayRun, MoteStands}
 use Rattle.dg_node.specs.declared.node.Node.{Node}
-use Rattle.dg_serve.specs.Services.{Part, Begins, Looks, Ticks, Moment, Steps, EventApplied, PartDone}
+use Rattle.dg_serve.specs.Services.{Part, Begins, Looks, Ticks, Moment, Steps, EventApplied, PartDone, course}
 use Rattle.dg_serve.specs.Traces.{event_lines}
-use Rattle.dg_serve.specs.Endings.{BoardsStand, FindsNoImage, FindsNoVolume, EventEnds, EndsInNext, BoardsLeft, TakesFor, FoundBy, HandedToFirst, PartlyHanded, LinkLeft, ClockLeft, OneTaken, event_of}
+use Rattle.dg_serve.specs.Endings.{BoardsStand, FindsNoImage, FindsNoVolume, EventEnds, remains, EndsInNext, TakesFor, FoundBy, HandedToFirst, PartlyHanded, StopLeaves, event_of}
 use Rattle.dg_serve.specs.Standings.{Standing, StandsFor, StandsForSome, Ready, IsUnderWay, EventAsks, BoardsAreUsed, BoardsAreCalm, Went, PartsHalted, GoesOn, stretch, AppliedAt, NotApplied, HandedThen, AppliedPartly, ApplyEnds, begun_before, begun_behind}
 use Rattle.dg_serve.specs.declared.stop.Stop.{Stop}
 use Rattle.dg_serve.specs.declared.stop.Stop.TheVariants as stop
 use Rattle.dg_serve.proofs.BoardLemmas.{got_within}
 use Rattle.dg_serve.proofs.EventLemmas.{got_some}
 use Rattle.dg_serve.proofs.GoLemmas.{one_part, no_part}
-use Rattle.dg_serve.proofs.PartLemmas.{Timed, drawn, reads_of, stands_drawn, applied_of}
+use Rattle.dg_serve.proofs.PartLemmas.{Timed, drawn, reads_of, stands_drawn, applied_of, frame_runs}
 
 pub puts_none : (o p : Option (List ℕ)) → p ≡ o → Puts o p []
 puts_none None p e = e
@@ -44,6 +42,7 @@ pub record DrawnTo (p m : Standing) (dt draw : ℕ) : Type 0 where
   pub boards : m.boards ≡ p.boards
   pub motes : m.service.motes.items ≡ p.service.motes.items
   pub written : m.written ≡ p.written
+  pub port : m.port ≡ p.port
   pub failures : m.failures ≡ p.failures
   pub faults : m.faults ≡ p.faults
   pub addressees : m.addressees ≡ p.addressees
@@ -64,7 +63,8 @@ pub record IsPart (motes begun on : ℕ) (part : Part) (event : (dt draw : ℕ) 
   pub within : on ≤ motes
   pub rises : begun ≤ on
   pub done : (s t : Moment) (es : List Event) → s.inboxes ≡ before → EventApplied motes (looked s taken) event es t → PartDone motes part s es t
-  pub link : (taken ≡ before) ⊎ ((mote : ℕ) × TakesFrame mote bytes before taken)
+  pub fits : IsFrame bytes
+  pub at : (dt draw : ℕ) → mote_of (event dt draw) < on
   pub takes_for : (dt draw : ℕ) → TakesFor (event dt draw) before taken
   -- where a frame was taken, its mote had begun, and starts nothing
   pub untaken : (dt draw : ℕ) (w : World) (old new : List Device) → FindsNoVolume w (event dt draw) old new ⊎ FindsNoImage w (event dt draw) old new → ((m : ℕ) (a : Device) → mote_of (event dt draw) ≡ m → m < begun → slice_get old m ≡ Some a → IsVolume a.image) → taken ≡ before
@@ -168,6 +168,10 @@ module _ (motes begun on : ℕ) (links : List (ℕ × ℕ)) (part : Part) (event
     off = λ k out. subst (λ xs. slice_index_or xs k None ≡ None) (sym d.motes) (ready.off k out);
   }
 
+  -- whose board is found to be a volume
+  new_volumes : ((a : Device) → IsReset (event dt draw) → slice_get m.boards (mote_of (event dt draw)) ≡ Some a → IsVolume a.image) → (k : ℕ) (a : Device) → begun ≤ k → k < on → slice_get p.boards k ≡ Some a → IsVolume a.image
+  new_volumes told = subst (λ bs. (k : ℕ) (a : Device) → begun ≤ k → k < on → slice_get bs k ≡ Some a → IsVolume a.image) d.boards (h.new_volumes dt draw m.boards told)
+
   -- it was done
   pub part_went : Ready motes begun p → AppliedAt motes links (event dt draw) m q → q.reached ≡ m.reached → Went motes begun on links (part ∷ []) p q
   part_went ready e reached = record {
@@ -177,7 +181,10 @@ module _ (motes begun on : ℕ) (links : List (ℕ × ℕ)) (part : Part) (event
         let x = e.run first (drawn (looked s m.inboxes) m.service.timeline m.clock) (stands_before first s st) in
         (x.0, one_part motes s x.0 part (event dt draw ∷ []) (applied_at first s x.0 st x.1), subst (λ n. StandsFor motes n links 0 first x.0 q) (h.behind_is dt draw) x.2);
     ready = subst (λ n. Ready motes n q) (h.behind_is dt draw) (e.ready (subst (λ n. Ready motes n m) (sym (h.before_is dt draw)) (ready_before ready)));
-    volumes = subst (λ bs. (k : ℕ) (a : Device) → begun ≤ k → k < on → slice_get bs k ≡ Some a → IsVolume a.image) d.boards (h.new_volumes dt draw m.boards e.volumes);
+    volumes = new_volumes e.volumes;
+    below = (h.at dt draw, tt);
+    rises = h.rises;
+    port = e.port ∙ d.port;
     boards = subst (λ bs. BoardsAreUsed on bs q.boards) d.boards (subst (λ n. BoardsAreUsed n m.boards q.boards) (h.behind_is dt draw) e.boards);
     calm = subst (λ bs. BoardsAreCalm bs q.boards) d.boards e.calm;
     moved = let n = ap (λ t. t.moment) e.timeline in omega (arith, n, d.timed.moment, d.short);
@@ -186,29 +193,26 @@ module _ (motes begun on : ℕ) (links : List (ℕ × ℕ)) (part : Part) (event
     reached = omega (arith, reached, d.reached);
   }
 
+  -- what it takes from the link
+  taken_then : (first : List Device) (s : Moment) (found : Option Inboxes) → StandsFor motes begun links 0 first s p → found ≡ m.inboxes → TakesFor (event dt draw) s.inboxes found
+  taken_then first s found st same = subst (λ (o : Option Inboxes). TakesFor (event dt draw) s.inboxes o) (sym same) (subst (λ (o : Option Inboxes). TakesFor (event dt draw) o m.inboxes) st.inboxes (h.takes_for dt draw))
+
   -- the event was not applied
-  next_ends : (why : Stop) (first : List Device) (s : Moment) → StandsFor motes begun links 0 first s p → EventEnds why s.world (event dt draw) first q.boards → EndsInNext why s (part ∷ []) first q.boards
-  next_ends why first s st ends = record {
+  next_ends : (why : Stop) (first : List Device) (s : Moment) → StandsFor motes begun links 0 first s p → q.inboxes ≡ m.inboxes → q.clock ≡ m.clock → EventEnds why s.world (event dt draw) first q.boards → EndsInNext why s (part ∷ []) first (remains q.boards q.inboxes q.clock)
+  next_ends why first s st link clock ends = record {
     part = part;
     rest = [];
     is = refl;
     bytes = bytes;
+    fits = h.fits;
     dt = dt;
     draw = draw;
     after = drawn s m.service.timeline m.clock;
     reads = reads_of s p.service.timeline m.service.timeline dt draw p.clock m.clock st.reading st.draws st.clock d.timed;
+    takes = subst (λ x. TakesFor x s.inboxes q.inboxes) (h.event_is dt draw) (taken_then first s q.inboxes st link);
+    clock = clock;
     ends = subst (λ x. EventEnds why s.world x first q.boards) (h.event_is dt draw) ends;
   }
-
-  clock_read : (first : List Device) (s : Moment) → StandsFor motes begun links 0 first s p → q.clock ≡ m.clock → ClockLeft s.clock q.clock
-  clock_read first s st same = inr (m.service.timeline.reading, subst (λ (o : Option Answers). Answered o q.clock m.service.timeline.reading) st.clock (subst (λ (o : Option Answers). Answered p.clock o m.service.timeline.reading) (sym same) d.timed.answered))
-
-  taken_left : (first : List Device) (s : Moment) → StandsFor motes begun links 0 first s p → q.inboxes ≡ m.inboxes → (q.inboxes ≡ s.inboxes) ⊎ OneTaken s q.inboxes
-  taken_left first s st same =
-      ⊎_elim
-      (λ none. inl (same ∙ none ∙ st.inboxes))
-      (λ one. inr (one.0, bytes, subst (λ (o : Option Inboxes). TakesFrame one.0 bytes o q.inboxes) st.inboxes (subst (λ (o : Option Inboxes). TakesFrame one.0 bytes p.inboxes o) (sym same) one.1)))
-      h.link
 
   volumes_before : (first : List Device) (s : Moment) → StandsFor motes begun links 0 first s p → Ready motes begun p → (k : ℕ) (a : Device) → mote_of (event dt draw) ≡ k → k < begun → slice_get first k ≡ Some a → IsVolume a.image
   volumes_before first s st ready k a is within was =
@@ -216,9 +220,9 @@ module _ (motes begun on : ℕ) (links : List (ℕ × ℕ)) (part : Part) (event
       let b = got_some p.boards k wide in
       (st.on k a b.0 within was b.1).0
 
-  untold_halts : (why : Stop) → Ready motes begun p → NotApplied why motes links (event dt draw) m q → (why ≢ stop.Write) → (why ≢ stop.Link) → q.reached ≡ m.reached → q.clock ≡ m.clock
-      → ((first : List Device) (s : Moment) → StandsFor motes begun links 0 first s p → BoardsLeft why s (part ∷ []) first q.boards × LinkLeft why motes s [] [] s q.inboxes) → PartsHalted why motes begun links (part ∷ []) p q
-  untold_halts why ready e writes sends reached clock left = record {
+  untold_halts : (why : Stop) → Ready motes begun p → NotApplied why motes links (event dt draw) m q → (why ≢ stop.Write) → (why ≢ stop.Link) → q.reached ≡ m.reached
+      → ((first : List Device) (s : Moment) → StandsFor motes begun links 0 first s p → StopLeaves why motes s (course [] [] (part ∷ [])) s first (remains q.boards q.inboxes q.clock)) → PartsHalted why motes begun links (part ∷ []) p q
+  untold_halts why ready e writes sends reached left = record {
     events = [];
     done = [];
     left = part ∷ [];
@@ -227,7 +231,12 @@ module _ (motes begun on : ℕ) (links : List (ℕ × ℕ)) (part : Part) (event
     put = puts_none p.written q.written (e.untold ∙ d.written);
     front = λ is. absurd (writes is);
     whole = λ other. refl;
-    run = λ first s st. (s, no_part motes s, record { boards = (left first s st).0; link = (left first s st).1; clock = clock_read first s st clock });
+    run = λ first s st. (s, no_part motes s, left first s st);
+    on = begun;
+    volumes = λ k a low high was. absurd (omega (arith, low, high));
+    below = tt;
+    rises = omega arith;
+    port = e.port ∙ d.port;
     boards = subst (λ bs. BoardsAreUsed motes bs q.boards) d.boards e.boards;
     calm = λ other. subst (λ bs. BoardsAreCalm bs q.boards) d.boards (e.calm other);
     counts = record {
@@ -242,10 +251,11 @@ module _ (motes begun on : ℕ) (links : List (ℕ × ℕ)) (part : Part) (event
   }
 
   -- the event was applied, and its line was not written, or what it sent not handed to all
-  partly_halts : (why : Stop) → AppliedPartly why motes links (event dt draw) m q → q.clock ≡ m.clock → ((s : Moment) (first : List Device) → BoardsStand s.world first q.boards → BoardsLeft why s [] first q.boards)
-      → ((first : List Device) (s t : Moment) → StandsFor motes begun links 0 first s p → PartDone motes part s (event dt draw ∷ []) t → HandedThen why motes s.world t.world m.inboxes q.inboxes → LinkLeft why motes s (part ∷ []) (event dt draw ∷ []) t q.inboxes)
+  partly_halts : (why : Stop) → AppliedPartly why motes links (event dt draw) m q → q.clock ≡ m.clock
+      → ((first : List Device) (s t : Moment) → StandsFor motes begun links 0 first s p → PartDone motes part s (event dt draw ∷ []) t → BoardsStand t.world first q.boards → HandedThen why motes s.world t.world m.inboxes q.inboxes → q.clock ≡ t.clock
+      → StopLeaves why motes s (course (part ∷ []) (event dt draw ∷ []) []) t first (remains q.boards q.inboxes q.clock))
       → PartsHalted why motes begun links (part ∷ []) p q
-  partly_halts why e clock boards_left link_left = record {
+  partly_halts why e clock left = record {
     events = event dt draw ∷ [];
     done = part ∷ [];
     left = [];
@@ -257,7 +267,12 @@ module _ (motes begun on : ℕ) (links : List (ℕ × ℕ)) (part : Part) (event
     run = λ first s st.
         let x = e.run first (drawn (looked s m.inboxes) m.service.timeline m.clock) (stands_before first s st) in
         let done = applied_at first s x.0 st x.1 in
-        (x.0, one_part motes s x.0 part (event dt draw ∷ []) done, record { boards = boards_left x.0 first x.2; link = link_left first s x.0 st done x.3; clock = inl (clock ∙ sym x.1.same_clock) });
+        (x.0, one_part motes s x.0 part (event dt draw ∷ []) done, left first s x.0 st done x.2 x.3 (clock ∙ sym x.1.same_clock));
+    on = on;
+    volumes = new_volumes e.volumes;
+    below = (h.at dt draw, tt);
+    rises = h.rises;
+    port = e.port ∙ d.port;
     boards = subst (λ bs. BoardsAreUsed motes bs q.boards) d.boards e.boards;
     calm = λ other. subst (λ bs. BoardsAreCalm bs q.boards) d.boards e.calm;
     counts = record {
@@ -283,7 +298,7 @@ module _ (motes begun on : ℕ) (links : List (ℕ × ℕ)) (part : Part) (event
     before = s;
     serves = no_part motes s;
     applied = applied;
-    takes = subst (λ (o : Option Inboxes). TakesFor (event dt draw) s.inboxes o) (sym same) (subst (λ (o : Option Inboxes). TakesFor (event dt draw) o m.inboxes) st.inboxes (h.takes_for dt draw));
+    takes = taken_then first s found st same;
   }
 
   -- its frame was not handed to all
@@ -296,24 +311,33 @@ module _ (motes begun on : ℕ) (links : List (ℕ × ℕ)) (part : Part) (event
   pub part_ends : (r : Result (Unit {0}) Stop) → Ready motes begun p → ApplyEnds r motes links (event dt draw) m q → q.reached ≡ m.reached → q.clock ≡ m.clock → GoesOn r motes links (stretch begun on (part ∷ [])) p q
   part_ends (Ok u) ready e reached clock = part_went ready e reached
   part_ends (Err stop.Memory) ready e reached clock =
-      untold_halts stop.Memory ready e (λ x. absurd cc) (λ x. absurd cc) reached clock
-      (λ first s st. (e.run first (drawn (looked s m.inboxes) m.service.timeline m.clock) (stands_before first s st), taken_left first s st e.link))
-  part_ends (Err stop.Write) ready e reached clock = partly_halts stop.Write e clock (λ s first x. x) (λ first s t st applied same. found_by first s t q.inboxes st applied same)
-  part_ends (Err stop.Link) ready e reached clock = partly_halts stop.Link e clock (λ s first x. x)
-      (λ first s t st applied handed. inr (partly_by first s t st applied handed))
+      untold_halts stop.Memory ready e (λ x. absurd cc) (λ x. absurd cc) reached
+      (λ first s st. inr (next_ends stop.Memory first s st e.link clock (e.run first (drawn (looked s m.inboxes) m.service.timeline m.clock) (stands_before first s st))))
+  part_ends (Err stop.Write) ready e reached clock = partly_halts stop.Write e clock (λ first s t st applied boards same clock. (boards, found_by first s t q.inboxes st applied same, clock))
+  part_ends (Err stop.Link) ready e reached clock = partly_halts stop.Link e clock (λ first s t st applied boards handed clock. (boards, inr (partly_by first s t st applied handed), clock))
   part_ends (Err stop.Flash) ready e reached clock =
-      untold_halts stop.Flash ready e (λ x. absurd cc) (λ x. absurd cc) reached clock
-      (λ first s st. (next_ends stop.Flash first s st (e.run first (drawn (looked s m.inboxes) m.service.timeline m.clock) (stands_before first s st)), taken_left first s st e.link))
+      untold_halts stop.Flash ready e (λ x. absurd cc) (λ x. absurd cc) reached
+      (λ first s st. next_ends stop.Flash first s st e.link clock (e.run first (drawn (looked s m.inboxes) m.service.timeline m.clock) (stands_before first s st)))
   part_ends (Err stop.NotAVolume) ready e reached clock =
-      untold_halts stop.NotAVolume ready e (λ x. absurd cc) (λ x. absurd cc) reached clock
+      untold_halts stop.NotAVolume ready e (λ x. absurd cc) (λ x. absurd cc) reached
       (λ first s st.
       let x = e.run first (drawn (looked s m.inboxes) m.service.timeline m.clock) (stands_before first s st) in
-      (next_ends stop.NotAVolume first s st x, e.link ∙ h.untaken dt draw s.world first q.boards (inl x) (volumes_before first s st ready) ∙ st.inboxes))
+      (next_ends stop.NotAVolume first s st e.link clock x, e.link ∙ h.untaken dt draw s.world first q.boards (inl x) (volumes_before first s st ready) ∙ st.inboxes))
   part_ends (Err stop.NoImage) ready e reached clock =
-      untold_halts stop.NoImage ready e (λ x. absurd cc) (λ x. absurd cc) reached clock
+      untold_halts stop.NoImage ready e (λ x. absurd cc) (λ x. absurd cc) reached
       (λ first s st.
       let x = e.run first (drawn (looked s m.inboxes) m.service.timeline m.clock) (stands_before first s st) in
-      (next_ends stop.NoImage first s st x, e.link ∙ h.untaken dt draw s.world first q.boards (inr x) (volumes_before first s st ready) ∙ st.inboxes))
+      (next_ends stop.NoImage first s st e.link clock x, e.link ∙ h.untaken dt draw s.world first q.boards (inr x) (volumes_before first s st ready) ∙ st.inboxes))
+
+next_below : (m : ℕ) → m < m + 1
+next_below m = omega arith
+
+zero_is_small : 0 < 256
+zero_is_small = omega arith
+
+-- a part that takes no frame
+no_frame : IsFrame []
+no_frame = record { few = omega arith; bytes = λ k. zero_is_small }
 
 -- ---- the parts
 
@@ -326,7 +350,8 @@ begins_part motes mote boxes known = record {
   within = omega arith;
   rises = omega arith;
   done = λ s t es same x. subst (λ (o : Option Inboxes). EventApplied motes (looked s o) (λ dt draw. Reset mote dt draw) es t) (sym same) x;
-  link = inl refl;
+  fits = no_frame;
+  at = λ dt draw. next_below mote;
   takes_for = λ dt draw. refl;
   untaken = λ dt draw w old new ends volumes. refl;
   new_volumes = λ dt draw boards told m a low high was.
@@ -334,8 +359,8 @@ begins_part motes mote boxes known = record {
       told a tt (ap (slice_get boards) (sym same) ∙ was);
 }
 
-pub ticks_part : (motes mote : ℕ) (boxes : Option Inboxes) → IsPart motes motes motes (Ticks mote) (λ dt draw. Tick mote dt draw) [] boxes boxes
-ticks_part motes mote boxes = record {
+pub ticks_part : (motes mote : ℕ) (boxes : Option Inboxes) → mote < motes → IsPart motes motes motes (Ticks mote) (λ dt draw. Tick mote dt draw) [] boxes boxes
+ticks_part motes mote boxes known = record {
   dt_is = λ dt draw. refl;
   before_is = λ dt draw. refl;
   behind_is = λ dt draw. refl;
@@ -343,28 +368,12 @@ ticks_part motes mote boxes = record {
   within = omega arith;
   rises = omega arith;
   done = λ s t es same x. subst (λ (o : Option Inboxes). EventApplied motes (looked s o) (λ dt draw. Tick mote dt draw) es t) (sym same) x;
-  link = inl refl;
+  fits = no_frame;
+  at = λ dt draw. known;
   takes_for = λ dt draw. refl;
   untaken = λ dt draw w old new ends volumes. refl;
   new_volumes = λ dt draw boards told m a low high was. absurd (omega (arith, low, high));
 }
-
--- a frame that is heard leaves its mote on
-runs_in : Does → Option (Option Running)
-runs_in (Refuses why) = Some None
-runs_in (Goes deed) = deed.runs
-
-some_left : (o : Option (Option Running)) (x : Option Running) → Some x ≡ o → o ≡ None → ⊥
-some_left o x is none = absurd cc
-
-heard_runs : (w : World) (m dt draw : ℕ) (bytes : List ℕ) (deed : Deed) (o : Option Running) → hear_by w (store_at w m) o (w.moment + dt) draw bytes ≡ Goes deed → deed.runs ≡ None → ⊥
-unfolding frame_effect runs_in
-heard_runs w m dt draw bytes deed None e none = absurd cc
-heard_runs w m dt draw bytes deed (Some r) e none = some_left deed.runs _ (ap runs_in e) none
-
-pub frame_runs : (w : World) (m dt draw : ℕ) (bytes : List ℕ) (deed : Deed) → does w (Frame m dt draw bytes) ≡ Goes deed → deed.runs ≡ None → ⊥
-unfolding does
-frame_runs w m dt draw bytes deed e none = heard_runs w m dt draw bytes deed (site w m).runs e none
 
 pub looks_part : (motes mote : ℕ) (bytes : List ℕ) (before taken : Option Inboxes) → mote < motes → TakesFrame mote bytes before taken → IsFrame bytes → IsPart motes motes motes (Looks mote) (λ dt draw. Frame mote dt draw bytes) bytes before taken
 looks_part motes mote bytes before taken known takes fits = record {
@@ -375,7 +384,8 @@ looks_part motes mote bytes before taken known takes fits = record {
   within = omega arith;
   rises = omega arith;
   done = λ s t es same x. inr (record { bytes = bytes; fits = fits; taken = taken; takes = subst (λ (o : Option Inboxes). TakesFrame mote bytes o taken) (sym same) takes; heard = x });
-  link = inr (mote, takes);
+  fits = fits;
+  at = λ dt draw. known;
   takes_for = λ dt draw. takes;
   untaken = λ dt draw w old new ends volumes.
       ⊎_elim

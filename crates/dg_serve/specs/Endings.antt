@@ -1,7 +1,7 @@
 -- How a service leaves its boards, its link and its clock, where it ends (docs/COMMANDS.md, "Serve").
 use Rattle.std.specs.Prelude.{◌≡◌, ◌⊎◌, ℕ, ◌<◌, ◌≤◌, true, List, [], ◌∷◌, ◌++◌, length, take, slice_get, slice_index_or, Option}
 use Rattle.std.specs.Prelude.{Some, option_map}
-use Rattle.dg_base.specs.Clock.{Answers, Answered}
+use Rattle.dg_base.specs.Clock.{Answers}
 use Rattle.dg_base.specs.declared.events.Event.{Event}
 use Rattle.dg_base.specs.declared.events.Event.TheVariants.{Tick, Reset, Frame}
 use Rattle.dg_link.specs.Inboxes.{Inboxes, TakesFrame}
@@ -14,10 +14,11 @@ use Rattle.dg_script.specs.Places.{none_narrow}
 use Rattle.dg_rules.specs.World.{World, Sent, first_world, store_at, no_site}
 use Rattle.dg_rules.specs.Events.{does, mote_of, trail_of}
 use Rattle.dg_rules.specs.Steps.{EndsRun}
-use Rattle.dg_world.specs.Alone.{uncut}
+use Rattle.dg_script.specs.Ranges.{IsFrame}
+use Rattle.dg_world.specs.Alone.{uncut, IsReset}
 use Rattle.dg_seed.specs.Draws.{first_generator}
-use Rattle.dg_serve.specs.Services.{Part, Begins, Looks, Ticks, Moment, ReadsClock, PartDone, PartsDone, new_frames, handed_to}
-use Rattle.dg_serve.specs.Services.{neighbours}
+use Rattle.dg_serve.specs.Services.{Part, Begins, Looks, Ticks, Moment, ReadsClock, PartDone, PartsDone, Course, new_frames}
+use Rattle.dg_serve.specs.Services.{handed_to, neighbours}
 use Rattle.dg_serve.specs.declared.stop.Stop.{Stop}
 use Rattle.dg_serve.specs.declared.stop.Stop.TheVariants.{Memory, Write, Link, Flash, NotAVolume, NoImage}
 
@@ -69,6 +70,7 @@ pub record StopsInEvent (w : World) (event : Event) (old new : List Device) : Ty
 
 -- A mote was to begin whose board is no volume.
 pub record FindsNoVolume (w : World) (event : Event) (old new : List Device) : Type 0 where
+  pub reset : IsReset event
   pub board : Device
   pub was : slice_get old (mote_of event) ≡ Some board
   pub no_volume : IsNoVolume board.image
@@ -95,38 +97,47 @@ event_of (Begins m) dt draw bytes = Reset m dt draw
 event_of (Looks m) dt draw bytes = Frame m dt draw bytes
 event_of (Ticks m) dt draw bytes = Tick m dt draw
 
--- The event in which the service ended was not applied. It is that of the next part,
--- the clock was read and a draw was taken for it.
-pub record EndsInNext (stop : Stop) (s : Moment) (left : List Part) (old new : List Device) : Type 0 where
-  pub part : Part
-  pub rest : List Part
-  pub is : left ≡ part ∷ rest
-  pub bytes : List ℕ
-  pub dt : ℕ
-  pub draw : ℕ
-  pub after : Moment
-  pub reads : ReadsClock s dt draw after
-  pub ends : EventEnds stop s.world (event_of part dt draw bytes) old new
+-- ---- what is left
 
--- how the boards are left
-abbrev pub BoardsLeft : Stop → Moment → List Part → (old new : List Device) → Type 0
-BoardsLeft Memory s left old new = BoardsStand s.world old new
-BoardsLeft Write s left old new = BoardsStand s.world old new
-BoardsLeft Link s left old new = BoardsStand s.world old new
-BoardsLeft Flash s left old new = EndsInNext Flash s left old new
-BoardsLeft NotAVolume s left old new = EndsInNext NotAVolume s left old new
-BoardsLeft NoImage s left old new = EndsInNext NoImage s left old new
+-- the boards, the frames that wait, where the link tells them, and the answers of the clock to come
+pub record Remains : Type 0 where
+  pub boards : List Device
+  pub inboxes : Option Inboxes
+  pub clock : Option Answers
 
--- ---- the link
-
--- A frame was taken for an event that was not applied.
-abbrev pub OneTaken : Moment → Option Inboxes → Type 0
-OneTaken s after = (mote : ℕ) × (bytes : List ℕ) × TakesFrame mote bytes s.inboxes after
+abbrev pub remains : (boards : List Device) (inboxes : Option Inboxes) (clock : Option Answers) → Remains
+remains boards inboxes clock = record { boards = boards; inboxes = inboxes; clock = clock }
 
 -- what an event takes from the link before it is applied: the frame that is heard, and else nothing
 abbrev pub TakesFor : Event → Option Inboxes → Option Inboxes → Type 0
 TakesFor (Frame mote dt draw bytes) before after = TakesFrame mote bytes before after
 TakesFor event before after = after ≡ before
+
+-- The event in which the service ended was not applied. It is that of the next part: the clock was read and a draw was taken
+-- for it, and it has the bytes of the frame that was received, or no frame was.
+pub record EndsInNext (stop : Stop) (s : Moment) (left : List Part) (old : List Device) (new : Remains) : Type 0 where
+  pub part : Part
+  pub rest : List Part
+  pub is : left ≡ part ∷ rest
+  pub bytes : List ℕ
+  pub fits : IsFrame bytes
+  pub dt : ℕ
+  pub draw : ℕ
+  pub after : Moment
+  pub reads : ReadsClock s dt draw after
+  pub takes : TakesFor (event_of part dt draw bytes) s.inboxes new.inboxes
+  pub clock : new.clock ≡ after.clock
+  pub ends : EventEnds stop s.world (event_of part dt draw bytes) old new.boards
+
+-- A mote received a frame for which there was no memory. The clock was not read, and nothing else was done.
+pub record LosesFrame (s : Moment) (left : List Part) (old : List Device) (new : Remains) : Type 0 where
+  pub mote : ℕ
+  pub rest : List Part
+  pub is : left ≡ Looks mote ∷ rest
+  pub bytes : List ℕ
+  pub takes : TakesFrame mote bytes s.inboxes new.inboxes
+  pub clock : new.clock ≡ s.clock
+  pub boards : BoardsStand s.world old new.boards
 
 -- The last event found the link like this: all that the events before it sent was handed on,
 -- and the frame that it hears is taken.
@@ -157,18 +168,14 @@ pub record PartlyHanded (motes : ℕ) (s : Moment) (done : List Part) (events : 
   pub by : FoundBy motes s done events last found
   pub first : HandedToFirst motes by.before.world last.world found after
 
--- How the link is left where these parts were done from this moment on, and gave these events. Where a line could not be
--- written, nothing of its event was handed on.
-abbrev pub LinkLeft : Stop → (motes : ℕ) → Moment → List Part → List Event → (last : Moment) → Option Inboxes → Type 0
-LinkLeft Memory motes s done events last after = (after ≡ last.inboxes) ⊎ OneTaken last after
-LinkLeft Write motes s done events last after = FoundBy motes s done events last after
-LinkLeft Link motes s done events last after = (after ≡ last.inboxes) ⊎ PartlyHanded motes s done events last after
-LinkLeft Flash motes s done events last after = (after ≡ last.inboxes) ⊎ OneTaken last after
-LinkLeft NotAVolume motes s done events last after = after ≡ last.inboxes
-LinkLeft NoImage motes s done events last after = after ≡ last.inboxes
-
--- ---- the clock
-
--- It was read for the events that were applied, and perhaps for one that was not.
-abbrev pub ClockLeft : Option Answers → Option Answers → Type 0
-ClockLeft told after = (after ≡ told) ⊎ ((answer : ℕ) × Answered told after answer)
+-- What a stop leaves where these parts were done from this moment on, and gave these events. Where a line could not be
+-- written, nothing of its event was handed on. Where no image or no volume was found, no frame was taken.
+abbrev pub StopLeaves : Stop → (motes : ℕ) → Moment → Course → (last : Moment) → (old : List Device) → (new : Remains) → Type 0
+StopLeaves Memory motes s c last old new = LosesFrame last c.left old new ⊎ EndsInNext Memory last c.left old new
+StopLeaves Write motes s c last old new =
+    BoardsStand last.world old new.boards × FoundBy motes s c.done c.events last new.inboxes × (new.clock ≡ last.clock)
+StopLeaves Link motes s c last old new = BoardsStand last.world old new.boards
+    × ((new.inboxes ≡ last.inboxes) ⊎ PartlyHanded motes s c.done c.events last new.inboxes) × (new.clock ≡ last.clock)
+StopLeaves Flash motes s c last old new = EndsInNext Flash last c.left old new
+StopLeaves NotAVolume motes s c last old new = EndsInNext NotAVolume last c.left old new × (new.inboxes ≡ last.inboxes)
+StopLeaves NoImage motes s c last old new = EndsInNext NoImage last c.left old new × (new.inboxes ≡ last.inboxes)

@@ -51,6 +51,7 @@ pub record TellsAlone (answer of : Status) (line : List ℕ) (before after : Out
   pub boards : after.boards ≡ before.boards
   pub clock : after.clock ≡ before.clock
   pub link : after.inboxes ≡ before.inboxes
+  pub port : after.port ≡ before.port
   pub failures : after.failures ≡ before.failures
   pub written : LineWritten answer of line before.written after.written before.faults after.faults
       ⊎ ((answer ≡ status.Memory) × (after.written ≡ before.written) × (after.faults ≡ before.faults))

@@ -1,7 +1,8 @@
 -- What is promised of what a service did, each with its premises (docs/PROMISES.md, "The service").
-use Rattle.std.specs.Prelude.{◌≡◌, ℕ, ◌<◌, true, List, [], ◌∷◌, length, map}
+use Rattle.std.specs.Prelude.{◌≡◌, ℕ, ◌<◌, true, List, [], ◌∷◌, length, map, Option, IsSome}
 use Rattle.std.specs.List.{AllByRecursion}
 use Rattle.dg_base.specs.declared.events.Event.{Event}
+use Rattle.dg_link.specs.Inboxes.{Inboxes}
 use Rattle.dg_object.specs.Object.{Row}
 use Rattle.dg_volume.specs.Store.{Store}
 use Rattle.dg_rules.specs.World.{World, first_world}
@@ -19,6 +20,8 @@ use Rattle.dg_script.specs.Items.{Item, Applies, items_of, place_behind}
 use Rattle.dg_script.specs.declared.line.Line.{Line}
 use Rattle.dg_script.specs.declared.line.Line.TheVariants.{Motes, Boards}
 use Rattle.dg_world.specs.Alone.{uncut}
+use Rattle.dg_serve.specs.Services.{Part, Moment}
+use Rattle.dg_serve.specs.Endings.{TakesFor, event_of}
 use Rattle.dg_serve.specs.Traces.{IsScript}
 
 -- an event of a service as an item of a run: no power is cut in it
@@ -72,10 +75,16 @@ pub record ServiceKeepsGolden (motes : ℕ) (played : List Played) (v : World) :
 
 -- ---- what a service keeps
 
--- The events are those of a run of wide motes, of which there holds what is promised of a script over boards as they are.
-pub record KeepsRules (table : List Row) (stores : List Store) (links : List (ℕ × ℕ)) (motes : ℕ) (events : List Event)
-    (v : World) : Type 0 where
-  pub run : RunOf motes (first_world table links none_narrow stores) events v
+-- The events are those of a run of wide motes up to this moment, of which there holds what is promised of a script over boards as
+-- they are. The link told these inboxes before it was opened, if any.
+pub record KeepsRules (told : Option Inboxes) (table : List Row) (stores : List Store) (links : List (ℕ × ℕ)) (motes : ℕ)
+    (events : List Event) (last : Moment) : Type 0 where
+  pub run : RunOf motes (first_world table links none_narrow stores) events last.world
+  -- over a link that tells its inboxes each frame that came was sent by a mote of it: so it is honest, where the boards agree
+  pub honest : IsSome told → StoresAgree table stores → FramesAreHonest table stores run.played
+  -- and so is the frame that the next event takes from them
+  pub next : IsSome told → StoresAgree table stores → (part : Part) (dt draw : ℕ) (bytes : List ℕ) (after : Option Inboxes)
+      → TakesFor (event_of part dt draw bytes) last.inboxes after → HoldsTo table last.world (event_of part dt draw bytes)
   -- where its frames are honest, each step is legal after those before it
   pub legal : FramesAreHonest table stores run.played → EachAfter IsLegal [] run.played
   -- there no version falls, and a complete page stays unless a newer version of its image replaces it
@@ -83,15 +92,16 @@ pub record KeepsRules (table : List Row) (stores : List Store) (links : List (�
   -- there what starts is a row of the table
   pub starts : FramesAreHonest table stores run.played → AllByRecursion StartsRow run.played
   -- there the world behind each event agrees with its table, and so does the last world
-  pub agrees : FramesAreHonest table stores run.played → AllByRecursion LeavesAgreement run.played × WorldAgrees v
+  pub agrees : FramesAreHonest table stores run.played → AllByRecursion LeavesAgreement run.played × WorldAgrees last.world
   -- there each store that the chip may stand for, wherever a stop comes in the next event, agrees with the table,
   -- where that event is honest too
-  pub halves : (e : Event) → FramesAreHonest table stores run.played → EventInRange motes e → HoldsTo table v e → StopsAgree v e
+  pub halves : (e : Event) → FramesAreHonest table stores run.played → EventInRange motes e → HoldsTo table last.world e
+      → StopsAgree last.world e
   -- with any frames at all, over consistent boards: each store stays consistent,
   -- and what starts is golden or fits its own descriptor
-  pub consistent : (golden : Row) → StoresConsistent golden stores → StaysConsistent golden motes run.played v
+  pub consistent : (golden : Row) → StoresConsistent golden stores → StaysConsistent golden motes run.played last.world
   -- with any frames at all, over boards that keep golden whole: they still do, and a start finds it
-  pub golden : StoresKeepGolden stores → ServiceKeepsGolden motes run.played v
+  pub golden : StoresKeepGolden stores → ServiceKeepsGolden motes run.played last.world
 
 -- ---- what a replay of its trace comes to
 

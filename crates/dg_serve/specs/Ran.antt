@@ -1,6 +1,7 @@
 -- What the calls of a service did before its last line was written (docs/COMMANDS.md, "Serve").
 use Rattle.std.specs.Prelude.{◌≡◌, ◌≢◌, ◌⊎◌, ℕ, ◌≤◌, List, [], ◌++◌, length, take, slice_get, slice_index_or, Option, Some}
 use Rattle.std.specs.Prelude.{None, option_map, Result, Ok, Err}
+use Rattle.std.specs.List.{AllByRecursion}
 use Rattle.dg_words.specs.Counts.{Rose}
 use Rattle.dg_base.specs.Clock.{Answers, Answered}
 use Rattle.dg_base.specs.Outside.{Puts}
@@ -8,6 +9,7 @@ use Rattle.dg_base.specs.declared.answers.Status.{Status}
 use Rattle.dg_base.specs.declared.answers.Status.TheVariants as status
 use Rattle.dg_base.specs.declared.events.Event.{Event}
 use Rattle.dg_link.specs.Inboxes.{Inboxes, emptied}
+use Rattle.dg_link.specs.declared.link.Link.{Ghosts as LinkTells}
 use Rattle.dg_netcfg.specs.declared.profile.NetProfile.{NetProfile}
 use Rattle.dg_nor.specs.Device.{Device}
 use Rattle.dg_object.specs.Object.{Row}
@@ -15,7 +17,7 @@ use Rattle.dg_volume.specs.Store.{Store}
 use Rattle.dg_seed.specs.Draws.{first_generator, generator_of}
 use Rattle.dg_serve.specs.Services.{Part, course, plan}
 use Rattle.dg_serve.specs.Endings.{StoresOf, begins}
-use Rattle.dg_serve.specs.Served.{Outside, Came, MotesEndure, Hindered}
+use Rattle.dg_serve.specs.Served.{Outside, Came, MotesEndure, Hindered, AtPort, IsAtVolume}
 use Rattle.dg_serve.specs.Traces.{UnwrittenLast, lines_text, head_lines, event_lines, last_line}
 use Rattle.dg_serve.specs.declared.service.Service.{Service}
 use Rattle.dg_serve.specs.declared.stop.Stop.{Stop}
@@ -42,6 +44,7 @@ pub record IsOpened (profile : NetProfile) (seed : ℕ) (before : Outside) (v : 
   pub addressees_are : addressees ≡ profile.motes
   pub put : Puts before.written after.written (lines_text (head_lines profile))
   pub inboxes : after.inboxes ≡ option_map (emptied profile.motes) before.inboxes
+  pub port : AtPort profile before after
   pub faults : after.faults ≡ before.faults
   pub failures : after.failures ≡ before.failures
 
@@ -86,10 +89,12 @@ pub record ServiceRan (why : Option Stop) (profile : NetProfile) (seed turns : �
       → Came why profile.motes (begins table profile.links stores origin clock seed
       (option_map (emptied profile.motes) before.inboxes))
       (course done events left) before.boards after
+  pub volumes : AllByRecursion (IsAtVolume before.boards) events
   pub text : List ℕ
   pub put : Puts before.written after.written text
   pub wrote : WroteBy why (lines_text (head_lines profile)) events text
   pub boards : MotesEndure profile.motes before.boards after.boards
+  pub port : AtPort profile before after
   pub counts : CountedBy why before after
 
 -- why it did not begin
@@ -125,8 +130,30 @@ TellsTooFew answer line w v f g = LineWritten answer status.NoBoard line w v f g
 
 -- ---- the link is opened
 
-abbrev pub OpensLink : Result (Unit {0}) Stop → (motes : ℕ) → (old new : Option Inboxes) → (f g addressees : ℕ) → Type 0
-OpensLink (Ok u) motes old new f g addressees = (new ≡ option_map (emptied motes) old) × (g ≡ f) × (addressees ≡ motes)
-OpensLink (Err stop.Memory) motes old new f g addressees = g ≡ f
-OpensLink (Err stop.Link) motes old new f g addressees = (new ≡ option_map (emptied 0) old) × Rose f g × (f ≤ g)
-OpensLink (Err why) motes old new f g addressees = ⊥
+-- what a link tells: its inboxes, how many calls failed, how many motes it has, and its port
+pub record LinkTold : Type 0 where
+  pub inboxes : Option Inboxes
+  pub failures : ℕ
+  pub addressees : ℕ
+  pub port : Option ℕ
+
+abbrev pub told_by : {L : Type 0} → LinkTells L × L → LinkTold
+told_by net = record {
+  inboxes = net.0.inboxes net.1;
+  failures = net.0.faults net.1;
+  addressees = net.0.mote_count net.1;
+  port = net.0.first_port net.1;
+}
+
+-- it has so many motes, at the profile's port
+abbrev pub LinkIsOpen : (motes : ℕ) → NetProfile → (old new : LinkTold) → Type 0
+LinkIsOpen motes profile old new =
+    (new.inboxes ≡ option_map (emptied motes) old.inboxes) × (new.port ≡ option_map (λ port. profile.port) old.port)
+
+abbrev pub OpensLink : Result (Unit {0}) Stop → NetProfile → (old new : LinkTold) → Type 0
+OpensLink (Ok u) profile old new =
+    LinkIsOpen profile.motes profile old new × (new.failures ≡ old.failures) × (new.addressees ≡ profile.motes)
+OpensLink (Err stop.Memory) profile old new = LinkIsOpen 0 profile old new × (new.failures ≡ old.failures)
+OpensLink (Err stop.Link) profile old new =
+    LinkIsOpen 0 profile old new × Rose old.failures new.failures × (old.failures ≤ new.failures)
+OpensLink (Err why) profile old new = ⊥

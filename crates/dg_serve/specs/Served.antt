@@ -1,6 +1,7 @@
 -- What a service did: the events that were applied, what it wrote, and how it left the boards, the link and the clock
 -- (docs/COMMANDS.md, "Serve").
 use Rattle.std.specs.Prelude.{◌≡◌, ◌≢◌, ◌⊎◌, ℕ, ◌≤◌, List, [], ◌++◌, length, take, slice_get, Option, Some, None, option_map}
+use Rattle.std.specs.List.{AllByRecursion}
 use Rattle.dg_words.specs.Counts.{Rose}
 use Rattle.dg_base.specs.Clock.{Answers, Answered}
 use Rattle.dg_base.specs.Outside.{Puts}
@@ -12,41 +13,48 @@ use Rattle.dg_netcfg.specs.declared.profile.NetProfile.{NetProfile}
 use Rattle.dg_nor.specs.Device.{Device}
 use Rattle.dg_object.specs.Object.{Row}
 use Rattle.dg_volume.specs.Store.{Store}
+use Rattle.dg_volume.specs.Stands.{IsVolume}
+use Rattle.dg_rules.specs.Events.{mote_of}
 use Rattle.dg_world.specs.Boards.{BoardsEndure}
 use Rattle.dg_serve.specs.Services.{Part, Moment, PartsDone, Course, course, plan}
-use Rattle.dg_serve.specs.Endings.{StoresOf, begins, BoardsStand, BoardsLeft, LinkLeft, ClockLeft}
+use Rattle.dg_serve.specs.Endings.{StoresOf, begins, BoardsStand, remains, StopLeaves}
 use Rattle.dg_serve.specs.Traces.{UnwrittenLast, trace, lines_text, head_lines, last_line}
 use Rattle.dg_serve.specs.declared.stop.Stop.{Stop}
 use Rattle.dg_serve.specs.declared.stop.Stop.TheVariants as stop
 
 -- What is outside of a service, before it or behind it: the bytes that were written and the count of the sink, the answers of
--- the clock, the inboxes and the count of the link, and the boards.
+-- the clock, the inboxes, the count and the port of the link, and the boards.
 pub record Outside : Type 0 where
   pub written : Option (List ℕ)
   pub faults : ℕ
   pub clock : Option Answers
   pub inboxes : Option Inboxes
   pub failures : ℕ
+  pub port : Option ℕ
   pub boards : List Device
 
 abbrev pub outside : (written : Option (List ℕ)) (faults : ℕ) (clock : Option Answers) (inboxes : Option Inboxes) (failures : ℕ)
-    (boards : List Device) → Outside
-outside written faults clock inboxes failures boards = record {
+    (port : Option ℕ) (boards : List Device) → Outside
+outside written faults clock inboxes failures port boards = record {
   written = written;
   faults = faults;
   clock = clock;
   inboxes = inboxes;
   failures = failures;
+  port = port;
   boards = boards;
 }
+
+-- the link is to be opened at the profile's port: it has that port, where it tells its port
+abbrev pub AtPort : NetProfile → (before after : Outside) → Type 0
+AtPort profile before after = after.port ≡ option_map (λ port. profile.port) before.port
 
 -- how the boards, the link and the clock are left, by why the service ended before its turns were over, if it did
 abbrev pub LeftBy : Option Stop → (motes : ℕ) → Moment → Course → (last : Moment) → List Device → Outside → Type 0
 LeftBy None motes s c last first after =
     BoardsStand last.world first after.boards × (after.inboxes ≡ last.inboxes) × (after.clock ≡ last.clock)
 LeftBy (Some why) motes s c last first after =
-    BoardsLeft why last c.left first after.boards × LinkLeft why motes s c.done c.events last after.inboxes
-    × ClockLeft last.clock after.clock
+    StopLeaves why motes s c last first (remains after.boards after.inboxes after.clock)
 
 -- From this moment on the service came as far as this.
 pub record Came (why : Option Stop) (motes : ℕ) (s : Moment) (c : Course) (first : List Device) (after : Outside) : Type 0 where
@@ -83,11 +91,15 @@ pub record Causes (answer : Status) (before after : Outside) : Type 0 where
   pub write_fault : answer ≡ status.WriteFault → Rose before.faults after.faults
   pub writes : answer ≢ status.WriteFault → after.faults ≡ before.faults
   pub link_fault : answer ≡ status.LinkFault → Rose before.failures after.failures
-  pub sends : answer ≡ status.Done → after.failures ≡ before.failures
+  pub sends : answer ≢ status.LinkFault → after.failures ≡ before.failures
   pub calm : answer ≢ status.FlashFault → (m : ℕ) (a b : Device) → slice_get before.boards m ≡ Some a
       → slice_get after.boards m ≡ Some b → b.faults ≡ a.faults
   pub writes_rise : before.faults ≤ after.faults
   pub sends_rise : before.failures ≤ after.failures
+
+-- the board at which an event is, is a volume
+abbrev pub IsAtVolume : List Device → Event → Type 0
+IsAtVolume boards event = (board : Device) → slice_get boards (mote_of event) ≡ Some board → IsVolume board.image
 
 -- The service began: its link was opened, and its clock read.
 pub record Began (answer : Status) (profile : NetProfile) (seed turns : ℕ) (before after : Outside) : Type 0 where
@@ -106,24 +118,36 @@ pub record Began (answer : Status) (profile : NetProfile) (seed turns : ℕ) (be
       → Came why profile.motes (begins table profile.links stores origin clock seed
       (option_map (emptied profile.motes) before.inboxes))
       (course done events left) before.boards after
+  -- none of the events was at a board that is no volume
+  pub volumes : AllByRecursion (IsAtVolume before.boards) events
   pub text : List ℕ
   pub put : Puts before.written after.written text
   pub wrote : Wrote why answer profile (length before.boards) events text
   pub boards : MotesEndure profile.motes before.boards after.boards
+  pub port : AtPort profile before after
   pub causes : Causes answer before after
 
--- why a service did not begin, where the head of its trace could not be written, or the link could not be opened
+-- the link as it was before, or without motes
+abbrev pub LinkClosed : NetProfile → (before after : Outside) → Type 0
+LinkClosed profile before after =
+    (after.inboxes ≡ option_map (emptied 0) before.inboxes) × AtPort profile before after
+
+abbrev pub SameBoxes : (before after : Outside) → Type 0
+SameBoxes before after = (after.inboxes ≡ before.inboxes) × (after.port ≡ before.port)
+
+-- Why a service did not begin, where the head of its trace could not be written, or the link could not be opened. Memory may run
+-- out before the link is to be opened, or then.
 abbrev pub Hindered : Status → NetProfile → (before after : Outside) → Type 0
 Hindered status.Memory profile before after =
     ((n : ℕ) × Puts before.written after.written (take n (lines_text (head_lines profile)))) × (after.faults ≡ before.faults)
-    × (after.failures ≡ before.failures)
+    × (after.failures ≡ before.failures) × (SameBoxes before after ⊎ LinkClosed profile before after)
 Hindered status.WriteFault profile before after =
     ((n : ℕ) × Puts before.written after.written (take n (lines_text (head_lines profile)))) × Rose before.faults after.faults
     × (after.failures ≡ before.failures)
-    × (after.inboxes ≡ before.inboxes) × (before.faults ≤ after.faults)
+    × SameBoxes before after × (before.faults ≤ after.faults)
 Hindered status.LinkFault profile before after = Puts before.written after.written (lines_text (head_lines profile))
     × (after.faults ≡ before.faults) × Rose before.failures after.failures
-    × (after.inboxes ≡ option_map (emptied 0) before.inboxes) × (before.failures ≤ after.failures)
+    × LinkClosed profile before after × (before.failures ≤ after.failures)
 Hindered answer profile before after = ⊥
 
 -- The service did not begin. No board was used, and the clock was not read.
@@ -141,6 +165,7 @@ pub record TooFewBoards (answer : Status) (profile : NetProfile) (before after :
   pub boards : after.boards ≡ before.boards
   pub clock : after.clock ≡ before.clock
   pub link : after.inboxes ≡ before.inboxes
+  pub port : after.port ≡ before.port
   pub failures : after.failures ≡ before.failures
   pub written : ((answer ≡ status.NoBoard) × Puts before.written after.written
       (last_line status.NoBoard profile.motes (length before.boards)) × (after.faults ≡ before.faults))

@@ -1,6 +1,7 @@
 -- Where the code of a service stands, and how its calls go on from there (docs/COMMANDS.md, "Serve").
 use Rattle.std.specs.Prelude.{◌≡◌, ◌≢◌, ◌⊎◌, ℕ, ◌+◌, ◌-◌, ◌*◌, ◌^◌, ◌<◌, ◌≤◌, true, List, [], ◌∷◌, ◌++◌, length, take, slice_get}
 use Rattle.std.specs.Prelude.{slice_index_or, slice_set, option_map, Option, Some, None, Result, Ok, Err}
+use Rattle.std.specs.List.{AllByRecursion}
 use Rattle.dg_words.specs.Counts.{Rose}
 use Rattle.dg_base.specs.Clock.{Answers}
 use Rattle.dg_base.specs.Outside.{Puts}
@@ -28,9 +29,9 @@ use Rattle.dg_world.specs.declared.outcome.Fault.{Fault}
 use Rattle.dg_world.specs.declared.outcome.Fault.TheVariants as fault
 use Rattle.dg_node.specs.declared.node.Node.{Node}
 use Rattle.dg_seed.specs.Draws.{generator_of}
-use Rattle.dg_serve.specs.Services.{Part, Moment, PartsDone, Course, course, Steps, handed_to, neighbours_by}
+use Rattle.dg_serve.specs.Services.{Part, Moment, PartsDone, course, Steps, handed_to, neighbours_by}
 use Rattle.dg_serve.specs.Traces.{UnwrittenLast, event_lines}
-use Rattle.dg_serve.specs.Endings.{BoardsStand, EventEnds, BoardsLeft, HandedToFirst, LinkLeft, ClockLeft}
+use Rattle.dg_serve.specs.Endings.{BoardsStand, EventEnds, HandedToFirst, remains, StopLeaves}
 use Rattle.dg_serve.specs.declared.service.Service.{Service}
 use Rattle.dg_serve.specs.declared.stop.Stop.{Stop}
 use Rattle.dg_serve.specs.declared.stop.Stop.TheVariants as stop
@@ -42,6 +43,7 @@ pub record Standing : Type 0 where
   pub inboxes : Option Inboxes
   pub addressees : ℕ
   pub failures : ℕ
+  pub port : Option ℕ
   pub clock : Option Answers
   pub reached : ℕ
   pub written : Option (List ℕ)
@@ -56,6 +58,7 @@ standing_with x sink link clock = record {
   inboxes = link.0.inboxes link.1;
   addressees = link.0.mote_count link.1;
   failures = link.0.faults link.1;
+  port = link.0.first_port link.1;
   clock = clock.0;
   reached = clock.1;
   written = sink.0.written sink.1;
@@ -119,6 +122,10 @@ BoardsAreCalm old new = (m : ℕ) → BoardIsCalm (slice_get old m) (slice_get n
 
 -- ---- parts
 
+-- the event is at one of the first motes
+abbrev pub IsBelow : ℕ → Event → Type 0
+IsBelow on event = mote_of event < on
+
 -- These parts were done. Then the power of the first `on` motes came.
 pub record Went (motes begun on : ℕ) (links : List (ℕ × ℕ)) (parts : List Part) (p q : Standing) : Type 0 where
   pub events : List Event
@@ -129,17 +136,14 @@ pub record Went (motes begun on : ℕ) (links : List (ℕ × ℕ)) (parts : List
   pub volumes : (m : ℕ) (a : Device) → begun ≤ m → m < on → slice_get p.boards m ≡ Some a → IsVolume a.image
   pub boards : BoardsAreUsed on p.boards q.boards
   pub calm : BoardsAreCalm p.boards q.boards
+  -- each event was at a mote that had begun
+  pub below : AllByRecursion (IsBelow on) events
+  pub rises : begun ≤ on
   pub moved : q.service.timeline.moment ≤ p.service.timeline.moment + length parts * (2 ^ 32 - 1)
+  pub port : q.port ≡ p.port
   pub failures : q.failures ≡ p.failures
   pub faults : q.faults ≡ p.faults
   pub reached : p.reached ≤ q.reached
-
--- how a stop leaves what is outside
-pub record StopLeaves (why : Stop) (motes : ℕ) (s : Moment) (c : Course) (last : Moment) (first : List Device)
-    (q : Standing) : Type 0 where
-  pub boards : BoardsLeft why last c.left first q.boards
-  pub link : LinkLeft why motes s c.done c.events last q.inboxes
-  pub clock : ClockLeft last.clock q.clock
 
 -- the counts of the sink and of the link, by why a service stopped
 pub record CountsBy (why : Stop) (p q : Standing) : Type 0 where
@@ -162,7 +166,14 @@ pub record PartsHalted (why : Stop) (motes begun : ℕ) (links : List (ℕ × �
   pub front : why ≡ stop.Write → UnwrittenLast [] events text
   pub whole : why ≢ stop.Write → text ≡ event_lines events
   pub run : (first : List Device) (s : Moment) → StandsFor motes begun links 0 first s p
-      → (t : Moment) × PartsDone motes s done events t × StopLeaves why motes s (course done events left) t first q
+      → (t : Moment) × PartsDone motes s done events t
+      × StopLeaves why motes s (course done events left) t first (remains q.boards q.inboxes q.clock)
+  -- the power of the first `on` motes came
+  pub on : ℕ
+  pub volumes : (m : ℕ) (a : Device) → begun ≤ m → m < on → slice_get p.boards m ≡ Some a → IsVolume a.image
+  pub below : AllByRecursion (IsBelow on) events
+  pub rises : begun ≤ on
+  pub port : q.port ≡ p.port
   pub boards : BoardsAreUsed motes p.boards q.boards
   pub calm : why ≢ stop.Flash → BoardsAreCalm p.boards q.boards
   pub counts : CountsBy why p q
@@ -257,6 +268,7 @@ pub record AppliedAt (motes : ℕ) (links : List (ℕ × ℕ)) (event : Event) (
   pub boards : BoardsAreUsed (begun_behind motes event) p.boards q.boards
   pub calm : BoardsAreCalm p.boards q.boards
   pub timeline : q.service.timeline ≡ p.service.timeline
+  pub port : q.port ≡ p.port
   pub failures : q.failures ≡ p.failures
   pub faults : q.faults ≡ p.faults
 
@@ -264,6 +276,7 @@ pub record AppliedAt (motes : ℕ) (links : List (ℕ × ℕ)) (event : Event) (
 pub record NotApplied (why : Stop) (motes : ℕ) (links : List (ℕ × ℕ)) (event : Event) (p q : Standing) : Type 0 where
   pub untold : q.written ≡ p.written
   pub link : q.inboxes ≡ p.inboxes
+  pub port : q.port ≡ p.port
   pub run : (first : List Device) (s : Moment) → StandsFor motes (begun_before motes event) links (dt_of event) first s p
       → EventEnds why s.world event first q.boards
   pub boards : BoardsAreUsed motes p.boards q.boards
@@ -285,6 +298,8 @@ pub record AppliedPartly (why : Stop) (motes : ℕ) (links : List (ℕ × ℕ)) 
   pub run : (first : List Device) (s : Moment) → StandsFor motes (begun_before motes event) links (dt_of event) first s p
       → (t : Moment) × Steps motes s event t × BoardsStand t.world first q.boards
       × HandedThen why motes s.world t.world p.inboxes q.inboxes
+  pub volumes : (a : Device) → IsReset event → slice_get p.boards (mote_of event) ≡ Some a → IsVolume a.image
+  pub port : q.port ≡ p.port
   pub boards : BoardsAreUsed motes p.boards q.boards
   pub calm : BoardsAreCalm p.boards q.boards
   pub counts : CountsBy why p q

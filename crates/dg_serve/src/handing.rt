@@ -21,6 +21,7 @@ pub(crate) fn receive<L: Link>(alloc: Global, link: &mut L, mote: u8) -> Result<
     ensures received { ReceivedAt result mote (L.inboxes link.old) (L.inboxes link.new) }
     ensures counts { FailuresBy result (L.faults link.old) (L.faults link.new) }
     ensures same_motes { L.mote_count link.new ≡ L.mote_count link.old }
+    ensures same_port { L.first_port link.new ≡ L.first_port link.old }
 {
     let mut into = [0; LONGEST_FRAME];
     match link.receive(u16::from(mote), &mut into) {
@@ -57,6 +58,7 @@ pub(crate) fn hand_on<L: Link>(
     ensures cause { IfErr result (λ why. why ≡ Stop.Link) }
     ensures counts { FailuresBy result (L.faults link.old) (L.faults link.new) }
     ensures same_motes { L.mote_count link.new ≡ L.mote_count link.old }
+    ensures same_port { L.first_port link.new ≡ L.first_port link.old }
 {
     match out.frame() {
         Some(frame) => hand_to_neighbours(profile, mote, frame.as_slice(), link),
@@ -81,6 +83,7 @@ fn hand_to_neighbours<L: Link>(
     ensures cause { IfErr result (λ why. why ≡ Stop.Link) }
     ensures counts { FailuresBy result (L.faults link.old) (L.faults link.new) }
     ensures same_motes { L.mote_count link.new ≡ L.mote_count link.old }
+    ensures same_port { L.first_port link.new ≡ L.first_port link.old }
 {
     for other in 0..profile.motes {
         hand_to(profile, mote, other, frame, link)?;
@@ -106,6 +109,7 @@ fn hand_to<L: Link>(
     ensures cause { IfErr result (λ why. why ≡ Stop.Link) }
     ensures counts { FailuresBy result (L.faults link.old) (L.faults link.new) }
     ensures same_motes { L.mote_count link.new ≡ L.mote_count link.old }
+    ensures same_port { L.first_port link.new ≡ L.first_port link.old }
 {
     if !are_linked(profile.links.as_slice(), mote, other) {
         return Ok(());

@@ -1,5 +1,5 @@
 //! A service of the network that an input spells.
-ghost use Rattle.std.specs.Prelude.{◌≡◌, ◌≤◌, map, IfOk};
+ghost use Rattle.std.specs.Prelude.{◌≡◌, ◌≢◌, ◌≤◌, map, IfOk};
 ghost use Rattle.dg_words.specs.Counts.{Rose};
 ghost use Rattle.dg_base.specs.declared.answers.Status.TheVariants.{BadInput};
 ghost use Rattle.dg_mote.specs.Sizes.{BuffersFit, ValuesAreSmall};
@@ -48,14 +48,15 @@ pub fn serve_network<S: Source, K: Sink, N: Nor, L: Link, C: Clock>(
     ensures served { NetworkServed result seed turns
         (around_service (S.left input.old) (S.faults input.old)
         (outside (K.written out.old) (K.faults out.old) (C.told clock.old) (L.inboxes link.old) (L.faults link.old)
-        (map N.device boards.old.items)))
+        (L.first_port link.old) (map N.device boards.old.items)))
         (around_service (S.left input.new) (S.faults input.new)
         (outside (K.written out.new) (K.faults out.new) (C.told clock.new) (L.inboxes link.new) (L.faults link.new)
-        (map N.device boards.new.items))) }
+        (L.first_port link.new) (map N.device boards.new.items))) }
     // All arrays of bytes that are alive at once in a mote's call have no more than 256, and beside the outbox and its sets
     // none lies in the value of a mote.
     ensures buffers { BuffersFit × ValuesAreSmall }
     ensures link_fault { result ≡ Status.LinkFault → Rose (L.faults link.old) (L.faults link.new) }
+    ensures unfailed { result ≢ Status.LinkFault → L.faults link.new ≡ L.faults link.old }
     ensures reads { S.faults input.old ≤ S.faults input.new }
     ensures writes { K.faults out.old ≤ K.faults out.new }
     ensures sends { L.faults link.old ≤ L.faults link.new }

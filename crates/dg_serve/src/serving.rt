@@ -6,7 +6,7 @@ ghost use Rattle.dg_netcfg.specs.Readings.{IsAllowed};
 ghost use Rattle.dg_nor.specs.Device.{Device};
 ghost use Rattle.dg_serve.specs.Traces.{last_line};
 ghost use Rattle.dg_serve.specs.Served.{Served, TooFewBoards, outside};
-ghost use Rattle.dg_serve.specs.Ran.{ServiceOpens, OpensLink, RanTo, LineWritten, TellsStop, TellsTooFew};
+ghost use Rattle.dg_serve.specs.Ran.{ServiceOpens, OpensLink, told_by, RanTo, LineWritten, TellsStop, TellsTooFew};
 
 use crate::service::Service;
 use crate::stop::Stop;
@@ -36,14 +36,14 @@ pub fn serve<K: Sink, N: Nor, L: Link, C: Clock>(
     requires turns { turns ≤ 1000000 }
     ensures served { profile.now.motes ≤ vec_len boards.old → Served result profile.now seed turns
         (outside (K.written out.old) (K.faults out.old) (C.told clock.old) (L.inboxes link.old) (L.faults link.old)
-        (map N.device boards.old.items))
+        (L.first_port link.old) (map N.device boards.old.items))
         (outside (K.written out.new) (K.faults out.new) (C.told clock.new) (L.inboxes link.new) (L.faults link.new)
-        (map N.device boards.new.items)) }
+        (L.first_port link.new) (map N.device boards.new.items)) }
     ensures too_few { vec_len boards.old < profile.now.motes → TooFewBoards result profile.now
         (outside (K.written out.old) (K.faults out.old) (C.told clock.old) (L.inboxes link.old) (L.faults link.old)
-        (map N.device boards.old.items))
+        (L.first_port link.old) (map N.device boards.old.items))
         (outside (K.written out.new) (K.faults out.new) (C.told clock.new) (L.inboxes link.new) (L.faults link.new)
-        (map N.device boards.new.items)) }
+        (L.first_port link.new) (map N.device boards.new.items)) }
     // All arrays of bytes that are alive at once in a mote's call have no more than 256, and beside the outbox and its sets
     // none lies in the value of a mote.
     ensures buffers { BuffersFit × ValuesAreSmall }
@@ -83,9 +83,9 @@ fn serve_boards<K: Sink, N: Nor, L: Link, C: Clock>(
     requires boards { profile.now.motes ≤ length boards.old }
     ensures ran { RanTo result profile.now seed turns
         (outside (K.written out.old) (K.faults out.old) (C.told clock.old) (L.inboxes link.old) (L.faults link.old)
-        (map N.device boards.old))
+        (L.first_port link.old) (map N.device boards.old))
         (outside (K.written out.new) (K.faults out.new) (C.told clock.new) (L.inboxes link.new) (L.faults link.new)
-        (map N.device boards.new)) }
+        (L.first_port link.new) (map N.device boards.new)) }
 {
     let mut service = open_service(alloc, profile, link, clock, seed, out)?;
     service.run(turns, profile, boards, link, clock, out)
@@ -102,9 +102,11 @@ fn open_service<K: Sink, L: Link, C: Clock>(
 ) -> Result<Service, Stop>
     requires allowed { IsAllowed profile.now }
     ensures opens { (boards : List Device) → ServiceOpens result profile.now seed
-        (outside (K.written out.old) (K.faults out.old) (C.told clock.old) (L.inboxes link.old) (L.faults link.old) boards)
+        (outside (K.written out.old) (K.faults out.old) (C.told clock.old) (L.inboxes link.old) (L.faults link.old)
+        (L.first_port link.old) boards)
         (L.mote_count link.new) (C.reached clock.new)
-        (outside (K.written out.new) (K.faults out.new) (C.told clock.new) (L.inboxes link.new) (L.faults link.new) boards) }
+        (outside (K.written out.new) (K.faults out.new) (C.told clock.new) (L.inboxes link.new) (L.faults link.new)
+        (L.first_port link.new) boards) }
 {
     let motes = all_off(alloc, profile.motes)?;
     let mut text = Vec::new(alloc);
@@ -123,8 +125,7 @@ fn open_service<K: Sink, L: Link, C: Clock>(
 /// Opens the link.
 fn open<L: Link>(alloc: Global, profile: &NetProfile, link: &mut L) -> Result<(), Stop>
     requires { IsAllowed profile.now }
-    ensures opens { OpensLink result profile.now.motes (L.inboxes link.old) (L.inboxes link.new) (L.faults link.old)
-        (L.faults link.new) (L.mote_count link.new) }
+    ensures opens { OpensLink result profile.now (told_by (L.Link, link.old)) (told_by (L.Link, link.new)) }
 {
     match link.open(alloc, profile.port, u16::from(profile.motes)) {
         Ok(()) => Ok(()),

@@ -6,6 +6,7 @@ use Rattle.dg_serve.proofs.handing.hand_to_neighbours.Goals as goal
 pub loop-other-init : goal.loop-other-init
 loop-other-init g c = record {
   addressees = c.requires.addressees;
+  port = refl;
   failures = refl;
   handed = handed_none (λ k. if is_linked c.args.profile.now.links c.args.mote k then k ∷ [] else []) c.args.frame.now (g.L.Link.inboxes c.args.link.now);
 }
@@ -15,6 +16,7 @@ loop-other-preserved g c =
     let i = c.loop-other.invariant in
     record {
       addressees = c.hand_to.ensures.same_motes ∙ i.addressees;
+      port = c.hand_to.ensures.same_port ∙ i.port;
       failures = c.in_ok-hand_to.ensures.counts ∙ i.failures;
       handed = handed_more (λ k. if is_linked c.args.profile.now.links c.args.mote k then k ∷ [] else []) c.loop-other.other c.args.frame.now (g.L.Link.inboxes c.args.link.now) _ _ i.handed c.in_ok-hand_to.ensures.ok;
     }

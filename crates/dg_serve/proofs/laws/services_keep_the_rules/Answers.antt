@@ -1,9 +1,17 @@
-use Rattle.std.proofs.Common.{subst, sym, []}
+use Rattle.std.proofs.Common.{subst, sym, [], refl, ◌∙◌}
+use Rattle.std.specs.Prelude.{IsSome, option_map}
+use Rattle.std.specs.List.{AllByRecursion}
+use Rattle.dg_link.specs.Inboxes.{emptied}
+use Rattle.dg_rules.specs.World.{World, first_world}
+use Rattle.dg_rules.specs.Begins.{StoresAgree}
+use Rattle.dg_serve.specs.Endings.{begins}
+use Rattle.dg_serve.specs.Promised.{RunOf}
+use Rattle.dg_serve.proofs.HonestLemmas.{HonestAlone, IsHonestSo, none_waits, parts_honest, next_honest, played_honest}
 use Rattle.dg_script.specs.Ranges.{EventInRange}
 use Rattle.dg_script.specs.Places.{none_narrow}
-use Rattle.dg_serve.proofs.RunLemmas.{done_fits, serves_run, plays_boards}
+use Rattle.dg_serve.proofs.RunLemmas.{done_fits, serves_run, plays_boards, plays_none}
 use Rattle.dg_serve.proofs.ScriptLemmas.{is_script, all_served}
-use Rattle.dg_serve.proofs.AnyLemmas.{AnyLaws, GoldenLaws, stays_consistent, stays_golden, finds_golden, replays_to}
+use Rattle.dg_serve.proofs.AnyLemmas.{AnyLaws, GoldenLaws, stays_consistent, stays_golden, finds_golden, replays_to, first_count}
 use Rattle.dg_serve.proofs.laws.services_keep_the_rules.Goals as goal
 
 pub returns-clause-kept : goal.returns-clause-kept
@@ -16,8 +24,20 @@ returns-clause-kept c = λ answer profile seed turns before after allowed x tabl
     let any : AnyLaws = record { stepped = keep.stepped; stopped = keep.stopped; declared = keep.declared; starts = keep.starts } in
     let found = c.golden_is_found.ensures in
     let finds : GoldenLaws = record { stepped = found.stepped; found = found.found; goes_on = found.goes_on } in
+    let first : World = first_world table profile.links none_narrow stores in
+    let none : RunOf profile.motes first [] first = record { played = []; items = refl; plays = plays_none first first refl; ranges = tt } in
+    let first_boards = plays_boards profile table stores [] first allowed fits.count shaped none in
+    let begins_so : IsSome before.inboxes → StoresAgree table stores → IsHonestSo table profile.motes (begins table profile.links stores x.origin x.clock seed (option_map (emptied profile.motes) before.inboxes)) = λ told agree. record {
+      agrees = (rules.plays table stores profile.links none_narrow [] first first_boards agree tt).agrees;
+      same = refl;
+      count = first_count table stores profile.links ∙ fits.count;
+      waits = none_waits table profile.motes before.inboxes told;
+    } in
+    let so : IsSome before.inboxes → StoresAgree table stores → AllByRecursion (HonestAlone table) x.events × IsHonestSo table profile.motes came.last = λ told agree. parts_honest c.agreement_is_kept.ensures.stepped table profile.motes x.done _ came.last x.events (done_fits profile.motes turns x.done x.left x.parts) (begins_so told agree) came.serves in
     record {
       run = run;
+      honest = λ told agree. record { agree = agree; hold = played_honest table x.events run.played first came.last.world run.items run.plays refl (so told agree).0 };
+      next = λ told agree part dt draw bytes after takes. next_honest c.agreement_is_kept.ensures.stepped table profile.motes part dt draw bytes came.last after (so told agree).1 takes;
       legal = λ h. rules.legal table stores profile.links none_narrow run.played came.last.world boards h.agree h.hold;
       keeps = λ h. rules.keeps table stores profile.links none_narrow run.played came.last.world boards h.agree h.hold;
       starts = λ h. rules.starts table stores profile.links none_narrow run.played came.last.world boards h.agree h.hold;

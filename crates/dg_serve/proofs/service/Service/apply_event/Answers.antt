@@ -21,7 +21,7 @@ write_event-requires-clause-short g c = c.requires.asks.2.short
 
 pub returns-in_err-write_event : goal.returns-in_err-write_event
 returns-in_err-write_event g c = record {
-  ends = λ told reached. err_exit c.from_residual.result stop.Memory c.args.profile.now.motes c.args.profile.now.links c.args.event _ _ c.from_residual.ensures.1 (memory_ends c.args.profile.now.motes c.args.profile.now.links c.args.event _ _ refl refl refl refl refl);
+  ends = λ told reached. err_exit c.from_residual.result stop.Memory c.args.profile.now.motes c.args.profile.now.links c.args.event _ _ c.from_residual.ensures.1 (memory_ends c.args.profile.now.motes c.args.profile.now.links c.args.event _ _ refl refl refl refl refl refl);
 }
 
 pub line_event-borrowed-requires : goal.line_event-borrowed-requires
@@ -55,7 +55,7 @@ returns-in_err-sent g c =
           err_exit c.from_residual-in_err-sent.result c.in_err-sent.field-0.0 c.args.profile.now.motes c.args.profile.now.links c.args.event p q c.from_residual-in_err-sent.ensures.1
           (stopped_ends c.args.profile.now.motes c.args.mote c.args.profile.now.links c.args.event x.0 c.in_err-sent.field-0.0 p q x.1 c.requires.asks.2.alone c.requires.asks.2.at
           (setting_of c.args.profile.now.motes c.args.mote c.args.event c.line_event-borrowed.result.now x.0 p q c.as_mut_slice.result.now c.play.new.motes (event_is c.args.event c.line_event-borrowed.result.now c.line_event-borrowed.ensures) c.as_mut_slice.ensures.value (written_back c.args.self.now c.as_mut_slice.result.now c.play.new.motes c.args.mote (slice_index_or c.play.new.motes c.args.mote None) c.as_mut_slice.ensures.value c.play.ensures.motes) c.play.ensures.motes x.2 refl c.requires.asks.2.known c.requires.asks.2.motes_are c.requires.asks.2.off)
-          (known_at c.args.profile.now.motes c.args.profile.now.links c.args.event p c.requires.asks.0 c.requires.asks.1 c.requires.asks.2.some) refl refl refl refl);
+          (known_at c.args.profile.now.motes c.args.profile.now.links c.args.event p c.requires.asks.0 c.requires.asks.1 c.requires.asks.2.some) refl refl refl refl refl);
     }
 
 pub returns-in_err-put : goal.returns-in_err-put
@@ -68,7 +68,7 @@ returns-in_err-put g c =
           let q : Standing = standing_with (record { motes = with_items c.args.self.now.motes c.play.new.motes; timeline = c.args.self.now.timeline; text = c.write_event.new.text; alloc = c.args.self.now.alloc }, map g.N.Nor.device c.play.new.boards) (g.K.Sink, c.put.new.out) (g.L.Link, c.args.link.now) (told, reached) in
           err_exit c.from_residual-in_err-put.result stop.Write c.args.profile.now.motes c.args.profile.now.links c.args.event p q (err_as c.from_residual-in_err-put.result c.in_err-put.field-0.0 stop.Write c.from_residual-in_err-put.ensures.1 c.in_err-put.ensures.cause)
           (untold_ends c.args.profile.now.motes c.args.profile.now.links c.args.event c.in_ok-sent.sent p q (is_played c.args.profile.now.motes c.args.mote c.args.profile.now.links c.args.event x.0 c.in_ok-sent.sent p q x.1 c.requires.asks.2.alone c.requires.asks.2.at (setting_of c.args.profile.now.motes c.args.mote c.args.event c.line_event-borrowed.result.now x.0 p q c.as_mut_slice.result.now c.play.new.motes (event_is c.args.event c.line_event-borrowed.result.now c.line_event-borrowed.ensures) c.as_mut_slice.ensures.value (written_back c.args.self.now c.as_mut_slice.result.now c.play.new.motes c.args.mote (slice_index_or c.play.new.motes c.args.mote None) c.as_mut_slice.ensures.value c.play.ensures.motes) c.play.ensures.motes x.2 refl c.requires.asks.2.known c.requires.asks.2.motes_are c.requires.asks.2.off) c.agreement_is_kept.ensures.timely c.requires.asks.2.fits.0 (known_at c.args.profile.now.motes c.args.profile.now.links c.args.event p c.requires.asks.0 c.requires.asks.1 c.requires.asks.2.some) refl)
-          (subst (λ t. PutsFront (g.K.Sink.written c.args.out.now) (g.K.Sink.written c.put.new.out) t) text c.in_err-put.ensures.err) refl refl c.in_err-put.ensures.counts c.in_err-put.ensures.failed);
+          (subst (λ t. PutsFront (g.K.Sink.written c.args.out.now) (g.K.Sink.written c.put.new.out) t) text c.in_err-put.ensures.err) refl refl c.in_err-put.ensures.counts c.in_err-put.ensures.failed refl);
     }
 
 pub hand_on-requires-clause-known : goal.hand_on-requires-clause-known
@@ -90,7 +90,7 @@ returns-in_err-hand_on g c =
           (unsent_ends c.args.profile.now.motes c.args.profile.now.links c.args.event c.in_ok-sent.sent p q (is_played c.args.profile.now.motes c.args.mote c.args.profile.now.links c.args.event x.0 c.in_ok-sent.sent p q x.1 c.requires.asks.2.alone c.requires.asks.2.at (setting_of c.args.profile.now.motes c.args.mote c.args.event c.line_event-borrowed.result.now x.0 p q c.as_mut_slice.result.now c.play.new.motes (event_is c.args.event c.line_event-borrowed.result.now c.line_event-borrowed.ensures) c.as_mut_slice.ensures.value (written_back c.args.self.now c.as_mut_slice.result.now c.play.new.motes c.args.mote (slice_index_or c.play.new.motes c.args.mote None) c.as_mut_slice.ensures.value c.play.ensures.motes) c.play.ensures.motes x.2 refl c.requires.asks.2.known c.requires.asks.2.motes_are c.requires.asks.2.off) c.agreement_is_kept.ensures.timely c.requires.asks.2.fits.0 (known_at c.args.profile.now.motes c.args.profile.now.links c.args.event p c.requires.asks.0 c.requires.asks.1 c.requires.asks.2.some) refl)
           (subst (λ t. Puts (g.K.Sink.written c.args.out.now) (g.K.Sink.written c.put.new.out) t) text c.in_ok-put.ensures.ok)
           (subst (λ m. HandedToSome c.args.profile.now.links c.args.profile.now.motes m (sent_in c.in_ok-sent.sent) (g.L.Link.inboxes c.args.link.now) (g.L.Link.inboxes c.hand_on.new.link)) (sym c.requires.asks.2.at) c.in_err-hand_on.ensures.err)
-          c.in_ok-put.ensures.unfailed counts.1 counts.0);
+          c.in_ok-put.ensures.unfailed counts.1 counts.0 c.in_err-hand_on.ensures.same_port);
     }
 
 pub returns : goal.returns
@@ -104,5 +104,5 @@ returns g c =
           done_ends c.args.profile.now.motes c.args.profile.now.links c.args.event c.in_ok-sent.sent p q (is_played c.args.profile.now.motes c.args.mote c.args.profile.now.links c.args.event x.0 c.in_ok-sent.sent p q x.1 c.requires.asks.2.alone c.requires.asks.2.at (setting_of c.args.profile.now.motes c.args.mote c.args.event c.line_event-borrowed.result.now x.0 p q c.as_mut_slice.result.now c.play.new.motes (event_is c.args.event c.line_event-borrowed.result.now c.line_event-borrowed.ensures) c.as_mut_slice.ensures.value (written_back c.args.self.now c.as_mut_slice.result.now c.play.new.motes c.args.mote (slice_index_or c.play.new.motes c.args.mote None) c.as_mut_slice.ensures.value c.play.ensures.motes) c.play.ensures.motes x.2 refl c.requires.asks.2.known c.requires.asks.2.motes_are c.requires.asks.2.off) c.agreement_is_kept.ensures.timely c.requires.asks.2.fits.0 (known_at c.args.profile.now.motes c.args.profile.now.links c.args.event p c.requires.asks.0 c.requires.asks.1 c.requires.asks.2.some) refl)
           (subst (λ t. Puts (g.K.Sink.written c.args.out.now) (g.K.Sink.written c.put.new.out) t) text c.in_ok-put.ensures.ok)
           (subst (λ m. g.L.Link.inboxes c.hand_on.new.link ≡ option_map (handed_by c.args.profile.now.links c.args.profile.now.motes m (sent_in c.in_ok-sent.sent)) (g.L.Link.inboxes c.args.link.now)) (sym c.requires.asks.2.at) c.in_ok-hand_on.ensures.ok)
-          refl c.in_ok-hand_on.ensures.same_motes c.in_ok-hand_on.ensures.counts c.in_ok-put.ensures.unfailed;
+          refl c.in_ok-hand_on.ensures.same_motes c.in_ok-hand_on.ensures.counts c.in_ok-put.ensures.unfailed c.in_ok-hand_on.ensures.same_port;
     }

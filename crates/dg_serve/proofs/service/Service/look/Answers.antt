@@ -13,7 +13,7 @@ pub returns-in_err-bytes : goal.returns-in_err-bytes
 returns-in_err-bytes g c =
     let p : Standing = service_standing (c.args.self.now, map g.N.Nor.device c.args.boards.now) (g.K.Sink, c.args.out.now) (g.L.Link, c.args.link.now) (g.C.Clock, c.args.clock.now) in
     record {
-      goes = look_exit c.args.profile.now.motes c.args.mote c.args.profile.now.links p _ c.from_residual.result c.in_err-bytes.field-0.0 c.from_residual.ensures.1 (look_fails c.args.profile.now.motes c.args.mote c.args.profile.now.links p _ refl refl refl refl refl c.in_err-bytes.field-0.0 c.in_err-bytes.ensures.received c.in_err-bytes.ensures.counts);
+      goes = look_exit c.args.profile.now.motes c.args.mote c.args.profile.now.links p _ c.from_residual.result c.in_err-bytes.field-0.0 c.from_residual.ensures.1 (look_fails c.args.profile.now.motes c.args.mote c.args.profile.now.links p _ refl refl refl refl refl c.in_err-bytes.ensures.same_port c.in_err-bytes.field-0.0 c.in_err-bytes.ensures.received c.in_err-bytes.ensures.counts);
     }
 
 pub next-timing-requires-clause-known : goal.next-timing-requires-clause-known
@@ -29,7 +29,7 @@ pub apply_event-requires-clause-asks : goal.apply_event-requires-clause-asks
 apply_event-requires-clause-asks g c =
     let p : Standing = service_standing (c.args.self.now, map g.N.Nor.device c.args.boards.now) (g.K.Sink, c.args.out.now) (g.L.Link, c.args.link.now) (g.C.Clock, c.args.clock.now) in
     let m : Standing = service_standing (record { motes = c.args.self.now.motes; timeline = c.next-timing.new.self; text = c.args.self.now.text; alloc = c.args.self.now.alloc }, map g.N.Nor.device c.args.boards.now) (g.K.Sink, c.args.out.now) (g.L.Link, c.receive.new.link) (g.C.Clock, c.next-timing.new.clock) in
-    let d : DrawnTo p m c.next-timing.result.dt c.next-timing.result.draw = record { timed = record { dt_is = c.next-timing.ensures.dt; rises = c.next-timing.ensures.rises; answered = c.next-timing.ensures.told; draw_is = c.next-timing.ensures.draw; moment = c.next-timing.ensures.moment; fits = record { dt = c.next-timing.ensures.short; draw = c.next-timing.ensures.drawn } }; boards = refl; motes = refl; written = refl; failures = c.in_ok-bytes.ensures.counts; faults = refl; addressees = c.in_ok-bytes.ensures.same_motes; reached = c.next-timing.ensures.goes_on; known = c.next-timing.ensures.reached; short = c.next-timing.ensures.short } in
+    let d : DrawnTo p m c.next-timing.result.dt c.next-timing.result.draw = record { timed = record { dt_is = c.next-timing.ensures.dt; rises = c.next-timing.ensures.rises; answered = c.next-timing.ensures.told; draw_is = c.next-timing.ensures.draw; moment = c.next-timing.ensures.moment; fits = record { dt = c.next-timing.ensures.short; draw = c.next-timing.ensures.drawn } }; boards = refl; motes = refl; written = refl; port = c.in_ok-bytes.ensures.same_port; failures = c.in_ok-bytes.ensures.counts; faults = refl; addressees = c.in_ok-bytes.ensures.same_motes; reached = c.next-timing.ensures.goes_on; known = c.next-timing.ensures.reached; short = c.next-timing.ensures.short } in
     let came = came_is c.in_ok-bytes.field-0 c.in-Some.bytes c.args.mote _ _ c.in-Some.is c.in_ok-bytes.ensures.received in
     (m.clock, m.reached, event_asks c.args.profile.now.motes c.args.mote c.args.profile.now.links (Frame c.args.mote c.next-timing.result.dt c.next-timing.result.draw c.in-Some.bytes) c.next-timing.result.dt c.next-timing.result.draw p m d c.requires.under_way ((c.requires.known, came.1), d.timed.fits) tt refl c.requires.known (λ reset. reset) refl refl)
 
@@ -37,7 +37,7 @@ pub returns-in-Some : goal.returns-in-Some
 returns-in-Some g c =
     let p : Standing = service_standing (c.args.self.now, map g.N.Nor.device c.args.boards.now) (g.K.Sink, c.args.out.now) (g.L.Link, c.args.link.now) (g.C.Clock, c.args.clock.now) in
     let m : Standing = service_standing (record { motes = c.args.self.now.motes; timeline = c.next-timing.new.self; text = c.args.self.now.text; alloc = c.args.self.now.alloc }, map g.N.Nor.device c.args.boards.now) (g.K.Sink, c.args.out.now) (g.L.Link, c.receive.new.link) (g.C.Clock, c.next-timing.new.clock) in
-    let d : DrawnTo p m c.next-timing.result.dt c.next-timing.result.draw = record { timed = record { dt_is = c.next-timing.ensures.dt; rises = c.next-timing.ensures.rises; answered = c.next-timing.ensures.told; draw_is = c.next-timing.ensures.draw; moment = c.next-timing.ensures.moment; fits = record { dt = c.next-timing.ensures.short; draw = c.next-timing.ensures.drawn } }; boards = refl; motes = refl; written = refl; failures = c.in_ok-bytes.ensures.counts; faults = refl; addressees = c.in_ok-bytes.ensures.same_motes; reached = c.next-timing.ensures.goes_on; known = c.next-timing.ensures.reached; short = c.next-timing.ensures.short } in
+    let d : DrawnTo p m c.next-timing.result.dt c.next-timing.result.draw = record { timed = record { dt_is = c.next-timing.ensures.dt; rises = c.next-timing.ensures.rises; answered = c.next-timing.ensures.told; draw_is = c.next-timing.ensures.draw; moment = c.next-timing.ensures.moment; fits = record { dt = c.next-timing.ensures.short; draw = c.next-timing.ensures.drawn } }; boards = refl; motes = refl; written = refl; port = c.in_ok-bytes.ensures.same_port; failures = c.in_ok-bytes.ensures.counts; faults = refl; addressees = c.in_ok-bytes.ensures.same_motes; reached = c.next-timing.ensures.goes_on; known = c.next-timing.ensures.reached; short = c.next-timing.ensures.short } in
     let came = came_is c.in_ok-bytes.field-0 c.in-Some.bytes c.args.mote _ _ c.in-Some.is c.in_ok-bytes.ensures.received in
     record {
       goes = part_ends c.args.profile.now.motes c.args.profile.now.motes c.args.profile.now.motes c.args.profile.now.links (Looks c.args.mote) (λ dt draw. Frame c.args.mote dt draw c.in-Some.bytes) c.in-Some.bytes c.next-timing.result.dt c.next-timing.result.draw p m _ d (looks_part c.args.profile.now.motes c.args.mote c.in-Some.bytes p.inboxes m.inboxes c.requires.known came.0 came.1) c.apply_event.result c.requires.under_way.ready (c.apply_event.ensures.ends (g.C.Clock.told c.next-timing.new.clock) (g.C.Clock.reached c.next-timing.new.clock)) refl refl;
@@ -47,4 +47,4 @@ pub returns-in-None : goal.returns-in-None
 returns-in-None g c =
     let p : Standing = service_standing (c.args.self.now, map g.N.Nor.device c.args.boards.now) (g.K.Sink, c.args.out.now) (g.L.Link, c.args.link.now) (g.C.Clock, c.args.clock.now) in
     let x = none_is c.in_ok-bytes.field-0 c.args.mote _ _ c.in-None.is c.in_ok-bytes.ensures.received in
-    record { goes = none_came c.args.profile.now.motes c.args.mote c.args.profile.now.links p (g.L.Link.inboxes c.receive.new.link) (g.L.Link.mote_count c.receive.new.link) (g.L.Link.faults c.receive.new.link) x.1 c.in_ok-bytes.ensures.same_motes c.in_ok-bytes.ensures.counts c.requires.under_way.ready x.0 }
+    record { goes = none_came c.args.profile.now.motes c.args.mote c.args.profile.now.links p (g.L.Link.inboxes c.receive.new.link) (g.L.Link.mote_count c.receive.new.link) (g.L.Link.faults c.receive.new.link) (g.L.Link.first_port c.receive.new.link) x.1 c.in_ok-bytes.ensures.same_motes c.in_ok-bytes.ensures.counts c.in_ok-bytes.ensures.same_port c.requires.under_way.ready x.0 }
