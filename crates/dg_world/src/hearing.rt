@@ -67,6 +67,7 @@ pub(crate) fn hear<N: Nor>(
     outcome.before = Some(report_chip(node.volume()));
     match node.hear(board, now, draw, bytes) {
         Ok(heard) => {
+            outcome.heard = heard;
             if leaves_chip(heard) {
                 return Ok(());
             }
@@ -107,6 +108,7 @@ pub(crate) fn hear_sent<N: Nor>(
     outcome.before = Some(report_chip(node.volume()));
     match node.hear_sent(board, now, draw, message) {
         Ok(heard) => {
+            outcome.heard = heard;
             if leaves_chip(heard) {
                 return Ok(());
             }

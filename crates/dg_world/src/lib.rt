@@ -26,6 +26,7 @@ mod sent;
 mod shared;
 mod starting;
 mod stepping;
+mod telling;
 mod ticking;
 mod world;
 

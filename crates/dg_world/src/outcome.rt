@@ -4,7 +4,7 @@ ghost use Rattle.dg_mote.specs.Motes.{sent_in};
 ghost use Rattle.dg_world.specs.inner.Outcomes.{IsNothing};
 
 use dg_boot::BootFault;
-use dg_mote::Outbox;
+use dg_mote::{Heard, Outbox};
 use dg_node::{ChipReport, StartedImage, TickFault};
 use dg_nor::Stopped;
 use dg_rules::Cause;
@@ -25,6 +25,8 @@ pub struct Outcome {
     pub(crate) orderly: Option<bool>,
     /// The frame that is sent.
     pub(crate) outbox: Outbox,
+    /// What the mote did that heard a frame last. It is not cleared: only a frame that is heard asks for it.
+    pub(crate) heard: Heard,
 }
 
 impl Outcome {
@@ -39,6 +41,7 @@ impl Outcome {
             started: None,
             orderly: None,
             outbox: Outbox::new(),
+            heard: Heard::Dropped,
         }
     }
 
