@@ -1,0 +1,4 @@
+pub mod Regions
+pub mod Shares
+pub mod Tallies
+pub mod Meters

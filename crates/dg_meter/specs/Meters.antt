@@ -1,0 +1,16 @@
+-- What a meter shows: all that its chip shows, and what was made of it.
+use Rattle.dg_nor.specs.Device.{Device}
+use Rattle.dg_meter.specs.declared.meter.Metered.{Metered}
+use Rattle.dg_meter.specs.declared.tally.Tally.{Tally}
+
+-- the chip
+abbrev pub chip_of : {N : Type 0} → Metered N → N
+chip_of m = m.inner
+
+-- what was made of it
+abbrev pub tally_of : {N : Type 0} → Metered N → Tally
+tally_of m = m.tally
+
+-- what is known of it as a device: what is known of the chip
+abbrev pub metered_device : {N : Type 0} → (N → Device) → Metered N → Device
+metered_device device m = device m.inner

@@ -1,0 +1,40 @@
+-- How many of something there were, and their bytes, in each part of a chip (the types `Share` and `Shares`).
+use Rattle.std.specs.Prelude.{ℕ, ◌+◌, ◌-◌, ◌^◌, min}
+use Rattle.dg_meter.specs.declared.share.Share.{Share}
+use Rattle.dg_meter.specs.declared.shares.Shares.{Shares}
+use Rattle.dg_meter.specs.declared.region.Region.{Region}
+use Rattle.dg_meter.specs.declared.region.Region.TheVariants.{Ledger, Control, Program, Head, Page}
+
+-- a count ends at the greatest u64
+abbrev pub up : ℕ → ℕ → ℕ
+up n more = min (n + more) (2 ^ 64 - 1)
+
+abbrev pub no_share : Share
+no_share = record { count = 0; bytes = 0 }
+
+abbrev pub one_more : Share → ℕ → Share
+one_more s bytes = record { count = up s.count 1; bytes = up s.bytes bytes }
+
+abbrev pub both : Share → Share → Share
+both s t = record { count = up s.count t.count; bytes = up s.bytes t.bytes }
+
+abbrev pub those_since : Share → Share → Share
+those_since before s = record { count = s.count - before.count; bytes = s.bytes - before.bytes }
+
+abbrev pub no_shares : Shares
+no_shares = record { ledger = no_share; control = no_share; program = no_share; head = no_share; page = no_share }
+
+abbrev pub share_at : Shares → Region → Share
+share_at s Ledger = s.ledger
+share_at s Control = s.control
+share_at s Program = s.program
+share_at s Head = s.head
+share_at s Page = s.page
+
+-- one more in a part, of so many bytes
+abbrev pub noted : Shares → Region → ℕ → Shares
+noted s Ledger bytes = record s { ledger = one_more s.ledger bytes }
+noted s Control bytes = record s { control = one_more s.control bytes }
+noted s Program bytes = record s { program = one_more s.program bytes }
+noted s Head bytes = record s { head = one_more s.head bytes }
+noted s Page bytes = record s { page = one_more s.page bytes }

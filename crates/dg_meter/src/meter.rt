@@ -1,0 +1,118 @@
+//! A chip whose programs and erases are counted.
+ghost use Rattle.std.specs.Prelude.{◌≡◌, ◌+◌, ◌%◌, ◌<◌, ◌≤◌, ℕ, true, false, Some, length, OnOk, OnErr};
+ghost use Rattle.dg_words.specs.Cells.{part};
+ghost use Rattle.dg_nor.specs.Sizes.{sectors, sector_size, chip_size};
+ghost use Rattle.dg_nor.specs.Chip.{programmed, erased, CutProgram, CutErase};
+ghost use Rattle.dg_nor.specs.Device.{Ran, Halts, Took, taken_more};
+ghost use Rattle.dg_meter.specs.Meters.{metered_device, chip_of, tally_of};
+ghost use Rattle.dg_meter.specs.Tallies.{Erased, Programmed, NoOperations};
+
+use crate::tally::{SLOTS, Tally};
+use dg_nor::{Nor, Stopped};
+
+/// A device over another one, to which it passes every call. It counts the programs and erases that are made.
+#[derive(Drop)]
+pub struct Metered<N> {
+    inner: N,
+    tally: Tally,
+}
+
+impl<N: Nor> Metered<N> {
+    /// Counts from now on.
+    pub fn new(inner: N) -> Metered<N>
+        ensures inner { chip_of result ≡ inner }
+        ensures none { NoOperations (tally_of result) }
+    {
+        Metered {
+            inner,
+            tally: Tally::none(),
+        }
+    }
+
+    /// What was made since then.
+    pub fn tally(&self) -> &Tally
+        ensures { result.now ≡ tally_of self.now }
+    {
+        &self.tally
+    }
+
+    /// A slot that stands already has so many pages.
+    pub fn know_pages(&mut self, slot: usize, pages: u8)
+        ensures inner { chip_of self.new ≡ chip_of self.old }
+    {
+        if slot < SLOTS {
+            self.tally.pages[slot] = pages;
+        }
+    }
+}
+
+impl<N: Nor> Nor for Metered<N> {
+    ghost use Rattle.dg_meter.specs.Meters.{metered_device, chip_of, tally_of};
+
+    ghost device = { metered_device N.device };
+
+    fn is_stopped(&self) -> bool {
+        self.inner.is_stopped()
+    }
+
+    fn read(&mut self, at: u32, into: &mut [u8]) -> Result<(), Stopped>
+        requires { at + length into.old ≤ chip_size }
+        ensures bytes { OnOk result (into.new ≡ part (metered_device N.device self.old).image at (length into.old)) }
+        ensures ran { OnOk result (Ran 0 (metered_device N.device self.old) (metered_device N.device self.new)) }
+        ensures awake { OnOk result ((metered_device N.device self.old).stopped ≡ false) }
+        ensures stopped { OnErr result (Halts 0 0 (metered_device N.device self.old) (metered_device N.device self.new)) }
+        ensures same_image { (metered_device N.device self.new).image ≡ (metered_device N.device self.old).image }
+        ensures gave { OnOk result ((metered_device N.device self.new).taken
+            ≡ taken_more (length into.old) (metered_device N.device self.old).taken) }
+        ensures took { Took (length into.old) (metered_device N.device self.old) (metered_device N.device self.new) }
+        // a read is no operation
+        ensures same_tally { tally_of self.new ≡ tally_of self.old }
+    {
+        self.inner.read(at, into)
+    }
+
+    fn program(&mut self, at: u32, bytes: &[u8]) -> Result<(), Stopped>
+        requires some { 0 < length bytes.now }
+        requires in_chip { at < chip_size }
+        requires in_sector { at % sector_size + length bytes.now ≤ sector_size }
+        ensures image { OnOk result ((metered_device N.device self.new).image
+            ≡ programmed (metered_device N.device self.old).image at bytes.now) }
+        ensures ran { OnOk result (Ran 1 (metered_device N.device self.old) (metered_device N.device self.new)) }
+        ensures awake { OnOk result ((metered_device N.device self.old).stopped ≡ false) }
+        ensures stopped { OnErr result (Halts 1 0 (metered_device N.device self.old) (metered_device N.device self.new)) }
+        ensures cut { OnErr result (CutProgram (metered_device N.device self.old).image at bytes.now
+            (metered_device N.device self.new).image) }
+        ensures same_taken { (metered_device N.device self.new).taken ≡ (metered_device N.device self.old).taken }
+        ensures blows { (metered_device N.device self.old).stopped ≡ false
+            → (metered_device N.device self.old).left ≡ Some 0 → (metered_device N.device self.new).blown ≡ true }
+        // it is counted where it was made, and only there
+        ensures counted { OnOk result (Programmed at (length bytes.now) (tally_of self.old) (tally_of self.new)) }
+        ensures uncounted { OnErr result (tally_of self.new ≡ tally_of self.old) }
+    {
+        self.inner.program(at, bytes)?;
+        self.tally.program(at, bytes);
+        Ok(())
+    }
+
+    fn erase(&mut self, sector: u32) -> Result<(), Stopped>
+        requires { sector < sectors }
+        ensures image { OnOk result ((metered_device N.device self.new).image
+            ≡ erased (metered_device N.device self.old).image sector) }
+        ensures ran { OnOk result (Ran 1 (metered_device N.device self.old) (metered_device N.device self.new)) }
+        ensures awake { OnOk result ((metered_device N.device self.old).stopped ≡ false) }
+        ensures stopped { OnErr result (Halts 1 0 (metered_device N.device self.old) (metered_device N.device self.new)) }
+        ensures cut { OnErr result (CutErase (metered_device N.device self.old).image sector
+            (metered_device N.device self.new).image) }
+        ensures same_taken { (metered_device N.device self.new).taken ≡ (metered_device N.device self.old).taken }
+        ensures blows { (metered_device N.device self.old).stopped ≡ false
+            → (metered_device N.device self.old).left ≡ Some 0 → (metered_device N.device self.new).blown ≡ true }
+        ensures counted { OnOk result (Erased sector (tally_of self.old) (tally_of self.new)) }
+        ensures uncounted { OnErr result (tally_of self.new ≡ tally_of self.old) }
+    {
+        self.inner.erase(sector)?;
+        self.tally.erase(sector);
+        Ok(())
+    }
+
+    ghost is_chip = { λ m. N.is_chip m.inner };
+}

@@ -1,0 +1,49 @@
+//! How many of something there were, and their bytes.
+ghost use Rattle.std.specs.Prelude.{◌≡◌};
+ghost use Rattle.dg_meter.specs.Shares.{no_share, one_more, both, those_since};
+
+/// How many of something there were, and their bytes. Both end at the greatest `u64`, where they stay.
+#[derive(Clone, Copy, Debug, PartialEq, Eq)]
+pub struct Share {
+    pub count: u64,
+    pub bytes: u64,
+}
+
+impl Share {
+    /// There were none.
+    pub fn none() -> Share
+        ensures { result ≡ no_share }
+    {
+        Share { count: 0, bytes: 0 }
+    }
+
+    /// One more, of so many bytes.
+    pub fn and(self, bytes: usize) -> Share
+        ensures { result ≡ one_more self bytes }
+    {
+        Share {
+            count: self.count.saturating_add(1),
+            bytes: self.bytes.saturating_add(bytes as u64),
+        }
+    }
+
+    /// Those of both.
+    pub fn with(self, other: Share) -> Share
+        ensures { result ≡ both self other }
+    {
+        Share {
+            count: self.count.saturating_add(other.count),
+            bytes: self.bytes.saturating_add(other.bytes),
+        }
+    }
+
+    /// Those that were not there before.
+    pub fn since(self, before: Share) -> Share
+        ensures { result ≡ those_since before self }
+    {
+        Share {
+            count: self.count.saturating_sub(before.count),
+            bytes: self.bytes.saturating_sub(before.bytes),
+        }
+    }
+}
