@@ -9,6 +9,7 @@ use crate::finish::end_with;
 use crate::following::play_lines;
 use crate::halt::Halt;
 use crate::laws::replays_keep_the_rules;
+use crate::watching::{Unwatched, Watcher};
 use dg_base::{Sink, Source, Status};
 use dg_mote::a_mote_buffers_little;
 use dg_nor::Nor;
@@ -38,12 +39,32 @@ pub fn replay<S: Source, K: Sink, N: Nor>(
     ensures reads { S.faults input.old ≤ S.faults input.new }
     ensures writes { K.faults out.old ≤ K.faults out.new }
 {
+    replay_watched(alloc, input, out, boards, &mut Unwatched)
+}
+
+/// The same, and `watcher` is shown what is played.
+pub fn replay_watched<S: Source, K: Sink, N: Nor, W: Watcher<N>>(
+    alloc: Global,
+    input: &mut S,
+    out: &mut K,
+    boards: &mut Vec<N>,
+    watcher: &mut W,
+) -> Status
+    ensures done { ReplayDone result (around (S.left input.old) (S.faults input.old) (K.written out.old) (K.faults out.old)
+        (map N.device boards.old.items))
+        (around (S.left input.new) (S.faults input.new) (K.written out.new) (K.faults out.new) (map N.device boards.new.items)) }
+    // All arrays of bytes that are alive at once in a mote's call have no more than 256, and beside the outbox and its sets
+    // none lies in the value of a mote.
+    ensures buffers { BuffersFit × ValuesAreSmall }
+    ensures reads { S.faults input.old ≤ S.faults input.new }
+    ensures writes { K.faults out.old ≤ K.faults out.new }
+{
     replays_keep_the_rules();
     a_mote_buffers_little();
     let Ok(mut reader) = LineReader::new(alloc) else {
         return Status::Memory;
     };
-    match play_lines(alloc, &mut reader, input, boards, out) {
+    match play_lines(alloc, &mut reader, input, boards, out, watcher) {
         Ok((player, number)) => end_script(alloc, &player, number, boards, out),
         Err(Halt::ReadFault) => Status::ReadFault,
         Err(Halt::TooLong) => end_with(out, b"toolong\n", Status::TooLong),

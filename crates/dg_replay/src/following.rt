@@ -13,6 +13,7 @@ use crate::items::LineReport;
 use crate::lines::{next_line, write_begun, write_text};
 use crate::player::{Player, play_line};
 use crate::stop::Stop;
+use crate::watching::{Watcher, show_line};
 use dg_base::{Sink, Source};
 use dg_nor::Nor;
 use dg_rules::scripts_with_golden;
@@ -34,14 +35,14 @@ fn halted(stop: ReadStop) -> Halt
 }
 
 /// Reads the next line, plays it and writes what it reports. Answers whether there was one.
-fn play_next<S: Source, K: Sink, N: Nor>(
+fn play_next<S: Source, K: Sink, N: Nor, W: Watcher<N>>(
     alloc: Global,
     reader: &mut LineReader,
     input: &mut S,
     player: &mut Player,
     boards: &mut Vec<N>,
     out: &mut K,
-    line_report: &mut LineReport,
+    line_report: &mut LineReport<'_, W>,
 ) -> Result<bool, Halt>
     requires { Ready player.old (map N.device boards.old.items) }
     ensures answer { (more : List ℕ) × Takes (S.left input.old) (S.left input.new) more
@@ -71,25 +72,29 @@ fn play_next<S: Source, K: Sink, N: Nor>(
     };
     line_report.text.clear();
     match play_line(alloc, &mut line, player, boards, line_report) {
-        Ok(()) => match player.place.pass(line) {
-            Ok(()) => match write_text(out, &line_report.text) {
-                Ok(()) => Ok(true),
-                Err(stop) => Err(Halt::Stopped(stop)),
-            },
-            Err(AllocError) => Err(Halt::Stopped(Stop::Memory)),
-        },
+        Ok(()) => {
+            show_line(&line, player.place.motes, boards, &mut *line_report.watcher);
+            match player.place.pass(line) {
+                Ok(()) => match write_text(out, &line_report.text) {
+                    Ok(()) => Ok(true),
+                    Err(stop) => Err(Halt::Stopped(stop)),
+                },
+                Err(AllocError) => Err(Halt::Stopped(Stop::Memory)),
+            }
+        }
         Err(stop) => Err(Halt::Stopped(write_begun(out, &line_report.text, stop))),
     }
 }
 
 /// Reads the lines of an input one after another and plays each before the next one is asked for. Answers where the replay
 /// then stands, with the number of the line after the last.
-pub fn play_lines<S: Source, K: Sink, N: Nor>(
+pub fn play_lines<S: Source, K: Sink, N: Nor, W: Watcher<N>>(
     alloc: Global,
     reader: &mut LineReader,
     input: &mut S,
     boards: &mut Vec<N>,
     out: &mut K,
+    watcher: &mut W,
 ) -> Result<(Player, u32), Halt>
     requires none { reader.old.ahead ≡ [] }
     requires unread { reader.old.passed ≡ 0 }
@@ -108,6 +113,7 @@ pub fn play_lines<S: Source, K: Sink, N: Nor>(
     let mut line_report = LineReport {
         reports: Vec::new(alloc),
         text: Vec::new(alloc),
+        watcher,
     };
     let mut number = 1;
     while play_next(

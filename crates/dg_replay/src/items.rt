@@ -17,6 +17,7 @@ ghost use Rattle.dg_replay.specs.Playing.{ItemsPlayedAs, KeepsMotes};
 ghost use Rattle.dg_replay.specs.Stages.{boards_reported};
 
 use crate::stop::Stop;
+use crate::watching::Watcher;
 use dg_base::{Bytes, Cut, Event, ImageVersion};
 use dg_nor::Nor;
 use dg_rounds::{ROUND_EVENTS, RoundTurns};
@@ -24,13 +25,15 @@ use dg_script::{Report, write_report};
 use dg_world::{DeclareFault, World, WorldFault};
 use std::alloc::AllocError;
 
-/// What is reported of a line that is played, in buffers that the next line uses again.
+/// What is reported of a line that is played, in buffers that the next line uses again, and who watches.
 #[derive(Drop)]
-pub struct LineReport {
+pub struct LineReport<'a, W> {
     /// What one item of it reports.
     pub reports: Vec<Report>,
     /// The text of all that it reports.
     pub text: Vec<u8>,
+    /// It is shown each item that was played, and what came of it.
+    pub watcher: &'a mut W,
 }
 
 /// Appends the text of report lines.
@@ -44,7 +47,7 @@ pub fn push_reports(text: &mut Vec<u8>, reports: &[Report]) -> Result<(), AllocE
 }
 
 /// Appends the text of what an item reports.
-fn append_text(line_report: &mut LineReport) -> Result<(), Stop>
+fn append_text<W>(line_report: &mut LineReport<'_, W>) -> Result<(), Stop>
     ensures reported { OnOk result (line_report.new.text.items ≡ line_report.old.text.items
         ++ report_text line_report.old.reports.items) }
     ensures memory { OnErr result (result ≡ Err Stop.Memory) }
@@ -60,12 +63,12 @@ fn append_text(line_report: &mut LineReport) -> Result<(), Stop>
 }
 
 /// Declares an image.
-pub fn play_image(
+pub fn play_image<N, W: Watcher<N>>(
     world: &mut World,
     image_version: ImageVersion,
     name: Bytes,
     content: Bytes,
-    line_report: &mut LineReport,
+    line_report: &mut LineReport<'_, W>,
 ) -> Result<(), Stop>
     requires fits { IsDeclared (row_of image_version.image image_version.version name content) }
     ensures { (boards initial : List Device) (w : RuleWorld) → IsWorld world.old boards w → WorldStands w initial boards
@@ -81,7 +84,10 @@ pub fn play_image(
             .reports
             .push(Report::Taken { image, version })
         {
-            Ok(()) => append_text(line_report),
+            Ok(()) => {
+                line_report.watcher.taken();
+                append_text(line_report)
+            }
             Err(_) => Err(Stop::Memory),
         },
     }
@@ -89,13 +95,13 @@ pub fn play_image(
 
 /// Plays an event with the cut that waits for it. Its frame is reported where `reported` is true.
 #[inline(always)]
-pub fn play_event<N: Nor>(
+pub fn play_event<N: Nor, W: Watcher<N>>(
     world: &mut World,
     event: &Event,
     cut: Option<&Cut>,
     reported: bool,
     boards: &mut Vec<N>,
-    line_report: &mut LineReport,
+    line_report: &mut LineReport<'_, W>,
 ) -> Result<(), Stop>
     requires { (w : RuleWorld) × IsWorld world.old (map N.device boards.old.items) w
         × StepInRange (length w.sites) (step_of event.now (option_copied cut)) }
@@ -109,23 +115,31 @@ pub fn play_event<N: Nor>(
 {
     line_report.reports.clear();
     match world.apply(boards, event, cut, reported, &mut line_report.reports) {
-        Ok(()) => append_text(line_report),
+        Ok(()) => {
+            let watcher = &mut *line_report.watcher;
+            let reports = &line_report.reports;
+            watcher.applied(world, event, boards.as_slice(), reported, reports);
+            append_text(line_report)
+        }
         Err(WorldFault::Memory) => Err(Stop::Memory),
         Err(WorldFault::Flash { .. }) => Err(Stop::FlashFault),
         Err(WorldFault::TooMany) => Err(Stop::TooMany),
         Err(WorldFault::NotAVolume) => Err(Stop::NotAVolume),
-        Err(WorldFault::NoImage) => Err(Stop::NoImage),
+        Err(WorldFault::NoImage) => {
+            line_report.watcher.ended(event, boards.as_slice());
+            Err(Stop::NoImage)
+        }
     }
 }
 
 /// Plays the events of a round. Their frames are not reported.
 #[inline(never)]
-pub fn play_round<N: Nor>(
+pub fn play_round<N: Nor, W: Watcher<N>>(
     world: &mut World,
     a: u8,
     b: u8,
     boards: &mut Vec<N>,
-    line_report: &mut LineReport,
+    line_report: &mut LineReport<'_, W>,
 ) -> Result<(), Stop>
     requires { (w : RuleWorld) × IsWorld world.old (map N.device boards.old.items) w × LinkFits (length w.sites) (a, b) }
     ensures goes_on { KeepsMotes result world.old world.new (map N.device boards.old.items) (map N.device boards.new.items) }
@@ -143,12 +157,12 @@ pub fn play_round<N: Nor>(
 }
 
 /// Plays the rounds over a link, one in each direction.
-fn play_both<N: Nor>(
+fn play_both<N: Nor, W: Watcher<N>>(
     world: &mut World,
     a: u8,
     b: u8,
     boards: &mut Vec<N>,
-    line_report: &mut LineReport,
+    line_report: &mut LineReport<'_, W>,
 ) -> Result<(), Stop>
     requires { (w : RuleWorld) × IsWorld world.old (map N.device boards.old.items) w × LinkFits (length w.sites) (a, b) }
     ensures goes_on { KeepsMotes result world.old world.new (map N.device boards.old.items) (map N.device boards.new.items) }
@@ -163,11 +177,11 @@ fn play_both<N: Nor>(
 }
 
 /// Plays the events of a sweep over links.
-fn play_sweep<N: Nor>(
+fn play_sweep<N: Nor, W: Watcher<N>>(
     world: &mut World,
     links: &[(u8, u8)],
     boards: &mut Vec<N>,
-    line_report: &mut LineReport,
+    line_report: &mut LineReport<'_, W>,
 ) -> Result<(), Stop>
     requires { (w : RuleWorld) × IsWorld world.old (map N.device boards.old.items) w
         × AllByRecursion (LinkFits (length w.sites)) links.now }
@@ -185,12 +199,12 @@ fn play_sweep<N: Nor>(
 
 /// Plays the events of so many sweeps over links.
 #[inline(never)]
-pub fn play_sweeps<N: Nor>(
+pub fn play_sweeps<N: Nor, W: Watcher<N>>(
     world: &mut World,
     links: &[(u8, u8)],
     count: u32,
     boards: &mut Vec<N>,
-    line_report: &mut LineReport,
+    line_report: &mut LineReport<'_, W>,
 ) -> Result<(), Stop>
     requires { (w : RuleWorld) × IsWorld world.old (map N.device boards.old.items) w
         × AllByRecursion (LinkFits (length w.sites)) links.now }

@@ -8,6 +8,7 @@ ghost use Rattle.dg_replay.specs.Stages.{Basis, DoneSoFar, boards_reported};
 
 use crate::items::{LineReport, play_event, play_image, play_round, play_sweeps};
 use crate::stop::Stop;
+use crate::watching::Watcher;
 use dg_base::{Bytes, ImageVersion};
 use dg_nor::Nor;
 use dg_script::{Line, Place};
@@ -178,12 +179,12 @@ fn take_bytes(alloc: Global, bytes: &mut Bytes) -> Bytes
 
 /// Plays a line where the player stands, whose place does not go on behind it yet. The bytes of an image are taken out of the
 /// line, which its place does not go on by. A cut waits for its event. What is reported of the line is appended.
-pub fn play_line<N: Nor>(
+pub fn play_line<N: Nor, W: Watcher<N>>(
     alloc: Global,
     line: &mut Line,
     player: &mut Player,
     boards: &mut Vec<N>,
-    line_report: &mut LineReport,
+    line_report: &mut LineReport<'_, W>,
 ) -> Result<(), Stop>
     requires may { MayPlay line.old player.old (map N.device boards.old.items) }
     ensures played { (basis : Basis) (behind : DoneSoFar)

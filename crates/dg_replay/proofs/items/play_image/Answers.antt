@@ -9,19 +9,19 @@ use Rattle.dg_replay.proofs.ItemStepLemmas.{declared_played, declared_step, noth
 use Rattle.dg_replay.proofs.items.play_image.Goals as goal
 
 pub returns-in-Ok : goal.returns-in-Ok
-returns-in-Ok c = λ boards initial w is stands.
+returns-in-Ok g c = λ boards initial w is stands.
     let row : Row = row_of c.args.image_version.image c.args.image_version.version c.args.name c.args.content in
     declared_played w _ row [] c.declare.new.self initial boards c.args.line_report.now.text.items c.args.line_report.now.text.items
     (declared_step (row_at w.declared c.args.image_version.image c.args.image_version.version) w row refl (c.in-Ok.ensures.allowed boards w is)) (c.in-Ok.ensures.declared boards w is) (sym (append-nil c.args.line_report.now.text.items)) stands
 
 pub returns-in-Err-Memory : goal.returns-in-Err-Memory
-returns-in-Err-Memory c = λ boards initial w is stands. nothing_applied w _ c.args.world.now initial boards boards is refl stands
+returns-in-Err-Memory g c = λ boards initial w is stands. nothing_applied w _ c.args.world.now initial boards boards is refl stands
 
 pub returns-in-Err : goal.returns-in-Err
-returns-in-Err c = λ boards initial w is stands. nothing_applied w _ c.args.world.now initial boards boards is refl stands
+returns-in-Err g c = λ boards initial w is stands. nothing_applied w _ c.args.world.now initial boards boards is refl stands
 
 pub returns-in-Ok-push : goal.returns-in-Ok-push
-returns-in-Ok-push c = λ boards initial w is stands.
+returns-in-Ok-push g c = λ boards initial w is stands.
     let row : Row = row_of c.args.image_version.image c.args.image_version.version c.args.name c.args.content in
     let taken : Report = report.Taken c.args.image_version.image c.args.image_version.version in
     let only : c.push.new.self.items ≡ taken ∷ [] = c.in-Ok-push.ensures.items ∙ ap (λ (rs : List Report). rs ++ taken ∷ []) c.clear.ensures.items in

@@ -7,7 +7,7 @@ use Rattle.dg_replay.specs.Ending.{script_of}
 use Rattle.dg_world.proofs.EndureLemmas.{rose_later, rose_first}
 use Rattle.dg_replay.proofs.RunLemmas.{replay_done, memory_unread, end_replayed, halt_failed, halt_over, halt_stopped}
 use Rattle.dg_replay.proofs.WayLemmas.{replay_ended, stopped_unfailed}
-use Rattle.dg_replay.proofs.call.replay.Goals as goal
+use Rattle.dg_replay.proofs.call.replay_watched.Goals as goal
 
 pub end_script-requires : goal.end_script-requires
 end_script-requires g c =
