@@ -20,6 +20,7 @@ use Rattle.dg_serve.specs.Networks.{NetworkServed, around_service}
 use Rattle.dg_trial.specs.AroundTrial.{around_trial}
 use Rattle.dg_trial.specs.Trials.{TrialEnds}
 use Rattle.dg_drip_run.specs.Dripped.{Dripped, played}
+use Rattle.dg_drip_run.specs.Causes.{DripEnds}
 use Rattle.dg_drip_run.specs.Promised.{GreatestIsKept, NothingFalls, SetsMakeAll, RoundsRaise, SweepsBringTheGreatest}
 use Rattle.dg_command.specs.Asking.{Said, Replay, Serve, Format, Inject, Order as OrderSaid, Boot, Ping, Dump, Migrate, Trial}
 use Rattle.dg_command.specs.Asking.{Wrap, Check, Receive, Drip, Base, Asking, Asks, Helps, Misuses}
@@ -65,6 +66,8 @@ TrialDone motes pages seed status a b =
 -- no board is used, and the laws of how values spread hold of the run that was played
 pub record DripDone (status : Status) (a b : Outside) : Type 0 where
   pub replayed : Dripped status (drip_of a) (drip_of b)
+  -- each status comes where the rules say, by the bytes of the input
+  pub ends : DripEnds status (drip_of a) (drip_of b)
   pub boards : b.boards ≡ a.boards
   pub greatest : GreatestIsKept (played replayed.script)
   pub rises : NothingFalls (played replayed.script)

@@ -6,4 +6,8 @@ pub mod RoundLemmas
 pub mod LineLemmas
 pub mod FinishLemmas
 pub mod ReportLemmas
+pub mod NextLemmas
+pub mod ToldLemmas
 pub mod ReadLemmas
+pub mod EndingLemmas
+pub mod CauseLemmas

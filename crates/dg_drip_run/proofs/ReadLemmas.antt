@@ -1,16 +1,13 @@
 -- Lines that are read, played and told, one after the other.
 use Rattle.std.proofs.Common.{◌≡◌, ◌≢◌, ◌∙◌, ◌⊎◌, inl, inr, ⊎_elim, ℕ, ◌<◌, ◌≤◌, ◌+◌, ◌-◌, Bool, true, false, List, [], ◌∷◌, ◌++◌, length, take, refl, ap, sym, subst, append-nil, append_assoc, length-append, arith, Result, Ok, Err, Option, Some}
-use Rattle.std.specs.Prelude.{codes, IsErrAnd, nat_lt}
+use Rattle.std.specs.Prelude.{codes, IsErrAnd}
 use Rattle.dg_words.specs.Counts.{Rose}
 use Rattle.dg_base.specs.Outside.{Takes, Puts, PutsFront, AtEnd}
-use Rattle.std.proofs.lemmas.Bool.Decides.{nat_tests}
 use Rattle.dg_base.proofs.OutsideLemmas.{Takes-nil, Takes-join, Puts-nil, Puts-join}
 use Rattle.dg_base.specs.declared.answers.Status.{Status}
 use Rattle.dg_base.specs.declared.answers.Status.TheVariants as statuses
-use Rattle.dg_script.specs.LineReading.{Reading, HasNoEnd, IsLine, IsLastLine, FirstLine, Gives, IsAtEnd, IsTooLong, NextAnswer}
-use Rattle.dg_script.specs.Sizes.{most_line, most_used_bytes}
-use Rattle.dg_script.specs.declared.line_reader.ReadStop.{ReadStop}
-use Rattle.dg_script.specs.declared.line_reader.ReadStop.TheVariants as stop
+use Rattle.dg_script.specs.LineReading.{Reading, HasNoEnd, IsLine, IsLastLine, Gives, IsAtEnd, IsTooLong}
+use Rattle.dg_script.specs.Sizes.{most_used_bytes}
 use Rattle.dg_drip_script.specs.Lines.{drip_line_of}
 use Rattle.dg_drip_script.specs.Reports.{bad_line, final_text}
 use Rattle.dg_drip_script.specs.Scripts.{DripScript, first_script, spelled_behind, then_line, standing_of, with_drip_line, network_of, report_of}
@@ -19,56 +16,10 @@ use Rattle.dg_drip_script.specs.declared.line.DripFault.{DripFault}
 use Rattle.dg_drip_script.specs.declared.line.DripFault.TheVariants as fault
 use Rattle.dg_drip_run.specs.AroundDrip.{AroundDrip}
 use Rattle.dg_drip_run.specs.Playing.{Plays}
-use Rattle.dg_drip_run.specs.Dripped.{AreLines, Ends, BadLine, TooManyEvents, Over, played, Closed, Wrote, Dripped, LineStops, LineAnswer, TextAnswer, BadText, DripStage, NextPlays, LinesPlayed, LinesAnswer}
+use Rattle.dg_drip_run.specs.Dripped.{AreLines, Ends, BadLine, TooManyEvents, Over, played, Closed, Wrote, Dripped, LineStops, LineAnswer, BadText, FewAhead, DripStage, NextPlays, LinesPlayed, LinesAnswer}
 use Rattle.dg_drip_run.specs.declared.player.Player.{Player}
 use Rattle.dg_drip_run.proofs.ReportLemmas.{front_behind, played_all}
-
--- ---- the next line
-
-pub some_given : (o : Option ℕ) (n : ℕ) (bytes : List ℕ) (old new : Reading) (at_end failed : Type 0) → o ≡ Some n → NextAnswer (Ok o) bytes old new at_end failed → (n ≡ new.number) × Gives bytes old new at_end
-some_given o n bytes old new at_end failed is h = let k : NextAnswer (Ok (Some n)) bytes old new at_end failed = subst (λ (x : Option ℕ). NextAnswer (Ok x) bytes old new at_end failed) is h in k
-
-first_of : (bytes : List ℕ) (old new : Reading) (at_end : Type 0) → Gives bytes old new at_end → FirstLine bytes at_end new.text new.ahead
-first_of bytes old new at_end g = record { line = g.first.line; parts = g.first.parts; is = ⊎_elim (λ l. inl l) (λ l. inr (l.0, l.1, l.2.0)) g.first.is }
-
--- the text and the number are those of the reader
-pub text_at : (r : Result (Unit {0}) Status) (s : DripScript) (text told : List ℕ) (number n : ℕ) (q : Player) (before after : Option (List ℕ)) (failed : Type 0) → text ≡ told → number ≡ n
-    → TextAnswer r s (record { text = text; number = number }) q before after failed → TextAnswer r s (record { text = told; number = n }) q before after failed
-text_at r s text told number n q before after failed same at h =
-    subst (λ (x : List ℕ). TextAnswer r s (record { text = x; number = n }) q before after failed) same (subst (λ (m : ℕ). TextAnswer r s (record { text = text; number = m }) q before after failed) at h)
-
-pub next_ok : (s : DripScript) (bytes : List ℕ) (number : ℕ) (p q : DripStage) → Gives bytes p.reader q.reader (AtEnd q.around.left)
-    → TextAnswer (Ok tt) s (record { text = q.reader.text; number = number }) q.player p.around.written q.around.written (Rose p.around.writes q.around.writes) → NextPlays (Ok true) bytes s p q
-next_ok s bytes number p q g h = (g, ⊎_elim (λ k. k) (λ k. absurd (let e = k.2.1 in cc)) h)
-
-pub next_err : (status : Status) (s : DripScript) (bytes : List ℕ) (p q : DripStage) → Gives bytes p.reader q.reader (AtEnd q.around.left)
-    → TextAnswer (Err status) s (record { text = q.reader.text; number = p.reader.number + 1 }) q.player p.around.written q.around.written (Rose p.around.writes q.around.writes) → NextPlays (Err status) bytes s p q
-next_err status s bytes p q g h =
-    ⊎_elim
-    (λ k. inl (g, k))
-    (λ k. inr (inl (
-      k.0,
-      record { text = q.reader.text; rest = q.reader.ahead; first = first_of bytes p.reader q.reader (AtEnd q.around.left) g; bad = k.1 },
-      subst (λ (x : Status). Closed x statuses.BadInput [] (bad_line (p.reader.number + 1) k.0) p.around.written q.around.written (Rose p.around.writes q.around.writes)) (let e = k.2.1 in cc) k.2.2,
-    )))
-    h
-
-above : (n m : ℕ) → m < n → nat_lt m n ≡ true
-above n m h = grind (arith, nat_tests)
-
-pub long_line : (s : DripScript) (text : List ℕ) → most_line < length text → drip_line_of (standing_of s) text ≡ Err fault.Long
-unfolding drip_line_of
-long_line s text long = rw (above (length text) most_line long) refl
-
-pub next_long : (status : Status) (s : DripScript) (e : ReadStop) (line : ℕ) (bytes : List ℕ) (p q : DripStage) (failed : Type 0) → e ≡ stop.Long line
-    → NextAnswer (Err e) bytes p.reader q.reader (AtEnd q.around.left) failed → Closed status statuses.BadInput [] (bad_line line fault.Long) p.around.written q.around.written (Rose p.around.writes q.around.writes) → NextPlays (Err status) bytes s p q
-next_long status s e line bytes p q failed is h closed =
-    let k : NextAnswer (Err (stop.Long line)) bytes p.reader q.reader (AtEnd q.around.left) failed = subst (λ (x : ReadStop). NextAnswer (Err x) bytes p.reader q.reader (AtEnd q.around.left) failed) is h in
-    inr (inl (
-      fault.Long,
-      record { text = k.1.text; rest = k.1.rest; first = k.1.first; bad = long_line s k.1.text k.1.long },
-      subst (λ (n : ℕ). Closed status statuses.BadInput [] (bad_line n fault.Long) p.around.written q.around.written (Rose p.around.writes q.around.writes)) k.0 closed,
-    ))
+use Rattle.dg_drip_run.proofs.ToldLemmas.{told_all, told_but_last, behind_line_given, rest_only, line_only, too_many_ahead}
 
 -- ---- the lines so far
 
@@ -106,6 +57,13 @@ closed_after status wanted before mid after report told whole piece failed write
     (λ k. inr (inl (k.0, spread k.1, subst (λ (xs : List ℕ). PutsFront before after xs) joined (front_behind before mid after report (told ++ piece) put k.2))))
     (λ k. inr (inr (k.0, subst (λ (xs : List ℕ). Puts before after xs) is (Puts-join before mid after report told put k.1)))) j)
     h
+
+-- whatever ends a replay, it wrote something more, or nothing
+some_put : (status wanted : Status) (told piece : List ℕ) (before after : Option (List ℕ)) (failed : Type 0) → Closed status wanted told piece before after failed → (more : List ℕ) × Puts before after more
+some_put status wanted told piece before after failed h = ⊎_elim (λ k. (told ++ piece, k.1)) (λ j. ⊎_elim (λ k. (take k.2.0 (told ++ piece), k.2.2)) (λ k. (told, k.1)) j) h
+
+nothing_put : (before after : Option (List ℕ)) → after ≡ before → (more : List ℕ) × Puts before after more
+nothing_put before after same = ([], subst (λ (o : Option (List ℕ)). Puts before o []) (sym same) (Puts-nil before))
 
 -- nothing more is told before the closing
 report_whole : (p : Player) (s : DripScript) (b : List ℕ) → Plays p s b → report_of s ++ [] ≡ report_of (played s)
@@ -178,40 +136,57 @@ lines_step ended first p q more number writes i taken g l line is h =
 
 -- the replay ended before a line was given
 dripped_before : (status : Status) (first last : AroundDrip) (p : DripStage) (more : List ℕ) (number : ℕ) → (i : LinesPlayed ⊥ first number p) → Takes p.around.left last.left more
+    → p.reader.passed + length (p.reader.ahead ++ more) ≤ most_used_bytes + 1 → FewAhead (p.reader.ahead ++ more) → (told : List ℕ) × Puts p.around.written last.written told
     → Wrote status i.script (length i.texts) (length i.given) (p.reader.ahead ++ more) first last → Dripped status first last
-dripped_before status first last p more number i taken h =
+dripped_before status first last p more number i taken few near told h =
     let ahead = p.reader.ahead in
     record {
       input = i.given ++ (ahead ++ more);
       taken = subst (λ (xs : List ℕ). Takes first.left last.left xs) (append_assoc i.given ahead more) (Takes-join first.left p.around.left last.left (i.given ++ ahead) more i.taken taken);
+      few = let passed = i.passed in omega (arith, few, passed, length-append i.given (ahead ++ more));
       texts = i.texts;
       given = i.given;
       ahead = ahead ++ more;
       parts = refl;
+      used = i.used;
       lines = lines_any i.texts i.given (AtEnd last.left × (ahead ++ more ≡ [])) i.lines;
       script = i.script;
       says = i.says;
       wrote = h;
+      told = told_all ⊥ first last p number i told;
+      near = near;
     }
 
 -- the replay ended in a line that was given
 dripped_in : (status : Status) (first : AroundDrip) (p q : DripStage) (more : List ℕ) (number : ℕ) → (i : LinesPlayed ⊥ first number p) → Takes p.around.left q.around.left more
     → (g : Gives (p.reader.ahead ++ more) p.reader q.reader (AtEnd q.around.left)) → (line : DripLine) → drip_line_of (standing_of i.script) q.reader.text ≡ Ok line
+    → (told : List ℕ) × Puts p.around.written q.around.written told
     → Wrote status (with_drip_line i.script line) (length (i.texts ++ q.reader.text ∷ [])) (length (i.given ++ g.first.line)) q.reader.ahead first q.around → Dripped status first q.around
-dripped_in status first p q more number i taken g line is h =
+dripped_in status first p q more number i taken g line is told h =
     let new = q.reader in
+    let used : length (i.given ++ g.first.line) + length new.ahead ≤ most_used_bytes = line_used i.given p.reader.ahead more g.first.line new.ahead p.reader.passed i.passed g.used g.first.parts in
     record {
       input = (i.given ++ g.first.line) ++ new.ahead;
       taken = joined_taken first.left p.around.left q.around.left i.given p.reader.ahead more g.first.line new.ahead i.taken taken g.first.parts;
+      few = omega (arith, used, length-append (i.given ++ g.first.line) new.ahead);
       texts = i.texts ++ new.text ∷ [];
       given = i.given ++ g.first.line;
       ahead = new.ahead;
       parts = refl;
+      used = omega (arith, used);
       lines = lines_more i.texts i.given new.text g.first.line (AtEnd q.around.left × (new.ahead ≡ [])) i.lines (⊎_elim (λ l. inl l) (λ l. inr (l.0, (l.2.0, l.1))) g.first.is);
       script = with_drip_line i.script line;
       says = spelled_more first_script i.script i.texts new.text line i.says is;
       wrote = h;
+      told = told_but_last first p q number new.text i told;
+      near = rest_only new.ahead g.near;
     }
+  where
+    line_used : (given ahead more line rest : List ℕ) (passed : ℕ) → passed ≡ length given → passed + length (ahead ++ more) ≤ most_used_bytes → ahead ++ more ≡ line ++ rest → length (given ++ line) + length rest ≤ most_used_bytes
+    line_used given ahead more line rest passed is used parts = omega (arith, is, used, ap length parts, length-append line rest, length-append given line)
+
+one_more : (n : ℕ) → n ≤ most_used_bytes → n ≤ most_used_bytes + 1
+one_more n h = omega (arith, h)
 
 stopped_line : (status : Status) (first : AroundDrip) (p q : DripStage) (more : List ℕ) (number : ℕ) → (Rose p.around.writes q.around.writes → Rose first.writes q.around.writes) → (i : LinesPlayed ⊥ first number p) → Takes p.around.left q.around.left more
     → (g : Gives (p.reader.ahead ++ more) p.reader q.reader (AtEnd q.around.left)) → (line : DripLine) → drip_line_of (standing_of i.script) q.reader.text ≡ Ok line
@@ -221,36 +196,52 @@ stopped_line status first p q more number spread i taken g line is h =
     let mid = p.around.written in
     let after = q.around.written in
     ⊎_elim
-    (λ k. dripped_before status first q.around p more number i taken
+    (λ k. dripped_before status first q.around p more number i taken (one_more (p.reader.passed + length (p.reader.ahead ++ more)) g.used)
+    (behind_line_given (p.reader.ahead ++ more) (AtEnd q.around.left × (q.reader.last ≡ true)) q.reader.text q.reader.ahead g.first g.near) (nothing_put mid after k.1)
     (inr (inr (inl (k.0, put_whole p.player i.script i.reported before after i.plays (subst (λ (o : Option (List ℕ)). Puts before o (report_of i.script)) (sym k.1) i.put))))))
     (λ k. dripped_in status first p q more number i taken g line is
+    (⊎_elim (λ w. (take w.2.0 k.0, w.2.2)) (λ f. some_put status statuses.TooMany k.0 (codes "toomany" ++ 10 ∷ []) mid after (Rose p.around.writes q.around.writes) f.1) k.2)
     (⊎_elim
     (λ w. inr (inr (inr (w.0, spread w.1, subst (λ (xs : List ℕ). PutsFront before after xs) k.1 (front_behind before mid after (report_of i.script) k.0 i.put w.2)))))
     (λ f. inl (TooManyEvents, f.0, closed_after status statuses.TooMany before mid after (report_of i.script) k.0 (report_of (played (with_drip_line i.script line))) (codes "toomany" ++ 10 ∷ []) (Rose p.around.writes q.around.writes) (Rose first.writes q.around.writes) spread i.put k.1 f.1))
     k.2))
     h
 
+line_within : (bytes line rest : List ℕ) (passed given : ℕ) → passed ≡ given → passed + length bytes ≤ most_used_bytes → bytes ≡ line ++ rest → given + length line ≤ most_used_bytes
+line_within bytes line rest passed given is used parts = omega (arith, is, used, ap length parts, length-append line rest)
+
 bad_text : (status : Status) (first : AroundDrip) (p q : DripStage) (more : List ℕ) (number : ℕ) → (Rose p.around.writes q.around.writes → Rose first.writes q.around.writes) → (i : LinesPlayed ⊥ first number p) → Takes p.around.left q.around.left more
-    → (f : DripFault) → BadText (p.reader.ahead ++ more) i.script f (AtEnd q.around.left)
+    → (f : DripFault) → BadText p.reader.passed (p.reader.ahead ++ more) i.script f (AtEnd q.around.left)
     → Closed status statuses.BadInput [] (bad_line (p.reader.number + 1) f) p.around.written q.around.written (Rose p.around.writes q.around.writes) → Dripped status first q.around
 bad_text status first p q more number spread i taken f t closed =
-    dripped_before status first q.around p more number i taken
+    dripped_before status first q.around p more number i taken (one_more (p.reader.passed + length (p.reader.ahead ++ more)) t.used)
+    (behind_line_given (p.reader.ahead ++ more) (AtEnd q.around.left) t.text t.rest t.first t.near)
+    (some_put status statuses.BadInput [] (bad_line (p.reader.number + 1) f) p.around.written q.around.written (Rose p.around.writes q.around.writes) closed)
     (inl (
       BadLine (p.reader.number + 1) f,
-      (ap (λ k. k + 1) i.counted, inr (t.text, t.first.line, t.rest, t.first.parts, t.first.is, t.bad)),
+      (
+        ap (λ k. k + 1) i.counted,
+        i.plays.few,
+        inr (t.text, t.first.line, t.rest, t.first.parts, line_within (p.reader.ahead ++ more) t.first.line t.rest p.reader.passed (length i.given) i.passed t.used t.first.parts, t.first.is, t.bad),
+      ),
       closed_after status statuses.BadInput first.written p.around.written q.around.written (report_of i.script) [] (report_of (played i.script)) (bad_line (p.reader.number + 1) f)
           (Rose p.around.writes q.around.writes) (Rose first.writes q.around.writes) spread i.put (report_whole p.player i.script i.reported i.plays) closed,
     ))
+
+same_number : (n m : ℕ) → n ≡ m → n ≤ m
+same_number n m e = omega (arith, e)
 
 too_long : (status : Status) (first : AroundDrip) (p q : DripStage) (more : List ℕ) (number : ℕ) → (Rose p.around.writes q.around.writes → Rose first.writes q.around.writes) → (i : LinesPlayed ⊥ first number p) → Takes p.around.left q.around.left more
     → IsTooLong (p.reader.ahead ++ more) p.reader
     → Closed status statuses.TooLong [] (codes "toolong" ++ 10 ∷ []) p.around.written q.around.written (Rose p.around.writes q.around.writes) → Dripped status first q.around
 too_long status first p q more number spread i taken t closed =
     let ahead = p.reader.ahead in
-    dripped_before status first q.around p more number i taken
+    dripped_before status first q.around p more number i taken (same_number (p.reader.passed + length (ahead ++ more)) (most_used_bytes + 1) t.all)
+    (too_many_ahead p.reader.passed (ahead ++ more) (let passed = i.passed in let used = i.used in omega (arith, passed, used)) t.all t.none)
+    (some_put status statuses.TooLong [] (codes "toolong" ++ 10 ∷ []) p.around.written q.around.written (Rose p.around.writes q.around.writes) closed)
     (inl (
       Over,
-      (ap (λ (k : ℕ). k + length (ahead ++ more)) (sym i.passed) ∙ t.all, subst (λ (k : ℕ). HasNoEnd (take (most_used_bytes - k) (ahead ++ more))) i.passed t.none),
+      (i.plays.few, ap (λ (k : ℕ). k + length (ahead ++ more)) (sym i.passed) ∙ t.all, subst (λ (k : ℕ). HasNoEnd (take (most_used_bytes - k) (ahead ++ more))) i.passed t.none),
       closed_after status statuses.TooLong first.written p.around.written q.around.written (report_of i.script) [] (report_of (played i.script)) (codes "toolong" ++ 10 ∷ [])
           (Rose p.around.writes q.around.writes) (Rose first.writes q.around.writes) spread i.put (report_whole p.player i.script i.reported i.plays) closed,
     ))
@@ -263,8 +254,15 @@ lines_stopped status first p q more number read spread i taken h =
     (λ j. ⊎_elim
     (λ k. bad_text status first p q more number spread i taken k.0 k.1 k.2)
     (λ m. ⊎_elim
-    (λ k. dripped_before status first q.around p more number i taken
-    (inr (inl (k.0, read k.1, k.2, put_whole p.player i.script i.reported first.written q.around.written i.plays (subst (λ (o : Option (List ℕ)). Puts first.written o (report_of i.script)) (sym k.3) i.put)))))
+    (λ k. dripped_before status first q.around p more number i taken (one_more (p.reader.passed + length (p.reader.ahead ++ more)) k.3) (line_only (p.reader.ahead ++ more) k.2) (nothing_put p.around.written q.around.written k.4)
+    (inr (inl (
+      k.0,
+      read k.1,
+      k.2,
+      i.plays.few,
+      subst (λ (n : ℕ). n + length (p.reader.ahead ++ more) ≤ most_used_bytes) i.passed k.3,
+      put_whole p.player i.script i.reported first.written q.around.written i.plays (subst (λ (o : Option (List ℕ)). Puts first.written o (report_of i.script)) (sym k.4) i.put),
+    ))))
     (λ k. too_long status first p q more number spread i taken k.0 k.1)
     m) j)
     h
@@ -348,17 +346,19 @@ script_ended status first last now number same spread h ends =
     record {
       input = i.given ++ now.reader.ahead;
       taken = subst (λ (o : Option (List ℕ)). Takes first.left o (i.given ++ now.reader.ahead)) (sym same) i.taken;
+      few = let used = i.used in omega (arith, used, ap length h.0.1, length-append i.given now.reader.ahead);
       texts = i.texts;
       given = i.given;
       ahead = now.reader.ahead;
       parts = refl;
+      used = i.used;
       lines = subst (λ (o : Option (List ℕ)). AreLines i.texts i.given (AtEnd o × (now.reader.ahead ≡ []))) (sym same) i.lines;
       script = i.script;
       says = i.says;
       wrote = inl (⊎_elim
           (λ k. (
             BadLine number fault.Place,
-            (i.numbered, inl (h.0.1, at_end, k.0, refl)),
+            (i.numbered, i.plays.few, inl (h.0.1, at_end, k.0, refl)),
             closed_after status statuses.BadInput first.written now.around.written last.written (report_of i.script) [] (report_of (played i.script)) (bad_line number fault.Place)
                 (Rose now.around.writes last.writes) (Rose first.writes last.writes) spread i.put whole k.1,
           ))
@@ -369,6 +369,12 @@ script_ended status first last now number same spread h ends =
                 (Rose now.around.writes last.writes) (Rose first.writes last.writes) spread i.put whole k.1,
           ))
           (ends i.script i.reported i.plays));
+      told = told_all (AtEnd now.around.left × (now.reader.ahead ≡ [])) first last now number i
+          (⊎_elim
+          (λ k. some_put status statuses.BadInput [] (bad_line number fault.Place) now.around.written last.written (Rose now.around.writes last.writes) k.1)
+          (λ k. some_put status statuses.Done [] (final_text (network_of i.script) i.script.nodes (length i.script.items)) now.around.written last.written (Rose now.around.writes last.writes) k.1)
+          (ends i.script i.reported i.plays));
+      near = rest_only now.reader.ahead (omega (arith, ap length h.0.1));
     }
 
 -- nothing was read, since there was no memory
@@ -376,12 +382,16 @@ pub dripped_none : (a : AroundDrip) → Dripped statuses.Memory a a
 dripped_none a = record {
   input = [];
   taken = Takes-nil a.left;
+  few = omega arith;
   texts = [];
   given = [];
   ahead = [];
   parts = refl;
+  used = omega arith;
   lines = refl;
   script = first_script;
   says = refl;
   wrote = inr (inr (inl (refl, Puts-nil a.written)));
+  told = record { first = []; last = inl refl; script = first_script; says = refl; few = omega arith; more = []; put = Puts-nil a.written };
+  near = rest_only [] (omega arith);
 }

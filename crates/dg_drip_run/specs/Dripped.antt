@@ -5,7 +5,7 @@ use Rattle.dg_words.specs.Counts.{Rose}
 use Rattle.dg_base.specs.Outside.{Takes, Puts, PutsFront, AtEnd}
 use Rattle.dg_base.specs.declared.answers.Status.{Status}
 use Rattle.dg_base.specs.declared.answers.Status.TheVariants as statuses
-use Rattle.dg_script.specs.LineReading.{Reading, IsLine, IsLastLine, HasNoEnd, FirstLine, Gives, IsAtEnd, IsTooLong}
+use Rattle.dg_script.specs.LineReading.{Reading, IsLine, IsLastLine, HasNoEnd, FirstLine, Gives, IsAtEnd, IsTooLong, most_kept}
 use Rattle.dg_drip_script.specs.Lines.{drip_line_of}
 use Rattle.dg_drip_script.specs.Reports.{bad_line, final_text}
 use Rattle.dg_drip_script.specs.Scripts.{DripScript, script_of, standing_of, with_drip_line, network_of, report_of}
@@ -49,16 +49,18 @@ closing s TooManyEvents = codes "toomany" ++ 10 ∷ []
 closing s Over = codes "toolong" ++ 10 ∷ []
 
 -- Why a script ends there: these lines, of so many bytes, said the script,
--- and what is left of the bytes that were taken comes next.
+-- and what is left of the bytes that were taken comes next. A million events at most came before a line with a fault and before
+-- the end of the bytes that are used, and such a line ends within these bytes.
 abbrev pub EndsBy : Ending → DripScript → (lines passed : ℕ) → (ahead : List ℕ) → (at_end : Type 0) → Type 0
 EndsBy Ends s lines passed ahead at_end = (ahead ≡ []) × at_end × (0 < s.nodes) × (length s.items ≤ most_events)
 EndsBy (BadLine line f) s lines passed ahead at_end =
-    (line ≡ lines + 1) × (((ahead ≡ []) × at_end × (s.nodes ≡ 0) × (f ≡ fault.Place))
-    ⊎ ((text next rest : List ℕ) × (ahead ≡ next ++ rest)
+    (line ≡ lines + 1) × (length s.items ≤ most_events) × (((ahead ≡ []) × at_end × (s.nodes ≡ 0) × (f ≡ fault.Place))
+    ⊎ ((text next rest : List ℕ) × (ahead ≡ next ++ rest) × (passed + length next ≤ most_used_bytes)
     × (IsLine text next ⊎ (IsLastLine text next × (rest ≡ []) × at_end)) × (drip_line_of (standing_of s) text ≡ Err f)))
 EndsBy TooManyEvents s lines passed ahead at_end = most_events < length s.items
 EndsBy Over s lines passed ahead at_end =
-    (passed + length ahead ≡ most_used_bytes + 1) × HasNoEnd (take (most_used_bytes - passed) ahead)
+    (length s.items ≤ most_events) × (passed + length ahead ≡ most_used_bytes + 1)
+    × HasNoEnd (take (most_used_bytes - passed) ahead)
 
 -- A report was written to its end, and the status is the one that is wanted; or a write failed within it;
 -- or memory ran out before its end.
@@ -75,26 +77,56 @@ abbrev pub Wrote : (status : Status) → DripScript → (lines passed : ℕ) →
 Wrote status s lines passed ahead a b =
     ((ending : Ending) × EndsBy ending s lines passed ahead (AtEnd b.left)
     × Closed status (status_of ending) (report_of (played s)) (closing s ending) a.written b.written (Rose a.writes b.writes))
-    -- a read failed: all whole lines that were taken are told
-    ⊎ (((status ≡ statuses.ReadFault) × Rose a.reads b.reads × HasNoEnd ahead × Puts a.written b.written (report_of (played s)))
+    -- a read failed: all whole lines that were taken are told, and these have a million events at most
+    ⊎ (((status ≡ statuses.ReadFault) × Rose a.reads b.reads × HasNoEnd ahead × (length s.items ≤ most_events)
+    × (passed + length ahead ≤ most_used_bytes) × Puts a.written b.written (report_of (played s)))
     -- memory ran out
     ⊎ (((status ≡ statuses.Memory) × Puts a.written b.written (report_of (played s)))
     -- a write failed of what the last line tells
     ⊎ ((status ≡ statuses.WriteFault) × Rose a.writes b.writes × PutsFront a.written b.written (report_of (played s)))))
+
+-- All that is reported of the lines before the last one that was played was written, and these have a million events at most.
+-- So it is of all of them, unless the last one ended the replay.
+pub record AreTold (texts : List (List ℕ)) (before after : Option (List ℕ)) : Type 0 where
+  pub first : List (List ℕ)
+  pub last : (texts ≡ first) ⊎ ((text : List ℕ) × (texts ≡ first ++ text ∷ []))
+  pub script : DripScript
+  pub says : script_of first ≡ Some script
+  pub few : length script.items ≤ most_events
+  pub more : List ℕ
+  pub put : Puts before after (report_of script ++ more)
+
+-- one line at most, with its LF or without it
+abbrev pub IsOneLine : List ℕ → Type 0
+IsOneLine bytes = (before : List ℕ) × HasNoEnd before × ((bytes ≡ before) ⊎ (bytes ≡ before ++ 10 ∷ []))
+
+-- No more than one line and 300,002 bytes stand behind the lines that were played.
+pub record FewAhead (ahead : List ℕ) : Type 0 where
+  pub next : List ℕ
+  pub rest : List ℕ
+  pub parts : ahead ≡ next ++ rest
+  pub one : IsOneLine next
+  pub near : length rest ≤ most_kept
 
 -- What was read and written. The lines that were played said a script;
 -- of a line that had too many events the first ones were played.
 pub record Dripped (status : Status) (a b : AroundDrip) : Type 0 where
   pub input : List ℕ
   pub taken : Takes a.left b.left input
+  -- no more than one byte past those that are used
+  pub few : length input ≤ most_used_bytes + 1
   pub texts : List (List ℕ)
   pub given : List ℕ
   pub ahead : List ℕ
   pub parts : input ≡ given ++ ahead
+  pub used : length given ≤ most_used_bytes
   pub lines : AreLines texts given (AtEnd b.left × (ahead ≡ []))
   pub script : DripScript
   pub says : script_of texts ≡ Some script
   pub wrote : Wrote status script (length texts) (length given) ahead a b
+  -- what is reported of a line was written before more than the next line and a reader's rest behind it were taken
+  pub told : AreTold texts a.written b.written
+  pub near : FewAhead ahead
 
 -- ---- a line
 
@@ -131,11 +163,13 @@ TextAnswer r s read q before after failed =
 
 -- ---- lines that are read
 
--- a text was read, and ends the replay
-pub record BadText (bytes : List ℕ) (s : DripScript) (f : DripFault) (at_end : Type 0) : Type 0 where
+-- a text was read behind so many bytes, and ends the replay
+pub record BadText (passed : ℕ) (bytes : List ℕ) (s : DripScript) (f : DripFault) (at_end : Type 0) : Type 0 where
   pub text : List ℕ
   pub rest : List ℕ
   pub first : FirstLine bytes at_end text rest
+  pub used : passed + length bytes ≤ most_used_bytes
+  pub near : length rest ≤ most_kept
   pub bad : drip_line_of (standing_of s) text ≡ Err f
 
 -- where a replay stands: its reader, its player, and what is around it
@@ -160,11 +194,11 @@ NextPlays (Err status) bytes s p q =
     (Gives bytes p.reader q.reader (AtEnd q.around.left)
     × ((line : DripLine) × (drip_line_of (standing_of s) q.reader.text ≡ Ok line)
     × LineStops status s (with_drip_line s line) p.around.written q.around.written (Rose p.around.writes q.around.writes)))
-    ⊎ (((f : DripFault) × BadText bytes s f (AtEnd q.around.left)
+    ⊎ (((f : DripFault) × BadText p.reader.passed bytes s f (AtEnd q.around.left)
     × Closed status statuses.BadInput [] (bad_line (p.reader.number + 1) f) p.around.written q.around.written
     (Rose p.around.writes q.around.writes))
     ⊎ (((status ≡ statuses.ReadFault) × Rose p.around.reads q.around.reads × HasNoEnd bytes
-    × (q.around.written ≡ p.around.written))
+    × (p.reader.passed + length bytes ≤ most_used_bytes) × (q.around.written ≡ p.around.written))
     ⊎ (IsTooLong bytes p.reader
     × Closed status statuses.TooLong [] (codes "toolong" ++ 10 ∷ []) p.around.written q.around.written
     (Rose p.around.writes q.around.writes))))

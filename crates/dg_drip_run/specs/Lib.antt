@@ -1,4 +1,5 @@
 pub mod AroundDrip
 pub mod Playing
 pub mod Dripped
+pub mod Causes
 pub mod Promised

@@ -33,12 +33,13 @@ RoundsRaise s =
     (front back : List DripEvent) (a b key : ℕ) → key < key_count → events_of s.items ≡ front ++ (drip_round a b ++ back)
     → IsAtMost (entry_at (run (start s.links) front) a key) (entry_at (run (run (start s.links) front) (drip_round a b)) b key)
 
--- where each two nodes are within h links, h sweeps at the end with no set between them bring all to the greatest entry
+-- where each two nodes are within h links, h sweeps with no set between them, wherever they end, bring all to the greatest entry
 abbrev pub SweepsBringTheGreatest : DripScript → Type 0
-SweepsBringTheGreatest s = (front rest : List DripEvent) (h key : ℕ) (e : Entry) → key < key_count
-    → events_of s.items ≡ front ++ rest → AllByRecursion (IsWithin s.nodes) front
+SweepsBringTheGreatest s = (front rest back : List DripEvent) (h key : ℕ) (e : Entry) → key < key_count
+    → events_of s.items ≡ front ++ (rest ++ back) → AllByRecursion (IsWithin s.nodes) front
     → AreWithin s.nodes s.links h → HasRounds (sweeps h s.links) rest
-    → IsGreatestAt (run (start s.links) front) s.nodes key e → (node : ℕ) → node < s.nodes → entry_at (network_of s) node key ≡ e
+    → IsGreatestAt (run (start s.links) front) s.nodes key e → (node : ℕ) → node < s.nodes
+    → entry_at (run (start s.links) (front ++ rest)) node key ≡ e
 
 -- all of this, of whatever run a replay may have played
 pub record ValuesSpread (status : Status) (a b : AroundDrip) : Type 0 where
@@ -50,5 +51,5 @@ pub record ValuesSpread (status : Status) (a b : AroundDrip) : Type 0 where
   pub made : (x : Dripped status a b) → SetsMakeAll (played x.script)
   -- behind a round the second node keeps no less than the first one kept
   pub rounds : (x : Dripped status a b) → RoundsRaise (played x.script)
-  -- where each two nodes are within h links, h sweeps at the end with no set between them bring all to the greatest entry
+  -- where each two nodes are within h links, h sweeps with no set between them bring all to the greatest entry, wherever they end
   pub sweeps : (x : Dripped status a b) → SweepsBringTheGreatest (played x.script)

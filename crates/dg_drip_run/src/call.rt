@@ -4,6 +4,7 @@ ghost use Rattle.dg_base.specs.Outside.{Takes};
 ghost use Rattle.dg_drip_script.specs.Scripts.{DripScript, first_script};
 ghost use Rattle.dg_drip_run.specs.AroundDrip.{around_drip};
 ghost use Rattle.dg_drip_run.specs.Dripped.{Dripped, NextPlays, LinesAnswer, drip_stage};
+ghost use Rattle.dg_drip_run.specs.Causes.{DripEnds};
 ghost use Rattle.dg_drip_run.specs.Promised.{ValuesSpread};
 ghost use Rattle.dg_drip_run.specs.Playing.{Plays, IsPlaying};
 
@@ -101,12 +102,17 @@ fn read_and_play<S: Source, K: Sink>(alloc: Global, input: &mut S, out: &mut K) 
 /// Replays the script that `input` spells over nodes that keep nothing at first, and writes the report to `out`. A status
 /// other than [`Status::Done`] writes its line last, where it has one.
 ///
-/// The input is read line by line, and what is reported of a line is written before the next one is asked for. No more than a
-/// million events are played, and no more than 16,777,216 bytes of the input are used.
+/// The input is read line by line, and what is reported of a line is written before the next one is asked for: no more than a
+/// line and 300,002 bytes are taken behind the lines that were played, and a read that fails finds all whole lines told. No more
+/// than a million events are played, no more than 16,777,216 bytes of the input are used, and no more than one byte past them is
+/// taken.
 pub fn drip<S: Source, K: Sink>(alloc: Global, input: &mut S, out: &mut K) -> Status
-    // The bytes written are the report of the run of the script's events from nodes that keep nothing, and each status comes
-    // where the rules say.
+    // The bytes written are the report of the run of the script's events from nodes that keep nothing.
     ensures replayed { Dripped result
+        (around_drip (S.left input.old) (S.faults input.old) (K.written out.old) (K.faults out.old))
+        (around_drip (S.left input.new) (S.faults input.new) (K.written out.new) (K.faults out.new)) }
+    // The status is the one that the rules give to the bytes of the input, but for want of memory and faults of the outside.
+    ensures ends { DripEnds result
         (around_drip (S.left input.old) (S.faults input.old) (K.written out.old) (K.faults out.old))
         (around_drip (S.left input.new) (S.faults input.new) (K.written out.new) (K.faults out.new)) }
     // Of the run that it played all laws of how values spread hold.

@@ -148,6 +148,7 @@ returns-in-Drip-clause-done g c =
     let e = c.drip.ensures in
     said_done c.args.command.now _ c.in-Drip.is _ _ _ (record {
       replayed = e.replayed;
+      ends = e.ends;
       boards = refl;
       greatest = e.spread.greatest e.replayed;
       rises = e.spread.rises e.replayed;

@@ -1,5 +1,11 @@
+use Rattle.dg_drip_run.specs.AroundDrip.{around_drip}
 use Rattle.dg_drip_run.specs.Dripped.{played}
+use Rattle.dg_drip_run.proofs.CauseLemmas.{ends_so}
 use Rattle.dg_drip_run.proofs.call.drip.Goals as goal
+
+pub returns-clause-ends : goal.returns-clause-ends
+returns-clause-ends g c =
+    ends_so _ (around_drip (g.S.Source.left c.args.input.now) (g.S.Source.faults c.args.input.now) (g.K.Sink.written c.args.out.now) (g.K.Sink.faults c.args.out.now)) _ c.read_and_play.ensures.replayed
 
 pub returns-clause-spread : goal.returns-clause-spread
 returns-clause-spread g c =

@@ -1,7 +1,7 @@
 use Rattle.std.proofs.Common.{◌+◌, ◌++◌, ◌∙◌, Ok, Err}
 use Rattle.dg_drip_run.specs.AroundDrip.{around_drip}
 use Rattle.dg_drip_run.specs.Dripped.{drip_stage}
-use Rattle.dg_drip_run.proofs.ReadLemmas.{some_given, text_at, next_ok, next_err, next_long}
+use Rattle.dg_drip_run.proofs.NextLemmas.{some_given, text_at, next_ok, next_err, next_long}
 use Rattle.dg_drip_run.proofs.call.play_next.Goals as goal
 
 pub returns-in-Ok-clause-answer : goal.returns-in-Ok-clause-answer

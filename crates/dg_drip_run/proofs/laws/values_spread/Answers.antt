@@ -21,7 +21,5 @@ pub returns-clause-rounds : goal.returns-clause-rounds
 returns-clause-rounds c = λ s front back a b key below parts. c.a_round_raises.ensures s.links front a b key below
 
 pub returns-clause-sweeps : goal.returns-clause-sweeps
-returns-clause-sweeps c = λ s front rest h key e below parts within near rounds greatest node less.
-    let w : Network = run (start s.links) front in
-    let whole : network_of s ≡ run w rest = ap (run (start s.links)) parts ∙ run_then (start s.links) front rest in
-    ap (λ (v : Network). entry_at v node key) whole ∙ c.sweeps_bring_the_greatest.ensures s.nodes h s.links front rest key e below within near rounds greatest node less
+returns-clause-sweeps c = λ s front rest back h key e below parts within near rounds greatest node less.
+    ap (λ (v : Network). entry_at v node key) (run_then (start s.links) front rest) ∙ c.sweeps_bring_the_greatest.ensures s.nodes h s.links front rest key e below within near rounds greatest node less

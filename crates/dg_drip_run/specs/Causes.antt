@@ -1,0 +1,82 @@
+-- How the rules say that a script of nodes ends, by its bytes alone (docs/SCRIPTS.md, "Scripts of nodes").
+use Rattle.std.specs.Prelude.{◌≡◌, ◌⊎◌, ℕ, ◌+◌, ◌<◌, ◌≤◌, ◌==◌, nat_lt, Bool, true, false, if◌then◌else◌}
+use Rattle.std.specs.Prelude.{List, [], ◌∷◌, ◌++◌, length, take, Some, Result, Ok, Err}
+use Rattle.std.specs.List.{slice_split}
+use Rattle.std.specs.Str.Lines.{lines, strip_carriage_return}
+use Rattle.dg_words.specs.Counts.{Rose}
+use Rattle.dg_base.specs.Outside.{AtEnd}
+use Rattle.dg_base.specs.declared.answers.Status.{Status}
+use Rattle.dg_base.specs.declared.answers.Status.TheVariants.{Done, Memory, ReadFault, WriteFault}
+use Rattle.dg_drip_script.specs.Lines.{drip_line_of}
+use Rattle.dg_drip_script.specs.Scripts.{DripScript, first_script, script_of, standing_of, with_drip_line}
+use Rattle.dg_drip_script.specs.Sizes.{most_events, most_used_bytes}
+use Rattle.dg_drip_script.specs.declared.line.DripLine.{DripLine}
+use Rattle.dg_drip_script.specs.declared.line.DripFault.{DripFault}
+use Rattle.dg_drip_script.specs.declared.line.DripFault.TheVariants as fault
+use Rattle.dg_drip_run.specs.AroundDrip.{AroundDrip}
+use Rattle.dg_drip_run.specs.Dripped.{Ending, Ends, BadLine, TooManyEvents, Over, status_of, Dripped}
+
+-- the texts of the lines that end in LF, of the parts between the LFs: what stands behind the last LF is none
+abbrev pub ended_parts : List (List ℕ) → List (List ℕ)
+ended_parts [] = []
+ended_parts (x ∷ []) = []
+ended_parts (x ∷ y ∷ more) = strip_carriage_return x ∷ ended_parts (y ∷ more)
+
+abbrev pub ended_lines : List ℕ → List (List ℕ)
+ended_lines bytes = ended_parts (slice_split (λ b. b == 10) bytes)
+
+-- the texts of the lines that are used: all, or where there are more bytes than so many those that end within the first so many
+unfoldable pub lines_within : (most : ℕ) → (over : Bool) → List ℕ → List (List ℕ)
+lines_within most true input = ended_lines (take most input)
+lines_within most false input = lines input
+
+-- how a script ends behind all lines that are used
+abbrev pub ending_behind : (over : Bool) → DripScript → (number : ℕ) → Ending
+ending_behind true s number = Over
+ending_behind false s number = if s.nodes == 0 then BadLine number fault.Place else Ends
+
+-- a line with a fault ends a script, and so does one that brings it more than a million events
+abbrev pub ending_by_line : Result DripLine DripFault → DripScript → (number : ℕ) → (DripScript → Ending) → Ending
+ending_by_line (Err f) s number go = BadLine number f
+ending_by_line (Ok line) s number go =
+    let t = with_drip_line s line in if nat_lt most_events (length t.items) then TooManyEvents else go t
+
+-- the first line that ends the script does, and else its end
+unfoldable pub ending_by_lines : (over : Bool) → DripScript → (number : ℕ) → List (List ℕ) → Ending
+ending_by_lines over s number [] = ending_behind over s number
+ending_by_lines over s number (text ∷ texts) =
+    ending_by_line (drip_line_of (standing_of s) text) s number (λ t. ending_by_lines over t (number + 1) texts)
+
+abbrev pub ending_within : (most : ℕ) → (over : Bool) → List ℕ → Ending
+ending_within most over input = ending_by_lines over first_script 1 (lines_within most over input)
+
+-- the ending of an input
+unfoldable pub drip_ending_of : List ℕ → Ending
+drip_ending_of input = ending_within most_used_bytes (nat_lt most_used_bytes (length input)) input
+
+-- The status is the one that the rules give. Memory alone is free, and a fault of the outside has risen its count.
+abbrev pub IsDripCaused : Status → Ending → (read_failed write_failed : Type 0) → Type 0
+IsDripCaused Memory ending r w = Unit {0}
+IsDripCaused ReadFault ending r w = r
+IsDripCaused WriteFault ending r w = w
+IsDripCaused status ending r w = status ≡ status_of ending
+
+-- An input is in its grammar and limits.
+pub record InDripLimits (input : List ℕ) : Type 0 where
+  pub bytes : length input ≤ most_used_bytes
+  pub script : DripScript
+  pub says : script_of (lines input) ≡ Some script
+  pub nodes : 0 < script.nodes
+  pub events : length script.items ≤ most_events
+
+-- Each status comes where the rules say.
+pub record DripEnds (status : Status) (a b : AroundDrip) : Type 0 where
+  -- whatever comes behind the bytes that were taken, where the input is not at its end
+  pub caused : (x : Dripped status a b) (more : List ℕ) → (AtEnd b.left → more ≡ [])
+      → IsDripCaused status (drip_ending_of (x.input ++ more)) (Rose a.reads b.reads) (Rose a.writes b.writes)
+  -- so where the source tells its bytes, it is the ending of all of them
+  pub told : (bytes : List ℕ) → a.left ≡ Some bytes
+      → IsDripCaused status (drip_ending_of bytes) (Rose a.reads b.reads) (Rose a.writes b.writes)
+  -- and a script in its grammar and limits is replayed to its end, where no read and no write fails, unless memory runs out
+  pub complete : (bytes : List ℕ) → a.left ≡ Some bytes → InDripLimits bytes → (Rose a.reads b.reads → ⊥)
+      → (Rose a.writes b.writes → ⊥) → (status ≡ Done) ⊎ (status ≡ Memory)
