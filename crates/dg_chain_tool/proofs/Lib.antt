@@ -3,3 +3,4 @@ pub mod CheckLemmas
 pub mod FillLemmas
 pub mod NextLemmas
 pub mod ReceiveLemmas
+mod AgreementLemmas

@@ -12,6 +12,7 @@ use Rattle.dg_end.specs.Writes.{CommandEnds}
 use Rattle.dg_end.specs.declared.ends.End.TheVariants as ends
 use Rattle.dg_tool.specs.Endings.{Ending, outcome_of, by_input, content_in}
 use Rattle.dg_tool.specs.Done.{VerbRule, InputRead, FirstDone, InputDone}
+use Rattle.dg_tool.specs.Agreement.{HasNewRow, KeepsAgreement}
 use Rattle.dg_tool.specs.Rules.{trail_rule, reading_rule}
 use Rattle.dg_chain_tool.specs.Receiving.{receive_trail}
 use Rattle.dg_chain_tool.specs.Verbs.{wrap_by, check_on, receive_into, chain_text}
@@ -40,8 +41,10 @@ receive_rule boards root row input =
     trail_rule boards (λ chip. by_input input (λ bytes. receive_into root (row bytes) chip))
     (λ s. receive_trail root s (row (content_in input)))
 
-abbrev pub ReceiveDone : (image version : ℕ) → (name root : List ℕ) → Status → Outside → Outside → Type 0
-ReceiveDone image version name root status a b = InputDone status (receive_rule a.boards root (row_of image version name)) a b
+-- The table has the row of the image that was received, unless that was refused as an injection is.
+pub record ReceiveDone (image version : ℕ) (name root : List ℕ) (status : Status) (a b : Outside) : Type 0 where
+  pub done : InputDone status (receive_rule a.boards root (row_of image version name)) a b
+  pub agrees : KeepsAgreement (HasNewRow (row_of image version name (content_in done.allowed.bytes))) a.boards b.boards
 
 -- that the pages are those of a payload of this length is told, unless memory ran out or the outside failed
 abbrev pub TellsLength : Status → ℕ → OutputState → OutputState → Type 0

@@ -27,6 +27,7 @@ use dg_base::{Sink, Source, Status};
 use dg_chain::{DIGEST_SIZE, a_root_names_its_pages};
 use dg_end::answer;
 use dg_nor::Nor;
+use dg_volume::{a_chip_stands_for_a_shaped_store, trails_keep_agreement};
 use std::alloc::Global;
 
 /// Wraps the payload of the HEX file that `input` spells, 1 to 68,604 bytes, into an image of which each page carries the
@@ -92,6 +93,8 @@ pub fn receive<S: Source, K: Sink, N: Nor>(
         (with_boards (map N.device boards.old.items) (with_output (K.Sink, out.old) (with_input (S.Source, input.old) rest)))
         (with_boards (map N.device boards.new.items) (with_output (K.Sink, out.new) (with_input (S.Source, input.new) rest))) }
 {
+    trails_keep_agreement();
+    a_chip_stands_for_a_shaped_store();
     let outcome = receive_first(
         alloc,
         image,

@@ -6,6 +6,7 @@ use Rattle.dg_base.specs.Outside.{Takes}
 use Rattle.dg_base.specs.declared.answers.Status.{Status}
 use Rattle.dg_base.specs.declared.answers.Status.TheVariants as statuses
 use Rattle.dg_nor.specs.Device.{Device}
+use Rattle.dg_volume.specs.Stands.{Stands}
 use Rattle.dg_object.specs.Object.{row_of}
 use Rattle.dg_outside.specs.Outside.{Outside, InputState}
 use Rattle.dg_end.specs.declared.ends.End.TheVariants as ends
@@ -68,15 +69,18 @@ checked image told root status a b e h = subst (λ (r : List ℕ). Checked image
 
 pub receive_none : (image version : ℕ) (name root : List ℕ) (a : Outside) → ReceiveDone image version name root statuses.Memory a a
 receive_none image version name root a = record {
-  outcome = Err ends.Memory;
-  allowed = record {
-    bytes = [];
-    read = read_none (length a.boards) a.input;
-    did = on_none (receive_rule a.boards root (row_of image version name) []) (Rose a.input.reads a.input.reads) a.boards;
+  done = record {
+    outcome = Err ends.Memory;
+    allowed = record {
+      bytes = [];
+      read = read_none (length a.boards) a.input;
+      did = on_none (receive_rule a.boards root (row_of image version name) []) (Rose a.input.reads a.input.reads) a.boards;
+    };
+    answered = (refl, refl);
+    link = (refl, refl);
+    counts = record { read_counts = omega arith; write_counts = omega arith; link_counts = omega arith };
   };
-  answered = (refl, refl);
-  link = (refl, refl);
-  counts = record { read_counts = omega arith; write_counts = omega arith; link_counts = omega arith };
+  agrees = λ c d was is table s stands agrees fits. record { store = s; stands = subst (λ (x : Device). Stands x.image s) (same_some c d (sym was ∙ is)) stands; agrees = agrees };
 }
 
 pub received : (image version : ℕ) (name told root : List ℕ) (status : Status) (a b : Outside) → told ≡ root → ReceiveDone image version name told status a b → ReceiveDone image version name root status a b

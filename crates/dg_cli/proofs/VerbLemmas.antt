@@ -87,4 +87,5 @@ nowhere = record {
 
 pub no_link_migrate : FormLaw → (status : Status) (a b : Outside) → MigrateDone status a b → status ≡ statuses.LinkFault → ⊥
 no_link_migrate law status a b h e =
-    some_form law a.boards (λ form first. no_link status h.outcome a.output b.output (h.allowed.0 form first).of_verb h.answered e)
+    let d = h.done in
+    some_form law a.boards (λ form first. no_link status d.outcome a.output b.output (d.allowed.0 form first).of_verb d.answered e)

@@ -8,3 +8,4 @@ pub mod StartLemmas
 pub mod PageLemmas
 pub mod KeptLemmas
 pub mod ReadLemmas
+pub mod AgreementLemmas

@@ -14,6 +14,7 @@ use Rattle.dg_tool.specs.Verbs.{format_sized, inject_into, order_on, boot_on, po
 use Rattle.dg_tool.specs.Done.{VerbRule, verb_rule, CompletedOn, StopsOn, IsFormatted, FormatStops, BootedOn, MigratedOn}
 use Rattle.dg_end.specs.Writes.{CommandEnds}
 use Rattle.dg_tool.specs.Done.{OnBoards, FirstDone, InputDone}
+use Rattle.dg_tool.specs.Agreement.{HasNewRow, KeepsAgreement}
 
 -- a volume goes a trail of stores
 abbrev pub trail_rule : List Device → (Option Store → Ending) → (Store → Trail Store) → VerbRule
@@ -46,14 +47,22 @@ migrate_rule boards form = verb_rule (FirstAs boards) (migrate_on form) (Migrate
 abbrev pub FormatDone : (name : List ℕ) → (used form : ℕ) → Status → Outside → Outside → Type 0
 FormatDone name used form status a b = InputDone status (format_rule name used form) a b
 
-abbrev pub InjectDone : (image version : ℕ) → (name : List ℕ) → Status → Outside → Outside → Type 0
-InjectDone image version name status a b = InputDone status (inject_rule a.boards (row_of image version name)) a b
+-- any table suits what brings no row
+abbrev pub AnyTable : List Row → Store → Type 0
+AnyTable table s = Unit {0}
 
-abbrev pub OrderDone : Order → Status → Outside → Outside → Type 0
-OrderDone o status a b = FirstDone status (trail_rule a.boards (order_on o) (λ s. order_trail s o)) a b
+-- The table has the row of the image that was injected, unless that was refused.
+pub record InjectDone (image version : ℕ) (name : List ℕ) (status : Status) (a b : Outside) : Type 0 where
+  pub done : InputDone status (inject_rule a.boards (row_of image version name)) a b
+  pub agrees : KeepsAgreement (HasNewRow (row_of image version name (content_in done.allowed.bytes))) a.boards b.boards
 
-abbrev pub BootDone : Status → Outside → Outside → Type 0
-BootDone status a b = FirstDone status (boot_rule a.boards) a b
+pub record OrderDone (o : Order) (status : Status) (a b : Outside) : Type 0 where
+  pub done : FirstDone status (trail_rule a.boards (order_on o) (λ s. order_trail s o)) a b
+  pub agrees : KeepsAgreement AnyTable a.boards b.boards
+
+pub record BootDone (status : Status) (a b : Outside) : Type 0 where
+  pub done : FirstDone status (boot_rule a.boards) a b
+  pub agrees : KeepsAgreement AnyTable a.boards b.boards
 
 abbrev pub PingDone : Status → Outside → Outside → Type 0
 PingDone status a b = FirstDone status (reading_rule a.boards ping_on) a b
@@ -62,7 +71,8 @@ abbrev pub DumpDone : (image : ℕ) → Status → Outside → Outside → Type 
 DumpDone image status a b = FirstDone status (reading_rule a.boards (dump_on image)) a b
 
 -- the first board is committed again as it stands, where its last commit is written in the older form
-abbrev pub MigrateDone : Status → Outside → Outside → Type 0
-MigrateDone status a b = CommandEnds status (λ outcome.
-    ((form : ℕ) → FirstInForm form a.boards → OnBoards outcome (migrate_rule a.boards form) ⊥ a.boards b.boards)
-    × (b.input ≡ a.input)) a b
+pub record MigrateDone (status : Status) (a b : Outside) : Type 0 where
+  pub done : CommandEnds status (λ outcome.
+      ((form : ℕ) → FirstInForm form a.boards → OnBoards outcome (migrate_rule a.boards form) ⊥ a.boards b.boards)
+      × (b.input ≡ a.input)) a b
+  pub agrees : KeepsAgreement AnyTable a.boards b.boards

@@ -34,7 +34,9 @@ use crate::starting::boot_first;
 use dg_base::{Sink, Source, Status};
 use dg_end::answer;
 use dg_nor::Nor;
-use dg_volume::Order;
+use dg_volume::{
+    Order, a_chip_stands_for_a_shaped_store, a_volume_has_one_form, trails_keep_agreement,
+};
 use std::alloc::Global;
 
 /// Makes the first board a volume that keeps golden alone: the image of the HEX file that `input` spells, with this
@@ -77,6 +79,8 @@ pub fn inject<S: Source, K: Sink, N: Nor>(
         (with_boards (map N.device boards.old.items) (with_output (K.Sink, out.old) (with_input (S.Source, input.old) rest)))
         (with_boards (map N.device boards.new.items) (with_output (K.Sink, out.new) (with_input (S.Source, input.new) rest))) }
 {
+    trails_keep_agreement();
+    a_chip_stands_for_a_shaped_store();
     let outcome = inject_first(alloc, image, version, name, input, boards.as_mut_slice());
     answer(alloc, out, outcome)
 }
@@ -95,6 +99,8 @@ pub fn order<K: Sink, N: Nor>(
         (with_boards (map N.device boards.old.items) (with_output (K.Sink, out.old) rest))
         (with_boards (map N.device boards.new.items) (with_output (K.Sink, out.new) rest)) }
 {
+    trails_keep_agreement();
+    a_chip_stands_for_a_shaped_store();
     let outcome = order_first(alloc, order, boards.as_mut_slice());
     answer(alloc, out, outcome)
 }
@@ -105,6 +111,8 @@ pub fn boot<K: Sink, N: Nor>(alloc: Global, out: &mut K, boards: &mut Vec<N>) ->
         (with_boards (map N.device boards.old.items) (with_output (K.Sink, out.old) rest))
         (with_boards (map N.device boards.new.items) (with_output (K.Sink, out.new) rest)) }
 {
+    trails_keep_agreement();
+    a_chip_stands_for_a_shaped_store();
     let outcome = boot_first(alloc, boards.as_mut_slice());
     answer(alloc, out, outcome)
 }
@@ -140,6 +148,9 @@ pub fn migrate<K: Sink, N: Nor>(alloc: Global, out: &mut K, boards: &mut Vec<N>)
         (with_boards (map N.device boards.old.items) (with_output (K.Sink, out.old) rest))
         (with_boards (map N.device boards.new.items) (with_output (K.Sink, out.new) rest)) }
 {
+    trails_keep_agreement();
+    a_chip_stands_for_a_shaped_store();
+    a_volume_has_one_form();
     let outcome = migrate_first(alloc, boards.as_mut_slice());
     answer(alloc, out, outcome)
 }

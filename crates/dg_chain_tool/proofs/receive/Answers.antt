@@ -6,6 +6,7 @@ use Rattle.dg_tool.specs.Done.{FedBoards}
 use Rattle.dg_chain_tool.specs.Done.{receive_rule}
 use Rattle.dg_tool.proofs.BoardLemmas.{lent_back}
 use Rattle.dg_tool.proofs.ToolLemmas.{input_done}
+use Rattle.dg_chain_tool.proofs.AgreementLemmas.{receive_agrees}
 use Rattle.dg_chain_tool.proofs.receive.Goals as goal
 
 pub returns : goal.returns
@@ -14,8 +15,9 @@ returns g c =
     let lent = c.as_mut_slice.ensures in
     record {
       does = λ rest.
-          input_done _ outcome _ _ c.answer.ensures.ends c.answer.ensures.counts refl refl _
+          receive_agrees c.trails_keep_agreement.ensures.inject c.a_chip_stands_for_a_shaped_store.ensures c.args.image c.args.version c.args.name.now c.args.root.now _ _ _ c.requires.image
+          (input_done _ outcome _ _ c.answer.ensures.ends c.answer.ensures.counts refl refl _
           (lent_back g.N.Nor.device (λ old new. FedBoards outcome (receive_rule old c.args.root.now (row_of c.args.image c.args.version c.args.name.now)) (input_of (g.S.Source, c.args.input.now)) (input_of (g.S.Source, c.receive_first-outcome.new.input)) old new) c.args.boards.now.len
           _ c.args.boards.now.items c.receive_first-outcome.new.boards _ lent.value (omega (arith, c.receive_first-outcome.auto.boards, lent.len)) c.receive_first-outcome.ensures.done)
-          c.receive_first-outcome.ensures.counts;
+          c.receive_first-outcome.ensures.counts);
     }

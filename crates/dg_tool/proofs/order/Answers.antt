@@ -6,6 +6,7 @@ use Rattle.dg_tool.specs.Rules.{trail_rule}
 use Rattle.dg_end.specs.Lines.{text_outcome}
 use Rattle.dg_tool.proofs.BoardLemmas.{lent_back}
 use Rattle.dg_tool.proofs.ToolLemmas.{first_done}
+use Rattle.dg_tool.proofs.AgreementLemmas.{order_agrees}
 use Rattle.dg_tool.proofs.order.Goals as goal
 
 pub returns : goal.returns
@@ -14,8 +15,9 @@ returns g c =
     let lent = c.as_mut_slice.ensures in
     record {
       does = λ rest.
-          first_done _ outcome _ _ c.answer.ensures.ends c.answer.ensures.counts refl refl _
+          order_agrees c.trails_keep_agreement.ensures.order c.a_chip_stands_for_a_shaped_store.ensures c.args.order.now _ _ _
+          (first_done _ outcome _ _ c.answer.ensures.ends c.answer.ensures.counts refl refl _
           (lent_back g.N.Nor.device (λ old new. OnBoards outcome (trail_rule old (order_on c.args.order.now) (λ s. order_trail s c.args.order.now)) ⊥ old new) c.args.boards.now.len
           _ c.args.boards.now.items c.order_first-outcome.new.boards _ lent.value (omega (arith, c.order_first-outcome.auto.boards, lent.len)) c.order_first-outcome.ensures)
-          refl;
+          refl);
     }

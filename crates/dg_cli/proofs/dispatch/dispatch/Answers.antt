@@ -42,33 +42,33 @@ returns-in-Inject-clause-done g c =
     said_done c.args.command.now _ c.in-Inject.is _ _ _ (inject_said c.in-Inject.image c.in-Inject.version _ _ _ _ _ c.as_bytes-in-Inject.ensures.value (c.inject.ensures.does (outside (input_of (g.S.Source, c.args.input.now)) (output_of (g.K.Sink, c.args.out.now)) (link_of (g.L.Link, c.args.link.now)) (g.C.Clock.told c.args.clock.now) (map g.N.Nor.device c.args.boards.now.items))))
 
 pub returns-in-Inject-clause-link_fault : goal.returns-in-Inject-clause-link_fault
-returns-in-Inject-clause-link_fault g c = λ e. absurd (no_link_input _ _ _ _ (c.inject.ensures.does (outside (input_of (g.S.Source, c.args.input.now)) (output_of (g.K.Sink, c.args.out.now)) (link_of (g.L.Link, c.args.link.now)) (g.C.Clock.told c.args.clock.now) (map g.N.Nor.device c.args.boards.now.items))) e)
+returns-in-Inject-clause-link_fault g c = λ e. absurd (no_link_input _ _ _ _ (c.inject.ensures.does (outside (input_of (g.S.Source, c.args.input.now)) (output_of (g.K.Sink, c.args.out.now)) (link_of (g.L.Link, c.args.link.now)) (g.C.Clock.told c.args.clock.now) (map g.N.Nor.device c.args.boards.now.items))).done e)
 
 pub returns-in-Inject-clause-reads : goal.returns-in-Inject-clause-reads
-returns-in-Inject-clause-reads g c = (c.inject.ensures.does (outside (input_of (g.S.Source, c.args.input.now)) (output_of (g.K.Sink, c.args.out.now)) (link_of (g.L.Link, c.args.link.now)) (g.C.Clock.told c.args.clock.now) (map g.N.Nor.device c.args.boards.now.items))).counts.read_counts
+returns-in-Inject-clause-reads g c = (c.inject.ensures.does (outside (input_of (g.S.Source, c.args.input.now)) (output_of (g.K.Sink, c.args.out.now)) (link_of (g.L.Link, c.args.link.now)) (g.C.Clock.told c.args.clock.now) (map g.N.Nor.device c.args.boards.now.items))).done.counts.read_counts
 
 pub returns-in-Inject-clause-writes : goal.returns-in-Inject-clause-writes
-returns-in-Inject-clause-writes g c = (c.inject.ensures.does (outside (input_of (g.S.Source, c.args.input.now)) (output_of (g.K.Sink, c.args.out.now)) (link_of (g.L.Link, c.args.link.now)) (g.C.Clock.told c.args.clock.now) (map g.N.Nor.device c.args.boards.now.items))).counts.write_counts
+returns-in-Inject-clause-writes g c = (c.inject.ensures.does (outside (input_of (g.S.Source, c.args.input.now)) (output_of (g.K.Sink, c.args.out.now)) (link_of (g.L.Link, c.args.link.now)) (g.C.Clock.told c.args.clock.now) (map g.N.Nor.device c.args.boards.now.items))).done.counts.write_counts
 
 pub returns-in-Order-clause-done : goal.returns-in-Order-clause-done
 returns-in-Order-clause-done g c =
     said_done c.args.command.now _ c.in-Order.is _ _ _ (c.order.ensures.does (outside (input_of (g.S.Source, c.args.input.now)) (output_of (g.K.Sink, c.args.out.now)) (link_of (g.L.Link, c.args.link.now)) (g.C.Clock.told c.args.clock.now) (map g.N.Nor.device c.args.boards.now.items)))
 
 pub returns-in-Order-clause-link_fault : goal.returns-in-Order-clause-link_fault
-returns-in-Order-clause-link_fault g c = λ e. absurd (no_link_first _ _ _ _ (c.order.ensures.does (outside (input_of (g.S.Source, c.args.input.now)) (output_of (g.K.Sink, c.args.out.now)) (link_of (g.L.Link, c.args.link.now)) (g.C.Clock.told c.args.clock.now) (map g.N.Nor.device c.args.boards.now.items))) e)
+returns-in-Order-clause-link_fault g c = λ e. absurd (no_link_first _ _ _ _ (c.order.ensures.does (outside (input_of (g.S.Source, c.args.input.now)) (output_of (g.K.Sink, c.args.out.now)) (link_of (g.L.Link, c.args.link.now)) (g.C.Clock.told c.args.clock.now) (map g.N.Nor.device c.args.boards.now.items))).done e)
 
 pub returns-in-Order-clause-writes : goal.returns-in-Order-clause-writes
-returns-in-Order-clause-writes g c = (c.order.ensures.does (outside (input_of (g.S.Source, c.args.input.now)) (output_of (g.K.Sink, c.args.out.now)) (link_of (g.L.Link, c.args.link.now)) (g.C.Clock.told c.args.clock.now) (map g.N.Nor.device c.args.boards.now.items))).counts.write_counts
+returns-in-Order-clause-writes g c = (c.order.ensures.does (outside (input_of (g.S.Source, c.args.input.now)) (output_of (g.K.Sink, c.args.out.now)) (link_of (g.L.Link, c.args.link.now)) (g.C.Clock.told c.args.clock.now) (map g.N.Nor.device c.args.boards.now.items))).done.counts.write_counts
 
 pub returns-in-Boot-clause-done : goal.returns-in-Boot-clause-done
 returns-in-Boot-clause-done g c =
     said_done c.args.command.now _ c.in-Boot.is _ _ _ (c.boot.ensures.does (outside (input_of (g.S.Source, c.args.input.now)) (output_of (g.K.Sink, c.args.out.now)) (link_of (g.L.Link, c.args.link.now)) (g.C.Clock.told c.args.clock.now) (map g.N.Nor.device c.args.boards.now.items)))
 
 pub returns-in-Boot-clause-link_fault : goal.returns-in-Boot-clause-link_fault
-returns-in-Boot-clause-link_fault g c = λ e. absurd (no_link_first _ _ _ _ (c.boot.ensures.does (outside (input_of (g.S.Source, c.args.input.now)) (output_of (g.K.Sink, c.args.out.now)) (link_of (g.L.Link, c.args.link.now)) (g.C.Clock.told c.args.clock.now) (map g.N.Nor.device c.args.boards.now.items))) e)
+returns-in-Boot-clause-link_fault g c = λ e. absurd (no_link_first _ _ _ _ (c.boot.ensures.does (outside (input_of (g.S.Source, c.args.input.now)) (output_of (g.K.Sink, c.args.out.now)) (link_of (g.L.Link, c.args.link.now)) (g.C.Clock.told c.args.clock.now) (map g.N.Nor.device c.args.boards.now.items))).done e)
 
 pub returns-in-Boot-clause-writes : goal.returns-in-Boot-clause-writes
-returns-in-Boot-clause-writes g c = (c.boot.ensures.does (outside (input_of (g.S.Source, c.args.input.now)) (output_of (g.K.Sink, c.args.out.now)) (link_of (g.L.Link, c.args.link.now)) (g.C.Clock.told c.args.clock.now) (map g.N.Nor.device c.args.boards.now.items))).counts.write_counts
+returns-in-Boot-clause-writes g c = (c.boot.ensures.does (outside (input_of (g.S.Source, c.args.input.now)) (output_of (g.K.Sink, c.args.out.now)) (link_of (g.L.Link, c.args.link.now)) (g.C.Clock.told c.args.clock.now) (map g.N.Nor.device c.args.boards.now.items))).done.counts.write_counts
 
 pub returns-in-Ping-clause-done : goal.returns-in-Ping-clause-done
 returns-in-Ping-clause-done g c =
@@ -98,7 +98,7 @@ pub returns-in-Migrate-clause-link_fault : goal.returns-in-Migrate-clause-link_f
 returns-in-Migrate-clause-link_fault g c = λ e. absurd (c.migrate.ensures.link e)
 
 pub returns-in-Migrate-clause-writes : goal.returns-in-Migrate-clause-writes
-returns-in-Migrate-clause-writes g c = (c.migrate.ensures.does (outside (input_of (g.S.Source, c.args.input.now)) (output_of (g.K.Sink, c.args.out.now)) (link_of (g.L.Link, c.args.link.now)) (g.C.Clock.told c.args.clock.now) (map g.N.Nor.device c.args.boards.now.items))).counts.write_counts
+returns-in-Migrate-clause-writes g c = (c.migrate.ensures.does (outside (input_of (g.S.Source, c.args.input.now)) (output_of (g.K.Sink, c.args.out.now)) (link_of (g.L.Link, c.args.link.now)) (g.C.Clock.told c.args.clock.now) (map g.N.Nor.device c.args.boards.now.items))).done.counts.write_counts
 
 pub returns-in-Trial-clause-done : goal.returns-in-Trial-clause-done
 returns-in-Trial-clause-done g c =
@@ -135,13 +135,13 @@ returns-in-Receive-clause-done g c =
     said_done c.args.command.now _ c.in-Receive.is _ _ _ (receive_said c.in-Receive.image c.in-Receive.version _ _ _ _ _ _ _ c.as_bytes-named.ensures.value c.as_bytes-digits.ensures.value (c.receive.ensures.does (outside (input_of (g.S.Source, c.args.input.now)) (output_of (g.K.Sink, c.args.out.now)) (link_of (g.L.Link, c.args.link.now)) (g.C.Clock.told c.args.clock.now) (map g.N.Nor.device c.args.boards.now.items))))
 
 pub returns-in-Receive-clause-link_fault : goal.returns-in-Receive-clause-link_fault
-returns-in-Receive-clause-link_fault g c = λ e. absurd (no_link_input _ _ _ _ (c.receive.ensures.does (outside (input_of (g.S.Source, c.args.input.now)) (output_of (g.K.Sink, c.args.out.now)) (link_of (g.L.Link, c.args.link.now)) (g.C.Clock.told c.args.clock.now) (map g.N.Nor.device c.args.boards.now.items))) e)
+returns-in-Receive-clause-link_fault g c = λ e. absurd (no_link_input _ _ _ _ (c.receive.ensures.does (outside (input_of (g.S.Source, c.args.input.now)) (output_of (g.K.Sink, c.args.out.now)) (link_of (g.L.Link, c.args.link.now)) (g.C.Clock.told c.args.clock.now) (map g.N.Nor.device c.args.boards.now.items))).done e)
 
 pub returns-in-Receive-clause-reads : goal.returns-in-Receive-clause-reads
-returns-in-Receive-clause-reads g c = (c.receive.ensures.does (outside (input_of (g.S.Source, c.args.input.now)) (output_of (g.K.Sink, c.args.out.now)) (link_of (g.L.Link, c.args.link.now)) (g.C.Clock.told c.args.clock.now) (map g.N.Nor.device c.args.boards.now.items))).counts.read_counts
+returns-in-Receive-clause-reads g c = (c.receive.ensures.does (outside (input_of (g.S.Source, c.args.input.now)) (output_of (g.K.Sink, c.args.out.now)) (link_of (g.L.Link, c.args.link.now)) (g.C.Clock.told c.args.clock.now) (map g.N.Nor.device c.args.boards.now.items))).done.counts.read_counts
 
 pub returns-in-Receive-clause-writes : goal.returns-in-Receive-clause-writes
-returns-in-Receive-clause-writes g c = (c.receive.ensures.does (outside (input_of (g.S.Source, c.args.input.now)) (output_of (g.K.Sink, c.args.out.now)) (link_of (g.L.Link, c.args.link.now)) (g.C.Clock.told c.args.clock.now) (map g.N.Nor.device c.args.boards.now.items))).counts.write_counts
+returns-in-Receive-clause-writes g c = (c.receive.ensures.does (outside (input_of (g.S.Source, c.args.input.now)) (output_of (g.K.Sink, c.args.out.now)) (link_of (g.L.Link, c.args.link.now)) (g.C.Clock.told c.args.clock.now) (map g.N.Nor.device c.args.boards.now.items))).done.counts.write_counts
 
 pub returns-in-Drip-clause-done : goal.returns-in-Drip-clause-done
 returns-in-Drip-clause-done g c =
