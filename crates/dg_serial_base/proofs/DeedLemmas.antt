@@ -8,7 +8,7 @@ use Rattle.dg_volume.specs.Store.{Store}
 use Rattle.dg_volume.specs.Stands.{Stands}
 use Rattle.dg_volume.specs.Acts.{Stops}
 use Rattle.std.specs.Int.{to_be_bytes, w16, w32}
-use Rattle.std.specs.List.{flat_map}
+use Rattle.std.specs.List.{flat_map, AllByRecursion}
 use Rattle.dg_base.specs.Crc.{crc_of}
 use Rattle.dg_bits.specs.ByteForm.{byte_form}
 use Rattle.dg_control.specs.Snapshot.{order_bytes}
@@ -23,10 +23,10 @@ use Rattle.dg_mote.specs.Motes.{Done, IsMote}
 use Rattle.dg_mote.specs.Timely.{Timely}
 use Rattle.dg_mote.specs.declared.mote.Heard.{Heard}
 use Rattle.dg_mote.specs.declared.mote.Mote.{Mote}
-use Rattle.dg_serial.specs.Line.{line_of}
+use Rattle.dg_serial.specs.Line.{line_of, IsOnLine}
 use Rattle.dg_serial_base.specs.Based.{IsFront}
 use Rattle.dg_serial_base.specs.Deeds.{Base, At, Deed, Hears, Ticks, powered, moment_at, draw_at, effect_of, after_deed, sent_too, said}
-use Rattle.dg_serial_base.specs.inner.Standing.{Outset, code_at, DeedLeft, deed_left, IsLeft, LeavesNone, StopsOn, FailedBy, EffectEnds, IsTime, Stood, IsStood, one_if, DoneOne, LacksIn, StopsInDeed, DeedFails, DeedEnds, SendFails, StoppedBy, DeedsHalted, CompletedOn}
+use Rattle.dg_serial_base.specs.inner.Standing.{Outset, code_at, DeedLeft, deed_left, IsLeft, LeavesNone, StopsOn, FailedBy, EffectEnds, IsTime, Stood, IsStood, one_if, DoneOne, LacksIn, StopsInDeed, DeedFails, DeedEnds, SendFails, StoppedBy, AreOnLine, DeedsHalted, CompletedOn}
 use Rattle.dg_serial_base.specs.declared.running.Running.{Running}
 use Rattle.dg_serial_base.specs.declared.stop.Stop.{Stop}
 use Rattle.dg_serial_base.specs.declared.stop.Stop.TheVariants as stop
@@ -141,23 +141,24 @@ frame_longs {o} sent is = subst (λ (x : Option (List ℕ)). IfSome x (λ f. 1 �
 
 -- a deed that failed is the last one
 pub deed_halts : (why : Stop) (a : Outset) (done : List Deed) (d : Deed) (before : At) (v : Running) (c : List ℕ) (now : Option (List ℕ)) (new : Device)
-    → Stood a.base a.store done v c before → Puts a.written now (said before) → DeedFails why a.base a.store done d before new → DeedsHalted why a (done ++ d ∷ []) now new
-deed_halts stop.Flash a done d before v c now new stood put x =
-    record { done = done; rest = d ∷ []; parts = refl; there = before; run = stood.run; by = (x.state, d, [], x.on, refl, put, x.stops) }
-deed_halts stop.NoImage a done d before v c now new stood put x =
+    → Stood a.base a.store done v c before → Puts a.written now (said before) → AreOnLine before → DeedFails why a.base a.store done d before new → DeedsHalted why a (done ++ d ∷ []) now new
+deed_halts stop.Flash a done d before v c now new stood put fits x =
+    record { done = done; rest = d ∷ []; parts = refl; there = before; run = stood.run; fits = fits; by = (x.state, d, [], x.on, refl, put, x.stops) }
+deed_halts stop.NoImage a done d before v c now new stood put fits x =
     record {
       done = done ++ d ∷ [];
       rest = [];
       parts = append-nil (done ++ d ∷ []);
       there = x.there;
       run = x.run;
+      fits = subst (λ (sent : List Message). AllByRecursion IsOnLine (map frame_of sent)) (sym x.sent) fits;
       by = (x.none, subst (λ (sent : List Message). Puts a.written now (line_of (map frame_of sent))) (sym x.sent) put, x.stands);
     }
-deed_halts stop.Memory a done d before v c now new stood put x = absurd x
-deed_halts stop.Read a done d before v c now new stood put x = absurd x
-deed_halts stop.Write a done d before v c now new stood put x = absurd x
-deed_halts stop.NotAVolume a done d before v c now new stood put x = absurd x
-deed_halts stop.TooLong a done d before v c now new stood put x = absurd x
+deed_halts stop.Memory a done d before v c now new stood put fits x = absurd x
+deed_halts stop.Read a done d before v c now new stood put fits x = absurd x
+deed_halts stop.Write a done d before v c now new stood put fits x = absurd x
+deed_halts stop.NotAVolume a done d before v c now new stood put fits x = absurd x
+deed_halts stop.TooLong a done d before v c now new stood put fits x = absurd x
 
 stopped_more : (why : Stop) (b : Base) (there : At) (rest more : List Deed) (first now : Option (List ℕ)) (new : Device) → StoppedBy why b there rest first now new → StoppedBy why b there (rest ++ more) first now new
 stopped_more stop.Memory b there rest more first now new x = x
@@ -177,38 +178,49 @@ halted_more why a all more now new h =
       parts = sym (append_assoc h.done h.rest more) ∙ ap (λ (x : List Deed). x ++ more) h.parts;
       there = h.there;
       run = h.run;
+      fits = h.fits;
       by = stopped_more why a.base h.there h.rest more a.written now new h.by;
     }
 
 -- ---- a deed, and what it sent goes onto the line
 
-module _ (a : Outset) (done : List Deed) (d : Deed) (before : At) (old now : Option (List ℕ)) (put : Puts a.written old (said before)) where
+all_and_one : (frames : List (List ℕ)) (frame : Option (List ℕ)) → AllByRecursion IsOnLine frames → IfSome frame IsOnLine → AllByRecursion IsOnLine (frames ++ one_if frame)
+all_and_one [] None all one = tt
+all_and_one [] (Some frame) all one = (one, tt)
+all_and_one (f ∷ frames) frame all one = (all.0, all_and_one frames frame all.1 one)
+
+module _ (a : Outset) (done : List Deed) (d : Deed) (before : At) (old now : Option (List ℕ)) (put : Puts a.written old (said before)) (fits : AreOnLine before) where
   -- what is said behind the deed
   said_then : (there : At) (frame : Option (List ℕ)) → map frame_of there.sent ≡ map frame_of before.sent ++ one_if frame → said there ≡ said before ++ line_of (one_if frame)
   said_then there frame e = ap line_of e ∙ said_one (map frame_of before.sent) (one_if frame)
 
-  pub sent_goes : (left : DeedLeft) → DoneOne a.base a.store done d before left → Puts old now (line_of (one_if left.frame)) → CompletedOn a (done ++ d ∷ []) (code_at now left.mote left.chip)
-  sent_goes left one w =
+  -- and what was sent fits
+  fits_then : (there : At) (frame : Option (List ℕ)) → map frame_of there.sent ≡ map frame_of before.sent ++ one_if frame → IfSome frame IsOnLine → AreOnLine there
+  fits_then there frame e one = subst (AllByRecursion IsOnLine) (sym e) (all_and_one (map frame_of before.sent) frame fits one)
+
+  pub sent_goes : (left : DeedLeft) → IfSome left.frame IsOnLine → DoneOne a.base a.store done d before left → Puts old now (line_of (one_if left.frame)) → CompletedOn a (done ++ d ∷ []) (code_at now left.mote left.chip)
+  sent_goes left frame one w =
       record {
         there = one.there;
         stood = one.stood;
         put = subst (λ (text : List ℕ). Puts a.written now text) (sym (said_then one.there left.frame one.sent)) (puts_then a.written old now (said before) (line_of (one_if left.frame)) put w);
+        fits = fits_then one.there left.frame one.sent frame;
       }
 
-  halts_behind : (why : Stop) (left : DeedLeft) (one : DoneOne a.base a.store done d before left) → StoppedBy why a.base one.there [] a.written now left.chip → DeedsHalted why a (done ++ d ∷ []) now left.chip
-  halts_behind why left one by =
-      record { done = done ++ d ∷ []; rest = []; parts = append-nil (done ++ d ∷ []); there = one.there; run = one.stood.run; by = by }
+  halts_behind : (why : Stop) (left : DeedLeft) → IfSome left.frame IsOnLine → (one : DoneOne a.base a.store done d before left) → StoppedBy why a.base one.there [] a.written now left.chip → DeedsHalted why a (done ++ d ∷ []) now left.chip
+  halts_behind why left frame one by =
+      record { done = done ++ d ∷ []; rest = []; parts = append-nil (done ++ d ∷ []); there = one.there; run = one.stood.run; fits = fits_then one.there left.frame one.sent frame; by = by }
 
-  pub send_fails : (why : Stop) (left : DeedLeft) → DoneOne a.base a.store done d before left → SendFails why (line_of (one_if left.frame)) old now → DeedsHalted why a (done ++ d ∷ []) now left.chip
-  send_fails stop.Write left one w =
+  pub send_fails : (why : Stop) (left : DeedLeft) → IfSome left.frame IsOnLine → DoneOne a.base a.store done d before left → SendFails why (line_of (one_if left.frame)) old now → DeedsHalted why a (done ++ d ∷ []) now left.chip
+  send_fails stop.Write left frame one w =
       let x = puts_front_then a.written old now (said before) (line_of (one_if left.frame)) put w in
-      halts_behind stop.Write left one
+      halts_behind stop.Write left frame one
       (x.text, x.put, subst (IsFront x.text) (sym (said_then one.there left.frame one.sent)) x.front, one.stood.mote.mounted.stands)
-  send_fails stop.Memory left one w =
-      halts_behind stop.Memory left one
+  send_fails stop.Memory left frame one w =
+      halts_behind stop.Memory left frame one
       (said before, w ∙ put, (line_of (one_if left.frame), sym (said_then one.there left.frame one.sent)), one.stood.mote.mounted.stands)
-  send_fails stop.Flash left one w = absurd w
-  send_fails stop.NoImage left one w = absurd w
-  send_fails stop.Read left one w = absurd w
-  send_fails stop.NotAVolume left one w = absurd w
-  send_fails stop.TooLong left one w = absurd w
+  send_fails stop.Flash left frame one w = absurd w
+  send_fails stop.NoImage left frame one w = absurd w
+  send_fails stop.Read left frame one w = absurd w
+  send_fails stop.NotAVolume left frame one w = absurd w
+  send_fails stop.TooLong left frame one w = absurd w

@@ -12,7 +12,8 @@ use Rattle.dg_volume.specs.Store.{Store}
 use Rattle.dg_volume.specs.Stands.{Stands}
 use Rattle.dg_frame.specs.Spelling.{frame_of}
 use Rattle.dg_frame.specs.declared.Message.{Message}
-use Rattle.dg_serial.specs.Line.{line_of}
+use Rattle.std.specs.List.{AllByRecursion}
+use Rattle.dg_serial.specs.Line.{line_of, items, Frame, IsOnLine}
 use Rattle.dg_serial.specs.Reading.{Reading}
 use Rattle.dg_serial_base.specs.Deeds.{Base, deeds_of, powered, said}
 use Rattle.dg_serial_base.specs.Based.{Outside, closing, ClosesBy, Came, AtPower, Later, Based, Refused, Causes}
@@ -24,7 +25,10 @@ use Rattle.dg_serial_base.specs.declared.stop.Stop.TheVariants as stop
 use Rattle.dg_serial_base.proofs.RunLemmas.{run_rests}
 use Rattle.dg_serial_base.proofs.WriteLemmas.{puts_nothing, puts_then, puts_front_then}
 
-module _ (b : Base) (s : Store) (before after : Outside) (now : Option (List ℕ)) where
+abbrev pub BackLaw : Type 0
+BackLaw = (frames : List (List ℕ)) → AllByRecursion IsOnLine frames → items (line_of frames) ≡ map Frame frames
+
+module _ (back : BackLaw) (b : Base) (s : Store) (before after : Outside) (now : Option (List ℕ)) where
   abbrev left_old : Option (List ℕ)
   left_old = before.left
 
@@ -53,10 +57,10 @@ module _ (b : Base) (s : Store) (before after : Outside) (now : Option (List ℕ
   -- all was played
   abbrev came_all : (input : List ℕ) (v : Running) (line : Reading) → StreamPlayed a (take most_input input) (code_on_line now v line new) → Came b s input
   came_all input v line p =
-      record { done = deeds_of (take most_input input); rest = []; parts = append-nil (deeds_of (take most_input input)); there = p.went.there; run = p.went.stood.run }
+      record { done = deeds_of (take most_input input); rest = []; parts = append-nil (deeds_of (take most_input input)); there = p.went.there; run = p.went.stood.run; heard = back (map frame_of p.went.there.sent) p.went.fits }
 
   abbrev came_some : (why : Stop) (input : List ℕ) → DeedsHalted why a (deeds_of (take most_input input)) now new → Came b s input
-  came_some why input h = record { done = h.done; rest = h.rest; parts = h.parts; there = h.there; run = h.run }
+  came_some why input h = record { done = h.done; rest = h.rest; parts = h.parts; there = h.there; run = h.run; heard = back (map frame_of h.there.sent) h.fits }
 
   -- the input ended, and nothing is told of it
   done_ends : (input : List ℕ) → Takes left_old left_new input → length input ≤ most_input + 1 → (v : Running) (line : Reading) → StreamPlayed a (take most_input input) (code_on_line now v line new) → AtEnd left_new → length input ≤ most_input
@@ -177,6 +181,7 @@ module _ (b : Base) (s : Store) (before after : Outside) (now : Option (List ℕ
         parts = refl;
         there = powered b s;
         run = run_rests b (powered b s);
+        fits = subst (λ (sent : List Message). AllByRecursion IsOnLine (map frame_of sent)) (sym x.silent) tt;
         by = (x.failed.none, subst (λ (text : List ℕ). Puts first now text) (sym (none_said x.silent)) (x.unwritten ∙ puts_nothing first), x.failed.stands);
       }
 

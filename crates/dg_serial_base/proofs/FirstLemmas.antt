@@ -1,12 +1,13 @@
 -- A line begins behind the power.
 use Rattle.std.proofs.Common.{◌≡◌, ℕ, List, [], refl, ap, sym, subst, inr}
 use Rattle.std.specs.Prelude.{Result, Ok, Err, map}
+use Rattle.std.specs.List.{AllByRecursion}
 use Rattle.dg_base.specs.Outside.{Puts}
 use Rattle.dg_nor.specs.Device.{Device}
 use Rattle.dg_volume.specs.Store.{Store}
 use Rattle.dg_frame.specs.Spelling.{frame_of}
 use Rattle.dg_frame.specs.declared.Message.{Message}
-use Rattle.dg_serial.specs.Line.{split_of, items, line_of}
+use Rattle.dg_serial.specs.Line.{split_of, items, line_of, IsOnLine}
 use Rattle.dg_serial.specs.Reading.{Reading, reading_behind}
 use Rattle.dg_serial_base.specs.Deeds.{Base, Deed, deeds_of, powered}
 use Rattle.dg_serial_base.specs.Based.{Outside}
@@ -30,6 +31,7 @@ first_played a v line new l stood silent =
         there = there;
         stood = subst (λ (done : List Deed). Stood a.base a.store done v new.image there) (sym none_told) stood;
         put = subst (λ (text : List ℕ). Puts a.written a.written text) (sym (ap (λ (sent : List Message). line_of (map frame_of sent)) silent)) (puts_nothing a.written);
+        fits = subst (λ (sent : List Message). AllByRecursion IsOnLine (map frame_of sent)) (sym silent) tt;
       };
     }
 

@@ -27,17 +27,17 @@ goes_along r a x y now e g = subst (λ (all : List Deed). ContinueEnds r a all n
 -- a frame that was heard sends nothing
 pub hear_goes : (a : Outset) (done : List Deed) (bytes : List ℕ) (old : CodeAt) (u : Running) (new : Device) (went : CompletedOn a done old)
     → DoneOne a.base a.store done (Hears bytes) went.there (deed_left u new None) → CompletedOn a (done ++ Hears bytes ∷ []) (code_at old.written u new)
-hear_goes a done bytes old u new went one = sent_goes a done (Hears bytes) went.there old.written old.written went.put (deed_left u new None) one (puts_nothing old.written)
+hear_goes a done bytes old u new went one = sent_goes a done (Hears bytes) went.there old.written old.written went.put went.fits (deed_left u new None) tt one (puts_nothing old.written)
 
 pub hear_halts : (why : Stop) (a : Outset) (done : List Deed) (bytes : List ℕ) (old : CodeAt) (new : Device) (went : CompletedOn a done old)
     → DeedFails why a.base a.store done (Hears bytes) went.there new → DeedsHalted why a (done ++ Hears bytes ∷ Ticks ∷ []) old.written new
 hear_halts why a done bytes old new went x =
     halted_along why a ((done ++ Hears bytes ∷ []) ++ Ticks ∷ []) (done ++ Hears bytes ∷ Ticks ∷ []) old.written new (append_assoc done (Hears bytes ∷ []) (Ticks ∷ []))
-    (halted_more why a (done ++ Hears bytes ∷ []) (Ticks ∷ []) old.written new (deed_halts why a done (Hears bytes) went.there old.mote old.chip.image old.written new went.stood went.put x))
+    (halted_more why a (done ++ Hears bytes ∷ []) (Ticks ∷ []) old.written new (deed_halts why a done (Hears bytes) went.there old.mote old.chip.image old.written new went.stood went.put went.fits x))
 
 pub pass_halts : (why : Stop) (a : Outset) (done : List Deed) (old : CodeAt) (new : Device) (went : CompletedOn a done old)
     → DeedFails why a.base a.store done Ticks went.there new → DeedsHalted why a (done ++ Ticks ∷ []) old.written new
-pass_halts why a done old new went x = deed_halts why a done Ticks went.there old.mote old.chip.image old.written new went.stood went.put x
+pass_halts why a done old new went x = deed_halts why a done Ticks went.there old.mote old.chip.image old.written new went.stood went.put went.fits x
 
 -- ---- bytes
 

@@ -1,10 +1,10 @@
 -- How playing goes on, by what its parts answered.
 use Rattle.std.proofs.Common.{◌≡◌, ℕ, ◌+◌, ◌<◌, List, [], ◌∷◌, ◌++◌, length, take, drop, get_or, refl, ap, sym, ◌∙◌, subst, append_assoc}
 use Rattle.std.proofs.lemmas.List.{take-append-drop, take_more}
-use Rattle.std.specs.Prelude.{Option, Result, Ok, Err}
+use Rattle.std.specs.Prelude.{Option, IfSome, Result, Ok, Err}
 use Rattle.dg_nor.specs.Device.{Device}
 use Rattle.dg_volume.specs.Store.{Store}
-use Rattle.dg_serial.specs.Line.{line_of}
+use Rattle.dg_serial.specs.Line.{line_of, IsOnLine}
 use Rattle.dg_serial.specs.Reading.{Reading, told, Feeds}
 use Rattle.dg_serial.specs.declared.unstuffing.Fed.{Fed}
 use Rattle.dg_serial_base.specs.Deeds.{Base, At, Deed, Ticks, deeds_of_items, deeds_of}
@@ -17,9 +17,9 @@ use Rattle.dg_serial_base.proofs.LineLemmas.{GoOn, went_along, halted_along, dee
 -- ---- a tick
 
 pub pass_goes : (r : Result (Unit {0}) Stop) (a : Outset) (done : List Deed) (old : CodeAt) (now : Option (List ℕ)) (left : DeedLeft) (went : CompletedOn a done old)
-    → DoneOne a.base a.store done Ticks went.there left → SendEnds r (line_of (one_if left.frame)) old.written now → ContinueEnds r a (done ++ Ticks ∷ []) (code_at now left.mote left.chip)
-pass_goes (Ok x) a done old now left went one w = sent_goes a done Ticks went.there old.written now went.put left one w
-pass_goes (Err why) a done old now left went one w = send_fails a done Ticks went.there old.written now went.put why left one w
+    → IfSome left.frame IsOnLine → DoneOne a.base a.store done Ticks went.there left → SendEnds r (line_of (one_if left.frame)) old.written now → ContinueEnds r a (done ++ Ticks ∷ []) (code_at now left.mote left.chip)
+pass_goes (Ok x) a done old now left went frame one w = sent_goes a done Ticks went.there old.written now went.put went.fits left frame one w
+pass_goes (Err why) a done old now left went frame one w = send_fails a done Ticks went.there old.written now went.put went.fits why left frame one w
 
 -- a write stops no chip
 send_calm : (why : Stop) (text : List ℕ) (before now : Option (List ℕ)) (a b : Device) → Calm a b → SendFails why text before now → CountsBy why a b

@@ -1,9 +1,15 @@
 -- What is written behind what was written.
-use Rattle.std.proofs.Common.{◌≡◌, ℕ, List, [], ◌++◌, take, drop, refl, ap, sym, ◌∙◌, append_assoc, append-nil}
+use Rattle.std.proofs.Common.{◌≡◌, ℕ, ◌≤◌, List, [], ◌++◌, length, take, drop, refl, ap, sym, ◌∙◌, append_assoc, append-nil, arith}
 use Rattle.std.specs.Prelude.{Option, Some, None}
 use Rattle.std.proofs.lemmas.List.{take-append-drop}
+use Rattle.dg_base.specs.Sizes.{longest_frame}
+use Rattle.dg_serial.specs.Line.{IsOnLine}
 use Rattle.dg_base.specs.Outside.{followed_by, Puts, PutsFront}
 use Rattle.dg_serial_base.specs.Based.{IsFront}
+
+-- a frame with some bytes, and no more than a frame may have, is one that fits the line
+pub on_line : (frame : List ℕ) → 1 ≤ length frame → length frame ≤ longest_frame → IsOnLine frame
+on_line frame some most = record { some = λ none. absurd (omega (arith, some, ap length none)); most = most }
 
 pub puts_nothing : (a : Option (List ℕ)) → Puts a a []
 puts_nothing None = refl

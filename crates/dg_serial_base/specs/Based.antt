@@ -11,7 +11,7 @@ use Rattle.dg_volume.specs.Store.{Store}
 use Rattle.dg_volume.specs.Stands.{Stands}
 use Rattle.dg_volume.specs.Acts.{Stops}
 use Rattle.dg_mote.specs.Model.{MoteState}
-use Rattle.dg_serial_base.specs.Deeds.{Base, At, Deed, deeds_of, powered, power_effect, effect_of, DeedsRun, said}
+use Rattle.dg_serial_base.specs.Deeds.{Base, At, Deed, deeds_of, powered, power_effect, effect_of, DeedsRun, said, FramesComeBack}
 
 -- What is outside of a base mote, before it or behind it: the bytes that are left to be read, what was written, the counts of
 -- failed reads and writes, and the chip.
@@ -47,6 +47,8 @@ pub record Came (b : Base) (s : Store) (input : List ℕ) : Type 0 where
   pub parts : done ++ rest ≡ deeds_of (take most_input input)
   pub there : At
   pub run : DeedsRun b (powered b s) done there
+  -- the frames that it sent come back from its line
+  pub heard : FramesComeBack there
 
 -- All items were played.
 abbrev pub PlayedAll : {b : Base} {s : Store} {input : List ℕ} → Came b s input → Type 0

@@ -79,3 +79,7 @@ DeedsRun b a (d ∷ ds) z = (m : MoteState) × (a.mote ≡ Some m) × DeedsRun b
 -- what stands on the line of a mote that sent this: the frames of its messages, stuffed, in order
 abbrev pub said : At → List ℕ
 said a = line_of (map frame_of a.sent)
+
+-- whoever reads what stands there gets these frames, each of them and in their order
+abbrev pub FramesComeBack : At → Type 0
+FramesComeBack a = items (said a) ≡ map Frame (map frame_of a.sent)

@@ -20,7 +20,7 @@ use dg_base::{Sink, Source, Status, WriteFailed};
 use dg_boot::golden_can_be_started;
 use dg_mote::{a_mote_keeps_consistency, a_mote_stays_well};
 use dg_nor::Nor;
-use dg_serial::Unstuff;
+use dg_serial::{Unstuff, frames_come_back};
 use dg_volume::{a_start_ends, a_whole_image_is_sound, trails_keep_consistency};
 use std::alloc::Global;
 
@@ -118,8 +118,8 @@ pub fn base<S: Source, K: Sink, N: Nor>(
     out: &mut K,
 ) -> Status
     requires little { step ≤ 60000 }
-    // From a chip that is a volume: the bytes written are the stuffed frames of the mote's rules over the items, and each
-    // status comes where they say.
+    // From a chip that is a volume: the bytes written are the stuffed frames of the mote's rules over the items, which come back
+    // as frames to whoever reads the line, and each status comes where they say.
     ensures based { (s : Store) → Stands (N.device nor.old).image s
         → Based result (record { id = id; step = step; seed = seed }) s
         (outside_base (S.left input.old) (S.faults input.old) (K.written out.old) (K.faults out.old) (N.device nor.old))
@@ -148,6 +148,7 @@ pub fn base<S: Source, K: Sink, N: Nor>(
     a_start_ends();
     a_whole_image_is_sound();
     golden_can_be_started();
+    frames_come_back();
     let ended = play_line(alloc, nor, id, step, seed, input, out);
     tell(ended, out)
 }

@@ -1,6 +1,7 @@
 -- Where the code of a base mote stands, and how its calls go on from there (docs/COMMANDS.md, "Base").
 use Rattle.std.specs.Prelude.{◌≡◌, ◌⊎◌, ℕ, ◌+◌, ◌*◌, ◌<◌, ◌≤◌, true, List, [], ◌∷◌, ◌++◌, length, take, map, Option, Some, None}
 use Rattle.std.specs.Prelude.{Result, Ok, Err}
+use Rattle.std.specs.List.{AllByRecursion}
 use Rattle.dg_words.specs.Counts.{Rose}
 use Rattle.dg_base.specs.Outside.{Takes, Puts, PutsFront, AtEnd}
 use Rattle.dg_base.specs.Sizes.{most_input}
@@ -18,6 +19,7 @@ use Rattle.dg_mote.specs.Timely.{Timely}
 use Rattle.dg_mote.specs.declared.mote.Mote.{Mote}
 use Rattle.dg_node.specs.Nodes.{node_mote}
 use Rattle.dg_seed.specs.Draws.{generator_of, generator_after}
+use Rattle.dg_serial.specs.Line.{IsOnLine}
 use Rattle.dg_serial.specs.Reading.{Reading, reading_behind}
 use Rattle.dg_serial_base.specs.Deeds.{Base, At, Deed, deeds_of, powered, power_effect, effect_of, DeedsRun, said}
 use Rattle.dg_serial_base.specs.Based.{IsFront}
@@ -256,6 +258,10 @@ StoppedBy stop.Read b there rest first now new = ⊥
 StoppedBy stop.NotAVolume b there rest first now new = ⊥
 StoppedBy stop.TooLong b there rest first now new = ⊥
 
+-- each frame that was sent is one that fits the line
+abbrev pub AreOnLine : At → Type 0
+AreOnLine there = AllByRecursion IsOnLine (map frame_of there.sent)
+
 -- Some of these deeds were done, and then the mote stopped.
 pub record DeedsHalted (why : Stop) (a : Outset) (all : List Deed) (now : Option (List ℕ)) (new : Device) : Type 0 where
   pub done : List Deed
@@ -263,6 +269,7 @@ pub record DeedsHalted (why : Stop) (a : Outset) (all : List Deed) (now : Option
   pub parts : done ++ rest ≡ all
   pub there : At
   pub run : DeedsRun a.base (powered a.base a.store) done there
+  pub fits : AreOnLine there
   pub by : StoppedBy why a.base there rest a.written now new
 
 -- These deeds were done, and what was sent is written.
@@ -270,6 +277,7 @@ pub record CompletedOn (a : Outset) (all : List Deed) (now : CodeAt) : Type 0 wh
   pub there : At
   pub stood : Stood a.base a.store all now.mote now.chip.image there
   pub put : Puts a.written now.written (said there)
+  pub fits : AreOnLine there
 
 abbrev pub ContinueEnds : {T : Type 0} → Result T Stop → Outset → (all : List Deed) → CodeAt → Type 0
 ContinueEnds (Ok x) a all now = CompletedOn a all now

@@ -6,7 +6,7 @@ use Rattle.dg_serial_base.proofs.call.base.Goals as goal
 pub returns-clause-based : goal.returns-clause-based
 returns-clause-based g c = λ s stands.
     let mid = g.K.Sink.written c.play_line-ended.new.out in
-    line_ends (record { id = c.args.id; step = c.args.step; seed = c.args.seed }) s _ _ mid c.play_line-ended.result c.tell.result
+    line_ends c.frames_come_back.ensures.read (record { id = c.args.id; step = c.args.step; seed = c.args.seed }) s _ _ mid c.play_line-ended.result c.tell.result
     (g.K.Sink.faults c.play_line-ended.new.out) (g.K.Sink.faults c.tell.new.out) (c.play_line-ended.ensures.ends s stands) c.tell.ensures
 
 pub returns-clause-refused : goal.returns-clause-refused

@@ -1,9 +1,10 @@
 use Rattle.std.proofs.Common.{◌≤◌, ℕ, List, [], ◌∷◌, length, ap, sym, subst, ◌∙◌, append-nil}
 use Rattle.std.specs.Prelude.{Option, IfSome}
 use Rattle.dg_base.specs.Outside.{Puts}
-use Rattle.dg_serial.specs.Line.{stuffed, line_of}
+use Rattle.dg_base.specs.Sizes.{longest_frame}
+use Rattle.dg_serial.specs.Line.{stuffed, line_of, IsOnLine}
 use Rattle.dg_serial_base.specs.inner.Standing.{SendEnds, one_if}
-use Rattle.dg_serial_base.proofs.WriteLemmas.{puts_nothing}
+use Rattle.dg_serial_base.proofs.WriteLemmas.{puts_nothing, on_line}
 use Rattle.dg_serial_base.proofs.sending.send.Goals as goal
 
 pub write_frame-requires-clause-some : goal.write_frame-requires-clause-some
@@ -24,3 +25,12 @@ returns-in-Some-clause-sends g c =
     subst (λ (text : List ℕ). SendEnds c.write_frame.result text (g.K.Sink.written c.args.out.now) (g.K.Sink.written c.write_frame.new.out))
     (sym (append-nil (stuffed x)) ∙ ap (λ (f : List ℕ). line_of (f ∷ [])) c.as_slice.ensures.value ∙ ap (λ (o : Option (List ℕ)). line_of (one_if o)) c.in-Some.ensures)
     c.write_frame.ensures.sends
+
+pub returns-in-None-clause-fits : goal.returns-in-None-clause-fits
+returns-in-None-clause-fits g c = subst (λ (o : Option (List ℕ)). IfSome o IsOnLine) c.in-None.ensures tt
+
+pub returns-in-Some-clause-fits : goal.returns-in-Some-clause-fits
+returns-in-Some-clause-fits g c =
+    let frame = c.as_slice.result.now in
+    let some : 1 ≤ length frame = subst (λ (x : List ℕ). 1 ≤ length x) (sym c.as_slice.ensures.value) (subst (λ (o : Option (List ℕ)). IfSome o (λ f. 1 ≤ length f)) (sym c.in-Some.ensures) c.requires) in
+    subst (λ (o : Option (List ℕ)). IfSome o IsOnLine) c.in-Some.ensures (subst IsOnLine c.as_slice.ensures.value (on_line frame some c.as_slice.ensures.fits))

@@ -8,7 +8,7 @@ use Rattle.dg_serial_base.proofs.playing.Player.pass.Goals as goal
 
 pub returns-in-Ok-clause-ends : goal.returns-in-Ok-clause-ends
 returns-in-Ok-clause-ends g c = λ a done went.
-    pass_goes c.send.result a done _ (g.K.Sink.written c.send.new.out) (deed_left c.tick.new.self (g.N.Nor.device c.tick.new.nor) (sent_in c.tick.new.outbox)) went
+    pass_goes c.send.result a done _ (g.K.Sink.written c.send.new.out) (deed_left c.tick.new.self (g.N.Nor.device c.tick.new.nor) (sent_in c.tick.new.outbox)) went c.send.ensures.fits
     (c.in-Ok.ensures.ends a.base a.store done went.there went.stood) c.send.ensures.sends
 
 pub returns-in-Ok-clause-stood : goal.returns-in-Ok-clause-stood
