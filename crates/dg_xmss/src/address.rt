@@ -6,7 +6,7 @@ use crate::NODE_SIZE;
 
 /// The words of an address by its type, but for keyAndMask. Layer and tree address are 0.
 #[derive(Clone, Copy)]
-pub(crate) enum Address {
+pub enum Address {
     /// A step of a chain of a leaf.
     Ots { leaf: u16, chain: u8, hash: u8 },
     /// A node of the L-tree of a leaf.
@@ -71,7 +71,7 @@ fn low(word: u16) -> u8
 
 impl Address {
     /// The 32 bytes, with this keyAndMask.
-    pub(crate) fn bytes(self, key_and_mask: u8) -> [u8; NODE_SIZE]
+    pub fn bytes(self, key_and_mask: u8) -> [u8; NODE_SIZE]
         ensures { result ≡ address_of self key_and_mask }
     {
         match self {

@@ -37,7 +37,7 @@ pub(crate) fn checksum(digest: &[u8; NODE_SIZE]) -> u16
     sum
 }
 
-/// Digit i of a digest with its checksum.
+// Digit i of a digest with its checksum.
 fn digit(digest: &[u8; NODE_SIZE], checksum: u16, i: usize) -> u8
     requires known { i < chains }
     requires sum { checksum ≡ checksum_of (base_w digest.now message_digits) }
@@ -75,8 +75,8 @@ fn checksum_digit(checksum: u16, i: usize) -> u8
     }
 }
 
-// Walks a chain of a leaf from a digit to its end.
-fn walk(prf: &Prf, leaf: u16, number: u8, digit: u8, node: &mut [u8; NODE_SIZE])
+/// Walks a chain of a leaf from a digit to its end (RFC 8391, Algorithm 2, with start digit and 15 - digit steps).
+pub fn walk(prf: &Prf, leaf: u16, number: u8, digit: u8, node: &mut [u8; NODE_SIZE])
     requires keyed { IsKeyed prf.now }
     requires digit { digit ≤ 15 }
     ensures { node.new ≡ chain prf.now.seed.now leaf number node.old digit (15 - digit) }

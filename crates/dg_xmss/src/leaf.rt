@@ -4,7 +4,7 @@ use crate::prf::Prf;
 
 /// A leaf of the tree, under a signature of a message.
 #[derive(Drop)]
-pub(crate) struct Leaf<'a> {
+pub struct Leaf<'a> {
     pub prf: &'a Prf<'a>,
     pub index: u16,
     /// The digest of the message.

@@ -1,4 +1,6 @@
 //! Verification of XMSS signatures (RFC 8391) with the parameter set XMSS-SHA2_10_256, without memory of its own.
+//!
+//! `verify` is the whole. The steps that it takes are handed out too (`steps`), each with the algorithm that it is.
 #![tactic(auto)]
 
 mod address;
@@ -7,6 +9,7 @@ mod hashing;
 mod key;
 mod leaf;
 mod prf;
+pub mod steps;
 mod trees;
 mod verifying;
 

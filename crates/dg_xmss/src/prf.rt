@@ -13,7 +13,7 @@ use sha2::{Digest, Sha256};
 
 /// PRF under a SEED: the state behind the first block, which is the same at each address.
 #[derive(Drop)]
-pub(crate) struct Prf<'a> {
+pub struct Prf<'a> {
     pub seed: &'a [u8; NODE_SIZE],
     begun: Sha256,
 }
@@ -26,7 +26,8 @@ fn cloned(hasher: &Sha256) -> Sha256
 }
 
 impl<'a> Prf<'a> {
-    pub(crate) fn new(seed: &'a [u8; NODE_SIZE]) -> Prf<'a>
+    /// PRF under this SEED.
+    pub fn new(seed: &'a [u8; NODE_SIZE]) -> Prf<'a>
         ensures keyed { IsKeyed result }
         ensures seed { result.seed.now ≡ seed.now }
     {
@@ -39,7 +40,7 @@ impl<'a> Prf<'a> {
     }
 
     /// PRF at an address with this keyAndMask.
-    pub(crate) fn at(&self, address: Address, key_and_mask: u8) -> [u8; NODE_SIZE]
+    pub fn at(&self, address: Address, key_and_mask: u8) -> [u8; NODE_SIZE]
         requires { IsKeyed self.now }
         ensures { result ≡ prf self.now.seed.now (address_of address key_and_mask) }
     {
@@ -49,13 +50,7 @@ impl<'a> Prf<'a> {
     }
 
     /// One more step from a value of a chain (the body of RFC 8391's Algorithm 2).
-    pub(crate) fn step(
-        &self,
-        leaf: u16,
-        chain: u8,
-        hash: u8,
-        node: &[u8; NODE_SIZE],
-    ) -> [u8; NODE_SIZE]
+    pub fn step(&self, leaf: u16, chain: u8, hash: u8, node: &[u8; NODE_SIZE]) -> [u8; NODE_SIZE]
         requires { IsKeyed self.now }
         ensures { result ≡ chain_step self.now.seed.now leaf chain hash node.now }
     {
@@ -67,7 +62,7 @@ impl<'a> Prf<'a> {
     }
 
     /// The node above two (RFC 8391, Algorithm 7).
-    pub(crate) fn rand_hash(
+    pub fn rand_hash(
         &self,
         address: Address,
         left: &[u8; NODE_SIZE],

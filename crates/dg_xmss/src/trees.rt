@@ -22,10 +22,10 @@ const LTREE_HEIGHT: u8 = 7;
 const PATH_AT: usize = 2_180;
 
 /// The most nodes of an L-tree that wait, with the newest one.
-pub(crate) const MOST_NODES: usize = 7;
+pub const MOST_NODES: usize = 7;
 
 /// The nodes of an L-tree that wait for the one beside them, and the newest one behind them.
-pub(crate) type Nodes = [[u8; NODE_SIZE]; MOST_NODES];
+pub type Nodes = [[u8; NODE_SIZE]; MOST_NODES];
 
 // The node above two that stand side by side is put in place of the left one.
 fn unite(leaf: &Leaf, nodes: &mut Nodes, left: usize, height: u8, index: u8)
@@ -94,8 +94,8 @@ fn close(leaf: &Leaf, nodes: &mut Nodes, waiting: usize)
     }
 }
 
-/// The root of the L-tree of a leaf: it is the first of these nodes.
-pub(crate) fn ltree(leaf: &Leaf, nodes: &mut Nodes)
+/// The root of the L-tree of a leaf (RFC 8391, Algorithm 8): it is the first of these nodes.
+pub fn ltree(leaf: &Leaf, nodes: &mut Nodes)
     requires { IsLeaf leaf.now }
     ensures { slice_index_or nodes.new 0 [] ≡ ltree leaf.now.prf.now.seed.now leaf.now.index (leaf_key leaf.now) }
 {
@@ -139,8 +139,9 @@ fn parent(
     prf.rand_hash(address, beside, node)
 }
 
-/// Goes from the root of an L-tree, the first of these nodes, to the root of the tree, along the path in a signature.
-pub(crate) fn climb(prf: &Prf, leaf: u16, signature: &[u8], nodes: &mut Nodes)
+/// Goes from the root of an L-tree, the first of these nodes, to the root of the tree, along the path in a signature (the loop
+/// of RFC 8391's Algorithm 13).
+pub fn climb(prf: &Prf, leaf: u16, signature: &[u8], nodes: &mut Nodes)
     requires keyed { IsKeyed prf.now }
     requires size { length signature.now ≡ signature_size }
     ensures { slice_index_or nodes.new 0 []
