@@ -31,7 +31,7 @@ impl From<AllocError> for SignatureTextFault {
 }
 
 // A text without the LF at its end.
-fn without_newline(text: &[u8]) -> &[u8]
+pub(crate) fn without_newline(text: &[u8]) -> &[u8]
     ensures { result.now ≡ without_newline text.now }
 {
     let size = text.len();
