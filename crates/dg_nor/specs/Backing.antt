@@ -1,0 +1,33 @@
+-- What stands behind a board besides memory (docs/FLASH.md, "The device").
+use Rattle.std.specs.Prelude.{ℕ, true, false, Bool, List, Option, Some, None}
+use Rattle.dg_nor.specs.Filled.{filled}
+use Rattle.dg_nor.specs.declared.cells.Cells.{Cells}
+use Rattle.dg_nor.specs.declared.files.ChipFile.{ChipFile}
+use Rattle.dg_nor.specs.declared.backing.Backing.{Backing}
+use Rattle.dg_nor.specs.declared.backing.Backing.TheVariants.{Memory, Mirrored, Gone}
+
+-- the bytes of a chip
+abbrev pub cells_image : Cells → List ℕ
+cells_image c = filled c.cells.items
+
+-- the bytes of a file, if it keeps what it was given
+abbrev pub file_bytes : ChipFile → List ℕ
+file_bytes f = f.given.bytes
+
+-- its file is gone
+abbrev pub is_gone : Backing → Bool
+is_gone Memory = false
+is_gone (Mirrored file) = false
+is_gone Gone = true
+
+-- it has no file
+abbrev pub is_memory : Backing → Bool
+is_memory Memory = true
+is_memory (Mirrored file) = false
+is_memory Gone = false
+
+-- the bytes of its file, where it has one that did not fail
+abbrev pub mirrored_bytes : Backing → Option (List ℕ)
+mirrored_bytes Memory = None
+mirrored_bytes (Mirrored file) = Some (file_bytes file)
+mirrored_bytes Gone = None

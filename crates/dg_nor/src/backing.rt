@@ -1,0 +1,70 @@
+//! What stands behind a board besides memory.
+ghost use Rattle.std.specs.Prelude.{◌≡◌, ◌+◌, ◌≤◌, false, not, length, IfSome};
+ghost use Rattle.std.specs.Option.{option_map};
+ghost use Rattle.std.specs.Bool.{OnTrue};
+ghost use Rattle.dg_words.specs.Cells.{part, overwritten};
+ghost use Rattle.dg_nor.specs.Sizes.{sector_size, chip_size};
+ghost use Rattle.dg_nor.specs.Backing.{cells_image, file_bytes, is_gone, is_memory, mirrored_bytes};
+
+use crate::cells::Cells;
+use crate::files::ChipFile;
+use crate::sectors::sector_buffer;
+
+/// Where the bytes of a board stand besides memory.
+#[derive(Drop)]
+pub(crate) enum Backing {
+    /// Nowhere.
+    Memory,
+    /// In this file too.
+    Mirrored(ChipFile),
+    /// In a file that failed.
+    Gone,
+}
+
+impl Backing {
+    pub(crate) fn is_gone(&self) -> bool
+        ensures { result ≡ is_gone self.now }
+    {
+        match self {
+            Backing::Memory => false,
+            Backing::Mirrored(_) => false,
+            Backing::Gone => true,
+        }
+    }
+
+    /// Writes a range of cells at their place in the file, if there is one. Where that fails the file is gone, and the
+    /// answer is no.
+    pub(crate) fn save(&mut self, cells: &Cells, at: u32, count: usize) -> bool
+        requires in_chip { at + count ≤ chip_size }
+        requires in_sector { count ≤ sector_size }
+        requires awake { is_gone self.old ≡ false }
+        requires whole { IfSome (mirrored_bytes self.old) (λ bytes. length bytes ≡ chip_size) }
+        ensures written { OnTrue result (mirrored_bytes self.new
+            ≡ option_map (λ bytes. overwritten bytes at (part (cells_image cells.now) at count)) (mirrored_bytes self.old)) }
+        ensures gone { is_gone self.new ≡ not result }
+        ensures memory { is_memory self.new ≡ is_memory self.old }
+    {
+        if let Backing::Mirrored(file) = self {
+            if !write_range(file, cells, at, count) {
+                *self = Backing::Gone;
+                return false;
+            }
+        }
+        true
+    }
+}
+
+/// Writes a range of cells at their place in the file. No where that fails.
+#[inline(never)]
+fn write_range(file: &mut ChipFile, cells: &Cells, at: u32, count: usize) -> bool
+    requires in_chip { at + count ≤ chip_size }
+    requires in_sector { count ≤ sector_size }
+    requires within { at ≤ length (file_bytes file.old) }
+    ensures { OnTrue result
+        (file_bytes file.new ≡ overwritten (file_bytes file.old) at (part (cells_image cells.now) at count)) }
+{
+    let mut buffer = sector_buffer();
+    let range = &mut buffer[..count];
+    cells.read(at, range);
+    file.write(at, range)
+}
