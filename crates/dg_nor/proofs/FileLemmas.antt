@@ -1,20 +1,22 @@
 -- What a file has that was given bytes at their places, and how a board halts whose file failed.
-use Rattle.std.proofs.Common.{◌≡◌, ℕ, ◌+◌, ◌*◌, ◌≤◌, List, [], ◌++◌, Option, Some, None, IfSome, Bool, true, false, not, length, drop, subst, refl, sym, ap, ◌∙◌, inr, arith}
+use Rattle.std.proofs.Common.{◌≡◌, ℕ, ◌+◌, ◌*◌, ◌≤◌, List, [], ◌++◌, Option, Some, None, IfSome, Bool, true, false, not, Result, OnOk, length, drop, subst, refl, sym, ap, ◌∙◌, inr, arith}
 use Rattle.std.proofs.lemmas.List.{append-nil, take_all, drop_all}
 use Rattle.std.proofs.lemmas.Bool.{both_ways}
+use Rattle.std.proofs.lemmas.Result.{on_ok_weaker}
 use Rattle.dg_words.specs.Counts.{Rose}
 use Rattle.dg_words.specs.Cells.{part, overwritten}
 use Rattle.dg_words.proofs.CellLemmas.{length-part, part-overwritten_at}
 use Rattle.dg_nor.specs.Sizes.{sector_size}
 use Rattle.dg_nor.specs.Chip.{blank, and_each, programmed, erased}
 use Rattle.dg_nor.specs.Device.{Halts}
-use Rattle.dg_nor.specs.Backing.{is_gone, mirrored_bytes}
+use Rattle.dg_nor.specs.Backing.{cells_image, is_gone, is_memory, mirrored_bytes}
 use Rattle.dg_nor.specs.declared.backing.Backing.{Backing}
 use Rattle.dg_nor.specs.declared.backing.Backing.TheVariants.{Memory, Mirrored, Gone}
 use Rattle.std.specs.Option.{option_map}
 use Rattle.std.specs.Bool.{OnTrue}
 use Rattle.dg_nor.specs.Board.{board_device}
 use Rattle.dg_nor.specs.declared.board.Board.{Board}
+use Rattle.dg_nor.specs.declared.backed.BackedCells.{BackedCells}
 use Rattle.dg_nor.proofs.ChipLemmas.{length-blank, length-and_each}
 
 -- ---- what was given first, and at the end
@@ -77,15 +79,27 @@ pub mirrors_after : (before after : Backing) (saved : Bool) (at : ℕ) (range ol
 mirrors_after before after true at range old new written gone same e = subst (λ o. IfSome o (λ bytes. bytes ≡ new)) (sym written) (after_range (mirrored_bytes before) at range old new same e)
 mirrors_after before after false at range old new written gone same e = subst (λ o. IfSome o (λ bytes. bytes ≡ new)) (sym (none_gone after gone)) tt
 
+-- a file that did not fail has the cells
+pub has_cells : (b : Backing) (image : List ℕ) → is_gone b ≡ false → is_memory b ≡ false → IfSome (mirrored_bytes b) (λ bytes. bytes ≡ image) → mirrored_bytes b ≡ Some image
+has_cells Memory image awake file same = absurd (both_ways true file refl)
+has_cells (Mirrored file) image awake mirrors same = ap (λ bytes. Some bytes) same
+has_cells Gone image awake file same = absurd (both_ways true awake refl)
+
+-- what a board ends with has the cells that were written, where it is awake and has a file
+pub ended_has_cells : {E : Type 0} (r : Result (Unit {0}) E) (old made new : BackedCells) → new ≡ made → OnOk r (is_gone made.backing ≡ false) → is_memory made.backing ≡ is_memory old.backing
+    → OnOk r (is_memory old.backing ≡ false → mirrored_bytes new.backing ≡ Some (cells_image new.cells))
+ended_has_cells r old made new same awake memory =
+    on_ok_weaker r (λ gone file. subst (λ b. mirrored_bytes b.backing ≡ Some (cells_image b.cells)) (sym same) (has_cells made.backing (cells_image made.cells) gone (memory ∙ file) made.mirrored)) awake
+
 -- ---- a board whose file failed
 
-pub Halts-gone : (old new : Board) → is_gone old.backing ≡ false → is_gone new.backing ≡ true → Rose old.faults new.faults → old.faults ≤ new.faults → Halts 1 0 (board_device old) (board_device new)
+pub Halts-gone : (old new : Board) → is_gone old.backed.backing ≡ false → is_gone new.backed.backing ≡ true → Rose old.faults new.faults → old.faults ≤ new.faults → Halts 1 0 (board_device old) (board_device new)
 Halts-gone old new awake gone rose faults = record {
   within = omega arith;
   left = refl;
   stopped = gone;
   cause = inr rose;
-  unchanged = λ was. absurd (both_ways (is_gone old.backing) awake was);
+  unchanged = λ was. absurd (both_ways (is_gone old.backed.backing) awake was);
   blew = λ blown. absurd (both_ways false refl blown);
   blown = λ blown. absurd (both_ways false refl blown);
   faults = faults;

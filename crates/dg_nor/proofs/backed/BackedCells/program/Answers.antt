@@ -1,0 +1,21 @@
+use Rattle.std.proofs.Common.{length, arith}
+use Rattle.dg_words.specs.Cells.{part}
+use Rattle.dg_nor.specs.Sizes.{chip_size}
+use Rattle.dg_nor.specs.Backing.{cells_image, mirrored_bytes}
+use Rattle.dg_nor.proofs.FileLemmas.{whole_in, mirrors_after, programmed_elsewhere}
+use Rattle.dg_nor.proofs.backed.BackedCells.program.Goals as goal
+
+pub save-requires-clause-whole : goal.save-requires-clause-whole
+save-requires-clause-whole c = whole_in (mirrored_bytes c.args.self.now.backing) (cells_image c.args.self.now.cells) chip_size c.args.self.now.mirrored c.args.self.now.cells.chip.cells
+
+pub invariant_of-self : goal.invariant_of-self
+invariant_of-self c =
+    let old = cells_image c.args.self.now.cells in
+    let new = cells_image c.program.new.self in
+    let bytes = c.args.bytes.now in
+    let whole = c.args.self.now.cells.chip.cells in
+    record {
+      mirrored = mirrors_after c.args.self.now.backing c.save.new.self c.save.result c.args.at (part new c.args.at (length bytes)) old new
+          c.save.ensures.written c.save.ensures.gone c.args.self.now.mirrored
+          (programmed_elsewhere old new c.args.at bytes c.program.ensures (omega arith));
+    }
