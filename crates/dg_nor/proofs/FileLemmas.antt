@@ -31,16 +31,6 @@ overwritten_end xs at bs n =
     ap (λ front. front ++ bs ++ drop (at + length bs) xs) (take_all at xs (omega arith))
     ∙ ap (λ rest. xs ++ bs ++ rest) (drop_all (at + length bs) xs (omega arith)) ∙ append-nil (xs ++ bs)
 
--- ---- a clause on the answer yes
-
-pub on_yes : {P Q : Type 0} (b : Bool) → OnTrue b P → (P → Q) → OnTrue b Q
-on_yes true p f = f p
-on_yes false p f = tt
-
-pub given_yes : {P : Type 0} (b : Bool) → b ≡ true → OnTrue b P → P
-given_yes true told p = p
-given_yes false told p = absurd (both_ways false refl told)
-
 -- ---- a range that changed
 
 -- the new cells of the range, over the old ones, make the new ones
@@ -72,7 +62,7 @@ after_range (Some bytes) at range old new same e = ap (λ xs. overwritten xs at 
 none_gone : (b : Backing) → is_gone b ≡ true → mirrored_bytes b ≡ None
 none_gone Memory gone = absurd (both_ways false refl gone)
 none_gone (Mirrored file) gone = absurd (both_ways false refl gone)
-none_gone Gone gone = refl
+none_gone (Gone fault) gone = refl
 
 pub mirrors_after : (before after : Backing) (saved : Bool) (at : ℕ) (range old new : List ℕ) → OnTrue saved (mirrored_bytes after ≡ option_map (λ bytes. overwritten bytes at range) (mirrored_bytes before)) → is_gone after ≡ not saved
     → IfSome (mirrored_bytes before) (λ bytes. bytes ≡ old) → overwritten old at range ≡ new → IfSome (mirrored_bytes after) (λ bytes. bytes ≡ new)
@@ -83,7 +73,7 @@ mirrors_after before after false at range old new written gone same e = subst (�
 pub has_cells : (b : Backing) (image : List ℕ) → is_gone b ≡ false → is_memory b ≡ false → IfSome (mirrored_bytes b) (λ bytes. bytes ≡ image) → mirrored_bytes b ≡ Some image
 has_cells Memory image awake file same = absurd (both_ways true file refl)
 has_cells (Mirrored file) image awake mirrors same = ap (λ bytes. Some bytes) same
-has_cells Gone image awake file same = absurd (both_ways true awake refl)
+has_cells (Gone fault) image awake file same = absurd (both_ways true awake refl)
 
 -- what a board ends with has the cells that were written, where it is awake and has a file
 pub ended_has_cells : {E : Type 0} (r : Result (Unit {0}) E) (old made new : BackedCells) → new ≡ made → OnOk r (is_gone made.backing ≡ false) → is_memory made.backing ≡ is_memory old.backing

@@ -3,6 +3,7 @@ use Rattle.std.specs.Prelude.{ℕ, true, false, Bool, List, Option, Some, None}
 use Rattle.dg_nor.specs.Filled.{filled}
 use Rattle.dg_nor.specs.declared.cells.Cells.{Cells}
 use Rattle.dg_nor.specs.declared.files.ChipFile.{ChipFile}
+use Rattle.dg_nor.specs.declared.files.FileFault.{FileFault}
 use Rattle.dg_nor.specs.declared.backing.Backing.{Backing}
 use Rattle.dg_nor.specs.declared.backing.Backing.TheVariants.{Memory, Mirrored, Gone}
 
@@ -18,16 +19,22 @@ file_bytes f = f.given.bytes
 abbrev pub is_gone : Backing → Bool
 is_gone Memory = false
 is_gone (Mirrored file) = false
-is_gone Gone = true
+is_gone (Gone fault) = true
 
 -- it has no file
 abbrev pub is_memory : Backing → Bool
 is_memory Memory = true
 is_memory (Mirrored file) = false
-is_memory Gone = false
+is_memory (Gone fault) = false
 
 -- the bytes of its file, where it has one that did not fail
 abbrev pub mirrored_bytes : Backing → Option (List ℕ)
 mirrored_bytes Memory = None
 mirrored_bytes (Mirrored file) = Some (file_bytes file)
-mirrored_bytes Gone = None
+mirrored_bytes (Gone fault) = None
+
+-- why its file is gone
+abbrev pub fault_of : Backing → Option FileFault
+fault_of Memory = None
+fault_of (Mirrored file) = None
+fault_of (Gone fault) = Some fault

@@ -4,11 +4,12 @@ ghost use Rattle.std.proofs.Props.{props};
 ghost use Rattle.dg_words.specs.Cells.{part};
 ghost use Rattle.dg_nor.specs.Sizes.{sectors, sector_size, chip_size};
 ghost use Rattle.dg_nor.specs.Chip.{programmed, erased};
-ghost use Rattle.dg_nor.specs.Backing.{cells_image, is_gone, is_memory, mirrored_bytes};
+ghost use Rattle.dg_nor.specs.Backing.{cells_image, is_gone, is_memory, mirrored_bytes, fault_of};
 
 use crate::SECTOR_SIZE;
 use crate::backing::Backing;
 use crate::cells::Cells;
+use crate::files::FileFault;
 use std::alloc::{AllocError, Global};
 
 /// The cells of a chip, and where they stand besides memory. A file among that has their bytes until it fails.
@@ -41,6 +42,13 @@ impl BackedCells {
         ensures { result ≡ is_gone self.now.backing }
     {
         self.backing.is_gone()
+    }
+
+    /// Why its file is gone.
+    pub(crate) fn file_fault(&self) -> Option<FileFault>
+        ensures { result ≡ fault_of self.now.backing }
+    {
+        self.backing.file_fault()
     }
 
     /// The bytes from `at` on.

@@ -1,13 +1,13 @@
 //! What stands behind a board besides memory.
-ghost use Rattle.std.specs.Prelude.{◌≡◌, ◌+◌, ◌≤◌, false, not, length, IfSome};
+ghost use Rattle.std.specs.Prelude.{◌≡◌, ◌+◌, ◌≤◌, false, not, length, IfSome, OnOk};
 ghost use Rattle.std.specs.Option.{option_map};
 ghost use Rattle.std.specs.Bool.{OnTrue};
 ghost use Rattle.dg_words.specs.Cells.{part, overwritten};
 ghost use Rattle.dg_nor.specs.Sizes.{sector_size, chip_size};
-ghost use Rattle.dg_nor.specs.Backing.{cells_image, file_bytes, is_gone, is_memory, mirrored_bytes};
+ghost use Rattle.dg_nor.specs.Backing.{cells_image, file_bytes, is_gone, is_memory, mirrored_bytes, fault_of};
 
 use crate::cells::Cells;
-use crate::files::ChipFile;
+use crate::files::{ChipFile, FileFault};
 use crate::sectors::sector_buffer;
 
 /// Where the bytes of a board stand besides memory.
@@ -17,8 +17,8 @@ pub(crate) enum Backing {
     Memory,
     /// In this file too.
     Mirrored(ChipFile),
-    /// In a file that failed.
-    Gone,
+    /// In a file that failed, for this reason.
+    Gone(FileFault),
 }
 
 impl Backing {
@@ -28,7 +28,18 @@ impl Backing {
         match self {
             Backing::Memory => false,
             Backing::Mirrored(_) => false,
-            Backing::Gone => true,
+            Backing::Gone(_) => true,
+        }
+    }
+
+    /// Why its file is gone.
+    pub(crate) fn file_fault(&self) -> Option<FileFault>
+        ensures { result ≡ fault_of self.now }
+    {
+        match self {
+            Backing::Memory => None,
+            Backing::Mirrored(_) => None,
+            Backing::Gone(fault) => Some(*fault),
         }
     }
 
@@ -45,8 +56,8 @@ impl Backing {
         ensures memory { is_memory self.new ≡ is_memory self.old }
     {
         if let Backing::Mirrored(file) = self {
-            if !write_range(file, cells, at, count) {
-                *self = Backing::Gone;
+            if let Err(fault) = write_range(file, cells, at, count) {
+                *self = Backing::Gone(fault);
                 return false;
             }
         }
@@ -54,13 +65,13 @@ impl Backing {
     }
 }
 
-/// Writes a range of cells at their place in the file. No where that fails.
+/// Writes a range of cells at their place in the file.
 #[inline(never)]
-fn write_range(file: &mut ChipFile, cells: &Cells, at: u32, count: usize) -> bool
+fn write_range(file: &mut ChipFile, cells: &Cells, at: u32, count: usize) -> Result<(), FileFault>
     requires in_chip { at + count ≤ chip_size }
     requires in_sector { count ≤ sector_size }
     requires within { at ≤ length (file_bytes file.old) }
-    ensures { OnTrue result
+    ensures { OnOk result
         (file_bytes file.new ≡ overwritten (file_bytes file.old) at (part (cells_image cells.now) at count)) }
 {
     let mut buffer = sector_buffer();
