@@ -9,7 +9,7 @@ use Rattle.dg_words.proofs.CellLemmas.{length-part, part-overwritten_at}
 use Rattle.dg_nor.specs.Sizes.{sector_size}
 use Rattle.dg_nor.specs.Chip.{blank, and_each, programmed, erased}
 use Rattle.dg_nor.specs.Device.{Halts}
-use Rattle.dg_nor.specs.Backing.{cells_image, is_gone, is_memory, mirrored_bytes}
+use Rattle.dg_nor.specs.Backing.{cells_image, is_gone, is_memory, mirrored_bytes, Mirrors}
 use Rattle.dg_nor.specs.declared.backing.Backing.{Backing}
 use Rattle.dg_nor.specs.declared.backing.Backing.TheVariants.{Memory, Mirrored, Gone}
 use Rattle.std.specs.Option.{option_map}
@@ -50,9 +50,20 @@ erased_elsewhere old new k e h = same_elsewhere old new (sector_size * k) sector
 
 -- ---- the file of a board
 
-pub whole_in : (o : Option (List ℕ)) (image : List ℕ) (n : ℕ) → IfSome o (λ bytes. bytes ≡ image) → length image ≡ n → IfSome o (λ bytes. length bytes ≡ n)
+pub Mirrors-told : (b : Backing) (image : List ℕ) → Mirrors b image → IfSome (mirrored_bytes b) (λ bytes. bytes ≡ image)
+unfolding Mirrors
+Mirrors-told b image mirrors = mirrors
+
+pub Mirrors-from : (b : Backing) (image : List ℕ) → IfSome (mirrored_bytes b) (λ bytes. bytes ≡ image) → Mirrors b image
+unfolding Mirrors
+Mirrors-from b image told = told
+
+whole_in : (o : Option (List ℕ)) (image : List ℕ) (n : ℕ) → IfSome o (λ bytes. bytes ≡ image) → length image ≡ n → IfSome o (λ bytes. length bytes ≡ n)
 whole_in None image n same l = tt
 whole_in (Some bytes) image n same l = ap length same ∙ l
+
+pub Mirrors-whole : (b : Backing) (image : List ℕ) (n : ℕ) → Mirrors b image → length image ≡ n → IfSome (mirrored_bytes b) (λ bytes. length bytes ≡ n)
+Mirrors-whole b image n mirrors = whole_in (mirrored_bytes b) image n (Mirrors-told b image mirrors)
 
 -- a file that had the cells has the new ones, once the range that changed was written
 after_range : (o : Option (List ℕ)) (at : ℕ) (range old new : List ℕ) → IfSome o (λ bytes. bytes ≡ old) → overwritten old at range ≡ new → IfSome (option_map (λ bytes. overwritten bytes at range) o) (λ bytes. bytes ≡ new)
@@ -65,9 +76,10 @@ none_gone (Mirrored file) gone = absurd (both_ways false refl gone)
 none_gone (Gone fault) gone = refl
 
 pub mirrors_after : (before after : Backing) (saved : Bool) (at : ℕ) (range old new : List ℕ) → OnTrue saved (mirrored_bytes after ≡ option_map (λ bytes. overwritten bytes at range) (mirrored_bytes before)) → is_gone after ≡ not saved
-    → IfSome (mirrored_bytes before) (λ bytes. bytes ≡ old) → overwritten old at range ≡ new → IfSome (mirrored_bytes after) (λ bytes. bytes ≡ new)
-mirrors_after before after true at range old new written gone same e = subst (λ o. IfSome o (λ bytes. bytes ≡ new)) (sym written) (after_range (mirrored_bytes before) at range old new same e)
-mirrors_after before after false at range old new written gone same e = subst (λ o. IfSome o (λ bytes. bytes ≡ new)) (sym (none_gone after gone)) tt
+    → Mirrors before old → overwritten old at range ≡ new → Mirrors after new
+mirrors_after before after true at range old new written gone mirrors e =
+    Mirrors-from after new (subst (λ o. IfSome o (λ bytes. bytes ≡ new)) (sym written) (after_range (mirrored_bytes before) at range old new (Mirrors-told before old mirrors) e))
+mirrors_after before after false at range old new written gone mirrors e = Mirrors-from after new (subst (λ o. IfSome o (λ bytes. bytes ≡ new)) (sym (none_gone after gone)) tt)
 
 -- a file that did not fail has the cells
 pub has_cells : (b : Backing) (image : List ℕ) → is_gone b ≡ false → is_memory b ≡ false → IfSome (mirrored_bytes b) (λ bytes. bytes ≡ image) → mirrored_bytes b ≡ Some image
@@ -79,7 +91,7 @@ has_cells (Gone fault) image awake file same = absurd (both_ways true awake refl
 pub ended_has_cells : {E : Type 0} (r : Result (Unit {0}) E) (old made new : BackedCells) → new ≡ made → OnOk r (is_gone made.backing ≡ false) → is_memory made.backing ≡ is_memory old.backing
     → OnOk r (is_memory old.backing ≡ false → mirrored_bytes new.backing ≡ Some (cells_image new.cells))
 ended_has_cells r old made new same awake memory =
-    on_ok_weaker r (λ gone file. subst (λ b. mirrored_bytes b.backing ≡ Some (cells_image b.cells)) (sym same) (has_cells made.backing (cells_image made.cells) gone (memory ∙ file) made.mirrored)) awake
+    on_ok_weaker r (λ gone file. subst (λ b. mirrored_bytes b.backing ≡ Some (cells_image b.cells)) (sym same) (has_cells made.backing (cells_image made.cells) gone (memory ∙ file) (Mirrors-told made.backing (cells_image made.cells) made.mirrored))) awake
 
 -- ---- a board whose file failed
 

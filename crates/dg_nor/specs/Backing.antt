@@ -1,5 +1,6 @@
 -- What stands behind a board besides memory (docs/FLASH.md, "The device").
-use Rattle.std.specs.Prelude.{ℕ, true, false, Bool, List, Option, Some, None}
+use Rattle.std.specs.Prelude.{◌≡◌, ℕ, true, false, Bool, List, Option, Some, None, IfSome}
+use Rattle.std.proofs.Props.{props}
 use Rattle.dg_nor.specs.Filled.{filled}
 use Rattle.dg_nor.specs.declared.cells.Cells.{Cells}
 use Rattle.dg_nor.specs.declared.files.ChipFile.{ChipFile}
@@ -38,3 +39,11 @@ abbrev pub fault_of : Backing → Option FileFault
 fault_of Memory = None
 fault_of (Mirrored file) = None
 fault_of (Gone fault) = Some fault
+
+-- Its file, where it has one that did not fail, has these bytes.
+unfoldable pub Mirrors : Backing → List ℕ → Type 0
+Mirrors backing image = IfSome (mirrored_bytes backing) (λ bytes. bytes ≡ image)
+
+pub Mirrors-prop : (backing : Backing) (image : List ℕ) → IsProp (Mirrors backing image)
+unfolding Mirrors
+Mirrors-prop backing image = Prim.hlevel props

@@ -1,10 +1,9 @@
 //! The cells of a chip, and the file that mirrors them.
 ghost use Rattle.std.specs.Prelude.{◌≡◌, ◌+◌, ◌<◌, ◌≤◌, false, not, length, IfOk, IfSome};
-ghost use Rattle.std.proofs.Props.{props};
 ghost use Rattle.dg_words.specs.Cells.{part};
 ghost use Rattle.dg_nor.specs.Sizes.{sectors, sector_size, chip_size};
 ghost use Rattle.dg_nor.specs.Chip.{programmed, erased};
-ghost use Rattle.dg_nor.specs.Backing.{cells_image, is_gone, is_memory, mirrored_bytes, fault_of};
+ghost use Rattle.dg_nor.specs.Backing.{cells_image, is_gone, is_memory, mirrored_bytes, fault_of, Mirrors, Mirrors-prop};
 
 use crate::SECTOR_SIZE;
 use crate::backing::Backing;
@@ -17,7 +16,7 @@ use std::alloc::{AllocError, Global};
 pub(crate) struct BackedCells {
     cells: Cells,
     backing: Backing,
-    ghost mirrored: { IfSome (mirrored_bytes backing) (λ bytes. bytes ≡ cells_image cells) } by { Prim.hlevel props },
+    ghost mirrored: { Mirrors backing (cells_image cells) } by { Mirrors-prop backing (cells_image cells) },
 }
 
 impl BackedCells {

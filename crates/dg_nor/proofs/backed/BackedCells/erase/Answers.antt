@@ -1,12 +1,12 @@
 use Rattle.std.proofs.Common.{◌*◌, arith}
 use Rattle.dg_words.specs.Cells.{part}
 use Rattle.dg_nor.specs.Sizes.{sector_size, chip_size}
-use Rattle.dg_nor.specs.Backing.{cells_image, mirrored_bytes}
-use Rattle.dg_nor.proofs.FileLemmas.{whole_in, mirrors_after, erased_elsewhere}
+use Rattle.dg_nor.specs.Backing.{cells_image}
+use Rattle.dg_nor.proofs.FileLemmas.{Mirrors-whole, mirrors_after, erased_elsewhere}
 use Rattle.dg_nor.proofs.backed.BackedCells.erase.Goals as goal
 
 pub save-requires-clause-whole : goal.save-requires-clause-whole
-save-requires-clause-whole c = whole_in (mirrored_bytes c.args.self.now.backing) (cells_image c.args.self.now.cells) chip_size c.args.self.now.mirrored c.args.self.now.cells.chip.cells
+save-requires-clause-whole c = Mirrors-whole c.args.self.now.backing (cells_image c.args.self.now.cells) chip_size c.args.self.now.mirrored c.args.self.now.cells.chip.cells
 
 pub invariant_of-self : goal.invariant_of-self
 invariant_of-self c =
