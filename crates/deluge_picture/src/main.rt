@@ -6,6 +6,9 @@ use dg_picture::{PictureFault, picture};
 use std::env;
 use std::process::ExitCode;
 
+#[cfg(test)]
+mod tests;
+
 const HELP: &str = "\
 deluge_picture: draws how an image spread
 
@@ -82,15 +85,24 @@ fn write(rt: &HostRuntime, text: &str) -> Status {
     }
 }
 
-fn main(rt: HostRuntime) -> ExitCode {
-    let status = match words_ask(&rt) {
-        Asked::Picture => draw(&rt),
-        Asked::Help => write(&rt, HELP),
-        Asked::Version => write(&rt, VERSION),
+/// Does what is asked for.
+fn answer(rt: &HostRuntime, asked: Asked) -> Status {
+    match asked {
+        Asked::Picture => draw(rt),
+        Asked::Help => write(rt, HELP),
+        Asked::Version => write(rt, VERSION),
         Asked::Other => {
             let _ = rt.eprintln("deluge_picture: try deluge_picture --help");
             Status::Usage
         }
-    };
+    }
+}
+
+/// How the program ends.
+fn exit_code(status: Status) -> ExitCode {
     ExitCode::from(status.code())
+}
+
+fn main(rt: HostRuntime) -> ExitCode {
+    exit_code(answer(&rt, words_ask(&rt)))
 }
