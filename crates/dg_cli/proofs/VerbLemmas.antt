@@ -80,7 +80,7 @@ pub nowhere : Outside
 nowhere = record {
   input = record { left = None; reads = 0 };
   output = record { written = None; writes = 0 };
-  link = record { inboxes = None; failures = 0 };
+  link = record { inboxes = None; failures = 0; port = None };
   clock = None;
   boards = [];
 }
