@@ -1,0 +1,7 @@
+use Rattle.std.proofs.Common.{take}
+use Rattle.dg_cost.specs.Timed.{IsStampedReport}
+use Rattle.dg_cost.proofs.timed.timed_text.Given as goal
+
+-- the bytes so far are told
+abbrev pub invariant-loop-byte : goal.invariant-loop-byte
+invariant-loop-byte l = IsStampedReport (take l.byte-index l.report) l.text.items

@@ -1,0 +1,170 @@
+//! The call that replays a script and tells what it costs.
+ghost use Rattle.std.specs.Prelude.{◌≤◌, map, IfOk};
+ghost use Rattle.dg_meter.specs.Meters.{metered_device};
+ghost use Rattle.dg_replay.specs.Around.{around};
+ghost use Rattle.dg_cost.specs.Costs.{CostDone, IsText};
+
+use crate::counter::{Counter, Given};
+use crate::csv::csv_text;
+use crate::moments::Moment;
+use crate::rows::Rows;
+use crate::share::narrow;
+use crate::timed::timed_text;
+use dg_base::{Sink, Source, Status, WriteFailed};
+use dg_meter::Metered;
+use dg_nor::Nor;
+use dg_replay::replay_watched;
+use dg_volume::Volume;
+use std::alloc::{AllocError, Global};
+
+/// What is asked for.
+#[derive(Clone, Copy, Debug, PartialEq, Eq)]
+pub enum Form {
+    /// Rows of comma-separated values.
+    Csv,
+    /// The report, each line behind its event and its moment.
+    Timed,
+}
+
+/// A report that is kept.
+#[derive(Drop)]
+struct KeptReport {
+    bytes: Vec<u8>,
+    faults: u64,
+}
+
+impl Sink for KeptReport {
+    ghost use Rattle.std.specs.Prelude.{Some};
+
+    ghost written = { λ s. Some s.bytes.items };
+
+    ghost faults = { λ s. s.faults };
+
+    fn write(&mut self, bytes: &[u8]) -> Result<(), WriteFailed> {
+        match self.bytes.extend_from_slice(bytes) {
+            Ok(()) => Ok(()),
+            Err(_) => {
+                self.faults = self.faults.saturating_add(1);
+                Err(WriteFailed)
+            }
+        }
+    }
+}
+
+/// What the boards keep as they are.
+fn look<N: Nor>(
+    alloc: Global,
+    boards: &mut Vec<Metered<N>>,
+) -> Result<Vec<Option<Given>>, AllocError> {
+    let mut given = Vec::new(alloc);
+    for index in 0..boards.len() {
+        if index < boards.len() {
+            given.push(look_at(&mut boards[index]))?;
+        }
+    }
+    Ok(given)
+}
+
+/// What a board keeps as it is, where it is a volume. Its meter knows then how many pages each slot has.
+fn look_at<N: Nor>(board: &mut Metered<N>) -> Option<Given> {
+    let Ok(volume) = Volume::mount(board) else {
+        return None;
+    };
+    let kept = volume.kept_images();
+    for image in 0..kept.len() {
+        if let Some(kept) = kept[image] {
+            board.know_pages(image, kept.pages);
+        }
+    }
+    Some(Given {
+        room: volume.room(),
+        kept,
+    })
+}
+
+/// The room that is left on each chip at the end.
+fn look_again<N: Nor>(counter: &mut Counter, boards: &mut Vec<Metered<N>>) {
+    for index in 0..counter.motes.len().min(boards.len()) {
+        if let Ok(volume) = Volume::mount(&mut boards[index]) {
+            counter.motes[index].room_end = Some(u64::from(volume.room()));
+        }
+    }
+}
+
+/// The rows of what was counted.
+fn csv(alloc: Global, counter: &Counter, status: Status) -> Result<Vec<u8>, AllocError> {
+    let by = counter.frames.sent_by_each(alloc, counter.motes.len())?;
+    let mut motes = Vec::new(alloc);
+    for mote in 0..counter.motes.len() {
+        if mote < by.len() {
+            let mut rows = Rows::new(alloc);
+            rows.mote(narrow(mote), &counter.motes[mote], &by[mote], counter)?;
+            motes.push(rows)?;
+        }
+    }
+    let mut all = Rows::new(alloc);
+    all.all(&motes, counter, &by, status)?;
+    csv_text(alloc, &motes, &all)
+}
+
+/// What is written.
+fn text_of(
+    alloc: Global,
+    asked: Form,
+    counter: &Counter,
+    report: &[u8],
+    status: Status,
+) -> Result<Vec<u8>, AllocError>
+    ensures { IfOk result (λ text. IsText asked report.now text.items) }
+{
+    match asked {
+        Form::Csv => csv(alloc, counter, status),
+        Form::Timed => timed_text(
+            alloc,
+            report,
+            &counter.stamps,
+            Moment {
+                event: counter.events,
+                ms: counter.ms,
+            },
+        ),
+    }
+}
+
+/// Replays a script over boards, and writes what it costs, or its report with moments.
+pub fn cost<S: Source, K: Sink, N: Nor>(
+    alloc: Global,
+    asked: Form,
+    input: &mut S,
+    out: &mut K,
+    boards: &mut Vec<Metered<N>>,
+) -> Status
+    ensures done { CostDone asked result
+        (around (S.left input.old) (S.faults input.old) (K.written out.old) (K.faults out.old)
+        (map (metered_device N.device) boards.old.items))
+        (around (S.left input.new) (S.faults input.new) (K.written out.new) (K.faults out.new)
+        (map (metered_device N.device) boards.new.items)) }
+    ensures reads { S.faults input.old ≤ S.faults input.new }
+    ensures writes { K.faults out.old ≤ K.faults out.new }
+{
+    let Ok(given) = look(alloc, boards) else {
+        return Status::Memory;
+    };
+    let mut report = KeptReport {
+        bytes: Vec::new(alloc),
+        faults: 0,
+    };
+    let mut counter = Counter::new(alloc, given, asked == Form::Timed);
+    let status = replay_watched(alloc, input, &mut report, boards, &mut counter);
+    if counter.failed || 0 < report.faults {
+        return Status::Memory;
+    }
+    look_again(&mut counter, boards);
+    match text_of(alloc, asked, &counter, report.bytes.as_slice(), status) {
+        Ok(text) => match out.write(&text) {
+            Ok(()) => status,
+            Err(WriteFailed) => Status::WriteFault,
+        },
+        Err(AllocError) => Status::Memory,
+    }
+}

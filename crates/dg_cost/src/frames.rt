@@ -1,0 +1,337 @@
+//! The frames that were sent, and who heard them.
+
+use crate::kinds::{SENT_KINDS, frame_bytes};
+use dg_base::MOST_MOTES;
+use dg_frame::{Message, write};
+use dg_meter::Share;
+use dg_world::World;
+use std::alloc::{AllocError, Global};
+use std::collections::BTreeMap;
+
+/// A frame that was sent, and what became of it.
+#[derive(Clone, Copy, Debug, PartialEq, Eq)]
+pub struct SentFrame {
+    pub by: u8,
+    pub kind: u8,
+    /// A bit for each mote that heard it.
+    pub heard: u16,
+    /// A bit for each mote to which its bytes came from outside.
+    pub traced: u16,
+    /// It was put into a page by a mote that heard it.
+    pub put: bool,
+    /// It was put into a page as its bytes came from outside.
+    pub traced_put: bool,
+    /// It was put into a page that became complete.
+    pub used: bool,
+}
+
+/// The frames that were sent, the first one first.
+#[derive(Drop)]
+pub struct Frames {
+    pub sent: Vec<SentFrame>,
+    /// The number of each mote's last frame, and 0 where it sent none.
+    last: [usize; MOST_MOTES as usize],
+    /// For each frame that was indexed the number of the last one before it with the same hash, and 0 where there is none.
+    before: Vec<usize>,
+    /// The number of the last frame with a hash.
+    heads: BTreeMap<u64, usize>,
+}
+
+/// The bit of a mote.
+#[inline(always)]
+pub fn bit(mote: u8) -> u16 {
+    if mote < MOST_MOTES { 1_u16 << mote } else { 0 }
+}
+
+/// The bytes of a frame as a number.
+fn hash_of(bytes: &[u8]) -> u64 {
+    let mut hash: u64 = 0xcbf2_9ce4_8422_2325;
+    for byte in bytes {
+        hash = (hash ^ u64::from(*byte)).wrapping_mul(0x0000_0100_0000_01b3);
+    }
+    hash
+}
+
+impl Frames {
+    pub fn new(alloc: Global) -> Frames {
+        Frames {
+            sent: Vec::new(alloc),
+            last: [0; MOST_MOTES as usize],
+            before: Vec::new(alloc),
+            heads: BTreeMap::new(alloc),
+        }
+    }
+
+    /// A mote sent a frame, which gets the next number.
+    #[inline(always)]
+    pub fn send(&mut self, by: u8, kind: u8) -> Result<(), AllocError> {
+        if self.sent.capacity() <= self.sent.len() {
+            self.grow()?;
+        }
+        self.sent.push(SentFrame {
+            by,
+            kind,
+            heard: 0,
+            traced: 0,
+            put: false,
+            traced_put: false,
+            used: false,
+        })?;
+        if usize::from(by) < self.last.len() {
+            self.last[usize::from(by)] = self.sent.len();
+        }
+        Ok(())
+    }
+
+    /// Makes capacity for a frame more.
+    #[inline(never)]
+    fn grow(&mut self) -> Result<(), AllocError> {
+        match self.sent.reserve(1) {
+            Ok(()) => Ok(()),
+            Err(_) => Err(AllocError),
+        }
+    }
+
+    /// The number of the last frame of a mote.
+    pub fn last_of(&self, by: u8) -> usize {
+        match self.last.get(usize::from(by)) {
+            Some(number) => *number,
+            None => 0,
+        }
+    }
+
+    /// The frame with this number.
+    pub fn get(&self, number: usize) -> Option<SentFrame> {
+        if number == 0 || self.sent.len() < number {
+            return None;
+        }
+        Some(self.sent[number - 1])
+    }
+
+    fn set(&mut self, number: usize, frame: SentFrame) {
+        if number == 0 || self.sent.len() < number {
+            return;
+        }
+        self.sent[number - 1] = frame;
+    }
+
+    /// A mote hears the frame with this number, and puts it into a page or not. Answers the frame as it was before.
+    #[inline(always)]
+    pub fn hear(&mut self, number: usize, mote: u8, puts: bool) -> Option<SentFrame> {
+        if number == 0 || self.sent.len() < number {
+            return None;
+        }
+        let frame = &mut self.sent[number - 1];
+        let before = *frame;
+        frame.heard |= bit(mote);
+        frame.put |= puts;
+        Some(before)
+    }
+
+    /// The frame with this number was put into a page that became complete.
+    pub fn used(&mut self, number: usize) {
+        if let Some(mut frame) = self.get(number) {
+            frame.used = true;
+            self.set(number, frame);
+        }
+    }
+
+    /// Bytes came to a mote from outside that are those of the frame with this number.
+    pub fn trace(&mut self, number: usize, mote: u8) {
+        if let Some(mut frame) = self.get(number) {
+            frame.traced |= bit(mote);
+            self.set(number, frame);
+        }
+    }
+
+    /// And they were put into a page.
+    pub fn trace_put(&mut self, number: usize) {
+        if let Some(mut frame) = self.get(number) {
+            frame.traced_put = true;
+            self.set(number, frame);
+        }
+    }
+
+    /// Puts the frames into the index that are not there yet.
+    fn index(&mut self, world: &World) -> Result<(), AllocError> {
+        for number in self.before.len()..self.sent.len() {
+            let hash = match world.frame(number.saturating_add(1)) {
+                Some(message) => hash_of(write(message).as_slice()),
+                None => 0,
+            };
+            let before = match self.heads.get(&hash) {
+                Some(before) => *before,
+                None => 0,
+            };
+            self.before.push(before)?;
+            if self.heads.insert(hash, number.saturating_add(1)).is_err() {
+                return Err(AllocError);
+            }
+        }
+        Ok(())
+    }
+
+    /// The frame of a neighbour that has these bytes: the earliest one that did not come to the mote yet, else the last.
+    pub fn find(
+        &mut self,
+        world: &World,
+        mote: u8,
+        bytes: &[u8],
+    ) -> Result<Option<usize>, AllocError> {
+        self.index(world)?;
+        let hash = hash_of(bytes);
+        let mut number = match self.heads.get(&hash) {
+            Some(found) => *found,
+            None => 0,
+        };
+        let mut last = None;
+        let mut earliest = None;
+        for _ in 0..self.sent.len() {
+            let Some(frame) = self.get(number) else {
+                break;
+            };
+            if world.are_joined(frame.by, mote) && has_bytes(world, number, bytes) {
+                if last.is_none() {
+                    last = Some(number);
+                }
+                if (frame.heard | frame.traced) & bit(mote) == 0 {
+                    earliest = Some(number);
+                }
+            }
+            number = match self.before.get(number.saturating_sub(1)) {
+                Some(before) => *before,
+                None => 0,
+            };
+        }
+        Ok(if earliest.is_some() { earliest } else { last })
+    }
+}
+
+/// Whether the frame with this number has these bytes.
+fn has_bytes(world: &World, number: usize, bytes: &[u8]) -> bool {
+    match world.frame(number) {
+        Some(message) => write(message).as_slice() == bytes,
+        None => false,
+    }
+}
+
+/// It was heard.
+pub const HEARD: usize = 1;
+
+/// Its bytes came to a mote from outside.
+pub const TRACED: usize = 2;
+
+/// It was put into a page.
+pub const PUT: usize = 4;
+
+/// It was put into a page as its bytes came from outside.
+pub const TRACED_PUT: usize = 8;
+
+/// It was put into a page that became complete.
+pub const USED: usize = 16;
+
+/// How many sets of these there are.
+const STATES: usize = 32;
+
+/// What became of a frame, as the sum of what is true of it.
+fn state_of(frame: &SentFrame) -> usize {
+    let mut state = 0;
+    if frame.heard != 0 {
+        state += HEARD;
+    }
+    if frame.traced != 0 {
+        state += TRACED;
+    }
+    if frame.put {
+        state += PUT;
+    }
+    if frame.traced_put {
+        state += TRACED_PUT;
+    }
+    if frame.used {
+        state += USED;
+    }
+    state
+}
+
+/// How many frames a mote sent of each kind, by what became of them.
+#[derive(Clone, Copy, Debug, PartialEq, Eq)]
+pub struct SentBy {
+    states: [[u64; STATES]; SENT_KINDS],
+}
+
+impl Frames {
+    /// What became of the frames of each of so many motes.
+    pub fn sent_by_each(&self, alloc: Global, motes: usize) -> Result<Vec<SentBy>, AllocError> {
+        let mut each = Vec::new(alloc);
+        for _ in 0..motes {
+            each.push(SentBy::none())?;
+        }
+        for frame in &self.sent {
+            let by = usize::from(frame.by);
+            if by < each.len() {
+                each[by].count(frame);
+            }
+        }
+        Ok(each)
+    }
+}
+
+impl SentBy {
+    /// It sent none.
+    pub fn none() -> SentBy {
+        SentBy {
+            states: [[0; STATES]; SENT_KINDS],
+        }
+    }
+
+    #[inline(always)]
+    fn count(&mut self, frame: &SentFrame) {
+        let kind = usize::from(frame.kind);
+        let state = state_of(frame);
+        if kind < SENT_KINDS && state < STATES {
+            self.states[kind][state] = self.states[kind][state].wrapping_add(1);
+        }
+    }
+
+    /// How many frames of a kind there were of which none of this is true.
+    pub fn without(&self, kind: usize, set: usize) -> u64 {
+        let mut number: u64 = 0;
+        if kind < SENT_KINDS {
+            for state in 0..STATES {
+                if state & set == 0 {
+                    number = number.saturating_add(self.states[kind][state]);
+                }
+            }
+        }
+        number
+    }
+
+    /// The same of all kinds.
+    pub fn all_without(&self, set: usize) -> u64 {
+        let mut number: u64 = 0;
+        for kind in 0..SENT_KINDS {
+            number = number.saturating_add(self.without(kind, set));
+        }
+        number
+    }
+}
+
+/// So many frames of a kind.
+pub fn share_of(kind: usize, count: u64) -> Share {
+    Share {
+        count,
+        bytes: count.saturating_mul(frame_bytes(kind) as u64),
+    }
+}
+
+/// The number of a message's kind.
+#[inline(always)]
+pub fn kind_of(message: &Message) -> u8 {
+    match message {
+        Message::Advert { .. } => 0,
+        Message::Request { .. } => 1,
+        Message::Packet { .. } => 2,
+        Message::Wide { .. } => 3,
+    }
+}

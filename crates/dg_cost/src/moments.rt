@@ -1,0 +1,176 @@
+//! When motes have what.
+
+use dg_base::ImageVersion;
+use dg_meter::SLOTS;
+use std::alloc::{AllocError, Global};
+use std::collections::BTreeMap;
+
+/// An event's number, and its moment in milliseconds.
+#[derive(Clone, Copy, Debug, PartialEq, Eq)]
+pub struct Moment {
+    pub event: u64,
+    pub ms: u64,
+}
+
+/// What a mote keeps of an image.
+#[derive(Clone, Copy, Debug, PartialEq, Eq)]
+pub struct Have {
+    pub version: u32,
+    pub done: u8,
+    /// It is whole since then, if it is.
+    pub whole: Option<Moment>,
+}
+
+/// That an image became whole: at which mote, and how often it had been whole there then.
+#[derive(Clone, Copy, Debug, PartialEq, Eq, PartialOrd, Ord)]
+pub struct Whole {
+    pub mote: u8,
+    pub image: u8,
+    pub version: u32,
+    pub times: u32,
+}
+
+/// What motes keep, and when they had what.
+#[derive(Drop)]
+pub struct Moments {
+    pub keeps: Vec<[Option<Have>; SLOTS]>,
+    /// When images became whole.
+    pub wholes: BTreeMap<Whole, Moment>,
+    /// When every mote had a version whole at the same time, for the first time.
+    pub all: BTreeMap<ImageVersion, Moment>,
+}
+
+impl Moments {
+    pub fn new(alloc: Global) -> Moments {
+        Moments {
+            keeps: Vec::new(alloc),
+            wholes: BTreeMap::new(alloc),
+            all: BTreeMap::new(alloc),
+        }
+    }
+
+    /// What a mote keeps of an image.
+    pub fn kept(&self, mote: u8, image: u8) -> Option<Have> {
+        match self.keeps.get(usize::from(mote)) {
+            Some(images) => match images.get(usize::from(image)) {
+                Some(have) => *have,
+                None => None,
+            },
+            None => None,
+        }
+    }
+
+    fn set(&mut self, mote: u8, image: u8, have: Option<Have>) {
+        if usize::from(mote) < self.keeps.len() && usize::from(image) < SLOTS {
+            let mut images = self.keeps[usize::from(mote)];
+            images[usize::from(image)] = have;
+            self.keeps[usize::from(mote)] = images;
+        }
+    }
+
+    /// A mote keeps nothing of an image any more.
+    pub fn lose(&mut self, mote: u8, image: u8) {
+        self.set(mote, image, None);
+    }
+
+    /// A mote keeps this version of an image, with so many of its pages.
+    pub fn keep(
+        &mut self,
+        mote: u8,
+        image: u8,
+        version: u32,
+        done: u8,
+        pages: u8,
+        at: Moment,
+    ) -> Result<(), AllocError> {
+        let whole = 0 < done && done == pages;
+        let since = if whole { Some(at) } else { None };
+        self.set(
+            mote,
+            image,
+            Some(Have {
+                version,
+                done,
+                whole: since,
+            }),
+        );
+        if !whole || image == 0 {
+            return Ok(());
+        }
+        let whole = Whole {
+            mote,
+            image,
+            version,
+            times: self.times(mote, image, version),
+        };
+        if self.wholes.insert(whole, at).is_err() {
+            return Err(AllocError);
+        }
+        self.note_all(ImageVersion { image, version }, at)
+    }
+
+    /// Every mote may have a version whole now.
+    fn note_all(&mut self, image_version: ImageVersion, at: Moment) -> Result<(), AllocError> {
+        if self.all.get(&image_version).is_some() || !self.have_all(image_version) {
+            return Ok(());
+        }
+        match self.all.insert(image_version, at) {
+            Ok(_) => Ok(()),
+            Err(_) => Err(AllocError),
+        }
+    }
+
+    /// How often a mote has had a version whole, this time included.
+    fn times(&self, mote: u8, image: u8, version: u32) -> u32 {
+        let mut times: u32 = 1;
+        for whole in self.wholes.keys() {
+            if whole.mote == mote && whole.image == image && whole.version == version {
+                times = times.saturating_add(1);
+            }
+        }
+        times
+    }
+
+    /// Whether every mote keeps this version whole.
+    fn have_all(&self, image_version: ImageVersion) -> bool {
+        let mut all = true;
+        for images in &self.keeps {
+            let has = match images.get(usize::from(image_version.image)) {
+                Some(Some(have)) => have.version == image_version.version && have.whole.is_some(),
+                _ => false,
+            };
+            all = all && has;
+        }
+        all
+    }
+
+    /// The moment from which on every mote keeps the newest version whole that any mote keeps whole.
+    pub fn newest(&self, image: u8) -> Option<Moment> {
+        let mut newest = 0;
+        for images in &self.keeps {
+            if let Some(Some(have)) = images.get(usize::from(image)) {
+                if have.whole.is_some() && newest < have.version {
+                    newest = have.version;
+                }
+            }
+        }
+        let image_version = ImageVersion {
+            image,
+            version: newest,
+        };
+        if newest == 0 || !self.have_all(image_version) {
+            return None;
+        }
+        let mut last = Moment { event: 0, ms: 0 };
+        for images in &self.keeps {
+            if let Some(Some(have)) = images.get(usize::from(image)) {
+                if let Some(since) = have.whole {
+                    if last.event <= since.event {
+                        last = since;
+                    }
+                }
+            }
+        }
+        Some(last)
+    }
+}

@@ -1,0 +1,172 @@
+//! What is counted of a mote.
+
+use crate::frames::share_of;
+use crate::kinds::SENT_KINDS;
+use dg_meter::{REGIONS, Share, Tally};
+
+/// How many motes there may be.
+pub const MOTES: usize = 16;
+
+/// The packets of the page that a mote fills.
+pub const FILL: usize = 48;
+
+/// The starts of a mote, by power and by order.
+#[derive(Clone, Copy, Debug, PartialEq, Eq)]
+pub struct Starts {
+    pub power: u64,
+    pub order: u64,
+    /// Those in which a cut blew.
+    pub cut_power: u64,
+    pub cut_order: u64,
+    /// Those that found no image.
+    pub none: u64,
+}
+
+impl Starts {
+    pub fn none() -> Starts {
+        Starts {
+            power: 0,
+            order: 0,
+            cut_power: 0,
+            cut_order: 0,
+            none: 0,
+        }
+    }
+}
+
+/// What is counted of a mote.
+#[derive(Clone, Copy)]
+pub struct MoteCost {
+    pub on: bool,
+    /// The moment at which it went on last.
+    pub since: u64,
+    /// For how long it was on before that, in milliseconds.
+    pub on_ms: u64,
+    /// The moment of its last start.
+    pub started: u64,
+    /// How many short starts are counted.
+    pub gesture: u8,
+    pub events: [u64; 7],
+    pub refused: [u64; 11],
+    pub cuts: u64,
+    pub outside: [Share; 5],
+    pub refused_frames: [Share; 5],
+    pub refused_outside: [Share; 5],
+    pub answers: [u64; 12],
+    /// The frames that it heard, by the mote that sent them, and by kind.
+    pub from: [[u64; SENT_KINDS]; MOTES],
+    /// How many different ones, by the mote that sent them.
+    pub first: [u64; MOTES],
+    pub put: u64,
+    pub traced: Share,
+    pub starts: Starts,
+    pub starts_image: [u64; 7],
+    pub starts_copied: u64,
+    /// What its chip was formatted by.
+    pub format: Tally,
+    /// Its chip's operations up to the last event.
+    pub tally: Tally,
+    pub cut_programs: [u64; REGIONS],
+    pub cut_erases: [u64; REGIONS],
+    pub flash_events: [u64; 7],
+    pub begun: u64,
+    pub sealed: u64,
+    pub copied: u64,
+    pub takes: u64,
+    pub commits: u64,
+    /// Commits in which a cut blew.
+    pub torn: u64,
+    pub handovers: u64,
+    pub room_begin: u64,
+    pub room_end: Option<u64>,
+    /// The numbers of the frames that brought the packets of the page that it fills.
+    pub fill: [usize; FILL],
+    pub filled: usize,
+}
+
+impl MoteCost {
+    pub fn new() -> MoteCost {
+        MoteCost {
+            on: false,
+            since: 0,
+            on_ms: 0,
+            started: 0,
+            gesture: 0,
+            events: [0; 7],
+            refused: [0; 11],
+            cuts: 0,
+            outside: [Share::none(); 5],
+            refused_frames: [Share::none(); 5],
+            refused_outside: [Share::none(); 5],
+            answers: [0; 12],
+            from: [[0; SENT_KINDS]; MOTES],
+            first: [0; MOTES],
+            put: 0,
+            traced: Share::none(),
+            starts: Starts::none(),
+            starts_image: [0; 7],
+            starts_copied: 0,
+            format: Tally::none(),
+            tally: Tally::none(),
+            cut_programs: [0; REGIONS],
+            cut_erases: [0; REGIONS],
+            flash_events: [0; 7],
+            begun: 0,
+            sealed: 0,
+            copied: 0,
+            takes: 0,
+            commits: 0,
+            torn: 0,
+            handovers: 0,
+            room_begin: 0,
+            room_end: None,
+            fill: [0; FILL],
+            filled: 0,
+        }
+    }
+
+    /// The mote went on at this moment, unless it was on.
+    pub fn go_on(&mut self, ms: u64) {
+        if !self.on {
+            self.on = true;
+            self.since = ms;
+        }
+        self.started = ms;
+    }
+
+    /// The mote went off at this moment.
+    pub fn go_off(&mut self, ms: u64) {
+        self.on_ms = self.on_until(ms);
+        self.on = false;
+    }
+
+    /// For how long it was on up to this moment.
+    pub fn on_until(&self, ms: u64) -> u64 {
+        if !self.on {
+            return self.on_ms;
+        }
+        self.on_ms.saturating_add(ms.saturating_sub(self.since))
+    }
+
+    /// The frames of a kind that it heard.
+    pub fn heard(&self, kind: usize) -> Share {
+        let mut count: u64 = 0;
+        if kind < SENT_KINDS {
+            for by in 0..MOTES {
+                count = count.saturating_add(self.from[by][kind]);
+            }
+        }
+        share_of(kind, count)
+    }
+
+    /// The frames that it heard of a mote.
+    pub fn heard_from(&self, by: usize) -> Share {
+        let mut all = Share::none();
+        if by < MOTES {
+            for kind in 0..SENT_KINDS {
+                all = all.with(share_of(kind, self.from[by][kind]));
+            }
+        }
+        all
+    }
+}

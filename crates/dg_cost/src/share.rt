@@ -1,0 +1,35 @@
+//! Counts by the number of a kind.
+
+use dg_meter::Share;
+
+/// One more of the kind with this number, of so many bytes.
+#[inline(always)]
+pub fn add_share(shares: &mut [Share], kind: usize, bytes: usize) {
+    if kind < shares.len() {
+        shares[kind] = shares[kind].and(bytes);
+    }
+}
+
+/// One more of the kind with this number. There are never 2^64 of it.
+#[inline(always)]
+pub fn add_one(counts: &mut [u64], kind: usize) {
+    if kind < counts.len() {
+        counts[kind] = counts[kind].wrapping_add(1);
+    }
+}
+
+/// So many more of the kind with this number.
+#[inline(always)]
+pub fn add(counts: &mut [u64], kind: usize, more: u64) {
+    if kind < counts.len() {
+        counts[kind] = counts[kind].saturating_add(more);
+    }
+}
+
+/// A number of a mote, an image or a kind, which fits a byte.
+pub fn narrow(number: usize) -> u8 {
+    match u8::try_from(number) {
+        Ok(number) => number,
+        Err(_) => u8::MAX,
+    }
+}

@@ -1,0 +1,240 @@
+//! What an event does to a chip, by the operations that it makes.
+
+use crate::counter::Counter;
+use crate::mote::MoteCost;
+use crate::share::{add, add_one};
+use dg_meter::{Kind, Operation, Region, Tally};
+use dg_script::Report;
+
+/// The programs by which a page is copied.
+const COPY_PROGRAMS: u64 = 8;
+
+/// The programs of a control sector by which a commit is made.
+const COMMIT_PROGRAMS: u64 = 2;
+
+/// What an event did to a chip.
+#[derive(Clone, Copy)]
+pub struct Work {
+    pub puts: u64,
+    pub sealed: u64,
+    pub copied: bool,
+    pub any: bool,
+}
+
+/// No operation was made.
+pub const NO_WORK: Work = Work {
+    puts: 0,
+    sealed: 0,
+    copied: false,
+    any: false,
+};
+
+/// A packet was put into a page.
+const ONE_PUT: Work = Work {
+    puts: 1,
+    sealed: 0,
+    copied: false,
+    any: true,
+};
+
+/// How many operations of a kind were made in a region and not interrupted.
+fn finished(
+    kind: Kind,
+    region: Region,
+    before: &Tally,
+    after: &Tally,
+    cut: Option<Operation>,
+) -> u64 {
+    let made = after
+        .of(kind)
+        .at(region)
+        .since(before.of(kind).at(region))
+        .count;
+    match cut {
+        Some(last) if last.kind == kind && last.region == region => made.saturating_sub(1),
+        _ => made,
+    }
+}
+
+/// Whether an operation is one of a commit.
+fn in_commit(operation: Operation) -> bool {
+    operation.region == Region::Ledger || operation.region == Region::Control
+}
+
+/// Whether an operation writes the header of a slot that is taken, and not a gate.
+fn is_header(operation: Operation) -> bool {
+    operation.region == Region::Head && operation.kind == Kind::Program && operation.bytes != 1
+}
+
+/// How many of the headers were finished.
+fn finished_headers(headers: u64, cut: Option<Operation>) -> u64 {
+    match cut {
+        Some(last) => {
+            if is_header(last) {
+                return headers.saturating_sub(1);
+            }
+            headers
+        }
+        None => headers,
+    }
+}
+
+/// How many takes were finished, whose last commit may be interrupted.
+fn finished_takes(headers: u64, cut: Option<Operation>) -> u64 {
+    match cut {
+        Some(last) => {
+            if is_header(last) || in_commit(last) {
+                return 0;
+            }
+            headers
+        }
+        None => headers,
+    }
+}
+
+/// How many pages of an image these lines tell.
+fn pages_told(reports: &[Report]) -> Option<(u8, u32, u8)> {
+    let mut told = None;
+    for report in reports {
+        if let Report::Have {
+            image,
+            version,
+            pages,
+            ..
+        } = report
+        {
+            told = Some((*image, *version, *pages));
+        }
+    }
+    told
+}
+
+impl MoteCost {
+    /// What the operations of an event come to, the last of which a cut interrupted, where there is one.
+    fn work(&mut self, kind: usize, after: &Tally, cut: Option<Operation>) -> Work {
+        if cut.is_none() && self.is_put(after) {
+            self.tally = *after;
+            add_one(&mut self.flash_events, kind);
+            return ONE_PUT;
+        }
+        self.all_work(kind, after, cut)
+    }
+
+    /// Whether one operation was made, and that put a packet into a page.
+    fn is_put(&self, after: &Tally) -> bool {
+        if after.operations != self.tally.operations.saturating_add(1) {
+            return false;
+        }
+        match after.last {
+            Some(last) => last.kind == Kind::Program && last.region == Region::Page,
+            None => false,
+        }
+    }
+
+    /// The same of any operations.
+    #[inline(never)]
+    fn all_work(&mut self, kind: usize, after: &Tally, cut: Option<Operation>) -> Work {
+        let before = self.tally;
+        add(
+            &mut self.flash_events,
+            kind,
+            after.operations.saturating_sub(before.operations),
+        );
+        let control = finished(Kind::Program, Region::Control, &before, after, cut);
+        let ledger = finished(Kind::Program, Region::Ledger, &before, after, cut);
+        let copies = finished(Kind::Program, Region::Program, &before, after, cut);
+        let puts = finished(Kind::Program, Region::Page, &before, after, cut);
+        let begun = finished(Kind::Erase, Region::Page, &before, after, None);
+        let heads = finished(Kind::Program, Region::Head, &before, after, cut);
+        let headers = after.headers.saturating_sub(before.headers);
+        self.note_commits(control, ledger, cut);
+        self.takes = self.takes.saturating_add(finished_takes(headers, cut));
+        self.begun = self.begun.saturating_add(begun);
+        self.copied = self.copied.saturating_add(copies / COPY_PROGRAMS);
+        if 0 < begun {
+            self.filled = 0;
+        }
+        self.tally = *after;
+        Work {
+            puts,
+            sealed: heads.saturating_sub(finished_headers(headers, cut)),
+            copied: 0 < copies,
+            any: true,
+        }
+    }
+
+    /// So many programs of control sectors and of the ledger were finished.
+    fn note_commits(&mut self, control: u64, ledger: u64, cut: Option<Operation>) {
+        let mut commits = control / COMMIT_PROGRAMS;
+        if let Some(last) = cut {
+            self.note_cut(last);
+            if last.region == Region::Ledger {
+                commits = commits.saturating_sub(1);
+            }
+            if in_commit(last) {
+                self.torn = self.torn.saturating_add(1);
+            }
+        }
+        self.commits = self.commits.saturating_add(commits);
+        self.handovers = self.handovers.saturating_add(ledger);
+    }
+
+    fn note_cut(&mut self, last: Operation) {
+        match last.kind {
+            Kind::Program => add_one(&mut self.cut_programs, last.region as usize),
+            Kind::Erase => add_one(&mut self.cut_erases, last.region as usize),
+        }
+    }
+}
+
+impl Counter {
+    /// How many pages became complete in an event, of which so many gates were finished and the last was interrupted.
+    fn sealed(
+        &self,
+        mote: u8,
+        taken: bool,
+        gates: u64,
+        cut: Option<Operation>,
+        reports: &[Report],
+    ) -> u64 {
+        let Some(last) = cut else {
+            return gates;
+        };
+        if last.region != Region::Head || last.kind != Kind::Program || last.bytes != 1 {
+            return gates;
+        }
+        let Some((image, version, pages)) = pages_told(reports) else {
+            return gates;
+        };
+        let before = match self.moments.kept(mote, image) {
+            Some(have) if !taken && have.version == version => u64::from(have.done),
+            _ => 0,
+        };
+        u64::from(pages).saturating_sub(before).max(gates)
+    }
+
+    /// What the chip of a mote did in an event.
+    pub fn note_work(
+        &mut self,
+        mote: u8,
+        kind: usize,
+        after: &Tally,
+        off: bool,
+        reports: &[Report],
+    ) -> Work {
+        let index = usize::from(mote);
+        if self.motes.len() <= index {
+            return NO_WORK;
+        }
+        if self.motes[index].tally.operations == after.operations {
+            return NO_WORK;
+        }
+        let cut = if off { after.last } else { None };
+        let taken = self.motes[index].tally.headers < after.headers;
+        let mut work = self.motes[index].work(kind, after, cut);
+        work.sealed = self.sealed(mote, taken, work.sealed, cut, reports);
+        let cost = &mut self.motes[index];
+        cost.sealed = cost.sealed.saturating_add(work.sealed);
+        work
+    }
+}
