@@ -1,0 +1,6 @@
+pub mod PageLemmas
+pub mod ImageLemmas
+pub mod StartingLemmas
+pub mod FactsLemmas
+pub mod BreakLemmas
+pub mod SeenLemmas

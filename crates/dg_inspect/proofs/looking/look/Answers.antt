@@ -1,0 +1,24 @@
+use Rattle.std.proofs.Common.{◌≡◌, List, ℕ, sym, subst, ◌∙◌, rules}
+use Rattle.dg_control.specs.Store.{HasForm}
+use Rattle.dg_boot.proofs.ReadLemmas.{Looked_then}
+use Rattle.dg_volume.specs.Store.{Store}
+use Rattle.dg_volume.specs.Stands.{IsNoVolume, Mounted}
+use Rattle.dg_inspect.proofs.looking.look.Goals as goal
+
+pub see_broken-requires : goal.see_broken-requires
+see_broken-requires g c = subst IsNoVolume (sym c.mount.ensures.same_image) (c.mount.ensures.not_a_volume (search rules))
+
+pub returns-in_ok-seen-in-Ok-clause-shows : goal.returns-in_ok-seen-in-Ok-clause-shows
+returns-in_ok-seen-in-Ok-clause-shows g c =
+    let same = c.mount.ensures.same_image in
+    let v = c.in-Ok.volume in
+    let volume = c.in-Ok.ensures.volume in
+    let mounted = c.in-Ok.ensures.mounted in
+    let seen = c.in_ok-seen-in-Ok.ensures in (
+      (volume.0, volume.1.stands),
+      (λ s stands. seen.shows s (subst (λ (x : List ℕ). Mounted x v s) (sym same) (mounted s stands))),
+      subst (λ (x : List ℕ). HasForm x c.in_ok-seen-in-Ok.seen.form) same seen.form,
+    )
+
+pub returns-in_ok-seen-in-Ok-clause-ends : goal.returns-in_ok-seen-in-Ok-clause-ends
+returns-in_ok-seen-in-Ok-clause-ends g c = Looked_then c.in-Ok.ensures.looked c.in_ok-seen-in-Ok.ensures.ends

@@ -1,0 +1,8 @@
+pub mod Chip
+pub mod Pages
+pub mod Starts
+pub mod Facts
+pub mod Breaks
+pub mod Seen
+pub mod Files
+pub mod Numbers

@@ -1,0 +1,29 @@
+//! What is seen of a chip that is only read: the image that each slot keeps, program memory, the order, what the next start
+//! would run, and why a chip is no volume.
+//!
+//! Nothing here writes: a `StillChip` has no call that changes a byte, and every other function says of any device that it was
+//! only read.
+#![tactic(auto)]
+
+mod breaks;
+mod chip;
+mod faults;
+mod files;
+mod header;
+mod images;
+mod looking;
+mod numbers;
+mod orders;
+mod pages;
+mod seen;
+mod starting;
+
+pub use breaks::find_break;
+pub use chip::StillChip;
+pub use files::inspect;
+pub use looking::look;
+pub use numbers::next_numbers;
+pub use seen::{
+    Break, BytesSeen, ChainSeen, ChipSeen, Condition, FileSeen, ImageSeen, ImageVersion, LookFault,
+    NextNumbers, NextStart, OrderState, PagesSeen, ProgramSeen, StartReason, VolumeSeen,
+};
