@@ -1,5 +1,5 @@
 -- A chip that meets all conditions is a volume.
-use Rattle.std.proofs.Common.{◌≡◌, ℕ, ◌<◌, ◌≤◌, Bool, true, List, length, get_or, Option, Some, None, Result, Ok, Err, IfSome, IfOk, IsNone, IsSomeAnd, IsTrue, refl, sym, ap, subst, ◌∙◌, arith, eq-eqb, eqb-true}
+use Rattle.std.proofs.Common.{◌≡◌, ℕ, ◌<◌, Bool, true, List, length, Option, Some, None, Result, Ok, Err, IfSome, IfOk, IsNone, IsSomeAnd, IsTrue, refl, sym, ap, subst, ◌∙◌, arith, eq-eqb, eqb-true}
 use Rattle.std.specs.Prelude.{◌↔◌, nat_eq}
 use Rattle.dg_nor.specs.declared.device.Stopped.{Stopped}
 use Rattle.dg_words.specs.Cells.{part}
@@ -16,12 +16,11 @@ use Rattle.dg_control.specs.declared.snapshot.Snapshot.{Snapshot}
 use Rattle.dg_slot.specs.Layout.{header_sector, page_sector, header_size, gates_at, gates_size}
 use Rattle.dg_slot.specs.Header.{IsHeader}
 use Rattle.dg_slot.specs.Pages.{page_in, slot_pages, program}
-use Rattle.dg_slot.specs.Kept.{Held, KeepsImage, HasDescriptor}
+use Rattle.dg_slot.specs.Kept.{Held, HasDescriptor}
 use Rattle.dg_slot.proofs.HeaderLemmas.{one_header}
 use Rattle.dg_volume.specs.Sizes.{images, golden_version}
 use Rattle.dg_volume.specs.Store.{App, Store, held}
-use Rattle.dg_volume.specs.Told.{Says}
-use Rattle.dg_volume.specs.Stands.{Stands, IsVolume}
+use Rattle.dg_volume.specs.Stands.{IsVolume}
 use Rattle.dg_volume.specs.Reading.{SlotKeeps, ProgramHolds}
 use Rattle.dg_volume.proofs.MountLemmas.{gathered}
 use Rattle.dg_inspect.specs.Breaks.{slot_state, HoldsGolden, HoldsHeader, HoldsDescriptor, HoldsSet, HoldsBehind, FailsBehind, FailsAt, IsSectorOf, BreaksAt}

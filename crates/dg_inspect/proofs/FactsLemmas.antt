@@ -4,16 +4,15 @@ use Rattle.std.specs.Prelude.{◌==◌, ◌&&◌, ◌||◌, not, nat_lt, nat_le,
 use Rattle.std.specs.FinSet as set
 use Rattle.std.specs.List.{list_all, range_with_len}
 use Rattle.std.proofs.lemmas.Bool.{cases_lt}
-use Rattle.std.proofs.lemmas.Bool.Decides.{nat_tests}
 use Rattle.dg_base.specs.Crc.{crc_of}
 use Rattle.dg_bits.specs.Sets.{Numbers, IsLeast, least}
 use Rattle.dg_bits.proofs.SetLaws.{contains-none, least_cases}
 use Rattle.dg_object.specs.Descriptor.{crc_in}
 use Rattle.dg_slot.specs.Kept.{Held, KeepsImage}
 use Rattle.dg_slot.specs.Layout.{page_sector}
-use Rattle.dg_slot.specs.Pages.{page_in, slot_pages}
-use Rattle.dg_volume.specs.Sizes.{golden_version, short_starts}
-use Rattle.dg_volume.specs.Store.{App, Store, held}
+use Rattle.dg_slot.specs.Pages.{page_in}
+use Rattle.dg_volume.specs.Sizes.{short_starts}
+use Rattle.dg_volume.specs.Store.{Store, held}
 use Rattle.dg_volume.specs.Changes.{spent}
 use Rattle.dg_volume.specs.Start.{counts, by_gesture, order_waits, sound, held_sound, pages_sound, is_whole}
 use Rattle.dg_volume.specs.declared.volume.StartCause.TheVariants as cause

@@ -1,7 +1,6 @@
 -- Slots and program memory as pages from a sector on.
-use Rattle.std.proofs.Common.{◌≡◌, ℕ, ◌+◌, ◌-◌, ◌<◌, ◌≤◌, List, [], ◌∷◌, length, get_or, drop, refl, sym, ap, subst, ◌∙◌, arith, Option, Some, None}
-use Rattle.dg_words.specs.Lists.{tabulate}
-use Rattle.dg_words.proofs.ListLemmas.{length-tabulate, get_or-tabulate}
+use Rattle.std.proofs.Common.{◌≡◌, ℕ, ◌+◌, ◌<◌, ◌≤◌, List, [], ◌∷◌, length, get_or, drop, refl, sym, ap, subst, ◌∙◌, arith}
+use Rattle.dg_words.proofs.ListLemmas.{get_or-tabulate}
 use Rattle.sha2.specs.Sha256.{sha256}
 use Rattle.dg_object.specs.Descriptor.{Details, IsDescriptor}
 use Rattle.dg_slot.specs.Layout.{page_sector, program_sector}

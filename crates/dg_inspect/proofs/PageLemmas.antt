@@ -1,5 +1,5 @@
 -- The pages of an image, as a table, and what is seen of them.
-use Rattle.std.proofs.Common.{◌≡◌, ◌≢◌, ℕ, suc, ◌+◌, ◌-◌, ◌<◌, ◌≤◌, min, Bool, true, false, List, [], ◌++◌, map, length, take, get_or, refl, sym, ap, ◌∙◌, ⊎_elim, arith, append_assoc, eq-eqb, drop, Option, Some, None}
+use Rattle.std.proofs.Common.{◌≡◌, ◌≢◌, ℕ, suc, ◌+◌, ◌-◌, ◌<◌, ◌≤◌, min, Bool, true, false, List, [], ◌++◌, map, length, take, get_or, refl, sym, ap, ◌∙◌, ⊎_elim, arith, append_assoc, eq-eqb, drop, Some, None}
 use Rattle.std.specs.Prelude.{◌==◌, ◌&&◌, ◌||◌, not, nat_le, nat_lt, if◌then◌else◌}
 use Rattle.std.specs.FinSet as set_of
 use Rattle.std.specs.List.{range_with_len}

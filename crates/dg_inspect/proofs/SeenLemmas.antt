@@ -5,8 +5,7 @@ use Rattle.dg_nor.specs.Sizes.{chip_size}
 use Rattle.dg_nor.specs.Chip.{blank}
 use Rattle.dg_nor.specs.Filled.{filled}
 use Rattle.dg_nor.specs.Device.{Device}
-use Rattle.dg_nor.specs.Reads.{Looked, ReadStopped, ReadEnds}
-use Rattle.dg_nor.specs.declared.device.Stopped.{Stopped}
+use Rattle.dg_nor.specs.Reads.{Looked}
 use Rattle.dg_boot.proofs.ReadLemmas.{Looked_then, ReadStopped_after}
 use Rattle.dg_inspect.specs.Seen.{LookEnds}
 use Rattle.dg_inspect.specs.declared.seen.LookFault.{LookFault}

@@ -1,25 +1,20 @@
 -- What a start runs, case by case.
-use Rattle.std.proofs.Common.{◌≡◌, ℕ, ◌+◌, ◌-◌, ◌<◌, ◌≤◌, Bool, true, false, List, [], ◌∷◌, length, get_or, Option, Some, None, IfSome, refl, sym, ap, ◌∙◌, arith, eq-eqb}
-use Rattle.std.specs.Prelude.{◌==◌, ◌&&◌, ◌||◌, not, nat_lt, nat_le, is_some, if◌then◌else◌}
-use Rattle.std.specs.FinSet as set
-use Rattle.std.specs.List.{list_all, range_with_len}
-use Rattle.dg_base.specs.Crc.{crc_of}
-use Rattle.dg_nor.specs.Trail.{last, joined, resting}
+use Rattle.std.proofs.Common.{◌≡◌, ℕ, ◌+◌, Bool, true, false, Option, Some, None, refl, sym, ap, ◌∙◌}
+use Rattle.std.specs.Prelude.{◌==◌, ◌&&◌, ◌||◌, not, if◌then◌else◌}
+use Rattle.dg_nor.specs.Trail.{last, resting}
 use Rattle.dg_nor.proofs.TrailLemmas.{last-resting, last-stepping}
-use Rattle.dg_object.specs.Descriptor.{crc_in}
 use Rattle.dg_volume.specs.Sizes.{golden_version, short_starts}
-use Rattle.dg_volume.specs.Store.{App, Store, held}
+use Rattle.dg_volume.specs.Store.{App, Store}
 use Rattle.dg_volume.specs.Told.{program_told}
 use Rattle.dg_control.specs.declared.snapshot.Program.TheVariants.{Blank, Set}
 use Rattle.dg_volume.specs.Changes.{spent}
 use Rattle.dg_volume.specs.Trails.{committing}
-use Rattle.dg_volume.specs.Start.{Boot, behind, boot, counts, count_trail, boot_counted, by_gesture, order_waits, sound, is_set_to, golden_boot, golden_by, golden_copied, golden_stays, kept_boot, kept_by, order_boot, kept_runs, waived_once}
+use Rattle.dg_volume.specs.Start.{Boot, boot, counts, count_trail, boot_counted, by_gesture, order_waits, sound, is_set_to, golden_boot, golden_by, golden_copied, kept_boot, kept_by, order_boot, waived_once}
 use Rattle.dg_volume.specs.declared.volume.StartCause.TheVariants as cause
 use Rattle.dg_inspect.specs.Starts.{once_counted, version_of, reason_by, reason_of, waives}
 use Rattle.dg_inspect.specs.Facts.{golden_if, counted_gesture, counted_room}
 use Rattle.dg_inspect.proofs.PageLemmas.{if_true, if_false}
 use Rattle.dg_inspect.specs.declared.seen.ImageVersion.{ImageVersion}
-use Rattle.dg_inspect.specs.declared.seen.StartReason.{StartReason}
 use Rattle.dg_inspect.specs.declared.seen.StartReason.TheVariants as reason
 
 -- ---- golden

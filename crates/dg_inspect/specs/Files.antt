@@ -1,5 +1,5 @@
 -- What the bytes of a file are (docs/COMMANDS.md, "Looking into chips").
-use Rattle.std.specs.Prelude.{◌≡◌, ◌≢◌, ℕ, ◌-◌, ◌≤◌, nat_lt, List, ◌++◌, length, replicate}
+use Rattle.std.specs.Prelude.{◌≡◌, ℕ, ◌-◌, ◌≤◌, nat_lt, List, ◌++◌, length, replicate}
 use Rattle.dg_nor.specs.Sizes.{chip_size, old_chip_size}
 use Rattle.dg_nor.specs.Chip.{blank}
 use Rattle.dg_inspect.specs.Seen.{ShowsChip}

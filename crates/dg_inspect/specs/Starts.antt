@@ -1,9 +1,9 @@
 -- What the next start runs, and what becomes of the order (docs/IMAGES.md, "The start").
-use Rattle.std.specs.Prelude.{◌≡◌, ℕ, ◌==◌, ◌&&◌, nat_le, nat_lt, not, Bool, true, false, if◌then◌else◌, Option, Some, None}
+use Rattle.std.specs.Prelude.{◌≡◌, ℕ, ◌==◌, ◌&&◌, nat_le, nat_lt, not, Bool, false, if◌then◌else◌, Option, Some, None}
 use Rattle.dg_nor.specs.Trail.{last}
 use Rattle.dg_slot.specs.Kept.{Held}
 use Rattle.dg_volume.specs.Store.{App, Store, held}
-use Rattle.dg_volume.specs.Start.{Runs, Boot, boot, count_trail, by_gesture, order_waits, sound, is_set_to, is_whole}
+use Rattle.dg_volume.specs.Start.{Runs, boot, count_trail, by_gesture, order_waits, sound, is_set_to, is_whole}
 use Rattle.dg_volume.specs.declared.volume.StartCause.TheVariants as cause
 use Rattle.dg_inspect.specs.declared.seen.ImageVersion.{ImageVersion}
 use Rattle.dg_inspect.specs.declared.seen.StartReason.{StartReason}

@@ -1,7 +1,6 @@
-use Rattle.std.proofs.Common.{◌≡◌, ℕ, List, sym, ap, subst, ◌∙◌, rules, arith, refl}
-use Rattle.std.specs.Prelude.{◌+◌, ◌%◌}
+use Rattle.std.proofs.Common.{◌≡◌, ◌∙◌, rules, arith}
+use Rattle.std.specs.Prelude.{◌+◌}
 use Rattle.dg_control.specs.Store.{current}
-use Rattle.dg_inspect.specs.Breaks.{BreaksAt}
 use Rattle.dg_inspect.proofs.BreakLemmas.{snapshot_breaks, breaks_behind, no_break}
 use Rattle.dg_inspect.proofs.breaks.find_break.Goals as goal
 

@@ -1,4 +1,4 @@
-use Rattle.std.proofs.Common.{◌≡◌, ℕ, List, sym, ap, subst, ◌∙◌, below_more, refl, true, false}
+use Rattle.std.proofs.Common.{ℕ, List, subst, below_more}
 use Rattle.dg_boot.proofs.ReadLemmas.{Looked_then}
 use Rattle.dg_inspect.specs.Breaks.{slot_state, HoldsDescriptor}
 use Rattle.dg_inspect.proofs.breaks.first_undescribed.Goals as goal

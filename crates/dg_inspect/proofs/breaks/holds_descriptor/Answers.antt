@@ -1,4 +1,4 @@
-use Rattle.std.proofs.Common.{◌≡◌, ℕ, sym, ap, subst, ◌∙◌, arith}
+use Rattle.std.proofs.Common.{arith}
 use Rattle.dg_inspect.proofs.BreakLemmas.{nothing_described, described_by}
 use Rattle.dg_inspect.proofs.breaks.holds_descriptor.Goals as goal
 

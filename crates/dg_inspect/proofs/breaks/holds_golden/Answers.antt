@@ -1,4 +1,4 @@
-use Rattle.std.proofs.Common.{◌≡◌, ℕ, sym, ap, subst, ◌∙◌, rules}
+use Rattle.std.proofs.Common.{rules}
 use Rattle.dg_inspect.proofs.BreakLemmas.{golden_holds}
 use Rattle.dg_inspect.proofs.breaks.holds_golden.Goals as goal
 

@@ -1,6 +1,4 @@
-use Rattle.std.proofs.Common.{◌≡◌, ◌<◌, ℕ, List, length, sym, ap, subst, ◌∙◌, arith}
-use Rattle.dg_slot.specs.Kept.{Held}
-use Rattle.dg_volume.specs.Told.{told_held}
+use Rattle.std.proofs.Common.{◌≡◌, ℕ, List, length, ap, subst, arith}
 use Rattle.dg_volume.specs.declared.volume.Kept.{Kept}
 use Rattle.dg_inspect.specs.Pages.{ShowsPages}
 use Rattle.dg_inspect.proofs.ImageLemmas.{kept_from}

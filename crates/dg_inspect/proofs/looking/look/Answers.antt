@@ -1,7 +1,6 @@
-use Rattle.std.proofs.Common.{◌≡◌, List, ℕ, sym, subst, ◌∙◌, rules}
+use Rattle.std.proofs.Common.{List, ℕ, sym, subst, rules}
 use Rattle.dg_control.specs.Store.{HasForm}
 use Rattle.dg_boot.proofs.ReadLemmas.{Looked_then}
-use Rattle.dg_volume.specs.Store.{Store}
 use Rattle.dg_volume.specs.Stands.{IsNoVolume, Mounted}
 use Rattle.dg_inspect.proofs.looking.look.Goals as goal
 

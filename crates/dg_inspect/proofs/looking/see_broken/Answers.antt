@@ -1,4 +1,4 @@
-use Rattle.std.proofs.Common.{◌≡◌, refl}
+use Rattle.std.proofs.Common.{refl}
 use Rattle.dg_inspect.proofs.looking.see_broken.Goals as goal
 
 pub unreachable-requires : goal.unreachable-requires

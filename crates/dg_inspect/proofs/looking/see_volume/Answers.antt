@@ -1,9 +1,9 @@
 use Rattle.std.proofs.Common.{◌≡◌, ◌<◌, ℕ, List, Option, None, IfSome, get_or, sym, ap, subst, ◌∙◌}
 use Rattle.dg_control.specs.declared.snapshot.Snapshot.{Snapshot}
 use Rattle.dg_boot.proofs.ReadLemmas.{Looked_then}
-use Rattle.dg_volume.specs.Store.{App, Store, held}
+use Rattle.dg_volume.specs.Store.{held}
 use Rattle.dg_volume.specs.Told.{program_told}
-use Rattle.dg_volume.specs.Stands.{Mounted, HoldsApp}
+use Rattle.dg_volume.specs.Stands.{HoldsApp}
 use Rattle.dg_inspect.specs.Pages.{ShowsKept}
 use Rattle.dg_inspect.specs.declared.seen.ImageSeen.{ImageSeen}
 use Rattle.dg_inspect.proofs.looking.see_volume.Goals as goal

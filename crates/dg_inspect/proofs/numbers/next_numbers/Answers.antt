@@ -1,7 +1,7 @@
-use Rattle.std.proofs.Common.{◌≡◌, ◌≢◌, ℕ, ◌<◌, ◌≤◌, length, None, get_or, sym, ap, ◌∙◌, ⊎_elim, arith, get_or-set_other, get_or-set_same, set, subst, List, Option}
+use Rattle.std.proofs.Common.{◌≢◌, ◌<◌, length, None, get_or, sym, ap, ◌∙◌, ⊎_elim, arith, get_or-set_other, get_or-set_same, set, subst, List, Option}
 use Rattle.std.proofs.Math.ListN.{length-set}
 use Rattle.std.proofs.lemmas.Bool.{cases_eq}
-use Rattle.dg_volume.specs.Store.{Store, held}
+use Rattle.dg_volume.specs.Store.{held}
 use Rattle.dg_inspect.specs.Pages.{ShowsKept}
 use Rattle.dg_inspect.specs.declared.seen.ImageSeen.{ImageSeen}
 use Rattle.dg_inspect.specs.Numbers.{next_version}

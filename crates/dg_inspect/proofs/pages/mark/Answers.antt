@@ -1,4 +1,3 @@
-use Rattle.std.proofs.Common.{◌≡◌, ◌∙◌}
 use Rattle.dg_inspect.proofs.PageLemmas.{marked_is}
 use Rattle.dg_inspect.proofs.pages.mark.Goals as goal
 

@@ -1,5 +1,3 @@
-use Rattle.std.proofs.Common.{◌≡◌, ◌≢◌, ℕ, List, sym, ap, subst, ◌∙◌}
-use Rattle.dg_base.specs.Crc.{crc_of}
 use Rattle.dg_object.specs.Records.{details_of}
 use Rattle.dg_inspect.proofs.PageLemmas.{whole_bytes, part_bytes}
 use Rattle.dg_inspect.proofs.pages.see_bytes_if_whole.Goals as goal

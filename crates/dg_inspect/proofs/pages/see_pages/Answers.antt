@@ -1,4 +1,4 @@
-use Rattle.std.proofs.Common.{◌≡◌, ℕ, List, sym, ap, subst, ◌∙◌, refl, rules}
+use Rattle.std.proofs.Common.{ℕ, List, sym, ap, subst, ◌∙◌, rules}
 use Rattle.dg_object.specs.Descriptor.{IsDescriptor}
 use Rattle.dg_object.specs.Records.{details_of}
 use Rattle.dg_slot.specs.Pages.{page_in}

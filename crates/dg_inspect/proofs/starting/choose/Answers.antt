@@ -2,10 +2,8 @@ use Rattle.std.proofs.Common.{◌≡◌, true, false, sym, ap, ◌∙◌}
 use Rattle.std.specs.Prelude.{◌==◌, ◌&&◌, Some}
 use Rattle.std.proofs.lemmas.Bool.{and_parts}
 use Rattle.dg_volume.specs.Sizes.{short_starts}
-use Rattle.dg_volume.specs.Store.{Store}
 use Rattle.dg_volume.specs.Start.{order_waits, sound}
 use Rattle.dg_control.specs.declared.snapshot.Order.{Order}
-use Rattle.dg_inspect.specs.declared.seen.ImageVersion.{ImageVersion}
 use Rattle.dg_inspect.proofs.StartingLemmas.{runs_by_gesture, runs_by_order, runs_else, reason_by_gesture, reason_by_order, reason_else, waives_gesture, waives_order, waives_else}
 use Rattle.dg_inspect.proofs.starting.choose.Goals as goal
 

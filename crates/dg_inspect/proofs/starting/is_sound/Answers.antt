@@ -1,4 +1,3 @@
-use Rattle.std.proofs.Common.{◌≡◌}
 use Rattle.dg_inspect.proofs.FactsLemmas.{sound_by_set}
 use Rattle.dg_inspect.proofs.starting.is_sound.Goals as goal
 

@@ -1,4 +1,4 @@
-use Rattle.std.proofs.Common.{◌≡◌, ◌∙◌, sym}
+use Rattle.std.proofs.Common.{◌∙◌, sym}
 use Rattle.dg_inspect.specs.Starts.{once_counted}
 use Rattle.dg_inspect.proofs.StartingLemmas.{boot_runs}
 use Rattle.dg_inspect.proofs.starting.next_start.Goals as goal

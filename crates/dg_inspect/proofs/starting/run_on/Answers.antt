@@ -1,6 +1,4 @@
-use Rattle.std.proofs.Common.{◌≡◌, Option, Some, None, sym, ap, ◌∙◌}
-use Rattle.dg_control.specs.declared.snapshot.Program.{Program}
-use Rattle.dg_inspect.specs.declared.seen.ImageVersion.{ImageVersion}
+use Rattle.std.proofs.Common.{sym, ◌∙◌}
 use Rattle.dg_inspect.proofs.StartingLemmas.{kept_none, kept_some, told_blank, told_set}
 use Rattle.dg_inspect.proofs.starting.run_on.Goals as goal
 

@@ -1,13 +1,10 @@
-use Rattle.std.proofs.Common.{◌≡◌, ◌<◌, ℕ, List, Option, None, get_or, IfSome, sym, ap, ◌∙◌, arith, subst, refl}
-use Rattle.std.specs.Prelude.{◌==◌, ◌&&◌, ◌||◌, nat_lt}
+use Rattle.std.proofs.Common.{◌≡◌, ◌<◌, sym, ap, ◌∙◌, arith, refl}
 use Rattle.dg_control.specs.declared.snapshot.Order.{Order}
 use Rattle.dg_control.specs.declared.snapshot.Snapshot.{Snapshot}
-use Rattle.dg_slot.specs.Kept.{Held, KeepsImage}
 use Rattle.dg_volume.specs.Sizes.{images}
-use Rattle.dg_volume.specs.Store.{App, Store, held}
-use Rattle.dg_volume.specs.Start.{is_whole, sound, held_sound}
+use Rattle.dg_volume.specs.Store.{Store, held}
+use Rattle.dg_volume.specs.Start.{is_whole, sound}
 use Rattle.dg_volume.specs.Told.{told, program_told}
-use Rattle.dg_volume.specs.Stands.{kept_at}
 use Rattle.dg_inspect.specs.Starts.{once_counted}
 use Rattle.dg_inspect.specs.Facts.{counted_gesture, counted_room, blank_or_golden}
 use Rattle.dg_inspect.proofs.StartingLemmas.{counted_field}

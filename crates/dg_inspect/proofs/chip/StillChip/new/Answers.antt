@@ -1,8 +1,6 @@
-use Rattle.std.proofs.Common.{◌≡◌, ◌-◌, ◌≤◌, ℕ, List, ◌++◌, length, replicate, take, sym, ap, subst, ◌∙◌, arith, refl, vec_len}
-use Rattle.std.proofs.lemmas.List.{take_all}
+use Rattle.std.proofs.Common.{ℕ, List, ◌++◌, sym, ap, subst, ◌∙◌, arith, refl, vec_len}
 use Rattle.dg_words.proofs.CellLemmas.{AreBytes_fits}
-use Rattle.dg_nor.specs.Sizes.{chip_size}
-use Rattle.dg_nor.specs.Chip.{blank, IsChip}
+use Rattle.dg_nor.specs.Chip.{IsChip}
 use Rattle.dg_nor.specs.Filled.{filled}
 use Rattle.dg_nor.proofs.FilledLemmas.{IsChip-filled}
 use Rattle.dg_inspect.proofs.SeenLemmas.{lengthened}
