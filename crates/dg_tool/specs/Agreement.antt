@@ -1,4 +1,4 @@
--- A first board that agrees with a table of images, and how a verb leaves it (docs/PROMISES.md, "The commands over one chip").
+-- A first board that agrees with a table of images, and how a verb leaves it (docs/COMMANDS.md, "Over one chip").
 use Rattle.std.specs.Prelude.{◌≡◌, ℕ, List, Some, None}
 use Rattle.dg_nor.specs.Device.{Device}
 use Rattle.dg_object.specs.Object.{Row}
