@@ -1,0 +1,26 @@
+//! Rows: commands over chips in memory, each with what stands outside of it and what must come of it, as files tell them.
+#![tactic(auto)]
+
+mod chips;
+mod outside;
+mod player;
+mod row;
+mod runner;
+mod saved;
+mod stops;
+mod turns;
+
+use player::Player;
+pub use player::Tally;
+pub use runner::Runner;
+use std::alloc::{AllocError, Global};
+
+/// Plays the rows that a text tells, and answers what came of them.
+pub fn play<R: Runner>(alloc: Global, runner: &R, text: &str) -> Result<Tally, AllocError> {
+    let mut player = Player::new(alloc, runner);
+    for (index, line) in text.lines().enumerate() {
+        player.line(index, line)?;
+    }
+    player.end()?;
+    Ok(player.tally())
+}
