@@ -1,6 +1,8 @@
 //! `deluge_inspect` looks into the files of chips, and changes none: it opens each for reading alone, takes no lock, and
 //! lengthens none.
 #![tactic(auto)]
+ghost use Rattle.std.specs.Prelude.{ℕ, List, IfOk};
+ghost use Rattle.dg_inspect.specs.Files.{ShowsFile};
 
 use dg_inspect::{ChipSeen, FileSeen, LookFault, inspect, next_numbers};
 use dg_inspect_text::{
@@ -150,7 +152,9 @@ fn read_settled(rt: &HostRuntime, name: &str) -> io::Result<(Vec<u8>, Moment)> {
 }
 
 /// What is seen of a file. Where it cannot be read, standard error tells why.
-fn see(rt: &HostRuntime, name: &str) -> Result<Report, Stop> {
+fn see(rt: &HostRuntime, name: &str) -> Result<Report, Stop>
+    ensures { IfOk result (λ report. (bytes : List ℕ) × ShowsFile bytes report.seen) }
+{
     let (bytes, moment) = match read_settled(rt, name) {
         Ok(read) => read,
         Err(error) => {
