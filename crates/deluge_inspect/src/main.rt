@@ -1,6 +1,7 @@
 //! `deluge_inspect` looks into the files of chips, and changes none: it opens each for reading alone, takes no lock, and
 //! lengthens none.
 #![tactic(auto)]
+
 ghost use Rattle.std.specs.Prelude.{ℕ, List, IfOk};
 ghost use Rattle.dg_inspect.specs.Files.{ShowsFile};
 

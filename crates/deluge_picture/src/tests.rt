@@ -8,7 +8,10 @@ use std::test::Fail;
 
 #[test]
 fn a_word_that_is_no_option_ends_in_2(rt: HostRuntime) {
-    assert_eq!(rt; exit_code(answer(&rt, option("--picture"))), ExitCode::from(2));
+    assert_eq!(rt;
+        exit_code(answer(&rt, option("--picture"))),
+        ExitCode::from(2)
+    );
 }
 
 /// As many lines as a report has at most.
