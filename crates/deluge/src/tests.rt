@@ -1,4 +1,4 @@
-//! The statuses of the program, which commands make a file, the guard of closed streams, and what is told to who asks.
+//! The statuses of the program, which commands make a file, and the guard of closed streams.
 
 use crate::{Guard, exit_code, run_words};
 use dg_base::{MemSink, MemSource, Status, StepClock};
@@ -64,7 +64,7 @@ const OTHERS: [(&str, &str); 9] = [
 ];
 
 /// More bytes than an answer of these tests has.
-const AMPLE: usize = 10_000;
+const AMPLE: usize = 1_000;
 
 /// A new folder for the files of a test.
 fn new_folder(rt: &HostRuntime, test: &str) -> Result<String, Fail> {
@@ -76,19 +76,13 @@ fn new_folder(rt: &HostRuntime, test: &str) -> Result<String, Fail> {
     Ok(folder)
 }
 
-/// The words of a line, in which one space stands between two.
-fn words_of(rt: &HostRuntime, line: &str) -> Result<Vec<String>, Fail> {
-    let mut words = Vec::new(rt.alloc());
-    for word in line.split(' ') {
-        words.push(String::from_str(rt.alloc(), word)?)?;
-    }
-    Ok(words)
-}
-
 /// How the program ends with these words, the name of a file behind them, and an input.
 fn ended(rt: &HostRuntime, verb: &str, name: &str, text: &str) -> Result<ExitCode, Fail> {
     let alloc = rt.alloc();
-    let mut words = words_of(rt, verb)?;
+    let mut words = Vec::new(alloc);
+    for word in verb.split(' ') {
+        words.push(String::from_str(alloc, word)?)?;
+    }
     words.push(String::from_str(alloc, name)?)?;
     let bytes = Vec::from_slice(alloc, text.as_bytes())?;
     let mut input = MemSource::new(bytes, Vec::new(alloc));
@@ -129,32 +123,5 @@ fn commands_over_a_file_end_in_their_status(rt: HostRuntime) -> Result<(), Fail>
     drop(chip);
     assert_eq!(rt; ended(&rt, "boot", name, "")?, ExitCode::from(13));
     fs::remove_dir_all(&rt, folder.as_str())?;
-    Ok(())
-}
-
-/// What the program writes with these words, no input and chips in memory.
-fn told(rt: &HostRuntime, line: &str) -> Result<Vec<u8>, Fail> {
-    let alloc = rt.alloc();
-    let words = words_of(rt, line)?;
-    let mut input = MemSource::new(Vec::new(alloc), Vec::new(alloc));
-    let mut out = MemSink::new(alloc, AMPLE, Vec::new(alloc))?;
-    let mut clock = StepClock::new(100);
-    let guard = Guard::new(rt);
-    let code = run_words(rt, &guard, &words, &mut input, &mut out, &mut clock);
-    if code != ExitCode::SUCCESS {
-        return Err("it did not end well".into());
-    }
-    Ok(Vec::from_slice(alloc, out.bytes())?)
-}
-
-#[test]
-fn who_asks_is_told(rt: HostRuntime) -> Result<(), Fail> {
-    assert_eq!(rt;
-        told(&rt, "--version")?.as_slice(),
-        b"deluge 0.9\n".as_slice()
-    );
-    for line in ["--help", "format --help"] {
-        assert!(rt; told(&rt, line)?.len() > 100, "{line}");
-    }
     Ok(())
 }
