@@ -4,8 +4,7 @@ use crate::counter::Counter;
 use crate::frames::kind_of;
 use crate::kinds::event_kind;
 use crate::share::add_one;
-use crate::told::{NOTHING_TOLD, told_by};
-use crate::work::NO_WORK;
+use crate::told::told_by;
 use dg_meter::{Metered, SLOTS, Tally};
 use dg_nor::Nor;
 use dg_replay::Watcher;
@@ -119,7 +118,7 @@ impl Counter {
         if !reports.is_empty() || self.motes[index].tally.operations != tally.operations {
             return self.note_all(world, event, place, tally, reports);
         }
-        self.note_heard(world, place.mote, event, NOTHING_TOLD, NO_WORK)
+        self.note_quiet(world, place.mote, event)
     }
 
     /// An event was applied of which something is reported, or that made operations.
@@ -190,6 +189,7 @@ impl<N: Nor> Watcher<Metered<N>> for Counter {
         self.stamp(1);
     }
 
+    #[inline(always)]
     fn applied(
         &mut self,
         world: &World,
