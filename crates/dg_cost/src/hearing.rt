@@ -5,8 +5,8 @@ use crate::frames::bit;
 use crate::kinds::{CUT_ANSWER, SENT_KINDS, answer_kind, bytes_kind, fault_kind, frame_bytes};
 use crate::mote::{FILL, MOTES, MoteCost};
 use crate::share::{add_one, add_share};
-use crate::told::{NOTHING_TOLD, Told};
-use crate::work::{NO_WORK, Work};
+use crate::told::Told;
+use crate::work::Work;
 use dg_mote::Heard;
 use dg_rules::Event;
 use dg_world::World;
@@ -24,8 +24,7 @@ impl MoteCost {
 }
 
 impl Counter {
-    /// The number of the frame that an event brings to its mote, and 0 where it comes from outside.
-    #[inline(always)]
+    /// The number of the frame that an event brings to its mote, and its bytes. The number is 0 where it comes from outside.
     fn frame_number(&self, event: &Event) -> usize {
         match event {
             Event::Hear { frame, .. } => *frame as usize,
@@ -100,26 +99,7 @@ impl Counter {
         Ok(())
     }
 
-    /// An event was applied that is no tick. Nothing is reported of it, and it left the chip as it was.
-    #[inline(always)]
-    pub fn note_quiet(&mut self, world: &World, mote: u8, event: &Event) -> Result<(), AllocError> {
-        match event {
-            Event::Hear { .. } | Event::Last { .. } => {
-                let heard = world.heard();
-                let number = self.frame_number(event);
-                self.heard_frame(mote, number, Some(heard), 0);
-                let index = usize::from(mote);
-                if index < self.motes.len() {
-                    add_one(&mut self.motes[index].answers, answer_kind(heard));
-                }
-                Ok(())
-            }
-            _ => self.note_heard(world, mote, event, NOTHING_TOLD, NO_WORK),
-        }
-    }
-
     /// A frame was heard, unless the event is refused or of another kind.
-    #[inline(never)]
     pub fn note_heard(
         &mut self,
         world: &World,

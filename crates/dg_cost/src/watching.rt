@@ -4,7 +4,8 @@ use crate::counter::Counter;
 use crate::frames::kind_of;
 use crate::kinds::event_kind;
 use crate::share::add_one;
-use crate::told::told_by;
+use crate::told::{NOTHING_TOLD, told_by};
+use crate::work::NO_WORK;
 use dg_meter::{Metered, SLOTS, Tally};
 use dg_nor::Nor;
 use dg_replay::Watcher;
@@ -118,7 +119,7 @@ impl Counter {
         if !reports.is_empty() || self.motes[index].tally.operations != tally.operations {
             return self.note_all(world, event, place, tally, reports);
         }
-        self.note_quiet(world, place.mote, event)
+        self.note_heard(world, place.mote, event, NOTHING_TOLD, NO_WORK)
     }
 
     /// An event was applied of which something is reported, or that made operations.
@@ -189,7 +190,6 @@ impl<N: Nor> Watcher<Metered<N>> for Counter {
         self.stamp(1);
     }
 
-    #[inline(always)]
     fn applied(
         &mut self,
         world: &World,

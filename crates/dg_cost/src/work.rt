@@ -113,9 +113,7 @@ impl MoteCost {
     /// What the operations of an event come to, the last of which a cut interrupted, where there is one.
     fn work(&mut self, kind: usize, after: &Tally, cut: Option<Operation>) -> Work {
         if cut.is_none() && self.is_put(after) {
-            self.tally.operations = after.operations;
-            self.tally.programs.page = after.programs.page;
-            self.tally.last = after.last;
+            self.tally = *after;
             add_one(&mut self.flash_events, kind);
             return ONE_PUT;
         }
