@@ -14,9 +14,6 @@ use std::fs::{File, OpenOptions};
 use std::io::ErrorKind;
 use std::process::ExitCode;
 
-#[cfg(test)]
-mod tests;
-
 /// What is handed on in place of words of which one is not UTF-8. It is no command.
 const NOT_TEXT: &str = "\u{fffd}";
 
