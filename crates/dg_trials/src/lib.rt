@@ -6,8 +6,6 @@ mod boards;
 #[cfg(test)]
 mod chips;
 #[cfg(test)]
-mod copies;
-#[cfg(test)]
 mod fault_lines;
 #[cfg(test)]
 mod faults;
