@@ -49,7 +49,7 @@ impl FrameBytes {
     }
 }
 
-/// One event at one mote. `dt` is the time since the event before it, in milliseconds, and `draw`
+/// One event at one mote. `dt` is the time since the event before it, in milliseconds, and `word`
 /// stands for a random number.
 #[derive(Debug, Drop)]
 pub enum Event {
@@ -58,14 +58,14 @@ pub enum Event {
         /// The mote at which it passes.
         mote: u8,
         dt: u32,
-        draw: u32,
+        word: u32,
     },
     /// A mote hears a frame that was sent.
     Hear {
         /// The mote that hears it.
         mote: u8,
         dt: u32,
-        draw: u32,
+        word: u32,
         /// The number of the frame, counted from 1 over all frames that were sent.
         frame: u32,
     },
@@ -76,14 +76,14 @@ pub enum Event {
         /// The mote that hears it.
         to: u8,
         dt: u32,
-        draw: u32,
+        word: u32,
     },
     /// A mote drops what it runs, and its chip is started.
     Reset {
         /// The mote that is reset.
         mote: u8,
         dt: u32,
-        draw: u32,
+        word: u32,
     },
     /// A version of an image is injected into a mote.
     Inject {
@@ -92,7 +92,7 @@ pub enum Event {
         image: u8,
         version: u32,
         dt: u32,
-        draw: u32,
+        word: u32,
     },
     /// A mote is ordered to start a version of an image.
     Order {
@@ -103,14 +103,14 @@ pub enum Event {
         image: u8,
         version: u32,
         dt: u32,
-        draw: u32,
+        word: u32,
     },
     /// A mote hears bytes that come from outside.
     Frame {
         /// The mote that hears them.
         mote: u8,
         dt: u32,
-        draw: u32,
+        word: u32,
         /// At most [`LONGEST_FRAME`] of them.
         bytes: Bytes,
     },

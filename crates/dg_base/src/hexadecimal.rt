@@ -52,17 +52,17 @@ static DIGITS: [u8; 16] = *b"0123456789abcdef";
 
 /// The bytes that pairs of hex digits of either case write. The number of digits is looked at first, so an odd
 /// one is told also where memory is wanting.
-pub fn parse_hex(alloc: Global, digits: &[u8]) -> Result<Vec<u8>, HexFault>
-    ensures ok { IfOk result (λ bytes. hex_bytes digits.now ≡ Some bytes.items) }
-    ensures odd { result ≡ Err HexFault.Odd ↔ (length digits.now % 2 ≡ 1) }
-    ensures digit { result ≡ Err HexFault.Digit → Any (λ c. is_hex_digit c ≡ false) digits.now }
+pub fn parse_hex(alloc: Global, bytes: &[u8]) -> Result<Vec<u8>, HexFault>
+    ensures ok { IfOk result (λ read. hex_bytes bytes.now ≡ Some read.items) }
+    ensures odd { result ≡ Err HexFault.Odd ↔ (length bytes.now % 2 ≡ 1) }
+    ensures digit { result ≡ Err HexFault.Digit → Any (λ c. is_hex_digit c ≡ false) bytes.now }
 {
-    if digits.len() % 2 == 1 {
+    if bytes.len() % 2 == 1 {
         return Err(HexFault::Odd);
     }
-    let mut bytes = vec![in alloc; 0; digits.len() / 2]?;
-    if read_pairs(digits, &mut bytes) {
-        Ok(bytes)
+    let mut read = vec![in alloc; 0; bytes.len() / 2]?;
+    if read_pairs(bytes, &mut read) {
+        Ok(read)
     } else {
         Err(HexFault::Digit)
     }

@@ -120,17 +120,17 @@ impl Model for MemSink {
 }
 
 impl MemSink {
-    /// An empty output of `limit` bytes at most, whose writes with the numbers `failing` fail.
-    pub fn new(alloc: Global, limit: usize, failing: Vec<u32>) -> Result<MemSink, AllocError>
+    /// An empty output of `room` bytes at most, whose writes with the numbers `failing` fail.
+    pub fn new(alloc: Global, room: usize, failing: Vec<u32>) -> Result<MemSink, AllocError>
         ensures written { IfOk result (λ sink. sink.written ≡ []) }
-        ensures limit { IfOk result (λ sink. sink.limit ≡ limit) }
+        ensures limit { IfOk result (λ sink. sink.limit ≡ room) }
         ensures failing { IfOk result (λ sink. sink.failing ≡ failing.items) }
         ensures calls { IfOk result (λ sink. sink.calls ≡ 0) }
         ensures faults { IfOk result (λ sink. sink.faults ≡ 0) }
     {
         Ok(MemSink {
-            bytes: Vec::with_capacity(alloc, limit)?,
-            limit,
+            bytes: Vec::with_capacity(alloc, room)?,
+            limit: room,
             failing,
             calls: 0,
             faults: 0,

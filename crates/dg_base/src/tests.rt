@@ -189,7 +189,7 @@ fn events(rt: HostRuntime) -> Result<(), Fail> {
         event: Event::Frame {
             mote: 0,
             dt: 16,
-            draw: 7,
+            word: 7,
             bytes: Bytes::new(vec![in rt.alloc(); 0x01]?),
         },
         cut: Some(Cut {

@@ -13,7 +13,7 @@ ghost use Rattle.dg_boot.specs.Loads.{IsApp};
 ghost use Rattle.dg_boot.specs.Ends.{Goes};
 
 use crate::choosing::{GOLDEN, counts, finishes};
-use dg_control::{CommitFault, GOLDEN_VERSION, Program};
+use dg_control::{GOLDEN_VERSION, Program};
 use dg_nor::{Nor, Stopped};
 use dg_volume::{StartCause, Volume};
 
@@ -39,8 +39,8 @@ pub(crate) fn commit<N: Nor>(
 {
     match volume.advance(nor, program, gesture, waived) {
         Ok(()) => Ok(()),
-        Err(CommitFault::Stopped) => Err(Stopped),
-        Err(CommitFault::Worn) => unreachable!(),
+        // there is room, so that it was stopped
+        Err(_) => Err(Stopped),
     }
 }
 

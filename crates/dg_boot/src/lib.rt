@@ -33,7 +33,7 @@ ghost use Rattle.dg_boot.specs.Started.{Starts, Lacks};
 use crate::starting::start_mounted;
 pub use choosing::order_waits;
 use dg_nor::Nor;
-pub use dg_volume::StartCause;
+pub use dg_volume::StartCause as Kind;
 use dg_volume::{Volume, trails_keep_consistency};
 pub use laws::{
     a_copy_has_these_sizes, a_waived_order_is_not_started, an_image_is_set_once_it_is_copied,
@@ -73,22 +73,22 @@ pub enum BootFault {
 /// bytes.
 ///
 /// `NoImage` may follow a commit that counted the start, and one that waived the order.
-pub fn start<N: Nor>(nor: &mut N, cause: StartCause) -> Result<Started, BootFault>
+pub fn start<N: Nor>(nor: &mut N, kind: Kind) -> Result<Started, BootFault>
     ensures started { IfOk result (λ told. (s : Store) → Stands (N.device nor.old).image s
-        → Starts (boot cause s) (N.device nor.old) (N.device nor.new) told) }
+        → Starts (boot kind s) (N.device nor.old) (N.device nor.new) told) }
     ensures runs_on { OnOk result ((s : Store) → Stands (N.device nor.old).image s
-        → operations (boot cause s).trail ≡ 0 → Looked (N.device nor.old) (N.device nor.new)) }
+        → operations (boot kind s).trail ≡ 0 → Looked (N.device nor.old) (N.device nor.new)) }
     ensures volume { OnOk result ((s : Store) × Stands (N.device nor.old).image s) }
     ensures same_reference { (N.device nor.new).references ≡ (N.device nor.old).references }
     ensures awake { OnOk result ((N.device nor.old).stopped ≡ false) }
     ensures touches { TouchesBut (program_sector 0) program_end (N.device nor.old).image (N.device nor.new).image }
     ensures no_image { IsErrOf result BootFault.NoImage → (s : Store) → Stands (N.device nor.old).image s
-        → Lacks (boot cause s) (N.device nor.old) (N.device nor.new) }
+        → Lacks (boot kind s) (N.device nor.old) (N.device nor.new) }
     ensures of_a_volume { IsErrOf result BootFault.NoImage → (s : Store) × Stands (N.device nor.old).image s }
     ensures not_a_volume { IsErrOf result BootFault.NotAVolume → IsNoVolume (N.device nor.old).image
         × Looked (N.device nor.old) (N.device nor.new) }
     ensures stopped { IsErrOf result BootFault.Stopped → (s : Store) → Stands (N.device nor.old).image s
-        → Stops (boot cause s).trail (N.device nor.old) (N.device nor.new) }
+        → Stops (boot kind s).trail (N.device nor.old) (N.device nor.new) }
     ensures no_volume { IsErrOf result BootFault.Stopped → IsNoVolume (N.device nor.old).image
         → ReadStopped (N.device nor.old) (N.device nor.new) }
     ensures cause { IsErrOf result BootFault.Stopped → ActStopped (N.device nor.old) (N.device nor.new) }
@@ -100,5 +100,5 @@ pub fn start<N: Nor>(nor: &mut N, cause: StartCause) -> Result<Started, BootFaul
 {
     trails_keep_consistency();
     let volume = Volume::mount(nor)?;
-    start_mounted(nor, volume, cause)
+    start_mounted(nor, volume, kind)
 }

@@ -23,6 +23,3 @@ pub const DIGEST_SIZE: usize = 32;
 
 /// The most bytes of a payload: those of 64 pages, less the four of its length.
 pub const MOST_PAYLOAD: usize = 68_604;
-
-#[cfg(test)]
-mod tests;

@@ -54,33 +54,33 @@ begins_once (p ∷ ps) u w v a b = sym a.0 ∙ b.0
 abbrev declaring : List Row → World → World
 declaring rows w = record w { declared = rows }
 
-tick_same : (rows : List Row) (w : World) (s : Store) (o : Option Running) (now draw : ℕ) → tick_does (declaring rows w) s o now draw ≡ tick_does w s o now draw
-tick_same rows w s None now draw = refl
-tick_same rows w s (Some r) now draw = refl
+tick_same : (rows : List Row) (w : World) (s : Store) (o : Option Running) (now word : ℕ) → tick_does (declaring rows w) s o now word ≡ tick_does w s o now word
+tick_same rows w s None now word = refl
+tick_same rows w s (Some r) now word = refl
 
-hear_same : (rows : List Row) (w : World) (s : Store) (o : Option Running) (now draw : ℕ) (bytes : List ℕ) → hear_by (declaring rows w) s o now draw bytes ≡ hear_by w s o now draw bytes
-hear_same rows w s None now draw bytes = refl
-hear_same rows w s (Some r) now draw bytes = refl
+hear_same : (rows : List Row) (w : World) (s : Store) (o : Option Running) (now word : ℕ) (bytes : List ℕ) → hear_by (declaring rows w) s o now word bytes ≡ hear_by w s o now word bytes
+hear_same rows w s None now word bytes = refl
+hear_same rows w s (Some r) now word bytes = refl
 
-sent_same : (rows : List Row) (w : World) (m now draw : ℕ) (o : Option Sent) → heard_sent (declaring rows w) m now draw o ≡ heard_sent w m now draw o
-sent_same rows w m now draw None = refl
-sent_same rows w m now draw (Some f) = ap (λ d. cond (linked w f.by m) d (Refuses cause.Link)) (hear_same rows w (store_at w m) (site w m).runs now draw f.bytes)
+sent_same : (rows : List Row) (w : World) (m now word : ℕ) (o : Option Sent) → heard_sent (declaring rows w) m now word o ≡ heard_sent w m now word o
+sent_same rows w m now word None = refl
+sent_same rows w m now word (Some f) = ap (λ d. cond (linked w f.by m) d (Refuses cause.Link)) (hear_same rows w (store_at w m) (site w m).runs now word f.bytes)
 
-last_same : (rows : List Row) (w : World) (from to now draw : ℕ) (o : Option Sent) → heard_last (declaring rows w) from to now draw o ≡ heard_last w from to now draw o
-last_same rows w from to now draw None = refl
-last_same rows w from to now draw (Some f) = hear_same rows w (store_at w to) (site w to).runs now draw f.bytes
+last_same : (rows : List Row) (w : World) (from to now word : ℕ) (o : Option Sent) → heard_last (declaring rows w) from to now word o ≡ heard_last w from to now word o
+last_same rows w from to now word None = refl
+last_same rows w from to now word (Some f) = hear_same rows w (store_at w to) (site w to).runs now word f.bytes
 
 -- a free event does not look at them
 does_same : (rows : List Row) (w : World) (e : Event) → IsFree e → does (declaring rows w) e ≡ does w e
 unfolding does
-does_same rows w (Tick m dt draw) free = tick_same rows w (store_at w m) (site w m).runs (w.moment + dt) draw
-does_same rows w (Hear m dt draw number) free = ap (unless_off (site w m).runs) (sent_same rows w m (w.moment + dt) draw (frame_at w number))
-does_same rows w (Last from m dt draw) free =
-    ap (λ d. unless_off (site w m).runs (cond (linked w from m) d (Refuses cause.Link))) (last_same rows w from m (w.moment + dt) draw (last_frame w from))
-does_same rows w (Reset m dt draw) free = absurd cc
-does_same rows w (Inject m image version dt draw) free = absurd cc
-does_same rows w (OrderEvent m number image version dt draw) free = absurd cc
-does_same rows w (Frame m dt draw bytes) free = absurd cc
+does_same rows w (Tick m dt word) free = tick_same rows w (store_at w m) (site w m).runs (w.moment + dt) word
+does_same rows w (Hear m dt word number) free = ap (unless_off (site w m).runs) (sent_same rows w m (w.moment + dt) word (frame_at w number))
+does_same rows w (Last from m dt word) free =
+    ap (λ d. unless_off (site w m).runs (cond (linked w from m) d (Refuses cause.Link))) (last_same rows w from m (w.moment + dt) word (last_frame w from))
+does_same rows w (Reset m dt word) free = absurd cc
+does_same rows w (Inject m image version dt word) free = absurd cc
+does_same rows w (OrderEvent m number image version dt word) free = absurd cc
+does_same rows w (Frame m dt word bytes) free = absurd cc
 
 -- nor does what it leads to
 sent_declaring : (rows : List Row) (u : World) (m : ℕ) (o : Option Message) → and_sent (declaring rows u) m o ≡ declaring rows (and_sent u m o)

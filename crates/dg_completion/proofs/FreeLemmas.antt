@@ -71,39 +71,39 @@ unless_refused (Some r) why = (why, refl)
 
 pub ranged : (w : World) (e : Event) → WorldAgrees w → IsFree e → Ranged w e
 unfolding does
-ranged w (Tick m dt draw) good free = elim (cases_lt m (length w.sites)) [
+ranged w (Tick m dt word) good free = elim (cases_lt m (length w.sites)) [
   | inl less ↦ inl less
-  | inr past ↦ inr (cause.Off, ap (λ o. tick_does w (store_at w m) o (w.moment + dt) draw) (off_by w m past))
+  | inr past ↦ inr (cause.Off, ap (λ o. tick_does w (store_at w m) o (w.moment + dt) word) (off_by w m past))
 ]
-ranged w (Hear m dt draw number) good free = elim (cases_lt m (length w.sites)) [
-  | inr past ↦ inr (cause.Off, ap (λ o. unless_off o (heard_sent w m (w.moment + dt) draw (frame_at w number))) (off_by w m past))
+ranged w (Hear m dt word number) good free = elim (cases_lt m (length w.sites)) [
+  | inr past ↦ inr (cause.Off, ap (λ o. unless_off o (heard_sent w m (w.moment + dt) word (frame_at w number))) (off_by w m past))
   | inl less ↦ elim (cases_Bool (nat_le 1 number)) [
     | inl some ↦ inl (less, omega (arith, Rattle.std.proofs.lemmas.Bool.leb-true 1 number some))
     | inr none ↦
         let known = unless_refused (site w m).runs cause.Frame in
-        inr (known.0, ap (λ b. unless_off (site w m).runs (heard_sent w m (w.moment + dt) draw (cond b (slice_get w.sent (number - 1)) None))) none ∙ known.1)
+        inr (known.0, ap (λ b. unless_off (site w m).runs (heard_sent w m (w.moment + dt) word (cond b (slice_get w.sent (number - 1)) None))) none ∙ known.1)
   ]
 ]
-ranged w (Last from m dt draw) good free = elim (cases_Bool (linked w from m)) [
+ranged w (Last from m dt word) good free = elim (cases_Bool (linked w from m)) [
   | inl link ↦ let ends = link_ends w from m good link in inl (record { first = ends.0; second = ends.1; two = ends.2 })
   | inr none ↦
       let known = unless_refused (site w m).runs cause.Link in
-      inr (known.0, ap (λ b. unless_off (site w m).runs (cond b (heard_last w from m (w.moment + dt) draw (last_frame w from)) (Refuses cause.Link))) none ∙ known.1)
+      inr (known.0, ap (λ b. unless_off (site w m).runs (cond b (heard_last w from m (w.moment + dt) word (last_frame w from)) (Refuses cause.Link))) none ∙ known.1)
 ]
-ranged w (Reset m dt draw) good free = absurd cc
-ranged w (Inject m image version dt draw) good free = absurd cc
-ranged w (OrderEvent m number image version dt draw) good free = absurd cc
-ranged w (Frame m dt draw bytes) good free = absurd cc
+ranged w (Reset m dt word) good free = absurd cc
+ranged w (Inject m image version dt word) good free = absurd cc
+ranged w (OrderEvent m number image version dt word) good free = absurd cc
+ranged w (Frame m dt word bytes) good free = absurd cc
 
 -- a free event brings no frame from outside, and injects nothing
 pub true_free : (w : World) (e : Event) → IsFree e → TrueEvent w e
-true_free w (Tick m dt draw) free = tt
-true_free w (Hear m dt draw number) free = tt
-true_free w (Last from m dt draw) free = tt
-true_free w (Reset m dt draw) free = tt
-true_free w (Inject m image version dt draw) free = absurd cc
-true_free w (OrderEvent m number image version dt draw) free = tt
-true_free w (Frame m dt draw bytes) free = absurd cc
+true_free w (Tick m dt word) free = tt
+true_free w (Hear m dt word number) free = tt
+true_free w (Last from m dt word) free = tt
+true_free w (Reset m dt word) free = tt
+true_free w (Inject m image version dt word) free = absurd cc
+true_free w (OrderEvent m number image version dt word) free = tt
+true_free w (Frame m dt word bytes) free = absurd cc
 
 -- ---- what a free event does
 
@@ -119,39 +119,39 @@ FreeDoes w m (Goes d) = FreeDeed w m d
 going_on : (r : Running) (runs : Option Running) → ◌≡◌ {A = Option (Option Running)} (Some (Some r)) (Some runs) → (q : Running) × (runs ≡ Some q)
 going_on r runs e = (r, sym (same_running (Some r) runs e))
 
-starting_on : (o : Option Runs) (id : ℕ) (wide : Bool) (now draw : ℕ) (runs : Option Running) → running_by o id wide now draw ≡ Some runs → (q : Running) × (runs ≡ Some q)
-starting_on None id wide now draw runs e = absurd cc
-starting_on (Some r) id wide now draw runs e = going_on (record { image_version = image_version_of r; mote = begun_mote id wide now draw }) runs e
+starting_on : (o : Option Runs) (id : ℕ) (wide : Bool) (now word : ℕ) (runs : Option Running) → running_by o id wide now word ≡ Some runs → (q : Running) × (runs ≡ Some q)
+starting_on None id wide now word runs e = absurd cc
+starting_on (Some r) id wide now word runs e = going_on (record { image_version = image_version_of r; mote = begun_mote id wide now word }) runs e
 
 module _ (laws : Laws) (w : World) (good : WorldAgrees w) where
-  hear_free : (m dt draw : ℕ) (f : Sent) (r : Running) → SentIsWell w.table f
-      → FreeDeed w m (record { trail = (heard_of r.mote (store_at w m) (w.moment + dt) draw f.bytes).trail; table = w.table; started = None; sent = None; runs = Some (Some (record { image_version = r.image_version; mote = (heard_of r.mote (store_at w m) (w.moment + dt) draw f.bytes).mote })) })
-  hear_free m dt draw f r q = record {
+  hear_free : (m dt word : ℕ) (f : Sent) (r : Running) → SentIsWell w.table f
+      → FreeDeed w m (record { trail = (heard_of r.mote (store_at w m) (w.moment + dt) word f.bytes).trail; table = w.table; started = None; sent = None; runs = Some (Some (record { image_version = r.image_version; mote = (heard_of r.mote (store_at w m) (w.moment + dt) word f.bytes).mote })) })
+  hear_free m dt word f r q = record {
     table = refl;
-    on = λ runs e. going_on (record { image_version = r.image_version; mote = (heard_of r.mote (store_at w m) (w.moment + dt) draw f.bytes).mote }) runs e;
-    stays = stays_heard laws.changes w.table r.mote (store_at w m) (w.moment + dt) draw f.bytes (subst (HonestMessage w.table) (sym q.spelled) q.honest);
+    on = λ runs e. going_on (record { image_version = r.image_version; mote = (heard_of r.mote (store_at w m) (w.moment + dt) word f.bytes).mote }) runs e;
+    stays = stays_heard laws.changes w.table r.mote (store_at w m) (w.moment + dt) word f.bytes (subst (HonestMessage w.table) (sym q.spelled) q.honest);
   }
 
   free_does : (e : Event) → IsFree e → FreeDoes w (mote_of e) (does w e)
   free_does =
       does_cases laws.restarts w (SentIsWell w.table) good.sent (λ e D. IsFree e → FreeDoes w (mote_of e) D)
       (λ e why free. tt)
-      (λ m dt draw r is free. let step = tick_of r.mote (store_at w m) (w.moment + dt) draw in record {
+      (λ m dt word r is free. let step = tick_of r.mote (store_at w m) (w.moment + dt) word in record {
         table = refl;
         on = λ runs e. going_on (record { image_version = r.image_version; mote = step.mote }) runs e;
-        stays = stays_clear w.table (store_at w m) (last step.trail) (Through-last (MayClear (store_at w m)) step.trail (laws.changes.ticked r.mote (store_at w m) (w.moment + dt) draw));
+        stays = stays_clear w.table (store_at w m) (last step.trail) (Through-last (MayClear (store_at w m)) step.trail (laws.changes.ticked r.mote (store_at w m) (w.moment + dt) word));
       })
-      (λ m dt draw r is waits free. record {
+      (λ m dt word r is waits free. record {
         table = refl;
-        on = λ runs e. starting_on (boot start_cause.Order (store_at w m)).runs r.mote.id r.mote.wide (w.moment + dt) draw runs e;
+        on = λ runs e. starting_on (boot start_cause.Order (store_at w m)).runs r.mote.id r.mote.wide (w.moment + dt) word runs e;
         stays = stays_start laws.starts w.table (store_at w m) (laws.sound w.table good.table) (good.sites m (on_there w m r is)).store.agrees waits;
       })
-      (λ m dt draw free. absurd cc)
-      (λ m dt draw number f r is at q free. hear_free m dt draw f r q)
-      (λ from m dt draw f r is at q free. hear_free m dt draw f r q)
-      (λ m dt draw bytes r is free. absurd cc)
-      (λ m image version dt draw row known none free. absurd cc)
-      (λ m number image version dt draw none free. absurd cc)
+      (λ m dt word free. absurd cc)
+      (λ m dt word number f r is at q free. hear_free m dt word f r q)
+      (λ from m dt word f r is at q free. hear_free m dt word f r q)
+      (λ m dt word bytes r is free. absurd cc)
+      (λ m image version dt word row known none free. absurd cc)
+      (λ m number image version dt word none free. absurd cc)
 
   -- ---- the world then
 

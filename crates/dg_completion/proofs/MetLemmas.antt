@@ -40,42 +40,42 @@ abbrev pub FewDoes : World → ℕ → Does → Type 0
 FewDoes w m (Refuses why) = Unit {0}
 FewDoes w m (Goes d) = FewDeed w m d
 
-found_runs : (o : Option Runs) (id : ℕ) (wide : Bool) (now draw : ℕ) → (o ≡ None → ⊥) → (runs : Option Running) × (running_by o id wide now draw ≡ Some runs)
-found_runs None id wide now draw found = absurd (found refl)
-found_runs (Some r) id wide now draw found = (_, refl)
+found_runs : (o : Option Runs) (id : ℕ) (wide : Bool) (now word : ℕ) → (o ≡ None → ⊥) → (runs : Option Running) × (running_by o id wide now word ≡ Some runs)
+found_runs None id wide now word found = absurd (found refl)
+found_runs (Some r) id wide now word found = (_, refl)
 
 module _ (laws : Laws) (takes : TakeLaws) (w : World) (good : WorldAgrees w) where
   few_does : (e : Event) → IsFree e → FewDoes w (mote_of e) (does w e)
   few_does =
       does_cases laws.restarts w (SentIsWell w.table) good.sent (λ e D. IsFree e → FewDoes w (mote_of e) D)
       (λ e why free. tt)
-      (λ m dt draw r is free.
+      (λ m dt word r is free.
       let s = store_at w m in
-      let step = tick_of r.mote s (w.moment + dt) draw in
+      let step = tick_of r.mote s (w.moment + dt) word in
       record {
         goes_on = (Some (record { image_version = r.image_version; mote = step.mote }), refl);
-        spends = omega (arith, clear_spends s (last step.trail) (Through-last (MayClear s) step.trail (laws.changes.ticked r.mote s (w.moment + dt) draw)));
+        spends = omega (arith, clear_spends s (last step.trail) (Through-last (MayClear s) step.trail (laws.changes.ticked r.mote s (w.moment + dt) word)));
       })
-      (λ m dt draw r is waits free.
+      (λ m dt word r is waits free.
       let s = store_at w m in
       let agrees = (good.sites m (on_there w m r is)).store.agrees in
       let rows = laws.sound w.table good.table in
       record {
-        goes_on = found_runs (boot cause.Order s).runs r.mote.id r.mote.wide (w.moment + dt) draw ((boot_start cause.Order s).found (golden_sound laws.starts w.table s rows agrees));
+        goes_on = found_runs (boot cause.Order s).runs r.mote.id r.mote.wide (w.moment + dt) word ((boot_start cause.Order s).found (golden_sound laws.starts w.table s rows agrees));
         spends = omega (arith, start_spends laws.starts w.table s rows agrees waits);
       })
-      (λ m dt draw free. absurd cc)
-      (λ m dt draw number f r is at q free. record {
+      (λ m dt word free. absurd cc)
+      (λ m dt word number f r is at q free. record {
         goes_on = (_, refl);
-        spends = heard_spends takes laws.changes r.mote (store_at w m) (w.moment + dt) draw f.bytes;
+        spends = heard_spends takes laws.changes r.mote (store_at w m) (w.moment + dt) word f.bytes;
       })
-      (λ from m dt draw f r is at q free. record {
+      (λ from m dt word f r is at q free. record {
         goes_on = (_, refl);
-        spends = heard_spends takes laws.changes r.mote (store_at w m) (w.moment + dt) draw f.bytes;
+        spends = heard_spends takes laws.changes r.mote (store_at w m) (w.moment + dt) word f.bytes;
       })
-      (λ m dt draw bytes r is free. absurd cc)
-      (λ m image version dt draw row known none free. absurd cc)
-      (λ m number image version dt draw none free. absurd cc)
+      (λ m dt word bytes r is free. absurd cc)
+      (λ m image version dt word row known none free. absurd cc)
+      (λ m number image version dt word none free. absurd cc)
 
   abbrev step : Event → Step
   step e = record { event = e; cut = None }

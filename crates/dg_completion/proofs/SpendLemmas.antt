@@ -103,9 +103,9 @@ record Rest (u : Store) (t : Trail Store) : Type 0 where
 rests : (u : Store) (n : ℕ) → Rest u (resting u n)
 rests u n = record { first = refl; spends = omega (arith, ap (λ (x : Store). x.room) (last-resting u n)) }
 
-noting_rests : (own : Bool) (m : MoteState) (timer : Timer) (u : Store) (now draw : ℕ) → Rest u (noting m timer u now draw own).trail
-noting_rests true m timer u now draw = rests u 0
-noting_rests false m timer u now draw = rests u 0
+noting_rests : (own : Bool) (m : MoteState) (timer : Timer) (u : Store) (now word : ℕ) → Rest u (noting m timer u now word own).trail
+noting_rests true m timer u now word = rests u 0
+noting_rests false m timer u now word = rests u 0
 
 better_spends : (s : Store) (order : Order) → Spends 1 s (last (better_trail s order))
 unfolding better_trail Rattle.dg_nor.specs.Trail.last_of
@@ -124,63 +124,63 @@ module _ (laws : TakeLaws) (entries : List Entry) where
       let at : last (joined t (resting (last t) 1)) ≡ taken u p = last-joined t (resting (last t) 1) refl ∙ last-resting (last t) 1 ∙ laws.ends u p in
       record { first = (laws.begins u p).first; spends = omega (arith, ap (λ (x : Store). x.room) at, take_few (held u i)) })
 
-  ahead_rests : (o : Option ℕ) (m : MoteState) (timer : Timer) (u : Store) (now draw source : ℕ) (own : Bool) → Rest u (by_ahead o m u now draw (offer source entries) (noting m timer u now draw own)).trail
-  ahead_rests None m timer u now draw source own = noting_rests own m timer u now draw
-  ahead_rests (Some i) m timer u now draw source own =
-      cond_both (asks m u now i (entry_for entries i)) (asking m u now draw source i (entry_for entries i)) (noting m timer u now draw own) (λ (step : MoteStep Heard). Rest u step.trail)
-      (λ _. ask_rests u i) (λ _. noting_rests own m timer u now draw)
+  ahead_rests : (o : Option ℕ) (m : MoteState) (timer : Timer) (u : Store) (now word source : ℕ) (own : Bool) → Rest u (by_ahead o m u now word (offer source entries) (noting m timer u now word own)).trail
+  ahead_rests None m timer u now word source own = noting_rests own m timer u now word
+  ahead_rests (Some i) m timer u now word source own =
+      cond_both (asks m u now i (entry_for entries i)) (asking m u now word source i (entry_for entries i)) (noting m timer u now word own) (λ (step : MoteStep Heard). Rest u step.trail)
+      (λ _. ask_rests u i) (λ _. noting_rests own m timer u now word)
 
-  advert_spends : (m : MoteState) (timer : Timer) (s : Store) (now draw source : ℕ) (order : Order) → Spends 3 s (last (advert_heard m timer s now draw (offer source entries) order).trail)
+  advert_spends : (m : MoteState) (timer : Timer) (s : Store) (now word source : ℕ) (order : Order) → Spends 3 s (last (advert_heard m timer s now word (offer source entries) order).trail)
   unfolding advert_heard
-  advert_spends m timer s now draw source order =
+  advert_spends m timer s now word source order =
       let t = better_trail s order in
       let u = last t in
-      let rest = by_ahead (ahead_in entries u) m u now draw (offer source entries) (noting m timer u now draw (is_own entries order m.wide s)) in
-      let r = ahead_rests (ahead_in entries u) m timer u now draw source (is_own entries order m.wide s) in
+      let rest = by_ahead (ahead_in entries u) m u now word (offer source entries) (noting m timer u now word (is_own entries order m.wide s)) in
+      let r = ahead_rests (ahead_in entries u) m timer u now word source (is_own entries order m.wide s) in
       let at : last (joined t rest.trail) ≡ last rest.trail = last-joined t rest.trail (sym r.first) in
       omega (arith, ap (λ (x : Store). x.room) at, r.spends, better_spends s order)
 
   dropped_spends : (s : Store) → Spends 3 s (last (resting s 0))
   dropped_spends s = omega (arith, ap (λ (x : Store). x.room) (last-resting s 0))
 
-  on_advert_spends : (mode : Mode) (m : MoteState) (s : Store) (now draw source : ℕ) (order : Order) → Spends 3 s (last (on_advert mode m s now draw (offer source entries) order).trail)
-  on_advert_spends (Maintain timer) m s now draw source order = advert_spends m timer s now draw source order
-  on_advert_spends (Receive r) m s now draw source order = dropped_spends s
-  on_advert_spends (Transmit t) m s now draw source order = dropped_spends s
+  on_advert_spends : (mode : Mode) (m : MoteState) (s : Store) (now word source : ℕ) (order : Order) → Spends 3 s (last (on_advert mode m s now word (offer source entries) order).trail)
+  on_advert_spends (Maintain timer) m s now word source order = advert_spends m timer s now word source order
+  on_advert_spends (Receive r) m s now word source order = dropped_spends s
+  on_advert_spends (Transmit t) m s now word source order = dropped_spends s
 
-  heard_advert_spends : (m : MoteState) (s : Store) (now draw source : ℕ) (order : Order)
-      → Spends 3 s (last (cond (eqb source m.id) (dropped m s) (on_advert m.mode m s now draw (offer source entries) order)).trail)
-  heard_advert_spends m s now draw source order =
-      cond_both (eqb source m.id) (dropped m s) (on_advert m.mode m s now draw (offer source entries) order) (λ (step : MoteStep Heard). Spends 3 s (last step.trail))
-      (λ _. dropped_spends s) (λ _. on_advert_spends m.mode m s now draw source order)
+  heard_advert_spends : (m : MoteState) (s : Store) (now word source : ℕ) (order : Order)
+      → Spends 3 s (last (cond (eqb source m.id) (dropped m s) (on_advert m.mode m s now word (offer source entries) order)).trail)
+  heard_advert_spends m s now word source order =
+      cond_both (eqb source m.id) (dropped m s) (on_advert m.mode m s now word (offer source entries) order) (λ (step : MoteStep Heard). Spends 3 s (last step.trail))
+      (λ _. dropped_spends s) (λ _. on_advert_spends m.mode m s now word source order)
 
-  advert_by_spends : (wide : Bool) (m : MoteState) (s : Store) (now draw source : ℕ) (order : Order) → Spends 3 s (last (by_message (Ok (advert_by wide source entries order)) m s now draw).trail)
-  advert_by_spends true m s now draw source order = heard_advert_spends m s now draw source order
-  advert_by_spends false m s now draw source order = heard_advert_spends m s now draw source order
+  advert_by_spends : (wide : Bool) (m : MoteState) (s : Store) (now word source : ℕ) (order : Order) → Spends 3 s (last (by_message (Ok (advert_by wide source entries order)) m s now word).trail)
+  advert_by_spends true m s now word source order = heard_advert_spends m s now word source order
+  advert_by_spends false m s now word source order = heard_advert_spends m s now word source order
 
 -- ---- a frame
 
 -- whatever it is
-pub heard_spends : TakeLaws → ChangeLaws → (m : MoteState) (s : Store) (now draw : ℕ) (bytes : List ℕ) → Spends 3 s (last (heard_of m s now draw bytes).trail)
+pub heard_spends : TakeLaws → ChangeLaws → (m : MoteState) (s : Store) (now word : ℕ) (bytes : List ℕ) → Spends 3 s (last (heard_of m s now word bytes).trail)
 unfolding heard_of
-heard_spends takes laws m s now draw bytes = by_read (message_of bytes m.wide) refl
+heard_spends takes laws m s now word bytes = by_read (message_of bytes m.wide) refl
   where
     after : Store
-    after = last (heard_of m s now draw bytes).trail
+    after = last (heard_of m s now word bytes).trail
 
     advert : (wide : Bool) (source : ℕ) (entries : List Entry) (order : Order) → message_of bytes m.wide ≡ Ok (advert_by wide source entries order) → Spends 3 s after
     advert wide source entries order is =
-        subst (λ (r : Result Message FrameFault). Spends 3 s (last (by_message r m s now draw).trail)) (sym is) (advert_by_spends takes entries wide m s now draw source order)
+        subst (λ (r : Result Message FrameFault). Spends 3 s (last (by_message r m s now word).trail)) (sym is) (advert_by_spends takes entries wide m s now word source order)
 
     by_read : (r : Result Message FrameFault) → message_of bytes m.wide ≡ r → Spends 3 s after
-    by_read (Err fault) is = subst (λ (r : Result Message FrameFault). Spends 3 s (last (by_message r m s now draw).trail)) (sym is) (omega (arith, ap (λ (x : Store). x.room) (last-resting s 0)))
+    by_read (Err fault) is = subst (λ (r : Result Message FrameFault). Spends 3 s (last (by_message r m s now word).trail)) (sym is) (omega (arith, ap (λ (x : Store). x.room) (last-resting s 0)))
     by_read (Ok (message.Advert source entries order)) is = advert false source entries order is
     by_read (Ok (message.Wide source entries order)) is = advert true source entries order is
     by_read (Ok (message.Request source to image version page want)) is =
-        let e = ap last (laws.request m s now draw bytes source to image version page want is) ∙ last-resting s 0 in
+        let e = ap last (laws.request m s now word bytes source to image version page want is) ∙ last-resting s 0 in
         omega (arith, ap (λ (x : Store). x.room) e)
     by_read (Ok (message.Packet source image version page q content)) is =
-        by_case (Through-last (λ t. (t ≡ s) ⊎ Completes m.mode image version page q s t) (heard_of m s now draw bytes).trail (laws.packet m s now draw bytes source image version page q content is))
+        by_case (Through-last (λ t. (t ≡ s) ⊎ Completes m.mode image version page q s t) (heard_of m s now word bytes).trail (laws.packet m s now word bytes source image version page q content is))
       where
         by_case : (after ≡ s) ⊎ Completes m.mode image version page q s after → Spends 3 s after
         by_case (inl e) = omega (arith, ap (λ (x : Store). x.room) e)

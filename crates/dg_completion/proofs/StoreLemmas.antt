@@ -182,13 +182,13 @@ stays_paged table s image page =
 
 -- what is promised below of frames
 pub record ChangeLaws : Type 0 where
-  pub ticked : (m : MoteState) (s : Store) (now draw : ℕ) → Through (MayClear s) (tick_of m s now draw).trail
-  pub advert : (m : MoteState) (s : Store) (now draw : ℕ) (bytes : List ℕ) (wide : Bool) (source : ℕ) (entries : List Entry) (order : Order) → message_of bytes m.wide ≡ Ok (advert_by wide source entries order)
-      → Through (TakesAdvert entries order true s) (heard_of m s now draw bytes).trail × TakesAdvert entries order false s (last (heard_of m s now draw bytes).trail)
-  pub request : (m : MoteState) (s : Store) (now draw : ℕ) (bytes : List ℕ) (source to image version page : ℕ) (want : Numbers) → message_of bytes m.wide ≡ Ok (message.Request source to image version page want)
-      → (heard_of m s now draw bytes).trail ≡ resting s 0
-  pub packet : (m : MoteState) (s : Store) (now draw : ℕ) (bytes : List ℕ) (source image version page q : ℕ) (content : List ℕ) → message_of bytes m.wide ≡ Ok (message.Packet source image version page q content)
-      → Through (λ t. (t ≡ s) ⊎ Completes m.mode image version page q s t) (heard_of m s now draw bytes).trail
+  pub ticked : (m : MoteState) (s : Store) (now word : ℕ) → Through (MayClear s) (tick_of m s now word).trail
+  pub advert : (m : MoteState) (s : Store) (now word : ℕ) (bytes : List ℕ) (wide : Bool) (source : ℕ) (entries : List Entry) (order : Order) → message_of bytes m.wide ≡ Ok (advert_by wide source entries order)
+      → Through (TakesAdvert entries order true s) (heard_of m s now word bytes).trail × TakesAdvert entries order false s (last (heard_of m s now word bytes).trail)
+  pub request : (m : MoteState) (s : Store) (now word : ℕ) (bytes : List ℕ) (source to image version page : ℕ) (want : Numbers) → message_of bytes m.wide ≡ Ok (message.Request source to image version page want)
+      → (heard_of m s now word bytes).trail ≡ resting s 0
+  pub packet : (m : MoteState) (s : Store) (now word : ℕ) (bytes : List ℕ) (source image version page q : ℕ) (content : List ℕ) → message_of bytes m.wide ≡ Ok (message.Packet source image version page q content)
+      → Through (λ t. (t ≡ s) ⊎ Completes m.mode image version page q s t) (heard_of m s now word bytes).trail
 
 -- what a mote reads of an honest frame is honest
 read_honest : (table : List Row) (wide : Bool) (bytes : List ℕ) (r : Result Message FrameFault) → message_of bytes wide ≡ r → IsHonest table bytes → HonestMessage table r
@@ -197,21 +197,21 @@ read_honest table true bytes (Ok heard) is honest = subst (HonestMessage table) 
 read_honest table false bytes (Ok heard) is honest = subst (HonestMessage table) (wider bytes heard is) honest
 
 -- an honest frame, whatever it is
-pub stays_heard : ChangeLaws → (table : List Row) (m : MoteState) (s : Store) (now draw : ℕ) (bytes : List ℕ) → IsHonest table bytes → Stays table s (last (heard_of m s now draw bytes).trail)
+pub stays_heard : ChangeLaws → (table : List Row) (m : MoteState) (s : Store) (now word : ℕ) (bytes : List ℕ) → IsHonest table bytes → Stays table s (last (heard_of m s now word bytes).trail)
 unfolding heard_of
-stays_heard laws table m s now draw bytes honest = by_read (message_of bytes m.wide) refl (read_honest table m.wide bytes (message_of bytes m.wide) refl honest)
+stays_heard laws table m s now word bytes honest = by_read (message_of bytes m.wide) refl (read_honest table m.wide bytes (message_of bytes m.wide) refl honest)
   where
     after : Store
-    after = last (heard_of m s now draw bytes).trail
+    after = last (heard_of m s now word bytes).trail
 
     by_read : (r : Result Message FrameFault) → message_of bytes m.wide ≡ r → HonestMessage table r → Stays table s after
-    by_read (Err fault) is honest = subst (λ (r : Result Message FrameFault). Stays table s (last (by_message r m s now draw).trail)) (sym is) (subst (Stays table s) (sym (last-resting s 0)) (stays_same table s))
-    by_read (Ok (message.Advert source entries order)) is honest = stays_better table entries order s after honest (laws.advert m s now draw bytes false source entries order is).1
-    by_read (Ok (message.Wide source entries order)) is honest = stays_better table entries order s after honest (laws.advert m s now draw bytes true source entries order is).1
+    by_read (Err fault) is honest = subst (λ (r : Result Message FrameFault). Stays table s (last (by_message r m s now word).trail)) (sym is) (subst (Stays table s) (sym (last-resting s 0)) (stays_same table s))
+    by_read (Ok (message.Advert source entries order)) is honest = stays_better table entries order s after honest (laws.advert m s now word bytes false source entries order is).1
+    by_read (Ok (message.Wide source entries order)) is honest = stays_better table entries order s after honest (laws.advert m s now word bytes true source entries order is).1
     by_read (Ok (message.Request source to image version page want)) is honest =
-        subst (Stays table s) (sym (ap last (laws.request m s now draw bytes source to image version page want is) ∙ last-resting s 0)) (stays_same table s)
+        subst (Stays table s) (sym (ap last (laws.request m s now word bytes source to image version page want is) ∙ last-resting s 0)) (stays_same table s)
     by_read (Ok (message.Packet source image version page q content)) is honest =
-        by_case (Through-last (λ t. (t ≡ s) ⊎ Completes m.mode image version page q s t) (heard_of m s now draw bytes).trail (laws.packet m s now draw bytes source image version page q content is))
+        by_case (Through-last (λ t. (t ≡ s) ⊎ Completes m.mode image version page q s t) (heard_of m s now word bytes).trail (laws.packet m s now word bytes source image version page q content is))
       where
         by_case : (after ≡ s) ⊎ Completes m.mode image version page q s after → Stays table s after
         by_case (inl e) = subst (Stays table s) (sym e) (stays_same table s)

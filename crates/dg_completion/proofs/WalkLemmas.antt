@@ -147,21 +147,21 @@ Spelled wide m = message_of (frame_of m) wide ≡ Ok m
 pub record WalkLaws : Type 0 where
   pub free : FreeLaw
   pub later : (table : List Row) (m : MoteState) (s : Store) (now then : ℕ) → now ≤ then → IsWell table m s now → IsWell table m s then
-  pub said : (table : List Row) (m : MoteState) (s : Store) (now draw : ℕ) → IsTable table → IsWell table m s now → Speaks m s → IfSome (tick_of m s now draw).sent (IsSaid m.id m.wide)
+  pub said : (table : List Row) (m : MoteState) (s : Store) (now word : ℕ) → IsTable table → IsWell table m s now → Speaks m s → IfSome (tick_of m s now word).sent (IsSaid m.id m.wide)
 
 if_said : (id : ℕ) (wide : Bool) (o : Option Message) → IfSome o (IsSaid id wide) → IfSome o (Spelled wide)
 if_said id wide None i = tt
 if_said id wide (Some m) i = i.is_read
 
-boot_silent : (o : Option Runs) (t : Trail Store) (id : ℕ) (wide : Bool) (now draw : ℕ) (P : Message → Type 0) → IfSome (boot_by o t id wide now draw).sent P
-boot_silent None t id wide now draw P = tt
-boot_silent (Some r) t id wide now draw P = tt
+boot_silent : (o : Option Runs) (t : Trail Store) (id : ℕ) (wide : Bool) (now word : ℕ) (P : Message → Type 0) → IfSome (boot_by o t id wide now word).sent P
+boot_silent None t id wide now word P = tt
+boot_silent (Some r) t id wide now word P = tt
 
-effect_said : (wide : Bool) (a : Did) (step : MoteStep Did) (now draw : ℕ) → IfSome step.sent (Spelled wide) → IfSome (tick_by a step now draw).sent (Spelled wide)
-effect_said wide did.Sent step now draw i = i
-effect_said wide did.Idle step now draw i = i
-effect_said wide did.Restart step now draw i =
-    boot_silent (boot cause.Order (last step.trail)).runs (boot cause.Order (last step.trail)).trail step.mote.id step.mote.wide now draw (Spelled wide)
+effect_said : (wide : Bool) (a : Did) (step : MoteStep Did) (now word : ℕ) → IfSome step.sent (Spelled wide) → IfSome (tick_by a step now word).sent (Spelled wide)
+effect_said wide did.Sent step now word i = i
+effect_said wide did.Idle step now word i = i
+effect_said wide did.Restart step now word i =
+    boot_silent (boot cause.Order (last step.trail)).runs (boot cause.Order (last step.trail)).trail step.mote.id step.mote.wide now word (Spelled wide)
 
 pub well_at : (w : World) (m : ℕ) (x : Spot) → WorldAgrees w → (at : At w m x) → RunsWell w.table m (wide_at w m) w.moment x.store (record { image_version = at.image_version; mote = x.mote })
 well_at w m x good at =

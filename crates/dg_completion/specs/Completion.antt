@@ -66,7 +66,7 @@ pub record Grows (w v : World) : Type 0 where
   pub pages : (m : ℕ) (row : Row) → newest w.table row.image ≡ Some row
       → pages_kept (store_at w m) row ≤ pages_kept (store_at v m) row
 
--- So it is after each tick and each heard frame, at any moment and with any draw, refused ones too.
+-- So it is after each tick and each heard frame, at any moment and with any word, refused ones too.
 abbrev pub FreeLaw : Type 0
 FreeLaw = (w v : World) (e : Event) (reports : List Report) → WorldAgrees w → IsFree e
     → WorldStep w (record { event = e; cut = None }) v reports → Grows w v

@@ -8,13 +8,13 @@ use Rattle.dg_rounds.specs.Rounds.{round, rounds_of, times}
 
 -- starts, injections, orders and frames from outside disturb a rest
 abbrev pub disturbs : Event → Bool
-disturbs (Tick mote dt draw) = false
-disturbs (Hear mote dt draw frame) = false
-disturbs (Last from to dt draw) = false
-disturbs (Reset mote dt draw) = true
-disturbs (Inject mote image version dt draw) = true
-disturbs (Order mote number image version dt draw) = true
-disturbs (Frame mote dt draw bytes) = true
+disturbs (Tick mote dt word) = false
+disturbs (Hear mote dt word frame) = false
+disturbs (Last from to dt word) = false
+disturbs (Reset mote dt word) = true
+disturbs (Inject mote image version dt word) = true
+disturbs (Order mote number image version dt word) = true
+disturbs (Frame mote dt word bytes) = true
 
 -- a tick, or a frame that was sent and is heard: it disturbs no rest
 abbrev pub IsFree : Event → Type 0

@@ -27,7 +27,7 @@ pub fn sweeps_are_a_rest()
         → IsRest links (m + n) (es ++ fs) }
 {}
 
-/// A tick or a heard frame, at any moment and with any draw, keeps a world that agrees with its table: it still agrees,
+/// A tick or a heard frame, at any moment and with any word, keeps a world that agrees with its table: it still agrees,
 /// the table, the links, the narrow motes and those that are on stay, room does not grow, and no page of the newest version
 /// of an image is lost.
 pub fn a_free_event_keeps_a_good_world()

@@ -19,6 +19,3 @@ pub use reader::MOST_TEXT;
 pub use stream::{HexReader, read_ihex};
 pub use window::LONGEST_IMAGE;
 pub use writer::write_ihex;
-
-#[cfg(test)]
-mod tests;

@@ -31,14 +31,14 @@ impl Model for MemLink {
 }
 
 impl MemLink {
-    /// A link without motes, whose inboxes will hold `capacity` frames each.
-    pub fn new(alloc: Global, capacity: usize) -> MemLink
-        requires { 1 ≤ capacity }
-        ensures capacity { result.capacity ≡ capacity }
+    /// A link without motes, whose inboxes will hold `room` frames each.
+    pub fn new(alloc: Global, room: usize) -> MemLink
+        requires { 1 ≤ room }
+        ensures capacity { result.capacity ≡ room }
         ensures motes { result.frames ≡ [] }
     {
         MemLink {
-            capacity,
+            capacity: room,
             rings: Vec::new(alloc),
         }
     }

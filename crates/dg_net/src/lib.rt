@@ -1,10 +1,12 @@
 //! The real link and the real clock: datagrams between sockets of this machine, and the clock of its system.
 #![tactic(auto)]
 
+mod cause;
 mod clock;
 mod pace;
 mod udp;
 
+pub use cause::LinkCause;
 pub use clock::SystemClock;
 pub use udp::UdpLink;
 

@@ -1,5 +1,6 @@
 //! Sockets and the clock of this machine.
-ghost use Rattle.std.specs.Prelude.{◌<◌, ◌≤◌};
+ghost use Rattle.std.specs.Prelude.{◌<◌, ◌≤◌, length};
+ghost use Rattle.dg_base.specs.Sizes.{longest_frame};
 
 use crate::udp::{address, is_sent, receive_datagram};
 use crate::{SystemClock, UdpLink};
@@ -9,15 +10,15 @@ use std::alloc::Global;
 use std::net::{IpAddr, Ipv4Addr, Net, SocketAddr, UdpSocket};
 use std::process;
 use std::test::Fail;
-use std::time::Clock as Timer;
+use std::time::{Clock as Timer, Instant};
 
-// A port from which four are free, as far as can be told. Each process looks elsewhere first.
+// A port from which sixteen are free, as far as can be told. Each process looks elsewhere first.
 fn free_port<R: Net + Timer>(rt: &R, alloc: Global, process: u32) -> u16
     ensures { result < 65000 }
 {
     for step in 0..200 {
         let port = 20_000 + 200 * (((process % 200) as u16 + step) % 200);
-        if UdpLink::new(rt, alloc).open(alloc, port, 4).is_ok() {
+        if UdpLink::new(rt, alloc).open(alloc, port, 16).is_ok() {
             return port;
         }
     }
@@ -48,6 +49,37 @@ fn datagrams_come_to_their_mote(rt: HostRuntime) -> Result<(), Fail> {
         other.open(alloc, port + 1, 1).err(),
         Some(OpenFault::LinkFailed)
     );
+    Ok(())
+}
+
+/// Whether a frame comes whole from one of sixteen motes to another.
+fn carries(rt: &HostRuntime, port: u16, from: u16, to: u16, frame: &[u8]) -> Result<bool, Fail>
+    requires from { from < 16 }
+    requires to { to < 16 }
+    requires ports { port < 65000 }
+    requires fits { length frame.now ≤ longest_frame }
+{
+    let alloc = rt.alloc();
+    let mut link = UdpLink::new(rt, alloc);
+    let mut into = [0; LONGEST_FRAME];
+    link.open(alloc, port, 16)?;
+    link.send(from, to, frame)?;
+    let came = link.receive(to, &mut into)?;
+    Ok(came == Some(frame.len()) && into.get(..frame.len()) == Some(frame))
+}
+
+// Each length comes whole, from and to each mote of the largest network.
+#[test]
+fn frames_of_each_length_come_to_each_mote(rt: HostRuntime) -> Result<(), Fail> {
+    let port = free_port(&rt, rt.alloc(), process::id(rt.process()));
+    let mut frame = [0; LONGEST_FRAME];
+    for k in 0..LONGEST_FRAME {
+        frame[k] = k as u8 + 1;
+    }
+    for length in 0..=LONGEST_FRAME {
+        let at = (length % 16) as u16;
+        assert!(rt; carries(&rt, port, 15 - at, at, &frame[..length])?);
+    }
     Ok(())
 }
 
@@ -147,11 +179,18 @@ fn turns_are_longer_where_nothing_came_for_a_second(rt: HostRuntime) -> Result<(
     let mut link = UdpLink::new(&rt, alloc);
     let mut into = [0; LONGEST_FRAME];
     link.open(alloc, port, 1)?;
+    let began = Instant::now(&rt)?;
     let before = clock.read();
     for _ in 0..84 {
         assert_eq!(rt; link.receive(0, &mut into)?, None);
     }
     let passed = clock.read().saturating_sub(before);
+    // the clock tells what another one does
+    let lasted = u64::try_from(began.elapsed(&rt)?.as_millis()).unwrap_or(0);
+    assert!(rt;
+        passed <= lasted && lasted.saturating_sub(passed) < 500,
+        "{lasted}"
+    );
     // 63 turns of 16 ms take a second, and 20 longer ones another
     assert!(rt; 1_960 <= passed && passed < 6_000, "{passed}");
     Ok(())

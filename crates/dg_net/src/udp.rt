@@ -3,6 +3,7 @@ ghost use Rattle.std.specs.Prelude.{◌≡◌, ◌+◌, ◌^◌, ◌<◌, ◌≤
 ghost use Rattle.dg_words.specs.Counts.{Rose};
 ghost use Rattle.dg_base.specs.Sizes.{longest_frame, most_motes, greatest_port};
 
+use crate::cause::{LinkCause, port_cause};
 use crate::pace::Pace;
 use dg_base::LONGEST_FRAME;
 use dg_link::{Link, LinkFailed, OpenFault};
@@ -27,6 +28,7 @@ pub struct UdpLink<'r, R> {
     port: u16,
     sockets: Vec<UdpSocket>,
     pace: Pace,
+    cause: Option<LinkCause>,
     faults: u64,
 }
 
@@ -35,23 +37,34 @@ impl<'r, R: Net + Timer> UdpLink<'r, R> {
     pub fn new(net: &'r R, alloc: Global) -> UdpLink<'r, R>
         ensures sockets { result.sockets.items ≡ [] }
         ensures faults { result.faults ≡ 0 }
+        ensures cause { result.cause ≡ None }
     {
         UdpLink {
             net,
             port: 0,
             sockets: Vec::new(alloc),
             pace: Pace::begin(net),
+            cause: None,
             faults: 0,
         }
     }
 
-    // A call failed.
-    fn count_fault(&mut self)
+    /// Why the last call failed that did, if one did.
+    pub fn cause(&self) -> Option<LinkCause>
+        ensures { result ≡ self.now.cause }
+    {
+        self.cause
+    }
+
+    // A call failed, for this reason.
+    fn count_fault(&mut self, cause: LinkCause)
         ensures rose { Rose self.old.faults self.new.faults }
         ensures counts { self.old.faults ≤ self.new.faults }
         ensures same_sockets { self.new.sockets ≡ self.old.sockets }
         ensures same_port { self.new.port ≡ self.old.port }
+        ensures told { self.new.cause ≡ Some cause }
     {
+        self.cause = Some(cause);
         self.faults = self.faults.saturating_add(1);
     }
 }
@@ -74,20 +87,20 @@ impl<'r, R: Net + Timer> Link for UdpLink<'r, R> {
                 self.sockets = sockets;
                 Ok(())
             }
-            Err(OpenFault::Memory) => Err(OpenFault::Memory),
-            Err(OpenFault::LinkFailed) => {
-                self.count_fault();
+            Err(Unopened::Memory) => Err(OpenFault::Memory),
+            Err(Unopened::Port(cause)) => {
+                self.count_fault(cause);
                 Err(OpenFault::LinkFailed)
             }
         }
     }
 
     fn send(&mut self, from: u16, to: u16, bytes: &[u8]) -> Result<(), LinkFailed> {
-        let to = address(self.port.saturating_add(to));
-        if is_sent(&self.sockets[usize::from(from)], to, bytes) {
+        let port = self.port.saturating_add(to);
+        if is_sent(&self.sockets[usize::from(from)], address(port), bytes) {
             Ok(())
         } else {
-            self.count_fault();
+            self.count_fault(LinkCause::Send { port });
             Err(LinkFailed)
         }
     }
@@ -103,7 +116,8 @@ impl<'r, R: Net + Timer> Link for UdpLink<'r, R> {
         match received {
             Ok(received) => Ok(received),
             Err(LinkFailed) => {
-                self.count_fault();
+                let port = self.port.saturating_add(at);
+                self.count_fault(LinkCause::Receive { port });
                 Err(LinkFailed)
             }
         }
@@ -117,34 +131,43 @@ pub(crate) fn address(port: u16) -> SocketAddr {
     SocketAddr::new(IpAddr::V4(Ipv4Addr::new(127, 0, 0, 1)), port)
 }
 
+// Why sockets could not be had.
+#[derive(Debug, Drop)]
+enum Unopened {
+    Memory,
+    Port(LinkCause),
+}
+
 // Sockets at so many ports, from `port` on.
 fn open_sockets<R: Net>(
     net: &R,
     alloc: Global,
     port: u16,
     motes: u16,
-) -> Result<Vec<UdpSocket>, OpenFault>
+) -> Result<Vec<UdpSocket>, Unopened>
     requires most { motes ≤ most_motes }
     requires ports { port ≤ greatest_port }
     ensures { IfOk result (λ sockets. length sockets.items ≡ motes) }
 {
-    let mut sockets = Vec::with_capacity(alloc, usize::from(motes))?;
+    let Ok(mut sockets) = Vec::with_capacity(alloc, usize::from(motes)) else {
+        return Err(Unopened::Memory);
+    };
     for mote in 0..motes {
-        let Ok(socket) = open_socket(net, port + mote) else {
-            return Err(OpenFault::LinkFailed);
-        };
-        push(&mut sockets, socket)?;
+        match open_socket(net, port + mote) {
+            Ok(socket) => push(&mut sockets, socket)?,
+            Err(error) => return Err(Unopened::Port(port_cause(error.kind(), port + mote))),
+        }
     }
     Ok(sockets)
 }
 
 // One socket more.
-fn push(sockets: &mut Vec<UdpSocket>, socket: UdpSocket) -> Result<(), OpenFault>
+fn push(sockets: &mut Vec<UdpSocket>, socket: UdpSocket) -> Result<(), Unopened>
     ensures more { OnOk result (length sockets.new.items ≡ length sockets.old.items + 1) }
 {
     match sockets.push(socket) {
         Ok(()) => Ok(()),
-        Err(_full) => Err(OpenFault::Memory),
+        Err(_full) => Err(Unopened::Memory),
     }
 }
 

@@ -9,6 +9,3 @@ mod reading;
 pub use laws::{one_profile, the_least_port_is_this};
 pub use profile::{LEAST_PORT, NetProfile, ProfileFault};
 pub use reading::read_profile;
-
-#[cfg(test)]
-mod tests;

@@ -1,7 +1,7 @@
 -- What stands behind a board besides memory (docs/FLASH.md, "The device").
 use Rattle.std.specs.Prelude.{◌≡◌, ℕ, true, false, Bool, List, Option, Some, None, IfSome}
 use Rattle.std.proofs.Props.{props}
-use Rattle.dg_nor.specs.Filled.{filled}
+use Rattle.dg_nor.specs.Sparse.{sparse}
 use Rattle.dg_nor.specs.declared.cells.Cells.{Cells}
 use Rattle.dg_nor.specs.declared.files.ChipFile.{ChipFile}
 use Rattle.dg_nor.specs.declared.files.FileFault.{FileFault}
@@ -10,7 +10,7 @@ use Rattle.dg_nor.specs.declared.backing.Backing.TheVariants.{Memory, Mirrored, 
 
 -- the bytes of a chip
 abbrev pub cells_image : Cells → List ℕ
-cells_image c = filled c.cells.items
+cells_image c = sparse c.places c.stored.items
 
 -- the bytes of a file, if it keeps what it was given
 abbrev pub file_bytes : ChipFile → List ℕ

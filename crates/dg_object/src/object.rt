@@ -1,6 +1,6 @@
 //! The pages of an object, made from an image.
 ghost use Rattle.std.specs.Prelude.{◌≡◌, ℕ, ◌+◌, ◌-◌, ◌*◌, ◌^◌, ◌<◌, ◌≤◌, List, [], ◌++◌, IsTrue, length, take, drop};
-ghost use Rattle.std.specs.Int.{to_be_bytes, w16};
+ghost use Rattle.std.specs.Int.{to_be_bytes, w16, w32};
 ghost use Rattle.dg_words.specs.Lists.{padded};
 ghost use Rattle.dg_base.specs.Crc.{crc_of};
 ghost use Rattle.dg_base.specs.Texts.{spells_name};
@@ -11,6 +11,7 @@ ghost use Rattle.dg_object.specs.Object.{row_of, profile, pages_for, data_page, 
 use crate::Profile;
 use crate::name::NAME_SIZE;
 use crate::size::{HEAD_SIZE, PAGE_SIZE, pages_of};
+use byteorder::{BigEndian, ByteOrder};
 use dg_base::{crc16, crc16_more};
 
 /// What fills a page behind its last byte.
@@ -109,6 +110,28 @@ fn put_behind(page: &mut [u8; PAGE_SIZE], at: usize, piece: &[u8])
     page[at..at + piece.len()].copy_from_slice(piece);
 }
 
+/// Writes the two bytes of a number, the high one first, as `put_behind` writes.
+fn put_half(page: &mut [u8; PAGE_SIZE], at: usize, number: u16)
+    requires { at + 2 ≤ page_size }
+    ensures { (front : List ℕ) → length front ≡ at → page.old ≡ padded page_size 255 front
+        → page.new ≡ padded page_size 255 (front ++ to_be_bytes w16 number) }
+{
+    let mut bytes = [0; 2];
+    BigEndian::write_u16(&mut bytes, number);
+    put_behind(page, at, &bytes);
+}
+
+/// Writes the four bytes of a number, the highest first, as `put_behind` writes.
+fn put_word(page: &mut [u8; PAGE_SIZE], at: usize, number: u32)
+    requires { at + 4 ≤ page_size }
+    ensures { (front : List ℕ) → length front ≡ at → page.old ≡ padded page_size 255 front
+        → page.new ≡ padded page_size 255 (front ++ to_be_bytes w32 number) }
+{
+    let mut bytes = [0; 4];
+    BigEndian::write_u32(&mut bytes, number);
+    put_behind(page, at, &bytes);
+}
+
 /// The name in its field of 16 bytes.
 fn name_field(name: &[u8]) -> [u8; NAME_SIZE]
     requires { length name.now ≤ name_size }
@@ -126,8 +149,8 @@ fn write_head(image: u8, pages: u8, version: u32, len: u32, name: &[u8], into: &
 {
     *into = blank();
     put_behind(into, 0, &[b'D', b'G', image, pages]);
-    put_behind(into, 4, &version.to_be_bytes());
-    put_behind(into, 8, &len.to_be_bytes());
+    put_word(into, 4, version);
+    put_word(into, 8, len);
     put_behind(into, 12, &name_field(name));
 }
 
@@ -141,10 +164,6 @@ fn write_descriptor(bytes: &[u8], image: u8, version: u32, name: &[u8], into: &m
     write_head(image, pages, version, len, name, into);
     for p in 1..pages {
         let crc = data_page_crc(bytes, p);
-        put_behind(
-            into,
-            HEAD_SIZE + 2 * (usize::from(p) - 1),
-            &crc.to_be_bytes(),
-        );
+        put_half(into, HEAD_SIZE + 2 * (usize::from(p) - 1), crc);
     }
 }

@@ -91,6 +91,11 @@ fn descriptors(rt: HostRuntime) -> Result<(), Fail> {
         }
         assert_eq!(rt; Descriptor::read(&page), Err(fault), "byte {at}");
     }
+
+    // the last image
+    let mut page = descriptor_page();
+    page[2] = 6;
+    assert_eq!(rt; Descriptor::read(&page)?.image, 6);
     Ok(())
 }
 

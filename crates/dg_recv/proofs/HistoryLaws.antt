@@ -36,11 +36,11 @@ got-accept r moment packet =
     let takes : Reception = record r { got = set.insert r.got packet; due = moment + next_wait } in
     cond_both (set.contains r.got packet) r takes (λ x. x.got ≡ set.insert r.got packet) (insert-known r.got packet) (λ _. refl)
 
-pub got-came : (start draw : ℕ) (calls : List Call) → (reception_after start draw calls).got ≡ came_in calls
-got-came start draw [] = refl
-got-came start draw (Next moment ∷ earlier) = got-ask (reception_after start draw earlier) moment ∙ got-came start draw earlier
-got-came start draw (Comes moment packet ∷ earlier) =
-    got-accept (reception_after start draw earlier) moment packet ∙ ap (λ s. set.insert s packet) (got-came start draw earlier)
+pub got-came : (start word : ℕ) (calls : List Call) → (reception_after start word calls).got ≡ came_in calls
+got-came start word [] = refl
+got-came start word (Next moment ∷ earlier) = got-ask (reception_after start word earlier) moment ∙ got-came start word earlier
+got-came start word (Comes moment packet ∷ earlier) =
+    got-accept (reception_after start word earlier) moment packet ∙ ap (λ s. set.insert s packet) (got-came start word earlier)
 
 -- ---- a request names what is missing
 
@@ -49,14 +49,14 @@ asked true late m want e = cc
 asked false true m want e = cc
 asked false false m want e = cc
 
-pub asks_for_missing : (start draw : ℕ) (earlier : List Call) (moment : ℕ) (want : Numbers) → ask_of (reception_after start draw earlier) moment ≡ Request want → want ≡ set.difference (below packets) (came_in earlier)
-asks_for_missing start draw earlier moment want e =
-    let r = reception_after start draw earlier in
-    sym (asked (nat_lt moment r.due) (nat_le most_requests r.tries) (missing r) want e) ∙ ap (set.difference (below packets)) (got-came start draw earlier)
+pub asks_for_missing : (start word : ℕ) (earlier : List Call) (moment : ℕ) (want : Numbers) → ask_of (reception_after start word earlier) moment ≡ Request want → want ≡ set.difference (below packets) (came_in earlier)
+asks_for_missing start word earlier moment want e =
+    let r = reception_after start word earlier in
+    sym (asked (nat_lt moment r.due) (nat_le most_requests r.tries) (missing r) want e) ∙ ap (set.difference (below packets)) (got-came start word earlier)
 
-pub never_again : (start draw : ℕ) (earlier : List Call) (moment : ℕ) (want : Numbers) → ask_of (reception_after start draw earlier) moment ≡ Request want → (packet : ℕ) → set.contains (came_in earlier) packet ≡ true → set.contains want packet ≡ false
-never_again start draw earlier moment want e packet known =
-    ap (λ s. set.contains s packet) (asks_for_missing start draw earlier moment want e)
+pub never_again : (start word : ℕ) (earlier : List Call) (moment : ℕ) (want : Numbers) → ask_of (reception_after start word earlier) moment ≡ Request want → (packet : ℕ) → set.contains (came_in earlier) packet ≡ true → set.contains want packet ≡ false
+never_again start word earlier moment want e packet known =
+    ap (λ s. set.contains s packet) (asks_for_missing start word earlier moment want e)
     ∙ contains-less (below packets) (came_in earlier) packet
     ∙ ap (λ b. set.contains (below packets) packet && not b) known
     ∙ never (set.contains (below packets) packet)
@@ -79,14 +79,14 @@ tries-accept r moment packet =
     let takes : Reception = record r { got = set.insert r.got packet; due = moment + next_wait } in
     cond_both (set.contains r.got packet) r takes (λ x. x.tries ≡ r.tries) (λ _. refl) (λ _. refl)
 
-pub tries-requests : (start draw : ℕ) (calls : List Call) → (reception_after start draw calls).tries ≡ requests start draw calls
-tries-requests start draw [] = refl
-tries-requests start draw (Next moment ∷ earlier) =
-    let r = reception_after start draw earlier in
+pub tries-requests : (start word : ℕ) (calls : List Call) → (reception_after start word calls).tries ≡ requests start word calls
+tries-requests start word [] = refl
+tries-requests start word (Next moment ∷ earlier) =
+    let r = reception_after start word earlier in
     tries-counted (nat_lt moment r.due) (nat_le most_requests r.tries) r moment (missing r)
-    ∙ ap (λ n. n + request_count (ask_of r moment)) (tries-requests start draw earlier)
-tries-requests start draw (Comes moment packet ∷ earlier) =
-    tries-accept (reception_after start draw earlier) moment packet ∙ tries-requests start draw earlier
+    ∙ ap (λ n. n + request_count (ask_of r moment)) (tries-requests start word earlier)
+tries-requests start word (Comes moment packet ∷ earlier) =
+    tries-accept (reception_after start word earlier) moment packet ∙ tries-requests start word earlier
 
 tries-bounded : (r : Reception) (moment : ℕ) → r.tries ≤ most_requests → (after_ask r moment).tries ≤ most_requests
 tries-bounded r moment h =
@@ -94,22 +94,22 @@ tries-bounded r moment h =
     cond_both (nat_lt moment r.due) r _ (λ x. x.tries ≤ most_requests) (λ _. h) (λ _.
     cond_both (nat_le most_requests r.tries) r counts (λ x. x.tries ≤ most_requests) (λ _. h) (λ e. omega (arith, leb-false most_requests r.tries e)))
 
-few_tries : (start draw : ℕ) (calls : List Call) → (reception_after start draw calls).tries ≤ most_requests
-few_tries start draw [] = omega arith
-few_tries start draw (Next moment ∷ earlier) = tries-bounded (reception_after start draw earlier) moment (few_tries start draw earlier)
-few_tries start draw (Comes moment packet ∷ earlier) =
-    omega (arith, tries-accept (reception_after start draw earlier) moment packet, few_tries start draw earlier)
+few_tries : (start word : ℕ) (calls : List Call) → (reception_after start word calls).tries ≤ most_requests
+few_tries start word [] = omega arith
+few_tries start word (Next moment ∷ earlier) = tries-bounded (reception_after start word earlier) moment (few_tries start word earlier)
+few_tries start word (Comes moment packet ∷ earlier) =
+    omega (arith, tries-accept (reception_after start word earlier) moment packet, few_tries start word earlier)
 
-pub few_requests : (start draw : ℕ) (calls : List Call) → requests start draw calls ≤ most_requests
-few_requests start draw calls = omega (arith, tries-requests start draw calls, few_tries start draw calls)
+pub few_requests : (start word : ℕ) (calls : List Call) → requests start word calls ≤ most_requests
+few_requests start word calls = omega (arith, tries-requests start word calls, few_tries start word calls)
 
 gave_up : (early late : Bool) (m : Numbers) → (if early then Wait else (if late then GiveUp else Request m)) ≡ GiveUp → late ≡ true
 gave_up true late m e = cc
 gave_up false true m e = refl
 gave_up false false m e = cc
 
-pub gives_up_after_all : (start draw : ℕ) (earlier : List Call) (moment : ℕ) → ask_of (reception_after start draw earlier) moment ≡ GiveUp → requests start draw earlier ≡ most_requests
-gives_up_after_all start draw earlier moment e =
-    let r = reception_after start draw earlier in
+pub gives_up_after_all : (start word : ℕ) (earlier : List Call) (moment : ℕ) → ask_of (reception_after start word earlier) moment ≡ GiveUp → requests start word earlier ≡ most_requests
+gives_up_after_all start word earlier moment e =
+    let r = reception_after start word earlier in
     let late = leb-true most_requests r.tries (gave_up (nat_lt moment r.due) (nat_le most_requests r.tries) (missing r) e) in
-    omega (arith, tries-requests start draw earlier, few_tries start draw earlier)
+    omega (arith, tries-requests start word earlier, few_tries start word earlier)

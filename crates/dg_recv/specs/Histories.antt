@@ -18,8 +18,8 @@ after r (Comes moment packet) = after_accept r moment packet
 
 -- the reception after a history, the newest call first
 abbrev pub reception_after : ℕ → ℕ → List Call → Reception
-reception_after start draw [] = reception_begun start draw
-reception_after start draw (call ∷ earlier) = after (reception_after start draw earlier) call
+reception_after start word [] = reception_begun start word
+reception_after start word (call ∷ earlier) = after (reception_after start word earlier) call
 
 -- the packets that came in
 abbrev pub came_in : List Call → Numbers
@@ -34,7 +34,7 @@ request_count GiveUp = 0
 request_count Wait = 0
 
 abbrev pub requests : ℕ → ℕ → List Call → ℕ
-requests start draw [] = 0
-requests start draw (Next moment ∷ earlier) =
-    requests start draw earlier + request_count (ask_of (reception_after start draw earlier) moment)
-requests start draw (Comes moment packet ∷ earlier) = requests start draw earlier
+requests start word [] = 0
+requests start word (Next moment ∷ earlier) =
+    requests start word earlier + request_count (ask_of (reception_after start word earlier) moment)
+requests start word (Comes moment packet ∷ earlier) = requests start word earlier

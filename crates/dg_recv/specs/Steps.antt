@@ -12,7 +12,7 @@ use Rattle.dg_recv.specs.Reception.{Reception}
 
 -- nothing is accepted, and the first request waits for a random while
 abbrev pub reception_begun : ℕ → ℕ → Reception
-reception_begun moment draw = record { got = set.empty; tries = 0; due = moment + 1 + draw % first_wait }
+reception_begun moment word = record { got = set.empty; tries = 0; due = moment + 1 + word % first_wait }
 
 -- the packets of the page that were not accepted
 abbrev pub missing : Reception → Numbers

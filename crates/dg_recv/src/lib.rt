@@ -3,7 +3,7 @@
 //! A request names the missing packets by a set. A mote waits for a random while before the first
 //! request, so that neighbours with the same need don't all ask at once, and it gives up after
 //! eight requests (Hui and Culler, SenSys 2004, has the states and the requests by bit vector).
-//! Moments are milliseconds, and a draw stands for a random number.
+//! Moments are milliseconds, and a word stands for a random number.
 #![tactic(auto)]
 
 ghost use Rattle.std.specs.Prelude.{◌≡◌, ℕ, ◌+◌, ◌≤◌, ◌<◌, ◌^◌, ◌&&◌, not, nat_lt, true, false, List};
@@ -72,16 +72,16 @@ impl Model for Asking {
 }
 
 impl Asking {
-    /// Begins with no packet and no request. The first request is due 1 + (draw mod 512)
+    /// Begins with no packet and no request. The first request is due 1 + (word mod 512)
     /// milliseconds after `now`.
-    pub fn new(now: u64, draw: u32) -> Self
+    pub fn new(now: u64, word: u32) -> Self
         requires { now < 2 ^ 62 }
-        ensures { result ≡ reception_begun now draw }
+        ensures { result ≡ reception_begun now word }
     {
         Self {
             got: PageBits::none(),
             tries: 0,
-            due: now + 1 + u64::from(draw % FIRST_WAIT),
+            due: now + 1 + u64::from(word % FIRST_WAIT),
         }
     }
 
@@ -158,19 +158,19 @@ pub fn the_waits_are_these()
 /// exactly the packets of the page that did not come in, so that nothing that was accepted is asked
 /// for again, and there are eight requests before it gives up, and no more.
 pub fn asking_ends()
-    ensures accepted { (start draw : ℕ) (calls : List Call)
-        → (reception_after start draw calls).got ≡ came_in calls }
-    ensures missing { (start draw : ℕ) (earlier : List Call) (moment : ℕ) (want : Numbers)
-        → ask_of (reception_after start draw earlier) moment ≡ Ask.Request want
+    ensures accepted { (start word : ℕ) (calls : List Call)
+        → (reception_after start word calls).got ≡ came_in calls }
+    ensures missing { (start word : ℕ) (earlier : List Call) (moment : ℕ) (want : Numbers)
+        → ask_of (reception_after start word earlier) moment ≡ Ask.Request want
         → want ≡ set.difference (below packets) (came_in earlier) }
-    ensures never_again { (start draw : ℕ) (earlier : List Call) (moment : ℕ) (want : Numbers)
-        → ask_of (reception_after start draw earlier) moment ≡ Ask.Request want
+    ensures never_again { (start word : ℕ) (earlier : List Call) (moment : ℕ) (want : Numbers)
+        → ask_of (reception_after start word earlier) moment ≡ Ask.Request want
         → (packet : ℕ) → set.contains (came_in earlier) packet ≡ true
         → set.contains want packet ≡ false }
-    ensures requests { (start draw : ℕ) (calls : List Call) → requests start draw calls ≤ most_requests }
-    ensures gives_up { (start draw : ℕ) (earlier : List Call) (moment : ℕ)
-        → ask_of (reception_after start draw earlier) moment ≡ Ask.GiveUp
-        → requests start draw earlier ≡ most_requests }
+    ensures requests { (start word : ℕ) (calls : List Call) → requests start word calls ≤ most_requests }
+    ensures gives_up { (start word : ℕ) (earlier : List Call) (moment : ℕ)
+        → ask_of (reception_after start word earlier) moment ≡ Ask.GiveUp
+        → requests start word earlier ≡ most_requests }
 {}
 
 #[cfg(test)]

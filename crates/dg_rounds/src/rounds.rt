@@ -114,7 +114,7 @@ fn paced(mote: u8) -> Event
     Event::Tick {
         mote,
         dt: PACE,
-        draw: 0,
+        word: 0,
     }
 }
 
@@ -126,7 +126,7 @@ fn passed(from: u8, to: u8) -> Event
         from,
         to,
         dt: 0,
-        draw: 0,
+        word: 0,
     }
 }
 

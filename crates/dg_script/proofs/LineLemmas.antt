@@ -19,7 +19,7 @@ use Rattle.dg_script.specs.Reading.{Reads}
 use Rattle.dg_script.specs.declared.fault.LineFault.{LineFault}
 use Rattle.dg_script.specs.declared.fault.LineFault.TheVariants as fault
 use Rattle.dg_script.specs.declared.line.Line.{Line}
-use Rattle.dg_script.specs.declared.line.Line.TheVariants.{Motes, Golden, Boards, Link, Narrow, Image, Cut, Event as EventLine, Round, Sweeps}
+use Rattle.dg_script.specs.declared.line.Line.TheVariants.{Motes, Golden, Boards, Link, Narrow, Image, Cut, Happens as EventLine, Round, Sweeps}
 use Rattle.dg_script.specs.declared.place.Place.{Place}
 use Rattle.dg_script.specs.declared.verbs.Verb.{Verb}
 use Rattle.dg_script.specs.declared.verbs.Verb.TheVariants as verb
@@ -47,8 +47,8 @@ known_line v place u found line stood here at fitting playing =
     let P : Line → Type 0 = λ l. Known v place l in
     subst P here (record { stood = at (standing-by v place u stood); fitting = fitting; playing = playing })
 
-timed : (dt draw : List ℕ) (d w : ℕ) → number_in dt ≡ Ok d → number_in draw ≡ Ok w → IsTimed d w
-timed dt draw d w e f = record { dt = number_in-fits dt d e; draw = number_in-fits draw w f }
+timed : (dt word : List ℕ) (d w : ℕ) → number_in dt ≡ Ok d → number_in word ≡ Ok w → IsTimed d w
+timed dt word d w e f = record { dt = number_in-fits dt d e; word = number_in-fits word w f }
 
 counted : (word : List ℕ) (n : ℕ) → counted_in word ≡ Ok n → (1 ≤ n) × (n < 2 ^ 32)
 counted word n h = let here = ranged_in-within fault.Number 1 most_number word n h in (here.0, omega (arith, here.1))
@@ -137,8 +137,8 @@ tick_known place fields line h =
     let u = bound (standing verb.Tick place) _ line t.2 in
     let mote = bound (mote_in place.motes t.0.0) _ line u.2 in
     let dt = bound (number_in t.0.1) _ line mote.2 in
-    let draw = bound (number_in t.0.2) _ line dt.2 in
-    known_line verb.Tick place u.0 (EventLine (Tick mote.0 dt.0 draw.0)) line u.1 (cc) (λ s. s) (mote_in-below place.motes t.0.0 mote.0 mote.1, timed t.0.1 t.0.2 dt.0 draw.0 dt.1 draw.1) (λ p. p)
+    let word = bound (number_in t.0.2) _ line dt.2 in
+    known_line verb.Tick place u.0 (EventLine (Tick mote.0 dt.0 word.0)) line u.1 (cc) (λ s. s) (mote_in-below place.motes t.0.0 mote.0 mote.1, timed t.0.1 t.0.2 dt.0 word.0 dt.1 word.1) (λ p. p)
 
 hear_known : (place : Place) (fields : List (List ℕ)) (line : Line) → hear_of place fields ≡ Ok line → Known verb.Hear place line
 unfolding hear_of
@@ -147,9 +147,9 @@ hear_known place fields line h =
     let u = bound (standing verb.Hear place) _ line t.2 in
     let mote = bound (mote_in place.motes t.0.0) _ line u.2 in
     let dt = bound (number_in t.0.1) _ line mote.2 in
-    let draw = bound (number_in t.0.2) _ line dt.2 in
-    let frame = bound (counted_in t.0.3) _ line draw.2 in
-    known_line verb.Hear place u.0 (EventLine (Hear mote.0 dt.0 draw.0 frame.0)) line u.1 (cc) (λ s. s) (let count = counted t.0.3 frame.0 frame.1 in ((mote_in-below place.motes t.0.0 mote.0 mote.1, count.0), (timed t.0.1 t.0.2 dt.0 draw.0 dt.1 draw.1, count.1))) (λ p. p)
+    let word = bound (number_in t.0.2) _ line dt.2 in
+    let frame = bound (counted_in t.0.3) _ line word.2 in
+    known_line verb.Hear place u.0 (EventLine (Hear mote.0 dt.0 word.0 frame.0)) line u.1 (cc) (λ s. s) (let count = counted t.0.3 frame.0 frame.1 in ((mote_in-below place.motes t.0.0 mote.0 mote.1, count.0), (timed t.0.1 t.0.2 dt.0 word.0 dt.1 word.1, count.1))) (λ p. p)
 
 last_known : (place : Place) (fields : List (List ℕ)) (line : Line) → last_line_of place fields ≡ Ok line → Known verb.Last place line
 unfolding last_line_of
@@ -159,8 +159,8 @@ last_known place fields line h =
     let a = bound (mote_in place.motes t.0.0) _ line u.2 in
     let b = bound (other_in place.motes a.0 t.0.1) _ line a.2 in
     let dt = bound (number_in t.0.2) _ line b.2 in
-    let draw = bound (number_in t.0.3) _ line dt.2 in
-    known_line verb.Last place u.0 (EventLine (Last a.0 b.0 dt.0 draw.0)) line u.1 (cc) (λ s. s) (two place.motes t.0.0 t.0.1 a.0 b.0 a.1 b.1, timed t.0.2 t.0.3 dt.0 draw.0 dt.1 draw.1) (λ p. p)
+    let word = bound (number_in t.0.3) _ line dt.2 in
+    known_line verb.Last place u.0 (EventLine (Last a.0 b.0 dt.0 word.0)) line u.1 (cc) (λ s. s) (two place.motes t.0.0 t.0.1 a.0 b.0 a.1 b.1, timed t.0.2 t.0.3 dt.0 word.0 dt.1 word.1) (λ p. p)
 
 reset_known : (place : Place) (fields : List (List ℕ)) (line : Line) → reset_of place fields ≡ Ok line → Known verb.Reset place line
 unfolding reset_of
@@ -169,8 +169,8 @@ reset_known place fields line h =
     let u = bound (standing verb.Reset place) _ line t.2 in
     let mote = bound (mote_in place.motes t.0.0) _ line u.2 in
     let dt = bound (number_in t.0.1) _ line mote.2 in
-    let draw = bound (number_in t.0.2) _ line dt.2 in
-    known_line verb.Reset place u.0 (EventLine (Reset mote.0 dt.0 draw.0)) line u.1 (cc) (λ s. s) (mote_in-below place.motes t.0.0 mote.0 mote.1, timed t.0.1 t.0.2 dt.0 draw.0 dt.1 draw.1) (λ p. p)
+    let word = bound (number_in t.0.2) _ line dt.2 in
+    known_line verb.Reset place u.0 (EventLine (Reset mote.0 dt.0 word.0)) line u.1 (cc) (λ s. s) (mote_in-below place.motes t.0.0 mote.0 mote.1, timed t.0.1 t.0.2 dt.0 word.0 dt.1 word.1) (λ p. p)
 
 inject_known : (place : Place) (fields : List (List ℕ)) (line : Line) → inject_of place fields ≡ Ok line → Known verb.Inject place line
 unfolding inject_of
@@ -181,10 +181,10 @@ inject_known place fields line h =
     let image = bound (any_image_in t.0.1) _ line mote.2 in
     let version = bound (version_in t.0.2) _ line image.2 in
     let dt = bound (number_in t.0.3) _ line version.2 in
-    let draw = bound (number_in t.0.4) _ line dt.2 in
-    known_line verb.Inject place u.0 (EventLine (Inject mote.0 image.0 version.0 dt.0 draw.0)) line u.1 (cc) (λ s. s) (
+    let word = bound (number_in t.0.4) _ line dt.2 in
+    known_line verb.Inject place u.0 (EventLine (Inject mote.0 image.0 version.0 dt.0 word.0)) line u.1 (cc) (λ s. s) (
       (mote_in-below place.motes t.0.0 mote.0 mote.1, version_known t.0.1 t.0.2 image.0 version.0 image.1 version.1),
-      (timed t.0.3 t.0.4 dt.0 draw.0 dt.1 draw.1, (numbered t.0.2 version.0 version.1).1),
+      (timed t.0.3 t.0.4 dt.0 word.0 dt.1 word.1, (numbered t.0.2 version.0 version.1).1),
     ) (λ p. p)
 
 order_known : (place : Place) (fields : List (List ℕ)) (line : Line) → order_of place fields ≡ Ok line → Known verb.Order place line
@@ -197,12 +197,12 @@ order_known place fields line h =
     let image = bound (any_image_in t.0.2) _ line number.2 in
     let version = bound (version_in t.0.3) _ line image.2 in
     let dt = bound (number_in t.0.4) _ line version.2 in
-    let draw = bound (number_in t.0.5) _ line dt.2 in
+    let word = bound (number_in t.0.5) _ line dt.2 in
     let count = numbered t.0.1 number.0 number.1 in
-    let order : Line = EventLine (Order mote.0 number.0 image.0 version.0 dt.0 draw.0) in
-    known_line verb.Order place u.0 order line u.1 (same_of_ok order line _ _ refl refl draw.2) (λ s. s) (
+    let order : Line = EventLine (Order mote.0 number.0 image.0 version.0 dt.0 word.0) in
+    known_line verb.Order place u.0 order line u.1 (same_of_ok order line _ _ refl refl word.2) (λ s. s) (
       (mote_in-below place.motes t.0.0 mote.0 mote.1, version_known t.0.2 t.0.3 image.0 version.0 image.1 version.1, (numbered t.0.3 version.0 version.1).1, count.0, count.1),
-      timed t.0.4 t.0.5 dt.0 draw.0 dt.1 draw.1,
+      timed t.0.4 t.0.5 dt.0 word.0 dt.1 word.1,
     ) (λ p. p)
 
 frame_known : (place : Place) (fields : List (List ℕ)) (line : Line) → frame_of place fields ≡ Ok line → Known verb.Frame place line
@@ -212,10 +212,10 @@ frame_known place fields line h =
     let u = bound (standing verb.Frame place) _ line t.2 in
     let mote = bound (mote_in place.motes t.0.0) _ line u.2 in
     let dt = bound (number_in t.0.1) _ line mote.2 in
-    let draw = bound (number_in t.0.2) _ line dt.2 in
-    let content = bound (sized_content 0 longest_frame t.0.3) _ line draw.2 in
+    let word = bound (number_in t.0.2) _ line dt.2 in
+    let content = bound (sized_content 0 longest_frame t.0.3) _ line word.2 in
     let size = sized_content-is 0 longest_frame t.0.3 content.0 content.1 in
-    known_line verb.Frame place u.0 (EventLine (Frame mote.0 dt.0 draw.0 content.0)) line u.1 (cc) (λ s. s) ((mote_in-below place.motes t.0.0 mote.0 mote.1, record { few = size.high; bytes = size.bytes }), timed t.0.1 t.0.2 dt.0 draw.0 dt.1 draw.1) (λ p. p)
+    known_line verb.Frame place u.0 (EventLine (Frame mote.0 dt.0 word.0 content.0)) line u.1 (cc) (λ s. s) ((mote_in-below place.motes t.0.0 mote.0 mote.1, record { few = size.high; bytes = size.bytes }), timed t.0.1 t.0.2 dt.0 word.0 dt.1 word.1) (λ p. p)
 
 cut_known : (place : Place) (fields : List (List ℕ)) (line : Line) → cut_of place fields ≡ Ok line → Known verb.Cut place line
 unfolding cut_of

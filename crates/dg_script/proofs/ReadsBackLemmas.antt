@@ -17,7 +17,7 @@ use Rattle.dg_script.specs.Fitting.{StandsBy, StandsAt, FitsLine, FitsEvent, IsP
 use Rattle.dg_script.specs.Spelling.{content_text, event_words, line_text, IsShort}
 use Rattle.dg_script.specs.declared.fault.LineFault.TheVariants as fault
 use Rattle.dg_script.specs.declared.line.Line.{Line}
-use Rattle.dg_script.specs.declared.line.Line.TheVariants.{Nothing, Motes, Golden, Boards, Link, Narrow, Image, Cut, Event as EventLine, Round, Sweeps}
+use Rattle.dg_script.specs.declared.line.Line.TheVariants.{Nothing, Motes, Golden, Boards, Link, Narrow, Image, Cut, Happens as EventLine, Round, Sweeps}
 use Rattle.dg_script.specs.declared.place.Place.{Place}
 use Rattle.dg_script.specs.declared.verbs.Verb.TheVariants as verb
 use Rattle.dg_script.proofs.FieldLemmas.{cut_with-ok}
@@ -107,7 +107,7 @@ unfolding tick_of
 tick_read place m d w stands few fits plays =
     let a = number m (omega (arith, few.0)) in
     let b = number d fits.1.dt in
-    let c = number w fits.1.draw in
+    let c = number w fits.1.word in
     reads_words verb.Tick place (decimal m ∷ decimal d ∷ decimal w ∷ []) (EventLine (Tick m d w)) (a.word, (b.word, (c.word, tt))) (omega (arith, a.short, b.short, c.short)) plays
     (rw (stood verb.Tick place stands, mote place.motes m a fits.0, b.read, c.read) refl)
 
@@ -116,7 +116,7 @@ unfolding hear_of
 hear_read place m d w k stands few fits plays =
     let a = number m (omega (arith, few.0.0)) in
     let b = number d fits.1.0.dt in
-    let c = number w fits.1.0.draw in
+    let c = number w fits.1.0.word in
     let e = number k fits.1.1 in
     reads_words verb.Hear place (decimal m ∷ decimal d ∷ decimal w ∷ decimal k ∷ []) (EventLine (Hear m d w k)) (a.word, (b.word, (c.word, (e.word, tt)))) (omega (arith, a.short, b.short, c.short, e.short)) plays
     (rw (stood verb.Hear place stands, mote place.motes m a fits.0.0, b.read, c.read, ranged fault.Number 1 k most_number e fits.0.1 (omega (arith, fits.1.1))) refl)
@@ -127,7 +127,7 @@ last_read place a b d w stands few fits plays =
     let x = number a (omega (arith, few.0.first)) in
     let y = number b (omega (arith, few.0.second)) in
     let p = number d fits.1.dt in
-    let q = number w fits.1.draw in
+    let q = number w fits.1.word in
     reads_words verb.Last place (decimal a ∷ decimal b ∷ decimal d ∷ decimal w ∷ []) (EventLine (Last a b d w)) (x.word, (y.word, (p.word, (q.word, tt)))) (omega (arith, x.short, y.short, p.short, q.short)) plays
     (rw (stood verb.Last place stands, mote place.motes a x fits.0.first, other_mote place.motes a b y fits.0.second (λ same. fits.0.two (sym same)), p.read, q.read) refl)
 
@@ -136,7 +136,7 @@ unfolding reset_of
 reset_read place m d w stands few fits plays =
     let a = number m (omega (arith, few.0)) in
     let b = number d fits.1.dt in
-    let c = number w fits.1.draw in
+    let c = number w fits.1.word in
     reads_words verb.Reset place (decimal m ∷ decimal d ∷ decimal w ∷ []) (EventLine (Reset m d w)) (a.word, (b.word, (c.word, tt))) (omega (arith, a.short, b.short, c.short)) plays
     (rw (stood verb.Reset place stands, mote place.motes m a fits.0, b.read, c.read) refl)
 
@@ -153,7 +153,7 @@ inject_read place m i v d w stands few fits plays =
     let x = number i (omega (arith, fits.0.1.image)) in
     let y = number v fits.1.1 in
     let b = number d fits.1.0.dt in
-    let c = number w fits.1.0.draw in
+    let c = number w fits.1.0.word in
     reads_words verb.Inject place (decimal m ∷ decimal i ∷ decimal v ∷ decimal d ∷ decimal w ∷ []) (EventLine (Inject m i v d w)) (a.word, (x.word, (y.word, (b.word, (c.word, tt)))))
     (omega (arith, a.short, x.short, y.short, b.short, c.short)) plays
     (rw (stood verb.Inject place stands, mote place.motes m a fits.0.0, any_image i v x fits.0.1, some_version v y fits.0.1.version, b.read, c.read) refl)
@@ -166,7 +166,7 @@ order_read place m k i v d w stands few fits plays =
     let x = number i (omega (arith, fits.0.1.image)) in
     let y = number v fits.0.2 in
     let b = number d fits.1.dt in
-    let c = number w fits.1.draw in
+    let c = number w fits.1.word in
     reads_words verb.Order place (decimal m ∷ decimal k ∷ decimal i ∷ decimal v ∷ decimal d ∷ decimal w ∷ []) (EventLine (Order m k i v d w)) (a.word, (n.word, (x.word, (y.word, (b.word, (c.word, tt))))))
     (omega (arith, a.short, n.short, x.short, y.short, b.short, c.short)) plays
     (rw (stood verb.Order place stands, mote place.motes m a fits.0.0, some_version k n fits.0.3, any_image i v x fits.0.1, some_version v y fits.0.1.version, b.read, c.read) refl)
@@ -176,7 +176,7 @@ unfolding frame_of
 frame_read place m d w bytes stands few fits plays =
     let a = number m (omega (arith, few.0.0)) in
     let b = number d fits.1.dt in
-    let c = number w fits.1.draw in
+    let c = number w fits.1.word in
     let f = content 0 longest_frame bytes fits.0.1.bytes (omega arith) fits.0.1.few in
     reads_words verb.Frame place (decimal m ∷ decimal d ∷ decimal w ∷ content_text bytes ∷ []) (EventLine (Frame m d w bytes)) (a.word, (b.word, (c.word, (f.word, tt))))
     (omega (arith, a.short, b.short, c.short, f.size, fits.0.1.few)) plays

@@ -13,7 +13,7 @@ use Rattle.dg_script.specs.Verbs.{is_played, stands, follows}
 use Rattle.dg_script.specs.Places.{is_linked, is_narrow}
 use Rattle.dg_script.specs.declared.line.Line.{Line}
 use Rattle.dg_script.specs.declared.line.Line.TheVariants.{Nothing, Motes, Golden, Boards, Link, Narrow, Image, Cut}
-use Rattle.dg_script.specs.declared.line.Line.TheVariants.{Event as EventLine}
+use Rattle.dg_script.specs.declared.line.Line.TheVariants.{Happens as EventLine}
 use Rattle.dg_script.specs.declared.line.Line.TheVariants.{Round, Sweeps}
 use Rattle.dg_script.specs.declared.place.Place.{Place}
 use Rattle.dg_script.specs.declared.verbs.Verb.{Verb}
@@ -33,20 +33,20 @@ pub record FitsCut (cut : CutOfPower) : Type 0 where
   pub fits : cut.after < 2 ^ 32
   pub bytes : AreBytes cut.mask
 
--- the time and the draw of each event are of 32 bits
+-- the time and the word of each event are of 32 bits
 pub record IsTimed (d w : ℕ) : Type 0 where
   pub dt : d < 2 ^ 32
-  pub draw : w < 2 ^ 32
+  pub word : w < 2 ^ 32
 
 -- the numbers of an event that its range does not bound from above are of 32 bits
 abbrev pub AreNumbers : Event → Type 0
-AreNumbers (Tick mote dt draw) = IsTimed dt draw
-AreNumbers (Hear mote dt draw frame) = IsTimed dt draw × (frame < 2 ^ 32)
-AreNumbers (Last from to dt draw) = IsTimed dt draw
-AreNumbers (Reset mote dt draw) = IsTimed dt draw
-AreNumbers (Inject mote image version dt draw) = IsTimed dt draw × (version < 2 ^ 32)
-AreNumbers (Order mote number image version dt draw) = IsTimed dt draw
-AreNumbers (Frame mote dt draw bytes) = IsTimed dt draw
+AreNumbers (Tick mote dt word) = IsTimed dt word
+AreNumbers (Hear mote dt word frame) = IsTimed dt word × (frame < 2 ^ 32)
+AreNumbers (Last from to dt word) = IsTimed dt word
+AreNumbers (Reset mote dt word) = IsTimed dt word
+AreNumbers (Inject mote image version dt word) = IsTimed dt word × (version < 2 ^ 32)
+AreNumbers (Order mote number image version dt word) = IsTimed dt word
+AreNumbers (Frame mote dt word bytes) = IsTimed dt word
 
 -- an event at one of so many motes is in its range, and its numbers are of 32 bits
 abbrev pub FitsEvent : ℕ → Event → Type 0
@@ -72,13 +72,13 @@ FitsLine motes (Sweeps n) = (1 ≤ n) × (n ≤ most_sweeps)
 
 -- the verb of an event
 abbrev pub verb_of_event : Event → Verb
-verb_of_event (Tick mote dt draw) = verb.Tick
-verb_of_event (Hear mote dt draw frame) = verb.Hear
-verb_of_event (Last from to dt draw) = verb.Last
-verb_of_event (Reset mote dt draw) = verb.Reset
-verb_of_event (Inject mote image version dt draw) = verb.Inject
-verb_of_event (Order mote number image version dt draw) = verb.Order
-verb_of_event (Frame mote dt draw bytes) = verb.Frame
+verb_of_event (Tick mote dt word) = verb.Tick
+verb_of_event (Hear mote dt word frame) = verb.Hear
+verb_of_event (Last from to dt word) = verb.Last
+verb_of_event (Reset mote dt word) = verb.Reset
+verb_of_event (Inject mote image version dt word) = verb.Inject
+verb_of_event (Order mote number image version dt word) = verb.Order
+verb_of_event (Frame mote dt word bytes) = verb.Frame
 
 -- a line of this verb is played, and stands at its place
 pub record StandsBy (verb : Verb) (place : Place) : Type 0 where

@@ -8,7 +8,7 @@ use Rattle.dg_script.specs.Fitting.{declared_row}
 use Rattle.dg_script.specs.Places.{first_place, place_after}
 use Rattle.dg_script.specs.declared.line.Line.{Line}
 use Rattle.dg_script.specs.declared.line.Line.TheVariants.{Nothing, Motes, Golden, Boards, Link, Narrow, Image, Cut}
-use Rattle.dg_script.specs.declared.line.Line.TheVariants.{Event as EventLine, Round, Sweeps}
+use Rattle.dg_script.specs.declared.line.Line.TheVariants.{Happens as EventLine, Round, Sweeps}
 use Rattle.dg_script.specs.declared.place.Place.{Place}
 
 -- A row is declared, or an event is applied. One that a round or a sweep gave is unreported: no frame that it sent is reported.

@@ -19,7 +19,7 @@ use Rattle.dg_script.specs.declared.fault.LineFault.{LineFault}
 use Rattle.dg_script.specs.declared.fault.LineFault.TheVariants as fault
 use Rattle.dg_script.specs.declared.line.Line.{Line}
 use Rattle.dg_script.specs.declared.line.Line.TheVariants.{Nothing, Motes, Golden, Boards, Link, Narrow, Image, Cut}
-use Rattle.dg_script.specs.declared.line.Line.TheVariants.{Event as EventLine}
+use Rattle.dg_script.specs.declared.line.Line.TheVariants.{Happens as EventLine}
 use Rattle.dg_script.specs.declared.line.Line.TheVariants.{Round, Sweeps}
 use Rattle.dg_script.specs.declared.place.Place.{Place}
 use Rattle.dg_script.specs.declared.verbs.Verb.{Verb}
@@ -71,36 +71,36 @@ image_of place fields =
 unfoldable pub tick_of : Place → List (List ℕ) → Result Line LineFault
 tick_of place fields =
     three_of fields >>= λ t. standing verb.Tick place >>= λ u. mote_in place.motes t.0 >>= λ mote. number_in t.1
-    >>= λ dt. number_in t.2 >>= λ draw.
-    Ok (EventLine (event.Tick mote dt draw))
+    >>= λ dt. number_in t.2 >>= λ word.
+    Ok (EventLine (event.Tick mote dt word))
 
 -- `hear M DT DRAW K`
 unfoldable pub hear_of : Place → List (List ℕ) → Result Line LineFault
 hear_of place fields =
     four_of fields >>= λ t. standing verb.Hear place >>= λ u. mote_in place.motes t.0 >>= λ mote. number_in t.1
-    >>= λ dt. number_in t.2 >>= λ draw.
-    counted_in t.3 >>= λ frame. Ok (EventLine (event.Hear mote dt draw frame))
+    >>= λ dt. number_in t.2 >>= λ word.
+    counted_in t.3 >>= λ frame. Ok (EventLine (event.Hear mote dt word frame))
 
 -- `last A B DT DRAW`
 unfoldable pub last_line_of : Place → List (List ℕ) → Result Line LineFault
 last_line_of place fields =
     four_of fields >>= λ t. standing verb.Last place >>= λ u. mote_in place.motes t.0
     >>= λ from. other_in place.motes from t.1 >>= λ to.
-    number_in t.2 >>= λ dt. number_in t.3 >>= λ draw. Ok (EventLine (event.Last from to dt draw))
+    number_in t.2 >>= λ dt. number_in t.3 >>= λ word. Ok (EventLine (event.Last from to dt word))
 
 -- `reset M DT DRAW`
 unfoldable pub reset_of : Place → List (List ℕ) → Result Line LineFault
 reset_of place fields =
     three_of fields >>= λ t. standing verb.Reset place >>= λ u. mote_in place.motes t.0 >>= λ mote. number_in t.1
-    >>= λ dt. number_in t.2 >>= λ draw.
-    Ok (EventLine (event.Reset mote dt draw))
+    >>= λ dt. number_in t.2 >>= λ word.
+    Ok (EventLine (event.Reset mote dt word))
 
 -- `inject M I V DT DRAW`
 unfoldable pub inject_of : Place → List (List ℕ) → Result Line LineFault
 inject_of place fields =
     five_of fields >>= λ t. standing verb.Inject place >>= λ u. mote_in place.motes t.0 >>= λ mote. any_image_in t.1
     >>= λ image. version_in t.2 >>= λ version.
-    number_in t.3 >>= λ dt. number_in t.4 >>= λ draw. Ok (EventLine (event.Inject mote image version dt draw))
+    number_in t.3 >>= λ dt. number_in t.4 >>= λ word. Ok (EventLine (event.Inject mote image version dt word))
 
 -- `order M K I V DT DRAW`
 unfoldable pub order_of : Place → List (List ℕ) → Result Line LineFault
@@ -108,14 +108,14 @@ order_of place fields =
     six_of fields >>= λ t. standing verb.Order place >>= λ u. mote_in place.motes t.0 >>= λ mote. version_in t.1
     >>= λ number. any_image_in t.2 >>= λ image.
     version_in t.3 >>= λ version. number_in t.4 >>= λ dt. number_in t.5
-    >>= λ draw. Ok (EventLine (event.Order mote number image version dt draw))
+    >>= λ word. Ok (EventLine (event.Order mote number image version dt word))
 
 -- `frame M DT DRAW CONTENT`
 unfoldable pub frame_of : Place → List (List ℕ) → Result Line LineFault
 frame_of place fields =
     four_of fields >>= λ t. standing verb.Frame place >>= λ u. mote_in place.motes t.0 >>= λ mote. number_in t.1
-    >>= λ dt. number_in t.2 >>= λ draw.
-    sized_content 0 longest_frame t.3 >>= λ bytes. Ok (EventLine (event.Frame mote dt draw bytes))
+    >>= λ dt. number_in t.2 >>= λ word.
+    sized_content 0 longest_frame t.3 >>= λ bytes. Ok (EventLine (event.Frame mote dt word bytes))
 
 -- ---- cuts, rounds and sweeps
 

@@ -39,14 +39,14 @@ pub record IsFrame (content : List ℕ) : Type 0 where
 
 -- an event is at one of so many motes, and what it names, brings or orders is in its range
 abbrev pub EventInRange : ℕ → Event → Type 0
-EventInRange motes (Tick mote dt draw) = mote < motes
-EventInRange motes (Hear mote dt draw frame) = (mote < motes) × (1 ≤ frame)
-EventInRange motes (Last from to dt draw) = AreTwo motes from to
-EventInRange motes (Reset mote dt draw) = mote < motes
-EventInRange motes (Inject mote image version dt draw) = (mote < motes) × IsVersion image version
-EventInRange motes (Order mote number image version dt draw) =
+EventInRange motes (Tick mote dt word) = mote < motes
+EventInRange motes (Hear mote dt word frame) = (mote < motes) × (1 ≤ frame)
+EventInRange motes (Last from to dt word) = AreTwo motes from to
+EventInRange motes (Reset mote dt word) = mote < motes
+EventInRange motes (Inject mote image version dt word) = (mote < motes) × IsVersion image version
+EventInRange motes (Order mote number image version dt word) =
     (mote < motes) × IsVersion image version × (version < 2 ^ 32) × (1 ≤ number) × (number < 2 ^ 32)
-EventInRange motes (Frame mote dt draw bytes) = (mote < motes) × IsFrame bytes
+EventInRange motes (Frame mote dt word bytes) = (mote < motes) × IsFrame bytes
 
 -- a cut is in a numbered operation, and leaves 1 to 2,048 bytes
 pub record CutInRange (cut : Cut) : Type 0 where

@@ -10,7 +10,7 @@ use Rattle.dg_script.specs.Sizes.{most_written}
 use Rattle.dg_script.specs.Words.{spaced}
 use Rattle.dg_script.specs.declared.line.Line.{Line}
 use Rattle.dg_script.specs.declared.line.Line.TheVariants.{Nothing, Motes, Golden, Boards, Link, Narrow, Image, Cut}
-use Rattle.dg_script.specs.declared.line.Line.TheVariants.{Event as EventLine}
+use Rattle.dg_script.specs.declared.line.Line.TheVariants.{Happens as EventLine}
 use Rattle.dg_script.specs.declared.line.Line.TheVariants.{Round, Sweeps}
 use Rattle.dg_script.specs.declared.spelling.Field.{Field}
 use Rattle.dg_script.specs.declared.spelling.Field.TheVariants as field
@@ -34,15 +34,15 @@ fields_text fields = flat_map (λ f. 32 ∷ field_text f) fields
 
 -- the words of an event's line
 abbrev pub event_words : Event → List (List ℕ)
-event_words (Tick mote dt draw) = codes "tick" ∷ decimal mote ∷ decimal dt ∷ decimal draw ∷ []
-event_words (Hear mote dt draw frame) = codes "hear" ∷ decimal mote ∷ decimal dt ∷ decimal draw ∷ decimal frame ∷ []
-event_words (Last from to dt draw) = codes "last" ∷ decimal from ∷ decimal to ∷ decimal dt ∷ decimal draw ∷ []
-event_words (Reset mote dt draw) = codes "reset" ∷ decimal mote ∷ decimal dt ∷ decimal draw ∷ []
-event_words (Inject mote image version dt draw) =
-    codes "inject" ∷ decimal mote ∷ decimal image ∷ decimal version ∷ decimal dt ∷ decimal draw ∷ []
-event_words (Order mote number image version dt draw) =
-    codes "order" ∷ decimal mote ∷ decimal number ∷ decimal image ∷ decimal version ∷ decimal dt ∷ decimal draw ∷ []
-event_words (Frame mote dt draw bytes) = codes "frame" ∷ decimal mote ∷ decimal dt ∷ decimal draw ∷ content_text bytes ∷ []
+event_words (Tick mote dt word) = codes "tick" ∷ decimal mote ∷ decimal dt ∷ decimal word ∷ []
+event_words (Hear mote dt word frame) = codes "hear" ∷ decimal mote ∷ decimal dt ∷ decimal word ∷ decimal frame ∷ []
+event_words (Last from to dt word) = codes "last" ∷ decimal from ∷ decimal to ∷ decimal dt ∷ decimal word ∷ []
+event_words (Reset mote dt word) = codes "reset" ∷ decimal mote ∷ decimal dt ∷ decimal word ∷ []
+event_words (Inject mote image version dt word) =
+    codes "inject" ∷ decimal mote ∷ decimal image ∷ decimal version ∷ decimal dt ∷ decimal word ∷ []
+event_words (Order mote number image version dt word) =
+    codes "order" ∷ decimal mote ∷ decimal number ∷ decimal image ∷ decimal version ∷ decimal dt ∷ decimal word ∷ []
+event_words (Frame mote dt word bytes) = codes "frame" ∷ decimal mote ∷ decimal dt ∷ decimal word ∷ content_text bytes ∷ []
 
 -- the words of a line
 abbrev pub line_words : Line → List (List ℕ)

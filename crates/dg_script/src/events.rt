@@ -25,19 +25,19 @@ pub fn tick_line(fields: &[u8], place: &Place) -> Result<Line, LineFault>
     ensures { result ≡ tick_of place.now (words_of fields.now) }
 {
     match three_numbers(fields) {
-        Some((at, dt, draw)) => tick_with(at, dt, draw, place),
+        Some((at, dt, word)) => tick_with(at, dt, word, place),
         None => tick_words(fields, place),
     }
 }
 
 // The line of these numbers.
 #[inline(always)]
-fn tick_with(at: u32, dt: u32, draw: u32, place: &Place) -> Result<Line, LineFault>
-    ensures { result ≡ tick_with place.now at dt draw }
+fn tick_with(at: u32, dt: u32, word: u32, place: &Place) -> Result<Line, LineFault>
+    ensures { result ≡ tick_with place.now at dt word }
 {
     Verb::Tick.stand(place)?;
     let mote = mote_with(at, place.motes)?;
-    Ok(Line::Event(Event::Tick { mote, dt, draw }))
+    Ok(Line::Happens(Event::Tick { mote, dt, word }))
 }
 
 // The line of these words, or their first fault.
@@ -46,12 +46,12 @@ fn tick_with(at: u32, dt: u32, draw: u32, place: &Place) -> Result<Line, LineFau
 fn tick_words(fields: &[u8], place: &Place) -> Result<Line, LineFault>
     ensures { result ≡ tick_of place.now (words_of fields.now) }
 {
-    let (at, dt, draw) = three_words(fields)?;
+    let (at, dt, word) = three_words(fields)?;
     Verb::Tick.stand(place)?;
     let mote = mote(at, place.motes)?;
     let dt = number(dt)?;
-    let draw = number(draw)?;
-    Ok(Line::Event(Event::Tick { mote, dt, draw }))
+    let word = number(word)?;
+    Ok(Line::Happens(Event::Tick { mote, dt, word }))
 }
 
 /// `hear M DT DRAW K`
@@ -59,16 +59,16 @@ fn tick_words(fields: &[u8], place: &Place) -> Result<Line, LineFault>
 pub fn hear_line(fields: &[u8], place: &Place) -> Result<Line, LineFault>
     ensures { result ≡ hear_of place.now (words_of fields.now) }
 {
-    let (at, dt, draw, frame) = four_words(fields)?;
+    let (at, dt, word, frame) = four_words(fields)?;
     Verb::Hear.stand(place)?;
     let mote = mote(at, place.motes)?;
     let dt = number(dt)?;
-    let draw = number(draw)?;
+    let word = number(word)?;
     let frame = counted(frame)?;
-    Ok(Line::Event(Event::Hear {
+    Ok(Line::Happens(Event::Hear {
         mote,
         dt,
-        draw,
+        word,
         frame,
     }))
 }
@@ -79,20 +79,20 @@ pub fn last_line(fields: &[u8], place: &Place) -> Result<Line, LineFault>
     ensures { result ≡ last_line_of place.now (words_of fields.now) }
 {
     match four_numbers(fields) {
-        Some((from, to, dt, draw)) => last_with(from, to, dt, draw, place),
+        Some((from, to, dt, word)) => last_with(from, to, dt, word, place),
         None => last_words(fields, place),
     }
 }
 
 // The line of these numbers.
 #[inline(always)]
-fn last_with(first: u32, second: u32, dt: u32, draw: u32, place: &Place) -> Result<Line, LineFault>
-    ensures { result ≡ last_with place.now first second dt draw }
+fn last_with(first: u32, second: u32, dt: u32, word: u32, place: &Place) -> Result<Line, LineFault>
+    ensures { result ≡ last_with place.now first second dt word }
 {
     Verb::Last.stand(place)?;
     let from = mote_with(first, place.motes)?;
     let to = other_with(second, place.motes, from)?;
-    Ok(Line::Event(Event::Last { from, to, dt, draw }))
+    Ok(Line::Happens(Event::Last { from, to, dt, word }))
 }
 
 // The line of these words, or their first fault.
@@ -101,13 +101,13 @@ fn last_with(first: u32, second: u32, dt: u32, draw: u32, place: &Place) -> Resu
 fn last_words(fields: &[u8], place: &Place) -> Result<Line, LineFault>
     ensures { result ≡ last_line_of place.now (words_of fields.now) }
 {
-    let (from, to, dt, draw) = four_words(fields)?;
+    let (from, to, dt, word) = four_words(fields)?;
     Verb::Last.stand(place)?;
     let from = mote(from, place.motes)?;
     let to = other_mote(to, place.motes, from)?;
     let dt = number(dt)?;
-    let draw = number(draw)?;
-    Ok(Line::Event(Event::Last { from, to, dt, draw }))
+    let word = number(word)?;
+    Ok(Line::Happens(Event::Last { from, to, dt, word }))
 }
 
 /// `reset M DT DRAW`
@@ -115,12 +115,12 @@ fn last_words(fields: &[u8], place: &Place) -> Result<Line, LineFault>
 pub fn reset_line(fields: &[u8], place: &Place) -> Result<Line, LineFault>
     ensures { result ≡ reset_of place.now (words_of fields.now) }
 {
-    let (at, dt, draw) = three_words(fields)?;
+    let (at, dt, word) = three_words(fields)?;
     Verb::Reset.stand(place)?;
     let mote = mote(at, place.motes)?;
     let dt = number(dt)?;
-    let draw = number(draw)?;
-    Ok(Line::Event(Event::Reset { mote, dt, draw }))
+    let word = number(word)?;
+    Ok(Line::Happens(Event::Reset { mote, dt, word }))
 }
 
 /// `inject M I V DT DRAW`
@@ -128,19 +128,19 @@ pub fn reset_line(fields: &[u8], place: &Place) -> Result<Line, LineFault>
 pub fn inject_line(fields: &[u8], place: &Place) -> Result<Line, LineFault>
     ensures { result ≡ inject_of place.now (words_of fields.now) }
 {
-    let (at, image, number_of_version, dt, draw) = five_words(fields)?;
+    let (at, image, number_of_version, dt, word) = five_words(fields)?;
     Verb::Inject.stand(place)?;
     let mote = mote(at, place.motes)?;
     let image = any_image_number(image)?;
     let version = version(number_of_version)?;
     let dt = number(dt)?;
-    let draw = number(draw)?;
-    Ok(Line::Event(Event::Inject {
+    let word = number(word)?;
+    Ok(Line::Happens(Event::Inject {
         mote,
         image,
         version,
         dt,
-        draw,
+        word,
     }))
 }
 
@@ -149,21 +149,21 @@ pub fn inject_line(fields: &[u8], place: &Place) -> Result<Line, LineFault>
 pub fn order_line(fields: &[u8], place: &Place) -> Result<Line, LineFault>
     ensures { result ≡ order_of place.now (words_of fields.now) }
 {
-    let (at, order, image, number_of_version, dt, draw) = six_words(fields)?;
+    let (at, order, image, number_of_version, dt, word) = six_words(fields)?;
     Verb::Order.stand(place)?;
     let mote = mote(at, place.motes)?;
     let order = version(order)?;
     let image = any_image_number(image)?;
     let version = version(number_of_version)?;
     let dt = number(dt)?;
-    let draw = number(draw)?;
-    Ok(Line::Event(Event::Order {
+    let word = number(word)?;
+    Ok(Line::Happens(Event::Order {
         mote,
         number: order,
         image,
         version,
         dt,
-        draw,
+        word,
     }))
 }
 
@@ -172,16 +172,16 @@ pub fn order_line(fields: &[u8], place: &Place) -> Result<Line, LineFault>
 pub fn frame_line(alloc: Global, fields: &[u8], place: &Place) -> Result<Line, LineFault>
     ensures { Reads result (frame_of place.now (words_of fields.now)) }
 {
-    let (at, dt, draw, content) = four_words(fields)?;
+    let (at, dt, word, content) = four_words(fields)?;
     Verb::Frame.stand(place)?;
     let mote = mote(at, place.motes)?;
     let dt = number(dt)?;
-    let draw = number(draw)?;
+    let word = number(word)?;
     let bytes = sized_content(alloc, content, 0, LONGEST_FRAME)?;
-    Ok(Line::Event(Event::Frame {
+    Ok(Line::Happens(Event::Frame {
         mote,
         dt,
-        draw,
+        word,
         bytes,
     }))
 }

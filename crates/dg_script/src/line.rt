@@ -33,7 +33,7 @@ pub enum Line {
     /// The power is cut in the event that comes.
     Cut(Cut),
     /// An event happens at a mote.
-    Event(Event),
+    Happens(Event),
     /// A mote brings a page to another.
     Round(u8, u8),
     /// So many times there are rounds over each link in both directions.

@@ -65,7 +65,7 @@ impl Place {
                 self.cut = Some(cut);
                 Ok(())
             }
-            Line::Event(_) => {
+            Line::Happens(_) => {
                 self.events = true;
                 self.cut = None;
                 Ok(())

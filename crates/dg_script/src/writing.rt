@@ -37,18 +37,18 @@ pub fn write_line(line: &Line, out: &mut Vec<u8>) -> Result<(), AllocError>
         Line::Image { image, version, name, content } => b"image",
             Small(*image), Number(*version), Word(name.as_slice()), Content(content.as_slice());
         Line::Cut(cut) => b"cut", Number(cut.after), Digits(cut.mask.as_slice());
-        Line::Event(Event::Tick { mote, dt, draw }) => b"tick", Small(*mote), Number(*dt), Number(*draw);
-        Line::Event(Event::Hear { mote, dt, draw, frame }) => b"hear",
-            Small(*mote), Number(*dt), Number(*draw), Number(*frame);
-        Line::Event(Event::Last { from, to, dt, draw }) => b"last",
-            Small(*from), Small(*to), Number(*dt), Number(*draw);
-        Line::Event(Event::Reset { mote, dt, draw }) => b"reset", Small(*mote), Number(*dt), Number(*draw);
-        Line::Event(Event::Inject { mote, image, version, dt, draw }) => b"inject",
-            Small(*mote), Small(*image), Number(*version), Number(*dt), Number(*draw);
-        Line::Event(Event::Order { mote, number, image, version, dt, draw }) => b"order",
-            Small(*mote), Number(*number), Small(*image), Number(*version), Number(*dt), Number(*draw);
-        Line::Event(Event::Frame { mote, dt, draw, bytes }) => b"frame",
-            Small(*mote), Number(*dt), Number(*draw), Content(bytes.as_slice());
+        Line::Happens(Event::Tick { mote, dt, word }) => b"tick", Small(*mote), Number(*dt), Number(*word);
+        Line::Happens(Event::Hear { mote, dt, word, frame }) => b"hear",
+            Small(*mote), Number(*dt), Number(*word), Number(*frame);
+        Line::Happens(Event::Last { from, to, dt, word }) => b"last",
+            Small(*from), Small(*to), Number(*dt), Number(*word);
+        Line::Happens(Event::Reset { mote, dt, word }) => b"reset", Small(*mote), Number(*dt), Number(*word);
+        Line::Happens(Event::Inject { mote, image, version, dt, word }) => b"inject",
+            Small(*mote), Small(*image), Number(*version), Number(*dt), Number(*word);
+        Line::Happens(Event::Order { mote, number, image, version, dt, word }) => b"order",
+            Small(*mote), Number(*number), Small(*image), Number(*version), Number(*dt), Number(*word);
+        Line::Happens(Event::Frame { mote, dt, word, bytes }) => b"frame",
+            Small(*mote), Number(*dt), Number(*word), Content(bytes.as_slice());
         Line::Round(a, b) => b"round", Small(*a), Small(*b);
         Line::Sweeps(number) => b"sweeps", Number(*number);
     }

@@ -108,7 +108,7 @@ fn first_other(text: &[u8]) -> usize
             return at;
         }
     }
-    unreachable!()
+    text.len()
 }
 
 // The key of 68 bytes.

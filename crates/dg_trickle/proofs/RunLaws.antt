@@ -3,7 +3,7 @@ use Rattle.std.specs.Prelude.{◌≡◌, ℕ, zero, suc, not, ◌&&◌, ◌*◌,
 use Rattle.std.proofs.Common.{refl, sym, ap, inl, inr, arith}
 use Rattle.std.proofs.lemmas.Bool.{cond_both, ltb-true, ltb-false, true≢false}
 use Rattle.std.proofs.lemmas.List.Elements.{Contains-append_right}
-use Rattle.dg_trickle.specs.declared.Act.TheVariants.{Send, Suppressed, Expired, Nothing}
+use Rattle.dg_trickle.specs.declared.Act.TheVariants.{Send, Quiet, Expired, Nothing}
 use Rattle.dg_trickle.specs.Times.{shortest_interval, longest_interval, redundancy}
 use Rattle.dg_trickle.specs.Timer.{Timer}
 use Rattle.dg_trickle.specs.Steps.{interval_begun, after_same, after_other, after_tick, act_of, is_due, is_over, IsRunning}
@@ -11,38 +11,38 @@ use Rattle.dg_trickle.specs.Runs.{Call, Same, Other, Tick, after, timer, Mark, H
 
 -- ---- the bounds of an interval and of t
 
-pub IsRunning-begun : (size moment draw : ℕ) → shortest_interval ≤ size → size ≤ longest_interval → IsRunning (interval_begun size moment draw)
-IsRunning-begun size moment draw low high =
-    let half : draw % (size / 2) < size / 2 = omega arith in
+pub IsRunning-begun : (size moment word : ℕ) → shortest_interval ≤ size → size ≤ longest_interval → IsRunning (interval_begun size moment word)
+IsRunning-begun size moment word low high =
+    let half : word % (size / 2) < size / 2 = omega arith in
     record { shortest = low; longest = high; second_half = omega arith; before_end = omega arith }
 
 pub IsRunning-same : (s : Timer) → IsRunning s → IsRunning (after_same s)
 IsRunning-same s r =
     record { shortest = r.shortest; longest = r.longest; second_half = r.second_half; before_end = r.before_end }
 
-pub IsRunning-other : (s : Timer) (moment draw : ℕ) → IsRunning s → IsRunning (after_other s moment draw)
-IsRunning-other s moment draw r =
-    cond_both (nat_lt shortest_interval s.interval) _ s IsRunning (λ _. IsRunning-begun shortest_interval moment draw (omega arith) (omega arith)) (λ _. r)
+pub IsRunning-other : (s : Timer) (moment word : ℕ) → IsRunning s → IsRunning (after_other s moment word)
+IsRunning-other s moment word r =
+    cond_both (nat_lt shortest_interval s.interval) _ s IsRunning (λ _. IsRunning-begun shortest_interval moment word (omega arith) (omega arith)) (λ _. r)
 
-pub IsRunning-tick : (s : Timer) (moment draw : ℕ) → IsRunning s → IsRunning (after_tick s moment draw)
-IsRunning-tick s moment draw r =
+pub IsRunning-tick : (s : Timer) (moment word : ℕ) → IsRunning s → IsRunning (after_tick s moment word)
+IsRunning-tick s moment word r =
     let fires : Timer = record s { fired = true } in
-    let longer : Timer = interval_begun (min (2 * s.interval) longest_interval) moment draw in
+    let longer : Timer = interval_begun (min (2 * s.interval) longest_interval) moment word in
     cond_both (is_due s moment) fires _ IsRunning
     (λ _. record { shortest = r.shortest; longest = r.longest; second_half = r.second_half; before_end = r.before_end })
     (λ _.
     cond_both (is_over s moment) longer s IsRunning
-    (λ _. IsRunning-begun (min (2 * s.interval) longest_interval) moment draw (omega (arith, r.shortest)) (omega arith))
+    (λ _. IsRunning-begun (min (2 * s.interval) longest_interval) moment word (omega (arith, r.shortest)) (omega arith))
     (λ _. r))
 
 pub IsRunning-after : (s : Timer) (call : Call) → IsRunning s → IsRunning (after s call)
 IsRunning-after s Same r = IsRunning-same s r
-IsRunning-after s (Other moment draw) r = IsRunning-other s moment draw r
-IsRunning-after s (Tick moment draw) r = IsRunning-tick s moment draw r
+IsRunning-after s (Other moment word) r = IsRunning-other s moment word r
+IsRunning-after s (Tick moment word) r = IsRunning-tick s moment word r
 
-pub IsRunning-timer : (start draw : ℕ) (calls : List Call) → IsRunning (timer start draw calls)
-IsRunning-timer start draw [] = IsRunning-begun shortest_interval start draw (omega arith) (omega arith)
-IsRunning-timer start draw (call ∷ earlier) = IsRunning-after (timer start draw earlier) call (IsRunning-timer start draw earlier)
+pub IsRunning-timer : (start word : ℕ) (calls : List Call) → IsRunning (timer start word calls)
+IsRunning-timer start word [] = IsRunning-begun shortest_interval start word (omega arith) (omega arith)
+IsRunning-timer start word (call ∷ earlier) = IsRunning-after (timer start word earlier) call (IsRunning-timer start word earlier)
 
 -- ---- an interval doubles or falls
 
@@ -58,22 +58,22 @@ twice size (suc (suc (suc (suc (suc (suc zero)))))) h e = (7, omega arith, omega
 twice size (suc (suc (suc (suc (suc (suc (suc zero))))))) h e = (7, omega arith, omega arith)
 twice size (suc (suc (suc (suc (suc (suc (suc (suc k)))))))) h e = absurd (omega arith)
 
-IsDoubled-shortest : (moment draw : ℕ) → IsDoubled (interval_begun shortest_interval moment draw)
-IsDoubled-shortest moment draw = (0, omega arith, refl)
+IsDoubled-shortest : (moment word : ℕ) → IsDoubled (interval_begun shortest_interval moment word)
+IsDoubled-shortest moment word = (0, omega arith, refl)
 
 IsDoubled-after : (s : Timer) (call : Call) → IsDoubled s → IsDoubled (after s call)
 IsDoubled-after s Same d = d
-IsDoubled-after s (Other moment draw) d =
-    cond_both (nat_lt shortest_interval s.interval) _ s IsDoubled (λ _. IsDoubled-shortest moment draw) (λ _. d)
-IsDoubled-after s (Tick moment draw) d =
+IsDoubled-after s (Other moment word) d =
+    cond_both (nat_lt shortest_interval s.interval) _ s IsDoubled (λ _. IsDoubled-shortest moment word) (λ _. d)
+IsDoubled-after s (Tick moment word) d =
     let fires : Timer = record s { fired = true } in
-    let longer : Timer = interval_begun (min (2 * s.interval) longest_interval) moment draw in
+    let longer : Timer = interval_begun (min (2 * s.interval) longest_interval) moment word in
     cond_both (is_due s moment) fires _ IsDoubled (λ _. d) (λ _.
     cond_both (is_over s moment) longer s IsDoubled (λ _. twice s.interval d.0 d.1 d.2) (λ _. d))
 
-pub IsDoubled-timer : (start draw : ℕ) (calls : List Call) → IsDoubled (timer start draw calls)
-IsDoubled-timer start draw [] = IsDoubled-shortest start draw
-IsDoubled-timer start draw (call ∷ earlier) = IsDoubled-after (timer start draw earlier) call (IsDoubled-timer start draw earlier)
+pub IsDoubled-timer : (start word : ℕ) (calls : List Call) → IsDoubled (timer start word calls)
+IsDoubled-timer start word [] = IsDoubled-shortest start word
+IsDoubled-timer start word (call ∷ earlier) = IsDoubled-after (timer start word earlier) call (IsDoubled-timer start word earlier)
 
 twice_or_same : (size k : ℕ) → k ≤ 7 → size ≡ shortest_interval * 2 ^ k → (min (2 * size) longest_interval ≡ size) ⊎ (min (2 * size) longest_interval ≡ 2 * size)
 twice_or_same size zero h e = inr (omega arith)
@@ -88,11 +88,11 @@ twice_or_same size (suc (suc (suc (suc (suc (suc (suc (suc k)))))))) h e = absur
 
 pub doubles_or_falls : (s : Timer) (call : Call) → IsDoubled s → DoublesOrFalls s (after s call)
 doubles_or_falls s Same d = inl refl
-doubles_or_falls s (Other moment draw) d =
+doubles_or_falls s (Other moment word) d =
     cond_both (nat_lt shortest_interval s.interval) _ s (DoublesOrFalls s) (λ _. inr (inr refl)) (λ _. inl refl)
-doubles_or_falls s (Tick moment draw) d =
+doubles_or_falls s (Tick moment word) d =
     let fires : Timer = record s { fired = true } in
-    let longer : Timer = interval_begun (min (2 * s.interval) longest_interval) moment draw in
+    let longer : Timer = interval_begun (min (2 * s.interval) longest_interval) moment word in
     cond_both (is_due s moment) fires _ (DoublesOrFalls s) (λ _. inl refl) (λ _.
     cond_both (is_over s moment) longer s (DoublesOrFalls s)
     (λ _. elim (twice_or_same s.interval d.0 d.1 d.2) [ inl e ↦ inl e | inr e ↦ inr (inl e) ])
@@ -106,8 +106,8 @@ pub record Remembers (s : Timer) (marks : List Mark) : Type 0 where
   heard : 0 < s.count → Contains marks Heard
   once : sends marks ≤ (if s.fired then 1 else 0)
 
-Remembers-begun : (size moment draw : ℕ) → Remembers (interval_begun size moment draw) []
-Remembers-begun size moment draw =
+Remembers-begun : (size moment word : ℕ) → Remembers (interval_begun size moment word) []
+Remembers-begun size moment word =
     record { untouched = λ _ _. refl; heard = λ h. absurd (omega arith); once = omega arith }
 
 Contains-more : (mark : Mark) (marks : List Mark) → Contains marks Heard → Contains (mark ∷ marks) Heard
@@ -120,10 +120,10 @@ Remembers-same : (s : Timer) (marks : List Mark) → Remembers s marks → Remem
 Remembers-same s marks m =
     record { untouched = λ none _. absurd (omega arith); heard = λ _. Contains-here marks; once = m.once }
 
-Remembers-other : (s : Timer) (moment draw : ℕ) (marks : List Mark) → Remembers s marks → Remembers (after_other s moment draw) (noted s (Other moment draw) marks)
-Remembers-other s moment draw marks m =
-    elim (nat_lt shortest_interval s.interval) as (λ b. Remembers (if b then interval_begun shortest_interval moment draw else s) (if b then [] else marks)) [
-      | true ↦ Remembers-begun shortest_interval moment draw
+Remembers-other : (s : Timer) (moment word : ℕ) (marks : List Mark) → Remembers s marks → Remembers (after_other s moment word) (noted s (Other moment word) marks)
+Remembers-other s moment word marks m =
+    elim (nat_lt shortest_interval s.interval) as (λ b. Remembers (if b then interval_begun shortest_interval moment word else s) (if b then [] else marks)) [
+      | true ↦ Remembers-begun shortest_interval moment word
       | false ↦ m
     ]
 
@@ -137,7 +137,7 @@ few_sends false n h = omega arith
 
 -- due: the timer fires, and sends or keeps quiet. Over: the next interval begins
 Remembers-tick : (s next : Timer) (marks : List Mark) (due over few : Bool) → (due ≡ true → s.fired ≡ false) → few ≡ nat_lt s.count redundancy → Remembers next [] → Remembers s marks
-    → Remembers (if due then record s { fired = true } else (if over then next else s)) (noted_of (if due then (if few then Send else Suppressed) else (if over then Expired else Nothing)) marks)
+    → Remembers (if due then record s { fired = true } else (if over then next else s)) (noted_of (if due then (if few then Send else Quiet) else (if over then Expired else Nothing)) marks)
 Remembers-tick s next marks true over true unfired e n m =
     let none : s.count ≡ 0 = omega (arith, ltb-true s.count redundancy (sym e)) in
     let empty : marks ≡ [] = m.untouched none (unfired refl) in
@@ -149,41 +149,41 @@ Remembers-tick s next marks false false few unfired e n m = m
 
 Remembers-after : (s : Timer) (call : Call) (marks : List Mark) → Remembers s marks → Remembers (after s call) (noted s call marks)
 Remembers-after s Same marks m = Remembers-same s marks m
-Remembers-after s (Other moment draw) marks m = Remembers-other s moment draw marks m
-Remembers-after s (Tick moment draw) marks m =
-    Remembers-tick s (interval_begun (min (2 * s.interval) longest_interval) moment draw) marks (is_due s moment) (is_over s moment) (nat_lt s.count redundancy) (not_fired s.fired _) refl (Remembers-begun _ moment draw) m
+Remembers-after s (Other moment word) marks m = Remembers-other s moment word marks m
+Remembers-after s (Tick moment word) marks m =
+    Remembers-tick s (interval_begun (min (2 * s.interval) longest_interval) moment word) marks (is_due s moment) (is_over s moment) (nat_lt s.count redundancy) (not_fired s.fired _) refl (Remembers-begun _ moment word) m
 
-Remembers-timer : (start draw : ℕ) (calls : List Call) → Remembers (timer start draw calls) (current start draw calls)
-Remembers-timer start draw [] = Remembers-begun shortest_interval start draw
-Remembers-timer start draw (call ∷ earlier) =
-    Remembers-after (timer start draw earlier) call (current start draw earlier) (Remembers-timer start draw earlier)
+Remembers-timer : (start word : ℕ) (calls : List Call) → Remembers (timer start word calls) (current start word calls)
+Remembers-timer start word [] = Remembers-begun shortest_interval start word
+Remembers-timer start word (call ∷ earlier) =
+    Remembers-after (timer start word earlier) call (current start word earlier) (Remembers-timer start word earlier)
 
 sends_untouched : (s : Timer) (marks : List Mark) (due over few : Bool) → (due ≡ true → s.fired ≡ false) → few ≡ nat_lt s.count redundancy → Remembers s marks
-    → (if due then (if few then Send else Suppressed) else (if over then Expired else Nothing)) ≡ Send → marks ≡ []
+    → (if due then (if few then Send else Quiet) else (if over then Expired else Nothing)) ≡ Send → marks ≡ []
 sends_untouched s marks true over true unfired e m is = m.untouched (omega (arith, ltb-true s.count redundancy (sym e))) (unfired refl)
 sends_untouched s marks true over false unfired e m is = cc
 sends_untouched s marks false true few unfired e m is = cc
 sends_untouched s marks false false few unfired e m is = cc
 
 -- a tick sends only where nothing was heard and nothing was sent since the interval began
-pub sends_if_untouched : (start draw : ℕ) (earlier : List Call) (moment : ℕ) → act_of (timer start draw earlier) moment ≡ Send → current start draw earlier ≡ []
-sends_if_untouched start draw earlier moment is =
-    let s = timer start draw earlier in
-    sends_untouched s (current start draw earlier) (is_due s moment) (is_over s moment) (nat_lt s.count redundancy) (not_fired s.fired _) refl (Remembers-timer start draw earlier) is
+pub sends_if_untouched : (start word : ℕ) (earlier : List Call) (moment : ℕ) → act_of (timer start word earlier) moment ≡ Send → current start word earlier ≡ []
+sends_if_untouched start word earlier moment is =
+    let s = timer start word earlier in
+    sends_untouched s (current start word earlier) (is_due s moment) (is_over s moment) (nat_lt s.count redundancy) (not_fired s.fired _) refl (Remembers-timer start word earlier) is
 
 quiet_heard : (s : Timer) (marks : List Mark) (due over few : Bool) → few ≡ nat_lt s.count redundancy → Remembers s marks
-    → (if due then (if few then Send else Suppressed) else (if over then Expired else Nothing)) ≡ Suppressed → Contains marks Heard
+    → (if due then (if few then Send else Quiet) else (if over then Expired else Nothing)) ≡ Quiet → Contains marks Heard
 quiet_heard s marks true over true e m is = cc
 quiet_heard s marks true over false e m is = m.heard (omega (arith, ltb-false s.count redundancy (sym e)))
 quiet_heard s marks false true few e m is = cc
 quiet_heard s marks false false few e m is = cc
 
 -- a timer keeps quiet only where something equal was heard since the interval began
-pub suppressed_if_heard : (start draw : ℕ) (earlier : List Call) (moment : ℕ) → act_of (timer start draw earlier) moment ≡ Suppressed → Contains (current start draw earlier) Heard
-suppressed_if_heard start draw earlier moment is =
-    let s = timer start draw earlier in
-    quiet_heard s (current start draw earlier) (is_due s moment) (is_over s moment) (nat_lt s.count redundancy) refl (Remembers-timer start draw earlier) is
+pub suppressed_if_heard : (start word : ℕ) (earlier : List Call) (moment : ℕ) → act_of (timer start word earlier) moment ≡ Quiet → Contains (current start word earlier) Heard
+suppressed_if_heard start word earlier moment is =
+    let s = timer start word earlier in
+    quiet_heard s (current start word earlier) (is_due s moment) (is_over s moment) (nat_lt s.count redundancy) refl (Remembers-timer start word earlier) is
 
 -- and it sends at most once an interval
-pub sends_at_most_once : (start draw : ℕ) (calls : List Call) → sends (current start draw calls) ≤ 1
-sends_at_most_once start draw calls = few_sends _ _ (Remembers-timer start draw calls).once
+pub sends_at_most_once : (start word : ℕ) (calls : List Call) → sends (current start word calls) ≤ 1
+sends_at_most_once start word calls = few_sends _ _ (Remembers-timer start word calls).once

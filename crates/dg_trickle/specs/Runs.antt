@@ -1,26 +1,26 @@
 -- Whole runs of a Trickle timer: any calls, at any moments (RFC 6206, section 4.2).
 use Rattle.std.specs.Prelude.{◌≡◌, ℕ, ◌+◌, ◌*◌, ◌^◌, ◌≤◌, ◌⊎◌, List, [], ◌∷◌, nat_lt, if◌then◌else◌}
 use Rattle.dg_trickle.specs.declared.Act.{Act}
-use Rattle.dg_trickle.specs.declared.Act.TheVariants.{Send, Suppressed, Expired, Nothing}
+use Rattle.dg_trickle.specs.declared.Act.TheVariants.{Send, Quiet, Expired, Nothing}
 use Rattle.dg_trickle.specs.Times.{shortest_interval}
 use Rattle.dg_trickle.specs.Timer.{Timer}
 use Rattle.dg_trickle.specs.Steps.{started, after_same, after_other, after_tick, act_of}
 
--- what is asked of a timer after it was started, with the moment and the draw
+-- what is asked of a timer after it was started, with the moment and the word
 pub data Call : Type 0 where
   Same : Call
-  Other : (moment draw : ℕ) → Call
-  Tick : (moment draw : ℕ) → Call
+  Other : (moment word : ℕ) → Call
+  Tick : (moment word : ℕ) → Call
 
 abbrev pub after : Timer → Call → Timer
 after s Same = after_same s
-after s (Other moment draw) = after_other s moment draw
-after s (Tick moment draw) = after_tick s moment draw
+after s (Other moment word) = after_other s moment word
+after s (Tick moment word) = after_tick s moment word
 
 -- the timer after a history, the newest call first
 abbrev pub timer : ℕ → ℕ → List Call → Timer
-timer start draw [] = started start draw
-timer start draw (call ∷ earlier) = after (timer start draw earlier) call
+timer start word [] = started start word
+timer start word (call ∷ earlier) = after (timer start word earlier) call
 
 -- what can happen within an interval: something equal is heard, and at t the timer sends or keeps quiet
 pub data Mark : Type 0 where
@@ -30,19 +30,19 @@ pub data Mark : Type 0 where
 
 abbrev pub noted_of : Act → List Mark → List Mark
 noted_of Send marks = Sent ∷ marks
-noted_of Suppressed marks = Kept ∷ marks
+noted_of Quiet marks = Kept ∷ marks
 noted_of Expired marks = []
 noted_of Nothing marks = marks
 
 abbrev pub noted : Timer → Call → List Mark → List Mark
 noted s Same marks = Heard ∷ marks
-noted s (Other moment draw) marks = if nat_lt shortest_interval s.interval then [] else marks
-noted s (Tick moment draw) marks = noted_of (act_of s moment) marks
+noted s (Other moment word) marks = if nat_lt shortest_interval s.interval then [] else marks
+noted s (Tick moment word) marks = noted_of (act_of s moment) marks
 
 -- what has happened since the current interval began, the newest first
 abbrev pub current : ℕ → ℕ → List Call → List Mark
-current start draw [] = []
-current start draw (call ∷ earlier) = noted (timer start draw earlier) call (current start draw earlier)
+current start word [] = []
+current start word (call ∷ earlier) = noted (timer start word earlier) call (current start word earlier)
 
 -- how often the timer sent
 abbrev pub sends : List Mark → ℕ

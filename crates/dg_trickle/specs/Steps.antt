@@ -1,18 +1,18 @@
--- The steps of RFC 6206, section 4.2. A moment and a draw, which stands for a random number, are handed in.
+-- The steps of RFC 6206, section 4.2. A moment and a word, which stands for a random number, are handed in.
 use Rattle.std.specs.Prelude.{ℕ, ◌+◌, ◌*◌, ◌/◌, ◌%◌, ◌≤◌, ◌<◌, min, Bool, true, false, not, ◌&&◌, nat_le, nat_lt, if◌then◌else◌}
 use Rattle.dg_trickle.specs.declared.Act.{Act}
-use Rattle.dg_trickle.specs.declared.Act.TheVariants.{Send, Suppressed, Expired, Nothing}
+use Rattle.dg_trickle.specs.declared.Act.TheVariants.{Send, Quiet, Expired, Nothing}
 use Rattle.dg_trickle.specs.Times.{shortest_interval, longest_interval, redundancy}
 use Rattle.dg_trickle.specs.Timer.{Timer}
 
 -- step 2: an interval begins, and t is drawn from its second half
 abbrev pub interval_begun : ℕ → ℕ → ℕ → Timer
-interval_begun size moment draw =
-    record { interval = size; begin = moment; t = size / 2 + draw % (size / 2); count = 0; fired = false }
+interval_begun size moment word =
+    record { interval = size; begin = moment; t = size / 2 + word % (size / 2); count = 0; fired = false }
 
 -- step 1: the first interval
 abbrev pub started : ℕ → ℕ → Timer
-started moment draw = interval_begun shortest_interval moment draw
+started moment word = interval_begun shortest_interval moment word
 
 -- step 3: something equal is heard. The count stands still at the end of a `u16`
 abbrev pub after_same : Timer → Timer
@@ -29,18 +29,18 @@ is_over s moment = s.fired && nat_le (s.begin + s.interval) moment
 -- step 4: at t the timer sends where fewer than k were heard. Step 5: the interval expires
 abbrev pub act_of : Timer → ℕ → Act
 act_of s moment =
-    if is_due s moment then (if nat_lt s.count redundancy then Send else Suppressed)
+    if is_due s moment then (if nat_lt s.count redundancy then Send else Quiet)
     else (if is_over s moment then Expired else Nothing)
 
 -- step 5: an interval that is over gives way to one twice as long, up to the longest
 abbrev pub after_tick : Timer → ℕ → ℕ → Timer
-after_tick s moment draw =
+after_tick s moment word =
     if is_due s moment then record s { fired = true }
-    else (if is_over s moment then interval_begun (min (2 * s.interval) longest_interval) moment draw else s)
+    else (if is_over s moment then interval_begun (min (2 * s.interval) longest_interval) moment word else s)
 
 -- step 6: something other is heard, and the shortest interval begins unless it runs
 abbrev pub after_other : Timer → ℕ → ℕ → Timer
-after_other s moment draw = if nat_lt shortest_interval s.interval then interval_begun shortest_interval moment draw else s
+after_other s moment word = if nat_lt shortest_interval s.interval then interval_begun shortest_interval moment word else s
 
 -- the interval lies within its bounds, and t in its second half
 pub record IsRunning (s : Timer) : Type 0 where

@@ -1,6 +1,6 @@
 //! The Trickle timer of RFC 6206: when to send, when a transmission is suppressed, and when to begin anew.
 //!
-//! Moments are milliseconds, and a draw stands for a random number. Section 4.1 of the RFC leaves
+//! Moments are milliseconds, and a word stands for a random number. Section 4.1 of the RFC leaves
 //! three parameters open: here Imin is 500 ms, Imax is Imin doubled seven times, and k is 1.
 #![tactic(auto)]
 
@@ -27,7 +27,7 @@ pub enum Act {
     /// The timer fired: transmit.
     Send,
     /// The timer fired, and enough was heard: transmit nothing.
-    Suppressed,
+    Quiet,
     /// The interval is over, and the next one began.
     Expired,
     /// Neither moment is reached.
@@ -79,12 +79,12 @@ impl Model for Trickle {
 
 impl Trickle {
     /// Starts a timer: the shortest interval begins at `now`.
-    pub fn new(now: u64, draw: u32) -> Self
+    pub fn new(now: u64, word: u32) -> Self
         requires { now < 2 ^ 62 }
-        ensures value { result ≡ started now draw }
+        ensures value { result ≡ started now word }
         ensures running { IsRunning result }
     {
-        Self::begin(SHORTEST_INTERVAL, now, draw)
+        Self::begin(SHORTEST_INTERVAL, now, word)
     }
 
     /// Notes that something equal was heard.
@@ -96,21 +96,21 @@ impl Trickle {
     }
 
     /// Notes that something other was heard: the shortest interval begins, unless it runs.
-    pub fn heard_other(&mut self, now: u64, draw: u32)
+    pub fn heard_other(&mut self, now: u64, word: u32)
         requires { now < 2 ^ 62 }
-        ensures value { self.new ≡ after_other self.old now draw }
+        ensures value { self.new ≡ after_other self.old now word }
         ensures running { IsRunning self.new }
     {
         if self.interval > SHORTEST_INTERVAL {
-            *self = Self::begin(SHORTEST_INTERVAL, now, draw);
+            *self = Self::begin(SHORTEST_INTERVAL, now, word);
         }
     }
 
     /// Looks at the clock.
-    pub fn tick(&mut self, now: u64, draw: u32) -> Act
+    pub fn tick(&mut self, now: u64, word: u32) -> Act
         requires { now < 2 ^ 62 }
         ensures act { result ≡ act_of self.old now }
-        ensures value { self.new ≡ after_tick self.old now draw }
+        ensures value { self.new ≡ after_tick self.old now word }
         ensures running { IsRunning self.new }
     {
         if !self.fired {
@@ -121,21 +121,21 @@ impl Trickle {
             return if self.heard < REDUNDANCY {
                 Act::Send
             } else {
-                Act::Suppressed
+                Act::Quiet
             };
         }
         if now < self.begin + u64::from(self.interval) {
             return Act::Nothing;
         }
         let longer = (2 * self.interval).min(LONGEST_INTERVAL);
-        *self = Self::begin(longer, now, draw);
+        *self = Self::begin(longer, now, word);
         Act::Expired
     }
 
     /// The moment before which a tick does nothing: the one at which it fires, or at which its interval is over.
     pub fn due(&self) -> u64
-        ensures waits { (moment draw : ℕ) → moment < result
-            → (act_of self.now moment ≡ Act.Nothing) × (after_tick self.now moment draw ≡ self.now) }
+        ensures waits { (moment word : ℕ) → moment < result
+            → (act_of self.now moment ≡ Act.Nothing) × (after_tick self.now moment word ≡ self.now) }
         ensures acts { (moment : ℕ) → result ≤ moment → act_of self.now moment ≡ Act.Nothing → ⊥ }
     {
         self.begin
@@ -147,18 +147,18 @@ impl Trickle {
     }
 
     // An interval begins. The moment from which on it may fire is drawn from its second half.
-    fn begin(interval: u32, now: u64, draw: u32) -> Self
+    fn begin(interval: u32, now: u64, word: u32) -> Self
         requires shortest { shortest_interval ≤ interval }
         requires longest { interval ≤ longest_interval }
         requires moment { now < 2 ^ 62 }
-        ensures value { result ≡ interval_begun interval now draw }
+        ensures value { result ≡ interval_begun interval now word }
         ensures running { IsRunning result }
     {
         let half = interval / 2;
         Self {
             interval,
             begin: now,
-            fires_after: half + draw % half,
+            fires_after: half + word % half,
             heard: 0,
             fired: false,
         }
@@ -176,10 +176,10 @@ pub fn the_parameters_are_these()
 /// interval is the shortest one doubled up to seven times, it only doubles or falls back to the
 /// shortest, and t lies in its second half.
 pub fn interval_bounds()
-    ensures running { (start draw : ℕ) (calls : List Call) → IsRunning (timer start draw calls) }
-    ensures sizes { (start draw : ℕ) (calls : List Call) → IsDoubled (timer start draw calls) }
-    ensures changes { (start draw : ℕ) (earlier : List Call) (call : Call)
-        → DoublesOrFalls (timer start draw earlier) (timer start draw (call ∷ earlier)) }
+    ensures running { (start word : ℕ) (calls : List Call) → IsRunning (timer start word calls) }
+    ensures sizes { (start word : ℕ) (calls : List Call) → IsDoubled (timer start word calls) }
+    ensures changes { (start word : ℕ) (earlier : List Call) (call : Call)
+        → DoublesOrFalls (timer start word earlier) (timer start word (call ∷ earlier)) }
     ensures step { (s : Timer) (call : Call) → IsRunning s → IsRunning (after s call) }
 {}
 
@@ -187,12 +187,12 @@ pub fn interval_bounds()
 /// the interval began, is suppressed only where something equal was heard, and so sends at most once
 /// an interval.
 pub fn suppression()
-    ensures untouched { (start draw : ℕ) (earlier : List Call) (moment : ℕ)
-        → act_of (timer start draw earlier) moment ≡ Act.Send → current start draw earlier ≡ [] }
-    ensures heard { (start draw : ℕ) (earlier : List Call) (moment : ℕ)
-        → act_of (timer start draw earlier) moment ≡ Act.Suppressed
-        → Contains (current start draw earlier) Heard }
-    ensures once { (start draw : ℕ) (calls : List Call) → sends (current start draw calls) ≤ 1 }
+    ensures untouched { (start word : ℕ) (earlier : List Call) (moment : ℕ)
+        → act_of (timer start word earlier) moment ≡ Act.Send → current start word earlier ≡ [] }
+    ensures heard { (start word : ℕ) (earlier : List Call) (moment : ℕ)
+        → act_of (timer start word earlier) moment ≡ Act.Quiet
+        → Contains (current start word earlier) Heard }
+    ensures once { (start word : ℕ) (calls : List Call) → sends (current start word calls) ≤ 1 }
 {}
 
 #[cfg(test)]
@@ -203,7 +203,7 @@ mod tests {
     fn an_equal_transmission_suppresses_one_interval(rt: HostRuntime) {
         let mut timer = Trickle::new(0, 0);
         timer.heard_same();
-        assert_eq!(rt; timer.tick(250, 0), Act::Suppressed);
+        assert_eq!(rt; timer.tick(250, 0), Act::Quiet);
         assert_eq!(rt; timer.tick(500, 7), Act::Expired);
         assert_eq!(rt; timer.interval, 1000);
         assert_eq!(rt; timer.fires_after, 507);

@@ -35,11 +35,8 @@ impl Volume {
     {
         let snapshot = self.control.now();
         let next = snapshot.with_start(snapshot.program, 0, snapshot.waived);
-        match self.control.commit(nor, next) {
-            Ok(()) => Ok(()),
-            Err(CommitFault::Stopped) => Err(Stopped),
-            Err(CommitFault::Worn) => unreachable!(),
-        }
+        self.control.keep(nor, next)?;
+        Ok(())
     }
 
     /// One commit that changes program memory, the short starts and whether the order is waived, and nothing else.

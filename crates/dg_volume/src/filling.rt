@@ -40,14 +40,10 @@ impl Volume {
         ensures stopped { OnErr result ((s : Store) → Mounted (N.device nor.old).image self.old s
             → Stops (stepping s page_operations (paged image page.now s)) (N.device nor.old) (N.device nor.new)) }
     {
-        match self.slot(image) {
-            Some(slot) => {
-                let filled = fill_next(nor, slot, page)?;
-                self.put_back(filled);
-                Ok(())
-            }
-            None => unreachable!(),
-        }
+        let slot = self.slot(image).unwrap();
+        let filled = fill_next(nor, slot, page)?;
+        self.put_back(filled);
+        Ok(())
     }
 
     /// Fills the pages of an image from page `done` on, one after the other.

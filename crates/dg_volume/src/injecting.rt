@@ -67,45 +67,18 @@ impl Volume {
         ensures took { result ≡ Err InjectFault.Taken → Took page_size (N.device nor.old) (N.device nor.new) }
         ensures touches { TouchesBut (header_sector image) (slot_end image) (N.device nor.old).image (N.device nor.new).image }
     {
-        match injection_fault(self.kept(image), image, version, bytes) {
-            Some(fault) => Err(fault),
-            None => {
-                let new = NewImage {
-                    image,
-                    version,
-                    name,
-                    bytes,
-                };
-                self.keep(nor, &new)
-            }
+        if let Some(fault) = injection_fault(self.kept(image), image, version, bytes) {
+            return Err(fault);
         }
-    }
-
-    /// Keeps an image whole, of which no larger version is kept.
-    fn keep<N: Nor>(&mut self, nor: &mut N, new: &NewImage<'_>) -> Result<Injected, InjectFault>
-        requires mounted { IsMounted (N.device nor.old).image self.old }
-        requires free { NothingLent self.old }
-        requires not_golden { 1 ≤ new.now.image }
-        requires newest { (k : Kept) → kept_at self.old new.now.image ≡ Some k → k.version ≤ new.now.version }
-        ensures ends { (s : Store) → Mounted (N.device nor.old).image self.old s
-            → InjectEnds result s (new_row new.now) (N.device nor.old) (N.device nor.new) self.new }
-        ensures same_reference { (N.device nor.new).references ≡ (N.device nor.old).references }
-        ensures free { OnOk result (NothingLent self.new) }
-        ensures pages { IfOk result (λ i. i.pages ≡ pages_for (length new.now.bytes.now)) }
-        ensures again { OnOk result (IsSomeAnd (kept_at self.old new.now.image) (λ k. (k.version ≡ new.now.version)
-            × (k.done ≡ k.pages))
-            → Looked (N.device nor.old) (N.device nor.new) × (self.new ≡ self.old)) }
-        ensures awake { OnOk result ((N.device nor.old).stopped ≡ false) }
-        ensures unchanged { (e : InjectFault) → result ≡ Err e → e ≢ inject_faults.Stopped → e ≢ inject_faults.Taken
-            → (N.device nor.new ≡ N.device nor.old) × (self.new ≡ self.old) }
-        ensures taken { result ≡ Err inject_faults.Taken → Looked (N.device nor.old) (N.device nor.new) × (self.new ≡ self.old) }
-        ensures took { result ≡ Err inject_faults.Taken → Took page_size (N.device nor.old) (N.device nor.new) }
-        ensures touches { TouchesBut (header_sector new.now.image) (slot_end new.now.image) (N.device nor.old).image
-            (N.device nor.new).image }
-    {
-        match self.kept(new.image) {
-            Some(kept) if kept.version == new.version => self.resume(nor, new, &kept),
-            _ => self.begin_anew(nor, new),
+        let new = NewImage {
+            image,
+            version,
+            name,
+            bytes,
+        };
+        match self.kept(image) {
+            Some(kept) if kept.version == version => self.resume(nor, &new, &kept),
+            _ => self.begin_anew(nor, &new),
         }
     }
 

@@ -12,8 +12,8 @@ ghost use Rattle.dg_volume.specs.Remount.{RemountBytes};
 ghost use Rattle.dg_volume.specs.Acts.{Acted, Stops};
 
 use crate::volume::{OrderFault, Volume};
-use dg_control::{CommitFault, Order};
-use dg_nor::Nor;
+use dg_control::Order;
+use dg_nor::{Nor, Stopped};
 
 /// The commits of an order.
 const COMMITS: u32 = 1;
@@ -67,10 +67,9 @@ impl Volume {
             image,
             version,
         });
-        match self.control.commit(nor, next) {
+        match self.control.keep(nor, next) {
             Ok(()) => Ok(()),
-            Err(CommitFault::Stopped) => Err(OrderFault::Stopped),
-            Err(CommitFault::Worn) => unreachable!(),
+            Err(Stopped) => Err(OrderFault::Stopped),
         }
     }
 }

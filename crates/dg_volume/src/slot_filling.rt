@@ -10,7 +10,7 @@ ghost use Rattle.dg_volume.specs.Filling.{page_trail};
 
 use crate::layout::PAGE_SIZE;
 use dg_nor::{Nor, Stopped};
-use dg_slot::{OpenSlot, Sealing};
+use dg_slot::OpenSlot;
 
 /// Fills the next page of a slot, which this one fits, and makes it complete. 50 operations.
 pub(crate) fn fill_next<N: Nor>(
@@ -34,9 +34,6 @@ pub(crate) fn fill_next<N: Nor>(
 {
     let mut job = slot.begin_page(nor)?;
     job.put_all(nor, page)?;
-    match job.seal(nor)? {
-        Sealing::Sealed(slot) => Ok(slot),
-        Sealing::Bad { .. } => unreachable!(),
-        Sealing::Unfit { .. } => unreachable!(),
-    }
+    let sealing = job.seal(nor)?;
+    Ok(sealing.slot())
 }

@@ -19,7 +19,7 @@ ghost use Rattle.dg_control.specs.declared.snapshot.SlotState.TheVariants as slo
 
 use crate::layout::GOLDEN;
 use crate::volume::{Kept, TakeFault, Volume};
-use dg_control::{CommitFault, SlotState};
+use dg_control::SlotState;
 use dg_nor::{Nor, Stopped};
 use dg_object::Profile;
 use dg_slot::{DirtySlot, OpenSlot};
@@ -199,14 +199,9 @@ impl Volume {
             → Stops (committing s (keeping image h (spent s))) (N.device nor.old) (N.device nor.new)) }
     {
         let next = self.control.now().with_slot(image, slot_state(&kept));
-        match self.control.commit(nor, next) {
-            Ok(()) => {
-                self.set_kept(image, kept);
-                Ok(())
-            }
-            Err(CommitFault::Stopped) => Err(Stopped),
-            Err(CommitFault::Worn) => unreachable!(),
-        }
+        self.control.keep(nor, next)?;
+        self.set_kept(image, kept);
+        Ok(())
     }
 
     fn set_kept(&mut self, image: u8, kept: Option<Kept>)

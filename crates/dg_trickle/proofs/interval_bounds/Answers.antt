@@ -9,7 +9,7 @@ pub returns-clause-sizes : goal.returns-clause-sizes
 returns-clause-sizes c = IsDoubled-timer
 
 pub returns-clause-changes : goal.returns-clause-changes
-returns-clause-changes c = λ start draw earlier call. doubles_or_falls (timer start draw earlier) call (IsDoubled-timer start draw earlier)
+returns-clause-changes c = λ start word earlier call. doubles_or_falls (timer start word earlier) call (IsDoubled-timer start word earlier)
 
 pub returns-clause-step : goal.returns-clause-step
 returns-clause-step c = IsRunning-after

@@ -6,4 +6,4 @@ use Rattle.dg_nor.proofs.files.fill.Goals as goal
 pub returns : goal.returns
 returns c =
     let all = c.args.all.now in
-    c.in_ok-write.ensures ∙ ap (λ xs. overwritten xs 0 all) c.made-file.ensures ∙ overwritten_none all
+    c.in_ok-write.ensures ∙ ap (λ xs. overwritten xs 0 all) c.in_ok-file.ensures ∙ overwritten_none all

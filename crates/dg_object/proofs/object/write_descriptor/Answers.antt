@@ -12,5 +12,5 @@ loop-p-preserved c =
     let crcs = crcs_to c.args.bytes.now (c.loop-p.p - 1) in
     let place : length (head ++ crcs) ≡ 28 + 2 * (c.from.result - 1) =
     rw c.from.ensures (length-descriptor c.args.image c.pages_of-pages.result c.args.version (length c.args.bytes.now) (c.loop-p.p - 1) c.args.name.now c.args.bytes.now c.requires.named) in
-    c.put_behind.ensures (head ++ crcs) place c.loop-p.invariant
-    ∙ ap (padded page_size 255) (crcs_more c.args.bytes.now head c.to_be_bytes.result c.loop-p.p (omega arith) (c.to_be_bytes.ensures ∙ ap (to_be_bytes w16) c.data_page_crc-crc.ensures))
+    c.put_half.ensures (head ++ crcs) place c.loop-p.invariant
+    ∙ ap (padded page_size 255) (crcs_more c.args.bytes.now head (to_be_bytes w16 c.data_page_crc-crc.result) c.loop-p.p (omega arith) (ap (to_be_bytes w16) c.data_page_crc-crc.ensures))

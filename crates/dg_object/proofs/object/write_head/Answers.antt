@@ -7,6 +7,6 @@ pub returns : goal.returns
 returns c =
     let tag = 68 ∷ 71 ∷ c.args.image ∷ c.args.pages ∷ [] in
     let tagged = c.put_behind.ensures [] refl c.blank.ensures in
-    let versioned = rw c.to_be_bytes.ensures at (c.put_behind-2.ensures tag refl tagged) in
-    let measured = rw c.to_be_bytes-2.ensures at (c.put_behind-3.ensures (tag ++ to_be_bytes w32 c.args.version) refl versioned) in
-    rw c.name_field.ensures at (c.put_behind-4.ensures (tag ++ to_be_bytes w32 c.args.version ++ to_be_bytes w32 c.args.len) refl measured)
+    let versioned = c.put_word.ensures tag refl tagged in
+    let measured = c.put_word-2.ensures (tag ++ to_be_bytes w32 c.args.version) refl versioned in
+    rw c.name_field.ensures at (c.put_behind-2.ensures (tag ++ to_be_bytes w32 c.args.version ++ to_be_bytes w32 c.args.len) refl measured)

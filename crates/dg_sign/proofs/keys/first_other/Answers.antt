@@ -8,11 +8,11 @@ loop-at-preserved c =
     below_more (λ (k : ℕ). is_hex_digit (slice_index c.args.text.now k) ≡ true) c.loop-at.at c.loop-at.invariant
     (sym c.is_hex_digit.ensures ∙ c.if-not-is_hex_digit.false)
 
-pub unreachable-requires : goal.unreachable-requires
-unreachable-requires c =
+pub returns : goal.returns
+returns c =
     let x = c.requires.0 in
     let other = c.requires.1 in
     let among = c.requires.2 in
     let same = sym (get_or_default_zero c.args.text.now x other among) ∙ c.requires.3 in
     let digit = c.loop-at.invariant x (omega (arith, among, c.loop-at-test.false)) in
-    true≢false (sym digit ∙ (ap (λ (b : ℕ). is_hex_digit b) same ∙ c.requires.4))
+    absurd (true≢false (sym digit ∙ (ap (λ (b : ℕ). is_hex_digit b) same ∙ c.requires.4)))

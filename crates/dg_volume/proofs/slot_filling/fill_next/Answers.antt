@@ -1,9 +1,9 @@
-use Rattle.std.proofs.Common.{◌≡◌, ℕ, true, List, subst, ◌∙◌, arith}
+use Rattle.std.proofs.Common.{◌≡◌, ℕ, true, List, sym, ap, subst, ◌∙◌, arith}
 use Rattle.dg_nor.proofs.DeviceLemmas.{OnErr_from, Ran_then}
 use Rattle.dg_slot.specs.Layout.{packets, page_operations}
 use Rattle.dg_slot.specs.Kept.{Held, KeepsImage, with_page}
 use Rattle.dg_slot.specs.Fits.{may_seal}
-use Rattle.dg_slot.specs.Jobs.{IsOpen, outline_told}
+use Rattle.dg_slot.specs.Jobs.{IsOpen, outline_told, slot_in}
 use Rattle.dg_slot.specs.declared.states.OpenSlot.{OpenSlot}
 use Rattle.dg_volume.proofs.HaltLemmas.{halted_within}
 use Rattle.dg_volume.proofs.PageLemmas.{one_open, erase_stops, packet_stops, gate_stops, halted_page, sealed_to}
@@ -25,43 +25,23 @@ pub returns-in_err-put_all-clause-stopped : goal.returns-in_err-put_all-clause-s
 returns-in_err-put_all-clause-stopped g c = OnErr_from c.from_residual-in_err-put_all.result (
     halted_within 1 packets page_operations _ _ _ (omega arith) c.in_ok-job.ensures.ran c.in_err-put_all.ensures.stopped)
 
-pub returns-in_err-slot-clause-stops : goal.returns-in_err-slot-clause-stops
-returns-in_err-slot-clause-stops g c = OnErr_from c.from_residual-in_err-slot.result (λ h opened.
+pub returns-in_err-sealing-clause-stops : goal.returns-in_err-sealing-clause-stops
+returns-in_err-sealing-clause-stops g c = OnErr_from c.from_residual-in_err-sealing.result (λ h opened.
     let may : may_seal (outline_told c.args.slot).image h c.args.page.now ≡ true = subst (λ (k : Held). may_seal (outline_told c.args.slot).image k c.args.page.now ≡ true) (one_open _ c.args.slot c.requires.fits.0 h c.requires.fits.1 opened) c.requires.fits.3 in
-    gate_stops c.args.slot _ h c.args.page.now _ _ _ (c.put_all.ensures.same_slot ∙ c.in_ok-job.ensures.same.0) (omega arith) may (Ran_then c.in_ok-job.ensures.ran c.in_ok-put_all.ensures.ran) (c.in_err-slot.ensures.stopped h _ (c.in_ok-put_all.ensures.put h (c.in_ok-job.ensures.begun h opened))))
+    gate_stops c.args.slot _ h c.args.page.now _ _ _ (c.put_all.ensures.same_slot ∙ c.in_ok-job.ensures.same.0) (omega arith) may (Ran_then c.in_ok-job.ensures.ran c.in_ok-put_all.ensures.ran) (c.in_err-sealing.ensures.stopped h _ (c.in_ok-put_all.ensures.put h (c.in_ok-job.ensures.begun h opened))))
 
-pub returns-in_err-slot-clause-stopped : goal.returns-in_err-slot-clause-stopped
-returns-in_err-slot-clause-stopped g c = OnErr_from c.from_residual-in_err-slot.result (
+pub returns-in_err-sealing-clause-stopped : goal.returns-in_err-sealing-clause-stopped
+returns-in_err-sealing-clause-stopped g c = OnErr_from c.from_residual-in_err-sealing.result (
     let h = c.requires.fits.0 in
     let opened = c.requires.fits.1 in
     let may = c.requires.fits.3 in
-    halted_page (outline_told c.args.slot).image h c.args.page.now _ _ (gate_stops c.args.slot _ h c.args.page.now _ _ _ (c.put_all.ensures.same_slot ∙ c.in_ok-job.ensures.same.0) (omega arith) may (Ran_then c.in_ok-job.ensures.ran c.in_ok-put_all.ensures.ran) (c.in_err-slot.ensures.stopped h _ (c.in_ok-put_all.ensures.put h (c.in_ok-job.ensures.begun h opened)))))
-
-pub unreachable-requires : goal.unreachable-requires
-unreachable-requires g c =
-    let h = c.requires.fits.0 in
-    let opened = c.requires.fits.1 in
-    let may = c.requires.fits.3 in
-    let is = (sealed_to c.args.slot _ h c.args.page.now _ _ _ (c.put_all.ensures.same_slot ∙ c.in_ok-job.ensures.same.0) (omega arith) may (c.in_ok-slot.ensures.sealed h _ (c.in_ok-put_all.ensures.put h (c.in_ok-job.ensures.begun h opened)))).is in
-    let bad = c.in-Bad.is in
-    cc
-
-pub unreachable-requires-in-Unfit : goal.unreachable-requires-in-Unfit
-unreachable-requires-in-Unfit g c =
-    let h = c.requires.fits.0 in
-    let opened = c.requires.fits.1 in
-    let may = c.requires.fits.3 in
-    let is = (sealed_to c.args.slot _ h c.args.page.now _ _ _ (c.put_all.ensures.same_slot ∙ c.in_ok-job.ensures.same.0) (omega arith) may (c.in_ok-slot.ensures.sealed h _ (c.in_ok-put_all.ensures.put h (c.in_ok-job.ensures.begun h opened)))).is in
-    let bad = c.in-Unfit.is in
-    cc
+    halted_page (outline_told c.args.slot).image h c.args.page.now _ _ (gate_stops c.args.slot _ h c.args.page.now _ _ _ (c.put_all.ensures.same_slot ∙ c.in_ok-job.ensures.same.0) (omega arith) may (Ran_then c.in_ok-job.ensures.ran c.in_ok-put_all.ensures.ran) (c.in_err-sealing.ensures.stopped h _ (c.in_ok-put_all.ensures.put h (c.in_ok-job.ensures.begun h opened)))))
 
 pub returns-clause-sealed : goal.returns-clause-sealed
 returns-clause-sealed g c h opened =
     let may : may_seal (outline_told c.args.slot).image h c.args.page.now ≡ true = subst (λ (k : Held). may_seal (outline_told c.args.slot).image k c.args.page.now ≡ true) (one_open _ c.args.slot c.requires.fits.0 h c.requires.fits.1 opened) c.requires.fits.3 in
-    let told = sealed_to c.args.slot _ h c.args.page.now _ _ _ (c.put_all.ensures.same_slot ∙ c.in_ok-job.ensures.same.0) (omega arith) may (c.in_ok-slot.ensures.sealed h _ (c.in_ok-put_all.ensures.put h (c.in_ok-job.ensures.begun h opened))) in
-    let is = told.is in
-    let here = c.in-Sealed.is in
-    let e : told.slot ≡ c.in-Sealed.slot = cc in
+    let told = sealed_to c.args.slot _ h c.args.page.now _ _ _ (c.put_all.ensures.same_slot ∙ c.in_ok-job.ensures.same.0) (omega arith) may (c.in_ok-sealing.ensures.sealed h _ (c.in_ok-put_all.ensures.put h (c.in_ok-job.ensures.begun h opened))) in
+    let e : told.slot ≡ c.slot.result = sym (c.slot.ensures ∙ ap slot_in told.is) in
     subst (λ (o : OpenSlot). IsOpen (g.N.Nor.device c.seal.new.nor).image o (with_page h c.args.page.now)) e told.opened
 
 pub returns-clause-ran : goal.returns-clause-ran
@@ -69,5 +49,5 @@ returns-clause-ran g c =
     let h = c.requires.fits.0 in
     let opened = c.requires.fits.1 in
     let may = c.requires.fits.3 in
-    let told = sealed_to c.args.slot _ h c.args.page.now _ _ _ (c.put_all.ensures.same_slot ∙ c.in_ok-job.ensures.same.0) (omega arith) may (c.in_ok-slot.ensures.sealed h _ (c.in_ok-put_all.ensures.put h (c.in_ok-job.ensures.begun h opened))) in
+    let told = sealed_to c.args.slot _ h c.args.page.now _ _ _ (c.put_all.ensures.same_slot ∙ c.in_ok-job.ensures.same.0) (omega arith) may (c.in_ok-sealing.ensures.sealed h _ (c.in_ok-put_all.ensures.put h (c.in_ok-job.ensures.begun h opened))) in
     Ran_then (Ran_then c.in_ok-job.ensures.ran c.in_ok-put_all.ensures.ran) told.ran

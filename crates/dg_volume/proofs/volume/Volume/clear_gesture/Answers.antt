@@ -1,5 +1,6 @@
-use Rattle.std.proofs.Common.{ℕ, List, Err, ap, ◌∙◌, arith}
+use Rattle.std.proofs.Common.{ℕ, List, ap, ◌∙◌, arith}
 use Rattle.dg_nor.specs.Chip.{Touches}
+use Rattle.dg_nor.proofs.DeviceLemmas.{OnErr_from}
 use Rattle.dg_slot.specs.Kept.{Held}
 use Rattle.dg_slot.specs.Jobs.{slot_of, IsJob, Packets}
 use Rattle.dg_slot.specs.declared.states.PageJob.{PageJob}
@@ -10,8 +11,8 @@ use Rattle.dg_volume.proofs.CommitLemmas.{commit_acted, commit_stops}
 use Rattle.dg_volume.proofs.AdvanceLemmas.{clear_commits}
 use Rattle.dg_volume.proofs.volume.Volume.clear_gesture.Goals as goal
 
-pub returns-in-Ok-clause-acted : goal.returns-in-Ok-clause-acted
-returns-in-Ok-clause-acted g c s mounted =
+pub returns-clause-acted : goal.returns-clause-acted
+returns-clause-acted g c s mounted =
     let says = c.with_start-next.ensures in
     let now = c.now-snapshot.ensures in
     let commits = clear_commits (g.N.Nor.device c.args.nor.now).image c.args.self.now s c.with_start-next.result mounted.stands mounted.tells
@@ -22,10 +23,10 @@ returns-in-Ok-clause-acted g c s mounted =
       slots = says.slots ∙ ap (λ p. p.slots) now;
       order = says.order ∙ ap (λ p. p.order) now;
     }) in
-    commit_acted c.args.self.now _ c.with_start-next.result s (gesture_cleared s) _ _ commits c.in-Ok.ensures.touches c.in-Ok.ensures.ok c.in-Ok.ensures.now c.in-Ok.ensures.room (λ i known. mounted.tells.kept i known (λ h. h)) c.in-Ok.ensures.ran
+    commit_acted c.args.self.now _ c.with_start-next.result s (gesture_cleared s) _ _ commits c.keep.ensures.touches c.in_ok-keep.ensures.ok c.in_ok-keep.ensures.now c.in_ok-keep.ensures.room (λ i known. mounted.tells.kept i known (λ h. h)) c.in_ok-keep.ensures.ran
 
-pub returns-in-Err-Stopped-clause-stopped : goal.returns-in-Err-Stopped-clause-stopped
-returns-in-Err-Stopped-clause-stopped g c s mounted =
+pub returns-in_err-keep-clause-stopped : goal.returns-in_err-keep-clause-stopped
+returns-in_err-keep-clause-stopped g c = OnErr_from c.from_residual.result (λ s mounted.
     let says = c.with_start-next.ensures in
     let now = c.now-snapshot.ensures in
     let commits = clear_commits (g.N.Nor.device c.args.nor.now).image c.args.self.now s c.with_start-next.result mounted.stands mounted.tells
@@ -36,7 +37,7 @@ returns-in-Err-Stopped-clause-stopped g c s mounted =
       slots = says.slots ∙ ap (λ p. p.slots) now;
       order = says.order ∙ ap (λ p. p.order) now;
     }) in
-    commit_stops c.args.self.now.control c.with_start-next.result s (gesture_cleared s) _ _ commits c.in-Err-Stopped.ensures.touches (c.in-Err-Stopped.ensures.stopped (ap Err c.in-Err-Stopped.field-0-is))
+    commit_stops c.args.self.now.control c.with_start-next.result s (gesture_cleared s) _ _ commits c.keep.ensures.touches c.in_err-keep.ensures.stopped)
 
 -- the slot that a page job fills stands behind the control sectors
 job_kept : (c d : List ℕ) (j : PageJob) (h : Held) (ps : Packets) → Touches 0 control_sectors c d → IsJob c j h ps → IsJob d j h ps
@@ -44,8 +45,8 @@ job_kept c d j h ps touches job =
     let known = (slot_of j).known in
     job_stays c d j h ps (λ k low high. touches.behind k (omega (arith, low)) (omega (arith, high, known))) job
 
-pub returns-in-Ok-clause-job : goal.returns-in-Ok-clause-job
-returns-in-Ok-clause-job g c j h ps job = job_kept _ _ j h ps c.in-Ok.ensures.touches job
+pub returns-in_err-keep-clause-job : goal.returns-in_err-keep-clause-job
+returns-in_err-keep-clause-job g c j h ps job = job_kept _ _ j h ps c.keep.ensures.touches job
 
-pub returns-in-Err-Stopped-clause-job : goal.returns-in-Err-Stopped-clause-job
-returns-in-Err-Stopped-clause-job g c j h ps job = job_kept _ _ j h ps c.in-Err-Stopped.ensures.touches job
+pub returns-clause-job : goal.returns-clause-job
+returns-clause-job g c j h ps job = job_kept _ _ j h ps c.keep.ensures.touches job

@@ -1,4 +1,5 @@
-use Rattle.std.proofs.Common.{◌+◌, Err, get_or, ap, sym, subst, ◌∙◌}
+use Rattle.std.proofs.Common.{◌+◌, get_or, ap, sym, subst, ◌∙◌}
+use Rattle.dg_nor.proofs.DeviceLemmas.{OnErr_from}
 use Rattle.dg_control.specs.declared.snapshot.SlotState.TheVariants.{Dirty}
 use Rattle.dg_control.specs.declared.snapshot.Snapshot.{Snapshot}
 use Rattle.dg_control.specs.declared.control.Control.{Control}
@@ -8,8 +9,8 @@ use Rattle.dg_volume.proofs.CommitLemmas.{commit_acted, commit_stops}
 use Rattle.dg_volume.proofs.TakeLemmas.{state_is, slot_commits, kept_next}
 use Rattle.dg_volume.proofs.volume.Volume.commit_kept.Goals as goal
 
-pub returns-in-Ok-clause-acted : goal.returns-in-Ok-clause-acted
-returns-in-Ok-clause-acted g c s h mounted is keeps =
+pub returns-clause-acted : goal.returns-clause-acted
+returns-clause-acted g c s h mounted is keeps =
     let says = c.with_slot-next.ensures in
     let now = c.now.ensures in
     let next = c.with_slot-next.result in
@@ -26,15 +27,15 @@ returns-in-Ok-clause-acted g c s h mounted is keeps =
       gesture = says.gesture ∙ ap (λ (p : Snapshot). p.gesture) now;
     })
     keeps in
-    commit_acted c.args.self.now c.set_kept.new.self next s (keeping image h (spent s)) _ _ commits c.in-Ok.ensures.touches
-    (subst (λ (v : Control). IsControlOf (g.N.Nor.device c.commit.new.nor).image v) (sym control) c.in-Ok.ensures.ok)
-    (ap control_snapshot control ∙ c.in-Ok.ensures.now)
-    (ap (λ (v : Control). control_room v + 1) control ∙ c.in-Ok.ensures.room)
+    commit_acted c.args.self.now c.set_kept.new.self next s (keeping image h (spent s)) _ _ commits c.keep.ensures.touches
+    (subst (λ (v : Control). IsControlOf (g.N.Nor.device c.keep.new.nor).image v) (sym control) c.in_ok-keep.ensures.ok)
+    (ap control_snapshot control ∙ c.in_ok-keep.ensures.now)
+    (ap (λ (v : Control). control_room v + 1) control ∙ c.in_ok-keep.ensures.room)
     (kept_next c.args.self.now c.set_kept.new.self s image h c.args.kept mounted.stands.contains.count c.requires.known_image (λ j k. mounted.tells.kept j k (λ x. x)) c.set_kept.ensures.kept c.set_kept.ensures.others is)
-    c.in-Ok.ensures.ran
+    c.in_ok-keep.ensures.ran
 
-pub returns-in-Err-Stopped-clause-stopped : goal.returns-in-Err-Stopped-clause-stopped
-returns-in-Err-Stopped-clause-stopped g c s h mounted is keeps =
+pub returns-in_err-keep-clause-stopped : goal.returns-in_err-keep-clause-stopped
+returns-in_err-keep-clause-stopped g c = OnErr_from c.from_residual.result (λ s h mounted is keeps.
     let says = c.with_slot-next.ensures in
     let now = c.now.ensures in
     let next = c.with_slot-next.result in
@@ -49,4 +50,4 @@ returns-in-Err-Stopped-clause-stopped g c s h mounted is keeps =
       gesture = says.gesture ∙ ap (λ (p : Snapshot). p.gesture) now;
     })
     keeps in
-    commit_stops c.args.self.now.control next s (keeping image h (spent s)) _ _ commits c.in-Err-Stopped.ensures.touches (c.in-Err-Stopped.ensures.stopped (ap Err c.in-Err-Stopped.field-0-is))
+    commit_stops c.args.self.now.control next s (keeping image h (spent s)) _ _ commits c.keep.ensures.touches c.in_err-keep.ensures.stopped)

@@ -8,6 +8,3 @@ returns-in-Some-clause-ends g c = λ s mounted.
     let told = c.injection_fault.ensures in
     let refusal = told.refusal c.in-Some.fault c.in-Some.is c.args.self.now s c.args.name.now mounted.tells c.kept.ensures c.requires.known_image in
     ends_refused c.in-Some.fault s row _ _ c.args.self.now refusal (told.other c.in-Some.fault c.in-Some.is).0
-
-pub returns-in-None-clause-ends : goal.returns-in-None-clause-ends
-returns-in-None-clause-ends g c = λ s mounted. c.keep.ensures.ends s mounted
