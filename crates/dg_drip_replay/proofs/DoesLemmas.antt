@@ -26,20 +26,20 @@ use Rattle.dg_drip_replay.proofs.EventLemmas.{set_told, set_refused, set_stands,
 pub only_last : (f : SetFault) → f ≡ fault.Last
 only_last fault.Last = refl
 
-pub set_ok : (d e : DripNetwork) (w : Network) (reported : Bool) (node key value dt draw number : ℕ) → Stands d w → node < length d.nodes.items → key < key_count
-    → e.moment ≡ d.moment + dt → e.links.items ≡ d.links.items → e.sent.items ≡ d.sent.items → e.nodes.items ≡ set d.nodes.items node (after_set (node_at d.nodes.items node) (d.moment + dt) draw key value)
-    → Ok number ≡ set_answer (node_at d.nodes.items node) key → Does e w reported (Set node key value dt draw) (Some (Got node key (record { number = number; value = value })))
-set_ok d e w reported node key value dt draw number s h l moment links sent nodes answer = record {
-  after = set_stands d e w node key value dt draw s h l moment links sent nodes;
-  report_is = set_told w reported node key value dt draw number (ap set_outcome (sym (s.cells node key h l)) ∙ sym answer);
+pub set_ok : (d e : DripNetwork) (w : Network) (reported : Bool) (node key value dt word number : ℕ) → Stands d w → node < length d.nodes.items → key < key_count
+    → e.moment ≡ d.moment + dt → e.links.items ≡ d.links.items → e.sent.items ≡ d.sent.items → e.nodes.items ≡ set d.nodes.items node (after_set (node_at d.nodes.items node) (d.moment + dt) word key value)
+    → Ok number ≡ set_answer (node_at d.nodes.items node) key → Does e w reported (Set node key value dt word) (Some (Got node key (record { number = number; value = value })))
+set_ok d e w reported node key value dt word number s h l moment links sent nodes answer = record {
+  after = set_stands d e w node key value dt word s h l moment links sent nodes;
+  report_is = set_told w reported node key value dt word number (ap set_outcome (sym (s.cells node key h l)) ∙ sym answer);
 }
 
-pub set_err : (d e : DripNetwork) (w : Network) (reported : Bool) (node key value dt draw : ℕ) → Stands d w → node < length d.nodes.items → key < key_count
-    → e.moment ≡ d.moment + dt → e.links.items ≡ d.links.items → e.sent.items ≡ d.sent.items → e.nodes.items ≡ set d.nodes.items node (after_set (node_at d.nodes.items node) (d.moment + dt) draw key value)
-    → Err fault.Last ≡ set_answer (node_at d.nodes.items node) key → Does e w reported (Set node key value dt draw) (Some (Refused node cause.Last))
-set_err d e w reported node key value dt draw s h l moment links sent nodes answer = record {
-  after = set_stands d e w node key value dt draw s h l moment links sent nodes;
-  report_is = set_refused w reported node key value dt draw (ap set_outcome (sym (s.cells node key h l)) ∙ sym answer);
+pub set_err : (d e : DripNetwork) (w : Network) (reported : Bool) (node key value dt word : ℕ) → Stands d w → node < length d.nodes.items → key < key_count
+    → e.moment ≡ d.moment + dt → e.links.items ≡ d.links.items → e.sent.items ≡ d.sent.items → e.nodes.items ≡ set d.nodes.items node (after_set (node_at d.nodes.items node) (d.moment + dt) word key value)
+    → Err fault.Last ≡ set_answer (node_at d.nodes.items node) key → Does e w reported (Set node key value dt word) (Some (Refused node cause.Last))
+set_err d e w reported node key value dt word s h l moment links sent nodes answer = record {
+  after = set_stands d e w node key value dt word s h l moment links sent nodes;
+  report_is = set_refused w reported node key value dt word (ap set_outcome (sym (s.cells node key h l)) ∙ sym answer);
 }
 
 -- ---- ticks
@@ -56,57 +56,57 @@ and_false : (b c : Bool) → c ≡ false → (b && c) ≡ false
 and_false true c e = e
 and_false false c e = refl
 
-pub tick_none : (d e : DripNetwork) (w : Network) (reported : Bool) (node key dt draw : ℕ) → Stands d w → node < length d.nodes.items → key < key_count
-    → e.moment ≡ d.moment + dt → e.links.items ≡ d.links.items → e.sent.items ≡ d.sent.items → e.nodes.items ≡ set d.nodes.items node (node_after_tick (node_at d.nodes.items node) (d.moment + dt) draw key)
-    → None ≡ told_by (node_at d.nodes.items node) (d.moment + dt) key → Does e w reported (Tick node key dt draw) None
-tick_none d e w reported node key dt draw s h l moment links sent nodes told =
+pub tick_none : (d e : DripNetwork) (w : Network) (reported : Bool) (node key dt word : ℕ) → Stands d w → node < length d.nodes.items → key < key_count
+    → e.moment ≡ d.moment + dt → e.links.items ≡ d.links.items → e.sent.items ≡ d.sent.items → e.nodes.items ≡ set d.nodes.items node (node_after_tick (node_at d.nodes.items node) (d.moment + dt) word key)
+    → None ≡ told_by (node_at d.nodes.items node) (d.moment + dt) key → Does e w reported (Tick node key dt word) None
+tick_none d e w reported node key dt word s h l moment links sent nodes told =
     let n : Node = node_at d.nodes.items node in
     let silent : tells (cell_of n key) (d.moment + dt) ≡ false = none_by (tells (cell_of n key) (d.moment + dt)) (said_by n key) told in
     record {
-      after = tick_stands d e w node key dt draw s h l moment links nodes
+      after = tick_stands d e w node key dt word s h l moment links nodes
           (sent ∙ sym (ap (λ (b : Bool). d.sent.items ++ told_if b (said_by n key)) silent ∙ append-nil d.sent.items));
-      report_is = tick_silent w reported node key dt draw (and_false reported (tells (w.cells node key) (w.moment + dt)) (tick_tells d w node key dt false s h l silent));
+      report_is = tick_silent w reported node key dt word (and_false reported (tells (w.cells node key) (w.moment + dt)) (tick_tells d w node key dt false s h l silent));
     }
 
 -- the network behind a tick that tells
-tells_stands : (d e : DripNetwork) (w : Network) (node key dt draw : ℕ) (said : Said) → Stands d w → node < length d.nodes.items → key < key_count
-    → e.moment ≡ d.moment + dt → e.links.items ≡ d.links.items → e.sent.items ≡ d.sent.items ++ said ∷ [] → e.nodes.items ≡ set d.nodes.items node (node_after_tick (node_at d.nodes.items node) (d.moment + dt) draw key)
-    → Some said ≡ told_by (node_at d.nodes.items node) (d.moment + dt) key → Stands e (applied w (Tick node key dt draw))
-tells_stands d e w node key dt draw said s h l moment links sent nodes told =
+tells_stands : (d e : DripNetwork) (w : Network) (node key dt word : ℕ) (said : Said) → Stands d w → node < length d.nodes.items → key < key_count
+    → e.moment ≡ d.moment + dt → e.links.items ≡ d.links.items → e.sent.items ≡ d.sent.items ++ said ∷ [] → e.nodes.items ≡ set d.nodes.items node (node_after_tick (node_at d.nodes.items node) (d.moment + dt) word key)
+    → Some said ≡ told_by (node_at d.nodes.items node) (d.moment + dt) key → Stands e (applied w (Tick node key dt word))
+tells_stands d e w node key dt word said s h l moment links sent nodes told =
     let n : Node = node_at d.nodes.items node in
     let parts = some_by (tells (cell_of n key) (d.moment + dt)) (said_by n key) said told in
-    tick_stands d e w node key dt draw s h l moment links nodes
+    tick_stands d e w node key dt word s h l moment links nodes
     (sent ∙ sym (ap (λ (b : Bool). d.sent.items ++ told_if b (said_by n key)) parts.0 ∙ ap (λ (x : Said). d.sent.items ++ x ∷ []) parts.1))
 
-pub tick_quiet : (d e : DripNetwork) (w : Network) (reported : Bool) (node key dt draw : ℕ) (said : Said) → Stands d w → node < length d.nodes.items → key < key_count
-    → e.moment ≡ d.moment + dt → e.links.items ≡ d.links.items → e.sent.items ≡ d.sent.items ++ said ∷ [] → e.nodes.items ≡ set d.nodes.items node (node_after_tick (node_at d.nodes.items node) (d.moment + dt) draw key)
-    → Some said ≡ told_by (node_at d.nodes.items node) (d.moment + dt) key → reported ≡ false → Does e w reported (Tick node key dt draw) None
-tick_quiet d e w reported node key dt draw said s h l moment links sent nodes told quiet = record {
-  after = tells_stands d e w node key dt draw said s h l moment links sent nodes told;
-  report_is = tick_silent w reported node key dt draw (ap (λ (b : Bool). b && tells (w.cells node key) (w.moment + dt)) quiet);
+pub tick_quiet : (d e : DripNetwork) (w : Network) (reported : Bool) (node key dt word : ℕ) (said : Said) → Stands d w → node < length d.nodes.items → key < key_count
+    → e.moment ≡ d.moment + dt → e.links.items ≡ d.links.items → e.sent.items ≡ d.sent.items ++ said ∷ [] → e.nodes.items ≡ set d.nodes.items node (node_after_tick (node_at d.nodes.items node) (d.moment + dt) word key)
+    → Some said ≡ told_by (node_at d.nodes.items node) (d.moment + dt) key → reported ≡ false → Does e w reported (Tick node key dt word) None
+tick_quiet d e w reported node key dt word said s h l moment links sent nodes told quiet = record {
+  after = tells_stands d e w node key dt word said s h l moment links sent nodes told;
+  report_is = tick_silent w reported node key dt word (ap (λ (b : Bool). b && tells (w.cells node key) (w.moment + dt)) quiet);
 }
 
-pub tick_reported : (d e : DripNetwork) (w : Network) (reported : Bool) (node key dt draw : ℕ) (said : Said) → Stands d w → node < length d.nodes.items → key < key_count
-    → e.moment ≡ d.moment + dt → e.links.items ≡ d.links.items → e.sent.items ≡ d.sent.items ++ said ∷ [] → e.nodes.items ≡ set d.nodes.items node (node_after_tick (node_at d.nodes.items node) (d.moment + dt) draw key)
-    → Some said ≡ told_by (node_at d.nodes.items node) (d.moment + dt) key → reported ≡ true → Does e w reported (Tick node key dt draw) (Some (Sent node key said.entry))
-tick_reported d e w reported node key dt draw said s h l moment links sent nodes told is =
+pub tick_reported : (d e : DripNetwork) (w : Network) (reported : Bool) (node key dt word : ℕ) (said : Said) → Stands d w → node < length d.nodes.items → key < key_count
+    → e.moment ≡ d.moment + dt → e.links.items ≡ d.links.items → e.sent.items ≡ d.sent.items ++ said ∷ [] → e.nodes.items ≡ set d.nodes.items node (node_after_tick (node_at d.nodes.items node) (d.moment + dt) word key)
+    → Some said ≡ told_by (node_at d.nodes.items node) (d.moment + dt) key → reported ≡ true → Does e w reported (Tick node key dt word) (Some (Sent node key said.entry))
+tick_reported d e w reported node key dt word said s h l moment links sent nodes told is =
     let n : Node = node_at d.nodes.items node in
     let parts = some_by (tells (cell_of n key) (d.moment + dt)) (said_by n key) said told in
     record {
-      after = tells_stands d e w node key dt draw said s h l moment links sent nodes told;
-      report_is = tick_told w reported node key dt draw said.entry is (tick_tells d w node key dt true s h l parts.0)
+      after = tells_stands d e w node key dt word said s h l moment links sent nodes told;
+      report_is = tick_told w reported node key dt word said.entry is (tick_tells d w node key dt true s h l parts.0)
           (ap (λ (x : Said). x.entry) (sym parts.1) ∙ ap (λ (c : Cell). c.entry) (s.cells node key h l));
     }
 
 -- ---- frames that are heard
 
-pub take_hears : (d e : DripNetwork) (w : Network) (node draw : ℕ) (s : Said) (answer : DripHeard) → Stands d w → node < length d.nodes.items → s.key < key_count
+pub take_hears : (d e : DripNetwork) (w : Network) (node word : ℕ) (s : Said) (answer : DripHeard) → Stands d w → node < length d.nodes.items → s.key < key_count
     → e.moment ≡ d.moment → e.links.items ≡ d.links.items → e.sent.items ≡ d.sent.items
-    → e.nodes.items ≡ set d.nodes.items node (with_cell (node_at d.nodes.items node) s.key (heard_cell (cell_of (node_at d.nodes.items node) s.key) d.moment draw s.entry))
-    → answer ≡ outcome (cell_of (node_at d.nodes.items node) s.key) s.key s.entry → Hears e w node draw s (heard_report node s.key s.entry answer)
-take_hears d e w node draw s answer t h l moment links sent nodes is = record {
-  after = heard_stands d e w node draw s t h l moment links sent nodes;
-  report_is = heard_told w node draw s answer (is ∙ ap (λ (c : Cell). outcome c s.key s.entry) (t.cells node s.key h l));
+    → e.nodes.items ≡ set d.nodes.items node (with_cell (node_at d.nodes.items node) s.key (heard_cell (cell_of (node_at d.nodes.items node) s.key) d.moment word s.entry))
+    → answer ≡ outcome (cell_of (node_at d.nodes.items node) s.key) s.key s.entry → Hears e w node word s (heard_report node s.key s.entry answer)
+take_hears d e w node word s answer t h l moment links sent nodes is = record {
+  after = heard_stands d e w node word s t h l moment links sent nodes;
+  report_is = heard_told w node word s answer (is ∙ ap (λ (c : Cell). outcome c s.key s.entry) (t.cells node s.key h l));
 }
 
 silent_unless_newer : (node key : ℕ) (e : Entry) (a : DripHeard) → ((k : ℕ) → a ≡ what.Newer k → ⊥) → heard_report node key e a ≡ None
@@ -115,54 +115,54 @@ silent_unless_newer node key e what.Same n = refl
 silent_unless_newer node key e what.Older n = refl
 silent_unless_newer node key e (what.Newer k) n = absurd (n k refl)
 
-pub take_silent : (d e : DripNetwork) (w : Network) (node draw : ℕ) (s : Said) (answer : DripHeard) → Stands d w → node < length d.nodes.items → s.key < key_count
+pub take_silent : (d e : DripNetwork) (w : Network) (node word : ℕ) (s : Said) (answer : DripHeard) → Stands d w → node < length d.nodes.items → s.key < key_count
     → e.moment ≡ d.moment → e.links.items ≡ d.links.items → e.sent.items ≡ d.sent.items
-    → e.nodes.items ≡ set d.nodes.items node (with_cell (node_at d.nodes.items node) s.key (heard_cell (cell_of (node_at d.nodes.items node) s.key) d.moment draw s.entry))
-    → answer ≡ outcome (cell_of (node_at d.nodes.items node) s.key) s.key s.entry → ((k : ℕ) → answer ≡ what.Newer k → ⊥) → Hears e w node draw s None
-take_silent d e w node draw s answer t h l moment links sent nodes is other =
-    subst (λ (r : Option DripReport). Hears e w node draw s r) (silent_unless_newer node s.key s.entry answer other)
-    (take_hears d e w node draw s answer t h l moment links sent nodes is)
+    → e.nodes.items ≡ set d.nodes.items node (with_cell (node_at d.nodes.items node) s.key (heard_cell (cell_of (node_at d.nodes.items node) s.key) d.moment word s.entry))
+    → answer ≡ outcome (cell_of (node_at d.nodes.items node) s.key) s.key s.entry → ((k : ℕ) → answer ≡ what.Newer k → ⊥) → Hears e w node word s None
+take_silent d e w node word s answer t h l moment links sent nodes is other =
+    subst (λ (r : Option DripReport). Hears e w node word s r) (silent_unless_newer node s.key s.entry answer other)
+    (take_hears d e w node word s answer t h l moment links sent nodes is)
 
 -- the network in which the time alone went on
 abbrev pub later : Network → ℕ → Network
 later w dt = record w { moment = w.moment + dt }
 
-pub hear_none : (d e : DripNetwork) (w : Network) (reported : Bool) (node dt draw frame : ℕ) → Stands d w
+pub hear_none : (d e : DripNetwork) (w : Network) (reported : Bool) (node dt word frame : ℕ) → Stands d w
     → e.moment ≡ d.moment + dt → e.links.items ≡ d.links.items → e.sent.items ≡ d.sent.items → e.nodes.items ≡ d.nodes.items
-    → None ≡ frame_numbered d.sent.items frame → Does e w reported (Hear node dt draw frame) (Some (Refused node cause.Frame))
-hear_none d e w reported node dt draw frame s moment links sent nodes none =
+    → None ≡ frame_numbered d.sent.items frame → Does e w reported (Hear node dt word frame) (Some (Refused node cause.Frame))
+hear_none d e w reported node dt word frame s moment links sent nodes none =
     let is : None ≡ frame_numbered w.sent frame = none ∙ ap (λ (xs : List Said). frame_numbered xs frame) s.sent in
     record {
-      after = subst (λ (r : Option Said). Stands e (heard w node (w.moment + dt) draw (from_neighbour w.links node r))) is (later_stands d e w dt s moment links sent nodes);
-      report_is = ap (λ (r : Option Said). report_of_frame w (applied w (Hear node dt draw frame)) node r) is;
+      after = subst (λ (r : Option Said). Stands e (heard w node (w.moment + dt) word (from_neighbour w.links node r))) is (later_stands d e w dt s moment links sent nodes);
+      report_is = ap (λ (r : Option Said). report_of_frame w (applied w (Hear node dt word frame)) node r) is;
     }
 
-pub hear_link : (d e : DripNetwork) (w : Network) (reported : Bool) (node dt draw frame : ℕ) (x : Said) → Stands d w
+pub hear_link : (d e : DripNetwork) (w : Network) (reported : Bool) (node dt word frame : ℕ) (x : Said) → Stands d w
     → e.moment ≡ d.moment + dt → e.links.items ≡ d.links.items → e.sent.items ≡ d.sent.items → e.nodes.items ≡ d.nodes.items
-    → Some x ≡ frame_numbered d.sent.items frame → is_linked d.links.items x.source node ≡ false → Does e w reported (Hear node dt draw frame) (Some (Refused node cause.Link))
-hear_link d e w reported node dt draw frame x s moment links sent nodes some far =
+    → Some x ≡ frame_numbered d.sent.items frame → is_linked d.links.items x.source node ≡ false → Does e w reported (Hear node dt word frame) (Some (Refused node cause.Link))
+hear_link d e w reported node dt word frame x s moment links sent nodes some far =
     let is : Some x ≡ frame_numbered w.sent frame = some ∙ ap (λ (xs : List Said). frame_numbered xs frame) s.sent in
     let off : is_linked w.links x.source node ≡ false = ap (λ (ls : List (ℕ × ℕ)). is_linked ls x.source node) (sym s.links) ∙ far in
     record {
-      after = subst (λ (r : Option Said). Stands e (heard w node (w.moment + dt) draw (from_neighbour w.links node r))) is
-          (subst (λ (b : Bool). Stands e (heard w node (w.moment + dt) draw (cond b (Some x) None))) (sym off) (later_stands d e w dt s moment links sent nodes));
-      report_is = sym (ap (λ (b : Bool). let r : Option DripReport = cond b (got w (applied w (Hear node dt draw frame)) node x.key) (Some (Refused node cause.Link)) in r) off)
-          ∙ ap (λ (r : Option Said). report_of_frame w (applied w (Hear node dt draw frame)) node r) is;
+      after = subst (λ (r : Option Said). Stands e (heard w node (w.moment + dt) word (from_neighbour w.links node r))) is
+          (subst (λ (b : Bool). Stands e (heard w node (w.moment + dt) word (cond b (Some x) None))) (sym off) (later_stands d e w dt s moment links sent nodes));
+      report_is = sym (ap (λ (b : Bool). let r : Option DripReport = cond b (got w (applied w (Hear node dt word frame)) node x.key) (Some (Refused node cause.Link)) in r) off)
+          ∙ ap (λ (r : Option Said). report_of_frame w (applied w (Hear node dt word frame)) node r) is;
     }
 
-pub hear_takes : (d e : DripNetwork) (w : Network) (reported : Bool) (node dt draw frame : ℕ) (x : Said) (told : Option DripReport) → Stands d w
-    → Some x ≡ frame_numbered d.sent.items frame → is_linked d.links.items x.source node ≡ true → Hears e (later w dt) node draw x told → Does e w reported (Hear node dt draw frame) told
-hear_takes d e w reported node dt draw frame x told s some near h =
+pub hear_takes : (d e : DripNetwork) (w : Network) (reported : Bool) (node dt word frame : ℕ) (x : Said) (told : Option DripReport) → Stands d w
+    → Some x ≡ frame_numbered d.sent.items frame → is_linked d.links.items x.source node ≡ true → Hears e (later w dt) node word x told → Does e w reported (Hear node dt word frame) told
+hear_takes d e w reported node dt word frame x told s some near h =
     let is : Some x ≡ frame_numbered w.sent frame = some ∙ ap (λ (xs : List Said). frame_numbered xs frame) s.sent in
     let on : is_linked w.links x.source node ≡ true = ap (λ (ls : List (ℕ × ℕ)). is_linked ls x.source node) (sym s.links) ∙ near in
-    let there : heard w node (w.moment + dt) draw (Some x) ≡ applied w (Hear node dt draw frame) =
-    sym (ap (λ (b : Bool). heard w node (w.moment + dt) draw (cond b (Some x) None)) on) ∙ ap (λ (r : Option Said). heard w node (w.moment + dt) draw (from_neighbour w.links node r)) is in
+    let there : heard w node (w.moment + dt) word (Some x) ≡ applied w (Hear node dt word frame) =
+    sym (ap (λ (b : Bool). heard w node (w.moment + dt) word (cond b (Some x) None)) on) ∙ ap (λ (r : Option Said). heard w node (w.moment + dt) word (from_neighbour w.links node r)) is in
     record {
       after = subst (λ (v : Network). Stands e v) there h.after;
       report_is = h.report_is
           ∙ ap (λ (v : Network). got w v node x.key) there
-          ∙ sym (ap (λ (b : Bool). let r : Option DripReport = cond b (got w (applied w (Hear node dt draw frame)) node x.key) (Some (Refused node cause.Link)) in r) on)
-          ∙ ap (λ (r : Option Said). report_of_frame w (applied w (Hear node dt draw frame)) node r) is;
+          ∙ sym (ap (λ (b : Bool). let r : Option DripReport = cond b (got w (applied w (Hear node dt word frame)) node x.key) (Some (Refused node cause.Link)) in r) on)
+          ∙ ap (λ (r : Option Said). report_of_frame w (applied w (Hear node dt word frame)) node r) is;
     }
 
 pub last_none : (d : DripNetwork) (w : Network) (reported : Bool) (from to key : ℕ) → Stands d w → None ≡ last_said d.sent.items from key → Does d w reported (Last from to key) None

@@ -73,58 +73,58 @@ next_is_other : (e : Entry) (value : ℕ) → is_same (next_entry e value) e ≡
 next_is_other e value = ap (λ (b : Bool). b && (value == e.value)) (ne_eqb (e.number + 1) e.number (λ h. omega arith))
 
 -- what a set leaves, where a number is left
-set_entry : (c : Cell) (now draw value : ℕ) (b : Bool) → is_last c.entry ≡ b → (set_cell c now draw value).entry ≡ cond b c.entry (next_entry c.entry value)
-set_entry c now draw value true e = ap (λ (b : Bool). (let d : Cell = cond b c (record { entry = next_entry c.entry value; timer = after_other c.timer now draw }) in d).entry) e
-set_entry c now draw value false e = ap (λ (b : Bool). (let d : Cell = cond b c (record { entry = next_entry c.entry value; timer = after_other c.timer now draw }) in d).entry) e
+set_entry : (c : Cell) (now word value : ℕ) (b : Bool) → is_last c.entry ≡ b → (set_cell c now word value).entry ≡ cond b c.entry (next_entry c.entry value)
+set_entry c now word value true e = ap (λ (b : Bool). (let d : Cell = cond b c (record { entry = next_entry c.entry value; timer = after_other c.timer now word }) in d).entry) e
+set_entry c now word value false e = ap (λ (b : Bool). (let d : Cell = cond b c (record { entry = next_entry c.entry value; timer = after_other c.timer now word }) in d).entry) e
 
-pub set_told : (w : Network) (reported : Bool) (node key value dt draw number : ℕ) → set_outcome (w.cells node key) ≡ Ok number
-    → Some (Got node key (record { number = number; value = value })) ≡ report_of_event w reported (Set node key value dt draw)
-set_told w reported node key value dt draw number e =
+pub set_told : (w : Network) (reported : Bool) (node key value dt word number : ℕ) → set_outcome (w.cells node key) ≡ Ok number
+    → Some (Got node key (record { number = number; value = value })) ≡ report_of_event w reported (Set node key value dt word)
+set_told w reported node key value dt word number e =
     let old : Entry = entry_at w node key in
     let parts = last_or_next (is_last old) (old.number + 1) number e in
-    let after : entry_at (applied w (Set node key value dt draw)) node key ≡ next_entry old value =
-    ap (λ (c : Cell). c.entry) (with_here w.cells node key (set_cell (w.cells node key) (w.moment + dt) draw value)) ∙ set_entry (w.cells node key) (w.moment + dt) draw value false parts.0 in
+    let after : entry_at (applied w (Set node key value dt word)) node key ≡ next_entry old value =
+    ap (λ (c : Cell). c.entry) (with_here w.cells node key (set_cell (w.cells node key) (w.moment + dt) word value)) ∙ set_entry (w.cells node key) (w.moment + dt) word value false parts.0 in
     let there : got_if_other node key old (next_entry old value) ≡ Some (Got node key (next_entry old value)) =
     ap (λ (b : Bool). let r : Option DripReport = cond b None (Some (Got node key (next_entry old value))) in r) (next_is_other old value) in
     sym (
-    ap (λ (b : Bool). let r : Option DripReport = cond b (Some (Refused node cause.Last)) (got w (applied w (Set node key value dt draw)) node key) in r) parts.0
+    ap (λ (b : Bool). let r : Option DripReport = cond b (Some (Refused node cause.Last)) (got w (applied w (Set node key value dt word)) node key) in r) parts.0
     ∙ ap (got_if_other node key old) after
     ∙ there
     ∙ ap (λ (n : ℕ). let r : Option DripReport = Some (Got node key (record { number = n; value = value })) in r) parts.1
     )
 
-pub set_refused : (w : Network) (reported : Bool) (node key value dt draw : ℕ) → set_outcome (w.cells node key) ≡ Err fault.Last
-    → Some (Refused node cause.Last) ≡ report_of_event w reported (Set node key value dt draw)
-set_refused w reported node key value dt draw e =
-    sym (ap (λ (b : Bool). let r : Option DripReport = cond b (Some (Refused node cause.Last)) (got w (applied w (Set node key value dt draw)) node key) in r) (is_last_number (is_last (entry_at w node key)) ((entry_at w node key).number + 1) e))
+pub set_refused : (w : Network) (reported : Bool) (node key value dt word : ℕ) → set_outcome (w.cells node key) ≡ Err fault.Last
+    → Some (Refused node cause.Last) ≡ report_of_event w reported (Set node key value dt word)
+set_refused w reported node key value dt word e =
+    sym (ap (λ (b : Bool). let r : Option DripReport = cond b (Some (Refused node cause.Last)) (got w (applied w (Set node key value dt word)) node key) in r) (is_last_number (is_last (entry_at w node key)) ((entry_at w node key).number + 1) e))
 
 -- the network behind a set
-pub set_stands : (d e : DripNetwork) (w : Network) (node key value dt draw : ℕ) → Stands d w → node < length d.nodes.items → key < key_count
-    → e.moment ≡ d.moment + dt → e.links.items ≡ d.links.items → e.sent.items ≡ d.sent.items → e.nodes.items ≡ set d.nodes.items node (after_set (node_at d.nodes.items node) (d.moment + dt) draw key value)
-    → Stands e (applied w (Set node key value dt draw))
-set_stands d e w node key value dt draw s h l moment links sent nodes =
-    let c : Cell = set_cell (cell_of (node_at d.nodes.items node) key) (d.moment + dt) draw value in
-    let same : set_cell (w.cells node key) (w.moment + dt) draw value ≡ c =
-    ap (λ (m : ℕ). set_cell (w.cells node key) (m + dt) draw value) (sym s.moment) ∙ ap (λ (x : Cell). set_cell x (d.moment + dt) draw value) (sym (s.cells node key h l)) in
-    stands_with d e w (applied w (Set node key value dt draw)) node key c s h l nodes (ap (with_cell_at w.cells node key) same)
+pub set_stands : (d e : DripNetwork) (w : Network) (node key value dt word : ℕ) → Stands d w → node < length d.nodes.items → key < key_count
+    → e.moment ≡ d.moment + dt → e.links.items ≡ d.links.items → e.sent.items ≡ d.sent.items → e.nodes.items ≡ set d.nodes.items node (after_set (node_at d.nodes.items node) (d.moment + dt) word key value)
+    → Stands e (applied w (Set node key value dt word))
+set_stands d e w node key value dt word s h l moment links sent nodes =
+    let c : Cell = set_cell (cell_of (node_at d.nodes.items node) key) (d.moment + dt) word value in
+    let same : set_cell (w.cells node key) (w.moment + dt) word value ≡ c =
+    ap (λ (m : ℕ). set_cell (w.cells node key) (m + dt) word value) (sym s.moment) ∙ ap (λ (x : Cell). set_cell x (d.moment + dt) word value) (sym (s.cells node key h l)) in
+    stands_with d e w (applied w (Set node key value dt word)) node key c s h l nodes (ap (with_cell_at w.cells node key) same)
     (moment ∙ ap (λ (m : ℕ). m + dt) s.moment) (links ∙ s.links) (sent ∙ s.sent)
 
 -- ---- ticks
 
-pub tick_stands : (d e : DripNetwork) (w : Network) (node key dt draw : ℕ) → Stands d w → node < length d.nodes.items → key < key_count
-    → e.moment ≡ d.moment + dt → e.links.items ≡ d.links.items → e.nodes.items ≡ set d.nodes.items node (node_after_tick (node_at d.nodes.items node) (d.moment + dt) draw key)
+pub tick_stands : (d e : DripNetwork) (w : Network) (node key dt word : ℕ) → Stands d w → node < length d.nodes.items → key < key_count
+    → e.moment ≡ d.moment + dt → e.links.items ≡ d.links.items → e.nodes.items ≡ set d.nodes.items node (node_after_tick (node_at d.nodes.items node) (d.moment + dt) word key)
     → e.sent.items ≡ d.sent.items ++ told_if (tells (cell_of (node_at d.nodes.items node) key) (d.moment + dt)) (said_by (node_at d.nodes.items node) key)
-    → Stands e (applied w (Tick node key dt draw))
-tick_stands d e w node key dt draw s h l moment links nodes sent =
+    → Stands e (applied w (Tick node key dt word))
+tick_stands d e w node key dt word s h l moment links nodes sent =
     let n : Node = node_at d.nodes.items node in
-    let c : Cell = ticked (cell_of n key) (d.moment + dt) draw in
-    let same : ticked (w.cells node key) (w.moment + dt) draw ≡ c =
-    ap (λ (m : ℕ). ticked (w.cells node key) (m + dt) draw) (sym s.moment) ∙ ap (λ (x : Cell). ticked x (d.moment + dt) draw) (sym (s.cells node key h l)) in
+    let c : Cell = ticked (cell_of n key) (d.moment + dt) word in
+    let same : ticked (w.cells node key) (w.moment + dt) word ≡ c =
+    ap (λ (m : ℕ). ticked (w.cells node key) (m + dt) word) (sym s.moment) ∙ ap (λ (x : Cell). ticked x (d.moment + dt) word) (sym (s.cells node key h l)) in
     let said : said_by n key ≡ record { source = node; key = key; entry = entry_at w node key } =
     ap (λ (i : ℕ). let r : Said = record { source = i; key = key; entry = (cell_of n key).entry } in r) (s.ids node h) ∙ ap (λ (x : Cell). let r : Said = record { source = node; key = key; entry = x.entry } in r) (s.cells node key h l) in
     let told : tells (cell_of n key) (d.moment + dt) ≡ tells (w.cells node key) (w.moment + dt) =
     ap (λ (x : Cell). tells x (d.moment + dt)) (s.cells node key h l) ∙ ap (λ (m : ℕ). tells (w.cells node key) (m + dt)) s.moment in
-    stands_with d e w (applied w (Tick node key dt draw)) node key c s h l nodes (ap (with_cell_at w.cells node key) same)
+    stands_with d e w (applied w (Tick node key dt word)) node key c s h l nodes (ap (with_cell_at w.cells node key) same)
     (moment ∙ ap (λ (m : ℕ). m + dt) s.moment) (links ∙ s.links)
     (
     sent
@@ -139,23 +139,23 @@ pub tick_tells : (d : DripNetwork) (w : Network) (node key dt : ℕ) (b : Bool) 
 tick_tells d w node key dt b s h l e =
     ap (λ (m : ℕ). tells (w.cells node key) (m + dt)) (sym s.moment) ∙ ap (λ (x : Cell). tells x (d.moment + dt)) (sym (s.cells node key h l)) ∙ e
 
-pub tick_silent : (w : Network) (reported : Bool) (node key dt draw : ℕ) → (reported && tells (w.cells node key) (w.moment + dt)) ≡ false → None ≡ report_of_event w reported (Tick node key dt draw)
-tick_silent w reported node key dt draw e = sym (ap (λ (b : Bool). let r : Option DripReport = cond b (Some (Sent node key (entry_at w node key))) None in r) e)
+pub tick_silent : (w : Network) (reported : Bool) (node key dt word : ℕ) → (reported && tells (w.cells node key) (w.moment + dt)) ≡ false → None ≡ report_of_event w reported (Tick node key dt word)
+tick_silent w reported node key dt word e = sym (ap (λ (b : Bool). let r : Option DripReport = cond b (Some (Sent node key (entry_at w node key))) None in r) e)
 
-pub tick_told : (w : Network) (reported : Bool) (node key dt draw : ℕ) (entry : Entry) → reported ≡ true → tells (w.cells node key) (w.moment + dt) ≡ true → entry ≡ entry_at w node key
-    → Some (Sent node key entry) ≡ report_of_event w reported (Tick node key dt draw)
-tick_told w reported node key dt draw entry is tell same =
+pub tick_told : (w : Network) (reported : Bool) (node key dt word : ℕ) (entry : Entry) → reported ≡ true → tells (w.cells node key) (w.moment + dt) ≡ true → entry ≡ entry_at w node key
+    → Some (Sent node key entry) ≡ report_of_event w reported (Tick node key dt word)
+tick_told w reported node key dt word entry is tell same =
     ap (λ (e : Entry). let r : Option DripReport = Some (Sent node key e) in r) same
     ∙ sym (ap (λ (b : Bool). let r : Option DripReport = cond b (Some (Sent node key (entry_at w node key))) None in r) (ap (λ (b : Bool). b && tells (w.cells node key) (w.moment + dt)) is ∙ tell))
 
 -- ---- frames that are heard
 
 -- what a node keeps behind a frame
-heard_entry : (c : Cell) (now draw : ℕ) (e : Entry) (b : Bool) → is_same e c.entry ≡ b → (heard_cell c now draw e).entry ≡ cond b c.entry (greater c.entry e)
-heard_entry c now draw e true is =
-    ap (λ (b : Bool). (let d : Cell = cond b (record { entry = c.entry; timer = after_same c.timer }) (record { entry = greater c.entry e; timer = after_other c.timer now draw }) in d).entry) is
-heard_entry c now draw e false is =
-    ap (λ (b : Bool). (let d : Cell = cond b (record { entry = c.entry; timer = after_same c.timer }) (record { entry = greater c.entry e; timer = after_other c.timer now draw }) in d).entry) is
+heard_entry : (c : Cell) (now word : ℕ) (e : Entry) (b : Bool) → is_same e c.entry ≡ b → (heard_cell c now word e).entry ≡ cond b c.entry (greater c.entry e)
+heard_entry c now word e true is =
+    ap (λ (b : Bool). (let d : Cell = cond b (record { entry = c.entry; timer = after_same c.timer }) (record { entry = greater c.entry e; timer = after_other c.timer now word }) in d).entry) is
+heard_entry c now word e false is =
+    ap (λ (b : Bool). (let d : Cell = cond b (record { entry = c.entry; timer = after_same c.timer }) (record { entry = greater c.entry e; timer = after_other c.timer now word }) in d).entry) is
 
 -- what is reported of it
 abbrev pub heard_report : (node key : ℕ) → Entry → DripHeard → Option DripReport
@@ -164,38 +164,38 @@ heard_report node key e what.Same = None
 heard_report node key e what.Older = None
 heard_report node key e (what.Newer k) = Some (Got node k e)
 
-report_by : (node key : ℕ) (c : Cell) (now draw : ℕ) (e : Entry) (s l : Bool) → is_same e c.entry ≡ s → is_less e c.entry ≡ l
-    → heard_report node key e (cond s what.Same (cond l what.Older (what.Newer key))) ≡ got_if_other node key c.entry (heard_cell c now draw e).entry
-report_by node key c now draw e true l is less =
-    sym (ap (got_if_other node key c.entry) (heard_entry c now draw e true is) ∙ ap (λ (b : Bool). let r : Option DripReport = cond b None (Some (Got node key c.entry)) in r) (same_refl c.entry))
-report_by node key c now draw e false true is less =
+report_by : (node key : ℕ) (c : Cell) (now word : ℕ) (e : Entry) (s l : Bool) → is_same e c.entry ≡ s → is_less e c.entry ≡ l
+    → heard_report node key e (cond s what.Same (cond l what.Older (what.Newer key))) ≡ got_if_other node key c.entry (heard_cell c now word e).entry
+report_by node key c now word e true l is less =
+    sym (ap (got_if_other node key c.entry) (heard_entry c now word e true is) ∙ ap (λ (b : Bool). let r : Option DripReport = cond b None (Some (Got node key c.entry)) in r) (same_refl c.entry))
+report_by node key c now word e false true is less =
     sym (
-    ap (got_if_other node key c.entry) (heard_entry c now draw e false is ∙ ap (λ (b : Bool). cond b e c.entry) (less_one_way e c.entry less))
+    ap (got_if_other node key c.entry) (heard_entry c now word e false is ∙ ap (λ (b : Bool). cond b e c.entry) (less_one_way e c.entry less))
     ∙ ap (λ (b : Bool). let r : Option DripReport = cond b None (Some (Got node key c.entry)) in r) (same_refl c.entry)
     )
-report_by node key c now draw e false false is less =
+report_by node key c now word e false false is less =
     sym (
-    ap (got_if_other node key c.entry) (heard_entry c now draw e false is ∙ ap (λ (b : Bool). cond b e c.entry) (less_or_other e c.entry is less))
+    ap (got_if_other node key c.entry) (heard_entry c now word e false is ∙ ap (λ (b : Bool). cond b e c.entry) (less_or_other e c.entry is less))
     ∙ ap (λ (b : Bool). let r : Option DripReport = cond b None (Some (Got node key e)) in r) is
     )
 
-pub heard_told : (w : Network) (node draw : ℕ) (s : Said) (answer : DripHeard) → answer ≡ outcome (w.cells node s.key) s.key s.entry
-    → heard_report node s.key s.entry answer ≡ got w (heard w node w.moment draw (Some s)) node s.key
-heard_told w node draw s answer is =
+pub heard_told : (w : Network) (node word : ℕ) (s : Said) (answer : DripHeard) → answer ≡ outcome (w.cells node s.key) s.key s.entry
+    → heard_report node s.key s.entry answer ≡ got w (heard w node w.moment word (Some s)) node s.key
+heard_told w node word s answer is =
     let c : Cell = w.cells node s.key in
     ap (heard_report node s.key s.entry) is
-    ∙ report_by node s.key c w.moment draw s.entry (is_same s.entry c.entry) (is_less s.entry c.entry) refl refl
-    ∙ ap (λ (d : Cell). got_if_other node s.key c.entry d.entry) (sym (with_here w.cells node s.key (heard_cell c w.moment draw s.entry)))
+    ∙ report_by node s.key c w.moment word s.entry (is_same s.entry c.entry) (is_less s.entry c.entry) refl refl
+    ∙ ap (λ (d : Cell). got_if_other node s.key c.entry d.entry) (sym (with_here w.cells node s.key (heard_cell c w.moment word s.entry)))
 
-pub heard_stands : (d e : DripNetwork) (w : Network) (node draw : ℕ) (s : Said) → Stands d w → node < length d.nodes.items → s.key < key_count
+pub heard_stands : (d e : DripNetwork) (w : Network) (node word : ℕ) (s : Said) → Stands d w → node < length d.nodes.items → s.key < key_count
     → e.moment ≡ d.moment → e.links.items ≡ d.links.items → e.sent.items ≡ d.sent.items
-    → e.nodes.items ≡ set d.nodes.items node (with_cell (node_at d.nodes.items node) s.key (heard_cell (cell_of (node_at d.nodes.items node) s.key) d.moment draw s.entry))
-    → Stands e (heard w node w.moment draw (Some s))
-heard_stands d e w node draw s t h l moment links sent nodes =
-    let c : Cell = heard_cell (cell_of (node_at d.nodes.items node) s.key) d.moment draw s.entry in
-    let same : heard_cell (w.cells node s.key) w.moment draw s.entry ≡ c =
-    ap (λ (m : ℕ). heard_cell (w.cells node s.key) m draw s.entry) (sym t.moment) ∙ ap (λ (x : Cell). heard_cell x d.moment draw s.entry) (sym (t.cells node s.key h l)) in
-    stands_with d e w (heard w node w.moment draw (Some s)) node s.key c t h l nodes (ap (with_cell_at w.cells node s.key) same)
+    → e.nodes.items ≡ set d.nodes.items node (with_cell (node_at d.nodes.items node) s.key (heard_cell (cell_of (node_at d.nodes.items node) s.key) d.moment word s.entry))
+    → Stands e (heard w node w.moment word (Some s))
+heard_stands d e w node word s t h l moment links sent nodes =
+    let c : Cell = heard_cell (cell_of (node_at d.nodes.items node) s.key) d.moment word s.entry in
+    let same : heard_cell (w.cells node s.key) w.moment word s.entry ≡ c =
+    ap (λ (m : ℕ). heard_cell (w.cells node s.key) m word s.entry) (sym t.moment) ∙ ap (λ (x : Cell). heard_cell x d.moment word s.entry) (sym (t.cells node s.key h l)) in
+    stands_with d e w (heard w node w.moment word (Some s)) node s.key c t h l nodes (ap (with_cell_at w.cells node s.key) same)
     (moment ∙ t.moment) (links ∙ t.links) (sent ∙ t.sent)
 
 -- the moment alone went on

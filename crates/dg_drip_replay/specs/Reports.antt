@@ -31,11 +31,11 @@ report_of_last old new node (Some s) = got old new node s.key
 
 -- What is reported of an event. In rounds it is not told that a frame was sent.
 abbrev pub report_of_event : Network → (reported : Bool) → DripEvent → Option DripReport
-report_of_event w reported (Set node key value dt draw) =
+report_of_event w reported (Set node key value dt word) =
     if is_last (entry_at w node key) then Some (Refused node cause.Last)
-    else got w (applied w (Set node key value dt draw)) node key
-report_of_event w reported (Tick node key dt draw) =
+    else got w (applied w (Set node key value dt word)) node key
+report_of_event w reported (Tick node key dt word) =
     if reported && tells (w.cells node key) (w.moment + dt) then Some (Sent node key (entry_at w node key)) else None
-report_of_event w reported (Hear node dt draw frame) =
-    report_of_frame w (applied w (Hear node dt draw frame)) node (frame_numbered w.sent frame)
+report_of_event w reported (Hear node dt word frame) =
+    report_of_frame w (applied w (Hear node dt word frame)) node (frame_numbered w.sent frame)
 report_of_event w reported (Last from to key) = report_of_last w (applied w (Last from to key)) to (last_said w.sent from key)

@@ -26,9 +26,9 @@ pub record Stands (d : DripNetwork) (w : Network) : Type 0 where
 
 -- an event is at some of so many nodes, and of a key
 abbrev pub FitsDripEvent : (nodes : ℕ) → DripEvent → Type 0
-FitsDripEvent nodes (Set node key value dt draw) = (node < nodes) × (key < key_count)
-FitsDripEvent nodes (Tick node key dt draw) = (node < nodes) × (key < key_count)
-FitsDripEvent nodes (Hear node dt draw frame) = node < nodes
+FitsDripEvent nodes (Set node key value dt word) = (node < nodes) × (key < key_count)
+FitsDripEvent nodes (Tick node key dt word) = (node < nodes) × (key < key_count)
+FitsDripEvent nodes (Hear node dt word frame) = node < nodes
 FitsDripEvent nodes (Last from to key) = (from < nodes) × (to < nodes) × (key < key_count)
 
 -- frames that were sent are of keys
@@ -47,15 +47,15 @@ pub record Passes (old new : DripNetwork) (dt : ℕ) : Type 0 where
   pub keyed : AreKeyed new.sent.items
 
 -- A node heard what a frame tells, at the moment of the network.
-pub record Hears (d : DripNetwork) (w : Network) (node draw : ℕ) (s : Said) (report : Option DripReport) : Type 0 where
-  pub after : Stands d (heard w node w.moment draw (Some s))
-  pub report_is : report ≡ got w (heard w node w.moment draw (Some s)) node s.key
+pub record Hears (d : DripNetwork) (w : Network) (node word : ℕ) (s : Said) (report : Option DripReport) : Type 0 where
+  pub after : Stands d (heard w node w.moment word (Some s))
+  pub report_is : report ≡ got w (heard w node w.moment word (Some s)) node s.key
 
 -- how long it is since the event before
 abbrev pub time_of : DripEvent → ℕ
-time_of (Set node key value dt draw) = dt
-time_of (Tick node key dt draw) = dt
-time_of (Hear node dt draw frame) = dt
+time_of (Set node key value dt word) = dt
+time_of (Tick node key dt word) = dt
+time_of (Hear node dt word frame) = dt
 time_of (Last from to key) = 0
 
 -- two nodes are neighbours, unless they are already

@@ -28,7 +28,7 @@ fn set_at(
     nodes: &mut [DripNode],
     at: u8,
     now: u64,
-    draw: u32,
+    word: u32,
     key: u8,
     value: u32,
 ) -> Result<u32, SetFault>
@@ -36,33 +36,33 @@ fn set_at(
     requires moment { now < 2 ^ 62 }
     requires key { key < key_count }
     ensures answer { result ≡ set_answer (node_at nodes.old at) key }
-    ensures after { nodes.new ≡ slice_set nodes.old at (after_set (node_at nodes.old at) now draw key value) }
+    ensures after { nodes.new ≡ slice_set nodes.old at (after_set (node_at nodes.old at) now word key value) }
 {
-    nodes[usize::from(at)].set(now, draw, key, value)
+    nodes[usize::from(at)].set(now, word, key, value)
 }
 
 // A node looks at the clock for a key.
-fn tick_at(nodes: &mut [DripNode], at: u8, now: u64, draw: u32, key: u8) -> Option<Said>
+fn tick_at(nodes: &mut [DripNode], at: u8, now: u64, word: u32, key: u8) -> Option<Said>
     requires node { at < length nodes.old }
     requires moment { now < 2 ^ 62 }
     requires key { key < key_count }
     ensures told { result ≡ told_by (node_at nodes.old at) now key }
-    ensures after { nodes.new ≡ slice_set nodes.old at (node_after_tick (node_at nodes.old at) now draw key) }
+    ensures after { nodes.new ≡ slice_set nodes.old at (node_after_tick (node_at nodes.old at) now word key) }
 {
-    nodes[usize::from(at)].tell(now, draw, key)
+    nodes[usize::from(at)].tell(now, word, key)
 }
 
 // A node hears what a frame tells.
-fn hear_at(nodes: &mut [DripNode], at: u8, now: u64, draw: u32, said: &Said) -> DripHeard
+fn hear_at(nodes: &mut [DripNode], at: u8, now: u64, word: u32, said: &Said) -> DripHeard
     requires node { at < length nodes.old }
     requires moment { now < 2 ^ 62 }
     requires key { said.now.key < key_count }
     ensures answer { result ≡ outcome (cell_of (node_at nodes.old at) said.now.key) said.now.key said.now.entry }
     ensures after { nodes.new ≡ slice_set nodes.old at
         (with_cell (node_at nodes.old at) said.now.key
-        (heard_cell (cell_of (node_at nodes.old at) said.now.key) now draw said.now.entry)) }
+        (heard_cell (cell_of (node_at nodes.old at) said.now.key) now word said.now.entry)) }
 {
-    nodes[usize::from(at)].hear_entry(now, draw, said.key, said.entry)
+    nodes[usize::from(at)].hear_entry(now, word, said.key, said.entry)
 }
 
 // Whether a link joins two nodes.
@@ -134,17 +134,17 @@ impl DripNetwork {
     }
 
     /// A value is set, and what is reported of it.
-    fn set(&mut self, node: u8, key: u8, value: u32, dt: u32, draw: u32) -> DripReport
+    fn set(&mut self, node: u8, key: u8, value: u32, dt: u32, word: u32) -> DripReport
         requires node { node < length self.old.nodes.items }
         requires key { key < key_count }
         requires moment { self.old.moment + dt < 2 ^ 62 }
         requires keyed { AreKeyed self.old.sent.items }
         ensures does { (w : Network) (reported : Bool) → Stands self.old w
-            → Does self.new w reported (Set node key value dt draw) (Some result) }
+            → Does self.new w reported (Set node key value dt word) (Some result) }
         ensures passes { Passes self.old self.new dt }
     {
         self.moment += u64::from(dt);
-        match set_at(&mut self.nodes, node, self.moment, draw, key, value) {
+        match set_at(&mut self.nodes, node, self.moment, word, key, value) {
             Ok(number) => DripReport::Got {
                 node,
                 key,
@@ -163,18 +163,18 @@ impl DripNetwork {
         node: u8,
         key: u8,
         dt: u32,
-        draw: u32,
+        word: u32,
         reported: bool,
     ) -> Result<Option<DripReport>, AllocError>
         requires node { node < length self.old.nodes.items }
         requires key { key < key_count }
         requires moment { self.old.moment + dt < 2 ^ 62 }
         requires keyed { AreKeyed self.old.sent.items }
-        ensures does { (w : Network) → Stands self.old w → IfOk result (Does self.new w reported (Tick node key dt draw)) }
+        ensures does { (w : Network) → Stands self.old w → IfOk result (Does self.new w reported (Tick node key dt word)) }
         ensures passes { OnOk result (Passes self.old self.new dt) }
     {
         self.moment += u64::from(dt);
-        let Some(said) = tick_at(&mut self.nodes, node, self.moment, draw, key) else {
+        let Some(said) = tick_at(&mut self.nodes, node, self.moment, word, key) else {
             return Ok(None);
         };
         self.sent.push(said)?;
@@ -189,15 +189,15 @@ impl DripNetwork {
     }
 
     /// A node hears what a frame tells.
-    fn take(&mut self, node: u8, draw: u32, said: &Said) -> Option<DripReport>
+    fn take(&mut self, node: u8, word: u32, said: &Said) -> Option<DripReport>
         requires node { node < length self.old.nodes.items }
         requires key { said.now.key < key_count }
         requires moment { self.old.moment < 2 ^ 62 }
         requires keyed { AreKeyed self.old.sent.items }
-        ensures hears { (w : Network) → Stands self.old w → Hears self.new w node draw said.now result }
+        ensures hears { (w : Network) → Stands self.old w → Hears self.new w node word said.now result }
         ensures passes { Passes self.old self.new 0 }
     {
-        let DripHeard::Newer { key } = hear_at(&mut self.nodes, node, self.moment, draw, said)
+        let DripHeard::Newer { key } = hear_at(&mut self.nodes, node, self.moment, word, said)
         else {
             return None;
         };
@@ -209,12 +209,12 @@ impl DripNetwork {
     }
 
     /// A node hears a frame by its number, where a neighbour sent it.
-    fn hear(&mut self, node: u8, dt: u32, draw: u32, frame: u32) -> Option<DripReport>
+    fn hear(&mut self, node: u8, dt: u32, word: u32, frame: u32) -> Option<DripReport>
         requires node { node < length self.old.nodes.items }
         requires moment { self.old.moment + dt < 2 ^ 62 }
         requires keyed { AreKeyed self.old.sent.items }
         ensures does { (w : Network) (reported : Bool) → Stands self.old w
-            → Does self.new w reported (Hear node dt draw frame) result }
+            → Does self.new w reported (Hear node dt word frame) result }
         ensures passes { Passes self.old self.new dt }
     {
         self.moment += u64::from(dt);
@@ -230,7 +230,7 @@ impl DripNetwork {
                 cause: DripCause::Link,
             });
         }
-        self.take(node, draw, &said)
+        self.take(node, word, &said)
     }
 
     /// A node hears the last frame of a key that another one sent.
@@ -263,20 +263,20 @@ impl DripNetwork {
                 key,
                 value,
                 dt,
-                draw,
-            } => Ok(Some(self.set(node, key, value, dt, draw))),
+                word,
+            } => Ok(Some(self.set(node, key, value, dt, word))),
             DripEvent::Tick {
                 node,
                 key,
                 dt,
-                draw,
-            } => self.tick(node, key, dt, draw, reported),
+                word,
+            } => self.tick(node, key, dt, word, reported),
             DripEvent::Hear {
                 node,
                 dt,
-                draw,
+                word,
                 frame,
-            } => Ok(self.hear(node, dt, draw, frame)),
+            } => Ok(self.hear(node, dt, word, frame)),
             DripEvent::Last { from, to, key } => Ok(self.hear_last(from, to, key)),
         }
     }

@@ -18,9 +18,9 @@ use Rattle.dg_drip_run.proofs.RanLemmas.{no_items}
 
 -- an event is at a node, so that there is one
 pub some_node : (n : ℕ) (e : DripEvent) → FitsDripEvent n e → 0 < n
-some_node n (Set node key value dt draw) h = let l = h.0 in omega (arith, l)
-some_node n (Tick node key dt draw) h = let l = h.0 in omega (arith, l)
-some_node n (Hear node dt draw frame) h = omega (arith, h)
+some_node n (Set node key value dt word) h = let l = h.0 in omega (arith, l)
+some_node n (Tick node key dt word) h = let l = h.0 in omega (arith, l)
+some_node n (Hear node dt word frame) h = omega (arith, h)
 some_node n (Last from to key) h = let l = h.0 in omega (arith, l)
 
 one_more : (is : List DripItem) (i : DripItem) → length (is ++ i ∷ []) ≡ length is + 1

@@ -26,14 +26,14 @@ told_more w (j ∷ is) i =
 
 -- ---- links stay
 
-heard_links : (w : Network) (node now draw : ℕ) (o : Option Said) → (heard w node now draw o).links ≡ w.links
-heard_links w node now draw None = refl
-heard_links w node now draw (Some s) = refl
+heard_links : (w : Network) (node now word : ℕ) (o : Option Said) → (heard w node now word o).links ≡ w.links
+heard_links w node now word None = refl
+heard_links w node now word (Some s) = refl
 
 applied_links : (w : Network) (e : DripEvent) → (applied w e).links ≡ w.links
-applied_links w (Set node key value dt draw) = refl
-applied_links w (Tick node key dt draw) = refl
-applied_links w (Hear node dt draw frame) = heard_links w node _ draw (from_neighbour w.links node (frame_numbered w.sent frame))
+applied_links w (Set node key value dt word) = refl
+applied_links w (Tick node key dt word) = refl
+applied_links w (Hear node dt word frame) = heard_links w node _ word (from_neighbour w.links node (frame_numbered w.sent frame))
 applied_links w (Last from to key) = heard_links w to w.moment 0 (last_said w.sent from key)
 
 pub run_links : (w : Network) (es : List DripEvent) → (run w es).links ≡ w.links

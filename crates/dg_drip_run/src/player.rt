@@ -115,7 +115,7 @@ impl Player {
             node: a,
             key,
             dt: PACE,
-            draw: 0,
+            word: 0,
         };
         self.apply_event(&tick, false)?;
         self.apply_event(&tick, false)?;

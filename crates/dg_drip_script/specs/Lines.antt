@@ -39,18 +39,18 @@ pair_of nodes fields = field_below nodes fields.0 >>? λ a. field_below nodes fi
 
 abbrev pub drip_tick_of : (nodes : ℕ) → Field × Field × Field × Field → Option DripEvent
 drip_tick_of nodes fields =
-    field_below nodes fields.0 >>? λ node. field_below key_count fields.1 >>? λ key. fields.2 >>? λ dt. fields.3 >>? λ draw.
-    Some (event.Tick node key dt draw)
+    field_below nodes fields.0 >>? λ node. field_below key_count fields.1 >>? λ key. fields.2 >>? λ dt. fields.3 >>? λ word.
+    Some (event.Tick node key dt word)
 
 abbrev pub drip_hear_of : (nodes : ℕ) → Field × Field × Field × Field → Option DripEvent
 drip_hear_of nodes fields =
-    field_below nodes fields.0 >>? λ node. fields.1 >>? λ dt. fields.2 >>? λ draw. from_one_to most_number fields.3 >>?
-    λ frame. Some (event.Hear node dt draw frame)
+    field_below nodes fields.0 >>? λ node. fields.1 >>? λ dt. fields.2 >>? λ word. from_one_to most_number fields.3 >>?
+    λ frame. Some (event.Hear node dt word frame)
 
 abbrev pub set_of : (nodes : ℕ) → Field × Field × Field × Field × Field → Option DripEvent
 set_of nodes fields =
     field_below nodes fields.0 >>? λ node. field_below key_count fields.1 >>? λ key. fields.2 >>? λ value. fields.3 >>? λ dt.
-    fields.4 >>? λ draw. Some (event.Set node key value dt draw)
+    fields.4 >>? λ word. Some (event.Set node key value dt word)
 
 -- ---- each verb's line
 

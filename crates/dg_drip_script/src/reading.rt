@@ -47,12 +47,12 @@ fn tick(nodes: u8, fields: (Field, Field, Field, Field)) -> Option<DripEvent>
     let node = below(fields.0, nodes)?;
     let key = below(fields.1, KEYS as u8)?;
     let dt = fields.2?;
-    let draw = fields.3?;
+    let word = fields.3?;
     Some(DripEvent::Tick {
         node,
         key,
         dt,
-        draw,
+        word,
     })
 }
 
@@ -62,12 +62,12 @@ fn hear(nodes: u8, fields: (Field, Field, Field, Field)) -> Option<DripEvent>
 {
     let node = below(fields.0, nodes)?;
     let dt = fields.1?;
-    let draw = fields.2?;
+    let word = fields.2?;
     let frame = from_one_to(fields.3, u32::MAX)?;
     Some(DripEvent::Hear {
         node,
         dt,
-        draw,
+        word,
         frame,
     })
 }
@@ -80,13 +80,13 @@ fn set(nodes: u8, fields: (Field, Field, Field, Field, Field)) -> Option<DripEve
     let key = below(fields.1, KEYS as u8)?;
     let value = fields.2?;
     let dt = fields.3?;
-    let draw = fields.4?;
+    let word = fields.4?;
     Some(DripEvent::Set {
         node,
         key,
         value,
         dt,
-        draw,
+        word,
     })
 }
 

@@ -50,9 +50,9 @@ with_mode c d v m s x mode same is stands known =
 
 -- ---- it asks for packets
 
-pub receive_turn : (m : MoteState) (s : Store) (r : Receiving) (asking : Reception) (x : Ask) (now draw : ℕ) → m.mode ≡ Receive r → asking ≡ reception r → x ≡ ask_of asking now → mode_tick m.mode m s now draw ≡ receive_by x m r s now draw
-receive_turn m s r asking x now draw is asks e =
-    ap (λ (mode : Mode). mode_tick mode m s now draw) is ∙ ap (λ (a : Ask). receive_by a m r s now draw) (sym (e ∙ ap (λ (a : Reception). ask_of a now) asks))
+pub receive_turn : (m : MoteState) (s : Store) (r : Receiving) (asking : Reception) (x : Ask) (now word : ℕ) → m.mode ≡ Receive r → asking ≡ reception r → x ≡ ask_of asking now → mode_tick m.mode m s now word ≡ receive_by x m r s now word
+receive_turn m s r asking x now word is asks e =
+    ap (λ (mode : Mode). mode_tick mode m s now word) is ∙ ap (λ (a : Ask). receive_by a m r s now word) (sym (e ∙ ap (λ (a : Reception). ask_of a now) asks))
 
 got_by : (x y : Bool) (a b : Reception) → b.got ≡ a.got → (cond x a (cond y a b)).got ≡ a.got
 got_by true y a b e = refl
@@ -91,29 +91,29 @@ gives_up_same a after now is e = e ∙ give_up_by (nat_lt now a.due) (nat_le mos
 
 -- ---- it sends packets
 
-pub transmit_turn : (m : MoteState) (s : Store) (t : Sending) (owed : Owed) (x : Serve) (now draw : ℕ) → m.mode ≡ Transmit t → owed ≡ t.owed → x ≡ serve_of owed now → mode_tick m.mode m s now draw ≡ transmit_by x m t s now draw
-transmit_turn m s t owed x now draw is owes e =
-    ap (λ (mode : Mode). mode_tick mode m s now draw) is ∙ ap (λ (a : Serve). transmit_by a m t s now draw) (sym (e ∙ ap (λ (o : Owed). serve_of o now) owes))
+pub transmit_turn : (m : MoteState) (s : Store) (t : Sending) (owed : Owed) (x : Serve) (now word : ℕ) → m.mode ≡ Transmit t → owed ≡ t.owed → x ≡ serve_of owed now → mode_tick m.mode m s now word ≡ transmit_by x m t s now word
+transmit_turn m s t owed x now word is owes e =
+    ap (λ (mode : Mode). mode_tick mode m s now word) is ∙ ap (λ (a : Serve). transmit_by a m t s now word) (sym (e ∙ ap (λ (o : Owed). serve_of o now) owes))
 
-pub last_sent : (m : MoteState) (t : Sending) (owed after : Owed) (n now draw : ℕ) → owed ≡ t.owed → after ≡ after_next owed now → n ≡ set.len after.left → n ≡ 0 → serving m t now draw ≡ maintains m now draw
-last_sent m t owed after n now draw owes e count none =
+pub last_sent : (m : MoteState) (t : Sending) (owed after : Owed) (n now word : ℕ) → owed ≡ t.owed → after ≡ after_next owed now → n ≡ set.len after.left → n ≡ 0 → serving m t now word ≡ maintains m now word
+last_sent m t owed after n now word owes e count none =
     let same : after ≡ after_next t.owed now = e ∙ ap (λ (o : Owed). after_next o now) owes in
     let zero : set.len (after_next t.owed now).left ≡ 0 = ap (λ (o : Owed). set.len o.left) (sym same) ∙ sym count ∙ none in
-    ap (λ (k : ℕ). cond (k == 0) (maintains m now draw) (record m { mode = Transmit (record t { owed = after_next t.owed now }) })) zero
+    ap (λ (k : ℕ). cond (k == 0) (maintains m now word) (record m { mode = Transmit (record t { owed = after_next t.owed now }) })) zero
 
 not_zero : (k : ℕ) → k ≢ 0 → (k == 0) ≡ false
 not_zero k h = grind (arith, nat_tests)
 
 -- some are left
-pub record SentOn (c : List ℕ) (v : Volume) (s : Store) (m : MoteState) (t : Sending) (image version page : ℕ) (after : Owed) (now draw : ℕ) : Type 0 where
+pub record SentOn (c : List ℕ) (v : Volume) (s : Store) (m : MoteState) (t : Sending) (image version page : ℕ) (after : Owed) (now word : ℕ) : Type 0 where
   pub mode : Mode
-  pub is : serving m t now draw ≡ record m { mode = mode }
+  pub is : serving m t now word ≡ record m { mode = mode }
   pub stands : ModeStands c v s (value.Transmit image version page after) mode
   pub known : NamesKnown m.wide mode
 
-pub sent_on : (c : List ℕ) (v : Volume) (s : Store) (m : MoteState) (t : Sending) (image version page : ℕ) (owed after : Owed) (n now draw : ℕ) → image ≡ t.image → version ≡ t.version → page ≡ t.page → owed ≡ t.owed → Transmits v s t → NamesKnown m.wide (Transmit t)
-    → after ≡ after_next owed now → n ≡ set.len after.left → n ≢ 0 → SentOn c v s m t image version page after now draw
-sent_on c v s m t image version page owed after n now draw of_image of_version of_page owes transmits known e count some =
+pub sent_on : (c : List ℕ) (v : Volume) (s : Store) (m : MoteState) (t : Sending) (image version page : ℕ) (owed after : Owed) (n now word : ℕ) → image ≡ t.image → version ≡ t.version → page ≡ t.page → owed ≡ t.owed → Transmits v s t → NamesKnown m.wide (Transmit t)
+    → after ≡ after_next owed now → n ≡ set.len after.left → n ≢ 0 → SentOn c v s m t image version page after now word
+sent_on c v s m t image version page owed after n now word of_image of_version of_page owes transmits known e count some =
     let next = after_next t.owed now in
     let same : after ≡ next = e ∙ ap (λ (o : Owed). after_next o now) owes in
     let left : n ≡ set.len next.left = count ∙ ap (λ (o : Owed). set.len o.left) same in
@@ -121,7 +121,7 @@ sent_on c v s m t image version page owed after n now draw of_image of_version o
     let x = transmits.serves in
     record {
       mode = Transmit (record t { owed = next });
-      is = ap (λ (b : Bool). cond b (maintains m now draw) (record m { mode = Transmit (record t { owed = next }) })) (not_zero (set.len next.left) more);
+      is = ap (λ (b : Bool). cond b (maintains m now word) (record m { mode = Transmit (record t { owed = next }) })) (not_zero (set.len next.left) more);
       stands = (of_image, of_version, of_page, same, record { free = transmits.free; serves = record { not_golden = x.not_golden; kept = x.kept; held_here = x.held_here; version = x.version; complete = x.complete; owed = more } });
       known = known;
     }
@@ -135,13 +135,13 @@ early_by (Some q) false a x now is e = ⊎_elim (λ h. cc) (λ h. cc) is
 pub nothing_sent : (a after : Owed) (x : Serve) (now : ℕ) → (x ≡ serve.Done) ⊎ (x ≡ serve.Wait) → x ≡ serve_of a now → after ≡ after_next a now → after ≡ a
 nothing_sent a after x now is e next = next ∙ early_by (least a.left) (nat_lt now a.due) a x now is e
 
-idle_by : (m : MoteState) (s : Store) (t : Sending) (x : Serve) (now draw : ℕ) → (x ≡ serve.Done) ⊎ (x ≡ serve.Wait) → transmit_by x m t s now draw ≡ idle m s
-idle_by m s t (serve.Send q) now draw is = ⊎_elim (λ h. cc) (λ h. cc) is
-idle_by m s t serve.Done now draw is = refl
-idle_by m s t serve.Wait now draw is = refl
+idle_by : (m : MoteState) (s : Store) (t : Sending) (x : Serve) (now word : ℕ) → (x ≡ serve.Done) ⊎ (x ≡ serve.Wait) → transmit_by x m t s now word ≡ idle m s
+idle_by m s t (serve.Send q) now word is = ⊎_elim (λ h. cc) (λ h. cc) is
+idle_by m s t serve.Done now word is = refl
+idle_by m s t serve.Wait now word is = refl
 
-pub idle_turn : (m : MoteState) (s : Store) (t : Sending) (owed : Owed) (x : Serve) (now draw : ℕ) → m.mode ≡ Transmit t → owed ≡ t.owed → (x ≡ serve.Done) ⊎ (x ≡ serve.Wait) → x ≡ serve_of owed now → mode_tick m.mode m s now draw ≡ idle m s
-idle_turn m s t owed x now draw is owes none e = transmit_turn m s t owed x now draw is owes e ∙ idle_by m s t x now draw none
+pub idle_turn : (m : MoteState) (s : Store) (t : Sending) (owed : Owed) (x : Serve) (now word : ℕ) → m.mode ≡ Transmit t → owed ≡ t.owed → (x ≡ serve.Done) ⊎ (x ≡ serve.Wait) → x ≡ serve_of owed now → mode_tick m.mode m s now word ≡ idle m s
+idle_turn m s t owed x now word is owes none e = transmit_turn m s t owed x now word is owes e ∙ idle_by m s t x now word none
 
 -- ---- the same mote, and one turn
 

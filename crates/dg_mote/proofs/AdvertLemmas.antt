@@ -151,7 +151,7 @@ record AsksNext (table : List Row) (s t : Store) (i : ℕ) (e : Entry) : Type 0 
   more : length kept.complete < kept.pages
   way : Through (StoreIsWell table) (ask_trail s i e)
 
-module _ (table : List Row) (laws : TakeLaws table) (now draw source : ℕ) where
+module _ (table : List Row) (laws : TakeLaws table) (now word source : ℕ) where
   -- a slot is taken
   asks_new : (s : Store) (i : ℕ) (e : Entry) → StoreIsWell table s → 1 ≤ i → i < images → NamesRow table i e → is_version (held s i) e.version ≡ false → AsksNext table s (last (ask_trail s i e)) i e
   unfolding ask_trail
@@ -199,7 +199,7 @@ module _ (table : List Row) (laws : TakeLaws table) (now draw source : ℕ) wher
         | inr other ↦ asks_new s i e w low high n other
       ]
 
-  asking_keeps : (m : MoteState) (s : Store) (i : ℕ) (e : Entry) → StoreIsWell table s → 1 ≤ i → i < images → NamesRow table i e → advertiser_ahead e (held s i) ≡ true → Keeps (StoreIsWell table) table (asking m s now draw source i e)
+  asking_keeps : (m : MoteState) (s : Store) (i : ℕ) (e : Entry) → StoreIsWell table s → 1 ≤ i → i < images → NamesRow table i e → advertiser_ahead e (held s i) ≡ true → Keeps (StoreIsWell table) table (asking m s now word source i e)
   asking_keeps m s i e w low high n ahead =
       let x = asks_next s i e w low high n ahead in
       record {
@@ -220,12 +220,12 @@ module _ (table : List Row) (laws : TakeLaws table) (now draw source : ℕ) wher
         sent = tt;
       }
 
-  noting_keeps : (own : Bool) (m : MoteState) (timer : Timer) (s : Store) → StoreIsWell table s → Keeps (StoreIsWell table) table (noting m timer s now draw own)
+  noting_keeps : (own : Bool) (m : MoteState) (timer : Timer) (s : Store) → StoreIsWell table s → Keeps (StoreIsWell table) table (noting m timer s now word own)
   noting_keeps true m timer s w = rests (StoreIsWell table) table (record m { mode = Maintain (after_same timer) }) s 0 None _ w tt tt
-  noting_keeps false m timer s w = rests (StoreIsWell table) table (record m { mode = Maintain (after_other timer now draw) }) s 0 None _ w tt tt
+  noting_keeps false m timer s w = rests (StoreIsWell table) table (record m { mode = Maintain (after_other timer now word) }) s 0 None _ w tt tt
 
   module _ (entries : List Entry) (few : length entries < images) (ranges : (i : ℕ) → 1 ≤ i → i ≤ length entries → EntryInRange (entry_for entries i)) (honest : (i : ℕ) → 1 ≤ i → i ≤ length entries → HonestEntry table i (entry_for entries i)) where
-    ahead_keeps : (o : Option ℕ) (m : MoteState) (timer : Timer) (s : Store) (own : Bool) → StoreIsWell table s → ahead_in entries s ≡ o → Keeps (StoreIsWell table) table (by_ahead o m s now draw (offer source entries) (noting m timer s now draw own))
+    ahead_keeps : (o : Option ℕ) (m : MoteState) (timer : Timer) (s : Store) (own : Bool) → StoreIsWell table s → ahead_in entries s ≡ o → Keeps (StoreIsWell table) table (by_ahead o m s now word (offer source entries) (noting m timer s now word own))
     ahead_keeps None m timer s own w is = noting_keeps own m timer s w
     ahead_keeps (Some i) m timer s own w is =
         let a = is_ahead entries s i is in
@@ -247,14 +247,14 @@ module _ (table : List Row) (laws : TakeLaws table) (now draw source : ℕ) wher
           sent = k.sent;
         }
 
-    pub advert_keeps : (mode : Mode) (m : MoteState) (s : Store) (order : Order) → StoreIsWell table s → ModeAgrees table s m.mode → Keeps (StoreIsWell table) table (on_advert mode m s now draw (offer source entries) order)
+    pub advert_keeps : (mode : Mode) (m : MoteState) (s : Store) (order : Order) → StoreIsWell table s → ModeAgrees table s m.mode → Keeps (StoreIsWell table) table (on_advert mode m s now word (offer source entries) order)
     unfolding advert_heard
     advert_keeps (Maintain timer) m s order w own =
         let t = better_trail s order in
         let first = better_well s order w in
         let here = Through-last (StoreIsWell table) t first in
         behind_keeps s t _ first
-        (ahead_begins laws.order_begins laws.clear_begins laws.take_begins (ahead_in entries (last t)) m timer (last t) now draw source entries (is_own entries order m.wide s))
+        (ahead_begins laws.order_begins laws.clear_begins laws.take_begins (ahead_in entries (last t)) m timer (last t) now word source entries (is_own entries order m.wide s))
         (ahead_keeps (ahead_in entries (last t)) m timer (last t) (is_own entries order m.wide s) here refl)
     advert_keeps (Receive r) m s order w own = rests (StoreIsWell table) table m s 0 None _ w own tt
     advert_keeps (Transmit t) m s order w own = rests (StoreIsWell table) table m s 0 None _ w own tt

@@ -35,6 +35,8 @@ use Rattle.dg_volume.specs.Changes.{is_version, order_refusal, stale_or_worn, ta
 use Rattle.dg_volume.specs.Ends.{taken}
 use Rattle.dg_volume.specs.Acts.{Acted, Stops}
 use Rattle.dg_volume.specs.Trails.{BeginsAt, order_trail, take_trail, done_of}
+use Rattle.dg_volume.specs.declared.volume.OrderFault.{OrderFault}
+use Rattle.dg_volume.specs.declared.volume.OrderFault.TheVariants as order_fault
 use Rattle.dg_volume.specs.declared.volume.TakeFault.{TakeFault}
 use Rattle.dg_volume.specs.declared.volume.TakeFault.TheVariants as take_fault
 use Rattle.dg_volume.specs.declared.volume.Volume.{Volume}
@@ -72,16 +74,19 @@ order_free s order e =
     let room : 1 ≤ s.room = grind (arith, nat_tests) in
     passed (nat_le order.number s.order.number) _ _ (grind (arith, nat_tests)) ∙ passed (s.room == 0) _ _ (grind (arith, nat_tests))
 
+pub order_stops_alone : (fault : OrderFault) → (fault ≢ order_fault.Stopped → ⊥) → fault ≡ order_fault.Stopped
+order_stops_alone order_fault.Stopped none = refl
+order_stops_alone (order_fault.Worn room) none = absurd (none (λ e. cc))
+order_stops_alone (order_fault.OldOrder kept) none = absurd (none (λ e. cc))
+
 -- ---- a slot that is opened
 
-pub not_stale : (e : TakeFault) (k : ℕ) → e ≡ take_fault.Stale k → e ≢ take_fault.Stopped
-not_stale e k is other = cc
-
-pub not_reserved : (e : TakeFault) → e ≡ take_fault.Reserved → e ≢ take_fault.Stopped
-not_reserved e is other = cc
-
-pub not_worn : (e : TakeFault) (k : ℕ) → e ≡ take_fault.Worn k → e ≢ take_fault.Stopped
-not_worn e k is other = cc
+-- a slot that may be taken: nothing but a stop keeps it from being done
+pub take_stops_alone : (fault : TakeFault) → (fault ≢ take_fault.Stopped → ⊥) → fault ≡ take_fault.Stopped
+take_stops_alone take_fault.Stopped none = refl
+take_stops_alone (take_fault.Stale kept) none = absurd (none (λ e. cc))
+take_stops_alone take_fault.Reserved none = absurd (none (λ e. cc))
+take_stops_alone (take_fault.Worn room) none = absurd (none (λ e. cc))
 
 pub not_both : {A : Type 0} (o : Option A) (x : A) → o ≡ Some x → o ≡ None → ⊥
 not_both o x some none = cc
@@ -227,14 +232,14 @@ maintain_free c v m s timer is mode = free_by v.mode (subst (λ (y : Mode). Mode
     free_by (value.Receive a b d f) stands = absurd stands
     free_by (value.Transmit a b d f) stands = absurd stands
 
-pub asking_done : (a b : Device) (v : Mote) (w : Volume) (m : MoteState) (s : Store) (timer : Timer) (now draw source i page : ℕ) (e : Entry) (asks : Reception) (job : PageJob) → IsMote a.image v m s → m.mode ≡ Maintain timer → MayTake s i e → i ≤ known_images m.wide
-    → Acted (ask_trail s i e) a b w → Begun b.image (last (ask_trail s i e)) i e job → is_lent w i ≡ true → ((k : ℕ) → k ≢ i → is_lent w k ≡ is_lent v.volume k) → asks ≡ reception_begun now draw → page ≡ done_told (slot_of job)
-    → Done (asking m s now draw source i e) a b (record v { volume = w; mode = value.Receive e.version source asks job }) (heard.Asks i page)
-asking_done a b v w m s timer now draw source i page e asks job is mode may high acted started lent others asked pages =
+pub asking_done : (a b : Device) (v : Mote) (w : Volume) (m : MoteState) (s : Store) (timer : Timer) (now word source i page : ℕ) (e : Entry) (asks : Reception) (job : PageJob) → IsMote a.image v m s → m.mode ≡ Maintain timer → MayTake s i e → i ≤ known_images m.wide
+    → Acted (ask_trail s i e) a b w → Begun b.image (last (ask_trail s i e)) i e job → is_lent w i ≡ true → ((k : ℕ) → k ≢ i → is_lent w k ≡ is_lent v.volume k) → asks ≡ reception_begun now word → page ≡ done_told (slot_of job)
+    → Done (asking m s now word source i e) a b (record v { volume = w; mode = value.Receive e.version source asks job }) (heard.Asks i page)
+asking_done a b v w m s timer now word source i page e asks job is mode may high acted started lent others asked pages =
     let t = last (ask_trail s i e) in
     let free = maintain_free a.image v m s timer is mode in
     let done : length started.kept.complete ≡ done_of (held t i) = sym (ap done_of started.held_here) in
-    let reception_is : reception_begun now draw ≡ record { got = came no_packets; tries = 0; due = (reception_begun now draw).due } = ap (λ g. record { got = g; tries = 0; due = (reception_begun now draw).due }) (sym none_came) in
+    let reception_is : reception_begun now word ≡ record { got = came no_packets; tries = 0; due = (reception_begun now word).due } = ap (λ g. record { got = g; tries = 0; due = (reception_begun now word).due }) (sym none_came) in
     let none : set.len (came no_packets) ≡ 0 = ap set.len none_came ∙ set.len-empty nat_cmp in
     record {
       ran = acted.ran;
@@ -281,16 +286,16 @@ may_take m s entries now i e count range low high is ahead can =
     let fits : EntryInRange e = subst EntryInRange (sym is) (All-get_or EntryInRange entries (i - 1) no_entry (omega (arith, low, high)) range) in
     record { not_golden = low; known = omega (arith, high, count); tells = tells_ahead e (held s i) fits here; ahead = here; free = (and_parts (may_ask m.noted now i) (is_version (held s i) e.version || nat_le 2 s.room) can).1 }
 
-pub follows_none : (m : MoteState) (timer : Timer) (s : Store) (now draw source : ℕ) (entries : List Entry) (own : Bool) → ahead_in entries s ≡ None → by_ahead (ahead_in entries s) m s now draw (offer source entries) (noting m timer s now draw own) ≡ noting m timer s now draw own
-follows_none m timer s now draw source entries own none = ap (λ (o : Option ℕ). by_ahead o m s now draw (offer source entries) (noting m timer s now draw own)) none
+pub follows_none : (m : MoteState) (timer : Timer) (s : Store) (now word source : ℕ) (entries : List Entry) (own : Bool) → ahead_in entries s ≡ None → by_ahead (ahead_in entries s) m s now word (offer source entries) (noting m timer s now word own) ≡ noting m timer s now word own
+follows_none m timer s now word source entries own none = ap (λ (o : Option ℕ). by_ahead o m s now word (offer source entries) (noting m timer s now word own)) none
 
-pub follows_noted : (m : MoteState) (timer : Timer) (s : Store) (now draw source i : ℕ) (entries : List Entry) (e : Entry) (own : Bool) → ahead_in entries s ≡ Some i → e ≡ entry_for entries i → asks m s now i e ≡ false → by_ahead (ahead_in entries s) m s now draw (offer source entries) (noting m timer s now draw own) ≡ noting m timer s now draw own
-follows_noted m timer s now draw source i entries e own found is cannot =
-    ap (λ (o : Option ℕ). by_ahead o m s now draw (offer source entries) (noting m timer s now draw own)) found ∙ passed (asks m s now i (entry_for entries i)) _ _ (ap (λ x. asks m s now i x) (sym is) ∙ cannot)
+pub follows_noted : (m : MoteState) (timer : Timer) (s : Store) (now word source i : ℕ) (entries : List Entry) (e : Entry) (own : Bool) → ahead_in entries s ≡ Some i → e ≡ entry_for entries i → asks m s now i e ≡ false → by_ahead (ahead_in entries s) m s now word (offer source entries) (noting m timer s now word own) ≡ noting m timer s now word own
+follows_noted m timer s now word source i entries e own found is cannot =
+    ap (λ (o : Option ℕ). by_ahead o m s now word (offer source entries) (noting m timer s now word own)) found ∙ passed (asks m s now i (entry_for entries i)) _ _ (ap (λ x. asks m s now i x) (sym is) ∙ cannot)
 
-pub follows_asking : (m : MoteState) (timer : Timer) (s : Store) (now draw source i : ℕ) (entries : List Entry) (e : Entry) (own : Bool) → ahead_in entries s ≡ Some i → e ≡ entry_for entries i → asks m s now i e ≡ true → by_ahead (ahead_in entries s) m s now draw (offer source entries) (noting m timer s now draw own) ≡ asking m s now draw source i e
-follows_asking m timer s now draw source i entries e own found is can =
-    ap (λ (o : Option ℕ). by_ahead o m s now draw (offer source entries) (noting m timer s now draw own)) found ∙ chosen (asks m s now i (entry_for entries i)) _ _ (ap (λ x. asks m s now i x) (sym is) ∙ can) ∙ ap (λ x. asking m s now draw source i x) (sym is)
+pub follows_asking : (m : MoteState) (timer : Timer) (s : Store) (now word source i : ℕ) (entries : List Entry) (e : Entry) (own : Bool) → ahead_in entries s ≡ Some i → e ≡ entry_for entries i → asks m s now i e ≡ true → by_ahead (ahead_in entries s) m s now word (offer source entries) (noting m timer s now word own) ≡ asking m s now word source i e
+follows_asking m timer s now word source i entries e own found is can =
+    ap (λ (o : Option ℕ). by_ahead o m s now word (offer source entries) (noting m timer s now word own)) found ∙ chosen (asks m s now i (entry_for entries i)) _ _ (ap (λ x. asks m s now i x) (sym is) ∙ can) ∙ ap (λ x. asking m s now word source i x) (sym is)
 
 -- ---- an advert that is compared
 
@@ -308,17 +313,17 @@ ask_begins takes s i e =
     let first = slot_begins takes s i e in
     subst (BeginsAt s) (sym (ask_is s i e)) (record { first = first.first; works = EachWorks-joined t (resting (last t) 1) first.works (EachWorks-resting (last t) 1) })
 
-noting_begins : (m : MoteState) (timer : Timer) (s : Store) (now draw : ℕ) (own : Bool) → BeginsAt s (noting m timer s now draw own).trail
-noting_begins m timer s now draw true = resting_begins s 0
-noting_begins m timer s now draw false = resting_begins s 0
+noting_begins : (m : MoteState) (timer : Timer) (s : Store) (now word : ℕ) (own : Bool) → BeginsAt s (noting m timer s now word own).trail
+noting_begins m timer s now word true = resting_begins s 0
+noting_begins m timer s now word false = resting_begins s 0
 
-pub follow_begins : TakeBegins → (o : Option ℕ) (m : MoteState) (timer : Timer) (s : Store) (now draw source : ℕ) (entries : List Entry) (own : Bool) → BeginsAt s (by_ahead o m s now draw (offer source entries) (noting m timer s now draw own)).trail
-follow_begins takes None m timer s now draw source entries own = noting_begins m timer s now draw own
-follow_begins takes (Some i) m timer s now draw source entries own = by_test (asks m s now i (entry_for entries i))
+pub follow_begins : TakeBegins → (o : Option ℕ) (m : MoteState) (timer : Timer) (s : Store) (now word source : ℕ) (entries : List Entry) (own : Bool) → BeginsAt s (by_ahead o m s now word (offer source entries) (noting m timer s now word own)).trail
+follow_begins takes None m timer s now word source entries own = noting_begins m timer s now word own
+follow_begins takes (Some i) m timer s now word source entries own = by_test (asks m s now i (entry_for entries i))
   where
-    by_test : (b : Bool) → BeginsAt s (cond b (asking m s now draw source i (entry_for entries i)) (noting m timer s now draw own)).trail
+    by_test : (b : Bool) → BeginsAt s (cond b (asking m s now word source i (entry_for entries i)) (noting m timer s now word own)).trail
     by_test true = ask_begins takes s i (entry_for entries i)
-    by_test false = noting_begins m timer s now draw own
+    by_test false = noting_begins m timer s now word own
 
 maintains_still : (c d : List ℕ) (v w : Volume) (s t : Store) (timer : Timer) (x : ModeValue) → NothingLent w → ModeStands c v s x (Maintain timer) → ModeStands d w t x (Maintain timer)
 maintains_still c d v w s t timer (value.Maintain trickle) free stands = (stands.0, free)
@@ -337,9 +342,9 @@ better_mote a b v w m s timer order is mode acted lent =
 pub said_same : (own : Bool) (entries : List Entry) (order : Order) (wide : Bool) (m : MoteState) (s : Store) → wide ≡ m.wide → own ≡ is_own entries order wide s → own ≡ is_own entries order m.wide s
 said_same own entries order wide m s alike e = e ∙ ap (λ w. is_own entries order w s) alike
 
-pub advert_is : (m : MoteState) (timer : Timer) (s : Store) (now draw source : ℕ) (entries : List Entry) (order : Order) (own : Bool) → own ≡ is_own entries order m.wide s
-    → advert_heard m timer s now draw (offer source entries) order ≡ turn_behind (better_trail s order) (by_ahead (ahead_in entries (last (better_trail s order))) m (last (better_trail s order)) now draw (offer source entries) (noting m timer (last (better_trail s order)) now draw own))
+pub advert_is : (m : MoteState) (timer : Timer) (s : Store) (now word source : ℕ) (entries : List Entry) (order : Order) (own : Bool) → own ≡ is_own entries order m.wide s
+    → advert_heard m timer s now word (offer source entries) order ≡ turn_behind (better_trail s order) (by_ahead (ahead_in entries (last (better_trail s order))) m (last (better_trail s order)) now word (offer source entries) (noting m timer (last (better_trail s order)) now word own))
 unfolding advert_heard
-advert_is m timer s now draw source entries order own e =
+advert_is m timer s now word source entries order own e =
     let t = better_trail s order in
-    ap (λ (b : Bool). turn_behind t (by_ahead (ahead_in entries (last t)) m (last t) now draw (offer source entries) (noting m timer (last t) now draw b))) (sym e)
+    ap (λ (b : Bool). turn_behind t (by_ahead (ahead_in entries (last t)) m (last t) now word (offer source entries) (noting m timer (last t) now word b))) (sym e)

@@ -58,29 +58,29 @@ module _ (order : (s : Store) (o : Order) → BeginsAt s (order_trail s o)) (cle
 
   maintain_begins : (a : Act) (m : MoteState) (s : Store) → Begins s (maintain_by a m s)
   maintain_begins act.Send m s = resting_begins s 0
-  maintain_begins act.Suppressed m s = resting_begins s 0
+  maintain_begins act.Quiet m s = resting_begins s 0
   maintain_begins act.Expired m s = resting_begins s 0
   maintain_begins act.Nothing m s = resting_begins s 0
 
-  receive_begins : (a : Ask) (m : MoteState) (r : Receiving) (s : Store) (now draw : ℕ) → Begins s (receive_by a m r s now draw)
-  receive_begins (ask.Request want) m r s now draw = resting_begins s 0
-  receive_begins ask.GiveUp m r s now draw = resting_begins s 0
-  receive_begins ask.Wait m r s now draw = resting_begins s 0
+  receive_begins : (a : Ask) (m : MoteState) (r : Receiving) (s : Store) (now word : ℕ) → Begins s (receive_by a m r s now word)
+  receive_begins (ask.Request want) m r s now word = resting_begins s 0
+  receive_begins ask.GiveUp m r s now word = resting_begins s 0
+  receive_begins ask.Wait m r s now word = resting_begins s 0
 
-  transmit_begins : (a : Serve) (m : MoteState) (t : Sending) (s : Store) (now draw : ℕ) → Begins s (transmit_by a m t s now draw)
-  transmit_begins (serve.Send q) m t s now draw = resting_begins s 0
-  transmit_begins serve.Done m t s now draw = resting_begins s 0
-  transmit_begins serve.Wait m t s now draw = resting_begins s 0
+  transmit_begins : (a : Serve) (m : MoteState) (t : Sending) (s : Store) (now word : ℕ) → Begins s (transmit_by a m t s now word)
+  transmit_begins (serve.Send q) m t s now word = resting_begins s 0
+  transmit_begins serve.Done m t s now word = resting_begins s 0
+  transmit_begins serve.Wait m t s now word = resting_begins s 0
 
-  mode_begins : (mode : Mode) (m : MoteState) (s : Store) (now draw : ℕ) → Begins s (mode_tick mode m s now draw)
-  mode_begins (Maintain timer) m s now draw =
-      cond_both (order_waits s) _ _ (Begins s) (λ _. resting_begins s 0) (λ _. maintain_begins (act_of timer now) (record m { mode = Maintain (after_tick timer now draw) }) s)
-  mode_begins (Receive r) m s now draw = receive_begins (ask_of (reception r) now) m r s now draw
-  mode_begins (Transmit t) m s now draw = transmit_begins (serve_of t.owed now) m t s now draw
+  mode_begins : (mode : Mode) (m : MoteState) (s : Store) (now word : ℕ) → Begins s (mode_tick mode m s now word)
+  mode_begins (Maintain timer) m s now word =
+      cond_both (order_waits s) _ _ (Begins s) (λ _. resting_begins s 0) (λ _. maintain_begins (act_of timer now) (record m { mode = Maintain (after_tick timer now word) }) s)
+  mode_begins (Receive r) m s now word = receive_begins (ask_of (reception r) now) m r s now word
+  mode_begins (Transmit t) m s now word = transmit_begins (serve_of t.owed now) m t s now word
 
-  pub tick_begins : (m : MoteState) (s : Store) (now draw : ℕ) → Begins s (tick_of m s now draw)
+  pub tick_begins : (m : MoteState) (s : Store) (now word : ℕ) → Begins s (tick_of m s now word)
   unfolding tick_of
-  tick_begins m s now draw = cond_both (clears m s now) _ _ (Begins s) (λ _. clear s) (λ _. mode_begins m.mode m s now draw)
+  tick_begins m s now word = cond_both (clears m s now) _ _ (Begins s) (λ _. clear s) (λ _. mode_begins m.mode m s now word)
 
   -- ---- adverts
 
@@ -95,22 +95,22 @@ module _ (order : (s : Store) (o : Order) → BeginsAt s (order_trail s o)) (cle
       cond_both (is_version (held s i) e.version) (resting s 1) (joined t (resting (last t) 1)) (BeginsAt s) (λ _. resting_begins s 1)
       (λ _. joined_begins s t (resting (last t) 1) (take s (outline i e)) (resting_begins (last t) 1))
 
-  noting_begins : (own : Bool) (m : MoteState) (timer : Timer) (s : Store) (now draw : ℕ) → Begins s (noting m timer s now draw own)
-  noting_begins true m timer s now draw = resting_begins s 0
-  noting_begins false m timer s now draw = resting_begins s 0
+  noting_begins : (own : Bool) (m : MoteState) (timer : Timer) (s : Store) (now word : ℕ) → Begins s (noting m timer s now word own)
+  noting_begins true m timer s now word = resting_begins s 0
+  noting_begins false m timer s now word = resting_begins s 0
 
-  pub ahead_begins : (o : Option ℕ) (m : MoteState) (timer : Timer) (s : Store) (now draw source : ℕ) (entries : List Entry) (own : Bool) → Begins s (by_ahead o m s now draw (offer source entries) (noting m timer s now draw own))
-  ahead_begins None m timer s now draw source entries own = noting_begins own m timer s now draw
-  ahead_begins (Some i) m timer s now draw source entries own =
-      cond_both (asks m s now i (entry_for entries i)) _ _ (Begins s) (λ _. ask_begins s i (entry_for entries i)) (λ _. noting_begins own m timer s now draw)
+  pub ahead_begins : (o : Option ℕ) (m : MoteState) (timer : Timer) (s : Store) (now word source : ℕ) (entries : List Entry) (own : Bool) → Begins s (by_ahead o m s now word (offer source entries) (noting m timer s now word own))
+  ahead_begins None m timer s now word source entries own = noting_begins own m timer s now word
+  ahead_begins (Some i) m timer s now word source entries own =
+      cond_both (asks m s now i (entry_for entries i)) _ _ (Begins s) (λ _. ask_begins s i (entry_for entries i)) (λ _. noting_begins own m timer s now word)
 
-  advert_begins : (mode : Mode) (m : MoteState) (s : Store) (now draw source : ℕ) (entries : List Entry) (o : Order) → Begins s (on_advert mode m s now draw (offer source entries) o)
+  advert_begins : (mode : Mode) (m : MoteState) (s : Store) (now word source : ℕ) (entries : List Entry) (o : Order) → Begins s (on_advert mode m s now word (offer source entries) o)
   unfolding advert_heard
-  advert_begins (Maintain timer) m s now draw source entries o =
+  advert_begins (Maintain timer) m s now word source entries o =
       let t = better_trail s o in
-      joined_begins s t _ (better_begins s o) (ahead_begins (ahead_in entries (last t)) m timer (last t) now draw source entries (is_own entries o m.wide s))
-  advert_begins (Receive r) m s now draw source entries o = resting_begins s 0
-  advert_begins (Transmit t) m s now draw source entries o = resting_begins s 0
+      joined_begins s t _ (better_begins s o) (ahead_begins (ahead_in entries (last t)) m timer (last t) now word source entries (is_own entries o m.wide s))
+  advert_begins (Receive r) m s now word source entries o = resting_begins s 0
+  advert_begins (Transmit t) m s now word source entries o = resting_begins s 0
 
   -- ---- requests
 
@@ -126,37 +126,37 @@ module _ (order : (s : Store) (o : Order) → BeginsAt s (order_trail s o)) (cle
 
   -- ---- packets
 
-  seal_begins : (o : Option Held) (m : MoteState) (r : Receiving) (s : Store) (now draw : ℕ) (page : List ℕ) → Begins s (seal_by o m r s now draw page)
-  seal_begins None m r s now draw page = resting_begins s 0
-  seal_begins (Some h) m r s now draw page =
+  seal_begins : (o : Option Held) (m : MoteState) (r : Receiving) (s : Store) (now word : ℕ) (page : List ℕ) → Begins s (seal_by o m r s now word page)
+  seal_begins None m r s now word page = resting_begins s 0
+  seal_begins (Some h) m r s now word page =
       cond_both (may_seal r.image h page) _ _ (Begins s)
       (λ _. joined_begins s (resting s 1) _ (resting_begins s 1) (sealed_begins s (paged r.image page s)))
       (λ _. resting_begins s 1)
 
-  takes_begins : (m : MoteState) (r : Receiving) (s : Store) (now draw q : ℕ) (bytes : List ℕ) → Begins s (takes m r s now draw q bytes)
-  takes_begins m r s now draw q bytes =
+  takes_begins : (m : MoteState) (r : Receiving) (s : Store) (now word q : ℕ) (bytes : List ℕ) → Begins s (takes m r s now word q bytes)
+  takes_begins m r s now word q bytes =
       let a = accepted r now q bytes in
-      cond_both (set.len (came a.packets) == packets) _ _ (Begins s) (λ _. seal_begins (held s r.image) m r s now draw (page_from a.packets)) (λ _. resting_begins s 1)
+      cond_both (set.len (came a.packets) == packets) _ _ (Begins s) (λ _. seal_begins (held s r.image) m r s now word (page_from a.packets)) (λ _. resting_begins s 1)
 
-  packet_begins : (mode : Mode) (m : MoteState) (s : Store) (now draw image version page q : ℕ) (bytes : List ℕ) → Begins s (on_packet mode m s now draw (page_packet image version page q bytes))
-  packet_begins (Receive r) m s now draw image version page q bytes =
-      cond_both (is_wanted r image version page q) _ _ (Begins s) (λ _. takes_begins m r s now draw q bytes) (λ _. resting_begins s 0)
-  packet_begins (Maintain timer) m s now draw image version page q bytes =
+  packet_begins : (mode : Mode) (m : MoteState) (s : Store) (now word image version page q : ℕ) (bytes : List ℕ) → Begins s (on_packet mode m s now word (page_packet image version page q bytes))
+  packet_begins (Receive r) m s now word image version page q bytes =
+      cond_both (is_wanted r image version page q) _ _ (Begins s) (λ _. takes_begins m r s now word q bytes) (λ _. resting_begins s 0)
+  packet_begins (Maintain timer) m s now word image version page q bytes =
       cond_both (concerns s image version page) _ _ (Begins s) (λ _. resting_begins s 0) (λ _. resting_begins s 0)
-  packet_begins (Transmit t) m s now draw image version page q bytes = resting_begins s 0
+  packet_begins (Transmit t) m s now word image version page q bytes = resting_begins s 0
 
   -- ---- frames
 
-  message_begins : (message : Message) (m : MoteState) (s : Store) (now draw : ℕ) → Begins s (on_message m s now draw message)
-  message_begins (Advert source entries o) m s now draw = advert_begins m.mode m s now draw source entries o
-  message_begins (Request source to image version page want) m s now draw = request_begins m s now to image version page want
-  message_begins (Packet source image version page packet bytes) m s now draw = packet_begins m.mode m s now draw image version page packet bytes
-  message_begins (Wide source entries o) m s now draw = advert_begins m.mode m s now draw source entries o
+  message_begins : (message : Message) (m : MoteState) (s : Store) (now word : ℕ) → Begins s (on_message m s now word message)
+  message_begins (Advert source entries o) m s now word = advert_begins m.mode m s now word source entries o
+  message_begins (Request source to image version page want) m s now word = request_begins m s now to image version page want
+  message_begins (Packet source image version page packet bytes) m s now word = packet_begins m.mode m s now word image version page packet bytes
+  message_begins (Wide source entries o) m s now word = advert_begins m.mode m s now word source entries o
 
-  frame_begins : (r : Result Message FrameFault) (m : MoteState) (s : Store) (now draw : ℕ) → Begins s (by_message r m s now draw)
-  frame_begins (Err fault) m s now draw = resting_begins s 0
-  frame_begins (Ok message) m s now draw = cond_both (source_of message == m.id) _ _ (Begins s) (λ _. resting_begins s 0) (λ _. message_begins message m s now draw)
+  frame_begins : (r : Result Message FrameFault) (m : MoteState) (s : Store) (now word : ℕ) → Begins s (by_message r m s now word)
+  frame_begins (Err fault) m s now word = resting_begins s 0
+  frame_begins (Ok message) m s now word = cond_both (source_of message == m.id) _ _ (Begins s) (λ _. resting_begins s 0) (λ _. message_begins message m s now word)
 
-  pub heard_begins : (m : MoteState) (s : Store) (now draw : ℕ) (bytes : List ℕ) → Begins s (heard_of m s now draw bytes)
+  pub heard_begins : (m : MoteState) (s : Store) (now word : ℕ) (bytes : List ℕ) → Begins s (heard_of m s now word bytes)
   unfolding heard_of
-  heard_begins m s now draw bytes = frame_begins (message_of bytes m.wide) m s now draw
+  heard_begins m s now word bytes = frame_begins (message_of bytes m.wide) m s now word

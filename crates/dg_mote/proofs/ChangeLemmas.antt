@@ -62,31 +62,31 @@ Rests s step = step.trail ≡ resting s 0
 
 maintain_rests : (a : Act) (m : MoteState) (s : Store) → Rests s (maintain_by a m s)
 maintain_rests act.Send m s = refl
-maintain_rests act.Suppressed m s = refl
+maintain_rests act.Quiet m s = refl
 maintain_rests act.Expired m s = refl
 maintain_rests act.Nothing m s = refl
 
-receive_rests : (a : Ask) (m : MoteState) (r : Receiving) (s : Store) (now draw : ℕ) → Rests s (receive_by a m r s now draw)
-receive_rests (ask.Request want) m r s now draw = refl
-receive_rests ask.GiveUp m r s now draw = refl
-receive_rests ask.Wait m r s now draw = refl
+receive_rests : (a : Ask) (m : MoteState) (r : Receiving) (s : Store) (now word : ℕ) → Rests s (receive_by a m r s now word)
+receive_rests (ask.Request want) m r s now word = refl
+receive_rests ask.GiveUp m r s now word = refl
+receive_rests ask.Wait m r s now word = refl
 
-transmit_rests : (a : Serve) (m : MoteState) (t : Sending) (s : Store) (now draw : ℕ) → Rests s (transmit_by a m t s now draw)
-transmit_rests (serve.Send q) m t s now draw = refl
-transmit_rests serve.Done m t s now draw = refl
-transmit_rests serve.Wait m t s now draw = refl
+transmit_rests : (a : Serve) (m : MoteState) (t : Sending) (s : Store) (now word : ℕ) → Rests s (transmit_by a m t s now word)
+transmit_rests (serve.Send q) m t s now word = refl
+transmit_rests serve.Done m t s now word = refl
+transmit_rests serve.Wait m t s now word = refl
 
-mode_rests : (mode : Mode) (m : MoteState) (s : Store) (now draw : ℕ) → Rests s (mode_tick mode m s now draw)
-mode_rests (Maintain timer) m s now draw = cond_both (order_waits s) _ _ (Rests s) (λ _. refl) (λ _. maintain_rests (act_of timer now) (record m { mode = Maintain (after_tick timer now draw) }) s)
-mode_rests (Receive r) m s now draw = receive_rests (ask_of (reception r) now) m r s now draw
-mode_rests (Transmit t) m s now draw = transmit_rests (serve_of t.owed now) m t s now draw
+mode_rests : (mode : Mode) (m : MoteState) (s : Store) (now word : ℕ) → Rests s (mode_tick mode m s now word)
+mode_rests (Maintain timer) m s now word = cond_both (order_waits s) _ _ (Rests s) (λ _. refl) (λ _. maintain_rests (act_of timer now) (record m { mode = Maintain (after_tick timer now word) }) s)
+mode_rests (Receive r) m s now word = receive_rests (ask_of (reception r) now) m r s now word
+mode_rests (Transmit t) m s now word = transmit_rests (serve_of t.owed now) m t s now word
 
-pub tick_clears : (m : MoteState) (s : Store) (now draw : ℕ) → Through (MayClear s) (tick_of m s now draw).trail
+pub tick_clears : (m : MoteState) (s : Store) (now word : ℕ) → Through (MayClear s) (tick_of m s now word).trail
 unfolding tick_of
-tick_clears m s now draw =
+tick_clears m s now word =
     cond_both (clears m s now) _ _ (λ (step : MoteStep Did). Through (MayClear s) step.trail)
     (λ _. Through-stepping (MayClear s) s (commit_operations s.room) (gesture_cleared s) (inl refl) (inr refl))
-    (λ _. subst (Through (MayClear s)) (sym (mode_rests m.mode m s now draw)) (Through-resting (MayClear s) s 0 (inl refl)))
+    (λ _. subst (Through (MayClear s)) (sym (mode_rests m.mode m s now word)) (Through-resting (MayClear s) s 0 (inl refl)))
 
 -- ---- requests
 
@@ -95,17 +95,17 @@ to_it_rests (Maintain timer) m s now image version page want = cond_both (can_se
 to_it_rests (Transmit t) m s now image version page want = cond_both (is_served t image version page) _ _ (λ (step : MoteStep Heard). Rests s step) (λ _. refl) (λ _. refl)
 to_it_rests (Receive r) m s now image version page want = refl
 
-request_by_rests : (m : MoteState) (s : Store) (now draw source to image version page : ℕ) (want : Numbers) → Rests s (by_message (Ok (Request source to image version page want)) m s now draw)
-request_by_rests m s now draw source to image version page want =
+request_by_rests : (m : MoteState) (s : Store) (now word source to image version page : ℕ) (want : Numbers) → Rests s (by_message (Ok (Request source to image version page want)) m s now word)
+request_by_rests m s now word source to image version page want =
     cond_both (source == m.id) _ _ (λ (step : MoteStep Heard). Rests s step) (λ _. refl)
     (λ _. cond_both (to == m.id) _ _ (λ (step : MoteStep Heard). Rests s step) (λ _. to_it_rests m.mode m s now image version page want)
     (λ _. cond_both (concerns s image version page) _ _ (λ (step : MoteStep Heard). Rests s step) (λ _. refl) (λ _. refl)))
 
-pub request_rests : (m : MoteState) (s : Store) (now draw : ℕ) (bytes : List ℕ) (source to image version page : ℕ) (want : Numbers)
-    → message_of bytes m.wide ≡ Ok (Request source to image version page want) → (heard_of m s now draw bytes).trail ≡ resting s 0
+pub request_rests : (m : MoteState) (s : Store) (now word : ℕ) (bytes : List ℕ) (source to image version page : ℕ) (want : Numbers)
+    → message_of bytes m.wide ≡ Ok (Request source to image version page want) → (heard_of m s now word bytes).trail ≡ resting s 0
 unfolding heard_of
-request_rests m s now draw bytes source to image version page want is =
-    subst (λ (r : Result Message FrameFault). Rests s (by_message r m s now draw)) (sym is) (request_by_rests m s now draw source to image version page want)
+request_rests m s now word bytes source to image version page want is =
+    subst (λ (r : Result Message FrameFault). Rests s (by_message r m s now word)) (sym is) (request_by_rests m s now word source to image version page want)
 
 -- ---- packets
 
@@ -123,20 +123,20 @@ module _ (m : MoteState) (s : Store) (image version page q : ℕ) where
       sym (ap is_some (get_or-set_other r.packets q p (Some bytes) None other)) ∙ ap is_some c.1))
       (cases_eq p q)
 
-  seal_turns : (o : Option Held) (r : Receiving) (now draw : ℕ) (content : List ℕ) → Completes m.mode image version page q s (paged r.image content s) → Through Turns (seal_by o m r s now draw content).trail
-  seal_turns None r now draw content all = rests_turns 0
-  seal_turns (Some h) r now draw content all =
+  seal_turns : (o : Option Held) (r : Receiving) (now word : ℕ) (content : List ℕ) → Completes m.mode image version page q s (paged r.image content s) → Through Turns (seal_by o m r s now word content).trail
+  seal_turns None r now word content all = rests_turns 0
+  seal_turns (Some h) r now word content all =
       cond_both (may_seal r.image h content) _ _ (λ (step : MoteStep Heard). Through Turns step.trail)
       (λ _. Through-joined Turns (resting s 1) (stepping s 1 (paged r.image content s)) (rests_turns 1) (Through-stepping Turns s 1 (paged r.image content s) (inl refl) (inr all)))
       (λ _. rests_turns 1)
 
-  packet_turns : (mode : Mode) (now draw : ℕ) (bytes : List ℕ) → m.mode ≡ mode → Through Turns (on_packet mode m s now draw (page_packet image version page q bytes)).trail
-  packet_turns (Receive r) now draw bytes is =
+  packet_turns : (mode : Mode) (now word : ℕ) (bytes : List ℕ) → m.mode ≡ mode → Through Turns (on_packet mode m s now word (page_packet image version page q bytes)).trail
+  packet_turns (Receive r) now word bytes is =
       let ps = put_packet r.packets q bytes in
       cond_both (is_wanted r image version page q) _ _ (λ (step : MoteStep Heard). Through Turns step.trail)
       (λ w. let known = wanted r image version page q w in
       cond_both (set.len (came ps) == packets) _ _ (λ (step : MoteStep Heard). Through Turns step.trail)
-      (λ full. seal_turns (held s r.image) r now draw (page_from ps)
+      (λ full. seal_turns (held s r.image) r now word (page_from ps)
       (record {
         r = r;
         receives = is;
@@ -149,18 +149,18 @@ module _ (m : MoteState) (s : Store) (image version page q : ℕ) where
       }))
       (λ _. rests_turns 1))
       (λ _. rests_turns 0)
-  packet_turns (Maintain timer) now draw bytes is = cond_both (concerns s image version page) _ _ (λ (step : MoteStep Heard). Through Turns step.trail) (λ _. rests_turns 0) (λ _. rests_turns 0)
-  packet_turns (Transmit t) now draw bytes is = rests_turns 0
+  packet_turns (Maintain timer) now word bytes is = cond_both (concerns s image version page) _ _ (λ (step : MoteStep Heard). Through Turns step.trail) (λ _. rests_turns 0) (λ _. rests_turns 0)
+  packet_turns (Transmit t) now word bytes is = rests_turns 0
 
-  packet_by_turns : (now draw source : ℕ) (bytes : List ℕ) → Through Turns (by_message (Ok (Packet source image version page q bytes)) m s now draw).trail
-  packet_by_turns now draw source bytes =
-      cond_both (source == m.id) _ _ (λ (step : MoteStep Heard). Through Turns step.trail) (λ _. rests_turns 0) (λ _. packet_turns m.mode now draw bytes refl)
+  packet_by_turns : (now word source : ℕ) (bytes : List ℕ) → Through Turns (by_message (Ok (Packet source image version page q bytes)) m s now word).trail
+  packet_by_turns now word source bytes =
+      cond_both (source == m.id) _ _ (λ (step : MoteStep Heard). Through Turns step.trail) (λ _. rests_turns 0) (λ _. packet_turns m.mode now word bytes refl)
 
-pub packet_completes : (m : MoteState) (s : Store) (now draw : ℕ) (bytes : List ℕ) (source image version page q : ℕ) (content : List ℕ)
-    → message_of bytes m.wide ≡ Ok (Packet source image version page q content) → Through (λ t. (t ≡ s) ⊎ Completes m.mode image version page q s t) (heard_of m s now draw bytes).trail
+pub packet_completes : (m : MoteState) (s : Store) (now word : ℕ) (bytes : List ℕ) (source image version page q : ℕ) (content : List ℕ)
+    → message_of bytes m.wide ≡ Ok (Packet source image version page q content) → Through (λ t. (t ≡ s) ⊎ Completes m.mode image version page q s t) (heard_of m s now word bytes).trail
 unfolding heard_of
-packet_completes m s now draw bytes source image version page q content is =
-    subst (λ (r : Result Message FrameFault). Through (Turns m s image version page q) (by_message r m s now draw).trail) (sym is) (packet_by_turns m s image version page q now draw source content)
+packet_completes m s now word bytes source image version page q content is =
+    subst (λ (r : Result Message FrameFault). Through (Turns m s image version page q) (by_message r m s now word).trail) (sym is) (packet_by_turns m s image version page q now word source content)
 
 -- ---- adverts
 
@@ -281,9 +281,9 @@ module _ (ends : (s : Store) (p : Outline) → last (take_trail s p) ≡ taken s
   unfolding Rattle.dg_nor.specs.Trail.last_of
   rests_goes u n h = record { first = refl; way = Through-resting (TakesThere true) u n (kept_better_keeps true u h); ends_so = kept_better_keeps false u h }
 
-  noting_goes : (own : Bool) (m : MoteState) (timer : Timer) (u : Store) (now draw : ℕ) → OrderTaken u → Goes u (noting m timer u now draw own).trail
-  noting_goes true m timer u now draw h = rests_goes u 0 h
-  noting_goes false m timer u now draw h = rests_goes u 0 h
+  noting_goes : (own : Bool) (m : MoteState) (timer : Timer) (u : Store) (now word : ℕ) → OrderTaken u → Goes u (noting m timer u now word own).trail
+  noting_goes true m timer u now word h = rests_goes u 0 h
+  noting_goes false m timer u now word h = rests_goes u 0 h
 
   is_behind : (e : Entry) (o : Option Held) → advertiser_ahead e o ≡ true → is_version o e.version ≡ false → IsBehind e o
   is_behind e None ahead other = record { some = leb-true 1 e.have ahead; older = tt }
@@ -319,13 +319,13 @@ module _ (ends : (s : Store) (p : Outline) → last (take_trail s p) ≡ taken s
         ends_so = subst (TakesThere false) (sym at) (taken_keeps_better u h i low behind);
       })
 
-  ahead_goes : (o : Option ℕ) (m : MoteState) (timer : Timer) (u : Store) (now draw source : ℕ) (own : Bool) → OrderTaken u
-      → ((i : ℕ) → o ≡ Some i → (1 ≤ i) × (advertiser_ahead (entry_for entries i) (held u i) ≡ true)) → Goes u (by_ahead o m u now draw (offer source entries) (noting m timer u now draw own)).trail
-  ahead_goes None m timer u now draw source own h known = noting_goes own m timer u now draw h
-  ahead_goes (Some i) m timer u now draw source own h known =
+  ahead_goes : (o : Option ℕ) (m : MoteState) (timer : Timer) (u : Store) (now word source : ℕ) (own : Bool) → OrderTaken u
+      → ((i : ℕ) → o ≡ Some i → (1 ≤ i) × (advertiser_ahead (entry_for entries i) (held u i) ≡ true)) → Goes u (by_ahead o m u now word (offer source entries) (noting m timer u now word own)).trail
+  ahead_goes None m timer u now word source own h known = noting_goes own m timer u now word h
+  ahead_goes (Some i) m timer u now word source own h known =
       let k = known i refl in
       cond_both (asks m u now i (entry_for entries i)) _ _ (λ (step : MoteStep Heard). Goes u step.trail)
-      (λ _. ask_goes u i h k.0 k.1) (λ _. noting_goes own m timer u now draw h)
+      (λ _. ask_goes u i h k.0 k.1) (λ _. noting_goes own m timer u now word h)
 
   -- it goes so, and ends so
   abbrev Both : MoteStep Heard → Type 0
@@ -334,27 +334,27 @@ module _ (ends : (s : Store) (p : Outline) → last (take_trail s p) ≡ taken s
   same_both : Through (TakesThere true) (resting s 0) × TakesThere false (last (resting s 0))
   same_both = let g = rests_goes s 0 (record { order_is = inl refl; kept = refl; app = refl; gesture = refl; room = omega arith }) in (g.way, g.ends_so)
 
-  advert_both : (m : MoteState) (timer : Timer) (now draw source : ℕ) → Both (advert_heard m timer s now draw (offer source entries) order)
+  advert_both : (m : MoteState) (timer : Timer) (now word source : ℕ) → Both (advert_heard m timer s now word (offer source entries) order)
   unfolding advert_heard
-  advert_both m timer now draw source =
+  advert_both m timer now word source =
       let t = better_trail s order in
       let u = last t in
-      let rest = by_ahead (ahead_in entries u) m u now draw (offer source entries) (noting m timer u now draw (is_own entries order m.wide s)) in
-      let g = ahead_goes (ahead_in entries u) m timer u now draw source (is_own entries order m.wide s) (Through-last OrderTaken t better_way) (λ i e. let a = is_ahead entries u i e in (a.low, a.ahead)) in (
+      let rest = by_ahead (ahead_in entries u) m u now word (offer source entries) (noting m timer u now word (is_own entries order m.wide s)) in
+      let g = ahead_goes (ahead_in entries u) m timer u now word source (is_own entries order m.wide s) (Through-last OrderTaken t better_way) (λ i e. let a = is_ahead entries u i e in (a.low, a.ahead)) in (
         Through-joined (TakesThere true) t rest.trail (through_then OrderTaken (TakesThere true) (kept_better_keeps true) t better_way) g.way,
         subst (TakesThere false) (sym (last-joined t rest.trail (sym g.first))) g.ends_so,
       )
 
-  on_advert_both : (mode : Mode) (m : MoteState) (now draw source : ℕ) → Both (on_advert mode m s now draw (offer source entries) order)
-  on_advert_both (Maintain timer) m now draw source = advert_both m timer now draw source
-  on_advert_both (Receive r) m now draw source = same_both
-  on_advert_both (Transmit t) m now draw source = same_both
+  on_advert_both : (mode : Mode) (m : MoteState) (now word source : ℕ) → Both (on_advert mode m s now word (offer source entries) order)
+  on_advert_both (Maintain timer) m now word source = advert_both m timer now word source
+  on_advert_both (Receive r) m now word source = same_both
+  on_advert_both (Transmit t) m now word source = same_both
 
-  advert_by_both : (m : MoteState) (now draw : ℕ) (wide : Bool) (source : ℕ) → Both (by_message (Ok (advert_by wide source entries order)) m s now draw)
-  advert_by_both m now draw true source = cond_both (source == m.id) _ _ Both (λ _. same_both) (λ _. on_advert_both m.mode m now draw source)
-  advert_by_both m now draw false source = cond_both (source == m.id) _ _ Both (λ _. same_both) (λ _. on_advert_both m.mode m now draw source)
+  advert_by_both : (m : MoteState) (now word : ℕ) (wide : Bool) (source : ℕ) → Both (by_message (Ok (advert_by wide source entries order)) m s now word)
+  advert_by_both m now word true source = cond_both (source == m.id) _ _ Both (λ _. same_both) (λ _. on_advert_both m.mode m now word source)
+  advert_by_both m now word false source = cond_both (source == m.id) _ _ Both (λ _. same_both) (λ _. on_advert_both m.mode m now word source)
 
-  pub advert_keeps_better : (m : MoteState) (now draw : ℕ) (bytes : List ℕ) (wide : Bool) (source : ℕ) → message_of bytes m.wide ≡ Ok (advert_by wide source entries order)
-      → Through (TakesAdvert entries order true s) (heard_of m s now draw bytes).trail × TakesAdvert entries order false s (last (heard_of m s now draw bytes).trail)
+  pub advert_keeps_better : (m : MoteState) (now word : ℕ) (bytes : List ℕ) (wide : Bool) (source : ℕ) → message_of bytes m.wide ≡ Ok (advert_by wide source entries order)
+      → Through (TakesAdvert entries order true s) (heard_of m s now word bytes).trail × TakesAdvert entries order false s (last (heard_of m s now word bytes).trail)
   unfolding heard_of
-  advert_keeps_better m now draw bytes wide source is = subst (λ (r : Result Message FrameFault). Both (by_message r m s now draw)) (sym is) (advert_by_both m now draw wide source)
+  advert_keeps_better m now word bytes wide source is = subst (λ (r : Result Message FrameFault). Both (by_message r m s now word)) (sym is) (advert_by_both m now word wide source)

@@ -26,13 +26,13 @@ use Rattle.dg_mote.specs.declared.mote.Mode.TheVariants as value
 abbrev pub clear_turn : MoteState → Store → MoteStep Did
 clear_turn m s = record { mote = m; trail = clear_trail s; sent = None; answer = Idle }
 
-pub tick_clears : (m : MoteState) (s : Store) (now draw : ℕ) → clears m s now ≡ true → tick_of m s now draw ≡ clear_turn m s
+pub tick_clears : (m : MoteState) (s : Store) (now word : ℕ) → clears m s now ≡ true → tick_of m s now word ≡ clear_turn m s
 unfolding tick_of
-tick_clears m s now draw e = ap (λ (b : Bool). cond b (clear_turn m s) (mode_tick m.mode m s now draw)) e
+tick_clears m s now word e = ap (λ (b : Bool). cond b (clear_turn m s) (mode_tick m.mode m s now word)) e
 
-pub tick_acts : (m : MoteState) (s : Store) (now draw : ℕ) → clears m s now ≡ false → tick_of m s now draw ≡ mode_tick m.mode m s now draw
+pub tick_acts : (m : MoteState) (s : Store) (now word : ℕ) → clears m s now ≡ false → tick_of m s now word ≡ mode_tick m.mode m s now word
 unfolding tick_of
-tick_acts m s now draw e = ap (λ (b : Bool). cond b (clear_turn m s) (mode_tick m.mode m s now draw)) e
+tick_acts m s now word e = ap (λ (b : Bool). cond b (clear_turn m s) (mode_tick m.mode m s now word)) e
 
 pub clears_room : (m : MoteState) (s : Store) (v : Volume) (now : ℕ) → clears m s now ≡ true → Tells v s → 1 ≤ room_of v
 clears_room m s v now e tells = let room = tells.room in grind (arith, nat_tests)

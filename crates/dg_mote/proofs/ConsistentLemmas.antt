@@ -65,7 +65,7 @@ pub record ActLaws (golden : Row) : Type 0 where
   pub page : (s : Store) (image : ℕ) (h : Held) (page : List ℕ) (n : ℕ) → 1 ≤ image → image < length s.kept → held s image ≡ Some h → may_seal image h page ≡ true
       → Consistent golden s → Through (Consistent golden) (stepping s n (paged image page s))
 
-module _ (golden : Row) (laws : ActLaws golden) (now draw : ℕ) where
+module _ (golden : Row) (laws : ActLaws golden) (now word : ℕ) where
   abbrev P : Store → Type 0
   P = StoreIsConsistent golden
 
@@ -100,34 +100,34 @@ module _ (golden : Row) (laws : ActLaws golden) (now draw : ℕ) where
   module _ (s : Store) (here : P s) where
     maintain_turns : (a : Act) (m : MoteState) → AsksForKnown m.mode → Turns (maintain_by a m s)
     maintain_turns act.Send m own = rests m s 0 _ _ here own
-    maintain_turns act.Suppressed m own = rests m s 0 None _ here own
+    maintain_turns act.Quiet m own = rests m s 0 None _ here own
     maintain_turns act.Expired m own = rests m s 0 None _ here own
     maintain_turns act.Nothing m own = rests m s 0 None _ here own
 
-    receive_turns : (a : Ask) (m : MoteState) (r : Receiving) → AsksForKnown m.mode → AsksForKnown (Receive r) → Turns (receive_by a m r s now draw)
+    receive_turns : (a : Ask) (m : MoteState) (r : Receiving) → AsksForKnown m.mode → AsksForKnown (Receive r) → Turns (receive_by a m r s now word)
     receive_turns (ask.Request want) m r own known = rests (record m { mode = Receive (asked r now) }) s 0 _ _ here (known.0, known.1)
-    receive_turns ask.GiveUp m r own known = rests (maintains m now draw) s 0 None _ here tt
+    receive_turns ask.GiveUp m r own known = rests (maintains m now word) s 0 None _ here tt
     receive_turns ask.Wait m r own known = rests m s 0 None _ here own
 
-    serving_asks : (m : MoteState) (t : Sending) → AsksForKnown (serving m t now draw).mode
+    serving_asks : (m : MoteState) (t : Sending) → AsksForKnown (serving m t now word).mode
     serving_asks m t = cond_both (set.len (after_next t.owed now).left == 0) _ _ (λ (x : MoteState). AsksForKnown x.mode) (λ _. tt) (λ _. tt)
 
-    transmit_turns : (a : Serve) (m : MoteState) (t : Sending) → AsksForKnown m.mode → Turns (transmit_by a m t s now draw)
-    transmit_turns (serve.Send q) m t own = rests (serving m t now draw) s 0 _ _ here (serving_asks m t)
+    transmit_turns : (a : Serve) (m : MoteState) (t : Sending) → AsksForKnown m.mode → Turns (transmit_by a m t s now word)
+    transmit_turns (serve.Send q) m t own = rests (serving m t now word) s 0 _ _ here (serving_asks m t)
     transmit_turns serve.Done m t own = rests m s 0 None _ here own
     transmit_turns serve.Wait m t own = rests m s 0 None _ here own
 
-    mode_turns : (mode : Mode) (m : MoteState) → AsksForKnown m.mode → AsksForKnown mode → Turns (mode_tick mode m s now draw)
+    mode_turns : (mode : Mode) (m : MoteState) → AsksForKnown m.mode → AsksForKnown mode → Turns (mode_tick mode m s now word)
     mode_turns (Maintain timer) m own known =
         cond_both (order_waits s) _ _ Turns (λ _. rests m s 0 None _ here own)
-        (λ _. maintain_turns (act_of timer now) (record m { mode = Maintain (after_tick timer now draw) }) tt)
+        (λ _. maintain_turns (act_of timer now) (record m { mode = Maintain (after_tick timer now word) }) tt)
     mode_turns (Receive r) m own known = receive_turns (ask_of (reception r) now) m r own known
     mode_turns (Transmit t) m own known = transmit_turns (serve_of t.owed now) m t own
 
     cleared_turns : (m : MoteState) (answer : Did) → AsksForKnown m.mode → Turns (record { mote = m; trail = clear_trail s; sent = None; answer = answer })
     cleared_turns m answer own = record { way = clear_way s here; asks = own }
 
-    pub tick_consistent : (m : MoteState) → AsksForKnown m.mode → Turns (tick_of m s now draw)
+    pub tick_consistent : (m : MoteState) → AsksForKnown m.mode → Turns (tick_of m s now word)
     unfolding tick_of
     tick_consistent m own = cond_both (clears m s now) _ _ Turns (λ _. cleared_turns m _ own) (λ _. mode_turns m.mode m own own)
 
@@ -146,15 +146,15 @@ module _ (golden : Row) (laws : ActLaws golden) (now draw : ℕ) where
   unfolding better_trail
   better_way s o p = cond_both (nat_lt s.order.number o.number && nat_le 1 s.room) _ _ (Through P) (λ _. order_way s o p) (λ _. Through-resting P s 0 p)
 
-  noting_turns : (own : Bool) (m : MoteState) (timer : Timer) (s : Store) → P s → Turns (noting m timer s now draw own)
+  noting_turns : (own : Bool) (m : MoteState) (timer : Timer) (s : Store) → P s → Turns (noting m timer s now word own)
   noting_turns true m timer s p = rests (record m { mode = Maintain (after_same timer) }) s 0 None _ p tt
-  noting_turns false m timer s p = rests (record m { mode = Maintain (after_other timer now draw) }) s 0 None _ p tt
+  noting_turns false m timer s p = rests (record m { mode = Maintain (after_other timer now word) }) s 0 None _ p tt
 
   module _ (source : ℕ) (entries : List Entry) (few : length entries < images) where
-    asking_turns : (m : MoteState) (s : Store) (i : ℕ) (e : Entry) → 1 ≤ i → i < images → P s → Turns (asking m s now draw source i e)
+    asking_turns : (m : MoteState) (s : Store) (i : ℕ) (e : Entry) → 1 ≤ i → i < images → P s → Turns (asking m s now word source i e)
     asking_turns m s i e low high p = record { way = ask_way s i e low high p; asks = (low, high) }
 
-    ahead_turns : (o : Option ℕ) (m : MoteState) (timer : Timer) (s : Store) (own : Bool) → P s → ahead_in entries s ≡ o → Turns (by_ahead o m s now draw (offer source entries) (noting m timer s now draw own))
+    ahead_turns : (o : Option ℕ) (m : MoteState) (timer : Timer) (s : Store) (own : Bool) → P s → ahead_in entries s ≡ o → Turns (by_ahead o m s now word (offer source entries) (noting m timer s now word own))
     ahead_turns None m timer s own p is = noting_turns own m timer s p
     ahead_turns (Some i) m timer s own p is =
         let a = is_ahead entries s i is in
@@ -166,7 +166,7 @@ module _ (golden : Row) (laws : ActLaws golden) (now draw : ℕ) where
     behind_turns : (t : Trail Store) (step : MoteStep Heard) → Through P t → Turns step → Turns (turn_behind t step)
     behind_turns t step way k = record { way = Through-joined P t step.trail way k.way; asks = k.asks }
 
-    advert_turns : (mode : Mode) (m : MoteState) (s : Store) (order : Order) → P s → AsksForKnown m.mode → Turns (on_advert mode m s now draw (offer source entries) order)
+    advert_turns : (mode : Mode) (m : MoteState) (s : Store) (order : Order) → P s → AsksForKnown m.mode → Turns (on_advert mode m s now word (offer source entries) order)
     unfolding advert_heard
     advert_turns (Maintain timer) m s order p own =
         let t = better_trail s order in
@@ -197,7 +197,7 @@ module _ (golden : Row) (laws : ActLaws golden) (now draw : ℕ) where
         (λ _. rests m s 0 None _ here own))
 
     -- a page that fits is sealed, and no other
-    seal_turns : (o : Option Held) (m : MoteState) (r : Receiving) (page : List ℕ) → held s r.image ≡ o → AsksForKnown m.mode → AsksForKnown (Receive r) → Turns (seal_by o m r s now draw page)
+    seal_turns : (o : Option Held) (m : MoteState) (r : Receiving) (page : List ℕ) → held s r.image ≡ o → AsksForKnown m.mode → AsksForKnown (Receive r) → Turns (seal_by o m r s now word page)
     seal_turns None m r page is own known = rests m s 0 None _ here own
     seal_turns (Some h) m r page is own known =
         cond_both (may_seal r.image h page) _ _ Turns
@@ -205,16 +205,16 @@ module _ (golden : Row) (laws : ActLaws golden) (now draw : ℕ) where
           way = Through-joined P (resting s 1) (stepping s 1 (paged r.image page s)) (Through-resting P s 1 here) (page_way s r.image h page 1 known.0 known.1 is may here);
           asks = tt;
         })
-        (λ _. rests (maintains m now draw) s 1 None _ here tt)
+        (λ _. rests (maintains m now word) s 1 None _ here tt)
 
-    takes_turns : (m : MoteState) (r : Receiving) (q : ℕ) (bytes : List ℕ) → AsksForKnown m.mode → AsksForKnown (Receive r) → Turns (takes m r s now draw q bytes)
+    takes_turns : (m : MoteState) (r : Receiving) (q : ℕ) (bytes : List ℕ) → AsksForKnown m.mode → AsksForKnown (Receive r) → Turns (takes m r s now word q bytes)
     takes_turns m r q bytes own known =
         let then = accepted r now q bytes in
         cond_both (set.len (came then.packets) == packets) _ _ Turns
         (λ _. seal_turns (held s r.image) m r (page_from then.packets) refl own known)
         (λ _. rests (record m { mode = Receive then }) s 1 None _ here (known.0, known.1))
 
-    packet_turns : (mode : Mode) (m : MoteState) (image version page q : ℕ) (bytes : List ℕ) → AsksForKnown m.mode → AsksForKnown mode → Turns (on_packet mode m s now draw (page_packet image version page q bytes))
+    packet_turns : (mode : Mode) (m : MoteState) (image version page q : ℕ) (bytes : List ℕ) → AsksForKnown m.mode → AsksForKnown mode → Turns (on_packet mode m s now word (page_packet image version page q bytes))
     packet_turns (Receive r) m image version page q bytes own known =
         cond_both (is_wanted r image version page q) _ _ Turns (λ _. takes_turns m r q bytes own known) (λ _. rests m s 0 None _ here own)
     packet_turns (Maintain timer) m image version page q bytes own known =
@@ -225,18 +225,18 @@ module _ (golden : Row) (laws : ActLaws golden) (now draw : ℕ) where
 
     -- ---- whatever is heard
 
-    message_turns : (message : Message) (m : MoteState) → AsksForKnown m.mode → HasShape message → Turns (on_message m s now draw message)
+    message_turns : (message : Message) (m : MoteState) → AsksForKnown m.mode → HasShape message → Turns (on_message m s now word message)
     message_turns (Advert source entries order) m own shape = advert_turns source entries (omega (arith, shape)) m.mode m s order here own
     message_turns (Request source to image version page want) m own shape = request_turns m to image version page want own
     message_turns (Packet source image version page q bytes) m own shape = packet_turns m.mode m image version page q bytes own own
     message_turns (Wide source entries order) m own shape = advert_turns source entries (omega (arith, shape)) m.mode m s order here own
 
-    frame_turns : (r : Result Message FrameFault) (m : MoteState) → AsksForKnown m.mode → IsWellRead m.wide r → Turns (by_message r m s now draw)
+    frame_turns : (r : Result Message FrameFault) (m : MoteState) → AsksForKnown m.mode → IsWellRead m.wide r → Turns (by_message r m s now word)
     frame_turns (Err fault) m own read = rests m s 0 None _ here own
     frame_turns (Ok message) m own read =
         cond_both (source_of message == m.id) _ _ Turns (λ _. rests m s 0 None _ here own) (λ _. message_turns message m own read.1)
 
-    pub heard_consistent : (m : MoteState) (bytes : List ℕ) → AsksForKnown m.mode → Turns (heard_of m s now draw bytes)
+    pub heard_consistent : (m : MoteState) (bytes : List ℕ) → AsksForKnown m.mode → Turns (heard_of m s now word bytes)
     unfolding heard_of
     heard_consistent m bytes own = frame_turns (message_of bytes m.wide) m own (well_read bytes m.wide)
 

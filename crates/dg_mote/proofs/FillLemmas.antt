@@ -65,15 +65,15 @@ stops_before t x a b begins stops = stops_first t x.trail a b begins.works (sym 
 
 -- ---- a whole page is sealed
 
-abbrev ended : MoteState → (now draw : ℕ) → Trail Store → Heard → MoteStep Heard
-ended m now draw t answer = record { mote = maintains m now draw; trail = t; sent = None; answer = answer }
+abbrev ended : MoteState → (now word : ℕ) → Trail Store → Heard → MoteStep Heard
+ended m now word t answer = record { mote = maintains m now word; trail = t; sent = None; answer = answer }
 
-sealed_is : (m : MoteState) (r : Receiving) (h : Held) (s : Store) (now draw : ℕ) (page : List ℕ) → seal_by (Some h) m r s now draw page ≡ turn_behind (resting s 1) (page_ends m r h s now draw page)
+sealed_is : (m : MoteState) (r : Receiving) (h : Held) (s : Store) (now word : ℕ) (page : List ℕ) → seal_by (Some h) m r s now word page ≡ turn_behind (resting s 1) (page_ends m r h s now word page)
 unfolding joined delayed rest_of
-sealed_is m r h s now draw page = by_fit (may_seal r.image h page)
+sealed_is m r h s now word page = by_fit (may_seal r.image h page)
   where
-    by_fit : (fits : Bool) → ◌≡◌ {A = MoteStep Heard} (cond fits (ended m now draw (joined (resting s 1) (stepping s 1 (paged r.image page s))) (heard.Sealed r.image r.page)) (ended m now draw (resting s 1) (heard.Bad r.image r.page)))
-        (turn_behind (resting s 1) (cond fits (ended m now draw (stepping s 1 (paged r.image page s)) (heard.Sealed r.image r.page)) (ended m now draw (resting s 0) (heard.Bad r.image r.page))))
+    by_fit : (fits : Bool) → ◌≡◌ {A = MoteStep Heard} (cond fits (ended m now word (joined (resting s 1) (stepping s 1 (paged r.image page s))) (heard.Sealed r.image r.page)) (ended m now word (resting s 1) (heard.Bad r.image r.page)))
+        (turn_behind (resting s 1) (cond fits (ended m now word (stepping s 1 (paged r.image page s)) (heard.Sealed r.image r.page)) (ended m now word (resting s 0) (heard.Bad r.image r.page))))
     by_fit true = refl
     by_fit false = refl
 
@@ -93,14 +93,14 @@ same_by : {A : Type 0} (fits : Bool) (x : A) → cond fits x x ≡ x
 same_by true x = refl
 same_by false x = refl
 
-pub ends_trail : (m : MoteState) (r : Receiving) (h : Held) (s : Store) (now draw : ℕ) (page : List ℕ) → (page_ends m r h s now draw page).trail ≡ sealing_trail s r.image h page
-ends_trail m r h s now draw page = trail_by (may_seal r.image h page) _ _
+pub ends_trail : (m : MoteState) (r : Receiving) (h : Held) (s : Store) (now word : ℕ) (page : List ℕ) → (page_ends m r h s now word page).trail ≡ sealing_trail s r.image h page
+ends_trail m r h s now word page = trail_by (may_seal r.image h page) _ _
 
-ends_mote : (m : MoteState) (r : Receiving) (h : Held) (s : Store) (now draw : ℕ) (page : List ℕ) → (page_ends m r h s now draw page).mote ≡ maintains m now draw
-ends_mote m r h s now draw page = mote_by (may_seal r.image h page) _ _ ∙ same_by (may_seal r.image h page) _
+ends_mote : (m : MoteState) (r : Receiving) (h : Held) (s : Store) (now word : ℕ) (page : List ℕ) → (page_ends m r h s now word page).mote ≡ maintains m now word
+ends_mote m r h s now word page = mote_by (may_seal r.image h page) _ _ ∙ same_by (may_seal r.image h page) _
 
-ends_answer : (m : MoteState) (r : Receiving) (h : Held) (s : Store) (now draw : ℕ) (page : List ℕ) → (page_ends m r h s now draw page).answer ≡ cond (may_seal r.image h page) (heard.Sealed r.image r.page) (heard.Bad r.image r.page)
-ends_answer m r h s now draw page = answer_by (may_seal r.image h page) _ _
+ends_answer : (m : MoteState) (r : Receiving) (h : Held) (s : Store) (now word : ℕ) (page : List ℕ) → (page_ends m r h s now word page).answer ≡ cond (may_seal r.image h page) (heard.Sealed r.image r.page) (heard.Bad r.image r.page)
+ends_answer m r h s now word page = answer_by (may_seal r.image h page) _ _
 
 sealing_begins : (s : Store) (i : ℕ) (h : Held) (page : List ℕ) → BeginsAt s (sealing_trail s i h page)
 sealing_begins s i h page = by_fit (may_seal i h page)
@@ -109,36 +109,36 @@ sealing_begins s i h page = by_fit (may_seal i h page)
     by_fit true = record { first = refl; works = EachWorks-stepping s 1 (paged i page s) (omega arith) }
     by_fit false = record { first = refl; works = EachWorks-resting s 0 }
 
-pub ends_begin : (m : MoteState) (r : Receiving) (h : Held) (s : Store) (now draw : ℕ) (page : List ℕ) → BeginsAt s (page_ends m r h s now draw page).trail
-ends_begin m r h s now draw page = subst (BeginsAt s) (sym (ends_trail m r h s now draw page)) (sealing_begins s r.image h page)
+pub ends_begin : (m : MoteState) (r : Receiving) (h : Held) (s : Store) (now word : ℕ) (page : List ℕ) → BeginsAt s (page_ends m r h s now word page).trail
+ends_begin m r h s now word page = subst (BeginsAt s) (sym (ends_trail m r h s now word page)) (sealing_begins s r.image h page)
 
 -- ---- the packet is taken
 
-pub takes_whole : (m : MoteState) (r : Receiving) (h : Held) (s : Store) (now draw q : ℕ) (bytes : List ℕ) → held s r.image ≡ Some h → set.len (came (put_packet r.packets q bytes)) ≡ packets
-    → takes m r s now draw q bytes ≡ turn_behind (resting s 1) (page_ends m r h s now draw (page_from (put_packet r.packets q bytes)))
-takes_whole m r h s now draw q bytes here all =
+pub takes_whole : (m : MoteState) (r : Receiving) (h : Held) (s : Store) (now word q : ℕ) (bytes : List ℕ) → held s r.image ≡ Some h → set.len (came (put_packet r.packets q bytes)) ≡ packets
+    → takes m r s now word q bytes ≡ turn_behind (resting s 1) (page_ends m r h s now word (page_from (put_packet r.packets q bytes)))
+takes_whole m r h s now word q bytes here all =
     let n = set.len (came (put_packet r.packets q bytes)) in
     let page = page_from (put_packet r.packets q bytes) in
     let e : n == packets ≡ true = eq-eqb n packets all in
-    chosen (n == packets) _ _ e ∙ ap (λ (o : Option Held). seal_by o m r s now draw page) here ∙ sealed_is m r h s now draw page
+    chosen (n == packets) _ _ e ∙ ap (λ (o : Option Held). seal_by o m r s now word page) here ∙ sealed_is m r h s now word page
 
 abbrev pub took : MoteState → Receiving → Store → (now q : ℕ) → List ℕ → MoteStep Heard
 took m r s now q bytes = record { mote = record m { mode = Receive (accepted r now q bytes) }; trail = resting s 1; sent = None; answer = heard.Took q }
 
-pub takes_part : (m : MoteState) (r : Receiving) (s : Store) (now draw q : ℕ) (bytes : List ℕ) → set.len (came (put_packet r.packets q bytes)) < packets → takes m r s now draw q bytes ≡ took m r s now q bytes
-takes_part m r s now draw q bytes less =
+pub takes_part : (m : MoteState) (r : Receiving) (s : Store) (now word q : ℕ) (bytes : List ℕ) → set.len (came (put_packet r.packets q bytes)) < packets → takes m r s now word q bytes ≡ took m r s now q bytes
+takes_part m r s now word q bytes less =
     let n = set.len (came (put_packet r.packets q bytes)) in
     let e : n == packets ≡ false = ne_eqb n packets (λ x. omega arith) in
     passed (n == packets) _ _ e
 
 -- it was not programmed: the store stays
-pub takes_stopped : (m : MoteState) (r : Receiving) (h : Held) (s : Store) (now draw q : ℕ) (bytes : List ℕ) (a b : Device) → held s r.image ≡ Some h → Stops (resting s 1) a b → Stops (takes m r s now draw q bytes).trail a b
-takes_stopped m r h s now draw q bytes a b here stops =
+pub takes_stopped : (m : MoteState) (r : Receiving) (h : Held) (s : Store) (now word q : ℕ) (bytes : List ℕ) (a b : Device) → held s r.image ≡ Some h → Stops (resting s 1) a b → Stops (takes m r s now word q bytes).trail a b
+takes_stopped m r h s now word q bytes a b here stops =
     let ps = put_packet r.packets q bytes in
     let Goal : MoteStep Heard → Type 0 = λ x. Stops x.trail a b in
     ⊎_elim
-    (λ all. subst Goal (sym (takes_whole m r h s now draw q bytes here all)) (stops_before (resting s 1) (page_ends m r h s now draw (page_from ps)) a b (subst (λ (x : Store). BeginsAt x (page_ends m r h s now draw (page_from ps)).trail) (sym (last-resting s 1)) (ends_begin m r h s now draw (page_from ps))) stops))
-    (λ other. subst Goal (sym (takes_part m r s now draw q bytes (omega (arith, came_few ps, other)))) stops)
+    (λ all. subst Goal (sym (takes_whole m r h s now word q bytes here all)) (stops_before (resting s 1) (page_ends m r h s now word (page_from ps)) a b (subst (λ (x : Store). BeginsAt x (page_ends m r h s now word (page_from ps)).trail) (sym (last-resting s 1)) (ends_begin m r h s now word (page_from ps))) stops))
+    (λ other. subst Goal (sym (takes_part m r s now word q bytes (omega (arith, came_few ps, other)))) stops)
     (cases_eq (set.len (came ps)) packets)
 
 -- with one more
@@ -358,18 +358,18 @@ sealed_ends filling counts held_more (sealing.Unfit o) a b v w s i job h ps m fi
 
 -- ---- how it ends
 
-pub page_done : (a b : Device) (v : Mote) (w : Volume) (m : MoteState) (s : Store) (r : Receiving) (h : Held) (ps : Packets) (now draw : ℕ) (trickle : Timer) (fits : Bool) (answer : Heard) → PageIsWhole a.image v m s r h ps → Sealed s r.image h (page_from ps) a b w fits → trickle ≡ started now draw
+pub page_done : (a b : Device) (v : Mote) (w : Volume) (m : MoteState) (s : Store) (r : Receiving) (h : Held) (ps : Packets) (now word : ℕ) (trickle : Timer) (fits : Bool) (answer : Heard) → PageIsWhole a.image v m s r h ps → Sealed s r.image h (page_from ps) a b w fits → trickle ≡ started now word
     → is_lent w r.image ≡ false → ((i : ℕ) → i ≢ r.image → is_lent w i ≡ is_lent v.volume i) → answer ≡ cond fits (heard.Sealed r.image r.page) (heard.Bad r.image r.page)
-    → Done (page_ends m r h s now draw (page_from ps)) a b (record v { volume = w; mode = value.Maintain trickle }) answer
-page_done a b v w m s r h ps now draw trickle fits answer whole sealed starts back others answers =
+    → Done (page_ends m r h s now word (page_from ps)) a b (record v { volume = w; mode = value.Maintain trickle }) answer
+page_done a b v w m s r h ps now word trickle fits answer whole sealed starts back others answers =
     let page = page_from ps in
     let after : Mote = record v { volume = w; mode = value.Maintain trickle } in
     let free : NothingLent w = λ i. ⊎_elim (λ e. ap (is_lent w) e ∙ back) (λ other. others i other ∙ whole.others i other) (cases_eq i r.image) in
-    let trail = ends_trail m r h s now draw page in
+    let trail = ends_trail m r h s now word page in
     let t = sealing_trail s r.image h page in
-    let mote : IsMote b.image after (maintains m now draw) (last t) = record { id = whole.id; since = whole.since; wide = whole.wide; noted = whole.noted; mounted = sealed.acted.mounted; mode = (starts, free); known = tt } in
+    let mote : IsMote b.image after (maintains m now word) (last t) = record { id = whole.id; since = whole.since; wide = whole.wide; noted = whole.noted; mounted = sealed.acted.mounted; mode = (starts, free); known = tt } in
     record {
       ran = subst (λ (x : Trail Store). Ran (operations x) a b) (sym trail) sealed.acted.ran;
-      mote = subst (λ (x : Trail Store). IsMote b.image after (page_ends m r h s now draw page).mote (last x)) (sym trail) (subst (λ (x : MoteState). IsMote b.image after x (last t)) (sym (ends_mote m r h s now draw page)) mote);
-      answers = answers ∙ ap (λ b. cond b (heard.Sealed r.image r.page) (heard.Bad r.image r.page)) sealed.fits_is ∙ sym (ends_answer m r h s now draw page);
+      mote = subst (λ (x : Trail Store). IsMote b.image after (page_ends m r h s now word page).mote (last x)) (sym trail) (subst (λ (x : MoteState). IsMote b.image after x (last t)) (sym (ends_mote m r h s now word page)) mote);
+      answers = answers ∙ ap (λ b. cond b (heard.Sealed r.image r.page) (heard.Bad r.image r.page)) sealed.fits_is ∙ sym (ends_answer m r h s now word page);
     }

@@ -32,21 +32,21 @@ honest_read table wide bytes (Err fault) is honest = tt
 honest_read table true bytes (Ok m) is honest = subst (HonestMessage table) is honest
 honest_read table false bytes (Ok m) is honest = subst (HonestMessage table) (wider bytes m is) honest
 
-module _ (table : List Row) (is_table : IsTable table) (takes : TakeLaws table) (pages : PageLaws table) (ranges : (wide : Bool) (m : Message) → in_range wide m ≡ true → IsInRange wide m) (s : Store) (well : StoreIsWell table s) (now draw : ℕ) where
-  message_keeps : (message : Message) (m : MoteState) → ModeAgrees table s m.mode → IsInRange m.wide message → HasShape message → HonestMessage table (Ok message) → Keeps (StoreIsWell table) table (on_message m s now draw message)
+module _ (table : List Row) (is_table : IsTable table) (takes : TakeLaws table) (pages : PageLaws table) (ranges : (wide : Bool) (m : Message) → in_range wide m ≡ true → IsInRange wide m) (s : Store) (well : StoreIsWell table s) (now word : ℕ) where
+  message_keeps : (message : Message) (m : MoteState) → ModeAgrees table s m.mode → IsInRange m.wide message → HasShape message → HonestMessage table (Ok message) → Keeps (StoreIsWell table) table (on_message m s now word message)
   message_keeps (Advert source entries order) m own fits shape honest =
-      advert_keeps table takes now draw source entries (omega (arith, shape)) (entry_in_range entries fits.0) honest m.mode m s order well own
+      advert_keeps table takes now word source entries (omega (arith, shape)) (entry_in_range entries fits.0) honest m.mode m s order well own
   message_keeps (Request source to image version page want) m own fits shape honest = request_keeps (StoreIsWell table) table s well now m to image version page want fits.0 fits.1 own
-  message_keeps (Packet source image version page q bytes) m own fits shape honest = packet_keeps table is_table pages s well now draw m.mode m source image version page q bytes honest own own
+  message_keeps (Packet source image version page q bytes) m own fits shape honest = packet_keeps table is_table pages s well now word m.mode m source image version page q bytes honest own own
   message_keeps (Wide source entries order) m own fits shape honest =
-      advert_keeps table takes now draw source entries (omega (arith, shape)) (entry_in_range entries fits.1.0) honest m.mode m s order well own
+      advert_keeps table takes now word source entries (omega (arith, shape)) (entry_in_range entries fits.1.0) honest m.mode m s order well own
 
-  frame_keeps : (r : Result Message FrameFault) (m : MoteState) → ModeAgrees table s m.mode → IsWellRead m.wide r → HonestMessage table r → Keeps (StoreIsWell table) table (by_message r m s now draw)
+  frame_keeps : (r : Result Message FrameFault) (m : MoteState) → ModeAgrees table s m.mode → IsWellRead m.wide r → HonestMessage table r → Keeps (StoreIsWell table) table (by_message r m s now word)
   frame_keeps (Err fault) m own read honest = rests (StoreIsWell table) table m s 0 None _ well own tt
   frame_keeps (Ok message) m own read honest =
       cond_both (source_of message == m.id) _ _ (Keeps (StoreIsWell table) table) (λ _. rests (StoreIsWell table) table m s 0 None _ well own tt)
       (λ _. message_keeps message m own (ranges m.wide message read.0) read.1 honest)
 
-  pub heard_keeps : (m : MoteState) (bytes : List ℕ) → ModeAgrees table s m.mode → IsHonest table bytes → Keeps (StoreIsWell table) table (heard_of m s now draw bytes)
+  pub heard_keeps : (m : MoteState) (bytes : List ℕ) → ModeAgrees table s m.mode → IsHonest table bytes → Keeps (StoreIsWell table) table (heard_of m s now word bytes)
   unfolding heard_of
   heard_keeps m bytes own honest = frame_keeps (message_of bytes m.wide) m own (well_read bytes m.wide) (honest_read table m.wide bytes (message_of bytes m.wide) refl honest)

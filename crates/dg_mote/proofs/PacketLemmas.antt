@@ -96,7 +96,7 @@ pub record ReceivesPage (table : List Row) (s : Store) (r : Receiving) (row : Ro
   pub more : r.page < length (object row)
   pub packets_are : AreOf (slice_index_or (object row) r.page []) r.packets
 
-module _ (table : List Row) (is_table : IsTable table) (laws : PageLaws table) (s : Store) (well : StoreIsWell table s) (now draw : ℕ) where
+module _ (table : List Row) (is_table : IsTable table) (laws : PageLaws table) (s : Store) (well : StoreIsWell table s) (now word : ℕ) where
   pub receives_page : (r : Receiving) → (a : ReceivesRow table s r) → ReceivesPage table s r a.row
   receives_page r a =
       let ids = laws.rows.image_version table r.image r.version a.row a.in_table in
@@ -117,7 +117,7 @@ module _ (table : List Row) (is_table : IsTable table) (laws : PageLaws table) (
       }
 
   sealed_keeps : (m : MoteState) (r : Receiving) (h : Held) (answer : Heard) (page : List ℕ) (row : Row) → 1 ≤ r.image → r.image < images → ReceivesPage table s r row → page ≡ slice_index_or (object row) r.page []
-      → Keeps (StoreIsWell table) table (record { mote = maintains m now draw; trail = joined (resting s 1) (stepping s 1 (paged r.image page s)); sent = None; answer = answer })
+      → Keeps (StoreIsWell table) table (record { mote = maintains m now word; trail = joined (resting s 1) (stepping s 1 (paged r.image page s)); sent = None; answer = answer })
   sealed_keeps m r h answer page row low high p is =
       let next : StoreIsWell table (paged row.image (slice_index_or (object row) r.page []) s) = laws.next s row r.page (omega (arith, low, p.image_is)) (omega (arith, high, p.image_is)) p.in_table p.kept p.more well in
       let same : StoreIsWell table (paged r.image page s) = subst (λ (c : Store). StoreIsWell table c) (λ i. paged (p.image_is i) (sym is i) s) next in
@@ -128,15 +128,15 @@ module _ (table : List Row) (is_table : IsTable table) (laws : PageLaws table) (
       }
 
   seal_keeps : (o : Option Held) (m : MoteState) (r : Receiving) (page : List ℕ) (row : Row) → ModeAgrees table s m.mode → 1 ≤ r.image → r.image < images → ReceivesPage table s r row → page ≡ slice_index_or (object row) r.page []
-      → Keeps (StoreIsWell table) table (seal_by o m r s now draw page)
+      → Keeps (StoreIsWell table) table (seal_by o m r s now word page)
   seal_keeps None m r page row own low high p is = rests (StoreIsWell table) table m s 0 None _ well own tt
   seal_keeps (Some h) m r page row own low high p is =
       cond_both (may_seal r.image h page) _ _ (Keeps (StoreIsWell table) table)
       (λ _. sealed_keeps m r h _ page row low high p is)
-      (λ _. rests (StoreIsWell table) table (maintains m now draw) s 1 None _ well tt tt)
+      (λ _. rests (StoreIsWell table) table (maintains m now word) s 1 None _ well tt tt)
 
   takes_keeps : (m : MoteState) (r : Receiving) (q : ℕ) (bytes : List ℕ) → ModeAgrees table s m.mode → (a : ReceivesRow table s r) → bytes ≡ packet_of (slice_index_or (object a.row) r.page []) q
-      → Keeps (StoreIsWell table) table (takes m r s now draw q bytes)
+      → Keeps (StoreIsWell table) table (takes m r s now word q bytes)
   takes_keeps m r q bytes own a is =
       let then = accepted r now q bytes in
       let p = receives_page r a in
@@ -162,7 +162,7 @@ module _ (table : List Row) (is_table : IsTable table) (laws : PageLaws table) (
       }) tt)
 
   pub packet_keeps : (mode : Mode) (m : MoteState) (source image version page q : ℕ) (bytes : List ℕ) → HonestMessage table (Ok (Packet source image version page q bytes)) → ModeAgrees table s m.mode → ModeAgrees table s mode
-      → Keeps (StoreIsWell table) table (on_packet mode m s now draw (page_packet image version page q bytes))
+      → Keeps (StoreIsWell table) table (on_packet mode m s now word (page_packet image version page q bytes))
   packet_keeps (Receive r) m source image version page q bytes honest own a =
       cond_both (is_wanted r image version page q) _ _ (Keeps (StoreIsWell table) table)
       (λ is.

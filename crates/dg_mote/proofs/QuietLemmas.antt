@@ -113,35 +113,35 @@ module _ (image from until : ℕ) (Noting : Noted → Type 0) (shuts : Shuts ima
 
   maintain_quiet : (a : Act) (m : MoteState) (s : Store) → IsQuiet m → Stays (maintain_by a m s)
   maintain_quiet act.Send m s q = record { quiet = q; sent = no_request m.wide m.id (entries_of m.wide s) (own_order m.wide s) }
-  maintain_quiet act.Suppressed m s q = record { quiet = q; sent = tt }
+  maintain_quiet act.Quiet m s q = record { quiet = q; sent = tt }
   maintain_quiet act.Expired m s q = record { quiet = q; sent = tt }
   maintain_quiet act.Nothing m s q = record { quiet = q; sent = tt }
 
-  receive_quiet : (a : Ask) (m : MoteState) (r : Receiving) (s : Store) (now draw : ℕ) → IsQuiet m → r.image ≢ image → Stays (receive_by a m r s now draw)
-  receive_quiet (ask.Request want) m r s now draw q other = record { quiet = record { noted = q.noted; mode = other }; sent = other }
-  receive_quiet ask.GiveUp m r s now draw q other = record { quiet = record { noted = q.noted; mode = tt }; sent = tt }
-  receive_quiet ask.Wait m r s now draw q other = record { quiet = q; sent = tt }
+  receive_quiet : (a : Ask) (m : MoteState) (r : Receiving) (s : Store) (now word : ℕ) → IsQuiet m → r.image ≢ image → Stays (receive_by a m r s now word)
+  receive_quiet (ask.Request want) m r s now word q other = record { quiet = record { noted = q.noted; mode = other }; sent = other }
+  receive_quiet ask.GiveUp m r s now word q other = record { quiet = record { noted = q.noted; mode = tt }; sent = tt }
+  receive_quiet ask.Wait m r s now word q other = record { quiet = q; sent = tt }
 
-  serving_quiet : (m : MoteState) (t : Sending) (now draw : ℕ) → IsQuiet m → IsQuiet (serving m t now draw)
-  serving_quiet m t now draw q =
+  serving_quiet : (m : MoteState) (t : Sending) (now word : ℕ) → IsQuiet m → IsQuiet (serving m t now word)
+  serving_quiet m t now word q =
       let owed = after_next t.owed now in
-      cond_both (set.len owed.left == 0) (maintains m now draw) (record m { mode = Transmit (record t { owed = owed }) }) IsQuiet (λ _. record { noted = q.noted; mode = tt }) (λ _. record { noted = q.noted; mode = tt })
+      cond_both (set.len owed.left == 0) (maintains m now word) (record m { mode = Transmit (record t { owed = owed }) }) IsQuiet (λ _. record { noted = q.noted; mode = tt }) (λ _. record { noted = q.noted; mode = tt })
 
-  transmit_quiet : (a : Serve) (m : MoteState) (t : Sending) (s : Store) (now draw : ℕ) → IsQuiet m → Stays (transmit_by a m t s now draw)
-  transmit_quiet (serve.Send k) m t s now draw q = record { quiet = serving_quiet m t now draw q; sent = tt }
-  transmit_quiet serve.Done m t s now draw q = record { quiet = q; sent = tt }
-  transmit_quiet serve.Wait m t s now draw q = record { quiet = q; sent = tt }
+  transmit_quiet : (a : Serve) (m : MoteState) (t : Sending) (s : Store) (now word : ℕ) → IsQuiet m → Stays (transmit_by a m t s now word)
+  transmit_quiet (serve.Send k) m t s now word q = record { quiet = serving_quiet m t now word q; sent = tt }
+  transmit_quiet serve.Done m t s now word q = record { quiet = q; sent = tt }
+  transmit_quiet serve.Wait m t s now word q = record { quiet = q; sent = tt }
 
-  mode_quiet : (mode : Mode) (m : MoteState) (s : Store) (now draw : ℕ) → IsQuiet m → AsksNotFor image mode → Stays (mode_tick mode m s now draw)
-  mode_quiet (Maintain timer) m s now draw q other =
+  mode_quiet : (mode : Mode) (m : MoteState) (s : Store) (now word : ℕ) → IsQuiet m → AsksNotFor image mode → Stays (mode_tick mode m s now word)
+  mode_quiet (Maintain timer) m s now word q other =
       cond_both (order_waits s) _ _ Stays (λ _. record { quiet = q; sent = tt })
-      (λ _. maintain_quiet (act_of timer now) (record m { mode = Maintain (after_tick timer now draw) }) s (record { noted = q.noted; mode = tt }))
-  mode_quiet (Receive r) m s now draw q other = receive_quiet (ask_of (reception r) now) m r s now draw q other
-  mode_quiet (Transmit t) m s now draw q other = transmit_quiet (serve_of t.owed now) m t s now draw q
+      (λ _. maintain_quiet (act_of timer now) (record m { mode = Maintain (after_tick timer now word) }) s (record { noted = q.noted; mode = tt }))
+  mode_quiet (Receive r) m s now word q other = receive_quiet (ask_of (reception r) now) m r s now word q other
+  mode_quiet (Transmit t) m s now word q other = transmit_quiet (serve_of t.owed now) m t s now word q
 
-  tick_quiet : (m : MoteState) (s : Store) (now draw : ℕ) → IsQuiet m → Stays (tick_of m s now draw)
+  tick_quiet : (m : MoteState) (s : Store) (now word : ℕ) → IsQuiet m → Stays (tick_of m s now word)
   unfolding tick_of
-  tick_quiet m s now draw q = cond_both (clears m s now) _ _ Stays (λ _. record { quiet = q; sent = tt }) (λ _. mode_quiet m.mode m s now draw q q.mode)
+  tick_quiet m s now word q = cond_both (clears m s now) _ _ Stays (λ _. record { quiet = q; sent = tt }) (λ _. mode_quiet m.mode m s now word q q.mode)
 
   -- ---- frames
 
@@ -149,9 +149,9 @@ module _ (image from until : ℕ) (Noting : Noted → Type 0) (shuts : Shuts ima
   Hushed step = IsQuiet step.mote
 
   module _ (now : ℕ) (begun : from ≤ now) (early : now < until) where
-    noting_quiet : (own : Bool) (m : MoteState) (timer : Timer) (s : Store) (draw : ℕ) → IsQuiet m → Hushed (noting m timer s now draw own)
-    noting_quiet true m timer s draw q = record { noted = q.noted; mode = tt }
-    noting_quiet false m timer s draw q = record { noted = q.noted; mode = tt }
+    noting_quiet : (own : Bool) (m : MoteState) (timer : Timer) (s : Store) (word : ℕ) → IsQuiet m → Hushed (noting m timer s now word own)
+    noting_quiet true m timer s word q = record { noted = q.noted; mode = tt }
+    noting_quiet false m timer s word q = record { noted = q.noted; mode = tt }
 
     -- it does not ask for the image
     asks_other : (m : MoteState) (s : Store) (i : ℕ) (e : Entry) → IsQuiet m → asks m s now i e ≡ true → i ≢ image
@@ -159,19 +159,19 @@ module _ (image from until : ℕ) (Noting : Noted → Type 0) (shuts : Shuts ima
         let may = (and_parts (may_ask m.noted now i) (is_version (held s i) e.version || nat_le 2 s.room) yes_asks).0 in
         false≢true (sym (shuts.shut m.noted now early q.noted) ∙ ap (may_ask m.noted now) (sym same) ∙ may)
 
-    ahead_quiet : (o : Option ℕ) (m : MoteState) (timer : Timer) (s : Store) (draw source : ℕ) (entries : List Entry) (own : Bool) → IsQuiet m → Hushed (by_ahead o m s now draw (offer source entries) (noting m timer s now draw own))
-    ahead_quiet None m timer s draw source entries own q = noting_quiet own m timer s draw q
-    ahead_quiet (Some i) m timer s draw source entries own q =
+    ahead_quiet : (o : Option ℕ) (m : MoteState) (timer : Timer) (s : Store) (word source : ℕ) (entries : List Entry) (own : Bool) → IsQuiet m → Hushed (by_ahead o m s now word (offer source entries) (noting m timer s now word own))
+    ahead_quiet None m timer s word source entries own q = noting_quiet own m timer s word q
+    ahead_quiet (Some i) m timer s word source entries own q =
         cond_both (asks m s now i (entry_for entries i)) _ _ Hushed
         (λ is. record { noted = q.noted; mode = asks_other m s i (entry_for entries i) q is })
-        (λ _. noting_quiet own m timer s draw q)
+        (λ _. noting_quiet own m timer s word q)
 
-    advert_quiet : (mode : Mode) (m : MoteState) (s : Store) (draw source : ℕ) (entries : List Entry) (order : Order) → IsQuiet m → Hushed (on_advert mode m s now draw (offer source entries) order)
+    advert_quiet : (mode : Mode) (m : MoteState) (s : Store) (word source : ℕ) (entries : List Entry) (order : Order) → IsQuiet m → Hushed (on_advert mode m s now word (offer source entries) order)
     unfolding advert_heard
-    advert_quiet (Maintain timer) m s draw source entries order q =
-        let t = better_trail s order in ahead_quiet (ahead_in entries (last t)) m timer (last t) draw source entries (is_own entries order m.wide s) q
-    advert_quiet (Receive r) m s draw source entries order q = q
-    advert_quiet (Transmit t) m s draw source entries order q = q
+    advert_quiet (Maintain timer) m s word source entries order q =
+        let t = better_trail s order in ahead_quiet (ahead_in entries (last t)) m timer (last t) word source entries (is_own entries order m.wide s) q
+    advert_quiet (Receive r) m s word source entries order q = q
+    advert_quiet (Transmit t) m s word source entries order q = q
 
     to_it_quiet : (mode : Mode) (m : MoteState) (s : Store) (i version page : ℕ) (want : Numbers) → IsQuiet m → Hushed (to_it mode m s now (page_request i version page want))
     to_it_quiet (Maintain timer) m s i version page want q = cond_both (can_serve s i version page) _ _ Hushed (λ _. record { noted = q.noted; mode = tt }) (λ _. q)
@@ -183,46 +183,46 @@ module _ (image from until : ℕ) (Noting : Noted → Type 0) (shuts : Shuts ima
         cond_both (to == m.id) _ _ Hushed (λ _. to_it_quiet m.mode m s i version page want q)
         (λ _. cond_both (concerns s i version page) _ _ Hushed (λ _. record { noted = shuts.request m.noted now i begun q.noted; mode = q.mode }) (λ _. q))
 
-    seal_quiet : (o : Option Held) (m : MoteState) (r : Receiving) (s : Store) (draw : ℕ) (page : List ℕ) → IsQuiet m → Hushed (seal_by o m r s now draw page)
-    seal_quiet None m r s draw page q = q
-    seal_quiet (Some h) m r s draw page q =
+    seal_quiet : (o : Option Held) (m : MoteState) (r : Receiving) (s : Store) (word : ℕ) (page : List ℕ) → IsQuiet m → Hushed (seal_by o m r s now word page)
+    seal_quiet None m r s word page q = q
+    seal_quiet (Some h) m r s word page q =
         cond_both (may_seal r.image h page) _ _ Hushed (λ _. record { noted = q.noted; mode = tt }) (λ _. record { noted = q.noted; mode = tt })
 
-    takes_quiet : (m : MoteState) (r : Receiving) (s : Store) (draw k : ℕ) (bytes : List ℕ) → IsQuiet m → r.image ≢ image → Hushed (takes m r s now draw k bytes)
-    takes_quiet m r s draw k bytes q other =
+    takes_quiet : (m : MoteState) (r : Receiving) (s : Store) (word k : ℕ) (bytes : List ℕ) → IsQuiet m → r.image ≢ image → Hushed (takes m r s now word k bytes)
+    takes_quiet m r s word k bytes q other =
         let a = accepted r now k bytes in
-        cond_both (set.len (came a.packets) == packets) _ _ Hushed (λ _. seal_quiet (held s r.image) m r s draw (page_from a.packets) q) (λ _. record { noted = q.noted; mode = other })
+        cond_both (set.len (came a.packets) == packets) _ _ Hushed (λ _. seal_quiet (held s r.image) m r s word (page_from a.packets) q) (λ _. record { noted = q.noted; mode = other })
 
-    packet_quiet : (mode : Mode) (m : MoteState) (s : Store) (draw i version page k : ℕ) (bytes : List ℕ) → IsQuiet m → AsksNotFor image mode → Hushed (on_packet mode m s now draw (page_packet i version page k bytes))
-    packet_quiet (Receive r) m s draw i version page k bytes q other =
-        cond_both (is_wanted r i version page k) _ _ Hushed (λ _. takes_quiet m r s draw k bytes q other) (λ _. q)
-    packet_quiet (Maintain timer) m s draw i version page k bytes q other =
+    packet_quiet : (mode : Mode) (m : MoteState) (s : Store) (word i version page k : ℕ) (bytes : List ℕ) → IsQuiet m → AsksNotFor image mode → Hushed (on_packet mode m s now word (page_packet i version page k bytes))
+    packet_quiet (Receive r) m s word i version page k bytes q other =
+        cond_both (is_wanted r i version page k) _ _ Hushed (λ _. takes_quiet m r s word k bytes q other) (λ _. q)
+    packet_quiet (Maintain timer) m s word i version page k bytes q other =
         cond_both (concerns s i version page) _ _ Hushed (λ _. record { noted = shuts.packet m.noted now i begun q.noted; mode = q.mode }) (λ _. q)
-    packet_quiet (Transmit t) m s draw i version page k bytes q other = q
+    packet_quiet (Transmit t) m s word i version page k bytes q other = q
 
-    message_quiet : (message : Message) (m : MoteState) (s : Store) (draw : ℕ) → IsQuiet m → Hushed (on_message m s now draw message)
-    message_quiet (Advert source entries order) m s draw q = advert_quiet m.mode m s draw source entries order q
-    message_quiet (Request source to i version page want) m s draw q = request_quiet m s to i version page want q
-    message_quiet (Packet source i version page packet bytes) m s draw q = packet_quiet m.mode m s draw i version page packet bytes q q.mode
-    message_quiet (Wide source entries order) m s draw q = advert_quiet m.mode m s draw source entries order q
+    message_quiet : (message : Message) (m : MoteState) (s : Store) (word : ℕ) → IsQuiet m → Hushed (on_message m s now word message)
+    message_quiet (Advert source entries order) m s word q = advert_quiet m.mode m s word source entries order q
+    message_quiet (Request source to i version page want) m s word q = request_quiet m s to i version page want q
+    message_quiet (Packet source i version page packet bytes) m s word q = packet_quiet m.mode m s word i version page packet bytes q q.mode
+    message_quiet (Wide source entries order) m s word q = advert_quiet m.mode m s word source entries order q
 
-    frame_quiet : (r : Result Message FrameFault) (m : MoteState) (s : Store) (draw : ℕ) → IsQuiet m → Hushed (by_message r m s now draw)
-    frame_quiet (Err cause) m s draw q = q
-    frame_quiet (Ok message) m s draw q = cond_both (source_of message == m.id) _ _ Hushed (λ _. q) (λ _. message_quiet message m s draw q)
+    frame_quiet : (r : Result Message FrameFault) (m : MoteState) (s : Store) (word : ℕ) → IsQuiet m → Hushed (by_message r m s now word)
+    frame_quiet (Err cause) m s word q = q
+    frame_quiet (Ok message) m s word q = cond_both (source_of message == m.id) _ _ Hushed (λ _. q) (λ _. message_quiet message m s word q)
 
-    heard_quiet : (m : MoteState) (s : Store) (draw : ℕ) (bytes : List ℕ) → IsQuiet m → Hushed (heard_of m s now draw bytes)
+    heard_quiet : (m : MoteState) (s : Store) (word : ℕ) (bytes : List ℕ) → IsQuiet m → Hushed (heard_of m s now word bytes)
     unfolding heard_of
-    heard_quiet m s draw bytes q = frame_quiet (message_of bytes m.wide) m s draw q
+    heard_quiet m s word bytes q = frame_quiet (message_of bytes m.wide) m s word q
 
   -- ---- in a row
 
-  pub quiet_in : ((m : MoteState) (s : Store) (now draw : ℕ) (bytes : List ℕ) → (heard_of m s now draw bytes).sent ≡ None) → (events : List MoteEvent) (m : MoteState) (s : Store) → AllBetween from until events → IsQuiet m → AllByRecursion (NoRequest image) (sent_while events m s)
+  pub quiet_in : ((m : MoteState) (s : Store) (now word : ℕ) (bytes : List ℕ) → (heard_of m s now word bytes).sent ≡ None) → (events : List MoteEvent) (m : MoteState) (s : Store) → AllBetween from until events → IsQuiet m → AllByRecursion (NoRequest image) (sent_while events m s)
   unfolding sent_while
   quiet_in silent [] m s between q = tt
-  quiet_in silent (Ticks now draw ∷ rest) m s between q =
-      let step = tick_of m s now draw in
-      let stays = tick_quiet m s now draw q in
+  quiet_in silent (Ticks now word ∷ rest) m s between q =
+      let step = tick_of m s now word in
+      let stays = tick_quiet m s now word q in
       (stays.sent, quiet_in silent rest step.mote (last step.trail) between.1 stays.quiet)
-  quiet_in silent (Hears now draw bytes ∷ rest) m s between q =
-      let step = heard_of m s now draw bytes in
-      (subst (NoRequest image) (sym (silent m s now draw bytes)) tt, quiet_in silent rest step.mote (last step.trail) between.1 (heard_quiet now between.0.0 between.0.1 m s draw bytes q))
+  quiet_in silent (Hears now word bytes ∷ rest) m s between q =
+      let step = heard_of m s now word bytes in
+      (subst (NoRequest image) (sym (silent m s now word bytes)) tt, quiet_in silent rest step.mote (last step.trail) between.1 (heard_quiet now between.0.0 between.0.1 m s word bytes q))

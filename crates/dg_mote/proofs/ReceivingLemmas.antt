@@ -63,30 +63,30 @@ Ticked m step = GoesOn m.mode NoneComes step.mote.mode
 
 maintain_goes : (a : Act) (m : MoteState) (timer : Timer) (s : Store) → GoesOn m.mode NoneComes (maintain_by a (record m { mode = Maintain timer }) s).mote.mode
 maintain_goes act.Send m timer s = tt
-maintain_goes act.Suppressed m timer s = tt
+maintain_goes act.Quiet m timer s = tt
 maintain_goes act.Expired m timer s = tt
 maintain_goes act.Nothing m timer s = tt
 
-receive_goes : (a : Ask) (m : MoteState) (r : Receiving) (s : Store) (now draw : ℕ) → m.mode ≡ Receive r → Ticked m (receive_by a m r s now draw)
-receive_goes (ask.Request want) m r s now draw is = record { before = r; was = is; image = refl; version = refl; page = refl; packets_are = λ q there. inl there }
-receive_goes ask.GiveUp m r s now draw is = tt
-receive_goes ask.Wait m r s now draw is = stays NoneComes m.mode m.mode refl
+receive_goes : (a : Ask) (m : MoteState) (r : Receiving) (s : Store) (now word : ℕ) → m.mode ≡ Receive r → Ticked m (receive_by a m r s now word)
+receive_goes (ask.Request want) m r s now word is = record { before = r; was = is; image = refl; version = refl; page = refl; packets_are = λ q there. inl there }
+receive_goes ask.GiveUp m r s now word is = tt
+receive_goes ask.Wait m r s now word is = stays NoneComes m.mode m.mode refl
 
-transmit_goes : (a : Serve) (m : MoteState) (t : Sending) (s : Store) (now draw : ℕ) → m.mode ≡ Transmit t → Ticked m (transmit_by a m t s now draw)
-transmit_goes (serve.Send q) m t s now draw is =
+transmit_goes : (a : Serve) (m : MoteState) (t : Sending) (s : Store) (now word : ℕ) → m.mode ≡ Transmit t → Ticked m (transmit_by a m t s now word)
+transmit_goes (serve.Send q) m t s now word is =
     cond_both (set.len (after_next t.owed now).left == 0) _ _ (λ (n : MoteState). GoesOn m.mode NoneComes n.mode) (λ _. tt) (λ _. tt)
-transmit_goes serve.Done m t s now draw is = stays NoneComes m.mode m.mode refl
-transmit_goes serve.Wait m t s now draw is = stays NoneComes m.mode m.mode refl
+transmit_goes serve.Done m t s now word is = stays NoneComes m.mode m.mode refl
+transmit_goes serve.Wait m t s now word is = stays NoneComes m.mode m.mode refl
 
-mode_goes : (mode : Mode) (m : MoteState) (s : Store) (now draw : ℕ) → m.mode ≡ mode → Ticked m (mode_tick mode m s now draw)
-mode_goes (Maintain timer) m s now draw is =
-    cond_both (order_waits s) _ _ (Ticked m) (λ _. stays NoneComes m.mode m.mode refl) (λ _. maintain_goes (act_of timer now) m (after_tick timer now draw) s)
-mode_goes (Receive r) m s now draw is = receive_goes (ask_of (reception r) now) m r s now draw is
-mode_goes (Transmit t) m s now draw is = transmit_goes (serve_of t.owed now) m t s now draw is
+mode_goes : (mode : Mode) (m : MoteState) (s : Store) (now word : ℕ) → m.mode ≡ mode → Ticked m (mode_tick mode m s now word)
+mode_goes (Maintain timer) m s now word is =
+    cond_both (order_waits s) _ _ (Ticked m) (λ _. stays NoneComes m.mode m.mode refl) (λ _. maintain_goes (act_of timer now) m (after_tick timer now word) s)
+mode_goes (Receive r) m s now word is = receive_goes (ask_of (reception r) now) m r s now word is
+mode_goes (Transmit t) m s now word is = transmit_goes (serve_of t.owed now) m t s now word is
 
-pub tick_goes : (m : MoteState) (s : Store) (now draw : ℕ) → IfReceives (Continues m.mode NoneComes) (tick_of m s now draw).mote.mode
+pub tick_goes : (m : MoteState) (s : Store) (now word : ℕ) → IfReceives (Continues m.mode NoneComes) (tick_of m s now word).mote.mode
 unfolding tick_of
-tick_goes m s now draw = cond_both (clears m s now) _ _ (Ticked m) (λ _. stays NoneComes m.mode m.mode refl) (λ _. mode_goes m.mode m s now draw refl)
+tick_goes m s now word = cond_both (clears m s now) _ _ (Ticked m) (λ _. stays NoneComes m.mode m.mode refl) (λ _. mode_goes m.mode m s now word refl)
 
 -- ---- frames
 
@@ -111,25 +111,25 @@ module _ (comes : (image version page q : ℕ) → Type 0) (m : MoteState) where
       none_in (suc n) zero = refl
       none_in (suc n) (suc q) = none_in n q
 
-  noting_hears : (own : Bool) (timer : Timer) (s : Store) (now draw : ℕ) → Hears (noting m timer s now draw own)
-  noting_hears true timer s now draw = tt
-  noting_hears false timer s now draw = tt
+  noting_hears : (own : Bool) (timer : Timer) (s : Store) (now word : ℕ) → Hears (noting m timer s now word own)
+  noting_hears true timer s now word = tt
+  noting_hears false timer s now word = tt
 
-  ahead_hears : (o : Option ℕ) (timer : Timer) (s : Store) (now draw source : ℕ) (entries : List Entry) (own : Bool) → ((i : ℕ) → o ≡ Some i → 1 ≤ i)
-      → Hears (by_ahead o m s now draw (offer source entries) (noting m timer s now draw own))
-  ahead_hears None timer s now draw source entries own low = noting_hears own timer s now draw
-  ahead_hears (Some i) timer s now draw source entries own low =
+  ahead_hears : (o : Option ℕ) (timer : Timer) (s : Store) (now word source : ℕ) (entries : List Entry) (own : Bool) → ((i : ℕ) → o ≡ Some i → 1 ≤ i)
+      → Hears (by_ahead o m s now word (offer source entries) (noting m timer s now word own))
+  ahead_hears None timer s now word source entries own low = noting_hears own timer s now word
+  ahead_hears (Some i) timer s now word source entries own low =
       cond_both (asks m s now i (entry_for entries i)) _ _ Hears
       (λ _. inl (record { not_golden = low i refl; none = none_yet }))
-      (λ _. noting_hears own timer s now draw)
+      (λ _. noting_hears own timer s now word)
 
-  advert_hears : (mode : Mode) (s : Store) (now draw source : ℕ) (entries : List Entry) (order : Order) → m.mode ≡ mode → Hears (on_advert mode m s now draw (offer source entries) order)
+  advert_hears : (mode : Mode) (s : Store) (now word source : ℕ) (entries : List Entry) (order : Order) → m.mode ≡ mode → Hears (on_advert mode m s now word (offer source entries) order)
   unfolding advert_heard
-  advert_hears (Maintain timer) s now draw source entries order is =
+  advert_hears (Maintain timer) s now word source entries order is =
       let u = last (better_trail s order) in
-      ahead_hears (ahead_in entries u) timer u now draw source entries (is_own entries order m.wide s) (λ i e. (is_ahead entries u i e).low)
-  advert_hears (Receive r) s now draw source entries order is = same_mode m.mode refl
-  advert_hears (Transmit t) s now draw source entries order is = same_mode m.mode refl
+      ahead_hears (ahead_in entries u) timer u now word source entries (is_own entries order m.wide s) (λ i e. (is_ahead entries u i e).low)
+  advert_hears (Receive r) s now word source entries order is = same_mode m.mode refl
+  advert_hears (Transmit t) s now word source entries order is = same_mode m.mode refl
 
   to_it_hears : (mode : Mode) (s : Store) (now image version page : ℕ) (want : Numbers) → m.mode ≡ mode → Hears (to_it mode m s now (page_request image version page want))
   to_it_hears (Maintain timer) s now image version page want is = cond_both (can_serve s image version page) _ _ Hears (λ _. tt) (λ _. same_mode m.mode refl)
@@ -141,16 +141,16 @@ module _ (comes : (image version page q : ℕ) → Type 0) (m : MoteState) where
       cond_both (to == m.id) _ _ Hears (λ _. to_it_hears m.mode s now image version page want refl)
       (λ _. cond_both (concerns s image version page) _ _ Hears (λ _. same_mode m.mode refl) (λ _. same_mode m.mode refl))
 
-  seal_hears : (o : Option Held) (r : Receiving) (s : Store) (now draw : ℕ) (page : List ℕ) → Hears (seal_by o m r s now draw page)
-  seal_hears None r s now draw page = same_mode m.mode refl
-  seal_hears (Some h) r s now draw page = cond_both (may_seal r.image h page) _ _ Hears (λ _. tt) (λ _. tt)
+  seal_hears : (o : Option Held) (r : Receiving) (s : Store) (now word : ℕ) (page : List ℕ) → Hears (seal_by o m r s now word page)
+  seal_hears None r s now word page = same_mode m.mode refl
+  seal_hears (Some h) r s now word page = cond_both (may_seal r.image h page) _ _ Hears (λ _. tt) (λ _. tt)
 
-  packet_hears : (mode : Mode) (s : Store) (now draw image version page q : ℕ) (bytes : List ℕ) → m.mode ≡ mode → comes image version page q
-      → Hears (on_packet mode m s now draw (page_packet image version page q bytes))
-  packet_hears (Receive r) s now draw image version page q bytes is brings =
+  packet_hears : (mode : Mode) (s : Store) (now word image version page q : ℕ) (bytes : List ℕ) → m.mode ≡ mode → comes image version page q
+      → Hears (on_packet mode m s now word (page_packet image version page q bytes))
+  packet_hears (Receive r) s now word image version page q bytes is brings =
       cond_both (is_wanted r image version page q) _ _ Hears
       (λ w. cond_both (set.len (came (accepted r now q bytes).packets) == packets) _ _ Hears
-      (λ _. seal_hears (held s r.image) r s now draw (page_from (accepted r now q bytes).packets))
+      (λ _. seal_hears (held s r.image) r s now word (page_from (accepted r now q bytes).packets))
       (λ _. let known = wanted r image version page q w in
       inr (record { before = r; was = is; image = refl; version = refl; page = refl; packets_are = λ p there. or_comes p known there })))
       (λ _. same_mode m.mode refl)
@@ -162,22 +162,22 @@ module _ (comes : (image version page q : ℕ) → Type 0) (m : MoteState) where
           (subst (λ (k : ℕ). comes k r.version r.page q) (sym known.image_is) (subst (λ (k : ℕ). comes image k r.page q) (sym known.version_is) (subst (λ (k : ℕ). comes image version k q) (sym known.page_is) brings)))))
           (λ other. inl (sym (ap is_some (get_or-set_other r.packets q p (Some bytes) None other)) ∙ there))
           (cases_eq p q)
-  packet_hears (Maintain timer) s now draw image version page q bytes is brings = cond_both (concerns s image version page) _ _ Hears (λ _. same_mode m.mode refl) (λ _. same_mode m.mode refl)
-  packet_hears (Transmit t) s now draw image version page q bytes is brings = same_mode m.mode refl
+  packet_hears (Maintain timer) s now word image version page q bytes is brings = cond_both (concerns s image version page) _ _ Hears (λ _. same_mode m.mode refl) (λ _. same_mode m.mode refl)
+  packet_hears (Transmit t) s now word image version page q bytes is brings = same_mode m.mode refl
 
-  message_hears : (message : Message) (s : Store) (now draw : ℕ)
-      → ((source image version page q : ℕ) (content : List ℕ) → message ≡ Packet source image version page q content → comes image version page q) → Hears (on_message m s now draw message)
-  message_hears (Advert source entries order) s now draw brings = advert_hears m.mode s now draw source entries order refl
-  message_hears (Request source to image version page want) s now draw brings = request_hears s now to image version page want
-  message_hears (Packet source image version page q bytes) s now draw brings = packet_hears m.mode s now draw image version page q bytes refl (brings source image version page q bytes refl)
-  message_hears (Wide source entries order) s now draw brings = advert_hears m.mode s now draw source entries order refl
+  message_hears : (message : Message) (s : Store) (now word : ℕ)
+      → ((source image version page q : ℕ) (content : List ℕ) → message ≡ Packet source image version page q content → comes image version page q) → Hears (on_message m s now word message)
+  message_hears (Advert source entries order) s now word brings = advert_hears m.mode s now word source entries order refl
+  message_hears (Request source to image version page want) s now word brings = request_hears s now to image version page want
+  message_hears (Packet source image version page q bytes) s now word brings = packet_hears m.mode s now word image version page q bytes refl (brings source image version page q bytes refl)
+  message_hears (Wide source entries order) s now word brings = advert_hears m.mode s now word source entries order refl
 
-frame_goes_by : (bytes : List ℕ) (r : Result Message FrameFault) (m : MoteState) (s : Store) (now draw : ℕ) → message_of bytes m.wide ≡ r → Hears (Brings bytes m.wide) m (by_message r m s now draw)
-frame_goes_by bytes (Err fault) m s now draw is = same_mode (Brings bytes m.wide) m m.mode refl
-frame_goes_by bytes (Ok message) m s now draw is =
+frame_goes_by : (bytes : List ℕ) (r : Result Message FrameFault) (m : MoteState) (s : Store) (now word : ℕ) → message_of bytes m.wide ≡ r → Hears (Brings bytes m.wide) m (by_message r m s now word)
+frame_goes_by bytes (Err fault) m s now word is = same_mode (Brings bytes m.wide) m m.mode refl
+frame_goes_by bytes (Ok message) m s now word is =
     cond_both (source_of message == m.id) _ _ (Hears (Brings bytes m.wide) m) (λ _. same_mode (Brings bytes m.wide) m m.mode refl)
-    (λ _. message_hears (Brings bytes m.wide) m message s now draw (λ source image version page q content e. (source, content, is ∙ ap Ok e)))
+    (λ _. message_hears (Brings bytes m.wide) m message s now word (λ source image version page q content e. (source, content, is ∙ ap Ok e)))
 
-pub frame_goes : (m : MoteState) (s : Store) (now draw : ℕ) (bytes : List ℕ) → IfReceives (λ r. IsBegun r ⊎ Continues m.mode (Brings bytes m.wide) r) (heard_of m s now draw bytes).mote.mode
+pub frame_goes : (m : MoteState) (s : Store) (now word : ℕ) (bytes : List ℕ) → IfReceives (λ r. IsBegun r ⊎ Continues m.mode (Brings bytes m.wide) r) (heard_of m s now word bytes).mote.mode
 unfolding heard_of
-frame_goes m s now draw bytes = frame_goes_by bytes (message_of bytes m.wide) m s now draw refl
+frame_goes m s now word bytes = frame_goes_by bytes (message_of bytes m.wide) m s now word refl

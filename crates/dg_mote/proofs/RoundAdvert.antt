@@ -42,7 +42,7 @@ next x t now = record { store = x.store; mote = record x.mote { mode = Maintain 
 fires : (t : Timer) (now : ℕ) → t.fired ≡ false → t.count ≡ 0 → IsRunning t → t.begin + pace ≤ now → (act_of t now ≡ act.Send) × (after_tick t now 0 ≡ record t { fired = true })
 fires t now f c r h =
     let due : is_due t now ≡ true = λ i. not (f i) && le-leb (t.begin + t.t) now (omega (arith, r.before_end, r.longest)) i in (
-      ap (λ b. cond b (cond (ltb t.count redundancy) act.Send act.Suppressed) (cond (is_over t now) act.Expired act.Nothing)) due ∙ ap (λ b. cond b act.Send act.Suppressed) (lt-ltb t.count redundancy (omega (arith, c))),
+      ap (λ b. cond b (cond (ltb t.count redundancy) act.Send act.Quiet) (cond (is_over t now) act.Expired act.Nothing)) due ∙ ap (λ b. cond b act.Send act.Quiet) (lt-ltb t.count redundancy (omega (arith, c))),
       ap (λ b. cond b (record t { fired = true }) (cond (is_over t now) (interval_begun (min (2 * t.interval) longest_interval) now 0) t)) due,
     )
 
@@ -50,7 +50,7 @@ expires : (t : Timer) (now : ℕ) → t.fired ≡ true → IsRunning t → t.beg
 expires t now f r h =
     let due : is_due t now ≡ false = λ i. not (f i) && leb (t.begin + t.t) now in
     let over : is_over t now ≡ true = λ i. f i && le-leb (t.begin + t.interval) now (omega (arith, r.longest)) i in (
-      ap (λ b. cond b (cond (ltb t.count redundancy) act.Send act.Suppressed) (cond (is_over t now) act.Expired act.Nothing)) due ∙ ap (λ b. cond b act.Expired act.Nothing) over,
+      ap (λ b. cond b (cond (ltb t.count redundancy) act.Send act.Quiet) (cond (is_over t now) act.Expired act.Nothing)) due ∙ ap (λ b. cond b act.Expired act.Nothing) over,
       ap (λ b. cond b (record t { fired = true }) (cond (is_over t now) (interval_begun (min (2 * t.interval) longest_interval) now 0) t)) due ∙ ap (λ b. cond b (interval_begun (min (2 * t.interval) longest_interval) now 0) t) over,
     )
 

@@ -31,9 +31,9 @@ fresh_well table name bytes used in_table =
     kept golden zero = golden
     kept golden (suc i) = nothing (KeepsRow table (suc i)) (images - 1) i
 
-pub fresh_drained : (name bytes : List ℕ) (used id : ℕ) (wide : Bool) (now draw : ℕ) → Drained (fresh_spot name bytes used id wide now draw) now
-fresh_drained name bytes used id wide now draw = record {
-  timer = started now draw;
+pub fresh_drained : (name bytes : List ℕ) (used id : ℕ) (wide : Bool) (now word : ℕ) → Drained (fresh_spot name bytes used id wide now word) now
+fresh_drained name bytes used id wide now word = record {
+  timer = started now word;
   maintains = refl;
   unheard = refl;
   gesture = refl;

@@ -49,7 +49,7 @@ tick_by_mode x now mode none is =
 maintain_spot : (a : Act) (m before : MoteState) (s : Store) (now : ℕ) → spot_from before (tick_by (maintain_by a m s).answer (maintain_by a m s) now 0) ≡ record { store = s; mote = m }
 unfolding last_of
 maintain_spot act.Send m before s now = refl
-maintain_spot act.Suppressed m before s now = refl
+maintain_spot act.Quiet m before s now = refl
 maintain_spot act.Expired m before s now = refl
 maintain_spot act.Nothing m before s now = refl
 

@@ -80,28 +80,28 @@ concerns_is s image version page = use_by (held s image) version page
 
 -- ---- what is overheard
 
-pub request_overheard : (m : MoteState) (s : Store) (now draw : ℕ) (bytes : List ℕ) (source to image version page : ℕ) (want : Numbers) → message_of bytes m.wide ≡ Ok (Request source to image version page want) → source ≢ m.id → to ≢ m.id
-    → IsOfUse (held s image) version page → heard_of m s now draw bytes ≡ record { mote = record m { noted = with_request m.noted now image }; trail = resting s 0; sent = None; answer = Noted }
-request_overheard m s now draw bytes source to image version page want e other not_me of_use =
-    read_as (Request source to image version page want) m s now draw bytes e other
+pub request_overheard : (m : MoteState) (s : Store) (now word : ℕ) (bytes : List ℕ) (source to image version page : ℕ) (want : Numbers) → message_of bytes m.wide ≡ Ok (Request source to image version page want) → source ≢ m.id → to ≢ m.id
+    → IsOfUse (held s image) version page → heard_of m s now word bytes ≡ record { mote = record m { noted = with_request m.noted now image }; trail = resting s 0; sent = None; answer = Noted }
+request_overheard m s now word bytes source to image version page want e other not_me of_use =
+    read_as (Request source to image version page want) m s now word bytes e other
     ∙ cond-false (to == m.id) (to_it m.mode m s now (page_request image version page want)) (overheard m s now image version page) (ne_eqb to m.id not_me)
     ∙ cond-true (concerns s image version page) _ (dropped m s) ((concerns_is s image version page).1 of_use)
 
-pub packet_overheard : (m : MoteState) (s : Store) (timer : Timer) (now draw : ℕ) (bytes : List ℕ) (source image version page q : ℕ) (content : List ℕ) → message_of bytes m.wide ≡ Ok (Packet source image version page q content) → source ≢ m.id → m.mode ≡ Maintain timer
-    → IsOfUse (held s image) version page → heard_of m s now draw bytes ≡ record { mote = record m { noted = with_packet m.noted now image }; trail = resting s 0; sent = None; answer = Noted }
-packet_overheard m s timer now draw bytes source image version page q content e other is of_use =
-    read_as (Packet source image version page q content) m s now draw bytes e other
-    ∙ ap (λ mode. on_packet mode m s now draw (page_packet image version page q content)) is
+pub packet_overheard : (m : MoteState) (s : Store) (timer : Timer) (now word : ℕ) (bytes : List ℕ) (source image version page q : ℕ) (content : List ℕ) → message_of bytes m.wide ≡ Ok (Packet source image version page q content) → source ≢ m.id → m.mode ≡ Maintain timer
+    → IsOfUse (held s image) version page → heard_of m s now word bytes ≡ record { mote = record m { noted = with_packet m.noted now image }; trail = resting s 0; sent = None; answer = Noted }
+packet_overheard m s timer now word bytes source image version page q content e other is of_use =
+    read_as (Packet source image version page q content) m s now word bytes e other
+    ∙ ap (λ mode. on_packet mode m s now word (page_packet image version page q content)) is
     ∙ cond-true (concerns s image version page) _ (dropped m s) ((concerns_is s image version page).1 of_use)
 
 -- ---- what is served
 
-pub union_owed : (m : MoteState) (s : Store) (t : Sending) (now draw : ℕ) (bytes : List ℕ) (source : ℕ) (want : Numbers) → message_of bytes m.wide ≡ Ok (Request source m.id t.image t.version t.page want) → source ≢ m.id → m.mode ≡ Transmit t
-    → heard_of m s now draw bytes ≡ record { mote = record m { mode = Transmit (record t { owed = after_merge t.owed want }) }; trail = resting s 0; sent = None; answer = Merged }
-union_owed m s t now draw bytes source want e other is =
+pub union_owed : (m : MoteState) (s : Store) (t : Sending) (now word : ℕ) (bytes : List ℕ) (source : ℕ) (want : Numbers) → message_of bytes m.wide ≡ Ok (Request source m.id t.image t.version t.page want) → source ≢ m.id → m.mode ≡ Transmit t
+    → heard_of m s now word bytes ≡ record { mote = record m { mode = Transmit (record t { owed = after_merge t.owed want }) }; trail = resting s 0; sent = None; answer = Merged }
+union_owed m s t now word bytes source want e other is =
     let served : is_served t t.image t.version t.page ≡ true =
     and_from ((t.image == t.image) && (t.version == t.version)) (t.page == t.page) (and_from (t.image == t.image) (t.version == t.version) (eq-eqb t.image t.image refl) (eq-eqb t.version t.version refl)) (eq-eqb t.page t.page refl) in
-    read_as (Request source m.id t.image t.version t.page want) m s now draw bytes e other
+    read_as (Request source m.id t.image t.version t.page want) m s now word bytes e other
     ∙ cond-true (m.id == m.id) (to_it m.mode m s now (page_request t.image t.version t.page want)) (overheard m s now t.image t.version t.page) (eq-eqb m.id m.id refl)
     ∙ ap (λ mode. to_it mode m s now (page_request t.image t.version t.page want)) is
     ∙ cond-true (is_served t t.image t.version t.page) _ (dropped m s) served
@@ -119,23 +119,23 @@ can_serve_is s image version page = (
   λ p. serve_by_kept (held s image) s image version page refl p,
 )
 
-to_me : (m : MoteState) (s : Store) (timer : Timer) (now draw : ℕ) (bytes : List ℕ) (source image version page : ℕ) (want : Numbers) → message_of bytes m.wide ≡ Ok (Request source m.id image version page want) → source ≢ m.id → m.mode ≡ Maintain timer
-    → heard_of m s now draw bytes ≡ to_it (Maintain timer) m s now (page_request image version page want)
-to_me m s timer now draw bytes source image version page want e other is =
-    read_as (Request source m.id image version page want) m s now draw bytes e other
+to_me : (m : MoteState) (s : Store) (timer : Timer) (now word : ℕ) (bytes : List ℕ) (source image version page : ℕ) (want : Numbers) → message_of bytes m.wide ≡ Ok (Request source m.id image version page want) → source ≢ m.id → m.mode ≡ Maintain timer
+    → heard_of m s now word bytes ≡ to_it (Maintain timer) m s now (page_request image version page want)
+to_me m s timer now word bytes source image version page want e other is =
+    read_as (Request source m.id image version page want) m s now word bytes e other
     ∙ cond-true (m.id == m.id) (to_it m.mode m s now (page_request image version page want)) (overheard m s now image version page) (eq-eqb m.id m.id refl)
     ∙ ap (λ mode. to_it mode m s now (page_request image version page want)) is
 
-pub page_served : (m : MoteState) (s : Store) (timer : Timer) (now draw : ℕ) (bytes : List ℕ) (source image version page : ℕ) (want : Numbers) → message_of bytes m.wide ≡ Ok (Request source m.id image version page want) → source ≢ m.id → m.mode ≡ Maintain timer → HasPage s image version page
-    → heard_of m s now draw bytes ≡ record { mote = record m { mode = Transmit (record { image = image; version = version; page = page; owed = owed_begun now want }) }; trail = resting s 0; sent = None; answer = Serves image page }
-page_served m s timer now draw bytes source image version page want e other is has =
-    to_me m s timer now draw bytes source image version page want e other is
+pub page_served : (m : MoteState) (s : Store) (timer : Timer) (now word : ℕ) (bytes : List ℕ) (source image version page : ℕ) (want : Numbers) → message_of bytes m.wide ≡ Ok (Request source m.id image version page want) → source ≢ m.id → m.mode ≡ Maintain timer → HasPage s image version page
+    → heard_of m s now word bytes ≡ record { mote = record m { mode = Transmit (record { image = image; version = version; page = page; owed = owed_begun now want }) }; trail = resting s 0; sent = None; answer = Serves image page }
+page_served m s timer now word bytes source image version page want e other is has =
+    to_me m s timer now word bytes source image version page want e other is
     ∙ cond-true (can_serve s image version page) _ (dropped m s) ((can_serve_is s image version page).1 has)
 
-pub page_missing : (m : MoteState) (s : Store) (timer : Timer) (now draw : ℕ) (bytes : List ℕ) (source image version page : ℕ) (want : Numbers) → message_of bytes m.wide ≡ Ok (Request source m.id image version page want) → source ≢ m.id → m.mode ≡ Maintain timer → (HasPage s image version page → ⊥)
-    → heard_of m s now draw bytes ≡ dropped m s
-page_missing m s timer now draw bytes source image version page want e other is lacks =
-    to_me m s timer now draw bytes source image version page want e other is
+pub page_missing : (m : MoteState) (s : Store) (timer : Timer) (now word : ℕ) (bytes : List ℕ) (source image version page : ℕ) (want : Numbers) → message_of bytes m.wide ≡ Ok (Request source m.id image version page want) → source ≢ m.id → m.mode ≡ Maintain timer → (HasPage s image version page → ⊥)
+    → heard_of m s now word bytes ≡ dropped m s
+page_missing m s timer now word bytes source image version page want e other is lacks =
+    to_me m s timer now word bytes source image version page want e other is
     ∙ elim (cases_Bool (can_serve s image version page)) [
       | inl can ↦ absurd (lacks ((can_serve_is s image version page).0 can))
       | inr cannot ↦ cond-false (can_serve s image version page) _ (dropped m s) cannot
@@ -145,19 +145,19 @@ page_missing m s timer now draw bytes source image version page want e other is 
 
 no_restart : (a : Act) (m : MoteState) (s : Store) → (maintain_by a m s).answer ≡ Restart → ⊥
 no_restart act.Send m s e = cc
-no_restart act.Suppressed m s e = cc
+no_restart act.Quiet m s e = cc
 no_restart act.Expired m s e = cc
 no_restart act.Nothing m s e = cc
 
-no_restart_asking : (a : Ask) (m : MoteState) (r : Receiving) (s : Store) (now draw : ℕ) → (receive_by a m r s now draw).answer ≡ Restart → ⊥
-no_restart_asking (ask.Request want) m r s now draw e = cc
-no_restart_asking ask.GiveUp m r s now draw e = cc
-no_restart_asking ask.Wait m r s now draw e = cc
+no_restart_asking : (a : Ask) (m : MoteState) (r : Receiving) (s : Store) (now word : ℕ) → (receive_by a m r s now word).answer ≡ Restart → ⊥
+no_restart_asking (ask.Request want) m r s now word e = cc
+no_restart_asking ask.GiveUp m r s now word e = cc
+no_restart_asking ask.Wait m r s now word e = cc
 
-no_restart_serving : (a : Serve) (m : MoteState) (t : Sending) (s : Store) (now draw : ℕ) → (transmit_by a m t s now draw).answer ≡ Restart → ⊥
-no_restart_serving (serve.Send q) m t s now draw e = cc
-no_restart_serving serve.Done m t s now draw e = cc
-no_restart_serving serve.Wait m t s now draw e = cc
+no_restart_serving : (a : Serve) (m : MoteState) (t : Sending) (s : Store) (now word : ℕ) → (transmit_by a m t s now word).answer ≡ Restart → ⊥
+no_restart_serving (serve.Send q) m t s now word e = cc
+no_restart_serving serve.Done m t s now word e = cc
+no_restart_serving serve.Wait m t s now word e = cc
 
 abbrev restarting : MoteState → Store → MoteStep Did
 restarting m s = record { mote = m; trail = resting s 0; sent = None; answer = Restart }
@@ -168,35 +168,35 @@ record Restarts (m : MoteState) (s : Store) (step : MoteStep Did) : Type 0 where
   waits : order_waits s ≡ true
   nothing : step ≡ restarting m s
 
-mode_restarts : (mode : Mode) (m : MoteState) (s : Store) (now draw : ℕ) → m.mode ≡ mode → (mode_tick mode m s now draw).answer ≡ Restart → Restarts m s (mode_tick mode m s now draw)
-mode_restarts (Maintain timer) m s now draw is =
-    let next = record m { mode = Maintain (after_tick timer now draw) } in
+mode_restarts : (mode : Mode) (m : MoteState) (s : Store) (now word : ℕ) → m.mode ≡ mode → (mode_tick mode m s now word).answer ≡ Restart → Restarts m s (mode_tick mode m s now word)
+mode_restarts (Maintain timer) m s now word is =
+    let next = record m { mode = Maintain (after_tick timer now word) } in
     cond_both (order_waits s) (restarting m s) (maintain_by (act_of timer now) next s) (λ (x : MoteStep Did). x.answer ≡ Restart → Restarts m s x)
     (λ waits e. record { timer = timer; maintains = is; waits = waits; nothing = refl })
     (λ _ e. absurd (no_restart (act_of timer now) next s e))
-mode_restarts (Receive r) m s now draw is = λ e. absurd (no_restart_asking (ask_of (reception r) now) m r s now draw e)
-mode_restarts (Transmit t) m s now draw is = λ e. absurd (no_restart_serving (serve_of t.owed now) m t s now draw e)
+mode_restarts (Receive r) m s now word is = λ e. absurd (no_restart_asking (ask_of (reception r) now) m r s now word e)
+mode_restarts (Transmit t) m s now word is = λ e. absurd (no_restart_serving (serve_of t.owed now) m t s now word e)
 
-tick_restarts : (m : MoteState) (s : Store) (now draw : ℕ) → (tick_of m s now draw).answer ≡ Restart → MayRestart m s now × (tick_of m s now draw ≡ restarting m s)
+tick_restarts : (m : MoteState) (s : Store) (now word : ℕ) → (tick_of m s now word).answer ≡ Restart → MayRestart m s now × (tick_of m s now word ≡ restarting m s)
 unfolding tick_of
-tick_restarts m s now draw =
-    cond_both (clears m s now) (record { mote = m; trail = clear_trail s; sent = None; answer = Idle }) (mode_tick m.mode m s now draw)
+tick_restarts m s now word =
+    cond_both (clears m s now) (record { mote = m; trail = clear_trail s; sent = None; answer = Idle }) (mode_tick m.mode m s now word)
     (λ (x : MoteStep Did). x.answer ≡ Restart → MayRestart m s now × (x ≡ restarting m s))
     (λ _ e. cc)
-    (λ keeps e. let r = mode_restarts m.mode m s now draw refl e in (record { timer = r.timer; maintains = r.maintains; clears_nothing = keeps; waits = r.waits }, r.nothing))
+    (λ keeps e. let r = mode_restarts m.mode m s now word refl e in (record { timer = r.timer; maintains = r.maintains; clears_nothing = keeps; waits = r.waits }, r.nothing))
 
-restarts_now : (m : MoteState) (s : Store) (now draw : ℕ) → MayRestart m s now → tick_of m s now draw ≡ restarting m s
+restarts_now : (m : MoteState) (s : Store) (now word : ℕ) → MayRestart m s now → tick_of m s now word ≡ restarting m s
 unfolding tick_of
-restarts_now m s now draw may =
-    cond-false (clears m s now) _ (mode_tick m.mode m s now draw) may.clears_nothing
-    ∙ ap (λ mode. mode_tick mode m s now draw) may.maintains
-    ∙ cond-true (order_waits s) (restarting m s) (maintain_by (act_of may.timer now) (record m { mode = Maintain (after_tick may.timer now draw) }) s) may.waits
+restarts_now m s now word may =
+    cond-false (clears m s now) _ (mode_tick m.mode m s now word) may.clears_nothing
+    ∙ ap (λ mode. mode_tick mode m s now word) may.maintains
+    ∙ cond-true (order_waits s) (restarting m s) (maintain_by (act_of may.timer now) (record m { mode = Maintain (after_tick may.timer now word) }) s) may.waits
 
-pub restart_exactly : (m : MoteState) (s : Store) (now draw : ℕ) → ((tick_of m s now draw).answer ≡ Restart) ↔ MayRestart m s now
-restart_exactly m s now draw = (λ e. (tick_restarts m s now draw e).0, λ may. ap (λ (x : MoteStep Did). x.answer) (restarts_now m s now draw may))
+pub restart_exactly : (m : MoteState) (s : Store) (now word : ℕ) → ((tick_of m s now word).answer ≡ Restart) ↔ MayRestart m s now
+restart_exactly m s now word = (λ e. (tick_restarts m s now word e).0, λ may. ap (λ (x : MoteStep Did). x.answer) (restarts_now m s now word may))
 
-pub restart_nothing : (m : MoteState) (s : Store) (now draw : ℕ) → (tick_of m s now draw).answer ≡ Restart → tick_of m s now draw ≡ restarting m s
-restart_nothing m s now draw e = (tick_restarts m s now draw e).1
+pub restart_nothing : (m : MoteState) (s : Store) (now word : ℕ) → (tick_of m s now word).answer ≡ Restart → tick_of m s now word ≡ restarting m s
+restart_nothing m s now word e = (tick_restarts m s now word e).1
 
 -- ---- what is sent
 
@@ -217,7 +217,7 @@ missing_is r q =
       λ both. is ∙ (λ i. lt-ltb q packets both.0 i && not (is_some (both.1 i) && nat_lt q packets)),
     )
 
-module _ (m : MoteState) (s : Store) (now draw source to image version page : ℕ) (want : Numbers) where
+module _ (m : MoteState) (s : Store) (now word source to image version page : ℕ) (want : Numbers) where
   abbrev AsksSo : Option Message → Type 0
   AsksSo sent = sent ≡ Some (Request source to image version page want) → AsksFor m source to image version page want
 
@@ -227,7 +227,7 @@ module _ (m : MoteState) (s : Store) (now draw source to image version page : �
 
   maintain_told : (a : Act) (x : MoteState) → AsksSo (maintain_by a x s).sent
   maintain_told act.Send x e = advert_told x.id x.wide (entries_of x.wide s) (own_order x.wide s) e
-  maintain_told act.Suppressed x e = cc
+  maintain_told act.Quiet x e = cc
   maintain_told act.Expired x e = cc
   maintain_told act.Nothing x e = cc
 
@@ -245,35 +245,35 @@ module _ (m : MoteState) (s : Store) (now draw source to image version page : �
         missing = λ q. subst (λ w. (set.contains w q ≡ true) ↔ ((q < packets) × (packet r.packets q ≡ None))) same (missing_is r q);
       }
 
-  receive_told : (r : Receiving) → m.mode ≡ Receive r → AsksSo (receive_by (ask_of (reception r) now) m r s now draw).sent
+  receive_told : (r : Receiving) → m.mode ≡ Receive r → AsksSo (receive_by (ask_of (reception r) now) m r s now word).sent
   receive_told r is =
-      let P : Ask → Type 0 = λ x. AsksSo (receive_by x m r s now draw).sent in
+      let P : Ask → Type 0 = λ x. AsksSo (receive_by x m r s now word).sent in
       cond_both (nat_lt now r.due) ask.Wait _ P (λ _ e. cc)
       (λ _. cond_both (nat_le most_requests r.tries) ask.GiveUp (ask.Request (missing (reception r))) P (λ _ e. cc) (λ _. asks_told r is))
 
-  transmit_told : (a : Serve) (t : Sending) → AsksSo (transmit_by a m t s now draw).sent
+  transmit_told : (a : Serve) (t : Sending) → AsksSo (transmit_by a m t s now word).sent
   transmit_told (serve.Send q) t e = cc
   transmit_told serve.Done t e = cc
   transmit_told serve.Wait t e = cc
 
-  mode_told : (mode : Mode) → m.mode ≡ mode → AsksSo (mode_tick mode m s now draw).sent
+  mode_told : (mode : Mode) → m.mode ≡ mode → AsksSo (mode_tick mode m s now word).sent
   mode_told (Maintain timer) is =
-      cond_both (order_waits s) _ _ (λ (x : MoteStep Did). AsksSo x.sent) (λ _ e. cc) (λ _. maintain_told (act_of timer now) (record m { mode = Maintain (after_tick timer now draw) }))
+      cond_both (order_waits s) _ _ (λ (x : MoteStep Did). AsksSo x.sent) (λ _ e. cc) (λ _. maintain_told (act_of timer now) (record m { mode = Maintain (after_tick timer now word) }))
   mode_told (Receive r) is = receive_told r is
   mode_told (Transmit t) is = transmit_told (serve_of t.owed now) t
 
-  pub request_told : AsksSo (tick_of m s now draw).sent
+  pub request_told : AsksSo (tick_of m s now word).sent
   unfolding tick_of
   request_told = cond_both (clears m s now) _ _ (λ (x : MoteStep Did). AsksSo x.sent) (λ _ e. cc) (λ _. mode_told m.mode refl)
 
 -- an advert that is sent is the own summary
-module _ (m : MoteState) (s : Store) (now draw : ℕ) (wide : Bool) (source : ℕ) (entries : List Entry) (order : Order) where
+module _ (m : MoteState) (s : Store) (now word : ℕ) (wide : Bool) (source : ℕ) (entries : List Entry) (order : Order) where
   abbrev Says : Option Message → Type 0
   Says sent = sent ≡ Some (advert_by wide source entries order) → advert_by wide source entries order ≡ advert_of m.id m.wide s
 
   maintain_says : (a : Act) (x : MoteState) → x.id ≡ m.id → x.wide ≡ m.wide → Says (maintain_by a x s).sent
   maintain_says act.Send x same alike e = sym (same_Some (advert_of x.id x.wide s) (advert_by wide source entries order) e) ∙ ap (λ n. advert_of n x.wide s) same ∙ ap (λ w. advert_of m.id w s) alike
-  maintain_says act.Suppressed x same alike e = cc
+  maintain_says act.Quiet x same alike e = cc
   maintain_says act.Expired x same alike e = cc
   maintain_says act.Nothing x same alike e = cc
 
@@ -283,24 +283,24 @@ module _ (m : MoteState) (s : Store) (now draw : ℕ) (wide : Bool) (source : �
   no_advert true message narrow many = many source entries order
   no_advert false message narrow many = narrow source entries order
 
-  receive_says : (a : Ask) (r : Receiving) → Says (receive_by a m r s now draw).sent
+  receive_says : (a : Ask) (r : Receiving) → Says (receive_by a m r s now word).sent
   receive_says (ask.Request want) r e =
       absurd (no_advert wide (Request m.id r.server r.image r.version r.page want) (λ a b c f. cc) (λ a b c f. cc) (same_Some _ (advert_by wide source entries order) e))
   receive_says ask.GiveUp r e = cc
   receive_says ask.Wait r e = cc
 
-  transmit_says : (a : Serve) (t : Sending) → Says (transmit_by a m t s now draw).sent
+  transmit_says : (a : Serve) (t : Sending) → Says (transmit_by a m t s now word).sent
   transmit_says (serve.Send q) t e =
       absurd (no_advert wide (Packet m.id t.image t.version t.page q (stored s t q)) (λ a b c f. cc) (λ a b c f. cc) (same_Some _ (advert_by wide source entries order) e))
   transmit_says serve.Done t e = cc
   transmit_says serve.Wait t e = cc
 
-  mode_says : (mode : Mode) → Says (mode_tick mode m s now draw).sent
+  mode_says : (mode : Mode) → Says (mode_tick mode m s now word).sent
   mode_says (Maintain timer) =
-      cond_both (order_waits s) _ _ (λ (x : MoteStep Did). Says x.sent) (λ _ e. cc) (λ _. maintain_says (act_of timer now) (record m { mode = Maintain (after_tick timer now draw) }) refl refl)
+      cond_both (order_waits s) _ _ (λ (x : MoteStep Did). Says x.sent) (λ _ e. cc) (λ _. maintain_says (act_of timer now) (record m { mode = Maintain (after_tick timer now word) }) refl refl)
   mode_says (Receive r) = receive_says (ask_of (reception r) now) r
   mode_says (Transmit t) = transmit_says (serve_of t.owed now) t
 
-  pub advert_says : Says (tick_of m s now draw).sent
+  pub advert_says : Says (tick_of m s now word).sent
   unfolding tick_of
   advert_says = cond_both (clears m s now) _ _ (λ (x : MoteStep Did). Says x.sent) (λ _ e. cc) (λ _. mode_says m.mode)

@@ -204,33 +204,33 @@ module _ (laws : SpellLaws) where
 
     maintain_said : (a : Act) (m : MoteState) → m.id ≡ id → m.wide ≡ wide → OrderFits s.order → IfSome (maintain_by a m s).sent (IsSaid id wide)
     maintain_said act.Send m same alike order = subst (λ n. IsSaid id wide (advert_of n m.wide s)) (sym same) (subst (λ w. IsSaid id wide (advert_of id w s)) (sym alike) (advert_said order))
-    maintain_said act.Suppressed m same alike order = tt
+    maintain_said act.Quiet m same alike order = tt
     maintain_said act.Expired m same alike order = tt
     maintain_said act.Nothing m same alike order = tt
 
-    receive_said : (m : MoteState) (r : Receiving) (now draw : ℕ) → m.id ≡ id → ReceivesRow table s r → (r.server < 2 ^ 16) × NamesKnown wide (Receive r) → IfSome (receive_by (ask_of (reception r) now) m r s now draw).sent (IsSaid id wide)
-    receive_said m r now draw same a fits =
-        let P : Ask → Type 0 = λ x. IfSome (receive_by x m r s now draw).sent (IsSaid id wide) in
+    receive_said : (m : MoteState) (r : Receiving) (now word : ℕ) → m.id ≡ id → ReceivesRow table s r → (r.server < 2 ^ 16) × NamesKnown wide (Receive r) → IfSome (receive_by (ask_of (reception r) now) m r s now word).sent (IsSaid id wide)
+    receive_said m r now word same a fits =
+        let P : Ask → Type 0 = λ x. IfSome (receive_by x m r s now word).sent (IsSaid id wide) in
         cond_both (nat_lt now r.due) ask.Wait _ P (λ _. tt)
         (λ _. cond_both (nat_le most_requests r.tries) ask.GiveUp (ask.Request (missing (reception r))) P (λ _. tt)
         (λ _. subst (λ n. IsSaid id wide (Request n r.server r.image r.version r.page (missing (reception r)))) (sym same) (request_said r a fits)))
 
-    transmit_said : (m : MoteState) (t : Sending) (now draw : ℕ) → m.id ≡ id → Serves s t → NamesKnown wide (Transmit t) → AllBelow packets t.owed.left → IfSome (transmit_by (serve_of t.owed now) m t s now draw).sent (IsSaid id wide)
-    transmit_said m t now draw same v named all = by_least (least t.owed.left) (nat_lt now t.owed.due) (least_cases t.owed.left)
+    transmit_said : (m : MoteState) (t : Sending) (now word : ℕ) → m.id ≡ id → Serves s t → NamesKnown wide (Transmit t) → AllBelow packets t.owed.left → IfSome (transmit_by (serve_of t.owed now) m t s now word).sent (IsSaid id wide)
+    transmit_said m t now word same v named all = by_least (least t.owed.left) (nat_lt now t.owed.due) (least_cases t.owed.left)
       where
-        by_least : (o : Option ℕ) (early : Bool) → MatchOption o (t.owed.left ≡ set.empty) (IsLeast t.owed.left) → IfSome (transmit_by (serve_by o early) m t s now draw).sent (IsSaid id wide)
+        by_least : (o : Option ℕ) (early : Bool) → MatchOption o (t.owed.left ≡ set.empty) (IsLeast t.owed.left) → IfSome (transmit_by (serve_by o early) m t s now word).sent (IsSaid id wide)
         by_least None early l = tt
         by_least (Some q) true l = tt
         by_least (Some q) false l = subst (λ n. IsSaid id wide (Packet n t.image t.version t.page q (stored s t q))) (sym same) (packet_said t q v named (all q l.member))
 
-    mode_said : (mode : Mode) (m : MoteState) (now draw : ℕ) → m.id ≡ id → m.wide ≡ wide → OrderFits s.order → ModeAgrees table s mode → ModeTimely mode now → ServerFits mode × NamesKnown wide mode → IfSome (mode_tick mode m s now draw).sent (IsSaid id wide)
-    mode_said (Maintain timer) m now draw same alike order a timely fits =
+    mode_said : (mode : Mode) (m : MoteState) (now word : ℕ) → m.id ≡ id → m.wide ≡ wide → OrderFits s.order → ModeAgrees table s mode → ModeTimely mode now → ServerFits mode × NamesKnown wide mode → IfSome (mode_tick mode m s now word).sent (IsSaid id wide)
+    mode_said (Maintain timer) m now word same alike order a timely fits =
         cond_both (order_waits s) _ _ (λ (x : MoteStep Did). IfSome x.sent (IsSaid id wide)) (λ _. tt)
-        (λ _. maintain_said (act_of timer now) (record m { mode = Maintain (after_tick timer now draw) }) same alike order)
-    mode_said (Receive r) m now draw same alike order a timely fits = receive_said m r now draw same a fits
-    mode_said (Transmit t) m now draw same alike order a timely fits = transmit_said m t now draw same a fits.1 timely.1
+        (λ _. maintain_said (act_of timer now) (record m { mode = Maintain (after_tick timer now word) }) same alike order)
+    mode_said (Receive r) m now word same alike order a timely fits = receive_said m r now word same a fits
+    mode_said (Transmit t) m now word same alike order a timely fits = transmit_said m t now word same a fits.1 timely.1
 
-    pub tick_said : (m : MoteState) (now draw : ℕ) → m.id ≡ id → m.wide ≡ wide → OrderFits s.order → ModeAgrees table s m.mode → ModeTimely m.mode now → ServerFits m.mode × NamesKnown wide m.mode → IfSome (tick_of m s now draw).sent (IsSaid id wide)
+    pub tick_said : (m : MoteState) (now word : ℕ) → m.id ≡ id → m.wide ≡ wide → OrderFits s.order → ModeAgrees table s m.mode → ModeTimely m.mode now → ServerFits m.mode × NamesKnown wide m.mode → IfSome (tick_of m s now word).sent (IsSaid id wide)
     unfolding tick_of
-    tick_said m now draw same alike order a timely fits =
-        cond_both (clears m s now) _ _ (λ (x : MoteStep Did). IfSome x.sent (IsSaid id wide)) (λ _. tt) (λ _. mode_said m.mode m now draw same alike order a timely fits)
+    tick_said m now word same alike order a timely fits =
+        cond_both (clears m s now) _ _ (λ (x : MoteStep Did). IfSome x.sent (IsSaid id wide)) (λ _. tt) (λ _. mode_said m.mode m now word same alike order a timely fits)

@@ -47,21 +47,21 @@ pub record IsPlain (m : MoteState) (s : Store) (step : MoteStep Heard) : Type 0 
 dropped_plain : (m : MoteState) (s : Store) → IsPlain m s (dropped m s)
 dropped_plain m s = record { silent = refl; unchanged = (refl, refl) }
 
-noting_plain : (own : Bool) (m : MoteState) (timer : Timer) (s from : Store) (now draw : ℕ) (t : Trail Store) → IsPlain m from (turn_behind t (noting m timer s now draw own))
-noting_plain true m timer s from now draw t = record { silent = refl; unchanged = tt }
-noting_plain false m timer s from now draw t = record { silent = refl; unchanged = tt }
+noting_plain : (own : Bool) (m : MoteState) (timer : Timer) (s from : Store) (now word : ℕ) (t : Trail Store) → IsPlain m from (turn_behind t (noting m timer s now word own))
+noting_plain true m timer s from now word t = record { silent = refl; unchanged = tt }
+noting_plain false m timer s from now word t = record { silent = refl; unchanged = tt }
 
-ahead_plain : (o : Option ℕ) (m : MoteState) (timer : Timer) (s from : Store) (now draw source : ℕ) (entries : List Entry) (own : Bool) (t : Trail Store) → IsPlain m from (turn_behind t (by_ahead o m s now draw (offer source entries) (noting m timer s now draw own)))
-ahead_plain None m timer s from now draw source entries own t = noting_plain own m timer s from now draw t
-ahead_plain (Some i) m timer s from now draw source entries own t =
-    cond_both (asks m s now i (entry_for entries i)) _ _ (λ (x : MoteStep Heard). IsPlain m from (turn_behind t x)) (λ _. record { silent = refl; unchanged = tt }) (λ _. noting_plain own m timer s from now draw t)
+ahead_plain : (o : Option ℕ) (m : MoteState) (timer : Timer) (s from : Store) (now word source : ℕ) (entries : List Entry) (own : Bool) (t : Trail Store) → IsPlain m from (turn_behind t (by_ahead o m s now word (offer source entries) (noting m timer s now word own)))
+ahead_plain None m timer s from now word source entries own t = noting_plain own m timer s from now word t
+ahead_plain (Some i) m timer s from now word source entries own t =
+    cond_both (asks m s now i (entry_for entries i)) _ _ (λ (x : MoteStep Heard). IsPlain m from (turn_behind t x)) (λ _. record { silent = refl; unchanged = tt }) (λ _. noting_plain own m timer s from now word t)
 
-advert_plain : (mode : Mode) (m : MoteState) (s : Store) (now draw source : ℕ) (entries : List Entry) (order : Order) → IsPlain m s (on_advert mode m s now draw (offer source entries) order)
+advert_plain : (mode : Mode) (m : MoteState) (s : Store) (now word source : ℕ) (entries : List Entry) (order : Order) → IsPlain m s (on_advert mode m s now word (offer source entries) order)
 unfolding advert_heard
-advert_plain (Maintain timer) m s now draw source entries order =
-    let t = better_trail s order in ahead_plain (ahead_in entries (last t)) m timer (last t) s now draw source entries (is_own entries order m.wide s) t
-advert_plain (Receive r) m s now draw source entries order = dropped_plain m s
-advert_plain (Transmit t) m s now draw source entries order = dropped_plain m s
+advert_plain (Maintain timer) m s now word source entries order =
+    let t = better_trail s order in ahead_plain (ahead_in entries (last t)) m timer (last t) s now word source entries (is_own entries order m.wide s) t
+advert_plain (Receive r) m s now word source entries order = dropped_plain m s
+advert_plain (Transmit t) m s now word source entries order = dropped_plain m s
 
 to_it_plain : (mode : Mode) (m : MoteState) (s : Store) (now image version page : ℕ) (want : Numbers) → IsPlain m s (to_it mode m s now (page_request image version page want))
 to_it_plain (Maintain timer) m s now image version page want =
@@ -75,61 +75,61 @@ request_plain m s now to image version page want =
     cond_both (to == m.id) _ _ (IsPlain m s) (λ _. to_it_plain m.mode m s now image version page want)
     (λ _. cond_both (concerns s image version page) _ _ (IsPlain m s) (λ _. record { silent = refl; unchanged = tt }) (λ _. dropped_plain m s))
 
-seal_plain : (o : Option Held) (m : MoteState) (r : Receiving) (s : Store) (now draw : ℕ) (page : List ℕ) → IsPlain m s (seal_by o m r s now draw page)
-seal_plain None m r s now draw page = dropped_plain m s
-seal_plain (Some h) m r s now draw page =
+seal_plain : (o : Option Held) (m : MoteState) (r : Receiving) (s : Store) (now word : ℕ) (page : List ℕ) → IsPlain m s (seal_by o m r s now word page)
+seal_plain None m r s now word page = dropped_plain m s
+seal_plain (Some h) m r s now word page =
     cond_both (may_seal r.image h page) _ _ (IsPlain m s) (λ _. record { silent = refl; unchanged = tt }) (λ _. record { silent = refl; unchanged = tt })
 
-packet_plain : (mode : Mode) (m : MoteState) (s : Store) (now draw image version page q : ℕ) (bytes : List ℕ) → IsPlain m s (on_packet mode m s now draw (page_packet image version page q bytes))
-packet_plain (Receive r) m s now draw image version page q bytes =
+packet_plain : (mode : Mode) (m : MoteState) (s : Store) (now word image version page q : ℕ) (bytes : List ℕ) → IsPlain m s (on_packet mode m s now word (page_packet image version page q bytes))
+packet_plain (Receive r) m s now word image version page q bytes =
     let a = accepted r now q bytes in
-    cond_both (is_wanted r image version page q) (takes m r s now draw q bytes) (dropped m s) (IsPlain m s)
-    (λ _. cond_both (set.len (came a.packets) == packets) _ _ (IsPlain m s) (λ _. seal_plain (held s r.image) m r s now draw (page_from a.packets)) (λ _. record { silent = refl; unchanged = tt }))
+    cond_both (is_wanted r image version page q) (takes m r s now word q bytes) (dropped m s) (IsPlain m s)
+    (λ _. cond_both (set.len (came a.packets) == packets) _ _ (IsPlain m s) (λ _. seal_plain (held s r.image) m r s now word (page_from a.packets)) (λ _. record { silent = refl; unchanged = tt }))
     (λ _. dropped_plain m s)
-packet_plain (Maintain timer) m s now draw image version page q bytes =
+packet_plain (Maintain timer) m s now word image version page q bytes =
     cond_both (concerns s image version page) _ _ (IsPlain m s) (λ _. record { silent = refl; unchanged = tt }) (λ _. dropped_plain m s)
-packet_plain (Transmit t) m s now draw image version page q bytes = dropped_plain m s
+packet_plain (Transmit t) m s now word image version page q bytes = dropped_plain m s
 
-message_plain : (message : Message) (m : MoteState) (s : Store) (now draw : ℕ) → IsPlain m s (on_message m s now draw message)
-message_plain (Advert source entries order) m s now draw = advert_plain m.mode m s now draw source entries order
-message_plain (Request source to image version page want) m s now draw = request_plain m s now to image version page want
-message_plain (Packet source image version page packet bytes) m s now draw = packet_plain m.mode m s now draw image version page packet bytes
-message_plain (Wide source entries order) m s now draw = advert_plain m.mode m s now draw source entries order
+message_plain : (message : Message) (m : MoteState) (s : Store) (now word : ℕ) → IsPlain m s (on_message m s now word message)
+message_plain (Advert source entries order) m s now word = advert_plain m.mode m s now word source entries order
+message_plain (Request source to image version page want) m s now word = request_plain m s now to image version page want
+message_plain (Packet source image version page packet bytes) m s now word = packet_plain m.mode m s now word image version page packet bytes
+message_plain (Wide source entries order) m s now word = advert_plain m.mode m s now word source entries order
 
-read_plain : (message : Message) (m : MoteState) (s : Store) (now draw : ℕ) → IsPlain m s (by_message (Ok message) m s now draw)
-read_plain message m s now draw = cond_both (source_of message == m.id) _ _ (IsPlain m s) (λ _. dropped_plain m s) (λ _. message_plain message m s now draw)
+read_plain : (message : Message) (m : MoteState) (s : Store) (now word : ℕ) → IsPlain m s (by_message (Ok message) m s now word)
+read_plain message m s now word = cond_both (source_of message == m.id) _ _ (IsPlain m s) (λ _. dropped_plain m s) (λ _. message_plain message m s now word)
 
 -- ---- frames
 
-by_silent : (r : Result Message FrameFault) (m : MoteState) (s : Store) (now draw : ℕ) → (by_message r m s now draw).sent ≡ None
-by_silent (Err cause) m s now draw = refl
-by_silent (Ok message) m s now draw = (read_plain message m s now draw).silent
+by_silent : (r : Result Message FrameFault) (m : MoteState) (s : Store) (now word : ℕ) → (by_message r m s now word).sent ≡ None
+by_silent (Err cause) m s now word = refl
+by_silent (Ok message) m s now word = (read_plain message m s now word).silent
 
-pub heard_silent : (m : MoteState) (s : Store) (now draw : ℕ) (bytes : List ℕ) → (heard_of m s now draw bytes).sent ≡ None
+pub heard_silent : (m : MoteState) (s : Store) (now word : ℕ) (bytes : List ℕ) → (heard_of m s now word bytes).sent ≡ None
 unfolding heard_of
-heard_silent m s now draw bytes = by_silent (message_of bytes m.wide) m s now draw
+heard_silent m s now word bytes = by_silent (message_of bytes m.wide) m s now word
 
 -- a refusal is told
-by_told : (r : Result Message FrameFault) (m : MoteState) (s : Store) (now draw : ℕ) (cause : FrameFault) → r ≡ Err cause → by_message r m s now draw ≡ record { mote = m; trail = resting s 0; sent = None; answer = Refused cause }
-by_told r m s now draw cause e = ap (λ (x : Result Message FrameFault). by_message x m s now draw) e
+by_told : (r : Result Message FrameFault) (m : MoteState) (s : Store) (now word : ℕ) (cause : FrameFault) → r ≡ Err cause → by_message r m s now word ≡ record { mote = m; trail = resting s 0; sent = None; answer = Refused cause }
+by_told r m s now word cause e = ap (λ (x : Result Message FrameFault). by_message x m s now word) e
 
-pub refused_is : (m : MoteState) (s : Store) (now draw : ℕ) (bytes : List ℕ) (cause : FrameFault) → message_of bytes m.wide ≡ Err cause → heard_of m s now draw bytes ≡ record { mote = m; trail = resting s 0; sent = None; answer = Refused cause }
+pub refused_is : (m : MoteState) (s : Store) (now word : ℕ) (bytes : List ℕ) (cause : FrameFault) → message_of bytes m.wide ≡ Err cause → heard_of m s now word bytes ≡ record { mote = m; trail = resting s 0; sent = None; answer = Refused cause }
 unfolding heard_of
-refused_is m s now draw bytes cause e = by_told (message_of bytes m.wide) m s now draw cause e
+refused_is m s now word bytes cause e = by_told (message_of bytes m.wide) m s now word cause e
 
-by_cause : (r : Result Message FrameFault) (m : MoteState) (s : Store) (now draw : ℕ) (cause : FrameFault) → (by_message r m s now draw).answer ≡ Refused cause → r ≡ Err cause
-by_cause (Err other) m s now draw cause e = cc
-by_cause (Ok message) m s now draw cause e =
-    let p = read_plain message m s now draw in absurd (subst (Unchanged m s (by_message (Ok message) m s now draw)) e p.unchanged)
+by_cause : (r : Result Message FrameFault) (m : MoteState) (s : Store) (now word : ℕ) (cause : FrameFault) → (by_message r m s now word).answer ≡ Refused cause → r ≡ Err cause
+by_cause (Err other) m s now word cause e = cc
+by_cause (Ok message) m s now word cause e =
+    let p = read_plain message m s now word in absurd (subst (Unchanged m s (by_message (Ok message) m s now word)) e p.unchanged)
 
-pub refused_by : (m : MoteState) (s : Store) (now draw : ℕ) (bytes : List ℕ) (cause : FrameFault) → (heard_of m s now draw bytes).answer ≡ Refused cause → message_of bytes m.wide ≡ Err cause
+pub refused_by : (m : MoteState) (s : Store) (now word : ℕ) (bytes : List ℕ) (cause : FrameFault) → (heard_of m s now word bytes).answer ≡ Refused cause → message_of bytes m.wide ≡ Err cause
 unfolding heard_of
-refused_by m s now draw bytes cause e = by_cause (message_of bytes m.wide) m s now draw cause e
+refused_by m s now word bytes cause e = by_cause (message_of bytes m.wide) m s now word cause e
 
-by_dropped : (r : Result Message FrameFault) (m : MoteState) (s : Store) (now draw : ℕ) → (by_message r m s now draw).answer ≡ Dropped → ((by_message r m s now draw).mote ≡ m) × ((by_message r m s now draw).trail ≡ resting s 0)
-by_dropped (Err cause) m s now draw e = (refl, refl)
-by_dropped (Ok message) m s now draw e = let p = read_plain message m s now draw in subst (Unchanged m s (by_message (Ok message) m s now draw)) e p.unchanged
+by_dropped : (r : Result Message FrameFault) (m : MoteState) (s : Store) (now word : ℕ) → (by_message r m s now word).answer ≡ Dropped → ((by_message r m s now word).mote ≡ m) × ((by_message r m s now word).trail ≡ resting s 0)
+by_dropped (Err cause) m s now word e = (refl, refl)
+by_dropped (Ok message) m s now word e = let p = read_plain message m s now word in subst (Unchanged m s (by_message (Ok message) m s now word)) e p.unchanged
 
-pub dropped_is : (m : MoteState) (s : Store) (now draw : ℕ) (bytes : List ℕ) → (heard_of m s now draw bytes).answer ≡ Dropped → ((heard_of m s now draw bytes).mote ≡ m) × ((heard_of m s now draw bytes).trail ≡ resting s 0)
+pub dropped_is : (m : MoteState) (s : Store) (now word : ℕ) (bytes : List ℕ) → (heard_of m s now word bytes).answer ≡ Dropped → ((heard_of m s now word bytes).mote ≡ m) × ((heard_of m s now word bytes).trail ≡ resting s 0)
 unfolding heard_of
-dropped_is m s now draw bytes e = by_dropped (message_of bytes m.wide) m s now draw e
+dropped_is m s now word bytes e = by_dropped (message_of bytes m.wide) m s now word e

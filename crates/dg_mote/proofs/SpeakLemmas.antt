@@ -139,62 +139,62 @@ rests_as before m s n sent answer same o server = record { way = Through-resting
 
 maintain_says : (a : Act) (before m : MoteState) (s : Store) → (m.id ≡ before.id) × (m.wide ≡ before.wide) → TellsOrder s → ModeFits before.wide m.mode → Says before (maintain_by a m s)
 maintain_says act.Send before m s same o server = rests_as before m s 0 _ _ same o server
-maintain_says act.Suppressed before m s same o server = rests_as before m s 0 None _ same o server
+maintain_says act.Quiet before m s same o server = rests_as before m s 0 None _ same o server
 maintain_says act.Expired before m s same o server = rests_as before m s 0 None _ same o server
 maintain_says act.Nothing before m s same o server = rests_as before m s 0 None _ same o server
 
-receive_says : (a : Ask) (m : MoteState) (r : Receiving) (s : Store) (now draw : ℕ) → TellsOrder s → ModeFits m.wide m.mode → ModeFits m.wide (Receive r) → Says m (receive_by a m r s now draw)
-receive_says (ask.Request want) m r s now draw o own server = rests_as m (record m { mode = Receive (asked r now) }) s 0 _ _ (refl, refl) o server
-receive_says ask.GiveUp m r s now draw o own server = rests_as m (maintains m now draw) s 0 None _ (refl, refl) o (tt, tt)
-receive_says ask.Wait m r s now draw o own server = rests m s 0 None _ o own
+receive_says : (a : Ask) (m : MoteState) (r : Receiving) (s : Store) (now word : ℕ) → TellsOrder s → ModeFits m.wide m.mode → ModeFits m.wide (Receive r) → Says m (receive_by a m r s now word)
+receive_says (ask.Request want) m r s now word o own server = rests_as m (record m { mode = Receive (asked r now) }) s 0 _ _ (refl, refl) o server
+receive_says ask.GiveUp m r s now word o own server = rests_as m (maintains m now word) s 0 None _ (refl, refl) o (tt, tt)
+receive_says ask.Wait m r s now word o own server = rests m s 0 None _ o own
 
-serving_says : (m : MoteState) (t : Sending) (now draw : ℕ) → ModeFits m.wide (Transmit t) → (((serving m t now draw).id ≡ m.id) × ((serving m t now draw).wide ≡ m.wide)) × ModeFits m.wide (serving m t now draw).mode
-serving_says m t now draw fits =
+serving_says : (m : MoteState) (t : Sending) (now word : ℕ) → ModeFits m.wide (Transmit t) → (((serving m t now word).id ≡ m.id) × ((serving m t now word).wide ≡ m.wide)) × ModeFits m.wide (serving m t now word).mode
+serving_says m t now word fits =
     let owed = after_next t.owed now in
-    cond_both (set.len owed.left == 0) (maintains m now draw) (record m { mode = Transmit (record t { owed = owed }) }) (λ (x : MoteState). ((x.id ≡ m.id) × (x.wide ≡ m.wide)) × ModeFits m.wide x.mode)
+    cond_both (set.len owed.left == 0) (maintains m now word) (record m { mode = Transmit (record t { owed = owed }) }) (λ (x : MoteState). ((x.id ≡ m.id) × (x.wide ≡ m.wide)) × ModeFits m.wide x.mode)
     (λ _. ((refl, refl), (tt, tt))) (λ _. ((refl, refl), fits))
 
-transmit_says : (a : Serve) (m : MoteState) (t : Sending) (s : Store) (now draw : ℕ) → TellsOrder s → ModeFits m.wide m.mode → ModeFits m.wide (Transmit t) → Says m (transmit_by a m t s now draw)
-transmit_says (serve.Send q) m t s now draw o own fits = let k = serving_says m t now draw fits in rests_as m (serving m t now draw) s 0 _ _ k.0 o k.1
-transmit_says serve.Done m t s now draw o own fits = rests m s 0 None _ o own
-transmit_says serve.Wait m t s now draw o own fits = rests m s 0 None _ o own
+transmit_says : (a : Serve) (m : MoteState) (t : Sending) (s : Store) (now word : ℕ) → TellsOrder s → ModeFits m.wide m.mode → ModeFits m.wide (Transmit t) → Says m (transmit_by a m t s now word)
+transmit_says (serve.Send q) m t s now word o own fits = let k = serving_says m t now word fits in rests_as m (serving m t now word) s 0 _ _ k.0 o k.1
+transmit_says serve.Done m t s now word o own fits = rests m s 0 None _ o own
+transmit_says serve.Wait m t s now word o own fits = rests m s 0 None _ o own
 
-mode_says : (mode : Mode) (m : MoteState) (s : Store) (now draw : ℕ) → TellsOrder s → ModeFits m.wide m.mode → ModeFits m.wide mode → Says m (mode_tick mode m s now draw)
-mode_says (Maintain timer) m s now draw o own server =
+mode_says : (mode : Mode) (m : MoteState) (s : Store) (now word : ℕ) → TellsOrder s → ModeFits m.wide m.mode → ModeFits m.wide mode → Says m (mode_tick mode m s now word)
+mode_says (Maintain timer) m s now word o own server =
     cond_both (order_waits s) _ _ (λ (x : MoteStep Did). Says m x) (λ _. rests m s 0 None _ o own)
-    (λ _. maintain_says (act_of timer now) m (record m { mode = Maintain (after_tick timer now draw) }) s (refl, refl) o (tt, tt))
-mode_says (Receive r) m s now draw o own server = receive_says (ask_of (reception r) now) m r s now draw o own server
-mode_says (Transmit t) m s now draw o own server = transmit_says (serve_of t.owed now) m t s now draw o own server
+    (λ _. maintain_says (act_of timer now) m (record m { mode = Maintain (after_tick timer now word) }) s (refl, refl) o (tt, tt))
+mode_says (Receive r) m s now word o own server = receive_says (ask_of (reception r) now) m r s now word o own server
+mode_says (Transmit t) m s now word o own server = transmit_says (serve_of t.owed now) m t s now word o own server
 
-pub tick_says : (m : MoteState) (s : Store) (now draw : ℕ) → TellsOrder s → ModeFits m.wide m.mode → Says m (tick_of m s now draw)
+pub tick_says : (m : MoteState) (s : Store) (now word : ℕ) → TellsOrder s → ModeFits m.wide m.mode → Says m (tick_of m s now word)
 unfolding tick_of
-tick_says m s now draw o own =
-    cond_both (clears m s now) _ _ (λ (x : MoteStep Did). Says m x) (λ _. record { way = tells_clear s o; id_is = refl; wide_is = refl; mode = own }) (λ _. mode_says m.mode m s now draw o own own)
+tick_says m s now word o own =
+    cond_both (clears m s now) _ _ (λ (x : MoteStep Did). Says m x) (λ _. record { way = tells_clear s o; id_is = refl; wide_is = refl; mode = own }) (λ _. mode_says m.mode m s now word o own own)
 
 -- ---- frames
 
-noting_says : (own : Bool) (m : MoteState) (timer : Timer) (s : Store) (now draw : ℕ) → TellsOrder s → Says m (noting m timer s now draw own)
-noting_says true m timer s now draw o = rests_as m (record m { mode = Maintain (after_same timer) }) s 0 None _ (refl, refl) o (tt, tt)
-noting_says false m timer s now draw o = rests_as m (record m { mode = Maintain (after_other timer now draw) }) s 0 None _ (refl, refl) o (tt, tt)
+noting_says : (own : Bool) (m : MoteState) (timer : Timer) (s : Store) (now word : ℕ) → TellsOrder s → Says m (noting m timer s now word own)
+noting_says true m timer s now word o = rests_as m (record m { mode = Maintain (after_same timer) }) s 0 None _ (refl, refl) o (tt, tt)
+noting_says false m timer s now word o = rests_as m (record m { mode = Maintain (after_other timer now word) }) s 0 None _ (refl, refl) o (tt, tt)
 
-ahead_says : (x : Option ℕ) (m : MoteState) (timer : Timer) (s : Store) (now draw source : ℕ) (entries : List Entry) (own : Bool) → source < 2 ^ 16 → length entries ≤ known_images m.wide → ahead_in entries s ≡ x → TellsOrder s
-    → Says m (by_ahead x m s now draw (offer source entries) (noting m timer s now draw own))
-ahead_says None m timer s now draw source entries own small few is o = noting_says own m timer s now draw o
-ahead_says (Some i) m timer s now draw source entries own small few is o =
+ahead_says : (x : Option ℕ) (m : MoteState) (timer : Timer) (s : Store) (now word source : ℕ) (entries : List Entry) (own : Bool) → source < 2 ^ 16 → length entries ≤ known_images m.wide → ahead_in entries s ≡ x → TellsOrder s
+    → Says m (by_ahead x m s now word (offer source entries) (noting m timer s now word own))
+ahead_says None m timer s now word source entries own small few is o = noting_says own m timer s now word o
+ahead_says (Some i) m timer s now word source entries own small few is o =
     let a = is_ahead entries s i is in
-    cond_both (asks m s now i (entry_for entries i)) (asking m s now draw source i (entry_for entries i)) (noting m timer s now draw own) (λ (x : MoteStep Heard). Says m x)
+    cond_both (asks m s now i (entry_for entries i)) (asking m s now word source i (entry_for entries i)) (noting m timer s now word own) (λ (x : MoteStep Heard). Says m x)
     (λ _. record { way = tells_ask s i (entry_for entries i) o; id_is = refl; wide_is = refl; mode = (small, (a.low, omega (arith, a.high, few))) })
-    (λ _. noting_says own m timer s now draw o)
+    (λ _. noting_says own m timer s now word o)
 
-advert_says : (mode : Mode) (m : MoteState) (s : Store) (now draw source : ℕ) (entries : List Entry) (order : Order) → source < 2 ^ 16 → length entries ≤ known_images m.wide → OrderFits order → TellsOrder s → ModeFits m.wide m.mode → Says m (on_advert mode m s now draw (offer source entries) order)
+advert_says : (mode : Mode) (m : MoteState) (s : Store) (now word source : ℕ) (entries : List Entry) (order : Order) → source < 2 ^ 16 → length entries ≤ known_images m.wide → OrderFits order → TellsOrder s → ModeFits m.wide m.mode → Says m (on_advert mode m s now word (offer source entries) order)
 unfolding advert_heard
-advert_says (Maintain timer) m s now draw source entries order small few fits o server =
+advert_says (Maintain timer) m s now word source entries order small few fits o server =
     let t = better_trail s order in
     let way = tells_better s order fits o in
-    let step = ahead_says (ahead_in entries (last t)) m timer (last t) now draw source entries (is_own entries order m.wide s) small few refl (Through-last TellsOrder t way) in
+    let step = ahead_says (ahead_in entries (last t)) m timer (last t) now word source entries (is_own entries order m.wide s) small few refl (Through-last TellsOrder t way) in
     record { way = Through-joined TellsOrder t _ way step.way; id_is = step.id_is; wide_is = step.wide_is; mode = step.mode }
-advert_says (Receive r) m s now draw source entries order small few fits o server = rests m s 0 None _ o server
-advert_says (Transmit t) m s now draw source entries order small few fits o server = rests m s 0 None _ o server
+advert_says (Receive r) m s now word source entries order small few fits o server = rests m s 0 None _ o server
+advert_says (Transmit t) m s now word source entries order small few fits o server = rests m s 0 None _ o server
 
 to_it_says : (mode : Mode) (m : MoteState) (s : Store) (now image version page : ℕ) (want : Numbers) → (1 ≤ image) × (image ≤ known_images m.wide) → TellsOrder s → ModeFits m.wide m.mode → ModeFits m.wide mode → Says m (to_it mode m s now (page_request image version page want))
 to_it_says (Maintain timer) m s now image version page want known o server fits =
@@ -211,9 +211,9 @@ request_says m s now to image version page want known o server =
     (λ _. cond_both (concerns s image version page) _ _ (λ (x : MoteStep Heard). Says m x)
     (λ _. rests_as m (record m { noted = with_request m.noted now image }) s 0 None _ (refl, refl) o server) (λ _. rests m s 0 None _ o server))
 
-seal_says : (kept : Option Held) (m : MoteState) (r : Receiving) (s : Store) (now draw : ℕ) (page : List ℕ) → TellsOrder s → ModeFits m.wide m.mode → Says m (seal_by kept m r s now draw page)
-seal_says None m r s now draw page o server = rests m s 0 None _ o server
-seal_says (Some h) m r s now draw page o server =
+seal_says : (kept : Option Held) (m : MoteState) (r : Receiving) (s : Store) (now word : ℕ) (page : List ℕ) → TellsOrder s → ModeFits m.wide m.mode → Says m (seal_by kept m r s now word page)
+seal_says None m r s now word page o server = rests m s 0 None _ o server
+seal_says (Some h) m r s now word page o server =
     cond_both (may_seal r.image h page) _ _ (λ (x : MoteStep Heard). Says m x)
     (λ _. record {
       way = Through-joined TellsOrder (resting s 1) (stepping s 1 (paged r.image page s)) (Through-resting TellsOrder s 1 o) (Through-stepping TellsOrder s 1 (paged r.image page s) o o);
@@ -221,60 +221,60 @@ seal_says (Some h) m r s now draw page o server =
       wide_is = refl;
       mode = (tt, tt);
     })
-    (λ _. rests_as m (maintains m now draw) s 1 None _ (refl, refl) o (tt, tt))
+    (λ _. rests_as m (maintains m now word) s 1 None _ (refl, refl) o (tt, tt))
 
-packet_says : (mode : Mode) (m : MoteState) (s : Store) (now draw image version page q : ℕ) (bytes : List ℕ) → TellsOrder s → ModeFits m.wide m.mode → ModeFits m.wide mode → Says m (on_packet mode m s now draw (page_packet image version page q bytes))
-packet_says (Receive r) m s now draw image version page q bytes o own server =
+packet_says : (mode : Mode) (m : MoteState) (s : Store) (now word image version page q : ℕ) (bytes : List ℕ) → TellsOrder s → ModeFits m.wide m.mode → ModeFits m.wide mode → Says m (on_packet mode m s now word (page_packet image version page q bytes))
+packet_says (Receive r) m s now word image version page q bytes o own server =
     let a = accepted r now q bytes in
-    cond_both (is_wanted r image version page q) (takes m r s now draw q bytes) (dropped m s) (λ (x : MoteStep Heard). Says m x)
+    cond_both (is_wanted r image version page q) (takes m r s now word q bytes) (dropped m s) (λ (x : MoteStep Heard). Says m x)
     (λ _. cond_both (set.len (came a.packets) == packets) _ _ (λ (x : MoteStep Heard). Says m x)
-    (λ _. seal_says (held s r.image) m r s now draw (page_from a.packets) o own)
+    (λ _. seal_says (held s r.image) m r s now word (page_from a.packets) o own)
     (λ _. rests_as m (record m { mode = Receive a }) s 1 None _ (refl, refl) o server))
     (λ _. rests m s 0 None _ o own)
-packet_says (Maintain timer) m s now draw image version page q bytes o own server =
+packet_says (Maintain timer) m s now word image version page q bytes o own server =
     cond_both (concerns s image version page) _ _ (λ (x : MoteStep Heard). Says m x)
     (λ _. rests_as m (record m { noted = with_packet m.noted now image }) s 0 None _ (refl, refl) o own) (λ _. rests m s 0 None _ o own)
-packet_says (Transmit t) m s now draw image version page q bytes o own server = rests m s 0 None _ o own
+packet_says (Transmit t) m s now word image version page q bytes o own server = rests m s 0 None _ o own
 
-message_says : ((wide : Bool) (m : Message) → in_range wide m ≡ true → IsInRange wide m) → (message : Message) (m : MoteState) (s : Store) (now draw : ℕ) → IsWellRead m.wide (Ok message) → FitsTypes message → TellsOrder s → ModeFits m.wide m.mode
-    → Says m (on_message m s now draw message)
-message_says ranges (Advert source entries order) m s now draw read fits o server =
+message_says : ((wide : Bool) (m : Message) → in_range wide m ≡ true → IsInRange wide m) → (message : Message) (m : MoteState) (s : Store) (now word : ℕ) → IsWellRead m.wide (Ok message) → FitsTypes message → TellsOrder s → ModeFits m.wide m.mode
+    → Says m (on_message m s now word message)
+message_says ranges (Advert source entries order) m s now word read fits o server =
     let range = ranges m.wide (Advert source entries order) read.0 in
-    advert_says m.mode m s now draw source entries order fits.0 (names_few m.wide entries read.1) (record { in_range = narrow_order order range.1; number = fits.3; version = fits.4 }) o server
-message_says ranges (Request source to image version page want) m s now draw read fits o server =
+    advert_says m.mode m s now word source entries order fits.0 (names_few m.wide entries read.1) (record { in_range = narrow_order order range.1; number = fits.3; version = fits.4 }) o server
+message_says ranges (Request source to image version page want) m s now word read fits o server =
     let range = ranges m.wide (Request source to image version page want) read.0 in
     request_says m s now to image version page want (range.0.first, range.0.last) o server
-message_says ranges (Packet source image version page packet bytes) m s now draw read fits o server = packet_says m.mode m s now draw image version page packet bytes o server server
-message_says ranges (Wide source entries order) m s now draw read fits o server =
+message_says ranges (Packet source image version page packet bytes) m s now word read fits o server = packet_says m.mode m s now word image version page packet bytes o server server
+message_says ranges (Wide source entries order) m s now word read fits o server =
     let range = ranges m.wide (Wide source entries order) read.0 in
-    advert_says m.mode m s now draw source entries order fits.0 (names_many m.wide entries range.0 read.1) (record { in_range = range.1.1; number = fits.3; version = fits.4 }) o server
+    advert_says m.mode m s now word source entries order fits.0 (names_many m.wide entries range.0 read.1) (record { in_range = range.1.1; number = fits.3; version = fits.4 }) o server
 
 -- what was read fits the types
 abbrev pub ReadFits : Result Message FrameFault → Type 0
 ReadFits r = IfOk r FitsTypes
 
-frame_says : ((wide : Bool) (m : Message) → in_range wide m ≡ true → IsInRange wide m) → (r : Result Message FrameFault) (m : MoteState) (s : Store) (now draw : ℕ) → IsWellRead m.wide r → ReadFits r → TellsOrder s → ModeFits m.wide m.mode → Says m (by_message r m s now draw)
-frame_says ranges (Err cause) m s now draw read fits o server = rests m s 0 None _ o server
-frame_says ranges (Ok message) m s now draw read fits o server =
-    cond_both (source_of message == m.id) _ _ (λ (x : MoteStep Heard). Says m x) (λ _. rests m s 0 None _ o server) (λ _. message_says ranges message m s now draw read fits o server)
+frame_says : ((wide : Bool) (m : Message) → in_range wide m ≡ true → IsInRange wide m) → (r : Result Message FrameFault) (m : MoteState) (s : Store) (now word : ℕ) → IsWellRead m.wide r → ReadFits r → TellsOrder s → ModeFits m.wide m.mode → Says m (by_message r m s now word)
+frame_says ranges (Err cause) m s now word read fits o server = rests m s 0 None _ o server
+frame_says ranges (Ok message) m s now word read fits o server =
+    cond_both (source_of message == m.id) _ _ (λ (x : MoteStep Heard). Says m x) (λ _. rests m s 0 None _ o server) (λ _. message_says ranges message m s now word read fits o server)
 
-pub heard_says : ((wide : Bool) (m : Message) → in_range wide m ≡ true → IsInRange wide m) → (m : MoteState) (s : Store) (now draw : ℕ) (bytes : List ℕ) → ReadFits (message_of bytes m.wide) → TellsOrder s → ModeFits m.wide m.mode → Says m (heard_of m s now draw bytes)
+pub heard_says : ((wide : Bool) (m : Message) → in_range wide m ≡ true → IsInRange wide m) → (m : MoteState) (s : Store) (now word : ℕ) (bytes : List ℕ) → ReadFits (message_of bytes m.wide) → TellsOrder s → ModeFits m.wide m.mode → Says m (heard_of m s now word bytes)
 unfolding heard_of
-heard_says ranges m s now draw bytes fits o server = frame_says ranges (message_of bytes m.wide) m s now draw (well_read bytes m.wide) fits o server
+heard_says ranges m s now word bytes fits o server = frame_says ranges (message_of bytes m.wide) m s now word (well_read bytes m.wide) fits o server
 
 -- ---- events
 
-boots_by : (o : Option Runs) (t : Trail Store) (id : ℕ) (wide : Bool) (now draw : ℕ) → id < 2 ^ 16 → Through TellsOrder t → EffectSpeaks id wide (boot_by o t id wide now draw)
-boots_by None t id wide now draw small way = record { way = way; mote = tt }
-boots_by (Some r) t id wide now draw small way = record { way = way; mote = (refl, refl, record { id = small; server = tt; known = tt; order = Through-last TellsOrder t way }) }
+boots_by : (o : Option Runs) (t : Trail Store) (id : ℕ) (wide : Bool) (now word : ℕ) → id < 2 ^ 16 → Through TellsOrder t → EffectSpeaks id wide (boot_by o t id wide now word)
+boots_by None t id wide now word small way = record { way = way; mote = tt }
+boots_by (Some r) t id wide now word small way = record { way = way; mote = (refl, refl, record { id = small; server = tt; known = tt; order = Through-last TellsOrder t way }) }
 
 module _ (ends : (k : StartCause) (s : Store) → Boots s (boot k s)) where
-  pub boots_speak : (k : StartCause) (s : Store) (id : ℕ) (wide : Bool) (now draw : ℕ) → id < 2 ^ 16 → TellsOrder s → EffectSpeaks id wide (boots k s id wide now draw)
-  boots_speak k s id wide now draw small o = boots_by (boot k s).runs (boot k s).trail id wide now draw small (tells_boot k s (ends k s) o)
+  pub boots_speak : (k : StartCause) (s : Store) (id : ℕ) (wide : Bool) (now word : ℕ) → id < 2 ^ 16 → TellsOrder s → EffectSpeaks id wide (boots k s id wide now word)
+  boots_speak k s id wide now word small o = boots_by (boot k s).runs (boot k s).trail id wide now word small (tells_boot k s (ends k s) o)
 
-  pub reset_speaks : (s : Store) (id : ℕ) (wide : Bool) (now draw : ℕ) → id < 2 ^ 16 → TellsOrder s → EffectSpeaks id wide (reset_effect s id wide now draw)
+  pub reset_speaks : (s : Store) (id : ℕ) (wide : Bool) (now word : ℕ) → id < 2 ^ 16 → TellsOrder s → EffectSpeaks id wide (reset_effect s id wide now word)
   unfolding reset_effect
-  reset_speaks s id wide now draw small o = boots_speak start_cause.Power s id wide now draw small o
+  reset_speaks s id wide now word small o = boots_speak start_cause.Power s id wide now word small o
 
 pub joined_speaks : (id : ℕ) (wide : Bool) (t : Trail Store) (e : Effect) → Through TellsOrder t → e.trail.first ≡ last t → EffectSpeaks id wide e → EffectSpeaks id wide (record e { trail = joined t e.trail })
 joined_speaks id wide t e way first speaks =
@@ -283,30 +283,30 @@ joined_speaks id wide t e way first speaks =
       mote = subst (λ (x : Store). IfSome e.mote (λ m. (m.id ≡ id) × (m.wide ≡ wide) × Speaks m x)) (sym (last-joined t e.trail (sym first))) speaks.mote;
     }
 
-begins_by : (o : Option Runs) (t : Trail Store) (id : ℕ) (wide : Bool) (now draw : ℕ) → (boot_by o t id wide now draw).trail ≡ t
-begins_by None t id wide now draw = refl
-begins_by (Some r) t id wide now draw = refl
+begins_by : (o : Option Runs) (t : Trail Store) (id : ℕ) (wide : Bool) (now word : ℕ) → (boot_by o t id wide now word).trail ≡ t
+begins_by None t id wide now word = refl
+begins_by (Some r) t id wide now word = refl
 
 -- the id and the width by other names
 speaks_as : (a b : ℕ) (v w : Bool) (e : Effect) → a ≡ b → v ≡ w → EffectSpeaks a v e → EffectSpeaks b w e
 speaks_as a b v w e same alike speaks = subst (λ n. EffectSpeaks n w e) same (subst (λ u. EffectSpeaks a u e) alike speaks)
 
 module _ (ends : (k : StartCause) (s : Store) → Boots s (boot k s)) (begins : (k : StartCause) (s : Store) → BeginsAt s (boot k s).trail) where
-  tick_by_speaks : (a : Did) (id : ℕ) (wide : Bool) (step : MoteStep Did) (now draw : ℕ) → TurnSpeaks id wide step → EffectSpeaks id wide (tick_by a step now draw)
-  tick_by_speaks Sent id wide step now draw t = record { way = t.way; mote = (t.id_is, t.wide_is, t.mote) }
-  tick_by_speaks Idle id wide step now draw t = record { way = t.way; mote = (t.id_is, t.wide_is, t.mote) }
-  tick_by_speaks Restart id wide step now draw t =
+  tick_by_speaks : (a : Did) (id : ℕ) (wide : Bool) (step : MoteStep Did) (now word : ℕ) → TurnSpeaks id wide step → EffectSpeaks id wide (tick_by a step now word)
+  tick_by_speaks Sent id wide step now word t = record { way = t.way; mote = (t.id_is, t.wide_is, t.mote) }
+  tick_by_speaks Idle id wide step now word t = record { way = t.way; mote = (t.id_is, t.wide_is, t.mote) }
+  tick_by_speaks Restart id wide step now word t =
       let s = last step.trail in
       let b = boot start_cause.Order s in
       let m = step.mote in
-      let e = boots start_cause.Order s m.id m.wide now draw in
-      joined_speaks id wide step.trail e t.way (ap (λ (x : Trail Store). x.first) (begins_by b.runs b.trail m.id m.wide now draw) ∙ (begins start_cause.Order s).first)
-      (speaks_as m.id id m.wide wide e t.id_is t.wide_is (boots_speak ends start_cause.Order s m.id m.wide now draw t.mote.id t.mote.order))
+      let e = boots start_cause.Order s m.id m.wide now word in
+      joined_speaks id wide step.trail e t.way (ap (λ (x : Trail Store). x.first) (begins_by b.runs b.trail m.id m.wide now word) ∙ (begins start_cause.Order s).first)
+      (speaks_as m.id id m.wide wide e t.id_is t.wide_is (boots_speak ends start_cause.Order s m.id m.wide now word t.mote.id t.mote.order))
 
-  pub tick_effect_speaks : (m : MoteState) (s : Store) (now draw : ℕ) → TurnSpeaks m.id m.wide (tick_of m s now draw) → EffectSpeaks m.id m.wide (tick_effect m s now draw)
+  pub tick_effect_speaks : (m : MoteState) (s : Store) (now word : ℕ) → TurnSpeaks m.id m.wide (tick_of m s now word) → EffectSpeaks m.id m.wide (tick_effect m s now word)
   unfolding tick_effect
-  tick_effect_speaks m s now draw t = tick_by_speaks (tick_of m s now draw).answer m.id m.wide (tick_of m s now draw) now draw t
+  tick_effect_speaks m s now word t = tick_by_speaks (tick_of m s now word).answer m.id m.wide (tick_of m s now word) now word t
 
-pub frame_effect_speaks : (m : MoteState) (s : Store) (now draw : ℕ) (bytes : List ℕ) → TurnSpeaks m.id m.wide (heard_of m s now draw bytes) → EffectSpeaks m.id m.wide (frame_effect m s now draw bytes)
+pub frame_effect_speaks : (m : MoteState) (s : Store) (now word : ℕ) (bytes : List ℕ) → TurnSpeaks m.id m.wide (heard_of m s now word bytes) → EffectSpeaks m.id m.wide (frame_effect m s now word bytes)
 unfolding frame_effect
-frame_effect_speaks m s now draw bytes t = record { way = t.way; mote = (t.id_is, t.wide_is, t.mote) }
+frame_effect_speaks m s now word bytes t = record { way = t.way; mote = (t.id_is, t.wide_is, t.mote) }

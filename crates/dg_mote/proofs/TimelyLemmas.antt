@@ -53,18 +53,18 @@ use Rattle.dg_mote.specs.declared.mote.Did.{Did}
 
 -- ---- a timer
 
-timer_begins : (now draw : ℕ) → ModeTimely (Maintain (started now draw)) now
-timer_begins now draw = (IsRunning-begun shortest_interval now draw (omega arith) (omega arith), omega arith)
+timer_begins : (now word : ℕ) → ModeTimely (Maintain (started now word)) now
+timer_begins now word = (IsRunning-begun shortest_interval now word (omega arith) (omega arith), omega arith)
 
 timer_same : (t : Timer) (now : ℕ) → ModeTimely (Maintain t) now → ModeTimely (Maintain (after_same t)) now
 timer_same t now m = (IsRunning-same t m.0, m.1)
 
-timer_other : (t : Timer) (now draw : ℕ) → ModeTimely (Maintain t) now → ModeTimely (Maintain (after_other t now draw)) now
-timer_other t now draw m = (IsRunning-other t now draw m.0, cond_both (nat_lt shortest_interval t.interval) _ t (λ x. x.begin ≤ now) (λ _. omega arith) (λ _. m.1))
+timer_other : (t : Timer) (now word : ℕ) → ModeTimely (Maintain t) now → ModeTimely (Maintain (after_other t now word)) now
+timer_other t now word m = (IsRunning-other t now word m.0, cond_both (nat_lt shortest_interval t.interval) _ t (λ x. x.begin ≤ now) (λ _. omega arith) (λ _. m.1))
 
-pub timer_ticks : (t : Timer) (now draw : ℕ) → ModeTimely (Maintain t) now → ModeTimely (Maintain (after_tick t now draw)) now
-timer_ticks t now draw m = (
-  IsRunning-tick t now draw m.0,
+pub timer_ticks : (t : Timer) (now word : ℕ) → ModeTimely (Maintain t) now → ModeTimely (Maintain (after_tick t now word)) now
+timer_ticks t now word m = (
+  IsRunning-tick t now word m.0,
   cond_both (is_due t now) _ _ (λ (x : Timer). x.begin ≤ now) (λ _. m.1) (λ _. cond_both (is_over t now) _ t (λ (x : Timer). x.begin ≤ now) (λ _. omega arith) (λ _. m.1)),
 )
 
@@ -76,8 +76,8 @@ none_got image = map.get-empty nat_cmp image
 none_noted : (image moment now : ℕ) → None ≡ Some moment → moment ≤ now
 none_noted image moment now e = cc
 
-pub timely_begins : (id now draw : ℕ) (wide : Bool) → Timely (begun_mote id wide now draw) now
-timely_begins id now draw wide = record { since = omega arith; requests = λ i m e. none_noted i m now (sym (none_got i) ∙ e); packets_noted = λ i m e. none_noted i m now (sym (none_got i) ∙ e); mode = timer_begins now draw }
+pub timely_begins : (id now word : ℕ) (wide : Bool) → Timely (begun_mote id wide now word) now
+timely_begins id now word wide = record { since = omega arith; requests = λ i m e. none_noted i m now (sym (none_got i) ∙ e); packets_noted = λ i m e. none_noted i m now (sym (none_got i) ∙ e); mode = timer_begins now word }
 
 mode_later : (m : Mode) (now then : ℕ) → now ≤ then → ModeTimely m now → ModeTimely m then
 mode_later (Maintain t) now then h m = (m.0, omega (arith, m.1))
@@ -96,24 +96,24 @@ timely_later m now then h t = record {
 timely_mode : (m : MoteState) (mode : Mode) (now : ℕ) → Timely m now → ModeTimely mode now → Timely (record m { mode = mode }) now
 timely_mode m mode now t h = record { since = t.since; requests = t.requests; packets_noted = t.packets_noted; mode = h }
 
-pub timely_maintains : (m : MoteState) (now draw : ℕ) → Timely m now → Timely (maintains m now draw) now
-timely_maintains m now draw t = timely_mode m (Maintain (started now draw)) now t (timer_begins now draw)
+pub timely_maintains : (m : MoteState) (now word : ℕ) → Timely m now → Timely (maintains m now word) now
+timely_maintains m now word t = timely_mode m (Maintain (started now word)) now t (timer_begins now word)
 
 -- ---- ticks
 
 maintain_timely : (a : Act) (m : MoteState) (s : Store) (now : ℕ) → Timely m now → Timely (maintain_by a m s).mote now
 maintain_timely act.Send m s now t = t
-maintain_timely act.Suppressed m s now t = t
+maintain_timely act.Quiet m s now t = t
 maintain_timely act.Expired m s now t = t
 maintain_timely act.Nothing m s now t = t
 
 asked_due : (r : Receiving) (now : ℕ) → r.due ≤ now + next_wait → (after_ask (reception r) now).due ≤ now + next_wait
 asked_due r now h = cond_both (nat_lt now r.due) _ _ (λ (x : Reception). x.due ≤ now + next_wait) (λ _. h) (λ _. cond_both (nat_le most_requests r.tries) _ _ (λ (x : Reception). x.due ≤ now + next_wait) (λ _. h) (λ _. omega arith))
 
-receive_timely : (a : Ask) (m : MoteState) (r : Receiving) (s : Store) (now draw : ℕ) → Timely m now → r.due ≤ now + next_wait → Timely (receive_by a m r s now draw).mote now
-receive_timely (ask.Request want) m r s now draw t h = timely_mode m (Receive (asked r now)) now t (asked_due r now h)
-receive_timely ask.GiveUp m r s now draw t h = timely_maintains m now draw t
-receive_timely ask.Wait m r s now draw t h = t
+receive_timely : (a : Ask) (m : MoteState) (r : Receiving) (s : Store) (now word : ℕ) → Timely m now → r.due ≤ now + next_wait → Timely (receive_by a m r s now word).mote now
+receive_timely (ask.Request want) m r s now word t h = timely_mode m (Receive (asked r now)) now t (asked_due r now h)
+receive_timely ask.GiveUp m r s now word t h = timely_maintains m now word t
+receive_timely ask.Wait m r s now word t h = t
 
 left_below : (b c : Bool) → (not b && c) ≡ true → c ≡ true
 left_below true c e = cc
@@ -127,50 +127,50 @@ next_timely None early owed now h = h
 next_timely (Some k) true owed now h = h
 next_timely (Some k) false owed now h = (omega arith, below_removed packets owed.left k h.1)
 
-serving_timely : (m : MoteState) (t : Sending) (now draw : ℕ) → Timely m now → ModeTimely (Transmit t) now → Timely (serving m t now draw) now
-serving_timely m t now draw y h =
+serving_timely : (m : MoteState) (t : Sending) (now word : ℕ) → Timely m now → ModeTimely (Transmit t) now → Timely (serving m t now word) now
+serving_timely m t now word y h =
     let owed = after_next t.owed now in
-    cond_both (set.len owed.left == 0) _ _ (λ x. Timely x now) (λ _. timely_maintains m now draw y)
+    cond_both (set.len owed.left == 0) _ _ (λ x. Timely x now) (λ _. timely_maintains m now word y)
     (λ _. timely_mode m (Transmit (record t { owed = owed })) now y (next_timely (least t.owed.left) (nat_lt now t.owed.due) t.owed now h))
 
-transmit_timely : (a : Serve) (m : MoteState) (t : Sending) (s : Store) (now draw : ℕ) → Timely m now → ModeTimely (Transmit t) now → Timely (transmit_by a m t s now draw).mote now
-transmit_timely (serve.Send q) m t s now draw y h = serving_timely m t now draw y h
-transmit_timely serve.Done m t s now draw y h = y
-transmit_timely serve.Wait m t s now draw y h = y
+transmit_timely : (a : Serve) (m : MoteState) (t : Sending) (s : Store) (now word : ℕ) → Timely m now → ModeTimely (Transmit t) now → Timely (transmit_by a m t s now word).mote now
+transmit_timely (serve.Send q) m t s now word y h = serving_timely m t now word y h
+transmit_timely serve.Done m t s now word y h = y
+transmit_timely serve.Wait m t s now word y h = y
 
-tick_timely_by : (mode : Mode) (m : MoteState) (s : Store) (now draw : ℕ) → Timely m now → ModeTimely mode now → Timely (mode_tick mode m s now draw).mote now
-tick_timely_by (Maintain t) m s now draw y h =
+tick_timely_by : (mode : Mode) (m : MoteState) (s : Store) (now word : ℕ) → Timely m now → ModeTimely mode now → Timely (mode_tick mode m s now word).mote now
+tick_timely_by (Maintain t) m s now word y h =
     cond_both (order_waits s) _ _ (λ (x : MoteStep Did). Timely x.mote now) (λ _. y)
-    (λ _. maintain_timely (act_of t now) (record m { mode = Maintain (after_tick t now draw) }) s now (timely_mode m _ now y (timer_ticks t now draw h)))
-tick_timely_by (Receive r) m s now draw y h = receive_timely (ask_of (reception r) now) m r s now draw y h
-tick_timely_by (Transmit t) m s now draw y h = transmit_timely (serve_of t.owed now) m t s now draw y h
+    (λ _. maintain_timely (act_of t now) (record m { mode = Maintain (after_tick t now word) }) s now (timely_mode m _ now y (timer_ticks t now word h)))
+tick_timely_by (Receive r) m s now word y h = receive_timely (ask_of (reception r) now) m r s now word y h
+tick_timely_by (Transmit t) m s now word y h = transmit_timely (serve_of t.owed now) m t s now word y h
 
-pub timely_ticked : (m : MoteState) (s : Store) (now draw : ℕ) → Timely m now → Timely (tick_of m s now draw).mote now
+pub timely_ticked : (m : MoteState) (s : Store) (now word : ℕ) → Timely m now → Timely (tick_of m s now word).mote now
 unfolding tick_of
-timely_ticked m s now draw y = cond_both (clears m s now) _ _ (λ (x : MoteStep Did). Timely x.mote now) (λ _. y) (λ _. tick_timely_by m.mode m s now draw y y.mode)
+timely_ticked m s now word y = cond_both (clears m s now) _ _ (λ (x : MoteStep Did). Timely x.mote now) (λ _. y) (λ _. tick_timely_by m.mode m s now word y y.mode)
 
 -- ---- adverts
 
-noting_timely : (own : Bool) (m : MoteState) (t : Timer) (s : Store) (now draw : ℕ) → Timely m now → ModeTimely (Maintain t) now → Timely (noting m t s now draw own).mote now
-noting_timely true m t s now draw y h = timely_mode m (Maintain (after_same t)) now y (timer_same t now h)
-noting_timely false m t s now draw y h = timely_mode m (Maintain (after_other t now draw)) now y (timer_other t now draw h)
+noting_timely : (own : Bool) (m : MoteState) (t : Timer) (s : Store) (now word : ℕ) → Timely m now → ModeTimely (Maintain t) now → Timely (noting m t s now word own).mote now
+noting_timely true m t s now word y h = timely_mode m (Maintain (after_same t)) now y (timer_same t now h)
+noting_timely false m t s now word y h = timely_mode m (Maintain (after_other t now word)) now y (timer_other t now word h)
 
-ahead_timely : (o : Option ℕ) (m : MoteState) (t : Timer) (s : Store) (now draw source : ℕ) (entries : List Entry) (own : Bool) → Timely m now → ModeTimely (Maintain t) now → Timely (by_ahead o m s now draw (offer source entries) (noting m t s now draw own)).mote now
-ahead_timely None m t s now draw source entries own y h = noting_timely own m t s now draw y h
-ahead_timely (Some i) m t s now draw source entries own y h =
+ahead_timely : (o : Option ℕ) (m : MoteState) (t : Timer) (s : Store) (now word source : ℕ) (entries : List Entry) (own : Bool) → Timely m now → ModeTimely (Maintain t) now → Timely (by_ahead o m s now word (offer source entries) (noting m t s now word own)).mote now
+ahead_timely None m t s now word source entries own y h = noting_timely own m t s now word y h
+ahead_timely (Some i) m t s now word source entries own y h =
     cond_both (asks m s now i (entry_for entries i)) _ _ (λ (x : MoteStep Heard). Timely x.mote now)
     (λ _. timely_mode m _ now y (omega arith))
-    (λ _. noting_timely own m t s now draw y h)
+    (λ _. noting_timely own m t s now word y h)
 
-advert_timely : (m : MoteState) (t : Timer) (s : Store) (now draw source : ℕ) (entries : List Entry) (order : Order) → Timely m now → ModeTimely (Maintain t) now → Timely (advert_heard m t s now draw (offer source entries) order).mote now
+advert_timely : (m : MoteState) (t : Timer) (s : Store) (now word source : ℕ) (entries : List Entry) (order : Order) → Timely m now → ModeTimely (Maintain t) now → Timely (advert_heard m t s now word (offer source entries) order).mote now
 unfolding advert_heard
-advert_timely m t s now draw source entries order y h =
-    let u = last (better_trail s order) in ahead_timely (ahead_in entries u) m t u now draw source entries (is_own entries order m.wide s) y h
+advert_timely m t s now word source entries order y h =
+    let u = last (better_trail s order) in ahead_timely (ahead_in entries u) m t u now word source entries (is_own entries order m.wide s) y h
 
-on_advert_timely : (mode : Mode) (m : MoteState) (s : Store) (now draw source : ℕ) (entries : List Entry) (order : Order) → Timely m now → ModeTimely mode now → Timely (on_advert mode m s now draw (offer source entries) order).mote now
-on_advert_timely (Maintain t) m s now draw source entries order y h = advert_timely m t s now draw source entries order y h
-on_advert_timely (Receive r) m s now draw source entries order y h = y
-on_advert_timely (Transmit t) m s now draw source entries order y h = y
+on_advert_timely : (mode : Mode) (m : MoteState) (s : Store) (now word source : ℕ) (entries : List Entry) (order : Order) → Timely m now → ModeTimely mode now → Timely (on_advert mode m s now word (offer source entries) order).mote now
+on_advert_timely (Maintain t) m s now word source entries order y h = advert_timely m t s now word source entries order y h
+on_advert_timely (Receive r) m s now word source entries order y h = y
+on_advert_timely (Transmit t) m s now word source entries order y h = y
 
 -- ---- requests
 
@@ -209,41 +209,41 @@ request_timely m s now to image version page want below y =
 
 -- ---- packets
 
-seal_timely : (o : Option Held) (m : MoteState) (r : Receiving) (s : Store) (now draw : ℕ) (page : List ℕ) → Timely m now → Timely (seal_by o m r s now draw page).mote now
-seal_timely None m r s now draw page y = y
-seal_timely (Some h) m r s now draw page y = cond_both _ _ _ (λ (x : MoteStep Heard). Timely x.mote now) (λ _. timely_maintains m now draw y) (λ _. timely_maintains m now draw y)
+seal_timely : (o : Option Held) (m : MoteState) (r : Receiving) (s : Store) (now word : ℕ) (page : List ℕ) → Timely m now → Timely (seal_by o m r s now word page).mote now
+seal_timely None m r s now word page y = y
+seal_timely (Some h) m r s now word page y = cond_both _ _ _ (λ (x : MoteStep Heard). Timely x.mote now) (λ _. timely_maintains m now word y) (λ _. timely_maintains m now word y)
 
 accepted_due : (r : Receiving) (now q : ℕ) → r.due ≤ now + next_wait → (after_accept (reception r) now q).due ≤ now + next_wait
 accepted_due r now q h =
     cond_both (set.contains (reception r).got q) (reception r) (record (reception r) { got = set.insert (reception r).got q; due = now + next_wait }) (λ (x : Reception). x.due ≤ now + next_wait) (λ _. h) (λ _. omega arith)
 
-packet_timely : (mode : Mode) (m : MoteState) (s : Store) (now draw image version page q : ℕ) (bytes : List ℕ) → Timely m now → ModeTimely mode now → Timely (on_packet mode m s now draw (page_packet image version page q bytes)).mote now
-packet_timely (Receive r) m s now draw image version page q bytes y h =
+packet_timely : (mode : Mode) (m : MoteState) (s : Store) (now word image version page q : ℕ) (bytes : List ℕ) → Timely m now → ModeTimely mode now → Timely (on_packet mode m s now word (page_packet image version page q bytes)).mote now
+packet_timely (Receive r) m s now word image version page q bytes y h =
     let a = accepted r now q bytes in
-    let full = seal_by (held s r.image) m r s now draw (page_from a.packets) in
+    let full = seal_by (held s r.image) m r s now word (page_from a.packets) in
     let more : MoteStep Heard = record { mote = record m { mode = Receive a }; trail = resting s 1; sent = None; answer = Took q } in
-    cond_both (is_wanted r image version page q) (takes m r s now draw q bytes) (dropped m s) (λ (x : MoteStep Heard). Timely x.mote now)
+    cond_both (is_wanted r image version page q) (takes m r s now word q bytes) (dropped m s) (λ (x : MoteStep Heard). Timely x.mote now)
     (λ _. cond_both (set.len (came a.packets) == packets) full more (λ (x : MoteStep Heard). Timely x.mote now)
-    (λ _. seal_timely (held s r.image) m r s now draw (page_from a.packets) y)
+    (λ _. seal_timely (held s r.image) m r s now word (page_from a.packets) y)
     (λ _. timely_mode m (Receive a) now y (accepted_due r now q h)))
     (λ _. y)
-packet_timely (Maintain t) m s now draw image version page q bytes y h =
+packet_timely (Maintain t) m s now word image version page q bytes y h =
     cond_both (concerns s image version page) _ _ (λ (x : MoteStep Heard). Timely x.mote now) (λ _. packet_noted m now image y) (λ _. y)
-packet_timely (Transmit t) m s now draw image version page q bytes y h = y
+packet_timely (Transmit t) m s now word image version page q bytes y h = y
 
 -- ---- frames
 
-message_timely : (message : Message) (m : MoteState) (s : Store) (now draw : ℕ) → IsWellRead m.wide (Ok message) → Timely m now → Timely (on_message m s now draw message).mote now
-message_timely (Advert source entries order) m s now draw fits y = on_advert_timely m.mode m s now draw source entries order y y.mode
-message_timely (Request source to image version page want) m s now draw fits y = request_timely m s now to image version page want fits.1 y
-message_timely (Packet source image version page packet bytes) m s now draw fits y = packet_timely m.mode m s now draw image version page packet bytes y y.mode
-message_timely (Wide source entries order) m s now draw fits y = on_advert_timely m.mode m s now draw source entries order y y.mode
+message_timely : (message : Message) (m : MoteState) (s : Store) (now word : ℕ) → IsWellRead m.wide (Ok message) → Timely m now → Timely (on_message m s now word message).mote now
+message_timely (Advert source entries order) m s now word fits y = on_advert_timely m.mode m s now word source entries order y y.mode
+message_timely (Request source to image version page want) m s now word fits y = request_timely m s now to image version page want fits.1 y
+message_timely (Packet source image version page packet bytes) m s now word fits y = packet_timely m.mode m s now word image version page packet bytes y y.mode
+message_timely (Wide source entries order) m s now word fits y = on_advert_timely m.mode m s now word source entries order y y.mode
 
-heard_timely_by : (r : Result Message FrameFault) (m : MoteState) (s : Store) (now draw : ℕ) → IsWellRead m.wide r → Timely m now → Timely (by_message r m s now draw).mote now
-heard_timely_by (Err fault) m s now draw fits y = y
-heard_timely_by (Ok message) m s now draw fits y =
-    cond_both (source_of message == m.id) _ _ (λ (x : MoteStep Heard). Timely x.mote now) (λ _. y) (λ _. message_timely message m s now draw fits y)
+heard_timely_by : (r : Result Message FrameFault) (m : MoteState) (s : Store) (now word : ℕ) → IsWellRead m.wide r → Timely m now → Timely (by_message r m s now word).mote now
+heard_timely_by (Err fault) m s now word fits y = y
+heard_timely_by (Ok message) m s now word fits y =
+    cond_both (source_of message == m.id) _ _ (λ (x : MoteStep Heard). Timely x.mote now) (λ _. y) (λ _. message_timely message m s now word fits y)
 
-pub timely_heard : (m : MoteState) (s : Store) (now draw : ℕ) (bytes : List ℕ) → Timely m now → Timely (heard_of m s now draw bytes).mote now
+pub timely_heard : (m : MoteState) (s : Store) (now word : ℕ) (bytes : List ℕ) → Timely m now → Timely (heard_of m s now word bytes).mote now
 unfolding heard_of
-timely_heard m s now draw bytes y = heard_timely_by (message_of bytes m.wide) m s now draw (well_read bytes m.wide) y
+timely_heard m s now word bytes y = heard_timely_by (message_of bytes m.wide) m s now word (well_read bytes m.wide) y

@@ -60,8 +60,8 @@ abbrev pub RestLaw : Type 0
 RestLaw = (table : List Row) (x : Spot) (now n : ℕ) → SpotIsWell table x now → Drained x now → StaysDrained table x now n
 
 -- a mote that has just started, over a chip that was formatted with so many commits told as spent
-abbrev pub fresh_spot : (name bytes : List ℕ) → (used id : ℕ) → (wide : Bool) → (now draw : ℕ) → Spot
-fresh_spot name bytes used id wide now draw = record { store = fresh name bytes used; mote = begun_mote id wide now draw }
+abbrev pub fresh_spot : (name bytes : List ℕ) → (used id : ℕ) → (wide : Bool) → (now word : ℕ) → Spot
+fresh_spot name bytes used id wide now word = record { store = fresh name bytes used; mote = begun_mote id wide now word }
 
 -- ---- telling
 

@@ -6,4 +6,4 @@ use Rattle.dg_mote.specs.Ticks.{idle, tick_of}
 
 -- before this moment a tick changes nothing and sends nothing
 abbrev pub RestsUntil : MoteState → Store → (moment : ℕ) → Type 0
-RestsUntil m s moment = (now draw : ℕ) → now < moment → tick_of m s now draw ≡ idle m s
+RestsUntil m s moment = (now word : ℕ) → now < moment → tick_of m s now word ≡ idle m s

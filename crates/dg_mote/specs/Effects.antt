@@ -20,17 +20,17 @@ pub record Effect : Type 0 where
   pub started : Option Runs
   pub sent : Option Message
 
-abbrev pub boot_by : Option Runs → Trail Store → (id : ℕ) (wide : Bool) (now draw : ℕ) → Effect
-boot_by None t id wide now draw = record { mote = None; trail = t; started = None; sent = None }
-boot_by (Some r) t id wide now draw =
-    record { mote = Some (begun_mote id wide now draw); trail = t; started = Some r; sent = None }
+abbrev pub boot_by : Option Runs → Trail Store → (id : ℕ) (wide : Bool) (now word : ℕ) → Effect
+boot_by None t id wide now word = record { mote = None; trail = t; started = None; sent = None }
+boot_by (Some r) t id wide now word =
+    record { mote = Some (begun_mote id wide now word); trail = t; started = Some r; sent = None }
 
-abbrev pub boots : StartCause → Store → (id : ℕ) (wide : Bool) (now draw : ℕ) → Effect
-boots k s id wide now draw = let b = boot k s in boot_by b.runs b.trail id wide now draw
+abbrev pub boots : StartCause → Store → (id : ℕ) (wide : Bool) (now word : ℕ) → Effect
+boots k s id wide now word = let b = boot k s in boot_by b.runs b.trail id wide now word
 
 -- its power came
-unfoldable pub reset_effect : Store → (id : ℕ) (wide : Bool) (now draw : ℕ) → Effect
-reset_effect s id wide now draw = boots cause.Power s id wide now draw
+unfoldable pub reset_effect : Store → (id : ℕ) (wide : Bool) (now word : ℕ) → Effect
+reset_effect s id wide now word = boots cause.Power s id wide now word
 
 abbrev pub on : {A : Type 0} → MoteStep A → Effect
 on step = record { mote = Some step.mote; trail = step.trail; started = None; sent = step.sent }
@@ -40,15 +40,15 @@ abbrev pub silent : {A : Type 0} → MoteStep A → Effect
 silent step = record { mote = Some step.mote; trail = step.trail; started = None; sent = None }
 
 -- a tick that answers Restart goes on with a start
-abbrev pub tick_by : Did → MoteStep Did → (now draw : ℕ) → Effect
-tick_by Restart step now draw =
-    let e = boots cause.Order (last step.trail) step.mote.id step.mote.wide now draw in
+abbrev pub tick_by : Did → MoteStep Did → (now word : ℕ) → Effect
+tick_by Restart step now word =
+    let e = boots cause.Order (last step.trail) step.mote.id step.mote.wide now word in
     record e { trail = joined step.trail e.trail }
-tick_by Sent step now draw = on step
-tick_by Idle step now draw = on step
+tick_by Sent step now word = on step
+tick_by Idle step now word = on step
 
-unfoldable pub tick_effect : MoteState → Store → (now draw : ℕ) → Effect
-tick_effect m s now draw = let step = tick_of m s now draw in tick_by step.answer step now draw
+unfoldable pub tick_effect : MoteState → Store → (now word : ℕ) → Effect
+tick_effect m s now word = let step = tick_of m s now word in tick_by step.answer step now word
 
-unfoldable pub frame_effect : MoteState → Store → (now draw : ℕ) → List ℕ → Effect
-frame_effect m s now draw bytes = silent (heard_of m s now draw bytes)
+unfoldable pub frame_effect : MoteState → Store → (now word : ℕ) → List ℕ → Effect
+frame_effect m s now word bytes = silent (heard_of m s now word bytes)

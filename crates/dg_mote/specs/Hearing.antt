@@ -70,16 +70,16 @@ pub record PageIsWhole (c : List ℕ) (v : Mote) (m : MoteState) (s : Store) (r 
   pub all : (q : ℕ) → q < packets → is_some (packet ps q) ≡ true
 
 -- a whole page is sealed where it fits, and the mote maintains anew
-abbrev pub page_ends : MoteState → Receiving → Held → Store → (now draw : ℕ) → List ℕ → MoteStep Heard
-page_ends m r h s now draw page =
+abbrev pub page_ends : MoteState → Receiving → Held → Store → (now word : ℕ) → List ℕ → MoteStep Heard
+page_ends m r h s now word page =
     if may_seal r.image h page
     then record {
-      mote = maintains m now draw;
+      mote = maintains m now word;
       trail = stepping s 1 (paged r.image page s);
       sent = None;
       answer = Sealed r.image r.page;
     }
-    else record { mote = maintains m now draw; trail = resting s 0; sent = None; answer = Bad r.image r.page }
+    else record { mote = maintains m now word; trail = resting s 0; sent = None; answer = Bad r.image r.page }
 
 -- ---- a page that is asked for
 

@@ -54,12 +54,12 @@ pub record MoteState : Type 0 where
   pub mode : Mode
 
 -- a mote that was started, and one that begins to maintain anew
-abbrev pub begun_mote : (id : ℕ) (wide : Bool) (now draw : ℕ) → MoteState
-begun_mote id wide now draw =
-    record { id = id; wide = wide; since = now; noted = nothing_noted; mode = Maintain (started now draw) }
+abbrev pub begun_mote : (id : ℕ) (wide : Bool) (now word : ℕ) → MoteState
+begun_mote id wide now word =
+    record { id = id; wide = wide; since = now; noted = nothing_noted; mode = Maintain (started now word) }
 
-abbrev pub maintains : MoteState → (now draw : ℕ) → MoteState
-maintains m now draw = record m { mode = Maintain (started now draw) }
+abbrev pub maintains : MoteState → (now word : ℕ) → MoteState
+maintains m now word = record m { mode = Maintain (started now word) }
 
 -- the numbers of the packets that came
 unfoldable pub came : Packets → Numbers

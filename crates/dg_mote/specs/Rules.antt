@@ -53,22 +53,22 @@ pub record MayRestart (m : MoteState) (s : Store) (now : ℕ) : Type 0 where
 
 -- ---- what happens to a mote
 
--- it ticks, or hears a frame, with the moment and the draw
+-- it ticks, or hears a frame, with the moment and the word
 pub data MoteEvent : Type 0 where
-  Ticks : (now draw : ℕ) → MoteEvent
-  Hears : (now draw : ℕ) (bytes : List ℕ) → MoteEvent
+  Ticks : (now word : ℕ) → MoteEvent
+  Hears : (now word : ℕ) (bytes : List ℕ) → MoteEvent
 
 abbrev pub moment_of : MoteEvent → ℕ
-moment_of (Ticks now draw) = now
-moment_of (Hears now draw bytes) = now
+moment_of (Ticks now word) = now
+moment_of (Hears now word bytes) = now
 
 -- what a mote sends while all this happens, one after the other, and it is not started anew
 unfoldable pub sent_while : List MoteEvent → MoteState → Store → List (Option Message)
 sent_while [] m s = []
-sent_while (Ticks now draw ∷ rest) m s =
-    let step = tick_of m s now draw in step.sent ∷ sent_while rest step.mote (last step.trail)
-sent_while (Hears now draw bytes ∷ rest) m s = let step =
-    heard_of m s now draw bytes in step.sent ∷ sent_while rest step.mote (last step.trail)
+sent_while (Ticks now word ∷ rest) m s =
+    let step = tick_of m s now word in step.sent ∷ sent_while rest step.mote (last step.trail)
+sent_while (Hears now word bytes ∷ rest) m s = let step =
+    heard_of m s now word bytes in step.sent ∷ sent_while rest step.mote (last step.trail)
 
 -- each moment is one of these
 abbrev pub AllBetween : (from until : ℕ) → List MoteEvent → Type 0
@@ -103,8 +103,8 @@ IsInInterval timer (Transmit t) = ⊥
 -- all this happens in it: ticks before its end, and frames that leave the mote in it
 unfoldable pub AllInInterval : Timer → List MoteEvent → MoteState → Store → Type 0
 AllInInterval timer [] m s = Unit {0}
-AllInInterval timer (Ticks now draw ∷ rest) m s =
-    let step = tick_of m s now draw in (now < timer.begin + timer.interval) × AllInInterval timer rest step.mote (last step.trail)
-AllInInterval timer (Hears now draw bytes ∷ rest) m s =
-    let step = heard_of m s now draw bytes in IsInInterval timer step.mote.mode
+AllInInterval timer (Ticks now word ∷ rest) m s =
+    let step = tick_of m s now word in (now < timer.begin + timer.interval) × AllInInterval timer rest step.mote (last step.trail)
+AllInInterval timer (Hears now word bytes ∷ rest) m s =
+    let step = heard_of m s now word bytes in IsInInterval timer step.mote.mode
     × AllInInterval timer rest step.mote (last step.trail)

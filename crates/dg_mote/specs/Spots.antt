@@ -27,7 +27,7 @@ abbrev pub newer_of : Option Message → Option Message → Option Message
 newer_of None before = before
 newer_of (Some m) before = Some m
 
--- a tick with draw 0
+-- a tick with word 0
 abbrev pub tick_at : Spot → (now : ℕ) → Effect
 tick_at x now = tick_effect x.mote x.store now 0
 
@@ -45,7 +45,7 @@ unfoldable pub last_sent : ℕ → Spot → (now : ℕ) → Option Message → O
 last_sent zero x now before = before
 last_sent (suc n) x now before = last_sent n (ticked x (now + pace)) (now + pace) (newer_of (tick_at x (now + pace)).sent before)
 
--- a message is heard, with draw 0
+-- a message is heard, with word 0
 unfoldable pub hears : Spot → (now : ℕ) → Message → Spot
 hears x now message = let t = by_message (Ok message) x.mote x.store now 0 in record { store = last t.trail; mote = t.mote }
 

@@ -25,7 +25,7 @@ use dg_frame::Entry;
 use dg_nor::{Nor, Stopped};
 use dg_order::better;
 use dg_recv::Asking;
-use dg_volume::{Kept, OrderFault, TAKE_COMMITS, Volume, trails_begin};
+use dg_volume::{Kept, TAKE_COMMITS, Volume, trails_begin};
 
 impl Mote {
     /// An advert of another mote was heard.
@@ -33,7 +33,7 @@ impl Mote {
         &mut self,
         nor: &mut N,
         now: u64,
-        draw: u32,
+        word: u32,
         source: u16,
         entries: &[Entry],
         order: &Order,
@@ -44,16 +44,16 @@ impl Mote {
         requires known { length entries.now ≤ known_images self.old.wide }
         requires order { OrderInRange wide_images order.now }
         ensures done { IfOk result (λ heard. (m : MoteState) (s : Store) → IsMote (N.device nor.old).image self.old m s
-            → Done (on_advert m.mode m s now draw (offer source entries.now) order.now)
+            → Done (on_advert m.mode m s now word (offer source entries.now) order.now)
             (N.device nor.old) (N.device nor.new) self.new heard) }
         ensures unchanged { IfOk result (λ heard. StaysIf heard ((N.device nor.new ≡ N.device nor.old) × (self.new ≡ self.old))) }
         ensures same_reference { (N.device nor.new).references ≡ (N.device nor.old).references }
         ensures stopped { OnErr result ((m : MoteState) (s : Store) → IsMote (N.device nor.old).image self.old m s
-            → Stops (on_advert m.mode m s now draw (offer source entries.now) order.now).trail
+            → Stops (on_advert m.mode m s now word (offer source entries.now) order.now).trail
             (N.device nor.old) (N.device nor.new)) }
     {
         match self.mode {
-            Mode::Maintain(_) => self.compare_advert(nor, now, draw, source, entries, order),
+            Mode::Maintain(_) => self.compare_advert(nor, now, word, source, entries, order),
             Mode::Receive { .. } => Ok(Heard::Dropped),
             Mode::Transmit { .. } => Ok(Heard::Dropped),
         }
@@ -64,7 +64,7 @@ impl Mote {
         &mut self,
         nor: &mut N,
         now: u64,
-        draw: u32,
+        word: u32,
         source: u16,
         entries: &[Entry],
         order: &Order,
@@ -77,19 +77,19 @@ impl Mote {
         requires order { OrderInRange wide_images order.now }
         ensures done { IfOk result (λ heard. (m : MoteState) (s : Store) (timer : Timer)
             → IsMote (N.device nor.old).image self.old m s → m.mode ≡ Maintain timer
-            → Done (advert_heard m timer s now draw (offer source entries.now) order.now)
+            → Done (advert_heard m timer s now word (offer source entries.now) order.now)
             (N.device nor.old) (N.device nor.new) self.new heard) }
         ensures not_dropped { IfOk result (λ heard. StaysIf heard ⊥) }
         ensures same_reference { (N.device nor.new).references ≡ (N.device nor.old).references }
         ensures stopped { OnErr result ((m : MoteState) (s : Store) (timer : Timer)
             → IsMote (N.device nor.old).image self.old m s → m.mode ≡ Maintain timer
-            → Stops (advert_heard m timer s now draw (offer source entries.now) order.now).trail
+            → Stops (advert_heard m timer s now word (offer source entries.now) order.now).trail
             (N.device nor.old) (N.device nor.new)) }
     {
         trails_begin();
         let same = would_say(self.wide, &self.volume, entries, order);
         keep_better(nor, &mut self.volume, order)?;
-        self.follow(nor, now, draw, source, entries, same)
+        self.follow(nor, now, word, source, entries, same)
     }
 
     /// Asks for the least image in which the advertiser is ahead, where that may be asked for. Else the advert is noted.
@@ -97,7 +97,7 @@ impl Mote {
         &mut self,
         nor: &mut N,
         now: u64,
-        draw: u32,
+        word: u32,
         source: u16,
         entries: &[Entry],
         same: bool,
@@ -109,24 +109,24 @@ impl Mote {
         requires known { length entries.now ≤ known_images self.old.wide }
         ensures done { IfOk result (λ heard. (m : MoteState) (s : Store) (timer : Timer)
             → IsMote (N.device nor.old).image self.old m s → m.mode ≡ Maintain timer
-            → Done (by_ahead (ahead_in entries.now s) m s now draw (offer source entries.now) (noting m timer s now draw same))
+            → Done (by_ahead (ahead_in entries.now s) m s now word (offer source entries.now) (noting m timer s now word same))
             (N.device nor.old) (N.device nor.new) self.new heard) }
         ensures not_dropped { IfOk result (λ heard. StaysIf heard ⊥) }
         ensures same_reference { (N.device nor.new).references ≡ (N.device nor.old).references }
         ensures stopped { OnErr result ((m : MoteState) (s : Store) (timer : Timer)
             → IsMote (N.device nor.old).image self.old m s → m.mode ≡ Maintain timer
-            → Stops (by_ahead (ahead_in entries.now s) m s now draw (offer source entries.now)
-            (noting m timer s now draw same)).trail
+            → Stops (by_ahead (ahead_in entries.now s) m s now word (offer source entries.now)
+            (noting m timer s now word same)).trail
             (N.device nor.old) (N.device nor.new)) }
     {
         let Some(image) = first_ahead(&self.volume, entries) else {
-            return Ok(self.note_advert(same, now, draw));
+            return Ok(self.note_advert(same, now, word));
         };
         let entry = entry_for(entries, image);
         if !self.may_ask(now, image, entry) {
-            return Ok(self.note_advert(same, now, draw));
+            return Ok(self.note_advert(same, now, word));
         }
-        self.ask(nor, now, draw, source, image, entry)
+        self.ask(nor, now, word, source, image, entry)
     }
 
     /// Whether no window of an image is open, and its slot need not be taken, or there is room to take it.
@@ -139,14 +139,15 @@ impl Mote {
     }
 
     /// Notes that an equal or another advert was heard.
-    fn note_advert(&mut self, same: bool, now: u64, draw: u32) -> Heard
+    fn note_advert(&mut self, same: bool, now: u64, word: u32) -> Heard
         requires mote { (c : List ℕ) × (m : MoteState) × (s : Store) × (timer : Timer) × IsMote c self.old m s
             × (m.mode ≡ Maintain timer) }
         requires moment { now < 2 ^ 62 }
         ensures rests { (c : List ℕ) (m : MoteState) (s : Store) (timer : Timer) → IsMote c self.old m s → m.mode ≡ Maintain timer
-            → ChipStays (noting m timer s now draw same) c s self.new result }
+            → ChipStays (noting m timer s now word same) c s self.new result }
         ensures not_dropped { StaysIf result ⊥ }
     {
+        // `hear_advert` matched this mode, but the type of a mote that is lent cannot say so
         let Mode::Maintain(trickle) = &mut self.mode else {
             unreachable!();
         };
@@ -154,7 +155,7 @@ impl Mote {
             trickle.heard_same();
             Heard::Same
         } else {
-            trickle.heard_other(now, draw);
+            trickle.heard_other(now, word);
             Heard::Other
         }
     }
@@ -164,7 +165,7 @@ impl Mote {
         &mut self,
         nor: &mut N,
         now: u64,
-        draw: u32,
+        word: u32,
         source: u16,
         image: u8,
         entry: Entry,
@@ -175,7 +176,7 @@ impl Mote {
         requires known { image ≤ known_images self.old.wide }
         ensures done { IfOk result (λ heard. (m : MoteState) (s : Store) (timer : Timer)
             → IsMote (N.device nor.old).image self.old m s → m.mode ≡ Maintain timer → MayTake s image entry
-            → Done (asking m s now draw source image entry) (N.device nor.old) (N.device nor.new) self.new heard) }
+            → Done (asking m s now word source image entry) (N.device nor.old) (N.device nor.new) self.new heard) }
         ensures not_dropped { IfOk result (λ heard. StaysIf heard ⊥) }
         ensures same_reference { (N.device nor.new).references ≡ (N.device nor.old).references }
         ensures stopped { OnErr result ((m : MoteState) (s : Store) (timer : Timer)
@@ -187,7 +188,7 @@ impl Mote {
         self.mode = Mode::Receive {
             version: entry.version,
             server: source,
-            asking: Asking::new(now, draw),
+            asking: Asking::new(now, word),
             job,
         };
         Ok(Heard::Asks { image, page })
@@ -331,8 +332,7 @@ fn keep_better<N: Nor>(nor: &mut N, volume: &mut Volume, order: &Order) -> Resul
     }
     match volume.order(nor, order.number, order.image, order.version) {
         Ok(()) => Ok(()),
-        Err(OrderFault::Stopped) => Err(Stopped),
-        Err(OrderFault::OldOrder { .. }) => unreachable!(),
-        Err(OrderFault::Worn { .. }) => unreachable!(),
+        // it may be kept, so that this was stopped
+        Err(_) => Err(Stopped),
     }
 }

@@ -21,20 +21,20 @@ use dg_volume::{acts_end, trails_begin};
 /// A tick clears short starts at most. An advert may bring a better order, and begin one image anew for a newer version.
 /// A request changes nothing. A packet may complete one page, where it is the last of its packets to come.
 pub fn what_a_mote_may_change()
-    ensures ticked { (m : MoteState) (s : Store) (now draw : ℕ) → Through (MayClear s) (tick_of m s now draw).trail }
-    ensures advert { (m : MoteState) (s : Store) (now draw : ℕ) (bytes : List ℕ) (wide : Bool) (source : ℕ)
+    ensures ticked { (m : MoteState) (s : Store) (now word : ℕ) → Through (MayClear s) (tick_of m s now word).trail }
+    ensures advert { (m : MoteState) (s : Store) (now word : ℕ) (bytes : List ℕ) (wide : Bool) (source : ℕ)
         (entries : List Entry) (order : Order)
         → message_of bytes m.wide ≡ Ok (advert_by wide source entries order)
-        → Through (TakesAdvert entries order true s) (heard_of m s now draw bytes).trail
-        × TakesAdvert entries order false s (last (heard_of m s now draw bytes).trail) }
-    ensures request { (m : MoteState) (s : Store) (now draw : ℕ) (bytes : List ℕ) (source to image version page : ℕ)
+        → Through (TakesAdvert entries order true s) (heard_of m s now word bytes).trail
+        × TakesAdvert entries order false s (last (heard_of m s now word bytes).trail) }
+    ensures request { (m : MoteState) (s : Store) (now word : ℕ) (bytes : List ℕ) (source to image version page : ℕ)
         (want : Numbers)
         → message_of bytes m.wide ≡ Ok (message.Request source to image version page want)
-        → (heard_of m s now draw bytes).trail ≡ resting s 0 }
-    ensures packet { (m : MoteState) (s : Store) (now draw : ℕ) (bytes : List ℕ) (source image version page q : ℕ)
+        → (heard_of m s now word bytes).trail ≡ resting s 0 }
+    ensures packet { (m : MoteState) (s : Store) (now word : ℕ) (bytes : List ℕ) (source image version page q : ℕ)
         (content : List ℕ)
         → message_of bytes m.wide ≡ Ok (message.Packet source image version page q content)
-        → Through (λ t. (t ≡ s) ⊎ Completes m.mode image version page q s t) (heard_of m s now draw bytes).trail }
+        → Through (λ t. (t ≡ s) ⊎ Completes m.mode image version page q s t) (heard_of m s now word bytes).trail }
 {
     acts_end();
     trails_begin();
@@ -43,8 +43,8 @@ pub fn what_a_mote_may_change()
 /// A page that a mote asks for is not one of golden, and its packets came in frames: a tick brings none, and a frame the
 /// one that it spells.
 pub fn packets_come_in_frames()
-    ensures ticked { (m : MoteState) (s : Store) (now draw : ℕ)
-        → IfReceives (Continues m.mode (λ image version page q. ⊥)) (tick_of m s now draw).mote.mode }
-    ensures heard { (m : MoteState) (s : Store) (now draw : ℕ) (bytes : List ℕ)
-        → IfReceives (λ r. IsBegun r ⊎ Continues m.mode (Brings bytes m.wide) r) (heard_of m s now draw bytes).mote.mode }
+    ensures ticked { (m : MoteState) (s : Store) (now word : ℕ)
+        → IfReceives (Continues m.mode (λ image version page q. ⊥)) (tick_of m s now word).mote.mode }
+    ensures heard { (m : MoteState) (s : Store) (now word : ℕ) (bytes : List ℕ)
+        → IfReceives (λ r. IsBegun r ⊎ Continues m.mode (Brings bytes m.wide) r) (heard_of m s now word bytes).mote.mode }
 {}

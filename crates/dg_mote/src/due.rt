@@ -33,8 +33,8 @@ impl Mote {
 
     /// The moment before which its mode asks for nothing.
     fn mode_due(&self) -> u64
-        ensures { (c : List ℕ) (m : MoteState) (s : Store) (now draw : ℕ) → IsMote c self.now m s → now < result
-            → mode_tick m.mode m s now draw ≡ idle m s }
+        ensures { (c : List ℕ) (m : MoteState) (s : Store) (now word : ℕ) → IsMote c self.now m s → now < result
+            → mode_tick m.mode m s now word ≡ idle m s }
     {
         match &self.mode {
             Mode::Maintain(trickle) => {

@@ -20,7 +20,7 @@ use dg_frame::{Message, read, refusal};
 use dg_nor::{Nor, Stopped};
 
 impl Mote {
-    /// Hears the bytes of a frame at this moment, in milliseconds, with a draw for random choices. The answer says what the
+    /// Hears the bytes of a frame at this moment, in milliseconds, with a word for random choices. The answer says what the
     /// mote did. Bytes that are no frame, and the mote's own frames, change nothing.
     ///
     /// A mote that maintains keeps a better order, asks the sender of an advert for the next page of what it lacks, and
@@ -33,18 +33,18 @@ impl Mote {
         &mut self,
         nor: &mut N,
         now: u64,
-        draw: u32,
+        word: u32,
         bytes: &[u8],
     ) -> Result<Heard, Stopped>
         requires mote { (m : MoteState) × (s : Store) × IsMote (N.device nor.old).image self.old m s × Timely m now }
         requires moment { now < 2 ^ 62 }
         ensures done { IfOk result (λ heard. (m : MoteState) (s : Store) → IsMote (N.device nor.old).image self.old m s
-            → Done (heard_of m s now draw bytes.now) (N.device nor.old) (N.device nor.new) self.new heard) }
+            → Done (heard_of m s now word bytes.now) (N.device nor.old) (N.device nor.new) self.new heard) }
         // a frame that is refused or dropped changes nothing
         ensures unchanged { IfOk result (λ heard. StaysIf heard ((N.device nor.new ≡ N.device nor.old) × (self.new ≡ self.old))) }
         ensures same_reference { (N.device nor.new).references ≡ (N.device nor.old).references }
         ensures stopped { OnErr result ((m : MoteState) (s : Store) → IsMote (N.device nor.old).image self.old m s
-            → Stops (heard_of m s now draw bytes.now).trail (N.device nor.old) (N.device nor.new)) }
+            → Stops (heard_of m s now word bytes.now).trail (N.device nor.old) (N.device nor.new)) }
         // whatever is heard: a consistent chip stays so, also where it stops
         ensures consistent { OnOk result ((golden : Row) → MoteIsConsistent golden (N.device nor.old).image self.old
             → MoteIsConsistent golden (N.device nor.new).image self.new) }
@@ -54,7 +54,7 @@ impl Mote {
         a_mote_keeps_consistency();
         match read(bytes, self.wide) {
             Err(fault) => Ok(Heard::Refused(fault)),
-            Ok(message) => self.hear_message(nor, now, draw, &message),
+            Ok(message) => self.hear_message(nor, now, word, &message),
         }
     }
 
@@ -64,18 +64,18 @@ impl Mote {
         &mut self,
         nor: &mut N,
         now: u64,
-        draw: u32,
+        word: u32,
         message: &Message,
     ) -> Result<Heard, Stopped>
         requires mote { (m : MoteState) × (s : Store) × IsMote (N.device nor.old).image self.old m s × Timely m now }
         requires moment { now < 2 ^ 62 }
         requires range { in_range true message.now ≡ true }
         ensures done { IfOk result (λ heard. (m : MoteState) (s : Store) → IsMote (N.device nor.old).image self.old m s
-            → Done (heard_of m s now draw (frame_of message.now)) (N.device nor.old) (N.device nor.new) self.new heard) }
+            → Done (heard_of m s now word (frame_of message.now)) (N.device nor.old) (N.device nor.new) self.new heard) }
         ensures unchanged { IfOk result (λ heard. StaysIf heard ((N.device nor.new ≡ N.device nor.old) × (self.new ≡ self.old))) }
         ensures same_reference { (N.device nor.new).references ≡ (N.device nor.old).references }
         ensures stopped { OnErr result ((m : MoteState) (s : Store) → IsMote (N.device nor.old).image self.old m s
-            → Stops (heard_of m s now draw (frame_of message.now)).trail (N.device nor.old) (N.device nor.new)) }
+            → Stops (heard_of m s now word (frame_of message.now)).trail (N.device nor.old) (N.device nor.new)) }
         ensures consistent { OnOk result ((golden : Row) → MoteIsConsistent golden (N.device nor.old).image self.old
             → MoteIsConsistent golden (N.device nor.new).image self.new) }
         ensures stops_consistent { OnErr result ((golden : Row) → MoteIsConsistent golden (N.device nor.old).image self.old
@@ -84,7 +84,7 @@ impl Mote {
         a_mote_keeps_consistency();
         match refusal(message, self.wide) {
             Some(fault) => Ok(Heard::Refused(fault)),
-            None => self.hear_message(nor, now, draw, message),
+            None => self.hear_message(nor, now, word, message),
         }
     }
 
@@ -93,18 +93,18 @@ impl Mote {
         &mut self,
         nor: &mut N,
         now: u64,
-        draw: u32,
+        word: u32,
         message: &Message,
     ) -> Result<Heard, Stopped>
         requires mote { (m : MoteState) × (s : Store) × IsMote (N.device nor.old).image self.old m s }
         requires moment { now < 2 ^ 62 }
         requires range { IsInRange self.old.wide message.now }
         ensures done { IfOk result (λ heard. (m : MoteState) (s : Store) → IsMote (N.device nor.old).image self.old m s
-            → Done (by_message (Ok message.now) m s now draw) (N.device nor.old) (N.device nor.new) self.new heard) }
+            → Done (by_message (Ok message.now) m s now word) (N.device nor.old) (N.device nor.new) self.new heard) }
         ensures unchanged { IfOk result (λ heard. StaysIf heard ((N.device nor.new ≡ N.device nor.old) × (self.new ≡ self.old))) }
         ensures same_reference { (N.device nor.new).references ≡ (N.device nor.old).references }
         ensures stopped { OnErr result ((m : MoteState) (s : Store) → IsMote (N.device nor.old).image self.old m s
-            → Stops (by_message (Ok message.now) m s now draw).trail (N.device nor.old) (N.device nor.new)) }
+            → Stops (by_message (Ok message.now) m s now word).trail (N.device nor.old) (N.device nor.new)) }
     {
         if source(message) == self.id {
             return Ok(Heard::Dropped);
@@ -114,12 +114,12 @@ impl Mote {
                 source,
                 entries,
                 order,
-            } => self.hear_advert(nor, now, draw, *source, entries, order),
+            } => self.hear_advert(nor, now, word, *source, entries, order),
             Message::Wide {
                 source,
                 entries,
                 order,
-            } => self.hear_advert(nor, now, draw, *source, entries, order),
+            } => self.hear_advert(nor, now, word, *source, entries, order),
             Message::Request {
                 to,
                 image,
@@ -140,7 +140,7 @@ impl Mote {
                 ..
             } => {
                 let name = PageName::new(*image, *version, *page);
-                self.hear_packet(nor, now, draw, name, *packet, bytes)
+                self.hear_packet(nor, now, word, name, *packet, bytes)
             }
         }
     }

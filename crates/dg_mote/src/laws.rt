@@ -34,18 +34,18 @@ use dg_volume::{
 
 /// No moment of a mote is later than the present one, and what is due is due soon. Every effect keeps this.
 pub fn a_mote_stays_timely()
-    ensures begins { (id now draw : ℕ) (wide : Bool) → Timely (begun_mote id wide now draw) now }
+    ensures begins { (id now word : ℕ) (wide : Bool) → Timely (begun_mote id wide now word) now }
     ensures later { (m : MoteState) (now then : ℕ) → now ≤ then → Timely m now → Timely m then }
-    ensures reloaded { (m : MoteState) (now draw : ℕ) → Timely m now → Timely (maintains m now draw) now }
-    ensures ticked { (m : MoteState) (s : Store) (now draw : ℕ) → Timely m now → Timely (tick_of m s now draw).mote now }
-    ensures heard { (m : MoteState) (s : Store) (now draw : ℕ) (bytes : List ℕ) → Timely m now
-        → Timely (heard_of m s now draw bytes).mote now }
+    ensures reloaded { (m : MoteState) (now word : ℕ) → Timely m now → Timely (maintains m now word) now }
+    ensures ticked { (m : MoteState) (s : Store) (now word : ℕ) → Timely m now → Timely (tick_of m s now word).mote now }
+    ensures heard { (m : MoteState) (s : Store) (now word : ℕ) (bytes : List ℕ) → Timely m now
+        → Timely (heard_of m s now word bytes).mote now }
 {}
 
 /// The trails of steps begin at the store before them, and may follow others.
 pub fn steps_begin()
-    ensures ticked { (m : MoteState) (s : Store) (now draw : ℕ) → BeginsAt s (tick_of m s now draw).trail }
-    ensures heard { (m : MoteState) (s : Store) (now draw : ℕ) (bytes : List ℕ) → BeginsAt s (heard_of m s now draw bytes).trail }
+    ensures ticked { (m : MoteState) (s : Store) (now word : ℕ) → BeginsAt s (tick_of m s now word).trail }
+    ensures heard { (m : MoteState) (s : Store) (now word : ℕ) (bytes : List ℕ) → BeginsAt s (heard_of m s now word bytes).trail }
 {
     trails_begin();
 }
@@ -53,20 +53,20 @@ pub fn steps_begin()
 /// An agreeing mote that ticks, or hears an honest frame, still agrees, and so does every store on the way. What it sends
 /// is honest, and a page that came in honest packets is never Bad.
 pub fn a_mote_keeps_agreement()
-    ensures begins { (table : List Row) (s : Store) (id now draw : ℕ) (wide : Bool)
-        → ModeAgrees table s (begun_mote id wide now draw).mode }
-    ensures ticked { (table : List Row) (m : MoteState) (s : Store) (now draw : ℕ) → Agrees table s → ModeAgrees table s m.mode
-        → Through (Agrees table) (tick_of m s now draw).trail
-        × ModeAgrees table (last (tick_of m s now draw).trail) (tick_of m s now draw).mote.mode }
-    ensures honest { (table : List Row) (m : MoteState) (s : Store) (now draw : ℕ) → Agrees table s → ModeAgrees table s m.mode
-        → SendsHonest table (tick_of m s now draw).sent }
-    ensures heard { (table : List Row) (m : MoteState) (s : Store) (now draw : ℕ) (bytes : List ℕ) → IsTable table
+    ensures begins { (table : List Row) (s : Store) (id now word : ℕ) (wide : Bool)
+        → ModeAgrees table s (begun_mote id wide now word).mode }
+    ensures ticked { (table : List Row) (m : MoteState) (s : Store) (now word : ℕ) → Agrees table s → ModeAgrees table s m.mode
+        → Through (Agrees table) (tick_of m s now word).trail
+        × ModeAgrees table (last (tick_of m s now word).trail) (tick_of m s now word).mote.mode }
+    ensures honest { (table : List Row) (m : MoteState) (s : Store) (now word : ℕ) → Agrees table s → ModeAgrees table s m.mode
+        → SendsHonest table (tick_of m s now word).sent }
+    ensures heard { (table : List Row) (m : MoteState) (s : Store) (now word : ℕ) (bytes : List ℕ) → IsTable table
         → IsHonest table bytes → StoreIsWell table s → ModeAgrees table s m.mode
-        → Through (StoreIsWell table) (heard_of m s now draw bytes).trail
-        × ModeAgrees table (last (heard_of m s now draw bytes).trail) (heard_of m s now draw bytes).mote.mode }
-    ensures sealed { (table : List Row) (m : MoteState) (s : Store) (now draw : ℕ) (bytes : List ℕ) → IsTable table
+        → Through (StoreIsWell table) (heard_of m s now word bytes).trail
+        × ModeAgrees table (last (heard_of m s now word bytes).trail) (heard_of m s now word bytes).mote.mode }
+    ensures sealed { (table : List Row) (m : MoteState) (s : Store) (now word : ℕ) (bytes : List ℕ) → IsTable table
         → IsHonest table bytes → StoreIsWell table s → ModeAgrees table s m.mode
-        → (image page : ℕ) → (heard_of m s now draw bytes).answer ≡ Bad image page → ⊥ }
+        → (image page : ℕ) → (heard_of m s now word bytes).answer ≡ Bad image page → ⊥ }
 {
     a_table_holds_sound_rows();
     a_row_is_filled_page_by_page();
@@ -79,26 +79,26 @@ pub fn a_mote_keeps_agreement()
     one_reading();
 }
 
-/// A mote that agrees and is in time stays so as it ticks, at any moment and with any draw, as it hears honest frames and
+/// A mote that agrees and is in time stays so as it ticks, at any moment and with any word, as it hears honest frames and
 /// as it starts, and every store on the way agrees, also one that a stop leaves. A start over such a store finds an
 /// image, which is a row of the table.
 pub fn a_mote_stays_well()
-    ensures begins { (table : List Row) (s : Store) (id now draw : ℕ) (wide : Bool) → StoreIsWell table s
-        → IsWell table (begun_mote id wide now draw) s now }
+    ensures begins { (table : List Row) (s : Store) (id now word : ℕ) (wide : Bool) → StoreIsWell table s
+        → IsWell table (begun_mote id wide now word) s now }
     ensures later { (table : List Row) (m : MoteState) (s : Store) (now then : ℕ) → now ≤ then → IsWell table m s now
         → IsWell table m s then }
-    ensures reloaded { (table : List Row) (m : MoteState) (s : Store) (now draw : ℕ) → Timely m now → StoreIsWell table s
-        → IsWell table (maintains m now draw) s now }
-    ensures ticked { (table : List Row) (m : MoteState) (s : Store) (now draw : ℕ) → IsWell table m s now
-        → TurnIsWell table (tick_of m s now draw) now }
-    ensures heard { (table : List Row) (m : MoteState) (s : Store) (now draw : ℕ) (bytes : List ℕ) → IsTable table
-        → IsHonest table bytes → IsWell table m s now → TurnIsWell table (heard_of m s now draw bytes) now }
-    ensures tick_effect { (table : List Row) (m : MoteState) (s : Store) (now draw : ℕ) → IsTable table
-        → IsWell table m s now → EffectIsWell table (tick_effect m s now draw) now }
-    ensures frame_effect { (table : List Row) (m : MoteState) (s : Store) (now draw : ℕ) (bytes : List ℕ) → IsTable table
-        → IsHonest table bytes → IsWell table m s now → EffectIsWell table (frame_effect m s now draw bytes) now }
-    ensures reset_effect { (table : List Row) (s : Store) (id now draw : ℕ) (wide : Bool) → IsTable table
-        → StoreIsWell table s → EffectIsWell table (reset_effect s id wide now draw) now }
+    ensures reloaded { (table : List Row) (m : MoteState) (s : Store) (now word : ℕ) → Timely m now → StoreIsWell table s
+        → IsWell table (maintains m now word) s now }
+    ensures ticked { (table : List Row) (m : MoteState) (s : Store) (now word : ℕ) → IsWell table m s now
+        → TurnIsWell table (tick_of m s now word) now }
+    ensures heard { (table : List Row) (m : MoteState) (s : Store) (now word : ℕ) (bytes : List ℕ) → IsTable table
+        → IsHonest table bytes → IsWell table m s now → TurnIsWell table (heard_of m s now word bytes) now }
+    ensures tick_effect { (table : List Row) (m : MoteState) (s : Store) (now word : ℕ) → IsTable table
+        → IsWell table m s now → EffectIsWell table (tick_effect m s now word) now }
+    ensures frame_effect { (table : List Row) (m : MoteState) (s : Store) (now word : ℕ) (bytes : List ℕ) → IsTable table
+        → IsHonest table bytes → IsWell table m s now → EffectIsWell table (frame_effect m s now word bytes) now }
+    ensures reset_effect { (table : List Row) (s : Store) (id now word : ℕ) (wide : Bool) → IsTable table
+        → StoreIsWell table s → EffectIsWell table (reset_effect s id wide now word) now }
     ensures stopped { (table : List Row) (t : Trail Store) (k : ℕ) (s : Store) → Through (StoreIsWell table) t
         → Leaves IsNear t k s → StoreIsWell table s }
 {
@@ -114,12 +114,12 @@ pub fn a_mote_stays_well()
 /// A mote that asks for an image that its chip can keep, or for none, goes through consistent stores as it ticks and as it
 /// hears a frame, whatever its bytes are, and then asks for such an image or for none. So is every store that a stop leaves.
 pub fn a_mote_keeps_consistency()
-    ensures begins { (id now draw : ℕ) (wide : Bool) → AsksForKnown (begun_mote id wide now draw).mode }
-    ensures reloaded { (m : MoteState) (now draw : ℕ) → AsksForKnown (maintains m now draw).mode }
-    ensures ticked { (golden : Row) (m : MoteState) (s : Store) (now draw : ℕ) → StoreIsConsistent golden s
-        → AsksForKnown m.mode → TurnIsConsistent golden (tick_of m s now draw) }
-    ensures heard { (golden : Row) (m : MoteState) (s : Store) (now draw : ℕ) (bytes : List ℕ) → StoreIsConsistent golden s
-        → AsksForKnown m.mode → TurnIsConsistent golden (heard_of m s now draw bytes) }
+    ensures begins { (id now word : ℕ) (wide : Bool) → AsksForKnown (begun_mote id wide now word).mode }
+    ensures reloaded { (m : MoteState) (now word : ℕ) → AsksForKnown (maintains m now word).mode }
+    ensures ticked { (golden : Row) (m : MoteState) (s : Store) (now word : ℕ) → StoreIsConsistent golden s
+        → AsksForKnown m.mode → TurnIsConsistent golden (tick_of m s now word) }
+    ensures heard { (golden : Row) (m : MoteState) (s : Store) (now word : ℕ) (bytes : List ℕ) → StoreIsConsistent golden s
+        → AsksForKnown m.mode → TurnIsConsistent golden (heard_of m s now word bytes) }
     ensures stopped { (golden : Row) (t : Trail Store) (k : ℕ) (s : Store) → Through (StoreIsConsistent golden) t
         → Leaves IsNear t k s → StoreIsConsistent golden s }
 {
@@ -129,22 +129,22 @@ pub fn a_mote_keeps_consistency()
 /// What a well mote sends is honest, names the mote, and is read as it was said by motes of its width, where its id has two
 /// bytes and its store's order fits into a wide frame. Ticks, starts and frames whose fields fit keep this.
 pub fn what_is_sent_is_read()
-    ensures said { (table : List Row) (m : MoteState) (s : Store) (now draw : ℕ) → IsTable table → IsWell table m s now
-        → Speaks m s → IfSome (tick_of m s now draw).sent (IsSaid m.id m.wide) }
-    ensures honest { (table : List Row) (m : MoteState) (s : Store) (now draw : ℕ) → IsTable table → IsWell table m s now
+    ensures said { (table : List Row) (m : MoteState) (s : Store) (now word : ℕ) → IsTable table → IsWell table m s now
+        → Speaks m s → IfSome (tick_of m s now word).sent (IsSaid m.id m.wide) }
+    ensures honest { (table : List Row) (m : MoteState) (s : Store) (now word : ℕ) → IsTable table → IsWell table m s now
         → Speaks m s
-        → IfSome (tick_of m s now draw).sent (λ message. IsHonest table (frame_of message)) }
-    ensures begins { (s : Store) (id now draw : ℕ) (wide : Bool) → id < 2 ^ 16 → OrderFits s.order
-        → Speaks (begun_mote id wide now draw) s }
-    ensures ticked { (m : MoteState) (s : Store) (now draw : ℕ) → Speaks m s → TurnSpeaks m.id m.wide (tick_of m s now draw) }
-    ensures heard { (m : MoteState) (s : Store) (now draw : ℕ) (bytes : List ℕ) → IfOk (message_of bytes m.wide) FitsTypes
-        → Speaks m s → TurnSpeaks m.id m.wide (heard_of m s now draw bytes) }
-    ensures tick_effect { (m : MoteState) (s : Store) (now draw : ℕ) → Speaks m s
-        → EffectSpeaks m.id m.wide (tick_effect m s now draw) }
-    ensures frame_effect { (m : MoteState) (s : Store) (now draw : ℕ) (bytes : List ℕ)
-        → IfOk (message_of bytes m.wide) FitsTypes → Speaks m s → EffectSpeaks m.id m.wide (frame_effect m s now draw bytes) }
-    ensures reset_effect { (s : Store) (id now draw : ℕ) (wide : Bool) → id < 2 ^ 16 → OrderFits s.order
-        → EffectSpeaks id wide (reset_effect s id wide now draw) }
+        → IfSome (tick_of m s now word).sent (λ message. IsHonest table (frame_of message)) }
+    ensures begins { (s : Store) (id now word : ℕ) (wide : Bool) → id < 2 ^ 16 → OrderFits s.order
+        → Speaks (begun_mote id wide now word) s }
+    ensures ticked { (m : MoteState) (s : Store) (now word : ℕ) → Speaks m s → TurnSpeaks m.id m.wide (tick_of m s now word) }
+    ensures heard { (m : MoteState) (s : Store) (now word : ℕ) (bytes : List ℕ) → IfOk (message_of bytes m.wide) FitsTypes
+        → Speaks m s → TurnSpeaks m.id m.wide (heard_of m s now word bytes) }
+    ensures tick_effect { (m : MoteState) (s : Store) (now word : ℕ) → Speaks m s
+        → EffectSpeaks m.id m.wide (tick_effect m s now word) }
+    ensures frame_effect { (m : MoteState) (s : Store) (now word : ℕ) (bytes : List ℕ)
+        → IfOk (message_of bytes m.wide) FitsTypes → Speaks m s → EffectSpeaks m.id m.wide (frame_effect m s now word bytes) }
+    ensures reset_effect { (s : Store) (id now word : ℕ) (wide : Bool) → id < 2 ^ 16 → OrderFits s.order
+        → EffectSpeaks id wide (reset_effect s id wide now word) }
     ensures stopped { (t : Trail Store) (k : ℕ) (s : Store) → Through (λ x. OrderFits x.order) t → Leaves IsNear t k s
         → OrderFits s.order }
 {

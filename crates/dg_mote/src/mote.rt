@@ -51,7 +51,7 @@ pub enum Mode {
     },
 }
 
-/// A mote, beside the chip of its board. Moments are milliseconds and never fall, and a draw stands for a random number.
+/// A mote, beside the chip of its board. Moments are milliseconds and never fall, and a word stands for a random number.
 /// After `Stopped` a mote is not used again.
 #[derive(Drop)]
 pub struct Mote {
@@ -106,10 +106,10 @@ pub enum Heard {
 impl Mote {
     /// A mote that was started at this moment, over the volume of its board. A wide one speaks of images 1 to 6, and a narrow
     /// one, with the old radio, of images 1 to 3.
-    pub fn new(volume: Volume, id: u16, wide: bool, now: u64, draw: u32) -> Mote
+    pub fn new(volume: Volume, id: u16, wide: bool, now: u64, word: u32) -> Mote
         requires free { NothingLent volume }
         requires moment { now < 2 ^ 62 }
-        ensures { (c : List ℕ) (s : Store) → Mounted c volume s → IsMote c result (begun_mote id wide now draw) s }
+        ensures { (c : List ℕ) (s : Store) → Mounted c volume s → IsMote c result (begun_mote id wide now word) s }
     {
         Mote {
             id,
@@ -117,29 +117,29 @@ impl Mote {
             since: now,
             windows: Windows::new(),
             volume,
-            mode: Mode::Maintain(Trickle::new(now, draw)),
+            mode: Mode::Maintain(Trickle::new(now, word)),
         }
     }
 
     /// The mote goes on with a new volume, and maintains anew. Its start and its windows stay.
-    pub fn reload(&mut self, volume: Volume, now: u64, draw: u32)
+    pub fn reload(&mut self, volume: Volume, now: u64, word: u32)
         requires free { NothingLent volume }
         requires moment { now < 2 ^ 62 }
         requires mote { (c : List ℕ) × (m : MoteState) × (s : Store) × IsMote c self.old m s × Timely m now }
         ensures { (c d : List ℕ) (m : MoteState) (s t : Store) → IsMote c self.old m s → Mounted d volume t
-            → IsMote d self.new (maintains m now draw) t }
+            → IsMote d self.new (maintains m now word) t }
     {
         self.volume = volume;
-        self.mode = Mode::Maintain(Trickle::new(now, draw));
+        self.mode = Mode::Maintain(Trickle::new(now, word));
     }
 
     /// The mote maintains anew. A slot that is lent goes back as it is.
-    pub(crate) fn maintain_anew(&mut self, now: u64, draw: u32)
+    pub(crate) fn maintain_anew(&mut self, now: u64, word: u32)
         requires mote { (c : List ℕ) × (m : MoteState) × (s : Store) × IsMote c self.old m s }
         requires moment { now < 2 ^ 62 }
-        ensures { (c : List ℕ) (m : MoteState) (s : Store) → IsMote c self.old m s → IsMote c self.new (maintains m now draw) s }
+        ensures { (c : List ℕ) (m : MoteState) (s : Store) → IsMote c self.old m s → IsMote c self.new (maintains m now word) s }
     {
-        let anew = Mode::Maintain(Trickle::new(now, draw));
+        let anew = Mode::Maintain(Trickle::new(now, word));
         if let Mode::Receive { job, .. } = mem::replace(&mut self.mode, anew) {
             self.volume.put_back(job.drop_job());
         }

@@ -12,9 +12,7 @@ use dg_frame::Entry;
 use dg_nor::{Nor, Stopped};
 use dg_object::Profile;
 use dg_slot::{OpenSlot, PageJob};
-use dg_volume::{
-    TakeFault, Volume, a_lent_slot_is_filled, acts_end, what_stands_behind_the_commits,
-};
+use dg_volume::{Volume, a_lent_slot_is_filled, acts_end, what_stands_behind_the_commits};
 
 /// Begins the next page of an image, whose slot is taken unless this version is kept.
 pub(crate) fn begin_page<N: Nor>(
@@ -70,9 +68,7 @@ fn open<N: Nor>(
     };
     match volume.take(nor, image, &profile) {
         Ok(slot) => Ok(slot),
-        Err(TakeFault::Stopped) => Err(Stopped),
-        Err(TakeFault::Stale { .. }) => unreachable!(),
-        Err(TakeFault::Reserved) => unreachable!(),
-        Err(TakeFault::Worn { .. }) => unreachable!(),
+        // it may be taken, so that this was stopped
+        Err(_) => Err(Stopped),
     }
 }

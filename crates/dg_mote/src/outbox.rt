@@ -46,13 +46,14 @@ impl Outbox {
         self.message.as_ref()
     }
 
-    /// Takes the frame out as its message, if there is one.
-    pub fn take(&mut self) -> Option<Message>
-        ensures taken { option_map frame_of result ≡ sent_in self.old }
-        ensures range { IfSome result (λ m. in_range true m ≡ true) }
+    /// Takes the frame out, if there is one.
+    pub fn take(&mut self) -> Option<Frame>
+        ensures taken { option_map (λ f. f.items) result ≡ sent_in self.old }
         ensures empty { sent_in self.new ≡ None }
     {
-        self.message.take()
+        let frame = self.frame();
+        *self = Outbox::new();
+        frame
     }
 
     /// Puts the frame of a message in.

@@ -1,44 +1,40 @@
 //! Packets that are heard: put into the page that is asked for, which is sealed when it is whole, or noted.
-ghost use Rattle.std.specs.Prelude.{◌≡◌, ◌≢◌, ◌↔◌, ℕ, ◌+◌, ◌<◌, ◌≤◌, ◌^◌, true, false, List, Some, length, is_some, IfOk, OnOk};
+ghost use Rattle.std.specs.Prelude.{◌≡◌, ◌≢◌, ℕ, ◌<◌, ◌≤◌, ◌^◌, true, false, List, length, IfOk, OnOk};
 ghost use Rattle.std.specs.Prelude.{OnErr};
 ghost use Rattle.std.specs.FinSet as set;
-ghost use Rattle.dg_nor.specs.Chip.{Touches};
-ghost use Rattle.dg_nor.specs.Device.{Ran, Halts};
 ghost use Rattle.dg_trickle.specs.Timer.{Timer};
-ghost use Rattle.dg_recv.specs.Steps.{after_accept};
 ghost use Rattle.dg_frame.specs.Sizes.{last_packet, known_images};
 ghost use Rattle.dg_frame.specs.Ranges.{PageInRange};
 ghost use Rattle.dg_slot.specs.Layout.{packets};
 ghost use Rattle.dg_slot.specs.Kept.{Held};
 ghost use Rattle.dg_slot.specs.Fits.{may_seal};
-ghost use Rattle.dg_slot.specs.Jobs.{IsOpen, IsJob, Packets, put_packet, page_from, outline_told, slot_of, slot_in, got_told};
-ghost use Rattle.dg_slot.specs.Jobs.{sector_of};
+ghost use Rattle.dg_slot.specs.Jobs.{IsJob, Packets, page_from, outline_told, slot_of, slot_in, got_told};
 ghost use Rattle.dg_volume.specs.Store.{Store};
 ghost use Rattle.dg_volume.specs.Stands.{is_lent, Mounted};
 ghost use Rattle.dg_volume.specs.Acts.{Acted, Stops};
 ghost use Rattle.dg_volume.specs.Trails.{sealing_trail};
 ghost use Rattle.dg_mote.specs.Model.{MoteState, Maintain, Receive, Receiving};
 ghost use Rattle.dg_mote.specs.Packets.{is_wanted, on_packet, page_packet};
-ghost use Rattle.dg_mote.specs.Motes.{IsMote, Receives, Done};
+ghost use Rattle.dg_mote.specs.Motes.{IsMote, Done};
 ghost use Rattle.dg_mote.specs.Hearing.{ChipStays, StaysIf, Fills, is_sealed, PageIsWhole, page_ends};
 
 use crate::requests::PageName;
 use crate::{Heard, Mode, Mote};
 use dg_nor::{Nor, Stopped};
 use dg_object::{PACKET_SIZE, PACKETS};
-use dg_recv::Asking;
 use dg_slot::{OpenSlot, PageJob, Sealing};
 use dg_trickle::Trickle;
 use dg_volume::{Volume, a_lent_slot_is_filled, what_stands_behind_the_commits};
 use std::mem;
 
 impl Mote {
-    /// A packet of a page was heard.
+    /// A packet of a page was heard. One that is missing of the page that is asked for is programmed, 1 operation, and the last
+    /// makes the page whole.
     pub(crate) fn hear_packet<N: Nor>(
         &mut self,
         nor: &mut N,
         now: u64,
-        draw: u32,
+        word: u32,
         name: PageName,
         packet: u8,
         bytes: &[u8; PACKET_SIZE],
@@ -48,17 +44,34 @@ impl Mote {
         requires range { PageInRange (known_images self.old.wide) name.image name.version name.page }
         requires in_page { packet ≤ last_packet }
         ensures done { IfOk result (λ heard. (m : MoteState) (s : Store) → IsMote (N.device nor.old).image self.old m s
-            → Done (on_packet m.mode m s now draw (page_packet name.image name.version name.page packet bytes.now))
+            → Done (on_packet m.mode m s now word (page_packet name.image name.version name.page packet bytes.now))
             (N.device nor.old) (N.device nor.new) self.new heard) }
         ensures unchanged { IfOk result (λ heard. StaysIf heard ((N.device nor.new ≡ N.device nor.old) × (self.new ≡ self.old))) }
         ensures same_reference { (N.device nor.new).references ≡ (N.device nor.old).references }
         ensures stopped { OnErr result ((m : MoteState) (s : Store) → IsMote (N.device nor.old).image self.old m s
-            → Stops (on_packet m.mode m s now draw (page_packet name.image name.version name.page packet bytes.now)).trail
+            → Stops (on_packet m.mode m s now word (page_packet name.image name.version name.page packet bytes.now)).trail
             (N.device nor.old) (N.device nor.new)) }
     {
-        match self.mode {
+        what_stands_behind_the_commits();
+        a_lent_slot_is_filled();
+        match &mut self.mode {
             Mode::Maintain(_) => Ok(self.overhear_packet(now, name)),
-            Mode::Receive { .. } => self.take_packet(nor, now, draw, name, packet, bytes),
+            Mode::Receive {
+                version,
+                asking,
+                job,
+                ..
+            } => {
+                if !is_wanted(*version, job, name, packet) {
+                    return Ok(Heard::Dropped);
+                }
+                job.put(nor, packet, bytes)?;
+                asking.accept(now, packet);
+                if usize::from(asking.got().count()) < PACKETS {
+                    return Ok(Heard::Took { packet });
+                }
+                self.end_page(nor, now, word)
+            }
             Mode::Transmit { .. } => Ok(Heard::Dropped),
         }
     }
@@ -66,9 +79,9 @@ impl Mote {
     /// A page is sent to another mote: that is noted where it would be of use here.
     fn overhear_packet(&mut self, now: u64, name: PageName) -> Heard
         requires { PageInRange (known_images self.old.wide) name.image name.version name.page }
-        ensures rests { (c : List ℕ) (m : MoteState) (s : Store) (timer : Timer) (draw packet : ℕ) (bytes : List ℕ)
+        ensures rests { (c : List ℕ) (m : MoteState) (s : Store) (timer : Timer) (word packet : ℕ) (bytes : List ℕ)
             → IsMote c self.old m s
-            → ChipStays (on_packet (Maintain timer) m s now draw (page_packet name.image name.version name.page packet bytes))
+            → ChipStays (on_packet (Maintain timer) m s now word (page_packet name.image name.version name.page packet bytes))
             c s self.new result }
         ensures unchanged { StaysIf result (self.new ≡ self.old) }
     {
@@ -79,68 +92,22 @@ impl Mote {
         Heard::Noted
     }
 
-    /// Takes a packet that is missing of the page that is asked for. The last one makes the page whole.
-    fn take_packet<N: Nor>(
-        &mut self,
-        nor: &mut N,
-        now: u64,
-        draw: u32,
-        name: PageName,
-        packet: u8,
-        bytes: &[u8; PACKET_SIZE],
-    ) -> Result<Heard, Stopped>
-        requires mote { (m : MoteState) × (s : Store) × (r : Receiving) × IsMote (N.device nor.old).image self.old m s
-            × (m.mode ≡ Receive r) }
-        requires moment { now < 2 ^ 62 }
-        requires range { PageInRange (known_images self.old.wide) name.image name.version name.page }
-        requires in_page { packet ≤ last_packet }
-        ensures done { IfOk result (λ heard. (m : MoteState) (s : Store) (r : Receiving)
-            → IsMote (N.device nor.old).image self.old m s → m.mode ≡ Receive r
-            → Done (on_packet (Receive r) m s now draw (page_packet name.image name.version name.page packet bytes.now))
-            (N.device nor.old) (N.device nor.new) self.new heard) }
-        ensures unchanged { IfOk result (λ heard. StaysIf heard ((N.device nor.new ≡ N.device nor.old) × (self.new ≡ self.old))) }
-        ensures same_reference { (N.device nor.new).references ≡ (N.device nor.old).references }
-        ensures stopped { OnErr result ((m : MoteState) (s : Store) (r : Receiving)
-            → IsMote (N.device nor.old).image self.old m s → m.mode ≡ Receive r
-            → Stops (on_packet (Receive r) m s now draw (page_packet name.image name.version name.page packet bytes.now)).trail
-            (N.device nor.old) (N.device nor.new)) }
-    {
-        what_stands_behind_the_commits();
-        a_lent_slot_is_filled();
-        let Mode::Receive {
-            version,
-            asking,
-            job,
-            ..
-        } = &mut self.mode
-        else {
-            return Ok(Heard::Dropped);
-        };
-        if !is_wanted(*version, job, name, packet) {
-            return Ok(Heard::Dropped);
-        }
-        put(nor, now, asking, job, packet, bytes)?;
-        if usize::from(asking.got().count()) < PACKETS {
-            return Ok(Heard::Took { packet });
-        }
-        self.end_page(nor, now, draw)
-    }
-
     /// Seals the page that is whole, and maintains anew.
-    fn end_page<N: Nor>(&mut self, nor: &mut N, now: u64, draw: u32) -> Result<Heard, Stopped>
+    fn end_page<N: Nor>(&mut self, nor: &mut N, now: u64, word: u32) -> Result<Heard, Stopped>
         requires moment { now < 2 ^ 62 }
         requires whole { (m : MoteState) × (s : Store) × (r : Receiving) × (h : Held) × (ps : Packets)
             × PageIsWhole (N.device nor.old).image self.old m s r h ps }
         ensures done { IfOk result (λ heard. (m : MoteState) (s : Store) (r : Receiving) (h : Held) (ps : Packets)
             → PageIsWhole (N.device nor.old).image self.old m s r h ps
-            → Done (page_ends m r h s now draw (page_from ps)) (N.device nor.old) (N.device nor.new) self.new heard) }
+            → Done (page_ends m r h s now word (page_from ps)) (N.device nor.old) (N.device nor.new) self.new heard) }
         ensures not_dropped { IfOk result (λ heard. StaysIf heard ⊥) }
         ensures same_reference { (N.device nor.new).references ≡ (N.device nor.old).references }
         ensures stopped { OnErr result ((m : MoteState) (s : Store) (r : Receiving) (h : Held) (ps : Packets)
             → PageIsWhole (N.device nor.old).image self.old m s r h ps
-            → Stops (page_ends m r h s now draw (page_from ps)).trail (N.device nor.old) (N.device nor.new)) }
+            → Stops (page_ends m r h s now word (page_from ps)).trail (N.device nor.old) (N.device nor.new)) }
     {
-        let maintain = Mode::Maintain(Trickle::new(now, draw));
+        let maintain = Mode::Maintain(Trickle::new(now, word));
+        // `hear_packet` matched this mode, but the type of a mote that is lent cannot say so
         let Mode::Receive { job, .. } = mem::replace(&mut self.mode, maintain) else {
             unreachable!();
         };
@@ -166,34 +133,6 @@ fn is_wanted(version: u32, job: &PageJob, name: PageName, packet: u8) -> bool
         && version == name.version
         && job.page() == name.page
         && !job.got().has(packet)
-}
-
-/// Programs a packet that was missing. 1 operation.
-fn put<N: Nor>(
-    nor: &mut N,
-    now: u64,
-    asking: &mut Asking,
-    job: &mut PageJob,
-    packet: u8,
-    bytes: &[u8; PACKET_SIZE],
-) -> Result<(), Stopped>
-    requires moment { now < 2 ^ 62 }
-    requires known { packet < packets }
-    requires missing { set.contains (got_told job.old) packet ≡ false }
-    ensures put { OnOk result ((h : Held) (ps : Packets) → IsJob (N.device nor.old).image job.old h ps
-        → IsJob (N.device nor.new).image job.new h (put_packet ps packet bytes.now)) }
-    ensures asking { OnOk result (asking.new ≡ after_accept asking.old now packet) }
-    ensures same_slot { slot_of job.new ≡ slot_of job.old }
-    ensures ran { OnOk result (Ran 1 (N.device nor.old) (N.device nor.new)) }
-    ensures same_reference { (N.device nor.new).references ≡ (N.device nor.old).references }
-    ensures touches { Touches (sector_of job.old) (sector_of job.old + 1) (N.device nor.old).image (N.device nor.new).image }
-    ensures kept { (h : Held) → IsOpen (N.device nor.old).image (slot_of job.old) h
-        → IsOpen (N.device nor.new).image (slot_of job.old) h }
-    ensures stopped { OnErr result (Halts 1 0 (N.device nor.old) (N.device nor.new)) }
-{
-    job.put(nor, packet, bytes)?;
-    asking.accept(now, packet);
-    Ok(())
 }
 
 /// Makes a page complete that is whole, where it fits: the answer says whether it does. The slot goes back.

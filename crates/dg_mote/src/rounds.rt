@@ -46,14 +46,14 @@ pub fn a_drained_mote_rests()
 /// golden image. Where the chip was formatted with room for three commits, it has that room after any number of ticks.
 /// So such motes, wide or narrow, are what the laws of a round ask for.
 pub fn a_fresh_mote_is_drained()
-    ensures well { (table : List Row) (name bytes : List ℕ) (used id now draw : ℕ) (wide : Bool)
+    ensures well { (table : List Row) (name bytes : List ℕ) (used id now word : ℕ) (wide : Bool)
         → row_at table 0 golden_version ≡ Some (golden_row name bytes)
-        → SpotIsWell table (fresh_spot name bytes used id wide now draw) now }
-    ensures drained { (name bytes : List ℕ) (used id now draw : ℕ) (wide : Bool)
-        → Drained (fresh_spot name bytes used id wide now draw) now }
-    ensures room { (table : List Row) (name bytes : List ℕ) (used id now draw n : ℕ) (wide : Bool)
+        → SpotIsWell table (fresh_spot name bytes used id wide now word) now }
+    ensures drained { (name bytes : List ℕ) (used id now word : ℕ) (wide : Bool)
+        → Drained (fresh_spot name bytes used id wide now word) now }
+    ensures room { (table : List Row) (name bytes : List ℕ) (used id now word n : ℕ) (wide : Bool)
         → row_at table 0 golden_version ≡ Some (golden_row name bytes) → used + spare_room ≤ most_room
-        → HasRoom (after_ticks n (fresh_spot name bytes used id wide now draw) now) }
+        → HasRoom (after_ticks n (fresh_spot name bytes used id wide now word) now) }
 {
     a_mote_stays_well();
     a_drained_mote_rests();

@@ -30,11 +30,11 @@ ghost use Rattle.dg_mote.specs.declared.mote.Heard.TheVariants as heard;
 /// it hears meanwhile (RFC 6206, section 4.2, steps 3 and 4, with a redundancy of 1). A wide mote that hears a narrow advert
 /// looks at the images that this names, and at its order.
 pub fn an_equal_advert_keeps_a_mote_silent()
-    ensures heard { (m : MoteState) (s : Store) (timer : Timer) (now draw : ℕ) (bytes : List ℕ) (wide : Bool) (source : ℕ)
+    ensures heard { (m : MoteState) (s : Store) (timer : Timer) (now word : ℕ) (bytes : List ℕ) (wide : Bool) (source : ℕ)
         (entries : List Entry) (order : Order)
         → message_of bytes m.wide ≡ Ok (advert_by wide source entries order) → source ≢ m.id → m.mode ≡ Maintain timer
         → is_own entries order m.wide s ≡ true
-        → heard_of m s now draw bytes ≡ record {
+        → heard_of m s now word bytes ≡ record {
           mote = record m { mode = Maintain (after_same timer) };
           trail = resting s 0;
           sent = None;
@@ -49,56 +49,56 @@ pub fn an_equal_advert_keeps_a_mote_silent()
 /// not begin to ask for it for 128,000 milliseconds (suppression, Hui and Culler, SenSys 2004). A mote that asks for it
 /// already goes on.
 pub fn an_overheard_request_keeps_a_mote_from_asking()
-    ensures noted { (m : MoteState) (s : Store) (now draw : ℕ) (bytes : List ℕ) (source to image version page : ℕ)
+    ensures noted { (m : MoteState) (s : Store) (now word : ℕ) (bytes : List ℕ) (source to image version page : ℕ)
         (want : Numbers)
         → message_of bytes m.wide ≡ Ok (message.Request source to image version page want) → source ≢ m.id → to ≢ m.id
         → IsOfUse (held s image) version page
-        → heard_of m s now draw bytes ≡ record {
+        → heard_of m s now word bytes ≡ record {
           mote = record m { noted = with_request m.noted now image };
           trail = resting s 0;
           sent = None;
           answer = heard.Noted;
         } }
-    ensures after { (m : MoteState) (s : Store) (now draw : ℕ) (bytes : List ℕ) (source to image version page : ℕ)
+    ensures after { (m : MoteState) (s : Store) (now word : ℕ) (bytes : List ℕ) (source to image version page : ℕ)
         (want : Numbers) (events : List MoteEvent)
         → message_of bytes m.wide ≡ Ok (message.Request source to image version page want) → source ≢ m.id → to ≢ m.id
         → IsOfUse (held s image) version page
         → AsksNotFor image m.mode → AllBetween now (now + request_window) events
-        → AllByRecursion (NoRequest image) (sent_while (Hears now draw bytes ∷ events) m s) }
+        → AllByRecursion (NoRequest image) (sent_while (Hears now word bytes ∷ events) m s) }
 {}
 
 /// A mote that overhears a packet of such a page, while it maintains, does not begin to ask for its image for 64,000
 /// milliseconds.
 pub fn an_overheard_packet_keeps_a_mote_from_asking()
-    ensures noted { (m : MoteState) (s : Store) (timer : Timer) (now draw : ℕ) (bytes : List ℕ)
+    ensures noted { (m : MoteState) (s : Store) (timer : Timer) (now word : ℕ) (bytes : List ℕ)
         (source image version page q : ℕ) (content : List ℕ)
         → message_of bytes m.wide ≡ Ok (message.Packet source image version page q content) → source ≢ m.id
         → m.mode ≡ Maintain timer → IsOfUse (held s image) version page
-        → heard_of m s now draw bytes ≡ record {
+        → heard_of m s now word bytes ≡ record {
           mote = record m { noted = with_packet m.noted now image };
           trail = resting s 0;
           sent = None;
           answer = heard.Noted;
         } }
-    ensures after { (m : MoteState) (s : Store) (timer : Timer) (now draw : ℕ) (bytes : List ℕ)
+    ensures after { (m : MoteState) (s : Store) (timer : Timer) (now word : ℕ) (bytes : List ℕ)
         (source image version page q : ℕ) (content : List ℕ) (events : List MoteEvent)
         → message_of bytes m.wide ≡ Ok (message.Packet source image version page q content) → source ≢ m.id
         → m.mode ≡ Maintain timer → IsOfUse (held s image) version page
         → AllBetween now (now + packet_window) events
-        → AllByRecursion (NoRequest image) (sent_while (Hears now draw bytes ∷ events) m s) }
+        → AllByRecursion (NoRequest image) (sent_while (Hears now word bytes ∷ events) m s) }
 {}
 
 /// A request names its packets in a set: those of the wanted page that did not come. A request for the page that is
 /// being served adds its packets to those that are owed, and nothing else changes (the union of requests, Hui and
 /// Culler, SenSys 2004).
 pub fn requests_are_sets()
-    ensures asked { (m : MoteState) (s : Store) (now draw source to image version page : ℕ) (want : Numbers)
-        → (tick_of m s now draw).sent ≡ Some (message.Request source to image version page want)
+    ensures asked { (m : MoteState) (s : Store) (now word source to image version page : ℕ) (want : Numbers)
+        → (tick_of m s now word).sent ≡ Some (message.Request source to image version page want)
         → AsksFor m source to image version page want }
-    ensures added { (m : MoteState) (s : Store) (t : Sending) (now draw : ℕ) (bytes : List ℕ) (source : ℕ) (want : Numbers)
+    ensures added { (m : MoteState) (s : Store) (t : Sending) (now word : ℕ) (bytes : List ℕ) (source : ℕ) (want : Numbers)
         → message_of bytes m.wide ≡ Ok (message.Request source m.id t.image t.version t.page want) → source ≢ m.id
         → m.mode ≡ Transmit t
-        → heard_of m s now draw bytes ≡ record {
+        → heard_of m s now word bytes ≡ record {
           mote = record m {
             mode = Transmit (record t
                 { owed = record { left = set.union t.owed.left want; due = t.owed.due } });
@@ -113,18 +113,18 @@ pub fn requests_are_sets()
 /// exactly where it keeps that version and the page is complete, whether the image is whole or not (pipelining over
 /// hops, Hui and Culler, SenSys 2004).
 pub fn pages_are_handed_on_before_the_image_is_whole()
-    ensures advert { (m : MoteState) (s : Store) (now draw : ℕ) (wide : Bool) (source : ℕ) (entries : List Entry) (order : Order)
-        → (tick_of m s now draw).sent ≡ Some (advert_by wide source entries order)
+    ensures advert { (m : MoteState) (s : Store) (now word : ℕ) (wide : Bool) (source : ℕ) (entries : List Entry) (order : Order)
+        → (tick_of m s now word).sent ≡ Some (advert_by wide source entries order)
         → advert_by wide source entries order ≡ advert_of m.id m.wide s }
     ensures entry { (wide : Bool) (s : Store) (image : ℕ) (h : Held) → 1 ≤ image → image ≤ known_images wide
         → held s image ≡ Some h
         → entry_for (entries_of wide s) image
         ≡ record { version = h.version; pages = h.pages; have = length h.complete; crc = h.crc } }
-    ensures served { (m : MoteState) (s : Store) (timer : Timer) (now draw : ℕ) (bytes : List ℕ)
+    ensures served { (m : MoteState) (s : Store) (timer : Timer) (now word : ℕ) (bytes : List ℕ)
         (source image version page : ℕ) (want : Numbers)
         → message_of bytes m.wide ≡ Ok (message.Request source m.id image version page want) → source ≢ m.id
         → m.mode ≡ Maintain timer → HasPage s image version page
-        → heard_of m s now draw bytes ≡ record {
+        → heard_of m s now word bytes ≡ record {
           mote = record m {
             mode = Transmit (record { image = image; version = version; page = page; owed = owed_begun now want });
           };
@@ -132,32 +132,32 @@ pub fn pages_are_handed_on_before_the_image_is_whole()
           sent = None;
           answer = heard.Serves image page;
         } }
-    ensures refused { (m : MoteState) (s : Store) (timer : Timer) (now draw : ℕ) (bytes : List ℕ)
+    ensures refused { (m : MoteState) (s : Store) (timer : Timer) (now word : ℕ) (bytes : List ℕ)
         (source image version page : ℕ) (want : Numbers)
         → message_of bytes m.wide ≡ Ok (message.Request source m.id image version page want) → source ≢ m.id
         → m.mode ≡ Maintain timer → (HasPage s image version page → ⊥)
-        → heard_of m s now draw bytes ≡ record { mote = m; trail = resting s 0; sent = None; answer = heard.Dropped } }
+        → heard_of m s now word bytes ≡ record { mote = m; trail = resting s 0; sent = None; answer = heard.Dropped } }
 {}
 
 /// A tick answers Restart exactly where the mote maintains, no short starts are to be cleared and the order waits.
 /// Nothing is changed or sent then.
 pub fn a_restart_is_for_the_order()
-    ensures exactly { (m : MoteState) (s : Store) (now draw : ℕ)
-        → ((tick_of m s now draw).answer ≡ did.Restart) ↔ MayRestart m s now }
-    ensures nothing { (m : MoteState) (s : Store) (now draw : ℕ) → (tick_of m s now draw).answer ≡ did.Restart
-        → tick_of m s now draw ≡ record { mote = m; trail = resting s 0; sent = None; answer = did.Restart } }
+    ensures exactly { (m : MoteState) (s : Store) (now word : ℕ)
+        → ((tick_of m s now word).answer ≡ did.Restart) ↔ MayRestart m s now }
+    ensures nothing { (m : MoteState) (s : Store) (now word : ℕ) → (tick_of m s now word).answer ≡ did.Restart
+        → tick_of m s now word ≡ record { mote = m; trail = resting s 0; sent = None; answer = did.Restart } }
 {}
 
 /// A frame that is heard sends nothing. One that is refused, exactly where it spells no message, or dropped changes
 /// nothing.
 pub fn a_frame_is_heard_in_silence()
-    ensures silent { (m : MoteState) (s : Store) (now draw : ℕ) (bytes : List ℕ) → (heard_of m s now draw bytes).sent ≡ None }
-    ensures refused { (m : MoteState) (s : Store) (now draw : ℕ) (bytes : List ℕ) (fault : FrameFault)
-        → ((heard_of m s now draw bytes).answer ≡ heard.Refused fault) ↔ (message_of bytes m.wide ≡ Err fault) }
-    ensures unchanged { (m : MoteState) (s : Store) (now draw : ℕ) (bytes : List ℕ) (fault : FrameFault)
+    ensures silent { (m : MoteState) (s : Store) (now word : ℕ) (bytes : List ℕ) → (heard_of m s now word bytes).sent ≡ None }
+    ensures refused { (m : MoteState) (s : Store) (now word : ℕ) (bytes : List ℕ) (fault : FrameFault)
+        → ((heard_of m s now word bytes).answer ≡ heard.Refused fault) ↔ (message_of bytes m.wide ≡ Err fault) }
+    ensures unchanged { (m : MoteState) (s : Store) (now word : ℕ) (bytes : List ℕ) (fault : FrameFault)
         → message_of bytes m.wide ≡ Err fault
-        → heard_of m s now draw bytes ≡ record { mote = m; trail = resting s 0; sent = None; answer = heard.Refused fault } }
-    ensures dropped { (m : MoteState) (s : Store) (now draw : ℕ) (bytes : List ℕ)
-        → (heard_of m s now draw bytes).answer ≡ heard.Dropped
-        → ((heard_of m s now draw bytes).mote ≡ m) × ((heard_of m s now draw bytes).trail ≡ resting s 0) }
+        → heard_of m s now word bytes ≡ record { mote = m; trail = resting s 0; sent = None; answer = heard.Refused fault } }
+    ensures dropped { (m : MoteState) (s : Store) (now word : ℕ) (bytes : List ℕ)
+        → (heard_of m s now word bytes).answer ≡ heard.Dropped
+        → ((heard_of m s now word bytes).mote ≡ m) × ((heard_of m s now word bytes).trail ≡ resting s 0) }
 {}

@@ -45,22 +45,22 @@ impl Mote {
         &mut self,
         nor: &mut N,
         now: u64,
-        draw: u32,
+        word: u32,
         out: &mut Outbox,
     ) -> Result<Did, Stopped>
         requires mote { (m : MoteState) × (s : Store) × IsMote (N.device nor.old).image self.old m s × Timely m now }
         requires moment { now < 2 ^ 62 }
         requires empty { sent_in out.old ≡ None }
         ensures done { IfOk result (λ did. (m : MoteState) (s : Store) → IsMote (N.device nor.old).image self.old m s
-            → Done (tick_of m s now draw) (N.device nor.old) (N.device nor.new) self.new did) }
+            → Done (tick_of m s now word) (N.device nor.old) (N.device nor.new) self.new did) }
         ensures sent { OnOk result ((m : MoteState) (s : Store) → IsMote (N.device nor.old).image self.old m s
-            → sent_in out.new ≡ option_map frame_of (tick_of m s now draw).sent) }
+            → sent_in out.new ≡ option_map frame_of (tick_of m s now word).sent) }
         // the frame that is sent is read as its message by a mote of its width
         ensures read { OnOk result ((m : MoteState) (s : Store) → IsMote (N.device nor.old).image self.old m s
-            → IfSome (tick_of m s now draw).sent (IsRead m.wide)) }
+            → IfSome (tick_of m s now word).sent (IsRead m.wide)) }
         ensures same_reference { (N.device nor.new).references ≡ (N.device nor.old).references }
         ensures stopped { OnErr result ((m : MoteState) (s : Store) → IsMote (N.device nor.old).image self.old m s
-            → Stops (tick_of m s now draw).trail (N.device nor.old) (N.device nor.new)) }
+            → Stops (tick_of m s now word).trail (N.device nor.old) (N.device nor.new)) }
         ensures nothing_sent { OnErr result (sent_in out.new ≡ None) }
         // whatever was heard before: a consistent chip stays so, also where it stops
         ensures consistent { OnOk result ((golden : Row) → MoteIsConsistent golden (N.device nor.old).image self.old
@@ -73,7 +73,7 @@ impl Mote {
             self.volume.clear_gesture(nor)?;
             return Ok(Did::Idle);
         }
-        self.tick_mode(nor, now, draw, out)
+        self.tick_mode(nor, now, word, out)
     }
 
     /// Whether it ran long enough to clear the count of short starts, where there are any, and room.
@@ -90,30 +90,30 @@ impl Mote {
         &mut self,
         nor: &mut N,
         now: u64,
-        draw: u32,
+        word: u32,
         out: &mut Outbox,
     ) -> Result<Did, Stopped>
         requires mote { (m : MoteState) × (s : Store) × IsMote (N.device nor.old).image self.old m s }
         requires moment { now < 2 ^ 62 }
         requires empty { sent_in out.old ≡ None }
         ensures done { IfOk result (λ did. (m : MoteState) (s : Store) → IsMote (N.device nor.old).image self.old m s
-            → Done (mode_tick m.mode m s now draw) (N.device nor.old) (N.device nor.new) self.new did) }
+            → Done (mode_tick m.mode m s now word) (N.device nor.old) (N.device nor.new) self.new did) }
         ensures sent { OnOk result ((m : MoteState) (s : Store) → IsMote (N.device nor.old).image self.old m s
-            → sent_in out.new ≡ option_map frame_of (mode_tick m.mode m s now draw).sent) }
+            → sent_in out.new ≡ option_map frame_of (mode_tick m.mode m s now word).sent) }
         ensures read { OnOk result ((m : MoteState) (s : Store) → IsMote (N.device nor.old).image self.old m s
-            → IfSome (mode_tick m.mode m s now draw).sent (IsRead m.wide)) }
+            → IfSome (mode_tick m.mode m s now word).sent (IsRead m.wide)) }
         ensures same_reference { (N.device nor.new).references ≡ (N.device nor.old).references }
         ensures stopped { OnErr result ((m : MoteState) (s : Store) → IsMote (N.device nor.old).image self.old m s
-            → Stops (mode_tick m.mode m s now draw).trail (N.device nor.old) (N.device nor.new)) }
+            → Stops (mode_tick m.mode m s now word).trail (N.device nor.old) (N.device nor.new)) }
         ensures nothing_sent { OnErr result (sent_in out.new ≡ None) }
     {
         match &mut self.mode {
             Mode::Maintain(trickle) => {
                 let wide = self.wide;
-                Ok(maintain(self.id, wide, &self.volume, trickle, now, draw, out))
+                Ok(maintain(self.id, wide, &self.volume, trickle, now, word, out))
             }
-            Mode::Receive { .. } => self.tick_busy(nor, now, draw, out),
-            Mode::Transmit { .. } => self.tick_busy(nor, now, draw, out),
+            Mode::Receive { .. } => self.tick_busy(nor, now, word, out),
+            Mode::Transmit { .. } => self.tick_busy(nor, now, word, out),
         }
     }
 
@@ -123,27 +123,27 @@ impl Mote {
         &mut self,
         nor: &mut N,
         now: u64,
-        draw: u32,
+        word: u32,
         out: &mut Outbox,
     ) -> Result<Did, Stopped>
         requires mote { (m : MoteState) × (s : Store) × IsMote (N.device nor.old).image self.old m s }
         requires moment { now < 2 ^ 62 }
         requires empty { sent_in out.old ≡ None }
         ensures done { IfOk result (λ did. (m : MoteState) (s : Store) → IsMote (N.device nor.old).image self.old m s
-            → Done (mode_tick m.mode m s now draw) (N.device nor.old) (N.device nor.new) self.new did) }
+            → Done (mode_tick m.mode m s now word) (N.device nor.old) (N.device nor.new) self.new did) }
         ensures sent { OnOk result ((m : MoteState) (s : Store) → IsMote (N.device nor.old).image self.old m s
-            → sent_in out.new ≡ option_map frame_of (mode_tick m.mode m s now draw).sent) }
+            → sent_in out.new ≡ option_map frame_of (mode_tick m.mode m s now word).sent) }
         ensures read { OnOk result ((m : MoteState) (s : Store) → IsMote (N.device nor.old).image self.old m s
-            → IfSome (mode_tick m.mode m s now draw).sent (IsRead m.wide)) }
+            → IfSome (mode_tick m.mode m s now word).sent (IsRead m.wide)) }
         ensures same_reference { (N.device nor.new).references ≡ (N.device nor.old).references }
         ensures stopped { OnErr result ((m : MoteState) (s : Store) → IsMote (N.device nor.old).image self.old m s
-            → Stops (mode_tick m.mode m s now draw).trail (N.device nor.old) (N.device nor.new)) }
+            → Stops (mode_tick m.mode m s now word).trail (N.device nor.old) (N.device nor.new)) }
         ensures nothing_sent { OnErr result (sent_in out.new ≡ None) }
     {
         match &mut self.mode {
             Mode::Maintain(trickle) => {
                 let wide = self.wide;
-                Ok(maintain(self.id, wide, &self.volume, trickle, now, draw, out))
+                Ok(maintain(self.id, wide, &self.volume, trickle, now, word, out))
             }
             Mode::Receive {
                 version,
@@ -156,7 +156,7 @@ impl Mote {
                     Ok(Did::Sent)
                 }
                 Ask::GiveUp => {
-                    self.maintain_anew(now, draw);
+                    self.maintain_anew(now, word);
                     Ok(Did::Idle)
                 }
                 Ask::Wait => Ok(Did::Idle),
@@ -171,7 +171,7 @@ impl Mote {
                     let message = packet_message(nor, self.id, *image, *version, *page, packet)?;
                     out.put(&message);
                     if serving.left() == 0 {
-                        self.mode = Mode::Maintain(Trickle::new(now, draw));
+                        self.mode = Mode::Maintain(Trickle::new(now, word));
                     }
                     Ok(Did::Sent)
                 }
@@ -189,24 +189,24 @@ fn maintain(
     volume: &Volume,
     trickle: &mut Trickle,
     now: u64,
-    draw: u32,
+    word: u32,
     out: &mut Outbox,
 ) -> Did
     requires mounted { (c : List ℕ) × IsMounted c volume.now }
     requires moment { now < 2 ^ 62 }
     requires empty { sent_in out.old ≡ None }
     ensures { (m : MoteState) (s : Store) → m.id ≡ id → m.wide ≡ wide → m.mode ≡ Maintain trickle.old → Tells volume.now s
-        → EndsInMode (maintain_tick m trickle.old s now draw) m s (Maintain trickle.new) out.new result }
+        → EndsInMode (maintain_tick m trickle.old s now word) m s (Maintain trickle.new) out.new result }
 {
     if order_waits(volume) {
         return Did::Restart;
     }
-    match trickle.tick(now, draw) {
+    match trickle.tick(now, word) {
         Act::Send => {
             out.put(&advert_message(id, wide, volume));
             Did::Sent
         }
-        Act::Suppressed | Act::Expired | Act::Nothing => Did::Idle,
+        Act::Quiet | Act::Expired | Act::Nothing => Did::Idle,
     }
 }
 

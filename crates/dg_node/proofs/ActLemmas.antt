@@ -87,23 +87,23 @@ handed P (Err e) f is p = subst (λ (x : ActFault). P (Err x)) (sym is) p
 
 -- ---- the node goes on
 
-pub reloads : (p : Option Node) (v : Node) (q : Option Node) (u : Mote) (c d : List ℕ) (s t : Store) (r : Option Running) (now draw : ℕ) → p ≡ Some v → q ≡ Some (record v { mote = u }) → ((m : MoteState) → IsMote c (node_mote v) m s → IsMote d u (maintains m now draw) t) → NodeStands c p s r
-    → NodeStands d q t (runs_by (option_map (λ m. maintains m now draw) (running_mote r)) None (option_map node_image p))
-reloads None v q u c d s t r now draw is to goes stands = cc
-reloads (Some w) v None u c d s t r now draw is to goes stands = cc
-reloads (Some w) v (Some x) u c d s t None now draw is to goes stands = absurd stands
-reloads (Some w) v (Some x) u c d s t (Some r) now draw is to goes stands =
+pub reloads : (p : Option Node) (v : Node) (q : Option Node) (u : Mote) (c d : List ℕ) (s t : Store) (r : Option Running) (now word : ℕ) → p ≡ Some v → q ≡ Some (record v { mote = u }) → ((m : MoteState) → IsMote c (node_mote v) m s → IsMote d u (maintains m now word) t) → NodeStands c p s r
+    → NodeStands d q t (runs_by (option_map (λ m. maintains m now word) (running_mote r)) None (option_map node_image p))
+reloads None v q u c d s t r now word is to goes stands = cc
+reloads (Some w) v None u c d s t r now word is to goes stands = cc
+reloads (Some w) v (Some x) u c d s t None now word is to goes stands = absurd stands
+reloads (Some w) v (Some x) u c d s t (Some r) now word is to goes stands =
     let same : w ≡ v = cc in
     let new : x ≡ record v { mote = u } = cc in (
       ap (λ (n : Node). n.image_version) new ∙ ap (λ (n : Node). n.image_version) (sym same),
-      subst (λ (n : Node). IsMote d n.mote (maintains r.mote now draw) t) (sym new) (goes r.mote (subst (λ (n : Node). IsMote c n.mote r.mote s) same stands.1)),
+      subst (λ (n : Node). IsMote d n.mote (maintains r.mote now word) t) (sym new) (goes r.mote (subst (λ (n : Node). IsMote c n.mote r.mote s) same stands.1)),
     )
 
 -- ---- acts that were done, and that were not
 
-pub act_kept : {R : Type 0} (x : Change) (refusal : Option R) (o : Option MoteState) (t : Trail Store) (now draw : ℕ) (s : Store) (v : Volume) (p u : Option Node) (a m b : Device) → refusal ≡ None → Looked a m → Acted t m b v → IsReportOf x.before s → IsReportOf x.after (last t) → SeesOrder x.orderly b.image
-    → NodeStands b.image u (last t) (runs_by (option_map (λ y. maintains y now draw) o) None (option_map node_image p)) → ActKept x refusal (acts_effect o t now draw) s (host a p) (host b u)
-act_kept x refusal o t now draw s v p u a m b none looked acted before after tells stands = record {
+pub act_kept : {R : Type 0} (x : Change) (refusal : Option R) (o : Option MoteState) (t : Trail Store) (now word : ℕ) (s : Store) (v : Volume) (p u : Option Node) (a m b : Device) → refusal ≡ None → Looked a m → Acted t m b v → IsReportOf x.before s → IsReportOf x.after (last t) → SeesOrder x.orderly b.image
+    → NodeStands b.image u (last t) (runs_by (option_map (λ y. maintains y now word) o) None (option_map node_image p)) → ActKept x refusal (acts_effect o t now word) s (host a p) (host b u)
+act_kept x refusal o t now word s v p u a m b none looked acted before after tells stands = record {
   allowed = none;
   went = record { ran = ran_after (operations t) a m b looked.ran acted.ran; stands = acted.mounted.stands; runs = stands; sent = refl; read = tt; memory = tt };
   before = before;

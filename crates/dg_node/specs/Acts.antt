@@ -30,14 +30,14 @@ use Rattle.dg_node.specs.declared.acts.Injected.TheVariants as injected
 -- ---- effects, at a node that is on or off
 
 -- a mote that is on maintains anew behind an act on its volume
-abbrev pub acts_effect : Option MoteState → Trail Store → (now draw : ℕ) → Effect
-acts_effect o t now draw = record { mote = option_map (λ m. maintains m now draw) o; trail = t; started = None; sent = None }
+abbrev pub acts_effect : Option MoteState → Trail Store → (now word : ℕ) → Effect
+acts_effect o t now word = record { mote = option_map (λ m. maintains m now word) o; trail = t; started = None; sent = None }
 
-abbrev pub order_effect : Option MoteState → Store → Order → (now draw : ℕ) → Effect
-order_effect o s order now draw = acts_effect o (order_trail s order) now draw
+abbrev pub order_effect : Option MoteState → Store → Order → (now word : ℕ) → Effect
+order_effect o s order now word = acts_effect o (order_trail s order) now word
 
-abbrev pub inject_effect : Option MoteState → Store → Row → (now draw : ℕ) → Effect
-inject_effect o s row now draw = acts_effect o (inject_trail s row) now draw
+abbrev pub inject_effect : Option MoteState → Store → Row → (now word : ℕ) → Effect
+inject_effect o s row now word = acts_effect o (inject_trail s row) now word
 
 -- ---- how an act ends
 

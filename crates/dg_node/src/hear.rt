@@ -24,21 +24,21 @@ impl Node {
         &mut self,
         board: &mut N,
         now: u64,
-        draw: u32,
+        word: u32,
         bytes: &[u8],
     ) -> Result<Heard, Stopped>
         requires node { IsTimelyNode (N.device board.old).image self.old now }
         requires moment { now < 2 ^ 62 }
         ensures done { (m : MoteState) (s : Store) → IsMote (N.device board.old).image (node_mote self.old) m s
-            → NodeDone (hear_end result) None (frame_effect m s now draw bytes.now)
+            → NodeDone (hear_end result) None (frame_effect m s now word bytes.now)
             (host (N.device board.old) (Some self.old)) (host (N.device board.new) (Some self.new)) }
         ensures answers { IfOk result (λ heard. (m : MoteState) (s : Store)
-            → IsMote (N.device board.old).image (node_mote self.old) m s → heard ≡ (heard_of m s now draw bytes.now).answer) }
+            → IsMote (N.device board.old).image (node_mote self.old) m s → heard ≡ (heard_of m s now word bytes.now).answer) }
         // a frame that is refused or dropped changes nothing
         ensures unchanged { IfOk result (λ heard. StaysIf heard
             ((N.device board.new ≡ N.device board.old) × (self.new ≡ self.old))) }
     {
-        match self.mote.hear(board, now, draw, bytes) {
+        match self.mote.hear(board, now, word, bytes) {
             Ok(heard) => Ok(heard),
             Err(Stopped) => Err(Stopped),
         }
@@ -51,23 +51,23 @@ impl Node {
         &mut self,
         board: &mut N,
         now: u64,
-        draw: u32,
+        word: u32,
         message: &Message,
     ) -> Result<Heard, Stopped>
         requires node { IsTimelyNode (N.device board.old).image self.old now }
         requires moment { now < 2 ^ 62 }
         requires range { in_range true message.now ≡ true }
         ensures done { (m : MoteState) (s : Store) → IsMote (N.device board.old).image (node_mote self.old) m s
-            → NodeDone (hear_end result) None (frame_effect m s now draw (frame_of message.now))
+            → NodeDone (hear_end result) None (frame_effect m s now word (frame_of message.now))
             (host (N.device board.old) (Some self.old)) (host (N.device board.new) (Some self.new)) }
         ensures answers { IfOk result (λ heard. (m : MoteState) (s : Store)
             → IsMote (N.device board.old).image (node_mote self.old) m s
-            → heard ≡ (heard_of m s now draw (frame_of message.now)).answer) }
+            → heard ≡ (heard_of m s now word (frame_of message.now)).answer) }
         // a frame that is refused or dropped changes nothing
         ensures unchanged { IfOk result (λ heard. StaysIf heard
             ((N.device board.new ≡ N.device board.old) × (self.new ≡ self.old))) }
     {
-        match self.mote.hear_sent(board, now, draw, message) {
+        match self.mote.hear_sent(board, now, word, message) {
             Ok(heard) => Ok(heard),
             Err(Stopped) => Err(Stopped),
         }

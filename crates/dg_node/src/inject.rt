@@ -38,7 +38,7 @@ impl Node {
         known: bool,
         image: &ImageBytes<'_>,
         now: u64,
-        draw: u32,
+        word: u32,
     ) -> Result<Injected, ActFault>
         requires known_image { image.now.image_version.image < images }
         requires some_version { 1 ≤ image.now.image_version.version }
@@ -50,7 +50,7 @@ impl Node {
             → NodeStands (N.device board.old).image runs.old s r
             → let row = row_of image.now.image_version.image image.now.image_version.version image.now.name.now
             image.now.bytes.now in
-            NodeInjected result (inject_refusal s row) (inject_effect (running_mote r) s row now draw) s
+            NodeInjected result (inject_refusal s row) (inject_effect (running_mote r) s row now word) s
             (host (N.device board.old) runs.old) (host (N.device board.new) runs.new) }
         // a refused one mounts a known board again, and may look at a page
         ensures reads { IsTrue known → (n : ℕ) → RemountBytes (N.device board.old).image n
@@ -75,7 +75,7 @@ impl Node {
                     after: report_chip(&volume),
                     orderly: volume.orderly(),
                 };
-                reload(runs, volume, now, draw);
+                reload(runs, volume, now, word);
                 Ok(Injected::Kept(change))
             }
             Err(why) => inject_failed(why, before, volume.orderly()),

@@ -9,12 +9,12 @@ use dg_mote::a_mote_stays_timely;
 
 /// No moment of the mote that an event leaves is later than the event, and what is due is due soon.
 pub fn a_node_stays_timely()
-    ensures powered { (s : Store) (id now draw : ℕ) (wide : Bool)
-        → IfSome (reset_effect s id wide now draw).mote (λ m. Timely m now) }
-    ensures ticked { (m : MoteState) (s : Store) (now draw : ℕ) → Timely m now
-        → IfSome (tick_effect m s now draw).mote (λ x. Timely x now) }
-    ensures heard { (m : MoteState) (s : Store) (now draw : ℕ) (bytes : List ℕ) → Timely m now
-        → IfSome (frame_effect m s now draw bytes).mote (λ x. Timely x now) }
+    ensures powered { (s : Store) (id now word : ℕ) (wide : Bool)
+        → IfSome (reset_effect s id wide now word).mote (λ m. Timely m now) }
+    ensures ticked { (m : MoteState) (s : Store) (now word : ℕ) → Timely m now
+        → IfSome (tick_effect m s now word).mote (λ x. Timely x now) }
+    ensures heard { (m : MoteState) (s : Store) (now word : ℕ) (bytes : List ℕ) → Timely m now
+        → IfSome (frame_effect m s now word bytes).mote (λ x. Timely x now) }
 {
     a_mote_stays_timely();
 }

@@ -17,7 +17,7 @@ pub struct Node {
     pub(crate) mote: Mote,
 }
 
-/// Who a mote is, and when and with which draw its power comes.
+/// Who a mote is, and when and with which word its power comes.
 #[derive(Clone, Copy, Debug, PartialEq, Eq)]
 pub struct At {
     pub id: u16,
@@ -26,7 +26,7 @@ pub struct At {
     /// The moment, in milliseconds.
     pub now: u64,
     /// A random number.
-    pub draw: u32,
+    pub word: u32,
 }
 
 impl Node {
@@ -39,8 +39,8 @@ impl Node {
 
     /// The moment before which a tick changes nothing and sends nothing. Nothing is read.
     pub fn due(&self) -> u64
-        ensures { (c : List ℕ) (m : MoteState) (s : Store) (now draw : ℕ) → IsMote c (node_mote self.now) m s → now < result
-            → tick_effect m s now draw ≡ rest_effect m s }
+        ensures { (c : List ℕ) (m : MoteState) (s : Store) (now word : ℕ) → IsMote c (node_mote self.now) m s → now < result
+            → tick_effect m s now word ≡ rest_effect m s }
     {
         self.mote.due()
     }

@@ -19,16 +19,16 @@ use dg_nor::Nor;
 use dg_volume::{Volume, a_volume_bounds_a_remount};
 
 /// A node that is on goes on with its board's new volume.
-pub(crate) fn reload(runs: &mut Option<Node>, volume: Volume, now: u64, draw: u32)
+pub(crate) fn reload(runs: &mut Option<Node>, volume: Volume, now: u64, word: u32)
     requires node { (c : List ℕ) × IfSome runs.old (λ v. IsTimelyNode c v now) }
     requires free { NothingLent volume }
     requires moment { now < 2 ^ 62 }
     ensures { (c d : List ℕ) (s t : Store) (r : Option Running) → NodeStands c runs.old s r → Mounted d volume t
         → NodeStands d runs.new t
-        (runs_by (option_map (λ m. maintains m now draw) (running_mote r)) None (option_map node_image runs.old)) }
+        (runs_by (option_map (λ m. maintains m now word) (running_mote r)) None (option_map node_image runs.old)) }
 {
     if let Some(node) = runs {
-        node.mote.reload(volume, now, draw);
+        node.mote.reload(volume, now, word);
     }
 }
 
@@ -42,7 +42,7 @@ impl Node {
         known: bool,
         order: Order,
         now: u64,
-        draw: u32,
+        word: u32,
     ) -> Result<Ordered, ActFault>
         requires some_number { 1 ≤ order.number }
         requires known_image { order.image < images }
@@ -52,7 +52,7 @@ impl Node {
         requires known_chip { IsTrue known → IsKnownChip (N.device board.old).image }
         ensures done { (r : Option Running) (s : Store) → Stands (N.device board.old).image s
             → NodeStands (N.device board.old).image runs.old s r
-            → NodeOrdered result (order_refusal s order) (order_effect (running_mote r) s order now draw) s
+            → NodeOrdered result (order_refusal s order) (order_effect (running_mote r) s order now word) s
             (host (N.device board.old) runs.old) (host (N.device board.new) runs.new) }
         // a known board is mounted again, and nothing else is read; it stays known
         ensures reads { OrderReads known (N.device board.old) (N.device board.new) }
@@ -70,7 +70,7 @@ impl Node {
                     after: report_chip(&volume),
                     orderly: volume.orderly(),
                 };
-                reload(runs, volume, now, draw);
+                reload(runs, volume, now, word);
                 Ok(Ordered::Kept(change))
             }
             Err(why) => order_failed(why, before, volume.orderly()),

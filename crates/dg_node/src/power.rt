@@ -10,7 +10,7 @@ ghost use Rattle.dg_node.specs.inner.Begins.{BeginsOver};
 use crate::answers::{Powered, StartedImage};
 use crate::node::{At, Node};
 use dg_base::ImageVersion;
-use dg_boot::{BootFault, StartCause, Started, start};
+use dg_boot::{BootFault, Kind, Started, start};
 use dg_mote::Mote;
 use dg_nor::Nor;
 
@@ -19,21 +19,21 @@ impl Node {
     pub fn power<N: Nor>(board: &mut N, at: At) -> Result<Powered, BootFault>
         requires moment { at.now < 2 ^ 62 }
         ensures done { (s : Store) (before : Option Node) → Stands (N.device board.old).image s
-            → NodeDone (power_end result) None (reset_effect s at.id at.wide at.now at.draw)
+            → NodeDone (power_end result) None (reset_effect s at.id at.wide at.now at.word)
             (host (N.device board.old) before) (host (N.device board.new) (powered_in result)) }
         // it tells a board that is a volume from one that is none, which keeps its bytes
         ensures finds { PowerFinds result (N.device board.old) (N.device board.new) }
     {
-        begin(StartCause::Power, at, board)
+        begin(Kind::Power, at, board)
     }
 }
 
 /// A board starts, and its node is made.
 #[inline(never)]
-pub(crate) fn begin<N: Nor>(cause: StartCause, at: At, board: &mut N) -> Result<Powered, BootFault>
+pub(crate) fn begin<N: Nor>(cause: Kind, at: At, board: &mut N) -> Result<Powered, BootFault>
     requires moment { at.now < 2 ^ 62 }
     ensures done { (s : Store) (before : Option Node) → Stands (N.device board.old).image s
-        → NodeDone (power_end result) None (boots cause s at.id at.wide at.now at.draw)
+        → NodeDone (power_end result) None (boots cause s at.id at.wide at.now at.word)
         (host (N.device board.old) before) (host (N.device board.new) (powered_in result)) }
     ensures finds { PowerFinds result (N.device board.old) (N.device board.new) }
 {
@@ -47,7 +47,7 @@ pub(crate) fn begin<N: Nor>(cause: StartCause, at: At, board: &mut N) -> Result<
 fn node_of_start(started: Started, at: At) -> Powered
     requires moment { at.now < 2 ^ 62 }
     requires free { NothingLent started.volume }
-    ensures { BeginsOver started at.id at.wide at.now at.draw result }
+    ensures { BeginsOver started at.id at.wide at.now at.word result }
 {
     let image_version = ImageVersion {
         image: started.image,
@@ -61,7 +61,7 @@ fn node_of_start(started: Started, at: At) -> Powered
     Powered {
         node: Node {
             image_version,
-            mote: Mote::new(started.volume, at.id, at.wide, at.now, at.draw),
+            mote: Mote::new(started.volume, at.id, at.wide, at.now, at.word),
         },
         image,
     }

@@ -13,7 +13,7 @@ ghost use Rattle.dg_node.specs.inner.Faults.{restart_fault};
 use crate::answers::{Powered, TickFault, Ticked};
 use crate::node::{At, Node};
 use crate::power::begin;
-use dg_boot::{BootFault, StartCause};
+use dg_boot::{BootFault, Kind};
 use dg_mote::{Did, Outbox, a_restart_is_for_the_order};
 use dg_nor::{Nor, Stopped};
 
@@ -25,42 +25,42 @@ impl Node {
         &mut self,
         board: &mut N,
         now: u64,
-        draw: u32,
+        word: u32,
         out: &mut Outbox,
     ) -> Result<Ticked, TickFault>
         requires node { IsTimelyNode (N.device board.old).image self.old now }
         requires moment { now < 2 ^ 62 }
         requires empty { sent_in out.old ≡ None }
         ensures { (m : MoteState) (s : Store) → IsMote (N.device board.old).image (node_mote self.old) m s
-            → NodeDone (tick_end result) (sent_in out.new) (tick_effect m s now draw)
+            → NodeDone (tick_end result) (sent_in out.new) (tick_effect m s now word)
             (host (N.device board.old) (Some self.old)) (host (N.device board.new) (Some self.new)) }
     {
         a_restart_is_for_the_order();
-        match self.mote.tick(board, now, draw, out) {
+        match self.mote.tick(board, now, word, out) {
             Ok(Did::Idle) => Ok(Ticked::Idle),
             Ok(Did::Sent) => Ok(Ticked::Sent),
-            Ok(Did::Restart) => self.restart(board, now, draw),
+            Ok(Did::Restart) => self.restart(board, now, word),
             Err(Stopped) => Err(TickFault::Stopped),
         }
     }
 
     /// A board that stands starts for its order, and its node is made anew.
     #[inline(never)]
-    fn restart<N: Nor>(&mut self, board: &mut N, now: u64, draw: u32) -> Result<Ticked, TickFault>
+    fn restart<N: Nor>(&mut self, board: &mut N, now: u64, word: u32) -> Result<Ticked, TickFault>
         requires moment { now < 2 ^ 62 }
         requires stands { (s : Store) × Stands (N.device board.old).image s }
         ensures { (s : Store) (before : Option Node) → Stands (N.device board.old).image s
             → NodeDone (tick_end result) None
-            (boots StartCause.Order s (node_mote self.old).id (node_mote self.old).wide now draw)
+            (boots Kind.Order s (node_mote self.old).id (node_mote self.old).wide now word)
             (host (N.device board.old) before) (host (N.device board.new) (Some self.new)) }
     {
         let at = At {
             id: self.mote.id(),
             wide: self.mote.wide(),
             now,
-            draw,
+            word,
         };
-        match begin(StartCause::Order, at, board) {
+        match begin(Kind::Order, at, board) {
             Ok(Powered { node, image }) => {
                 *self = node;
                 Ok(Ticked::Restarted(image))

@@ -36,7 +36,7 @@ use Rattle.dg_mote.specs.Timely.{Timely}
 use Rattle.dg_mote.specs.Well.{StoreIsWell, IsWell, TurnIsWell, SendsHonest}
 use Rattle.dg_mote.specs.Speaking.{OrderFits, Speaks, TurnSpeaks, IsSaid}
 use Rattle.dg_rules.specs.World.{World, Running, Sent, site, store_at, wide_at}
-use Rattle.dg_rules.specs.Events.{Deed, Does, Refuses, Goes, does, mote_of, dt_of, image_version_of, reloaded}
+use Rattle.dg_rules.specs.Events.{Deed, Does, Refuses, Goes, IsTaken, does, mote_of, dt_of, image_version_of, reloaded}
 use Rattle.dg_script.specs.Ranges.{IsDeclared, IsVersion, EventInRange}
 use Rattle.dg_rules.specs.Premises.{RunsWell, SentIsWell, WorldAgrees, TrueEvent}
 use Rattle.dg_base.specs.declared.events.Event.{Event}
@@ -56,15 +56,15 @@ pub record VolumeLaws : Type 0 where
 -- what is known of a mote and of frames
 pub record MoteLaws : Type 0 where
   pub restarts : RestartLaws
-  pub begins : (table : List Row) (s : Store) (id now draw : ℕ) (wide : Bool) → StoreIsWell table s → IsWell table (begun_mote id wide now draw) s now
+  pub begins : (table : List Row) (s : Store) (id now word : ℕ) (wide : Bool) → StoreIsWell table s → IsWell table (begun_mote id wide now word) s now
   pub later : (table : List Row) (m : MoteState) (s : Store) (now then : ℕ) → now ≤ then → IsWell table m s now → IsWell table m s then
-  pub reloads : (table : List Row) (m : MoteState) (s : Store) (now draw : ℕ) → Timely m now → StoreIsWell table s → IsWell table (maintains m now draw) s now
-  pub ticks : (table : List Row) (m : MoteState) (s : Store) (now draw : ℕ) → IsWell table m s now → TurnIsWell table (tick_of m s now draw) now
-  pub hears : (table : List Row) (m : MoteState) (s : Store) (now draw : ℕ) (bytes : List ℕ) → IsTable table → IsHonest table bytes → IsWell table m s now → TurnIsWell table (heard_of m s now draw bytes) now
-  pub says : (table : List Row) (m : MoteState) (s : Store) (now draw : ℕ) → IsTable table → IsWell table m s now → Speaks m s → IfSome (tick_of m s now draw).sent (IsSaid m.id m.wide)
-  pub speaks_first : (s : Store) (id now draw : ℕ) (wide : Bool) → id < 2 ^ 16 → OrderFits s.order → Speaks (begun_mote id wide now draw) s
-  pub speaks_ticked : (m : MoteState) (s : Store) (now draw : ℕ) → Speaks m s → TurnSpeaks m.id m.wide (tick_of m s now draw)
-  pub speaks_heard : (m : MoteState) (s : Store) (now draw : ℕ) (bytes : List ℕ) → IfOk (message_of bytes m.wide) FitsTypes → Speaks m s → TurnSpeaks m.id m.wide (heard_of m s now draw bytes)
+  pub reloads : (table : List Row) (m : MoteState) (s : Store) (now word : ℕ) → Timely m now → StoreIsWell table s → IsWell table (maintains m now word) s now
+  pub ticks : (table : List Row) (m : MoteState) (s : Store) (now word : ℕ) → IsWell table m s now → TurnIsWell table (tick_of m s now word) now
+  pub hears : (table : List Row) (m : MoteState) (s : Store) (now word : ℕ) (bytes : List ℕ) → IsTable table → IsHonest table bytes → IsWell table m s now → TurnIsWell table (heard_of m s now word bytes) now
+  pub says : (table : List Row) (m : MoteState) (s : Store) (now word : ℕ) → IsTable table → IsWell table m s now → Speaks m s → IfSome (tick_of m s now word).sent (IsSaid m.id m.wide)
+  pub speaks_first : (s : Store) (id now word : ℕ) (wide : Bool) → id < 2 ^ 16 → OrderFits s.order → Speaks (begun_mote id wide now word) s
+  pub speaks_ticked : (m : MoteState) (s : Store) (now word : ℕ) → Speaks m s → TurnSpeaks m.id m.wide (tick_of m s now word)
+  pub speaks_heard : (m : MoteState) (s : Store) (now word : ℕ) (bytes : List ℕ) → IfOk (message_of bytes m.wide) FitsTypes → Speaks m s → TurnSpeaks m.id m.wide (heard_of m s now word bytes)
   pub bytes_fit : (b : List ℕ) (wide : Bool) (m : Message) → AreBytes b → message_of b wide ≡ Ok m → FitsTypes m
   pub wider : (b : List ℕ) (m : Message) → message_of b false ≡ Ok m → message_of b true ≡ Ok m
 
@@ -207,26 +207,26 @@ module _ (laws : Laws) (w : World) (agrees : WorldAgrees w) where
       (Through-both (Agrees w.table) (OnTheWay s b.runs) b.trail (laws.volume.boots w.table k s g.well.agrees) way))
       (Through-map (OnTheWay s b.runs) (λ t. OrderFits t.order) (λ t on. subst OrderFits (sym on.order) g.order) b.trail way)
 
-  started_well : (m id : ℕ) (wide : Bool) (now draw : ℕ) (s : Store) (o : Option Runs) (runs : Option Running) → id ≡ m → wide ≡ wide_at w m → m < 2 ^ 16 → IsGood w.table s
-      → running_by o id wide now draw ≡ Some runs
+  started_well : (m id : ℕ) (wide : Bool) (now word : ℕ) (s : Store) (o : Option Runs) (runs : Option Running) → id ≡ m → wide ≡ wide_at w m → m < 2 ^ 16 → IsGood w.table s
+      → running_by o id wide now word ≡ Some runs
       → IfSome runs (RunsWell w.table m (wide_at w m) now s)
-  started_well m id wide now draw s None runs is same low g e = absurd cc
-  started_well m id wide now draw s (Some r) runs is same low g e =
-      subst (λ (o : Option Running). IfSome o (RunsWell w.table m (wide_at w m) now s)) (same_running (Some (record { image_version = image_version_of r; mote = begun_mote id wide now draw })) runs e)
+  started_well m id wide now word s None runs is same low g e = absurd cc
+  started_well m id wide now word s (Some r) runs is same low g e =
+      subst (λ (o : Option Running). IfSome o (RunsWell w.table m (wide_at w m) now s)) (same_running (Some (record { image_version = image_version_of r; mote = begun_mote id wide now word })) runs e)
       (record {
         id = is;
         wide_is = same;
-        well = laws.mote.begins w.table s id now draw wide g.well;
-        speaks = laws.mote.speaks_first s id now draw wide (subst (λ (n : ℕ). n < 2 ^ 16) (sym is) low) g.order;
+        well = laws.mote.begins w.table s id now word wide g.well;
+        speaks = laws.mote.speaks_first s id now word wide (subst (λ (n : ℕ). n < 2 ^ 16) (sym is) low) g.order;
       })
 
-  start_agrees : (k : StartCause) (m dt id : ℕ) (wide : Bool) (draw : ℕ) → m < length w.sites → id ≡ m → wide ≡ wide_at w m
-      → AgreesDoes w m dt (starts w (boot k (store_at w m)) id wide (w.moment + dt) draw)
-  start_agrees k m dt id wide draw low is same =
+  start_agrees : (k : StartCause) (m dt id : ℕ) (wide : Bool) (word : ℕ) → m < length w.sites → id ≡ m → wide ≡ wide_at w m
+      → AgreesDoes w m dt (starts w (boot k (store_at w m)) id wide (w.moment + dt) word)
+  start_agrees k m dt id wide word low is same =
       let b = boot k (store_at w m) in
       let way = boot_way k (store_at w m) (here m low) in
       same_table m dt _ refl way
-      (λ runs e. started_well m id wide (w.moment + dt) draw (last b.trail) b.runs runs is same (small_id m low) (Through-last (IsGood w.table) b.trail way) e) tt
+      (λ runs e. started_well m id wide (w.moment + dt) word (last b.trail) b.runs runs is same (small_id m low) (Through-last (IsGood w.table) b.trail way) e) tt
 
   -- ---- steps of a mote
 
@@ -249,26 +249,26 @@ module _ (laws : Laws) (w : World) (agrees : WorldAgrees w) where
       if_each (IsSaid id wide) (λ message. HonestMessage w.table (Ok message)) (λ message. SentIsWell w.table (record { by = m; bytes = frame_of message })) sent
       (λ message a b. record { message = message; spelled = read_wide wide (frame_of message) message a.is_read; fits = a.fits; source = a.source ∙ is; honest = b }) said honest
 
-  tick_agrees : (m dt draw : ℕ) (r : Running) → (site w m).runs ≡ Some r → m < length w.sites
-      → AgreesDoes w m dt (let step = tick_of r.mote (store_at w m) (w.moment + dt) draw in goes_on w step.trail step.sent r.image_version step.mote)
-  tick_agrees m dt draw r is low =
+  tick_agrees : (m dt word : ℕ) (r : Running) → (site w m).runs ≡ Some r → m < length w.sites
+      → AgreesDoes w m dt (let step = tick_of r.mote (store_at w m) (w.moment + dt) word in goes_on w step.trail step.sent r.image_version step.mote)
+  tick_agrees m dt word r is low =
       let s = store_at w m in
       let now = w.moment + dt in
-      let step = tick_of r.mote s now draw in
+      let step = tick_of r.mote s now word in
       let known = runs_here m r low is in
-      let well = laws.mote.ticks w.table r.mote s now draw (well_now m dt r low is) in
-      turn_agrees m dt r step step.sent known.id known.wide_is well (laws.mote.speaks_ticked r.mote s now draw known.speaks)
-      (said_well m r.mote.id r.mote.wide step.sent known.id (laws.mote.says w.table r.mote s now draw agrees.table (well_now m dt r low is) known.speaks) well.sent)
+      let well = laws.mote.ticks w.table r.mote s now word (well_now m dt r low is) in
+      turn_agrees m dt r step step.sent known.id known.wide_is well (laws.mote.speaks_ticked r.mote s now word known.speaks)
+      (said_well m r.mote.id r.mote.wide step.sent known.id (laws.mote.says w.table r.mote s now word agrees.table (well_now m dt r low is) known.speaks) well.sent)
 
-  hear_agrees : (m dt draw : ℕ) (bytes : List ℕ) (r : Running) → (site w m).runs ≡ Some r → m < length w.sites → IsHonest w.table bytes → IfOk (message_of bytes r.mote.wide) FitsTypes
-      → AgreesDoes w m dt (hears w m (w.moment + dt) draw bytes r)
-  hear_agrees m dt draw bytes r is low honest fits =
+  hear_agrees : (m dt word : ℕ) (bytes : List ℕ) (r : Running) → (site w m).runs ≡ Some r → m < length w.sites → IsHonest w.table bytes → IfOk (message_of bytes r.mote.wide) FitsTypes
+      → AgreesDoes w m dt (hears w m (w.moment + dt) word bytes r)
+  hear_agrees m dt word bytes r is low honest fits =
       let s = store_at w m in
       let now = w.moment + dt in
       let known = runs_here m r low is in
-      turn_agrees m dt r (heard_of r.mote s now draw bytes) None known.id known.wide_is
-      (laws.mote.hears w.table r.mote s now draw bytes agrees.table honest (well_now m dt r low is))
-      (laws.mote.speaks_heard r.mote s now draw bytes fits known.speaks) tt
+      turn_agrees m dt r (heard_of r.mote s now word bytes) None known.id known.wide_is
+      (laws.mote.hears w.table r.mote s now word bytes agrees.table honest (well_now m dt r low is))
+      (laws.mote.speaks_heard r.mote s now word bytes fits known.speaks) tt
 
   -- a frame that was sent
   sent_honest : (f : Sent) → SentIsWell w.table f → IsHonest w.table f.bytes
@@ -288,20 +288,20 @@ module _ (laws : Laws) (w : World) (agrees : WorldAgrees w) where
 
   -- ---- orders and injections
 
-  reloads_well : (m dt draw : ℕ) (table : List Row) (s : Store) (runs : Option Running) → m < length w.sites → IsGood table s → Some (reloaded (site w m).runs (w.moment + dt) draw) ≡ Some runs
+  reloads_well : (m dt word : ℕ) (table : List Row) (s : Store) (runs : Option Running) → m < length w.sites → IsGood table s → Some (reloaded (site w m).runs (w.moment + dt) word) ≡ Some runs
       → IfSome runs (RunsWell table m (wide_at w m) (w.moment + dt) s)
-  reloads_well m dt draw table s runs low g e =
-      subst (λ (o : Option Running). IfSome o (RunsWell table m (wide_at w m) (w.moment + dt) s)) (same_running (reloaded (site w m).runs (w.moment + dt) draw) runs e)
+  reloads_well m dt word table s runs low g e =
+      subst (λ (o : Option Running). IfSome o (RunsWell table m (wide_at w m) (w.moment + dt) s)) (same_running (reloaded (site w m).runs (w.moment + dt) word) runs e)
       (each (site w m).runs refl)
     where
-      each : (o : Option Running) → (site w m).runs ≡ o → IfSome (reloaded o (w.moment + dt) draw) (RunsWell table m (wide_at w m) (w.moment + dt) s)
+      each : (o : Option Running) → (site w m).runs ≡ o → IfSome (reloaded o (w.moment + dt) word) (RunsWell table m (wide_at w m) (w.moment + dt) s)
       each None is = tt
       each (Some r) is =
           let known = runs_here m r low is in
           record {
             id = known.id;
             wide_is = known.wide_is;
-            well = laws.mote.reloads table r.mote s (w.moment + dt) draw (well_now m dt r low is).timely g.well;
+            well = laws.mote.reloads table r.mote s (w.moment + dt) word (well_now m dt r low is).timely g.well;
             speaks = record { id = known.speaks.id; server = tt; known = tt; order = g.order };
           }
 
@@ -312,9 +312,9 @@ module _ (laws : Laws) (w : World) (agrees : WorldAgrees w) where
     version = fits;
   }
 
-  order_agrees : (m number image version dt draw : ℕ) → m < length w.sites → OrderFits (order_of number image version)
-      → AgreesDoes w m dt (Goes (record { trail = order_trail (store_at w m) (order_of number image version); table = w.table; started = None; sent = None; runs = Some (reloaded (site w m).runs (w.moment + dt) draw) }))
-  order_agrees m number image version dt draw low fits =
+  order_agrees : (m number image version dt word : ℕ) → m < length w.sites → OrderFits (order_of number image version)
+      → AgreesDoes w m dt (Goes (record { trail = order_trail (store_at w m) (order_of number image version); table = w.table; started = None; sent = None; runs = Some (reloaded (site w m).runs (w.moment + dt) word) }))
+  order_agrees m number image version dt word low fits =
       let s = store_at w m in
       let order = order_of number image version in
       let old = here m low in
@@ -325,14 +325,14 @@ module _ (laws : Laws) (w : World) (agrees : WorldAgrees w) where
       (Through-map (λ x. Agrees w.table x × (length x.kept ≡ images)) (StoreIsWell w.table) (λ x both. record { count = both.1; agrees = both.0 }) t
       (Through-both (Agrees w.table) (λ x. length x.kept ≡ images) t (laws.volume.orders w.table s order old.well.agrees) count))
       (Through-stepping (λ x. OrderFits x.order) s (commit_operations s.room) (ordered s order) old.order fits) in
-      same_table m dt _ refl way (λ runs e. reloads_well m dt draw w.table (last t) runs low (Through-last (IsGood w.table) t way) e) tt
+      same_table m dt _ refl way (λ runs e. reloads_well m dt word w.table (last t) runs low (Through-last (IsGood w.table) t way) e) tt
 
   -- ---- injections
 
-  inject_agrees : (m image version dt draw : ℕ) (row : Row) → m < length w.sites → row_at w.declared image version ≡ Some row
+  inject_agrees : (m image version dt word : ℕ) (row : Row) → m < length w.sites → row_at w.declared image version ≡ Some row
       → ((kept : Row) → row_at w.table image version ≡ Some kept → kept ≡ row) → inject_refusal (store_at w m) row ≡ None
-      → AgreesDoes w m dt (Goes (record { trail = inject_trail (store_at w m) row; table = with_row w.table row; started = None; sent = None; runs = Some (reloaded (site w m).runs (w.moment + dt) draw) }))
-  inject_agrees m image version dt draw row low known same fits =
+      → AgreesDoes w m dt (Goes (record { trail = inject_trail (store_at w m) row; table = with_row w.table row; started = None; sent = None; runs = Some (reloaded (site w m).runs (w.moment + dt) word) }))
+  inject_agrees m image version dt word row low known same fits =
       let s = store_at w m in
       let i = injected w agrees m image version row low known same in
       let more = with_row w.table row in
@@ -349,21 +349,22 @@ module _ (laws : Laws) (w : World) (agrees : WorldAgrees w) where
         table = IsTable-with_row w.table row agrees.table (is_row s row i.declared fits) (refused_not s row fits).0;
         wider = i.wider;
         way = way;
-        mote = λ runs e. reloads_well m dt draw more (last t) runs low (Through-last (IsGood more) t way) e;
+        mote = λ runs e. reloads_well m dt word more (last t) runs low (Through-last (IsGood more) t way) e;
         sent = tt;
       }
 
   -- ---- every event
 
   pub agrees_does : (e : Event) → EventInRange (length w.sites) e → TrueEvent w e → AgreesDoes w (mote_of e) (dt_of e) (does w e)
-  agrees_does =
-      does_cases laws.mote.restarts w (SentIsWell w.table) agrees.sent (λ e D. EventInRange (length w.sites) e → TrueEvent w e → AgreesDoes w (mote_of e) (dt_of e) D)
-      (λ e why fits honest. tt)
-      (λ m dt draw r is fits honest. tick_agrees m dt draw r is fits)
-      (λ m dt draw r is waits fits honest. start_agrees cause.Order m dt r.mote.id r.mote.wide draw fits (runs_here m r fits is).id (runs_here m r fits is).wide_is)
-      (λ m dt draw fits honest. start_agrees cause.Power m dt m (wide_at w m) draw fits refl refl)
-      (λ m dt draw number f r is at q fits honest. hear_agrees m dt draw f.bytes r is fits.0 (sent_honest f q) (sent_fits r.mote.wide f q))
-      (λ from m dt draw f r is at q fits honest. hear_agrees m dt draw f.bytes r is fits.second (sent_honest f q) (sent_fits r.mote.wide f q))
-      (λ m dt draw bytes r is fits honest. hear_agrees m dt draw bytes r is fits.0 honest (bytes_fit r.mote.wide bytes fits.1.bytes (message_of bytes r.mote.wide) refl))
-      (λ m image version dt draw row known none fits honest. inject_agrees m image version dt draw row fits.0 known (λ kept e. honest row kept known e) none)
-      (λ m number image version dt draw none fits honest. order_agrees m number image version dt draw fits.0 (order_fits number image version fits.3 fits.4 fits.1 fits.2))
+  agrees_does e fits honest =
+      does_cases laws.mote.restarts w (SentIsWell w.table) agrees.sent (λ e D. does w e ≡ D → EventInRange (length w.sites) e → TrueEvent w e → AgreesDoes w (mote_of e) (dt_of e) D)
+      (λ e why same fits honest. tt)
+      (λ m dt word r is same fits honest. tick_agrees m dt word r is fits)
+      (λ m dt word r is waits same fits honest. start_agrees cause.Order m dt r.mote.id r.mote.wide word fits (runs_here m r fits is).id (runs_here m r fits is).wide_is)
+      (λ m dt word same fits honest. start_agrees cause.Power m dt m (wide_at w m) word fits refl refl)
+      (λ m dt word number f r is at q same fits honest. hear_agrees m dt word f.bytes r is fits.0 (sent_honest f q) (sent_fits r.mote.wide f q))
+      (λ from m dt word f r is at q same fits honest. hear_agrees m dt word f.bytes r is fits.second (sent_honest f q) (sent_fits r.mote.wide f q))
+      (λ m dt word bytes r is same fits honest. hear_agrees m dt word bytes r is fits.0 honest (bytes_fit r.mote.wide bytes fits.1.bytes (message_of bytes r.mote.wide) refl))
+      (λ m image version dt word row known none same fits honest. inject_agrees m image version dt word row fits.0 known (λ kept e. honest (subst IsTaken (sym same) tt) row kept known e) none)
+      (λ m number image version dt word none same fits honest. order_agrees m number image version dt word fits.0 (order_fits number image version fits.3 fits.4 fits.1 fits.2))
+      e refl fits honest

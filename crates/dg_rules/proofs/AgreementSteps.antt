@@ -30,13 +30,13 @@ use Rattle.dg_rules.proofs.AgreementLemmas.{Laws, IsGood, good_room, AgreesDeed,
 -- ---- steps
 
 pub mote_within : (n : ℕ) (e : Event) → EventInRange n e → mote_of e < n
-mote_within n (Tick m dt draw) fits = fits
-mote_within n (Hear m dt draw number) fits = fits.0
-mote_within n (Last from m dt draw) fits = fits.second
-mote_within n (Reset m dt draw) fits = fits
-mote_within n (Inject m image version dt draw) fits = fits.0
-mote_within n (OrderEvent m number image version dt draw) fits = fits.0
-mote_within n (Frame m dt draw bytes) fits = fits.0
+mote_within n (Tick m dt word) fits = fits
+mote_within n (Hear m dt word number) fits = fits.0
+mote_within n (Last from m dt word) fits = fits.second
+mote_within n (Reset m dt word) fits = fits
+mote_within n (Inject m image version dt word) fits = fits.0
+mote_within n (OrderEvent m number image version dt word) fits = fits.0
+mote_within n (Frame m dt word bytes) fits = fits.0
 
 pub step_within : (w : World) (x : Step) → StepInRange (length w.sites) x → mote_of x.event < length w.sites
 step_within w x fits = mote_within (length w.sites) x.event fits.event

@@ -117,44 +117,44 @@ module _ (restarts : RestartLaws) (changes : ChangeLaws) (past : Past) (w : Worl
   one_came : (p : Past) (m : ℕ) (r : Running) (runs : Option Running) → IfReceives (AllThere m (wide_at w m) p) r.mote.mode → ◌≡◌ {A = Option (Option Running)} (Some (Some r)) (Some runs) → At p m runs
   one_came p m r runs there e = subst (At p m) (same_running (Some r) runs e) there
 
-  start_came : (p : Past) (m : ℕ) (o : Option Runs) (id : ℕ) (wide : Bool) (now draw : ℕ) (runs : Option Running) → running_by o id wide now draw ≡ Some runs → At p m runs
-  start_came p m None id wide now draw runs e = absurd cc
-  start_came p m (Some r) id wide now draw runs e = one_came p m (record { image_version = image_version_of r; mote = begun_mote id wide now draw }) runs tt e
+  start_came : (p : Past) (m : ℕ) (o : Option Runs) (id : ℕ) (wide : Bool) (now word : ℕ) (runs : Option Running) → running_by o id wide now word ≡ Some runs → At p m runs
+  start_came p m None id wide now word runs e = absurd cc
+  start_came p m (Some r) id wide now word runs e = one_came p m (record { image_version = image_version_of r; mote = begun_mote id wide now word }) runs tt e
 
-  reload_came : (p : Past) (m : ℕ) (o runs : Option Running) (now draw : ℕ) → Some (reloaded o now draw) ≡ Some runs → At p m runs
-  reload_came p m o runs now draw e = subst (At p m) (same_running (reloaded o now draw) runs e) (each o)
+  reload_came : (p : Past) (m : ℕ) (o runs : Option Running) (now word : ℕ) → Some (reloaded o now word) ≡ Some runs → At p m runs
+  reload_came p m o runs now word e = subst (At p m) (same_running (reloaded o now word) runs e) (each o)
     where
-      each : (o : Option Running) → At p m (reloaded o now draw)
+      each : (o : Option Running) → At p m (reloaded o now word)
       each None = tt
       each (Some r) = tt
 
   -- the mote reads as its site does
-  comes_here : (m now draw : ℕ) (bytes : List ℕ) (r : Running) → (site w m).runs ≡ Some r → m < length w.sites
-      → IfReceives (λ q. IsBegun q ⊎ Continues r.mote.mode (Brings bytes (wide_at w m)) q) (heard_of r.mote (store_at w m) now draw bytes).mote.mode
-  comes_here m now draw bytes r on low =
-      subst (λ (wide : Bool). IfReceives (λ q. IsBegun q ⊎ Continues r.mote.mode (Brings bytes wide) q) (heard_of r.mote (store_at w m) now draw bytes).mote.mode)
+  comes_here : (m now word : ℕ) (bytes : List ℕ) (r : Running) → (site w m).runs ≡ Some r → m < length w.sites
+      → IfReceives (λ q. IsBegun q ⊎ Continues r.mote.mode (Brings bytes (wide_at w m)) q) (heard_of r.mote (store_at w m) now word bytes).mote.mode
+  comes_here m now word bytes r on low =
+      subst (λ (wide : Bool). IfReceives (λ q. IsBegun q ⊎ Continues r.mote.mode (Brings bytes wide) q) (heard_of r.mote (store_at w m) now word bytes).mote.mode)
       (running_at (λ q. RunsWell w.table m (wide_at w m) w.moment (store_at w m) q) (site w m).runs r on (agrees.sites m low).runs).wide_is
-      (changes.comes r.mote (store_at w m) now draw bytes)
+      (changes.comes r.mote (store_at w m) now word bytes)
 
-  hear_came : (m now draw : ℕ) (bytes : List ℕ) (r : Running) (runs : Option Running) → (site w m).runs ≡ Some r → m < length w.sites
-      → ◌≡◌ {A = Option (Option Running)} (Some (Some (record { image_version = r.image_version; mote = (heard_of r.mote (store_at w m) now draw bytes).mote }))) (Some runs) → At (Came m bytes past) m runs
-  hear_came m now draw bytes r runs on low e =
-      let n = (heard_of r.mote (store_at w m) now draw bytes).mote in
-      one_came (Came m bytes past) m (record { image_version = r.image_version; mote = n }) runs (heard_there m (wide_at w m) past bytes r.mote.mode n.mode (there_here m r on low) (comes_here m now draw bytes r on low)) e
+  hear_came : (m now word : ℕ) (bytes : List ℕ) (r : Running) (runs : Option Running) → (site w m).runs ≡ Some r → m < length w.sites
+      → ◌≡◌ {A = Option (Option Running)} (Some (Some (record { image_version = r.image_version; mote = (heard_of r.mote (store_at w m) now word bytes).mote }))) (Some runs) → At (Came m bytes past) m runs
+  hear_came m now word bytes r runs on low e =
+      let n = (heard_of r.mote (store_at w m) now word bytes).mote in
+      one_came (Came m bytes past) m (record { image_version = r.image_version; mote = n }) runs (heard_there m (wide_at w m) past bytes r.mote.mode n.mode (there_here m r on low) (comes_here m now word bytes r on low)) e
 
   came_does : (e : Event) → EventInRange (length w.sites) e → CameDoes past w e (does w e)
   came_does =
       does_cases restarts w (λ f. Unit {0}) (all_sent w.sent) (λ e D. EventInRange (length w.sites) e → CameDoes past w e D)
       (λ e why fits. tt)
-      (λ m dt draw r on fits runs e. let n = (tick_of r.mote (store_at w m) (w.moment + dt) draw).mote in
-      one_came past m (record { image_version = r.image_version; mote = n }) runs (ticked_there m (wide_at w m) past r.mote.mode n.mode (there_here m r on fits) (changes.comes_not r.mote (store_at w m) (w.moment + dt) draw)) e)
-      (λ m dt draw r on waits fits runs e. start_came _ m (boot cause.Order (store_at w m)).runs r.mote.id r.mote.wide (w.moment + dt) draw runs e)
-      (λ m dt draw fits runs e. start_came _ m (boot cause.Power (store_at w m)).runs m (wide_at w m) (w.moment + dt) draw runs e)
-      (λ m dt draw number f r on at q fits runs e. subst (λ (o : Option (List ℕ)). At (came_then o m past) m runs) (sym (ap (option_map (λ (g : Sent). g.bytes)) at)) (hear_came m (w.moment + dt) draw f.bytes r runs on fits.0 e))
-      (λ from m dt draw f r on at q fits runs e. subst (λ (o : Option (List ℕ)). At (came_then o m past) m runs) (sym (ap (option_map (λ (g : Sent). g.bytes)) at)) (hear_came m (w.moment + dt) draw f.bytes r runs on fits.second e))
-      (λ m dt draw bytes r on fits runs e. hear_came m (w.moment + dt) draw bytes r runs on fits.0 e)
-      (λ m image version dt draw row known none fits runs e. reload_came past m (site w m).runs runs (w.moment + dt) draw e)
-      (λ m number image version dt draw none fits runs e. reload_came past m (site w m).runs runs (w.moment + dt) draw e)
+      (λ m dt word r on fits runs e. let n = (tick_of r.mote (store_at w m) (w.moment + dt) word).mote in
+      one_came past m (record { image_version = r.image_version; mote = n }) runs (ticked_there m (wide_at w m) past r.mote.mode n.mode (there_here m r on fits) (changes.comes_not r.mote (store_at w m) (w.moment + dt) word)) e)
+      (λ m dt word r on waits fits runs e. start_came _ m (boot cause.Order (store_at w m)).runs r.mote.id r.mote.wide (w.moment + dt) word runs e)
+      (λ m dt word fits runs e. start_came _ m (boot cause.Power (store_at w m)).runs m (wide_at w m) (w.moment + dt) word runs e)
+      (λ m dt word number f r on at q fits runs e. subst (λ (o : Option (List ℕ)). At (came_then o m past) m runs) (sym (ap (option_map (λ (g : Sent). g.bytes)) at)) (hear_came m (w.moment + dt) word f.bytes r runs on fits.0 e))
+      (λ from m dt word f r on at q fits runs e. subst (λ (o : Option (List ℕ)). At (came_then o m past) m runs) (sym (ap (option_map (λ (g : Sent). g.bytes)) at)) (hear_came m (w.moment + dt) word f.bytes r runs on fits.second e))
+      (λ m dt word bytes r on fits runs e. hear_came m (w.moment + dt) word bytes r runs on fits.0 e)
+      (λ m image version dt word row known none fits runs e. reload_came past m (site w m).runs runs (w.moment + dt) word e)
+      (λ m number image version dt word none fits runs e. reload_came past m (site w m).runs runs (w.moment + dt) word e)
 
   -- ---- steps
 

@@ -48,8 +48,8 @@ pub record ConsistentLaws (golden : Row) : Type 0 where
   pub boots : (cause : StartCause) (s : Store) → Consistent golden s → Through (Consistent golden) (boot cause s).trail
   pub starts : (cause : StartCause) (s : Store) → Consistent golden s → IfSome (boot cause s).runs (λ r. IsSoundApp golden (app_of r))
   pub ends : (cause : StartCause) (s : Store) → Boots s (boot cause s)
-  pub ticks : (m : MoteState) (s : Store) (now draw : ℕ) → StoreIsConsistent golden s → AsksForKnown m.mode → TurnIsConsistent golden (tick_of m s now draw)
-  pub hears : (m : MoteState) (s : Store) (now draw : ℕ) (bytes : List ℕ) → StoreIsConsistent golden s → AsksForKnown m.mode → TurnIsConsistent golden (heard_of m s now draw bytes)
+  pub ticks : (m : MoteState) (s : Store) (now word : ℕ) → StoreIsConsistent golden s → AsksForKnown m.mode → TurnIsConsistent golden (tick_of m s now word)
+  pub hears : (m : MoteState) (s : Store) (now word : ℕ) (bytes : List ℕ) → StoreIsConsistent golden s → AsksForKnown m.mode → TurnIsConsistent golden (heard_of m s now word bytes)
 
 abbrev HasSlots : Store → Type 0
 HasSlots s = length s.kept ≡ images
@@ -106,46 +106,46 @@ module _ (golden : Row) where
       one_asks : (r : Running) (runs : Option Running) → AsksForKnown r.mote.mode → ◌≡◌ {A = Option (Option Running)} (Some (Some r)) (Some runs) → AsksKnown runs
       one_asks r runs asks e = subst AsksKnown (same_running (Some r) runs e) asks
 
-      start_asks : (o : Option Runs) (id : ℕ) (wide : Bool) (now draw : ℕ) (runs : Option Running) → running_by o id wide now draw ≡ Some runs → AsksKnown runs
-      start_asks None id wide now draw runs e = absurd cc
-      start_asks (Some r) id wide now draw runs e = one_asks (record { image_version = image_version_of r; mote = begun_mote id wide now draw }) runs tt e
+      start_asks : (o : Option Runs) (id : ℕ) (wide : Bool) (now word : ℕ) (runs : Option Running) → running_by o id wide now word ≡ Some runs → AsksKnown runs
+      start_asks None id wide now word runs e = absurd cc
+      start_asks (Some r) id wide now word runs e = one_asks (record { image_version = image_version_of r; mote = begun_mote id wide now word }) runs tt e
 
-      reload_asks : (o runs : Option Running) (now draw : ℕ) → Some (reloaded o now draw) ≡ Some runs → AsksKnown runs
-      reload_asks o runs now draw e = subst AsksKnown (same_running (reloaded o now draw) runs e) (each o)
+      reload_asks : (o runs : Option Running) (now word : ℕ) → Some (reloaded o now word) ≡ Some runs → AsksKnown runs
+      reload_asks o runs now word e = subst AsksKnown (same_running (reloaded o now word) runs e) (each o)
         where
-          each : (o : Option Running) → AsksKnown (reloaded o now draw)
+          each : (o : Option Running) → AsksKnown (reloaded o now word)
           each None = tt
           each (Some r) = tt
 
-      start_lands : (k : StartCause) (m id : ℕ) (wide : Bool) (now draw : ℕ) → m < length w.sites → LandsDoes Fine (starts w (boot k (store_at w m)) id wide now draw)
-      start_lands k m id wide now draw low = lands _ (boot_way k (store_at w m) (store_here m low)) (λ runs e. start_asks (boot k (store_at w m)).runs id wide now draw runs e)
+      start_lands : (k : StartCause) (m id : ℕ) (wide : Bool) (now word : ℕ) → m < length w.sites → LandsDoes Fine (starts w (boot k (store_at w m)) id wide now word)
+      start_lands k m id wide now word low = lands _ (boot_way k (store_at w m) (store_here m low)) (λ runs e. start_asks (boot k (store_at w m)).runs id wide now word runs e)
 
-      hear_lands : (m now draw : ℕ) (bytes : List ℕ) (r : Running) → m < length w.sites → (site w m).runs ≡ Some r → LandsDoes Fine (hears w m now draw bytes r)
-      hear_lands m now draw bytes r low is =
+      hear_lands : (m now word : ℕ) (bytes : List ℕ) (r : Running) → m < length w.sites → (site w m).runs ≡ Some r → LandsDoes Fine (hears w m now word bytes r)
+      hear_lands m now word bytes r low is =
           let s = store_at w m in
-          let turn = laws.hears r.mote s now draw bytes (store_here m low) (asks_here m r low is) in
-          lands _ turn.way (λ runs e. one_asks (record { image_version = r.image_version; mote = (heard_of r.mote s now draw bytes).mote }) runs turn.asks e)
+          let turn = laws.hears r.mote s now word bytes (store_here m low) (asks_here m r low is) in
+          lands _ turn.way (λ runs e. one_asks (record { image_version = r.image_version; mote = (heard_of r.mote s now word bytes).mote }) runs turn.asks e)
 
-      tick_lands : (m now draw : ℕ) (r : Running) → m < length w.sites → (site w m).runs ≡ Some r
-          → LandsDoes Fine (let step = tick_of r.mote (store_at w m) now draw in goes_on w step.trail step.sent r.image_version step.mote)
-      tick_lands m now draw r low is =
+      tick_lands : (m now word : ℕ) (r : Running) → m < length w.sites → (site w m).runs ≡ Some r
+          → LandsDoes Fine (let step = tick_of r.mote (store_at w m) now word in goes_on w step.trail step.sent r.image_version step.mote)
+      tick_lands m now word r low is =
           let s = store_at w m in
-          let turn = laws.ticks r.mote s now draw (store_here m low) (asks_here m r low is) in
-          lands _ turn.way (λ runs e. one_asks (record { image_version = r.image_version; mote = (tick_of r.mote s now draw).mote }) runs turn.asks e)
+          let turn = laws.ticks r.mote s now word (store_here m low) (asks_here m r low is) in
+          lands _ turn.way (λ runs e. one_asks (record { image_version = r.image_version; mote = (tick_of r.mote s now word).mote }) runs turn.asks e)
 
       consistent_does : (e : Event) → EventInRange (length w.sites) e → LandsDoes Fine (does w e)
       consistent_does =
           does_cases laws.restarts w (λ f. Unit {0}) (all_sent w.sent) (λ e D. EventInRange (length w.sites) e → LandsDoes Fine D)
           (λ e why fits. tt)
-          (λ m dt draw r is fits. tick_lands m (w.moment + dt) draw r fits is)
-          (λ m dt draw r is waits fits. start_lands cause.Order m r.mote.id r.mote.wide (w.moment + dt) draw fits)
-          (λ m dt draw fits. start_lands cause.Power m m (wide_at w m) (w.moment + dt) draw fits)
-          (λ m dt draw number f r is at q fits. hear_lands m (w.moment + dt) draw f.bytes r fits.0 is)
-          (λ from m dt draw f r is at q fits. hear_lands m (w.moment + dt) draw f.bytes r fits.second is)
-          (λ m dt draw bytes r is fits. hear_lands m (w.moment + dt) draw bytes r fits.0 is)
-          (λ m image version dt draw row known none fits.
-          lands _ (inject_way (store_at w m) row (row_at-each IsDeclared w.declared image version row here.rows known) none (store_here m fits.0)) (λ runs e. reload_asks (site w m).runs runs (w.moment + dt) draw e))
-          (λ m number image version dt draw none fits. lands _ (order_way (store_at w m) number image version (store_here m fits.0)) (λ runs e. reload_asks (site w m).runs runs (w.moment + dt) draw e))
+          (λ m dt word r is fits. tick_lands m (w.moment + dt) word r fits is)
+          (λ m dt word r is waits fits. start_lands cause.Order m r.mote.id r.mote.wide (w.moment + dt) word fits)
+          (λ m dt word fits. start_lands cause.Power m m (wide_at w m) (w.moment + dt) word fits)
+          (λ m dt word number f r is at q fits. hear_lands m (w.moment + dt) word f.bytes r fits.0 is)
+          (λ from m dt word f r is at q fits. hear_lands m (w.moment + dt) word f.bytes r fits.second is)
+          (λ m dt word bytes r is fits. hear_lands m (w.moment + dt) word bytes r fits.0 is)
+          (λ m image version dt word row known none fits.
+          lands _ (inject_way (store_at w m) row (row_at-each IsDeclared w.declared image version row here.rows known) none (store_here m fits.0)) (λ runs e. reload_asks (site w m).runs runs (w.moment + dt) word e))
+          (λ m number image version dt word none fits. lands _ (order_way (store_at w m) number image version (store_here m fits.0)) (λ runs e. reload_asks (site w m).runs runs (w.moment + dt) word e))
 
       pub step_consistent : (x : Step) (v : World) (reports : List Report) → StepInRange (length w.sites) x → WorldStep w x v reports → WorldConsistent golden v
       step_consistent x v reports fits did = record {
@@ -171,14 +171,14 @@ module _ (golden : Row) where
       starts_sound =
           does_cases laws.restarts w (λ f. Unit {0}) (all_sent w.sent) (λ e D. EventInRange (length w.sites) e → StartsSoundDoes golden D)
           (λ e why fits. tt)
-          (λ m dt draw r is fits. tt)
-          (λ m dt draw r is waits fits. boot_sound cause.Order m fits)
-          (λ m dt draw fits. boot_sound cause.Power m fits)
-          (λ m dt draw number f r is at q fits. tt)
-          (λ from m dt draw f r is at q fits. tt)
-          (λ m dt draw bytes r is fits. tt)
-          (λ m image version dt draw row known none fits. tt)
-          (λ m number image version dt draw none fits. tt)
+          (λ m dt word r is fits. tt)
+          (λ m dt word r is waits fits. boot_sound cause.Order m fits)
+          (λ m dt word fits. boot_sound cause.Power m fits)
+          (λ m dt word number f r is at q fits. tt)
+          (λ from m dt word f r is at q fits. tt)
+          (λ m dt word bytes r is fits. tt)
+          (λ m image version dt word row known none fits. tt)
+          (λ m number image version dt word none fits. tt)
 
   -- ---- declarations
 

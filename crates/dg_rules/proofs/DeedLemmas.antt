@@ -27,7 +27,7 @@ use Rattle.dg_mote.specs.Changes.{MayClear, IfReceives}
 use Rattle.dg_base.specs.declared.events.ImageVersion.{ImageVersion}
 use Rattle.dg_rules.specs.World.{World, Site, Running, Sent, site, store_at, is_wide_mote, wide_at, counted, frame_at, last_frame}
 use Rattle.dg_rules.specs.Small.{Holding, SmallMote, holding, app_image_version, running_image_version, small_mote, Small, small, holds, whole}
-use Rattle.dg_rules.specs.Events.{Deed, Does, Refuses, Goes, does, mote_of, dt_of, image_version_of, reloaded, acts}
+use Rattle.dg_rules.specs.Events.{Deed, Does, Refuses, Goes, IsTaken, does, mote_of, dt_of, image_version_of, reloaded, acts}
 use Rattle.dg_rules.specs.Steps.{blows, and_sent, StepDoes, WorldStep}
 use Rattle.dg_script.specs.Ranges.{EventInRange, StepInRange}
 use Rattle.dg_rules.specs.Premises.{RunsWell, WorldAgrees, TrueEvent}
@@ -89,9 +89,9 @@ if_on P Q None (Some r) a b f p = absurd (let e = b refl in cc)
 if_on P Q (Some q) None a b f p = tt
 if_on P Q (Some q) (Some r) a b f p = f p
 
-started : (o : Option Runs) (id : ℕ) (wide : Bool) (now draw : ℕ) (runs : Option Running) → running_by o id wide now draw ≡ Some runs → (r : Runs) × (o ≡ Some r) × (runs ≡ Some (record { image_version = image_version_of r; mote = begun_mote id wide now draw }))
-started None id wide now draw runs e = absurd cc
-started (Some r) id wide now draw runs e = (r, refl, sym (same_running (Some (record { image_version = image_version_of r; mote = begun_mote id wide now draw })) runs e))
+started : (o : Option Runs) (id : ℕ) (wide : Bool) (now word : ℕ) (runs : Option Running) → running_by o id wide now word ≡ Some runs → (r : Runs) × (o ≡ Some r) × (runs ≡ Some (record { image_version = image_version_of r; mote = begun_mote id wide now word }))
+started None id wide now word runs e = absurd cc
+started (Some r) id wide now word runs e = (r, refl, sym (same_running (Some (record { image_version = image_version_of r; mote = begun_mote id wide now word })) runs e))
 
 larger : (s : Store) (order : Order) → order_refusal s order ≡ None → s.order.number < order.number
 larger s order e =
@@ -102,17 +102,17 @@ larger s order e =
 same_running_version : (t : Store) (a b : Option Running) → running_image_version a ≡ running_image_version b → mote t a ≡ mote t b
 same_running_version t a b e = λ j. record { holdings = (mote t a).holdings; app = (mote t a).app; order = t.order; runs = e j }
 
-reloaded_version : (o : Option Running) (now draw : ℕ) → running_image_version (reloaded o now draw) ≡ running_image_version o
-reloaded_version None now draw = refl
-reloaded_version (Some r) now draw = refl
+reloaded_version : (o : Option Running) (now word : ℕ) → running_image_version (reloaded o now word) ≡ running_image_version o
+reloaded_version None now word = refl
+reloaded_version (Some r) now word = refl
 
-reloaded_none : (o : Option Running) (now draw : ℕ) → reloaded o now draw ≡ None → o ≡ None
-reloaded_none None now draw e = refl
-reloaded_none (Some r) now draw e = absurd cc
+reloaded_none : (o : Option Running) (now word : ℕ) → reloaded o now word ≡ None → o ≡ None
+reloaded_none None now word e = refl
+reloaded_none (Some r) now word e = absurd cc
 
-none_reloaded : (o : Option Running) (now draw : ℕ) → o ≡ None → reloaded o now draw ≡ None
-none_reloaded None now draw e = refl
-none_reloaded (Some r) now draw e = absurd cc
+none_reloaded : (o : Option Running) (now word : ℕ) → o ≡ None → reloaded o now word ≡ None
+none_reloaded None now word e = refl
+none_reloaded (Some r) now word e = absurd cc
 
 -- one holding is another
 inject_small : (x : Site) (row : Row) (image : ℕ) (t : Store) (way : OnInject x.store row t) (runs then : Option Running) → row.image ≡ image → running_image_version runs ≡ running_image_version then
@@ -144,25 +144,25 @@ module _ (laws : StepLaws) (past : Past) (w : World) (agrees : WorldAgrees w) (s
 
   -- ---- ticks
 
-  tick_legal : (m dt draw : ℕ) (r : Running) → (site w m).runs ≡ Some r → m < length w.sites
-      → LegalDeedDoes past w (Tick m dt draw) (let step = tick_of r.mote (store_at w m) (w.moment + dt) draw in goes_on w step.trail step.sent r.image_version step.mote)
-  tick_legal m dt draw r on here =
+  tick_legal : (m dt word : ℕ) (r : Running) → (site w m).runs ≡ Some r → m < length w.sites
+      → LegalDeedDoes past w (Tick m dt word) (let step = tick_of r.mote (store_at w m) (w.moment + dt) word in goes_on w step.trail step.sent r.image_version step.mote)
+  tick_legal m dt word r on here =
       let x = site w m in
       let s = x.store in
       let now = w.moment + dt in
-      let step = tick_of r.mote s now draw in
+      let step = tick_of r.mote s now word in
       let t = step.trail in
-      let way = laws.changes.ticks r.mote s now draw in
+      let way = laws.changes.ticks r.mote s now word in
       record {
         whole = λ runs e. (is_on m r on, inl (clear_small x (last t) runs (Through-last (MayClear s) t way) ∙ same_running_version s runs x.runs (on_version m r step.mote runs on e)), refl);
-        cut = Through-map (MayClear s) (λ q. LegalAt (step_facts past w.declared true (wide_at w m) None) w.table (Tick m dt draw) (small_mote x) (mote q None) w.table)
+        cut = Through-map (MayClear s) (λ q. LegalAt (step_facts past w.declared true (wide_at w m) None) w.table (Tick m dt word) (small_mote x) (mote q None) w.table)
             (λ q may. (is_on m r on, stays_cut (OrdersWholeRow w.table (small_mote x)) x q (clear_small x q None may), refl)) t way;
-        settled = λ runs e. one_settled r runs (last t) (calm_settled s (last t) (tick_calm laws.changes r.mote s now draw) (settled_here m r on here));
+        settled = λ runs e. one_settled r runs (last t) (calm_settled s (last t) (tick_calm laws.changes r.mote s now word) (settled_here m r on here));
       }
 
-  start_tick_legal : (m dt draw : ℕ) (r : Running) → (site w m).runs ≡ Some r → order_waits (store_at w m) ≡ true → m < length w.sites
-      → LegalDeedDoes past w (Tick m dt draw) (starts w (boot cause.Order (store_at w m)) r.mote.id r.mote.wide (w.moment + dt) draw)
-  start_tick_legal m dt draw r on waits here =
+  start_tick_legal : (m dt word : ℕ) (r : Running) → (site w m).runs ≡ Some r → order_waits (store_at w m) ≡ true → m < length w.sites
+      → LegalDeedDoes past w (Tick m dt word) (starts w (boot cause.Order (store_at w m)) r.mote.id r.mote.wide (w.moment + dt) word)
+  start_tick_legal m dt word r on waits here =
       let x = site w m in
       let s = x.store in
       let now = w.moment + dt in
@@ -170,23 +170,23 @@ module _ (laws : StepLaws) (past : Past) (w : World) (agrees : WorldAgrees w) (s
       let ends = laws.ends in
       let old = (agrees.sites m here).store.agrees in
       let q = kept_runs s s.order.image s.order.version in
-      let n = begun_mote r.mote.id r.mote.wide now draw in
+      let n = begun_mote r.mote.id r.mote.wide now word in
       let May : ImageVersion → Type 0 = OrdersWholeRow w.table (small_mote x) in
       let chosen : b.runs ≡ Some q = tick_starts ends w.table x old agrees.table laws.rows waits (settled_here m r on here) in
-      let is : (runs : Option Running) → running_by b.runs r.mote.id r.mote.wide now draw ≡ Some runs → Some (record { image_version = image_version_of q; mote = n }) ≡ runs =
-      λ runs e. same_running (Some (record { image_version = image_version_of q; mote = n })) runs (ap (λ (o : Option Runs). running_by o r.mote.id r.mote.wide now draw) (sym chosen) ∙ e) in
+      let is : (runs : Option Running) → running_by b.runs r.mote.id r.mote.wide now word ≡ Some runs → Some (record { image_version = image_version_of q; mote = n }) ≡ runs =
+      λ runs e. same_running (Some (record { image_version = image_version_of q; mote = n })) runs (ap (λ (o : Option Runs). running_by o r.mote.id r.mote.wide now word) (sym chosen) ∙ e) in
       record {
         whole = λ runs e.
-            subst (λ (o : Option Running). LegalAt (step_facts past w.declared false (wide_at w m) None) w.table (Tick m dt draw) (small_mote x) (mote (last b.trail) o) w.table) (is runs e)
+            subst (λ (o : Option Running). LegalAt (step_facts past w.declared false (wide_at w m) None) w.table (Tick m dt word) (small_mote x) (mote (last b.trail) o) w.table) (is runs e)
             (is_on m r on, tick_start ends w.table x old n waits chosen, refl);
-        cut = Through-map (λ t. CutStart May (small_mote x) (mote t None)) (λ t. LegalAt (step_facts past w.declared true (wide_at w m) None) w.table (Tick m dt draw) (small_mote x) (mote t None) w.table)
+        cut = Through-map (λ t. CutStart May (small_mote x) (mote t None)) (λ t. LegalAt (step_facts past w.declared true (wide_at w m) None) w.table (Tick m dt word) (small_mote x) (mote t None) w.table)
             (λ t c. (is_on m r on, c, refl)) b.trail
             (cut_start ends w.table x old cause.Order May (λ c e. subst (λ (y : Runs). May (image_version_of y)) (same_runs q c (sym chosen ∙ e)) (tick_waits ends w.table x old waits)));
         settled = λ runs e. if_any (IsSettled (last b.trail)) runs ((boot_start cause.Order s).settled q chosen);
       }
 
-  reset_legal : (m dt draw : ℕ) → m < length w.sites → LegalDeedDoes past w (Reset m dt draw) (starts w (boot cause.Power (store_at w m)) m (wide_at w m) (w.moment + dt) draw)
-  reset_legal m dt draw here =
+  reset_legal : (m dt word : ℕ) → m < length w.sites → LegalDeedDoes past w (Reset m dt word) (starts w (boot cause.Power (store_at w m)) m (wide_at w m) (w.moment + dt) word)
+  reset_legal m dt word here =
       let x = site w m in
       let s = x.store in
       let now = w.moment + dt in
@@ -194,17 +194,17 @@ module _ (laws : StepLaws) (past : Past) (w : World) (agrees : WorldAgrees w) (s
       let ends = laws.ends in
       let old = (agrees.sites m here).store.agrees in
       record {
-        whole = λ runs e. let g = started b.runs m (wide_at w m) now draw runs e in
-            subst (λ (o : Option Running). LegalAt (step_facts past w.declared false (wide_at w m) None) w.table (Reset m dt draw) (small_mote x) (mote (last b.trail) o) w.table) (sym g.2)
-            (legal_start ends w.table x old cause.Power g.0 (begun_mote m (wide_at w m) now draw) g.1, refl);
-        cut = Through-map (λ t. CutStart (MayStart w.table (small_mote x)) (small_mote x) (mote t None)) (λ t. LegalAt (step_facts past w.declared true (wide_at w m) None) w.table (Reset m dt draw) (small_mote x) (mote t None) w.table)
+        whole = λ runs e. let g = started b.runs m (wide_at w m) now word runs e in
+            subst (λ (o : Option Running). LegalAt (step_facts past w.declared false (wide_at w m) None) w.table (Reset m dt word) (small_mote x) (mote (last b.trail) o) w.table) (sym g.2)
+            (legal_start ends w.table x old cause.Power g.0 (begun_mote m (wide_at w m) now word) g.1, refl);
+        cut = Through-map (λ t. CutStart (MayStart w.table (small_mote x)) (small_mote x) (mote t None)) (λ t. LegalAt (step_facts past w.declared true (wide_at w m) None) w.table (Reset m dt word) (small_mote x) (mote t None) w.table)
             (λ t c. (c, refl)) b.trail (cut_start ends w.table x old cause.Power (MayStart w.table (small_mote x)) (chosen_start ends w.table x old cause.Power));
-        settled = λ runs e. let g = started b.runs m (wide_at w m) now draw runs e in if_any (IsSettled (last b.trail)) runs ((boot_start cause.Power s).settled g.0 g.1);
+        settled = λ runs e. let g = started b.runs m (wide_at w m) now word runs e in if_any (IsSettled (last b.trail)) runs ((boot_start cause.Power s).settled g.0 g.1);
       }
 
   -- ---- frames
 
-  module _ (m dt draw : ℕ) (bytes : List ℕ) (r : Running) (on : (site w m).runs ≡ Some r) (here : m < length w.sites) where
+  module _ (m dt word : ℕ) (bytes : List ℕ) (r : Running) (on : (site w m).runs ≡ Some r) (here : m < length w.sites) where
     abbrev Listener : Site
     Listener = site w m
 
@@ -212,14 +212,14 @@ module _ (laws : StepLaws) (past : Past) (w : World) (agrees : WorldAgrees w) (s
     Now = w.moment + dt
 
     abbrev Heard : Trail Store
-    Heard = (heard_of r.mote Listener.store Now draw bytes).trail
+    Heard = (heard_of r.mote Listener.store Now word bytes).trail
 
     -- what an event that brings the frame may change
     abbrev Brought : Bool → SmallMote → Type 0
     Brought blew new = SmallIsOn (small_mote Listener) × (mid : SmallMote) × LegalFrame past blew m (wide_at w m) (Some bytes) (small_mote Listener) mid × (new ≡ off_after blew mid) × (w.table ≡ w.table)
 
     record Hears : Type 0 where
-      pub whole : (runs : Option Running) → ◌≡◌ {A = Option (Option Running)} (Some (Some (record { image_version = r.image_version; mote = (heard_of r.mote Listener.store Now draw bytes).mote }))) (Some runs) → Brought false (mote (last Heard) runs)
+      pub whole : (runs : Option Running) → ◌≡◌ {A = Option (Option Running)} (Some (Some (record { image_version = r.image_version; mote = (heard_of r.mote Listener.store Now word bytes).mote }))) (Some runs) → Brought false (mote (last Heard) runs)
       pub cut : Through (λ s. Brought true (mote s None)) Heard
       pub calm : (runs : Option Running) → IfSome runs (λ q. IsSettled (last Heard))
 
@@ -227,8 +227,8 @@ module _ (laws : StepLaws) (past : Past) (w : World) (agrees : WorldAgrees w) (s
     hears_legal =
         let known = running_at (λ q. RunsWell w.table m (wide_at w m) w.moment Listener.store q) Listener.runs r on (agrees.sites m here).runs in
         let there = running_at (λ q. IfReceives (AllThere m (wide_at w m) past) q.mote.mode) Listener.runs r on (came m here) in
-        let ends = heard_ends laws.changes w.table past m Listener r.mote (wide_at w m) known.wide_is Now draw bytes known.well.mode there in
-        let n = (heard_of r.mote Listener.store Now draw bytes).mote in
+        let ends = heard_ends laws.changes w.table past m Listener r.mote (wide_at w m) known.wide_is Now word bytes known.well.mode there in
+        let n = (heard_of r.mote Listener.store Now word bytes).mote in
         record {
           whole = λ runs e. (is_on m r on, mote (last Heard) Listener.runs, ends.whole.0, same_running_version (last Heard) runs Listener.runs (on_version m r n runs on e), refl);
           cut = Through-map (λ t. LegalMessage (Came m bytes past) true m (wide_at w m) (message_of bytes (wide_at w m)) (small_mote Listener) (mote t Listener.runs) × IsCalm Listener.store t) (λ s. Brought true (mote s None))
@@ -236,41 +236,41 @@ module _ (laws : StepLaws) (past : Past) (w : World) (agrees : WorldAgrees w) (s
           calm = λ runs. if_any (IsSettled (last Heard)) runs (calm_settled Listener.store (last Heard) ends.whole.1 (settled_here m r on here));
         }
 
-  hear_legal : (m dt draw number : ℕ) (f : Sent) (r : Running) → (site w m).runs ≡ Some r → frame_at w number ≡ Some f → m < length w.sites
-      → LegalDeedDoes past w (Hear m dt draw number) (hears w m (w.moment + dt) draw f.bytes r)
-  hear_legal m dt draw number f r on at here =
-      let h = hears_legal m dt draw f.bytes r on here in
-      subst (λ (frame : Option (List ℕ)). LegalDeed past w m frame (Hear m dt draw number) (hearing_of w m (w.moment + dt) draw f.bytes r)) (sym (ap (option_map (λ (g : Sent). g.bytes)) at))
+  hear_legal : (m dt word number : ℕ) (f : Sent) (r : Running) → (site w m).runs ≡ Some r → frame_at w number ≡ Some f → m < length w.sites
+      → LegalDeedDoes past w (Hear m dt word number) (hears w m (w.moment + dt) word f.bytes r)
+  hear_legal m dt word number f r on at here =
+      let h = hears_legal m dt word f.bytes r on here in
+      subst (λ (frame : Option (List ℕ)). LegalDeed past w m frame (Hear m dt word number) (hearing_of w m (w.moment + dt) word f.bytes r)) (sym (ap (option_map (λ (g : Sent). g.bytes)) at))
       (record { whole = λ runs same. h.whole runs same; cut = h.cut; settled = λ runs same. h.calm runs })
 
-  last_legal : (from m dt draw : ℕ) (f : Sent) (r : Running) → (site w m).runs ≡ Some r → last_frame w from ≡ Some f → m < length w.sites
-      → LegalDeedDoes past w (Last from m dt draw) (hears w m (w.moment + dt) draw f.bytes r)
-  last_legal from m dt draw f r on at here =
-      let h = hears_legal m dt draw f.bytes r on here in
-      subst (λ (frame : Option (List ℕ)). LegalDeed past w m frame (Last from m dt draw) (hearing_of w m (w.moment + dt) draw f.bytes r)) (sym (ap (option_map (λ (g : Sent). g.bytes)) at))
+  last_legal : (from m dt word : ℕ) (f : Sent) (r : Running) → (site w m).runs ≡ Some r → last_frame w from ≡ Some f → m < length w.sites
+      → LegalDeedDoes past w (Last from m dt word) (hears w m (w.moment + dt) word f.bytes r)
+  last_legal from m dt word f r on at here =
+      let h = hears_legal m dt word f.bytes r on here in
+      subst (λ (frame : Option (List ℕ)). LegalDeed past w m frame (Last from m dt word) (hearing_of w m (w.moment + dt) word f.bytes r)) (sym (ap (option_map (λ (g : Sent). g.bytes)) at))
       (record { whole = λ runs same. h.whole runs same; cut = h.cut; settled = λ runs same. h.calm runs })
 
-  frame_legal : (m dt draw : ℕ) (bytes : List ℕ) (r : Running) → (site w m).runs ≡ Some r → m < length w.sites → LegalDeedDoes past w (Frame m dt draw bytes) (hears w m (w.moment + dt) draw bytes r)
-  frame_legal m dt draw bytes r on here =
-      let h = hears_legal m dt draw bytes r on here in
+  frame_legal : (m dt word : ℕ) (bytes : List ℕ) (r : Running) → (site w m).runs ≡ Some r → m < length w.sites → LegalDeedDoes past w (Frame m dt word bytes) (hears w m (w.moment + dt) word bytes r)
+  frame_legal m dt word bytes r on here =
+      let h = hears_legal m dt word bytes r on here in
       record { whole = λ runs same. h.whole runs same; cut = h.cut; settled = λ runs same. h.calm runs }
 
   -- ---- orders
 
   -- the store of a mote that goes on with its new volume
-  reload_settled : (m now draw : ℕ) (t : Store) (runs : Option Running) → m < length w.sites → (IsSettled (store_at w m) → IsSettled t) → Some (reloaded (site w m).runs now draw) ≡ Some runs → IfSome runs (λ r. IsSettled t)
-  reload_settled m now draw t runs here f e =
+  reload_settled : (m now word : ℕ) (t : Store) (runs : Option Running) → m < length w.sites → (IsSettled (store_at w m) → IsSettled t) → Some (reloaded (site w m).runs now word) ≡ Some runs → IfSome runs (λ r. IsSettled t)
+  reload_settled m now word t runs here f e =
       let o = (site w m).runs in
-      let is = same_running (reloaded o now draw) runs e in
-      if_on (IsSettled (store_at w m)) (IsSettled t) o runs (λ none. reloaded_none o now draw (is ∙ none)) (λ none. sym is ∙ none_reloaded o now draw none) f (settled m here)
+      let is = same_running (reloaded o now word) runs e in
+      if_on (IsSettled (store_at w m)) (IsSettled t) o runs (λ none. reloaded_none o now word (is ∙ none)) (λ none. sym is ∙ none_reloaded o now word none) f (settled m here)
 
-  reload_version : (m now draw : ℕ) (runs : Option Running) → Some (reloaded (site w m).runs now draw) ≡ Some runs → running_image_version runs ≡ running_image_version (site w m).runs
-  reload_version m now draw runs e = ap running_image_version (sym (same_running (reloaded (site w m).runs now draw) runs e)) ∙ reloaded_version (site w m).runs now draw
+  reload_version : (m now word : ℕ) (runs : Option Running) → Some (reloaded (site w m).runs now word) ≡ Some runs → running_image_version runs ≡ running_image_version (site w m).runs
+  reload_version m now word runs e = ap running_image_version (sym (same_running (reloaded (site w m).runs now word) runs e)) ∙ reloaded_version (site w m).runs now word
 
-  order_legal : (m number image version dt draw : ℕ) → order_refusal (store_at w m) (order_of number image version) ≡ None → m < length w.sites
-      → LegalDeedDoes past w (OrderEvent m number image version dt draw) (acts w m (order_trail (store_at w m) (order_of number image version)) w.table (w.moment + dt) draw)
+  order_legal : (m number image version dt word : ℕ) → order_refusal (store_at w m) (order_of number image version) ≡ None → m < length w.sites
+      → LegalDeedDoes past w (OrderEvent m number image version dt word) (acts w m (order_trail (store_at w m) (order_of number image version)) w.table (w.moment + dt) word)
   unfolding Rattle.dg_nor.specs.Trail.last_of
-  order_legal m number image version dt draw none here =
+  order_legal m number image version dt word none here =
       let s = store_at w m in
       let x = site w m in
       let order = order_of number image version in
@@ -278,16 +278,16 @@ module _ (laws : StepLaws) (past : Past) (w : World) (agrees : WorldAgrees w) (s
       let more = larger s order none in
       let mid : SmallMote = record (small_mote x) { order = order } in
       record {
-        whole = λ runs e. (mid, record { larger = more; change = inl refl }, same_running_version t runs x.runs (reload_version m (w.moment + dt) draw runs e), refl);
-        cut = Through-stepping (λ q. LegalAt (step_facts past w.declared true (wide_at w m) None) w.table (OrderEvent m number image version dt draw) (small_mote x) (mote q None) w.table) s (commit_operations s.room) t
+        whole = λ runs e. (mid, record { larger = more; change = inl refl }, same_running_version t runs x.runs (reload_version m (w.moment + dt) word runs e), refl);
+        cut = Through-stepping (λ q. LegalAt (step_facts past w.declared true (wide_at w m) None) w.table (OrderEvent m number image version dt word) (small_mote x) (mote q None) w.table) s (commit_operations s.room) t
             (small_mote x, record { larger = more; change = inr (refl, refl) }, refl, refl)
             (mid, record { larger = more; change = inl refl }, refl, refl);
-        settled = λ runs e. reload_settled m (w.moment + dt) draw t runs here (λ old three. let empty : s.room ≡ 0 = old three in omega (arith, empty)) e;
+        settled = λ runs e. reload_settled m (w.moment + dt) word t runs here (λ old three. let empty : s.room ≡ 0 = old three in omega (arith, empty)) e;
       }
 
   -- ---- injections
 
-  module _ (m image version dt draw : ℕ) (row : Row) (known : row_at w.declared image version ≡ Some row) (none : inject_refusal (store_at w m) row ≡ None) (here : m < length w.sites)
+  module _ (m image version dt word : ℕ) (row : Row) (known : row_at w.declared image version ≡ Some row) (none : inject_refusal (store_at w m) row ≡ None) (here : m < length w.sites)
       (same : (kept : Row) → row_at w.table image version ≡ Some kept → kept ≡ row) where
     abbrev Here : Site
     Here = site w m
@@ -314,7 +314,7 @@ module _ (laws : StepLaws) (past : Past) (w : World) (agrees : WorldAgrees w) (s
       how = ⊎_elim (λ done. inl done) (λ part. inr (part.0, subst (λ (o : Option Holding). CutHolding o row h) (sym held_old) part.1)) how;
     }
 
-    inject_legal : LegalDeedDoes past w (Inject m image version dt draw) (acts w m (inject_trail (store_at w m) row) (with_row w.table row) (w.moment + dt) draw)
+    inject_legal : LegalDeedDoes past w (Inject m image version dt word) (acts w m (inject_trail (store_at w m) row) (with_row w.table row) (w.moment + dt) word)
     inject_legal =
         let s = Here.store in
         let t = last (inject_trail s row) in
@@ -323,32 +323,33 @@ module _ (laws : StepLaws) (past : Past) (w : World) (agrees : WorldAgrees w) (s
           whole = λ runs e. (
             taking (small_mote Here) image (option_map holding way.here),
             inject_is_legal false (option_map holding way.here) (inl (refl, inject_whole More s row fact.in_table fact.within fact.agrees_more none)),
-            inject_small Here row image t way runs Here.runs fact.image_is (reload_version m (w.moment + dt) draw runs e),
+            inject_small Here row image t way runs Here.runs fact.image_is (reload_version m (w.moment + dt) word runs e),
           );
-          cut = Through-map (OnInject s row) (λ q. LegalAt (step_facts past w.declared true (wide_at w m) None) w.table (Inject m image version dt draw) (small_mote Here) (mote q None) More)
+          cut = Through-map (OnInject s row) (λ q. LegalAt (step_facts past w.declared true (wide_at w m) None) w.table (Inject m image version dt word) (small_mote Here) (mote q None) More)
               (λ q on. (
                 taking (small_mote Here) image (option_map holding on.here),
                 inject_is_legal true (option_map holding on.here) (inr (refl, on.how)),
                 inject_small Here row image q on None None fact.image_is refl,
               ))
               (inject_trail s row) (inject_way More s row fact.in_table fact.within fact.agrees_more none);
-          settled = λ runs e. reload_settled m (w.moment + dt) draw t runs here (λ old three. let empty : s.room ≡ 0 = old (sym way.gesture ∙ three) in let less = way.room in omega (arith, empty, less)) e;
+          settled = λ runs e. reload_settled m (w.moment + dt) word t runs here (λ old three. let empty : s.room ≡ 0 = old (sym way.gesture ∙ three) in let less = way.room in omega (arith, empty, less)) e;
         }
 
   -- ---- every event
 
   legal_deed : (e : Event) → EventInRange (length w.sites) e → TrueEvent w e → LegalDeedDoes past w e (does w e)
-  legal_deed =
-      does_cases laws.restarts w (λ f. Unit {0}) (all_sent w.sent) (λ e D. EventInRange (length w.sites) e → TrueEvent w e → LegalDeedDoes past w e D)
-      (λ e why fits honest. tt)
-      (λ m dt draw r on fits honest. tick_legal m dt draw r on fits)
-      (λ m dt draw r on waits fits honest. start_tick_legal m dt draw r on waits fits)
-      (λ m dt draw fits honest. reset_legal m dt draw fits)
-      (λ m dt draw number f r on at q fits honest. hear_legal m dt draw number f r on at fits.0)
-      (λ from m dt draw f r on at q fits honest. last_legal from m dt draw f r on at fits.second)
-      (λ m dt draw bytes r on fits honest. frame_legal m dt draw bytes r on fits.0)
-      (λ m image version dt draw row known none fits honest. inject_legal m image version dt draw row known none fits.0 (λ kept e. honest row kept known e))
-      (λ m number image version dt draw none fits honest. order_legal m number image version dt draw none fits.0)
+  legal_deed e fits honest =
+      does_cases laws.restarts w (λ f. Unit {0}) (all_sent w.sent) (λ e D. does w e ≡ D → EventInRange (length w.sites) e → TrueEvent w e → LegalDeedDoes past w e D)
+      (λ e why same fits honest. tt)
+      (λ m dt word r on same fits honest. tick_legal m dt word r on fits)
+      (λ m dt word r on waits same fits honest. start_tick_legal m dt word r on waits fits)
+      (λ m dt word same fits honest. reset_legal m dt word fits)
+      (λ m dt word number f r on at q same fits honest. hear_legal m dt word number f r on at fits.0)
+      (λ from m dt word f r on at q same fits honest. last_legal from m dt word f r on at fits.second)
+      (λ m dt word bytes r on same fits honest. frame_legal m dt word bytes r on fits.0)
+      (λ m image version dt word row known none same fits honest. inject_legal m image version dt word row known none fits.0 (λ kept e. honest (subst IsTaken (sym same) tt) row kept known e))
+      (λ m number image version dt word none same fits honest. order_legal m number image version dt word none fits.0)
+      e refl fits honest
 
   -- ---- every step
 

@@ -73,46 +73,46 @@ module _ (laws : StepLaws) (w : World) (golden : WorldKeepsGolden w) where
   one_asks : (r : Running) (runs : Option Running) → AsksForOthers r.mote.mode → ◌≡◌ {A = Option (Option Running)} (Some (Some r)) (Some runs) → AsksOthers runs
   one_asks r runs asks e = subst AsksOthers (same_running (Some r) runs e) asks
 
-  start_asks : (o : Option Runs) (id : ℕ) (wide : Bool) (now draw : ℕ) (runs : Option Running) → running_by o id wide now draw ≡ Some runs → AsksOthers runs
-  start_asks None id wide now draw runs e = absurd cc
-  start_asks (Some r) id wide now draw runs e = one_asks (record { image_version = image_version_of r; mote = begun_mote id wide now draw }) runs tt e
+  start_asks : (o : Option Runs) (id : ℕ) (wide : Bool) (now word : ℕ) (runs : Option Running) → running_by o id wide now word ≡ Some runs → AsksOthers runs
+  start_asks None id wide now word runs e = absurd cc
+  start_asks (Some r) id wide now word runs e = one_asks (record { image_version = image_version_of r; mote = begun_mote id wide now word }) runs tt e
 
-  reload_asks : (o runs : Option Running) (now draw : ℕ) → Some (reloaded o now draw) ≡ Some runs → AsksOthers runs
-  reload_asks o runs now draw e = subst AsksOthers (same_running (reloaded o now draw) runs e) (each o)
+  reload_asks : (o runs : Option Running) (now word : ℕ) → Some (reloaded o now word) ≡ Some runs → AsksOthers runs
+  reload_asks o runs now word e = subst AsksOthers (same_running (reloaded o now word) runs e) (each o)
     where
-      each : (o : Option Running) → AsksOthers (reloaded o now draw)
+      each : (o : Option Running) → AsksOthers (reloaded o now word)
       each None = tt
       each (Some r) = tt
 
-  start_lands : (k : StartCause) (m id : ℕ) (wide : Bool) (now draw : ℕ) → m < length w.sites → LandsDoes Golden (starts w (boot k (store_at w m)) id wide now draw)
-  start_lands k m id wide now draw low = lands _ (golden_boot_way k (store_at w m) (golden m low).kept) (λ runs e. start_asks (boot k (store_at w m)).runs id wide now draw runs e)
+  start_lands : (k : StartCause) (m id : ℕ) (wide : Bool) (now word : ℕ) → m < length w.sites → LandsDoes Golden (starts w (boot k (store_at w m)) id wide now word)
+  start_lands k m id wide now word low = lands _ (golden_boot_way k (store_at w m) (golden m low).kept) (λ runs e. start_asks (boot k (store_at w m)).runs id wide now word runs e)
 
-  hear_lands : (m now draw : ℕ) (bytes : List ℕ) (r : Running) → m < length w.sites → (site w m).runs ≡ Some r → LandsDoes Golden (hears w m now draw bytes r)
-  hear_lands m now draw bytes r low is =
+  hear_lands : (m now word : ℕ) (bytes : List ℕ) (r : Running) → m < length w.sites → (site w m).runs ≡ Some r → LandsDoes Golden (hears w m now word bytes r)
+  hear_lands m now word bytes r low is =
       let s = store_at w m in
       let asks = asks_here m r low is in
-      lands _ (golden_heard laws.changes r.mote s now draw (golden m low).kept bytes asks)
-      (λ runs e. one_asks (record { image_version = r.image_version; mote = (heard_of r.mote s now draw bytes).mote }) runs (heard_asks laws.changes r.mote s now draw bytes asks) e)
+      lands _ (golden_heard laws.changes r.mote s now word (golden m low).kept bytes asks)
+      (λ runs e. one_asks (record { image_version = r.image_version; mote = (heard_of r.mote s now word bytes).mote }) runs (heard_asks laws.changes r.mote s now word bytes asks) e)
 
-  tick_lands : (m now draw : ℕ) (r : Running) → m < length w.sites → (site w m).runs ≡ Some r
-      → LandsDoes Golden (let step = tick_of r.mote (store_at w m) now draw in goes_on w step.trail step.sent r.image_version step.mote)
-  tick_lands m now draw r low is =
+  tick_lands : (m now word : ℕ) (r : Running) → m < length w.sites → (site w m).runs ≡ Some r
+      → LandsDoes Golden (let step = tick_of r.mote (store_at w m) now word in goes_on w step.trail step.sent r.image_version step.mote)
+  tick_lands m now word r low is =
       let s = store_at w m in
-      lands _ (golden_ticked laws.changes r.mote s now draw (golden m low).kept)
-      (λ runs e. one_asks (record { image_version = r.image_version; mote = (tick_of r.mote s now draw).mote }) runs (ticked_asks laws.changes r.mote s now draw (asks_here m r low is)) e)
+      lands _ (golden_ticked laws.changes r.mote s now word (golden m low).kept)
+      (λ runs e. one_asks (record { image_version = r.image_version; mote = (tick_of r.mote s now word).mote }) runs (ticked_asks laws.changes r.mote s now word (asks_here m r low is)) e)
 
   golden_does : (e : Event) → EventInRange (length w.sites) e → LandsDoes Golden (does w e)
   golden_does =
       does_cases laws.restarts w (λ f. Unit {0}) (all_sent w.sent) (λ e D. EventInRange (length w.sites) e → LandsDoes Golden D)
       (λ e why fits. tt)
-      (λ m dt draw r is fits. tick_lands m (w.moment + dt) draw r fits is)
-      (λ m dt draw r is waits fits. start_lands cause.Order m r.mote.id r.mote.wide (w.moment + dt) draw fits)
-      (λ m dt draw fits. start_lands cause.Power m m (wide_at w m) (w.moment + dt) draw fits)
-      (λ m dt draw number f r is at q fits. hear_lands m (w.moment + dt) draw f.bytes r fits.0 is)
-      (λ from m dt draw f r is at q fits. hear_lands m (w.moment + dt) draw f.bytes r fits.second is)
-      (λ m dt draw bytes r is fits. hear_lands m (w.moment + dt) draw bytes r fits.0 is)
-      (λ m image version dt draw row known none fits. lands _ (golden_inject row (refused_not (store_at w m) row none).0 (store_at w m) (golden m fits.0).kept) (λ runs e. reload_asks (site w m).runs runs (w.moment + dt) draw e))
-      (λ m number image version dt draw none fits. lands _ (golden_order (store_at w m) number image version (golden m fits.0).kept) (λ runs e. reload_asks (site w m).runs runs (w.moment + dt) draw e))
+      (λ m dt word r is fits. tick_lands m (w.moment + dt) word r fits is)
+      (λ m dt word r is waits fits. start_lands cause.Order m r.mote.id r.mote.wide (w.moment + dt) word fits)
+      (λ m dt word fits. start_lands cause.Power m m (wide_at w m) (w.moment + dt) word fits)
+      (λ m dt word number f r is at q fits. hear_lands m (w.moment + dt) word f.bytes r fits.0 is)
+      (λ from m dt word f r is at q fits. hear_lands m (w.moment + dt) word f.bytes r fits.second is)
+      (λ m dt word bytes r is fits. hear_lands m (w.moment + dt) word bytes r fits.0 is)
+      (λ m image version dt word row known none fits. lands _ (golden_inject row (refused_not (store_at w m) row none).0 (store_at w m) (golden m fits.0).kept) (λ runs e. reload_asks (site w m).runs runs (w.moment + dt) word e))
+      (λ m number image version dt word none fits. lands _ (golden_order (store_at w m) number image version (golden m fits.0).kept) (λ runs e. reload_asks (site w m).runs runs (w.moment + dt) word e))
 
   pub step_keeps_golden : (x : Step) (v : World) (reports : List Report) → StepInRange (length w.sites) x → WorldStep w x v reports → WorldKeepsGolden v
   step_keeps_golden x v reports fits did =
@@ -120,27 +120,27 @@ module _ (laws : StepLaws) (w : World) (golden : WorldKeepsGolden w) where
 
   -- ---- a start finds an image
 
-  some_runs : (o : Option Runs) (id : ℕ) (wide : Bool) (now draw : ℕ) → o ≢ None → running_by o id wide now draw ≢ None
-  some_runs None id wide now draw found e = found refl
-  some_runs (Some r) id wide now draw found e = cc
+  some_runs : (o : Option Runs) (id : ℕ) (wide : Bool) (now word : ℕ) → o ≢ None → running_by o id wide now word ≢ None
+  some_runs None id wide now word found e = found refl
+  some_runs (Some r) id wide now word found e = cc
 
-  boot_found : (m id : ℕ) (wide : Bool) (k : StartCause) (now draw : ℕ) → m < length w.sites → running_by (boot k (store_at w m)).runs id wide now draw ≢ None
-  boot_found m id wide k now draw low =
+  boot_found : (m id : ℕ) (wide : Bool) (k : StartCause) (now word : ℕ) → m < length w.sites → running_by (boot k (store_at w m)).runs id wide now word ≢ None
+  boot_found m id wide k now word low =
       let g = (golden m low).kept in
-      some_runs (boot k (store_at w m)).runs id wide now draw (λ none. (boot_start k (store_at w m)).found ((laws.rows g.row g.is_row).is_sound (store_at w m) 0 g.whole) none)
+      some_runs (boot k (store_at w m)).runs id wide now word (λ none. (boot_start k (store_at w m)).found ((laws.rows g.row g.is_row).is_sound (store_at w m) 0 g.whole) none)
 
   pub finds_image : (e : Event) → EventInRange (length w.sites) e → FindsImage (does w e)
   finds_image =
       does_cases laws.restarts w (λ f. Unit {0}) (all_sent w.sent) (λ e D. EventInRange (length w.sites) e → FindsImage D)
       (λ e why fits. tt)
-      (λ m dt draw r is fits e. cc)
-      (λ m dt draw r is waits fits. boot_found m r.mote.id r.mote.wide cause.Order (w.moment + dt) draw fits)
-      (λ m dt draw fits. boot_found m m (wide_at w m) cause.Power (w.moment + dt) draw fits)
-      (λ m dt draw number f r is at q fits e. cc)
-      (λ from m dt draw f r is at q fits e. cc)
-      (λ m dt draw bytes r is fits e. cc)
-      (λ m image version dt draw row known none fits e. cc)
-      (λ m number image version dt draw none fits e. cc)
+      (λ m dt word r is fits e. cc)
+      (λ m dt word r is waits fits. boot_found m r.mote.id r.mote.wide cause.Order (w.moment + dt) word fits)
+      (λ m dt word fits. boot_found m m (wide_at w m) cause.Power (w.moment + dt) word fits)
+      (λ m dt word number f r is at q fits e. cc)
+      (λ from m dt word f r is at q fits e. cc)
+      (λ m dt word bytes r is fits e. cc)
+      (λ m image version dt word row known none fits e. cc)
+      (λ m number image version dt word none fits e. cc)
 
   pub goes_on_finding : (x : Step) (v : World) → StepInRange (length w.sites) x → EndsRun w x v → ⊥
   goes_on_finding x v fits ends = subst FindsImage ends.goes (finds_image x.event fits.event) ends.none

@@ -41,20 +41,20 @@ same_calm : (s t : Store) → t ≡ s → IsCalm s t
 same_calm s t same = subst (IsCalm s) (sym same) (record { gesture = inl refl; room = omega arith })
 
 -- a tick leaves the small state as it is
-pub tick_calm : (laws : ChangeLaws) (m : MoteState) (s : Store) (now draw : ℕ) → IsCalm s (last (tick_of m s now draw).trail)
-tick_calm laws m s now draw =
-    let t = (tick_of m s now draw).trail in
-    ⊎_elim (λ same. same_calm s (last t) same) (λ cleared. subst (IsCalm s) (sym cleared) (record { gesture = inr refl; room = omega arith })) (Through-last (MayClear s) t (laws.ticks m s now draw))
+pub tick_calm : (laws : ChangeLaws) (m : MoteState) (s : Store) (now word : ℕ) → IsCalm s (last (tick_of m s now word).trail)
+tick_calm laws m s now word =
+    let t = (tick_of m s now word).trail in
+    ⊎_elim (λ same. same_calm s (last t) same) (λ cleared. subst (IsCalm s) (sym cleared) (record { gesture = inr refl; room = omega arith })) (Through-last (MayClear s) t (laws.ticks m s now word))
 
 pub clear_small : (x : Site) (t : Store) (runs : Option Running) → MayClear x.store t → mote t runs ≡ mote x.store runs
 clear_small x t runs may = ⊎_elim (λ same. ap (λ (s : Store). mote s runs) same) (λ cleared. ap (λ (s : Store). mote s runs) cleared) may
 
 -- ---- frames
 
-module _ (laws : ChangeLaws) (table : List Row) (past : Past) (m : ℕ) (x : Site) (n : MoteState) (wide : Bool) (same : n.wide ≡ wide) (now draw : ℕ) (bytes : List ℕ)
+module _ (laws : ChangeLaws) (table : List Row) (past : Past) (m : ℕ) (x : Site) (n : MoteState) (wide : Bool) (same : n.wide ≡ wide) (now word : ℕ) (bytes : List ℕ)
     (agrees : ModeAgrees table x.store n.mode) (there : IfReceives (AllThere m wide past) n.mode) where
   abbrev Step : Trail Store
-  Step = (heard_of n x.store now draw bytes).trail
+  Step = (heard_of n x.store now word bytes).trail
 
   -- this store may be left, by whether the power was cut, where the frame is read so
   abbrev May : Result Message FrameFault → Bool → Store → Type 0
@@ -84,21 +84,21 @@ module _ (laws : ChangeLaws) (table : List Row) (past : Past) (m : ℕ) (x : Sit
   advert_ends : (kind : Bool) (source : ℕ) (entries : List Entry) (order : Order) (r : Result Message FrameFault) → message_of bytes n.wide ≡ Ok (advert_by kind source entries order)
       → ((blew : Bool) (t : Store) → TakesAdvert entries order blew x.store t → May r blew t) → Ends r
   advert_ends kind source entries order r is may =
-      let known = laws.adverts n x.store now draw bytes kind source entries order is in
+      let known = laws.adverts n x.store now word bytes kind source entries order is in
       record { cut = Through-map (TakesAdvert entries order true x.store) (May r true) (may true) Step known.0; whole = may false (last Step) known.1 }
 
   ends_by : (r : Result Message FrameFault) → message_of bytes n.wide ≡ r → Ends r
-  ends_by (Err fault) is = rests_ends (Err fault) (λ blew. (refl, calm_here)) (refused_trail laws n x.store now draw bytes fault is)
+  ends_by (Err fault) is = rests_ends (Err fault) (λ blew. (refl, calm_here)) (refused_trail laws n x.store now word bytes fault is)
   ends_by (Ok (Advert source entries order)) is =
       advert_ends false source entries order (Ok (Advert source entries order)) is (λ blew t h. (advert_legal blew entries order x t h, takes_calm entries order blew t h))
   ends_by (Ok (Request source to image version page want)) is =
-      rests_ends (Ok (Request source to image version page want)) (λ blew. (refl, calm_here)) (laws.requests n x.store now draw bytes source to image version page want is)
+      rests_ends (Ok (Request source to image version page want)) (λ blew. (refl, calm_here)) (laws.requests n x.store now word bytes source to image version page want is)
   ends_by (Ok (Wide source entries order)) is =
       advert_ends true source entries order (Ok (Wide source entries order)) is (λ blew t h. (advert_legal blew entries order x t h, takes_calm entries order blew t h))
   ends_by (Ok (Packet source image version page q content)) is =
       let r : Result Message FrameFault = Ok (Packet source image version page q content) in
       let Q : Store → Type 0 = λ t. (t ≡ x.store) ⊎ Completes n.mode image version page q x.store t in
-      let known : Through Q Step = laws.packets n x.store now draw bytes source image version page q content is in
+      let known : Through Q Step = laws.packets n x.store now word bytes source image version page q content is in
       let may : (blew : Bool) (t : Store) → Q t → May r blew t =
       λ blew t c. (packet_legal past m wide bytes x source image version page q content (ap (message_of bytes) (sym same) ∙ is) table n.mode agrees there t c, completes_calm image version page q t c) in
       record { cut = Through-map Q (May r true) (may true) Step known; whole = may false (last Step) (Through-last Q Step known) }

@@ -58,7 +58,7 @@ cut_kept row h (Some new) may how =
     may)
     how
 
-module _ (w : World) (declared table after : List Row) (blew : Bool) (m image version dt draw : ℕ) (old mid : SmallMote) (legal : LegalInject declared table after blew (record { image = image; version = version }) old mid) (h : Holding) (had : holds old image ≡ Some h) where
+module _ (w : World) (declared table after : List Row) (blew : Bool) (m image version dt word : ℕ) (old mid : SmallMote) (legal : LegalInject declared table after blew (record { image = image; version = version }) old mid) (h : Holding) (had : holds old image ≡ Some h) where
   injected_within : image < length old.holdings
   injected_within =
       ⊎_elim (λ low. low) (λ past. absurd (none_some h (sym (get_or_past old.holdings image None past) ∙ had))) (cases_lt image (length old.holdings))
@@ -69,14 +69,14 @@ module _ (w : World) (declared table after : List Row) (blew : Bool) (m image ve
   may_here : MayInject (Some h) legal.row
   may_here = subst (λ (o : Option Holding). MayInject o legal.row) had legal.before
 
-  newer : (x : Holding) → x.version < legal.row.version → Replaces w (Inject m image version dt draw) image x
+  newer : (x : Holding) → x.version < legal.row.version → Replaces w (Inject m image version dt word) image x
   newer x low = let at = (row_at-image_version declared image version legal.row legal.is_declared).1 in (refl, omega (arith, low, at))
 
-  injected_after : After w (Inject m image version dt draw) blew image h (holds mid image)
+  injected_after : After w (Inject m image version dt word) blew image h (holds mid image)
   injected_after =
-      subst (After w (Inject m image version dt draw) blew image h) (sym injected_here)
+      subst (After w (Inject m image version dt word) blew image h) (sym injected_here)
       (⊎_elim
-      (λ all. subst (After w (Inject m image version dt draw) blew image h) (sym all.1) (inl (whole_kept legal.row h may_here)))
+      (λ all. subst (After w (Inject m image version dt word) blew image h) (sym all.1) (inl (whole_kept legal.row h may_here)))
       (λ part. ⊎_elim
       (λ kept. inl kept)
       (λ lost. inr (lost.0, newer h lost.1, part.0))
@@ -201,21 +201,21 @@ golden_frame wide (Some bytes) past blew m old mid new legal is =
 
 at_mote : (past : Past) (w : World) (declared table : List Row) (blew : Bool) (e : Event) (old new : SmallMote) (after : List Row) (i : ℕ) (h : Holding) → LegalAt (step_facts past declared blew (wide_at w (mote_of e)) (brought w e)) table e old new after → holds old i ≡ Some h
     → After w e blew i h (holds new i)
-at_mote past w declared table blew (Hear m dt draw number) old new after i h legal had = framed_then (wide_at w m) (brought w (Hear m dt draw number)) blew i h past m old legal.1 new had legal.2 legal.3
-at_mote past w declared table blew (Last from m dt draw) old new after i h legal had = framed_then (wide_at w m) (brought w (Last from m dt draw)) blew i h past m old legal.1 new had legal.2 legal.3
-at_mote past w declared table blew (Frame m dt draw bytes) old new after i h legal had = framed_then (wide_at w m) (Some bytes) blew i h past m old legal.1 new had legal.2 legal.3
-at_mote past w declared table blew (Tick m dt draw) old new after i h legal had = inl (kept_itself (holds new i) h (tick_holds table blew old new i legal.1 ∙ had))
-at_mote past w declared table blew (Reset m dt draw) old new after i h legal had = inl (kept_itself (holds new i) h (reset_holds table blew old new i legal.0 ∙ had))
-at_mote past w declared table blew (OrderEvent m number image version dt draw) old new after i h legal had =
+at_mote past w declared table blew (Hear m dt word number) old new after i h legal had = framed_then (wide_at w m) (brought w (Hear m dt word number)) blew i h past m old legal.1 new had legal.2 legal.3
+at_mote past w declared table blew (Last from m dt word) old new after i h legal had = framed_then (wide_at w m) (brought w (Last from m dt word)) blew i h past m old legal.1 new had legal.2 legal.3
+at_mote past w declared table blew (Frame m dt word bytes) old new after i h legal had = framed_then (wide_at w m) (Some bytes) blew i h past m old legal.1 new had legal.2 legal.3
+at_mote past w declared table blew (Tick m dt word) old new after i h legal had = inl (kept_itself (holds new i) h (tick_holds table blew old new i legal.1 ∙ had))
+at_mote past w declared table blew (Reset m dt word) old new after i h legal had = inl (kept_itself (holds new i) h (reset_holds table blew old new i legal.0 ∙ had))
+at_mote past w declared table blew (OrderEvent m number image version dt word) old new after i h legal had =
     inl (kept_itself (holds new i) h (order_holds blew (record { number = number; image = image; version = version }) old new legal.0 i legal.1 legal.2 ∙ had))
-at_mote past w declared table blew (Inject m image version dt draw) old new after i h legal had =
-    let e = Inject m image version dt draw in
+at_mote past w declared table blew (Inject m image version dt word) old new after i h legal had =
+    let e = Inject m image version dt word in
     let mid = legal.0 in
     let at : holds new i ≡ holds mid i = ap (λ (x : SmallMote). holds x i) legal.2 ∙ off_holds blew mid i in
     subst (After w e blew i h) (sym at)
     (⊎_elim
     (λ same. subst (λ (n : ℕ). After w e blew n h (holds mid n)) (sym same)
-    (injected_after w declared table after blew m image version dt draw old mid legal.1 h (ap (holds old) (sym same) ∙ had)))
+    (injected_after w declared table after blew m image version dt word old mid legal.1 h (ap (holds old) (sym same) ∙ had)))
     (λ other. inl (kept_itself (holds mid i) h (injected_other declared table after blew image version i old mid legal.1 other ∙ had)))
     (cases_eq i image))
 
@@ -248,13 +248,13 @@ keeps_all past p legal = keeps_item (past_of past) p.item p.before p.after legal
 -- ---- golden
 
 golden_at : (past : Past) (wide : Bool) (frame : Option (List ℕ)) (declared table : List Row) (blew : Bool) (e : Event) (old new : SmallMote) (after : List Row) → LegalAt (step_facts past declared blew wide frame) table e old new after → holds new 0 ≡ holds old 0
-golden_at past wide frame declared table blew (Tick m dt draw) old new after legal = tick_holds table blew old new 0 legal.1
-golden_at past wide frame declared table blew (Reset m dt draw) old new after legal = reset_holds table blew old new 0 legal.0
-golden_at past wide frame declared table blew (OrderEvent m number image version dt draw) old new after legal = order_holds blew (record { number = number; image = image; version = version }) old new legal.0 0 legal.1 legal.2
-golden_at past wide frame declared table blew (Hear m dt draw number) old new after legal = golden_frame wide frame past blew m old legal.1 new legal.2 legal.3
-golden_at past wide frame declared table blew (Last from m dt draw) old new after legal = golden_frame wide frame past blew m old legal.1 new legal.2 legal.3
-golden_at past wide frame declared table blew (Frame m dt draw bytes) old new after legal = golden_frame wide frame past blew m old legal.1 new legal.2 legal.3
-golden_at past wide frame declared table blew (Inject m image version dt draw) old new after legal =
+golden_at past wide frame declared table blew (Tick m dt word) old new after legal = tick_holds table blew old new 0 legal.1
+golden_at past wide frame declared table blew (Reset m dt word) old new after legal = reset_holds table blew old new 0 legal.0
+golden_at past wide frame declared table blew (OrderEvent m number image version dt word) old new after legal = order_holds blew (record { number = number; image = image; version = version }) old new legal.0 0 legal.1 legal.2
+golden_at past wide frame declared table blew (Hear m dt word number) old new after legal = golden_frame wide frame past blew m old legal.1 new legal.2 legal.3
+golden_at past wide frame declared table blew (Last from m dt word) old new after legal = golden_frame wide frame past blew m old legal.1 new legal.2 legal.3
+golden_at past wide frame declared table blew (Frame m dt word bytes) old new after legal = golden_frame wide frame past blew m old legal.1 new legal.2 legal.3
+golden_at past wide frame declared table blew (Inject m image version dt word) old new after legal =
     let mid = legal.0 in
     let known = legal.1.known in
     ap (λ (x : SmallMote). holds x 0) legal.2 ∙ off_holds blew mid 0 ∙ injected_other declared table after blew image version 0 old mid legal.1 (λ e. absurd (omega (arith, e, known)))

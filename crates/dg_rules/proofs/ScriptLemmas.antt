@@ -46,18 +46,18 @@ known_does : RestartLaws → (w : World) → KnownRows w.table w.declared → (e
 known_does restarts w known =
     does_cases restarts w (λ f. Unit {0}) (all_sent w.sent) (λ e D. KnownDoes w D)
     (λ e why. tt)
-    (λ m dt draw r on. known)
-    (λ m dt draw r on waits. known)
-    (λ m dt draw. known)
-    (λ m dt draw number f r on at q. known)
-    (λ from m dt draw f r on at q. known)
-    (λ m dt draw bytes r on. known)
-    (λ m image version dt draw row here none i v r low e.
+    (λ m dt word r on. known)
+    (λ m dt word r on waits. known)
+    (λ m dt word. known)
+    (λ m dt word number f r on at q. known)
+    (λ from m dt word f r on at q. known)
+    (λ m dt word bytes r on. known)
+    (λ m image version dt word row here none i v r low e.
     ⊎_elim
     (λ new. ap (λ n. row_at w.declared n v) (sym new.1) ∙ ap (row_at w.declared row.image) (sym new.2) ∙ row_at-own w.declared image version row here ∙ ap (λ (x : Row). Some x) (sym new.0))
     (λ old. known i v r low old)
     (row_at-of_with_row w.table row r i v e))
-    (λ m number image version dt draw none. known)
+    (λ m number image version dt word none. known)
 
 -- the rows and the number of motes
 record Frame (motes : ℕ) (v : World) : Type 0 where
@@ -128,26 +128,26 @@ module _ (restarts : RestartLaws) (stepped : (w v : World) (x : Step) (reports :
 
 -- an honest event is true, since each row of the table is golden or declared
 event_true : (motes : ℕ) (w : World) → Frame motes w → (e : Event) → HonestEvent w.table e → TrueEvent w e
-event_true motes w f (Tick m dt draw) honest = tt
-event_true motes w f (Hear m dt draw frame) honest = tt
-event_true motes w f (Last from m dt draw) honest = tt
-event_true motes w f (Reset m dt draw) honest = tt
-event_true motes w f (Inject m image version dt draw) honest = λ row kept here there.
+event_true motes w f (Tick m dt word) honest = tt
+event_true motes w f (Hear m dt word frame) honest = tt
+event_true motes w f (Last from m dt word) honest = tt
+event_true motes w f (Reset m dt word) honest = tt
+event_true motes w f (Inject m image version dt word) honest = λ taken row kept here there.
     let low = (row_at-each IsDeclared w.declared image version row f.rows here).not_golden in
     let ids = row_at-image_version w.declared image version row here in
     same_some kept row (sym (f.known image version kept (subst (λ (n : ℕ). 1 ≤ n) ids.0 low) there) ∙ here)
-event_true motes w f (OrderEvent m number image version dt draw) honest = tt
-event_true motes w f (FrameEvent m dt draw bytes) honest = honest
+event_true motes w f (OrderEvent m number image version dt word) honest = tt
+event_true motes w f (FrameEvent m dt word bytes) honest = honest
 
 -- and a true event is honest
 event_honest : (w : World) (e : Event) → TrueEvent w e → HonestEvent w.table e
-event_honest w (Tick m dt draw) is_true = tt
-event_honest w (Hear m dt draw frame) is_true = tt
-event_honest w (Last from m dt draw) is_true = tt
-event_honest w (Reset m dt draw) is_true = tt
-event_honest w (Inject m image version dt draw) is_true = tt
-event_honest w (OrderEvent m number image version dt draw) is_true = tt
-event_honest w (FrameEvent m dt draw bytes) is_true = is_true
+event_honest w (Tick m dt word) is_true = tt
+event_honest w (Hear m dt word frame) is_true = tt
+event_honest w (Last from m dt word) is_true = tt
+event_honest w (Reset m dt word) is_true = tt
+event_honest w (Inject m image version dt word) is_true = tt
+event_honest w (OrderEvent m number image version dt word) is_true = tt
+event_honest w (FrameEvent m dt word bytes) is_true = is_true
 
 item_honest : (item : Item) (w : World) → TrueItem item w → HonestItem item w
 item_honest (Declares row) w is_true = tt

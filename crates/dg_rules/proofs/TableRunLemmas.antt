@@ -34,18 +34,18 @@ module _ (began : List Row) where
   come_does restarts w come =
       does_cases restarts w (λ f. Unit {0}) (all_sent w.sent) (λ e D. ComeDoes w D)
       (λ e why. tt)
-      (λ m dt draw r on. come)
-      (λ m dt draw r on waits. come)
-      (λ m dt draw. come)
-      (λ m dt draw number f r on at q. come)
-      (λ from m dt draw f r on at q. come)
-      (λ m dt draw bytes r on. come)
-      (λ m image version dt draw row here none i v r e.
+      (λ m dt word r on. come)
+      (λ m dt word r on waits. come)
+      (λ m dt word. come)
+      (λ m dt word number f r on at q. come)
+      (λ from m dt word f r on at q. come)
+      (λ m dt word bytes r on. come)
+      (λ m image version dt word row here none i v r e.
       ⊎_elim
       (λ new. inr (ap (λ n. row_at w.declared n v) (sym new.1) ∙ ap (row_at w.declared row.image) (sym new.2) ∙ row_at-own w.declared image version row here ∙ ap (λ (x : Row). Some x) (sym new.0)))
       (λ old. come i v r old)
       (row_at-of_with_row w.table row r i v e))
-      (λ m number image version dt draw none. come)
+      (λ m number image version dt word none. come)
 
   -- of a world
   abbrev RowsCome : World → Type 0
@@ -77,14 +77,14 @@ module _ (began : List Row) where
   -- ---- an injection that brings no other content for these rows brings none for any
 
   event_true : (w : World) → RowsCome w → (e : Event) → HoldsTo began w e → TrueEvent w e
-  event_true w come (Tick m dt draw) holds = tt
-  event_true w come (Hear m dt draw frame) holds = tt
-  event_true w come (Last from m dt draw) holds = tt
-  event_true w come (Reset m dt draw) holds = tt
-  event_true w come (Inject m image version dt draw) holds = λ row kept here there.
-      ⊎_elim (λ old. holds row kept here old) (λ known. same_some kept row (sym known ∙ here)) (come image version kept there)
-  event_true w come (OrderEvent m number image version dt draw) holds = tt
-  event_true w come (Frame m dt draw bytes) holds = holds
+  event_true w come (Tick m dt word) holds = tt
+  event_true w come (Hear m dt word frame) holds = tt
+  event_true w come (Last from m dt word) holds = tt
+  event_true w come (Reset m dt word) holds = tt
+  event_true w come (Inject m image version dt word) holds = λ taken row kept here there.
+      ⊎_elim (λ old. holds taken row kept here old) (λ known. same_some kept row (sym known ∙ here)) (come image version kept there)
+  event_true w come (OrderEvent m number image version dt word) holds = tt
+  event_true w come (Frame m dt word bytes) holds = holds
 
   item_true : (item : Item) (w : World) → RowsCome w → ItemHoldsTo began item w → TrueItem item w
   item_true (Declares row) w come holds = tt

@@ -22,11 +22,11 @@ use Rattle.dg_rules.proofs.StepLemmas.{Lands, LandsDoes, step_sites, step_moment
 
 -- what is known of the moments of a mote
 pub record TimeLaws : Type 0 where
-  pub begins : (id now draw : ℕ) (wide : Bool) → Timely (begun_mote id wide now draw) now
+  pub begins : (id now word : ℕ) (wide : Bool) → Timely (begun_mote id wide now word) now
   pub later : (m : MoteState) (now then : ℕ) → now ≤ then → Timely m now → Timely m then
-  pub reloads : (m : MoteState) (now draw : ℕ) → Timely m now → Timely (maintains m now draw) now
-  pub ticks : (m : MoteState) (s : Store) (now draw : ℕ) → Timely m now → Timely (tick_of m s now draw).mote now
-  pub hears : (m : MoteState) (s : Store) (now draw : ℕ) (bytes : List ℕ) → Timely m now → Timely (heard_of m s now draw bytes).mote now
+  pub reloads : (m : MoteState) (now word : ℕ) → Timely m now → Timely (maintains m now word) now
+  pub ticks : (m : MoteState) (s : Store) (now word : ℕ) → Timely m now → Timely (tick_of m s now word).mote now
+  pub hears : (m : MoteState) (s : Store) (now word : ℕ) (bytes : List ℕ) → Timely m now → Timely (heard_of m s now word bytes).mote now
 
 abbrev IsTimelyAt : ℕ → Option Running → Type 0
 IsTimelyAt now runs = IfSome runs (λ r. Timely r.mote now)
@@ -48,35 +48,35 @@ module _ (restarts : RestartLaws) (laws : TimeLaws) (w : World) (timely : WorldT
   one_timely : (dt : ℕ) (r : Running) (runs : Option Running) → Timely r.mote (w.moment + dt) → ◌≡◌ {A = Option (Option Running)} (Some (Some r)) (Some runs) → IsTimelyAt (w.moment + dt) runs
   one_timely dt r runs t e = subst (IsTimelyAt (w.moment + dt)) (same_running (Some r) runs e) t
 
-  start_timely : (o : Option Runs) (id : ℕ) (wide : Bool) (dt draw : ℕ) (runs : Option Running) → running_by o id wide (w.moment + dt) draw ≡ Some runs → IsTimelyAt (w.moment + dt) runs
-  start_timely None id wide dt draw runs e = absurd cc
-  start_timely (Some r) id wide dt draw runs e = one_timely dt (record { image_version = image_version_of r; mote = begun_mote id wide (w.moment + dt) draw }) runs (laws.begins id (w.moment + dt) draw wide) e
+  start_timely : (o : Option Runs) (id : ℕ) (wide : Bool) (dt word : ℕ) (runs : Option Running) → running_by o id wide (w.moment + dt) word ≡ Some runs → IsTimelyAt (w.moment + dt) runs
+  start_timely None id wide dt word runs e = absurd cc
+  start_timely (Some r) id wide dt word runs e = one_timely dt (record { image_version = image_version_of r; mote = begun_mote id wide (w.moment + dt) word }) runs (laws.begins id (w.moment + dt) word wide) e
 
-  reload_timely : (m dt draw : ℕ) (runs : Option Running) → m < length w.sites → Some (reloaded (site w m).runs (w.moment + dt) draw) ≡ Some runs → IsTimelyAt (w.moment + dt) runs
-  reload_timely m dt draw runs low e = subst (IsTimelyAt (w.moment + dt)) (same_running (reloaded (site w m).runs (w.moment + dt) draw) runs e) (each (site w m).runs refl)
+  reload_timely : (m dt word : ℕ) (runs : Option Running) → m < length w.sites → Some (reloaded (site w m).runs (w.moment + dt) word) ≡ Some runs → IsTimelyAt (w.moment + dt) runs
+  reload_timely m dt word runs low e = subst (IsTimelyAt (w.moment + dt)) (same_running (reloaded (site w m).runs (w.moment + dt) word) runs e) (each (site w m).runs refl)
     where
-      each : (o : Option Running) → (site w m).runs ≡ o → IsTimelyAt (w.moment + dt) (reloaded o (w.moment + dt) draw)
+      each : (o : Option Running) → (site w m).runs ≡ o → IsTimelyAt (w.moment + dt) (reloaded o (w.moment + dt) word)
       each None is = tt
-      each (Some r) is = laws.reloads r.mote (w.moment + dt) draw (on_timely m dt r low is)
+      each (Some r) is = laws.reloads r.mote (w.moment + dt) word (on_timely m dt r low is)
 
-  hear_timely : (m dt draw : ℕ) (bytes : List ℕ) (r : Running) (runs : Option Running) → (site w m).runs ≡ Some r → m < length w.sites
-      → ◌≡◌ {A = Option (Option Running)} (Some (Some (record { image_version = r.image_version; mote = (heard_of r.mote (store_at w m) (w.moment + dt) draw bytes).mote }))) (Some runs) → IsTimelyAt (w.moment + dt) runs
-  hear_timely m dt draw bytes r runs is low e =
-      one_timely dt (record { image_version = r.image_version; mote = (heard_of r.mote (store_at w m) (w.moment + dt) draw bytes).mote }) runs (laws.hears r.mote (store_at w m) (w.moment + dt) draw bytes (on_timely m dt r low is)) e
+  hear_timely : (m dt word : ℕ) (bytes : List ℕ) (r : Running) (runs : Option Running) → (site w m).runs ≡ Some r → m < length w.sites
+      → ◌≡◌ {A = Option (Option Running)} (Some (Some (record { image_version = r.image_version; mote = (heard_of r.mote (store_at w m) (w.moment + dt) word bytes).mote }))) (Some runs) → IsTimelyAt (w.moment + dt) runs
+  hear_timely m dt word bytes r runs is low e =
+      one_timely dt (record { image_version = r.image_version; mote = (heard_of r.mote (store_at w m) (w.moment + dt) word bytes).mote }) runs (laws.hears r.mote (store_at w m) (w.moment + dt) word bytes (on_timely m dt r low is)) e
 
   timely_does : (e : Event) → EventInRange (length w.sites) e → LandsDoes (TimelySite (w.moment + dt_of e)) (does w e)
   timely_does =
       does_cases restarts w (λ f. Unit {0}) (all_sent w.sent) (λ e D. EventInRange (length w.sites) e → LandsDoes (TimelySite (w.moment + dt_of e)) D)
       (λ e why fits. tt)
-      (λ m dt draw r is fits. let step = tick_of r.mote (store_at w m) (w.moment + dt) draw in
-      lands dt _ (λ runs e. one_timely dt (record { image_version = r.image_version; mote = step.mote }) runs (laws.ticks r.mote (store_at w m) (w.moment + dt) draw (on_timely m dt r fits is)) e))
-      (λ m dt draw r is waits fits. lands dt _ (λ runs e. start_timely (boot _ (store_at w m)).runs r.mote.id r.mote.wide dt draw runs e))
-      (λ m dt draw fits. lands dt _ (λ runs e. start_timely (boot _ (store_at w m)).runs m (wide_at w m) dt draw runs e))
-      (λ m dt draw number f r is at q fits. lands dt _ (λ runs e. hear_timely m dt draw f.bytes r runs is fits.0 e))
-      (λ from m dt draw f r is at q fits. lands dt _ (λ runs e. hear_timely m dt draw f.bytes r runs is fits.second e))
-      (λ m dt draw bytes r is fits. lands dt _ (λ runs e. hear_timely m dt draw bytes r runs is fits.0 e))
-      (λ m image version dt draw row known none fits. lands dt _ (λ runs e. reload_timely m dt draw runs fits.0 e))
-      (λ m number image version dt draw none fits. lands dt _ (λ runs e. reload_timely m dt draw runs fits.0 e))
+      (λ m dt word r is fits. let step = tick_of r.mote (store_at w m) (w.moment + dt) word in
+      lands dt _ (λ runs e. one_timely dt (record { image_version = r.image_version; mote = step.mote }) runs (laws.ticks r.mote (store_at w m) (w.moment + dt) word (on_timely m dt r fits is)) e))
+      (λ m dt word r is waits fits. lands dt _ (λ runs e. start_timely (boot _ (store_at w m)).runs r.mote.id r.mote.wide dt word runs e))
+      (λ m dt word fits. lands dt _ (λ runs e. start_timely (boot _ (store_at w m)).runs m (wide_at w m) dt word runs e))
+      (λ m dt word number f r is at q fits. lands dt _ (λ runs e. hear_timely m dt word f.bytes r runs is fits.0 e))
+      (λ from m dt word f r is at q fits. lands dt _ (λ runs e. hear_timely m dt word f.bytes r runs is fits.second e))
+      (λ m dt word bytes r is fits. lands dt _ (λ runs e. hear_timely m dt word bytes r runs is fits.0 e))
+      (λ m image version dt word row known none fits. lands dt _ (λ runs e. reload_timely m dt word runs fits.0 e))
+      (λ m number image version dt word none fits. lands dt _ (λ runs e. reload_timely m dt word runs fits.0 e))
 
   pub step_timely : (x : Step) (v : World) (reports : List Report) → StepInRange (length w.sites) x → WorldStep w x v reports → WorldTimely v
   step_timely x v reports fits did =

@@ -46,10 +46,10 @@ knows_not wide image narrow high = ap (λ (b : Bool). b || nat_le image narrow_i
 refuses : (wide : Bool) (image : ℕ) (d : Does) → wide ≡ false → narrow_images < image → cond (knows wide image) d (Refuses Image) ≡ Refuses Image
 refuses wide image d narrow high = ap (λ (b : Bool). cond b d (Refuses Image)) (knows_not wide image narrow high)
 
-pub refuses_injection : (w : World) (m image version dt draw : ℕ) → wide_at w m ≡ false → narrow_images < image → does w (Inject m image version dt draw) ≡ Refuses Image
+pub refuses_injection : (w : World) (m image version dt word : ℕ) → wide_at w m ≡ false → narrow_images < image → does w (Inject m image version dt word) ≡ Refuses Image
 unfolding does
-refuses_injection w m image version dt draw narrow high = refuses (wide_at w m) image (injects w m image version (w.moment + dt) draw) narrow high
+refuses_injection w m image version dt word narrow high = refuses (wide_at w m) image (injects w m image version (w.moment + dt) word) narrow high
 
-pub refuses_order : (w : World) (m number image version dt draw : ℕ) → wide_at w m ≡ false → narrow_images < image → does w (OrderEvent m number image version dt draw) ≡ Refuses Image
+pub refuses_order : (w : World) (m number image version dt word : ℕ) → wide_at w m ≡ false → narrow_images < image → does w (OrderEvent m number image version dt word) ≡ Refuses Image
 unfolding does
-refuses_order w m number image version dt draw narrow high = refuses (wide_at w m) image (orders w m (order_of number image version) (w.moment + dt) draw) narrow high
+refuses_order w m number image version dt word narrow high = refuses (wide_at w m) image (orders w m (order_of number image version) (w.moment + dt) word) narrow high

@@ -13,6 +13,7 @@ use Rattle.dg_base.specs.declared.events.Event.TheVariants.{Tick, Hear, Last, Re
 use Rattle.dg_script.specs.Items.{Item, Declares, Applies}
 use Rattle.dg_rules.specs.Sizes.{most_motes}
 use Rattle.dg_rules.specs.World.{World, no_site, first_world}
+use Rattle.dg_rules.specs.Events.{IsTaken, does}
 use Rattle.dg_rules.specs.Runs.{Played, Plays}
 use Rattle.dg_rules.specs.Premises.{LinkFits, WorldAgrees, AllOff, PlayedInRange, IsTrueThen}
 
@@ -41,16 +42,16 @@ abbrev pub AreShaped : List Store → Type 0
 AreShaped stores = (m : ℕ) → m < length stores → IsShaped (store_of stores m)
 
 -- An event holds to a table: a frame that it brings from outside is honest by the table of its moment, and a row that it
--- injects is this table's, where this table has its image version.
+-- injects is this table's, where the rules take the injection and this table has its image version.
 abbrev pub HoldsTo : List Row → World → Event → Type 0
-HoldsTo table w (Tick mote dt draw) = Unit {0}
-HoldsTo table w (Hear mote dt draw frame) = Unit {0}
-HoldsTo table w (Last from to dt draw) = Unit {0}
-HoldsTo table w (Reset mote dt draw) = Unit {0}
-HoldsTo table w (Inject mote image version dt draw) =
-    (row kept : Row) → row_at w.declared image version ≡ Some row → row_at table image version ≡ Some kept → kept ≡ row
-HoldsTo table w (OrderEvent mote number image version dt draw) = Unit {0}
-HoldsTo table w (Frame mote dt draw bytes) = IsHonest w.table bytes
+HoldsTo table w (Tick mote dt word) = Unit {0}
+HoldsTo table w (Hear mote dt word frame) = Unit {0}
+HoldsTo table w (Last from to dt word) = Unit {0}
+HoldsTo table w (Reset mote dt word) = Unit {0}
+HoldsTo table w (Inject mote image version dt word) = IsTaken (does w (Inject mote image version dt word))
+    → (row kept : Row) → row_at w.declared image version ≡ Some row → row_at table image version ≡ Some kept → kept ≡ row
+HoldsTo table w (OrderEvent mote number image version dt word) = Unit {0}
+HoldsTo table w (Frame mote dt word bytes) = IsHonest w.table bytes
 
 abbrev pub ItemHoldsTo : List Row → Item → World → Type 0
 ItemHoldsTo table (Declares row) w = Unit {0}

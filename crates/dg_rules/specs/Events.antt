@@ -37,6 +37,11 @@ pub data Does : Type 0 where
   Refuses : (why : Cause) → Does
   Goes : (deed : Deed) → Does
 
+-- the rules take an event: they do not refuse it
+abbrev pub IsTaken : Does → Type 0
+IsTaken (Refuses why) = ⊥
+IsTaken (Goes deed) = Unit {0}
+
 -- the stores that the chip of its mote goes through
 abbrev pub trail_of : Does → Store → Trail Store
 trail_of (Refuses why) s = resting s 0
@@ -44,22 +49,22 @@ trail_of (Goes d) s = d.trail
 
 -- the mote at which an event is, and its step of time
 abbrev pub mote_of : Event → ℕ
-mote_of (Tick mote dt draw) = mote
-mote_of (Hear mote dt draw frame) = mote
-mote_of (Last from to dt draw) = to
-mote_of (Reset mote dt draw) = mote
-mote_of (Inject mote image version dt draw) = mote
-mote_of (OrderEvent mote number image version dt draw) = mote
-mote_of (Frame mote dt draw bytes) = mote
+mote_of (Tick mote dt word) = mote
+mote_of (Hear mote dt word frame) = mote
+mote_of (Last from to dt word) = to
+mote_of (Reset mote dt word) = mote
+mote_of (Inject mote image version dt word) = mote
+mote_of (OrderEvent mote number image version dt word) = mote
+mote_of (Frame mote dt word bytes) = mote
 
 abbrev pub dt_of : Event → ℕ
-dt_of (Tick mote dt draw) = dt
-dt_of (Hear mote dt draw frame) = dt
-dt_of (Last from to dt draw) = dt
-dt_of (Reset mote dt draw) = dt
-dt_of (Inject mote image version dt draw) = dt
-dt_of (OrderEvent mote number image version dt draw) = dt
-dt_of (Frame mote dt draw bytes) = dt
+dt_of (Tick mote dt word) = dt
+dt_of (Hear mote dt word frame) = dt
+dt_of (Last from to dt word) = dt
+dt_of (Reset mote dt word) = dt
+dt_of (Inject mote image version dt word) = dt
+dt_of (OrderEvent mote number image version dt word) = dt
+dt_of (Frame mote dt word bytes) = dt
 
 -- ---- events of the mote itself
 
@@ -81,26 +86,26 @@ of_effect w e old = Goes (record {
   runs = option_map (runs_by e.started old) e.mote;
 })
 
-abbrev pub tick_does : World → Store → Option Running → (now draw : ℕ) → Does
-tick_does w s None now draw = Refuses cause.Off
-tick_does w s (Some r) now draw = of_effect w (tick_effect r.mote s now draw) (Some r.image_version)
+abbrev pub tick_does : World → Store → Option Running → (now word : ℕ) → Does
+tick_does w s None now word = Refuses cause.Off
+tick_does w s (Some r) now word = of_effect w (tick_effect r.mote s now word) (Some r.image_version)
 
-abbrev pub hear_by : World → Store → Option Running → (now draw : ℕ) → List ℕ → Does
-hear_by w s None now draw bytes = Refuses cause.Off
-hear_by w s (Some r) now draw bytes = of_effect w (frame_effect r.mote s now draw bytes) (Some r.image_version)
+abbrev pub hear_by : World → Store → Option Running → (now word : ℕ) → List ℕ → Does
+hear_by w s None now word bytes = Refuses cause.Off
+hear_by w s (Some r) now word bytes = of_effect w (frame_effect r.mote s now word bytes) (Some r.image_version)
 
-abbrev pub heard_sent : World → ℕ → (now draw : ℕ) → Option Sent → Does
-heard_sent w m now draw None = Refuses cause.Frame
-heard_sent w m now draw (Some f) =
-    if linked w f.by m then hear_by w (store_at w m) (site w m).runs now draw f.bytes else Refuses cause.Link
+abbrev pub heard_sent : World → ℕ → (now word : ℕ) → Option Sent → Does
+heard_sent w m now word None = Refuses cause.Frame
+heard_sent w m now word (Some f) =
+    if linked w f.by m then hear_by w (store_at w m) (site w m).runs now word f.bytes else Refuses cause.Link
 
 abbrev pub unless_off : Option Running → Does → Does
 unless_off None d = Refuses cause.Off
 unless_off (Some r) d = d
 
-abbrev pub heard_last : World → (from to now draw : ℕ) → Option Sent → Does
-heard_last w from to now draw None = Refuses cause.Frame
-heard_last w from to now draw (Some f) = hear_by w (store_at w to) (site w to).runs now draw f.bytes
+abbrev pub heard_last : World → (from to now word : ℕ) → Option Sent → Does
+heard_last w from to now word None = Refuses cause.Frame
+heard_last w from to now word (Some f) = hear_by w (store_at w to) (site w to).runs now word f.bytes
 
 -- ---- injections and orders
 
@@ -116,26 +121,26 @@ inject_cause row (inject.Worn room) = cause.Worn room
 inject_cause row inject.Taken = cause.Taken
 
 -- a mote that is on goes on with its new volume
-abbrev pub reloaded : Option Running → (now draw : ℕ) → Option Running
-reloaded None now draw = None
-reloaded (Some r) now draw = Some (record r { mote = maintains r.mote now draw })
+abbrev pub reloaded : Option Running → (now word : ℕ) → Option Running
+reloaded None now word = None
+reloaded (Some r) now word = Some (record r { mote = maintains r.mote now word })
 
-abbrev pub acts : World → ℕ → Trail Store → List Row → (now draw : ℕ) → Does
-acts w m t table now draw = Goes (record {
+abbrev pub acts : World → ℕ → Trail Store → List Row → (now word : ℕ) → Does
+acts w m t table now word = Goes (record {
   trail = t;
   table = table;
   started = None;
   sent = None;
-  runs = Some (reloaded (site w m).runs now draw);
+  runs = Some (reloaded (site w m).runs now word);
 })
 
-abbrev pub inject_unless : Option InjectFault → World → ℕ → Row → (now draw : ℕ) → Does
-inject_unless (Some fault) w m row now draw = Refuses (inject_cause row fault)
-inject_unless None w m row now draw = acts w m (inject_trail (store_at w m) row) (with_row w.table row) now draw
+abbrev pub inject_unless : Option InjectFault → World → ℕ → Row → (now word : ℕ) → Does
+inject_unless (Some fault) w m row now word = Refuses (inject_cause row fault)
+inject_unless None w m row now word = acts w m (inject_trail (store_at w m) row) (with_row w.table row) now word
 
-abbrev pub inject_row : World → ℕ → Option Row → (now draw : ℕ) → Does
-inject_row w m None now draw = Refuses cause.Image
-inject_row w m (Some row) now draw = inject_unless (inject_refusal (store_at w m) row) w m row now draw
+abbrev pub inject_row : World → ℕ → Option Row → (now word : ℕ) → Does
+inject_row w m None now word = Refuses cause.Image
+inject_row w m (Some row) now word = inject_unless (inject_refusal (store_at w m) row) w m row now word
 
 -- The cause that is reported of a refused order. `order_refusal` never says Stopped either.
 abbrev pub order_cause : OrderFault → Cause
@@ -143,34 +148,34 @@ order_cause order_fault.Stopped = cause.Empty
 order_cause (order_fault.Worn room) = cause.Worn room
 order_cause (order_fault.OldOrder kept) = cause.OldOrder kept
 
-abbrev pub order_unless : Option OrderFault → World → ℕ → Order → (now draw : ℕ) → Does
-order_unless (Some fault) w m order now draw = Refuses (order_cause fault)
-order_unless None w m order now draw = acts w m (order_trail (store_at w m) order) w.table now draw
+abbrev pub order_unless : Option OrderFault → World → ℕ → Order → (now word : ℕ) → Does
+order_unless (Some fault) w m order now word = Refuses (order_cause fault)
+order_unless None w m order now word = acts w m (order_trail (store_at w m) order) w.table now word
 
 -- A narrow mote knows only the images that its frames speak of, and golden.
 abbrev pub knows : (wide : Bool) → ℕ → Bool
 knows wide image = wide || nat_le image narrow_images
 
-abbrev pub injects : World → (m image version now draw : ℕ) → Does
-injects w m image version now draw =
-    if image == 0 then Refuses cause.Reserved else inject_row w m (row_at w.declared image version) now draw
+abbrev pub injects : World → (m image version now word : ℕ) → Does
+injects w m image version now word =
+    if image == 0 then Refuses cause.Reserved else inject_row w m (row_at w.declared image version) now word
 
-abbrev pub orders : World → ℕ → Order → (now draw : ℕ) → Does
-orders w m order now draw = order_unless (order_refusal (store_at w m) order) w m order now draw
+abbrev pub orders : World → ℕ → Order → (now word : ℕ) → Does
+orders w m order now word = order_unless (order_refusal (store_at w m) order) w m order now word
 
 -- ---- every event
 
 unfoldable pub does : World → Event → Does
-does w (Tick m dt draw) = tick_does w (store_at w m) (site w m).runs (w.moment + dt) draw
-does w (Hear m dt draw frame) = unless_off (site w m).runs (heard_sent w m (w.moment + dt) draw (frame_at w frame))
-does w (Last from to dt draw) =
+does w (Tick m dt word) = tick_does w (store_at w m) (site w m).runs (w.moment + dt) word
+does w (Hear m dt word frame) = unless_off (site w m).runs (heard_sent w m (w.moment + dt) word (frame_at w frame))
+does w (Last from to dt word) =
     unless_off (site w to).runs
-    (if linked w from to then heard_last w from to (w.moment + dt) draw (last_frame w from) else Refuses cause.Link)
-does w (Reset m dt draw) = of_effect w (reset_effect (store_at w m) m (wide_at w m) (w.moment + dt) draw) None
-does w (Inject m image version dt draw) =
-    if knows (wide_at w m) image then injects w m image version (w.moment + dt) draw else Refuses cause.Image
-does w (OrderEvent m number image version dt draw) =
+    (if linked w from to then heard_last w from to (w.moment + dt) word (last_frame w from) else Refuses cause.Link)
+does w (Reset m dt word) = of_effect w (reset_effect (store_at w m) m (wide_at w m) (w.moment + dt) word) None
+does w (Inject m image version dt word) =
+    if knows (wide_at w m) image then injects w m image version (w.moment + dt) word else Refuses cause.Image
+does w (OrderEvent m number image version dt word) =
     if knows (wide_at w m) image
-    then orders w m (record { number = number; image = image; version = version }) (w.moment + dt) draw
+    then orders w m (record { number = number; image = image; version = version }) (w.moment + dt) word
     else Refuses cause.Image
-does w (Frame m dt draw bytes) = hear_by w (store_at w m) (site w m).runs (w.moment + dt) draw bytes
+does w (Frame m dt word bytes) = hear_by w (store_at w m) (site w m).runs (w.moment + dt) word bytes

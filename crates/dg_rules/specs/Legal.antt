@@ -177,21 +177,21 @@ step_facts past declared blew wide frame =
 
 -- What an event that is not refused may change at its mote, from one table to another. A cut that blew makes the mote off.
 abbrev pub LegalAt : StepFacts → List Row → Event → SmallMote → SmallMote → List Row → Type 0
-LegalAt f table (Tick m dt draw) old new after = SmallIsOn old × LegalTick table f.blew old new × (after ≡ table)
-LegalAt f table (Reset m dt draw) old new after = LegalReset table f.blew old new × (after ≡ table)
-LegalAt f table (Inject m image version dt draw) old new after =
+LegalAt f table (Tick m dt word) old new after = SmallIsOn old × LegalTick table f.blew old new × (after ≡ table)
+LegalAt f table (Reset m dt word) old new after = LegalReset table f.blew old new × (after ≡ table)
+LegalAt f table (Inject m image version dt word) old new after =
     (mid : SmallMote) × LegalInject f.declared table after f.blew (record { image = image; version = version }) old mid
     × (new ≡ off_after f.blew mid)
-LegalAt f table (OrderEvent m number image version dt draw) old new after =
+LegalAt f table (OrderEvent m number image version dt word) old new after =
     (mid : SmallMote) × LegalOrder f.blew (record { number = number; image = image; version = version }) old mid
     × (new ≡ off_after f.blew mid) × (after ≡ table)
-LegalAt f table (Hear m dt draw number) old new after =
+LegalAt f table (Hear m dt word number) old new after =
     SmallIsOn old × (mid : SmallMote) × LegalFrame f.past f.blew m f.wide f.frame old mid
     × (new ≡ off_after f.blew mid) × (after ≡ table)
-LegalAt f table (Last from m dt draw) old new after =
+LegalAt f table (Last from m dt word) old new after =
     SmallIsOn old × (mid : SmallMote) × LegalFrame f.past f.blew m f.wide f.frame old mid
     × (new ≡ off_after f.blew mid) × (after ≡ table)
-LegalAt f table (Frame m dt draw bytes) old new after =
+LegalAt f table (Frame m dt word bytes) old new after =
     SmallIsOn old × (mid : SmallMote) × LegalFrame f.past f.blew m f.wide f.frame old mid
     × (new ≡ off_after f.blew mid) × (after ≡ table)
 

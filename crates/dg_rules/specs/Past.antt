@@ -13,13 +13,13 @@ use Rattle.dg_base.specs.declared.events.Step.{Step}
 
 -- the frame that an event brings to its mote
 abbrev pub brought : World → Event → Option (List ℕ)
-brought w (Hear mote dt draw frame) = option_map (λ (f : Sent). f.bytes) (frame_at w frame)
-brought w (Last from to dt draw) = option_map (λ (f : Sent). f.bytes) (last_frame w from)
-brought w (Frame mote dt draw bytes) = Some bytes
-brought w (Tick mote dt draw) = None
-brought w (Reset mote dt draw) = None
-brought w (Inject mote image version dt draw) = None
-brought w (OrderEvent mote number image version dt draw) = None
+brought w (Hear mote dt word frame) = option_map (λ (f : Sent). f.bytes) (frame_at w frame)
+brought w (Last from to dt word) = option_map (λ (f : Sent). f.bytes) (last_frame w from)
+brought w (Frame mote dt word bytes) = Some bytes
+brought w (Tick mote dt word) = None
+brought w (Reset mote dt word) = None
+brought w (Inject mote image version dt word) = None
+brought w (OrderEvent mote number image version dt word) = None
 
 -- ---- the past of what was played
 

@@ -16,6 +16,7 @@ use Rattle.dg_mote.specs.Speaking.{OrderFits, Speaks}
 use Rattle.dg_mote.specs.Timely.{Timely}
 use Rattle.dg_rules.specs.Sizes.{most_motes}
 use Rattle.dg_rules.specs.World.{World, Running, Site, Sent, site, wide_at}
+use Rattle.dg_rules.specs.Events.{IsTaken, does}
 use Rattle.dg_script.specs.Ranges.{IsDeclared, AreTwo, StepInRange}
 use Rattle.dg_script.specs.Items.{Item, Declares, Applies}
 use Rattle.dg_rules.specs.Runs.{Played}
@@ -62,20 +63,20 @@ WorldTimely w = (m : ℕ) → m < length w.sites → IfSome (site w m).runs (λ 
 
 -- a frame that is brought from outside is honest by the table before it
 abbrev pub HonestEvent : List Row → Event → Type 0
-HonestEvent table (Frame mote dt draw bytes) = IsHonest table bytes
+HonestEvent table (Frame mote dt word bytes) = IsHonest table bytes
 HonestEvent table event = Unit {0}
 
 -- An event is true in a world: a frame that it brings from outside is honest by the table before it, and a row that it
--- injects is the table's, where the table has its image version
+-- injects is the table's, where the rules take the injection and the table has its image version
 abbrev pub TrueEvent : World → Event → Type 0
-TrueEvent w (Tick mote dt draw) = Unit {0}
-TrueEvent w (Hear mote dt draw frame) = Unit {0}
-TrueEvent w (Last from to dt draw) = Unit {0}
-TrueEvent w (Reset mote dt draw) = Unit {0}
-TrueEvent w (Inject mote image version dt draw) =
-    (row kept : Row) → row_at w.declared image version ≡ Some row → row_at w.table image version ≡ Some kept → kept ≡ row
-TrueEvent w (OrderEvent mote number image version dt draw) = Unit {0}
-TrueEvent w (Frame mote dt draw bytes) = IsHonest w.table bytes
+TrueEvent w (Tick mote dt word) = Unit {0}
+TrueEvent w (Hear mote dt word frame) = Unit {0}
+TrueEvent w (Last from to dt word) = Unit {0}
+TrueEvent w (Reset mote dt word) = Unit {0}
+TrueEvent w (Inject mote image version dt word) = IsTaken (does w (Inject mote image version dt word))
+    → (row kept : Row) → row_at w.declared image version ≡ Some row → row_at w.table image version ≡ Some kept → kept ≡ row
+TrueEvent w (OrderEvent mote number image version dt word) = Unit {0}
+TrueEvent w (Frame mote dt word bytes) = IsHonest w.table bytes
 
 -- what is played is in its ranges, and true
 abbrev pub ItemFits : Item → World → Type 0

@@ -59,13 +59,13 @@ NamesNewer wide (Some bytes) i h =
 
 -- an injection brings a newer version of the image, or an advert that is heard names one
 abbrev pub Replaces : World → Event → ℕ → Holding → Type 0
-Replaces w (Inject m image version dt draw) i h = (image ≡ i) × (h.version < version)
-Replaces w (Hear m dt draw frame) i h = NamesNewer (wide_at w m) (brought w (Hear m dt draw frame)) i h
-Replaces w (Last from to dt draw) i h = NamesNewer (wide_at w to) (brought w (Last from to dt draw)) i h
-Replaces w (Frame m dt draw bytes) i h = NamesNewer (wide_at w m) (Some bytes) i h
-Replaces w (Tick m dt draw) i h = ⊥
-Replaces w (Reset m dt draw) i h = ⊥
-Replaces w (OrderEvent m number image version dt draw) i h = ⊥
+Replaces w (Inject m image version dt word) i h = (image ≡ i) × (h.version < version)
+Replaces w (Hear m dt word frame) i h = NamesNewer (wide_at w m) (brought w (Hear m dt word frame)) i h
+Replaces w (Last from to dt word) i h = NamesNewer (wide_at w to) (brought w (Last from to dt word)) i h
+Replaces w (Frame m dt word bytes) i h = NamesNewer (wide_at w m) (Some bytes) i h
+Replaces w (Tick m dt word) i h = ⊥
+Replaces w (Reset m dt word) i h = ⊥
+Replaces w (OrderEvent m number image version dt word) i h = ⊥
 
 -- the cut of the step blew
 abbrev pub IsBlown : Does → Step → Type 0

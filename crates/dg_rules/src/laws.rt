@@ -44,10 +44,10 @@ pub fn widths_stay()
 /// A narrow mote takes no image that its frames do not speak of: whatever else is wrong, its injection and an order of it
 /// are refused for the image.
 pub fn narrow_motes_know_few_images()
-    ensures injects { (w : World) (m image version dt draw : ℕ) → wide_at w m ≡ false → narrow_images < image
-        → does w (Inject m image version dt draw) ≡ Refuses Image }
-    ensures orders { (w : World) (m number image version dt draw : ℕ) → wide_at w m ≡ false → narrow_images < image
-        → does w (Order m number image version dt draw) ≡ Refuses Image }
+    ensures injects { (w : World) (m image version dt word : ℕ) → wide_at w m ≡ false → narrow_images < image
+        → does w (Inject m image version dt word) ≡ Refuses Image }
+    ensures orders { (w : World) (m number image version dt word : ℕ) → wide_at w m ≡ false → narrow_images < image
+        → does w (Order m number image version dt word) ≡ Refuses Image }
 {}
 
 /// A store that a cut leaves on a trail of agreeing stores agrees.
@@ -57,9 +57,9 @@ pub fn what_a_cut_leaves_agrees()
 {}
 
 /// A world that agrees with its table still does after a step, also a cut one, where a frame from outside is honest and
-/// what is injected is the table's row where the table has its image version, and after a declaration. Wherever a stop comes
-/// in such an event, each store that the chip may then stand for agrees with the table behind the event. And no moment of a
-/// mote that is on is later than the world's, whatever frames come.
+/// what is injected, where the rules take it, is the table's row if the table has its image version, and after a
+/// declaration. Wherever a stop comes in such an event, each store that the chip may then stand for agrees with the table
+/// behind the event. And no moment of a mote that is on is later than the world's, whatever frames come.
 pub fn agreement_is_kept()
     ensures stepped { (w v : World) (x : Step) (reports : List Report) → WorldAgrees w → StepInRange (length w.sites) x
         → TrueEvent w x.event → WorldStep w x v reports → WorldAgrees v }
@@ -198,10 +198,10 @@ pub fn scripts_with_golden()
 }
 
 /// A script over chips as they stand, which agree with a table. Where each event holds to it, so that each frame from
-/// outside is honest and no image version of the table is injected with another content, each step is legal, versions do not
-/// fall, what starts is a row of the table, and the chips, the motes that are on and the frames that were sent agree with the
-/// table; and where the next event holds to it too, then wherever a stop comes in it, each store that the chip may then
-/// stand for agrees with the table behind it.
+/// outside is honest and no image version of the table is injected with another content, unless the rules refuse it, each
+/// step is legal, versions do not fall, what starts is a row of the table, and the chips, the motes that are on and the
+/// frames that were sent agree with the table; and where the next event holds to it too, then wherever a stop comes in it,
+/// each store that the chip may then stand for agrees with the table behind it.
 pub fn scripts_with_boards()
     ensures legal { (table : List Row) (stores : List Store) (links : List (ℕ × ℕ)) (narrow : List Bool)
         (played : List Played) (v : World) → PlaysBoards table stores links narrow played v

@@ -5,7 +5,7 @@ pub returns-clause-ticked : goal.returns-clause-ticked
 returns-clause-ticked c = tick_clears
 
 pub returns-clause-advert : goal.returns-clause-advert
-returns-clause-advert c m s now draw bytes wide source entries order is = advert_keeps_better c.acts_end.ensures.take c.trails_begin.ensures.take entries order s m now draw bytes wide source is
+returns-clause-advert c m s now word bytes wide source entries order is = advert_keeps_better c.acts_end.ensures.take c.trails_begin.ensures.take entries order s m now word bytes wide source is
 
 pub returns-clause-request : goal.returns-clause-request
 returns-clause-request c = request_rests

@@ -37,10 +37,10 @@ returns c =
       long = λ row p is less. ap length (pages.page row p less) ∙ pages.long row p is;
     } in
     record {
-      begins = λ table s id now draw wide. tt;
-      ticked = λ table m s now draw a mode. let k = tick_keeps (Agrees table) (keep.clear table) table s a a now draw m mode in (k.way, k.mode);
-      honest = λ table m s now draw a mode. (tick_keeps (Agrees table) (keep.clear table) table s a a now draw m mode).sent;
-      heard = λ table m s now draw bytes is_table honest w mode.
-          let k = heard_keeps table is_table (takes table) (fills table) (λ wide message. (c.one_reading.ensures.ranges wide message).0) s w now draw m bytes mode honest in (k.way, k.mode);
-      sealed = λ table m s now draw bytes is_table honest w mode. heard_fine table is_table (fills table) c.a_row_is_filled_page_by_page.ensures.next s w now draw m bytes mode honest;
+      begins = λ table s id now word wide. tt;
+      ticked = λ table m s now word a mode. let k = tick_keeps (Agrees table) (keep.clear table) table s a a now word m mode in (k.way, k.mode);
+      honest = λ table m s now word a mode. (tick_keeps (Agrees table) (keep.clear table) table s a a now word m mode).sent;
+      heard = λ table m s now word bytes is_table honest w mode.
+          let k = heard_keeps table is_table (takes table) (fills table) (λ wide message. (c.one_reading.ensures.ranges wide message).0) s w now word m bytes mode honest in (k.way, k.mode);
+      sealed = λ table m s now word bytes is_table honest w mode. heard_fine table is_table (fills table) c.a_row_is_filled_page_by_page.ensures.next s w now word m bytes mode honest;
     }

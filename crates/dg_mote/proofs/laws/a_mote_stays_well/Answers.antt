@@ -30,14 +30,14 @@ returns c =
           };
     } in
     record {
-      begins = λ table s id now draw wide w. record { store = w; mode = tt; timely = timely_begins id now draw wide };
+      begins = λ table s id now word wide w. record { store = w; mode = tt; timely = timely_begins id now word wide };
       later = λ table m s now then h w. record { store = w.store; mode = w.mode; timely = timely_later m now then h w.timely };
-      reloaded = λ table m s now draw timely w. record { store = w; mode = tt; timely = timely_maintains m now draw timely };
-      ticked = λ table m s now draw w. ticks_well table (keep.clear table) m s now draw w;
-      heard = λ table m s now draw bytes is_table honest w. hears_well table m s now draw bytes (heard table m s now draw bytes is_table honest w.store w.mode) w;
-      tick_effect = λ table m s now draw is_table w. tick_effect_well table (starts table is_table) m s now draw (ticks_well table (keep.clear table) m s now draw w);
-      frame_effect = λ table m s now draw bytes is_table honest w.
-          frame_effect_well table m s now draw bytes (hears_well table m s now draw bytes (heard table m s now draw bytes is_table honest w.store w.mode) w);
-      reset_effect = λ table s id now draw wide is_table w. reset_well table (starts table is_table) s id wide now draw w;
+      reloaded = λ table m s now word timely w. record { store = w; mode = tt; timely = timely_maintains m now word timely };
+      ticked = λ table m s now word w. ticks_well table (keep.clear table) m s now word w;
+      heard = λ table m s now word bytes is_table honest w. hears_well table m s now word bytes (heard table m s now word bytes is_table honest w.store w.mode) w;
+      tick_effect = λ table m s now word is_table w. tick_effect_well table (starts table is_table) m s now word (ticks_well table (keep.clear table) m s now word w);
+      frame_effect = λ table m s now word bytes is_table honest w.
+          frame_effect_well table m s now word bytes (hears_well table m s now word bytes (heard table m s now word bytes is_table honest w.store w.mode) w);
+      reset_effect = λ table s id now word wide is_table w. reset_well table (starts table is_table) s id wide now word w;
       stopped = stopped_well;
     }

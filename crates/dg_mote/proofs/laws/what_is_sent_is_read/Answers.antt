@@ -13,7 +13,7 @@ use Rattle.dg_mote.proofs.SaidLemmas.{SpellLaws, tick_said}
 use Rattle.dg_mote.proofs.laws.what_is_sent_is_read.Goals as goal
 
 pub returns-clause-said : goal.returns-clause-said
-returns-clause-said c table m s now draw is_table w speaks =
+returns-clause-said c table m s now word is_table w speaks =
     let rows = c.a_row_is_its_pages.ensures in
     let laws : SpellLaws =
     record {
@@ -29,7 +29,7 @@ returns-clause-said c table m s now draw is_table w speaks =
       ranges = λ wide message. (c.one_reading.ensures.ranges wide message).1;
       written = c.one_spelling.ensures.written;
     } in
-    tick_said laws table is_table s w.store m.id speaks.id m.wide m now draw refl refl speaks.order w.mode w.timely.mode (speaks.server, speaks.known)
+    tick_said laws table is_table s w.store m.id speaks.id m.wide m now word refl refl speaks.order w.mode w.timely.mode (speaks.server, speaks.known)
 
 -- an honest message that is read as it was said makes an honest frame
 honest_frames : (table : List Row) (id : ℕ) (wide : Bool) (sent : Option Message) → SendsHonest table sent → IfSome sent (IsSaid id wide) → IfSome sent (λ message. IsHonest table (frame_of message))
@@ -38,27 +38,27 @@ honest_frames table id true (Some message) honest said = subst (HonestMessage ta
 honest_frames table id false (Some message) honest said = subst (HonestMessage table) (sym (wider (frame_of message) message said.is_read)) honest
 
 pub returns-clause-honest : goal.returns-clause-honest
-returns-clause-honest c table m s now draw is_table w speaks =
-    honest_frames table m.id m.wide _ (c.a_mote_keeps_agreement.ensures.honest table m s now draw w.store.agrees w.mode) (returns-clause-said c table m s now draw is_table w speaks)
+returns-clause-honest c table m s now word is_table w speaks =
+    honest_frames table m.id m.wide _ (c.a_mote_keeps_agreement.ensures.honest table m s now word w.store.agrees w.mode) (returns-clause-said c table m s now word is_table w speaks)
 
 pub returns-clause-begins : goal.returns-clause-begins
-returns-clause-begins c s id now draw wide small fits = record { id = small; server = tt; known = tt; order = fits }
+returns-clause-begins c s id now word wide small fits = record { id = small; server = tt; known = tt; order = fits }
 
 pub returns-clause-ticked : goal.returns-clause-ticked
-returns-clause-ticked c m s now draw speaks = turn_speaks m _ speaks.id (tick_says m s now draw speaks.order (speaks.server, speaks.known))
+returns-clause-ticked c m s now word speaks = turn_speaks m _ speaks.id (tick_says m s now word speaks.order (speaks.server, speaks.known))
 
 pub returns-clause-heard : goal.returns-clause-heard
-returns-clause-heard c m s now draw bytes fits speaks =
-    turn_speaks m _ speaks.id (heard_says (λ wide message. (c.one_reading.ensures.ranges wide message).0) m s now draw bytes fits speaks.order (speaks.server, speaks.known))
+returns-clause-heard c m s now word bytes fits speaks =
+    turn_speaks m _ speaks.id (heard_says (λ wide message. (c.one_reading.ensures.ranges wide message).0) m s now word bytes fits speaks.order (speaks.server, speaks.known))
 
 pub returns-clause-tick_effect : goal.returns-clause-tick_effect
-returns-clause-tick_effect c m s now draw speaks = tick_effect_speaks c.a_start_ends.ensures c.trails_begin.ensures.boot m s now draw (returns-clause-ticked c m s now draw speaks)
+returns-clause-tick_effect c m s now word speaks = tick_effect_speaks c.a_start_ends.ensures c.trails_begin.ensures.boot m s now word (returns-clause-ticked c m s now word speaks)
 
 pub returns-clause-frame_effect : goal.returns-clause-frame_effect
-returns-clause-frame_effect c m s now draw bytes fits speaks = frame_effect_speaks m s now draw bytes (returns-clause-heard c m s now draw bytes fits speaks)
+returns-clause-frame_effect c m s now word bytes fits speaks = frame_effect_speaks m s now word bytes (returns-clause-heard c m s now word bytes fits speaks)
 
 pub returns-clause-reset_effect : goal.returns-clause-reset_effect
-returns-clause-reset_effect c s id now draw wide small fits = reset_speaks c.a_start_ends.ensures s id wide now draw small fits
+returns-clause-reset_effect c s id now word wide small fits = reset_speaks c.a_start_ends.ensures s id wide now word small fits
 
 near_tells : (a s : Store) → TellsOrder a → IsNear a s → TellsOrder s
 near_tells a s o near = let like : TellsOrder (record a { room = s.room }) = o in subst TellsOrder (sym near.same) like

@@ -8,7 +8,7 @@ pub returns-clause-silent : goal.returns-clause-silent
 returns-clause-silent c = heard_silent
 
 pub returns-clause-refused : goal.returns-clause-refused
-returns-clause-refused c m s now draw bytes fault = (refused_by m s now draw bytes fault, λ e. ap (λ (x : MoteStep Heard). x.answer) (refused_is m s now draw bytes fault e))
+returns-clause-refused c m s now word bytes fault = (refused_by m s now word bytes fault, λ e. ap (λ (x : MoteStep Heard). x.answer) (refused_is m s now word bytes fault e))
 
 pub returns-clause-unchanged : goal.returns-clause-unchanged
 returns-clause-unchanged c = refused_is

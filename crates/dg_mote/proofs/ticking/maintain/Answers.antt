@@ -8,15 +8,15 @@ use Rattle.dg_mote.proofs.ticking.maintain.Goals as goal
 
 pub returns-then-order_waits : goal.returns-then-order_waits
 returns-then-order_waits c m s id alike is tells =
-    restart_shows m s c.args.trickle.now c.args.trickle.now c.args.now c.args.draw c.args.out.now is refl (sym (c.order_waits.ensures s tells) ∙ c.if-order_waits.true) c.requires.empty
+    restart_shows m s c.args.trickle.now c.args.trickle.now c.args.now c.args.word c.args.out.now is refl (sym (c.order_waits.ensures s tells) ∙ c.if-order_waits.true) c.requires.empty
 
 pub returns-in-Send : goal.returns-in-Send
 returns-in-Send c m s id alike is tells =
     let said = c.advert_message.ensures.says s tells ∙ ap (λ n. advert_of n c.args.wide s) (sym id) ∙ ap (λ w. advert_of m.id w s) (sym alike) in
-    advert_shows m s c.args.trickle.now c.tick.new.self c.args.now c.args.draw c.put.new.self (sym (c.order_waits.ensures s tells) ∙ c.if-order_waits.false) c.in-Send.ensures.act c.tick.ensures.value
+    advert_shows m s c.args.trickle.now c.tick.new.self c.args.now c.args.word c.put.new.self (sym (c.order_waits.ensures s tells) ∙ c.if-order_waits.false) c.in-Send.ensures.act c.tick.ensures.value
     (c.put.ensures.sent ∙ ap (λ (x : Message). Some (frame_of x)) said)
     (subst (λ (w : Bool). IsRead w (advert_of m.id m.wide s)) (sym alike) (subst (IsRead c.args.wide) said (c.put.ensures.read c.args.wide c.advert_message.ensures.fits)))
 
-pub returns-in-Suppressed : goal.returns-in-Suppressed
-returns-in-Suppressed c m s id alike is tells =
-    idle_shows m s c.args.trickle.now c.tick.new.self c.tick.result c.args.now c.args.draw c.args.out.now (sym (c.order_waits.ensures s tells) ∙ c.if-order_waits.false) c.tick.ensures.act c.in-Suppressed.is c.tick.ensures.value c.requires.empty
+pub returns-in-Quiet : goal.returns-in-Quiet
+returns-in-Quiet c m s id alike is tells =
+    idle_shows m s c.args.trickle.now c.tick.new.self c.tick.result c.args.now c.args.word c.args.out.now (sym (c.order_waits.ensures s tells) ∙ c.if-order_waits.false) c.tick.ensures.act c.in-Quiet.is c.tick.ensures.value c.requires.empty

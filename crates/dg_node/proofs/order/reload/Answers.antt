@@ -12,4 +12,4 @@ reload-requires-clause-mote c =
 
 pub returns-in-Some : goal.returns-in-Some
 returns-in-Some c = λ d e s t r stands mounted.
-    reloads c.args.runs.now c.in-Some.node _ c.reload.new.self d e s t r c.args.now c.args.draw c.in-Some.is refl (λ m is. c.reload.ensures d e m s t is mounted) stands
+    reloads c.args.runs.now c.in-Some.node _ c.reload.new.self d e s t r c.args.now c.args.word c.in-Some.is refl (λ m is. c.reload.ensures d e m s t is mounted) stands

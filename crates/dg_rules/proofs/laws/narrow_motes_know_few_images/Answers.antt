@@ -3,6 +3,6 @@ use Rattle.dg_rules.proofs.laws.narrow_motes_know_few_images.Goals as goal
 
 pub returns : goal.returns
 returns c = record {
-  injects = λ w m image version dt draw narrow high. refuses_injection w m image version dt draw narrow high;
-  orders = λ w m number image version dt draw narrow high. refuses_order w m number image version dt draw narrow high;
+  injects = λ w m image version dt word narrow high. refuses_injection w m image version dt word narrow high;
+  orders = λ w m number image version dt word narrow high. refuses_order w m number image version dt word narrow high;
 }

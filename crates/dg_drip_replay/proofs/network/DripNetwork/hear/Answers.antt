@@ -10,7 +10,7 @@ pub returns-in_default-clause-does : goal.returns-in_default-clause-does
 returns-in_default-clause-does c =
     let d = c.args.self.now in
     let none = sym c.in_default.is ∙ c.numbered.ensures ∙ ap (λ (xs : List Said). frame_numbered xs c.args.frame) c.deref.ensures.value in
-    λ w reported s. hear_none d _ w reported c.args.node c.args.dt c.args.draw c.args.frame s (ap (λ (n : ℕ). d.moment + n) c.from.ensures) refl refl refl none
+    λ w reported s. hear_none d _ w reported c.args.node c.args.dt c.args.word c.args.frame s (ap (λ (n : ℕ). d.moment + n) c.from.ensures) refl refl refl none
 
 pub take-requires-clause-key : goal.take-requires-clause-key
 take-requires-clause-key c =
@@ -24,5 +24,5 @@ returns-clause-does c =
     let some = sym c.in-Some.is ∙ c.numbered.ensures ∙ ap (λ (xs : List Said). frame_numbered xs c.args.frame) c.deref.ensures.value in
     let near = ap (λ (ls : List (ℕ × ℕ)). is_linked ls x.source c.args.node) (sym c.deref-2.ensures.value) ∙ sym c.is_linked.ensures ∙ c.if-not-is_linked.false in
     λ w reported s.
-    hear_takes d _ w reported c.args.node c.args.dt c.args.draw c.args.frame x c.take.result s some near
+    hear_takes d _ w reported c.args.node c.args.dt c.args.word c.args.frame x c.take.result s some near
     (c.take.ensures.hears (later w c.args.dt) (later_stands d _ w c.args.dt s (ap (λ (n : ℕ). d.moment + n) c.from.ensures) refl refl refl))

@@ -15,9 +15,9 @@ returns-in_default-clause-hears c =
     let long : length new ≡ d.nodes.len = ap length c.hear_at.ensures.after ∙ length-set _ _ _ ∙ ap length c.deref_mut.ensures.value ∙ sym d.nodes.ok.0 in
     let x = c.args.said.now in
     let nodes = take_at new (drop (length new) old) d.nodes.len long ∙ c.hear_at.ensures.after
-    ∙ ap (λ (xs : List Node). set xs c.args.node (with_cell (node_at xs c.args.node) x.key (heard_cell (cell_of (node_at xs c.args.node) x.key) d.moment c.args.draw x.entry))) c.deref_mut.ensures.value in
+    ∙ ap (λ (xs : List Node). set xs c.args.node (with_cell (node_at xs c.args.node) x.key (heard_cell (cell_of (node_at xs c.args.node) x.key) d.moment c.args.word x.entry))) c.deref_mut.ensures.value in
     let answer = c.hear_at.ensures.answer ∙ ap (λ (xs : List Node). outcome (cell_of (node_at xs c.args.node) x.key) x.key x.entry) c.deref_mut.ensures.value in
-    λ w s. take_silent d _ w c.args.node c.args.draw x c.hear_at.result s c.requires.node c.requires.key refl refl refl nodes answer c.in_default.not-Newer
+    λ w s. take_silent d _ w c.args.node c.args.word x c.hear_at.result s c.requires.node c.requires.key refl refl refl nodes answer c.in_default.not-Newer
 
 pub returns-clause-hears : goal.returns-clause-hears
 returns-clause-hears c =
@@ -27,6 +27,6 @@ returns-clause-hears c =
     let long : length new ≡ d.nodes.len = ap length c.hear_at.ensures.after ∙ length-set _ _ _ ∙ ap length c.deref_mut.ensures.value ∙ sym d.nodes.ok.0 in
     let x = c.args.said.now in
     let nodes = take_at new (drop (length new) old) d.nodes.len long ∙ c.hear_at.ensures.after
-    ∙ ap (λ (xs : List Node). set xs c.args.node (with_cell (node_at xs c.args.node) x.key (heard_cell (cell_of (node_at xs c.args.node) x.key) d.moment c.args.draw x.entry))) c.deref_mut.ensures.value in
+    ∙ ap (λ (xs : List Node). set xs c.args.node (with_cell (node_at xs c.args.node) x.key (heard_cell (cell_of (node_at xs c.args.node) x.key) d.moment c.args.word x.entry))) c.deref_mut.ensures.value in
     let answer = sym c.in-Newer.is ∙ c.hear_at.ensures.answer ∙ ap (λ (xs : List Node). outcome (cell_of (node_at xs c.args.node) x.key) x.key x.entry) c.deref_mut.ensures.value in
-    λ w s. take_hears d _ w c.args.node c.args.draw x (what.Newer c.in-Newer.key) s c.requires.node c.requires.key refl refl refl nodes answer
+    λ w s. take_hears d _ w c.args.node c.args.word x (what.Newer c.in-Newer.key) s c.requires.node c.requires.key refl refl refl nodes answer

@@ -13,4 +13,4 @@ returns-clause-done g c m s timer is mode may =
     let a = g.N.Nor.device c.args.nor.now in
     let b = g.N.Nor.device c.begin_page.new.nor in
     let begun = c.in_ok-job.ensures.begun s is.mounted may in
-    asking_done a b c.args.self.now c.begin_page.new.volume m s timer c.args.now c.args.draw c.args.source c.args.image c.page-page.result c.args.entry c.new.result c.in_ok-job.job is mode may high begun.0 begun.1 c.in_ok-job.ensures.lent c.begin_page.ensures.others c.new.ensures c.page-page.ensures
+    asking_done a b c.args.self.now c.begin_page.new.volume m s timer c.args.now c.args.word c.args.source c.args.image c.page-page.result c.args.entry c.new.result c.in_ok-job.job is mode may high begun.0 begun.1 c.in_ok-job.ensures.lent c.begin_page.ensures.others c.new.ensures c.page-page.ensures

@@ -17,9 +17,9 @@ returns-in_err-keep_better-clause-stopped g c = OnErr_from c.from_residual.resul
     let a = g.N.Nor.device c.args.nor.now in
     let b = g.N.Nor.device c.keep_better.new.nor in
     let t = better_trail s c.args.order.now in
-    let rest = by_ahead (ahead_in c.args.entries.now (last t)) m (last t) c.args.now c.args.draw (offer c.args.source c.args.entries.now) (noting m timer (last t) c.args.now c.args.draw c.would_say-same.result) in
-    subst (λ (x : MoteStep Heard). Stops x.trail a b) (sym (advert_is m timer s c.args.now c.args.draw c.args.source c.args.entries.now c.args.order.now c.would_say-same.result (said_same c.would_say-same.result c.args.entries.now c.args.order.now c.args.self.now.wide m s is.wide (c.would_say-same.ensures s is.mounted.tells))))
-    (stops_before t rest a b (follow_begins c.trails_begin.ensures.take (ahead_in c.args.entries.now (last t)) m timer (last t) c.args.now c.args.draw c.args.source c.args.entries.now c.would_say-same.result) (c.in_err-keep_better.ensures.stopped s is.mounted)))
+    let rest = by_ahead (ahead_in c.args.entries.now (last t)) m (last t) c.args.now c.args.word (offer c.args.source c.args.entries.now) (noting m timer (last t) c.args.now c.args.word c.would_say-same.result) in
+    subst (λ (x : MoteStep Heard). Stops x.trail a b) (sym (advert_is m timer s c.args.now c.args.word c.args.source c.args.entries.now c.args.order.now c.would_say-same.result (said_same c.would_say-same.result c.args.entries.now c.args.order.now c.args.self.now.wide m s is.wide (c.would_say-same.ensures s is.mounted.tells))))
+    (stops_before t rest a b (follow_begins c.trails_begin.ensures.take (ahead_in c.args.entries.now (last t)) m timer (last t) c.args.now c.args.word c.args.source c.args.entries.now c.would_say-same.result) (c.in_err-keep_better.ensures.stopped s is.mounted)))
 
 pub follow-requires-clause-mote : goal.follow-requires-clause-mote
 follow-requires-clause-mote g c =
@@ -38,11 +38,11 @@ returns-clause-done g c = if_ok c.follow.result c.follow.ensures.done (λ answer
     let b = g.N.Nor.device c.keep_better.new.nor in
     let d = g.N.Nor.device c.follow.new.nor in
     let t = better_trail s c.args.order.now in
-    let rest = by_ahead (ahead_in c.args.entries.now (last t)) m (last t) c.args.now c.args.draw (offer c.args.source c.args.entries.now) (noting m timer (last t) c.args.now c.args.draw c.would_say-same.result) in
+    let rest = by_ahead (ahead_in c.args.entries.now (last t)) m (last t) c.args.now c.args.word (offer c.args.source c.args.entries.now) (noting m timer (last t) c.args.now c.args.word c.would_say-same.result) in
     let acted = c.in_ok-keep_better.ensures.acted s is.mounted in
     let now_is = better_mote a b c.args.self.now c.keep_better.new.volume m s timer c.args.order.now is mode acted c.keep_better.ensures.lent in
-    let begins = follow_begins c.trails_begin.ensures.take (ahead_in c.args.entries.now (last t)) m timer (last t) c.args.now c.args.draw c.args.source c.args.entries.now c.would_say-same.result in
-    subst (λ (x : MoteStep Heard). Done x a d c.follow.new.self answer) (sym (advert_is m timer s c.args.now c.args.draw c.args.source c.args.entries.now c.args.order.now c.would_say-same.result (said_same c.would_say-same.result c.args.entries.now c.args.order.now c.args.self.now.wide m s is.wide (c.would_say-same.ensures s is.mounted.tells))))
+    let begins = follow_begins c.trails_begin.ensures.take (ahead_in c.args.entries.now (last t)) m timer (last t) c.args.now c.args.word c.args.source c.args.entries.now c.would_say-same.result in
+    subst (λ (x : MoteStep Heard). Done x a d c.follow.new.self answer) (sym (advert_is m timer s c.args.now c.args.word c.args.source c.args.entries.now c.args.order.now c.would_say-same.result (said_same c.would_say-same.result c.args.entries.now c.args.order.now c.args.self.now.wide m s is.wide (c.would_say-same.ensures s is.mounted.tells))))
     (done_behind t rest a b d c.follow.new.self answer (sym begins.first) acted.ran (done m (last t) timer now_is mode)))
 
 pub returns-clause-stopped : goal.returns-clause-stopped
@@ -51,9 +51,9 @@ returns-clause-stopped g c = on_err c.follow.result c.follow.ensures.stopped (λ
     let b = g.N.Nor.device c.keep_better.new.nor in
     let d = g.N.Nor.device c.follow.new.nor in
     let t = better_trail s c.args.order.now in
-    let rest = by_ahead (ahead_in c.args.entries.now (last t)) m (last t) c.args.now c.args.draw (offer c.args.source c.args.entries.now) (noting m timer (last t) c.args.now c.args.draw c.would_say-same.result) in
+    let rest = by_ahead (ahead_in c.args.entries.now (last t)) m (last t) c.args.now c.args.word (offer c.args.source c.args.entries.now) (noting m timer (last t) c.args.now c.args.word c.would_say-same.result) in
     let acted = c.in_ok-keep_better.ensures.acted s is.mounted in
     let now_is = better_mote a b c.args.self.now c.keep_better.new.volume m s timer c.args.order.now is mode acted c.keep_better.ensures.lent in
-    let begins = follow_begins c.trails_begin.ensures.take (ahead_in c.args.entries.now (last t)) m timer (last t) c.args.now c.args.draw c.args.source c.args.entries.now c.would_say-same.result in
-    subst (λ (x : MoteStep Heard). Stops x.trail a d) (sym (advert_is m timer s c.args.now c.args.draw c.args.source c.args.entries.now c.args.order.now c.would_say-same.result (said_same c.would_say-same.result c.args.entries.now c.args.order.now c.args.self.now.wide m s is.wide (c.would_say-same.ensures s is.mounted.tells))))
+    let begins = follow_begins c.trails_begin.ensures.take (ahead_in c.args.entries.now (last t)) m timer (last t) c.args.now c.args.word c.args.source c.args.entries.now c.would_say-same.result in
+    subst (λ (x : MoteStep Heard). Stops x.trail a d) (sym (advert_is m timer s c.args.now c.args.word c.args.source c.args.entries.now c.args.order.now c.would_say-same.result (said_same c.would_say-same.result c.args.entries.now c.args.order.now c.args.self.now.wide m s is.wide (c.would_say-same.ensures s is.mounted.tells))))
     (stops_behind t rest a b d (sym begins.first) acted.ran (stopped m (last t) timer now_is mode)))

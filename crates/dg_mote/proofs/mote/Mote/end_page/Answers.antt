@@ -18,7 +18,7 @@ returns-in_err-seal-clause-stopped g c = OnErr_from c.from_residual.result (λ m
     let a = g.N.Nor.device c.args.nor.now in
     let b = g.N.Nor.device c.seal.new.nor in
     let fills = whole_fills a.image c.args.self.now m s r h ps x.version x.server x.asking x.job whole (sym c.replace.ensures.value ∙ x.is) in
-    subst (λ (t : Trail Store). Stops t a b) (sym (ends_trail m r h s c.args.now c.args.draw (page_from ps))) (c.in_err-seal.ensures.stopped s r.image h ps whole.mounted fills))
+    subst (λ (t : Trail Store). Stops t a b) (sym (ends_trail m r h s c.args.now c.args.word (page_from ps))) (c.in_err-seal.ensures.stopped s r.image h ps whole.mounted fills))
 
 pub returns-then-branch-clause-done : goal.returns-then-branch-clause-done
 returns-then-branch-clause-done g c m s r h ps whole =
@@ -34,9 +34,9 @@ returns-then-branch-clause-done g c m s r h ps whole =
     let page = c.page-page.ensures ∙ fills.stands.slot.opens.done ∙ whole.next in
     let back = subst (λ (n : ℕ). is_lent w n ≡ false) fills.of_image c.in_ok-seal.ensures.back in
     let others = subst (λ (n : ℕ). (i : ℕ) → i ≢ n → is_lent w i ≡ is_lent v.volume i) fills.of_image (λ i other. c.in_ok-seal.ensures.others i other) in
-    let done = page_done a b v w m s r h ps c.args.now c.args.draw c.new.result _ (heard.Sealed c.image-image.result c.page-page.result) whole (record { fits_is = fits; acted = sealed.1 }) c.new.ensures.value back others
+    let done = page_done a b v w m s r h ps c.args.now c.args.word c.new.result _ (heard.Sealed c.image-image.result c.page-page.result) whole (record { fits_is = fits; acted = sealed.1 }) c.new.ensures.value back others
     (ap (λ (n : ℕ). heard.Sealed n c.page-page.result) image ∙ ap (λ (n : ℕ). heard.Sealed r.image n) page) in
-    subst (λ (y : ModeValue). Done (page_ends m r h s c.args.now c.args.draw (page_from ps)) a b (record v { volume = w; mode = y }) (heard.Sealed c.image-image.result c.page-page.result)) (sym c.replace.ensures.after) done
+    subst (λ (y : ModeValue). Done (page_ends m r h s c.args.now c.args.word (page_from ps)) a b (record v { volume = w; mode = y }) (heard.Sealed c.image-image.result c.page-page.result)) (sym c.replace.ensures.after) done
 
 pub returns-else-branch-clause-done : goal.returns-else-branch-clause-done
 returns-else-branch-clause-done g c m s r h ps whole =
@@ -52,6 +52,6 @@ returns-else-branch-clause-done g c m s r h ps whole =
     let page = c.page-page.ensures ∙ fills.stands.slot.opens.done ∙ whole.next in
     let back = subst (λ (n : ℕ). is_lent w n ≡ false) fills.of_image c.in_ok-seal.ensures.back in
     let others = subst (λ (n : ℕ). (i : ℕ) → i ≢ n → is_lent w i ≡ is_lent v.volume i) fills.of_image (λ i other. c.in_ok-seal.ensures.others i other) in
-    let done = page_done a b v w m s r h ps c.args.now c.args.draw c.new.result _ (heard.Bad c.image-image.result c.page-page.result) whole (record { fits_is = fits; acted = sealed.1 }) c.new.ensures.value back others
+    let done = page_done a b v w m s r h ps c.args.now c.args.word c.new.result _ (heard.Bad c.image-image.result c.page-page.result) whole (record { fits_is = fits; acted = sealed.1 }) c.new.ensures.value back others
     (ap (λ (n : ℕ). heard.Bad n c.page-page.result) image ∙ ap (λ (n : ℕ). heard.Bad r.image n) page) in
-    subst (λ (y : ModeValue). Done (page_ends m r h s c.args.now c.args.draw (page_from ps)) a b (record v { volume = w; mode = y }) (heard.Bad c.image-image.result c.page-page.result)) (sym c.replace.ensures.after) done
+    subst (λ (y : ModeValue). Done (page_ends m r h s c.args.now c.args.word (page_from ps)) a b (record v { volume = w; mode = y }) (heard.Bad c.image-image.result c.page-page.result)) (sym c.replace.ensures.after) done

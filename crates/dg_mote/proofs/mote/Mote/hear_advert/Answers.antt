@@ -18,27 +18,27 @@ pub returns-in-Maintain-clause-done : goal.returns-in-Maintain-clause-done
 returns-in-Maintain-clause-done g c = if_ok c.compare_advert.result c.compare_advert.ensures.done (λ answer done m s is.
     let a = g.N.Nor.device c.args.nor.now in
     let here = maintains_here a.image c.args.self.now m s c.in-Maintain.field-0 is c.in-Maintain.is in
-    subst (λ (y : Mode). Done (on_advert y m s c.args.now c.args.draw (offer c.args.source c.args.entries.now) c.args.order.now) a (g.N.Nor.device c.compare_advert.new.nor) c.compare_advert.new.self answer) (sym here.is) (done m s c.in-Maintain.field-0 is here.is))
+    subst (λ (y : Mode). Done (on_advert y m s c.args.now c.args.word (offer c.args.source c.args.entries.now) c.args.order.now) a (g.N.Nor.device c.compare_advert.new.nor) c.compare_advert.new.self answer) (sym here.is) (done m s c.in-Maintain.field-0 is here.is))
 
 pub returns-in-Maintain-clause-stopped : goal.returns-in-Maintain-clause-stopped
 returns-in-Maintain-clause-stopped g c = on_err c.compare_advert.result c.compare_advert.ensures.stopped (λ stopped m s is.
     let a = g.N.Nor.device c.args.nor.now in
     let here = maintains_here a.image c.args.self.now m s c.in-Maintain.field-0 is c.in-Maintain.is in
-    subst (λ (y : Mode). Stops (on_advert y m s c.args.now c.args.draw (offer c.args.source c.args.entries.now) c.args.order.now).trail a (g.N.Nor.device c.compare_advert.new.nor)) (sym here.is) (stopped m s c.in-Maintain.field-0 is here.is))
+    subst (λ (y : Mode). Stops (on_advert y m s c.args.now c.args.word (offer c.args.source c.args.entries.now) c.args.order.now).trail a (g.N.Nor.device c.compare_advert.new.nor)) (sym here.is) (stopped m s c.in-Maintain.field-0 is here.is))
 
 pub returns-in-Receive-clause-done : goal.returns-in-Receive-clause-done
 returns-in-Receive-clause-done g c m s is =
     let x = c.in-Receive in
     let a = g.N.Nor.device c.args.nor.now in
     let here = receives_here a.image c.args.self.now m s x.version x.server x.asking x.job is x.is in
-    subst (λ (y : Mode). Done (on_advert y m s c.args.now c.args.draw (offer c.args.source c.args.entries.now) c.args.order.now) a a c.args.self.now heard.Dropped) (sym here.is) (dropped_done a c.args.self.now m s is)
+    subst (λ (y : Mode). Done (on_advert y m s c.args.now c.args.word (offer c.args.source c.args.entries.now) c.args.order.now) a a c.args.self.now heard.Dropped) (sym here.is) (dropped_done a c.args.self.now m s is)
 
 pub returns-in-Transmit-clause-done : goal.returns-in-Transmit-clause-done
 returns-in-Transmit-clause-done g c m s is =
     let x = c.in-Transmit in
     let a = g.N.Nor.device c.args.nor.now in
     let here = transmits_here a.image c.args.self.now m s x.image x.version x.page x.serving is x.is in
-    subst (λ (y : Mode). Done (on_advert y m s c.args.now c.args.draw (offer c.args.source c.args.entries.now) c.args.order.now) a a c.args.self.now heard.Dropped) (sym here.is) (dropped_done a c.args.self.now m s is)
+    subst (λ (y : Mode). Done (on_advert y m s c.args.now c.args.word (offer c.args.source c.args.entries.now) c.args.order.now) a a c.args.self.now heard.Dropped) (sym here.is) (dropped_done a c.args.self.now m s is)
 
 pub returns-in-Maintain-clause-unchanged : goal.returns-in-Maintain-clause-unchanged
 returns-in-Maintain-clause-unchanged g c = not_dropped ((g.N.Nor.device c.compare_advert.new.nor ≡ g.N.Nor.device c.args.nor.now) × (c.compare_advert.new.self ≡ c.args.self.now)) c.compare_advert.result c.compare_advert.ensures.not_dropped

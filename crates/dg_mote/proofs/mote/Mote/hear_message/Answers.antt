@@ -39,7 +39,7 @@ returns-then-source-self-clause-done g c m s is =
     let a = g.N.Nor.device c.args.nor.now in
     let v = c.args.self.now in
     let e = own_source _ (source_of c.args.message.now) _ m.id c.source.ensures is.id c.if-source-self.true in
-    subst (λ (t : MoteStep Heard). Done t a a v heard.Dropped) (sym (chosen (source_of c.args.message.now == m.id) (dropped m s) (on_message m s c.args.now c.args.draw c.args.message.now) e)) (dropped_done a v m s is)
+    subst (λ (t : MoteStep Heard). Done t a a v heard.Dropped) (sym (chosen (source_of c.args.message.now == m.id) (dropped m s) (on_message m s c.args.now c.args.word c.args.message.now) e)) (dropped_done a v m s is)
 
 pub returns-in-Advert-clause-done : goal.returns-in-Advert-clause-done
 returns-in-Advert-clause-done g c = if_ok c.hear_advert.result c.hear_advert.ensures.done (λ answer done m s is.
@@ -47,16 +47,16 @@ returns-in-Advert-clause-done g c = if_ok c.hear_advert.result c.hear_advert.ens
     let b = g.N.Nor.device c.hear_advert.new.nor in
     let v = c.hear_advert.new.self in
     let e = other_source _ (source_of c.args.message.now) _ m.id c.source.ensures is.id c.if-source-self.false in
-    subst (λ (t : MoteStep Heard). Done t a b v answer) (sym (passed (source_of c.args.message.now == m.id) (dropped m s) (on_message m s c.args.now c.args.draw c.args.message.now) e))
-    (subst (λ (y : Message). Done (on_message m s c.args.now c.args.draw y) a b v answer) (sym c.in-Advert.is) (done m s is)))
+    subst (λ (t : MoteStep Heard). Done t a b v answer) (sym (passed (source_of c.args.message.now == m.id) (dropped m s) (on_message m s c.args.now c.args.word c.args.message.now) e))
+    (subst (λ (y : Message). Done (on_message m s c.args.now c.args.word y) a b v answer) (sym c.in-Advert.is) (done m s is)))
 
 pub returns-in-Advert-clause-stopped : goal.returns-in-Advert-clause-stopped
 returns-in-Advert-clause-stopped g c = on_err c.hear_advert.result c.hear_advert.ensures.stopped (λ stopped m s is.
     let a = g.N.Nor.device c.args.nor.now in
     let b = g.N.Nor.device c.hear_advert.new.nor in
     let e = other_source _ (source_of c.args.message.now) _ m.id c.source.ensures is.id c.if-source-self.false in
-    subst (λ (t : MoteStep Heard). Stops t.trail a b) (sym (passed (source_of c.args.message.now == m.id) (dropped m s) (on_message m s c.args.now c.args.draw c.args.message.now) e))
-    (subst (λ (y : Message). Stops (on_message m s c.args.now c.args.draw y).trail a b) (sym c.in-Advert.is) (stopped m s is)))
+    subst (λ (t : MoteStep Heard). Stops t.trail a b) (sym (passed (source_of c.args.message.now == m.id) (dropped m s) (on_message m s c.args.now c.args.word c.args.message.now) e))
+    (subst (λ (y : Message). Stops (on_message m s c.args.now c.args.word y).trail a b) (sym c.in-Advert.is) (stopped m s is)))
 
 pub returns-in-Request-clause-done : goal.returns-in-Request-clause-done
 returns-in-Request-clause-done g c m s is =
@@ -64,8 +64,8 @@ returns-in-Request-clause-done g c m s is =
     let a = g.N.Nor.device c.args.nor.now in
     let v = c.hear_request.new.self in
     let e = other_source _ (source_of c.args.message.now) _ m.id c.source.ensures is.id c.if-source-self.false in
-    subst (λ (t : MoteStep Heard). Done t a a v c.hear_request.result) (sym (passed (source_of c.args.message.now == m.id) (dropped m s) (on_message m s c.args.now c.args.draw c.args.message.now) e))
-    (subst (λ (y : Message). Done (on_message m s c.args.now c.args.draw y) a a v c.hear_request.result) (sym c.in-Request.is) (rests_done (on_request m s c.args.now x.to (page_request x.image x.version x.page x.want)) a s v c.hear_request.result (subst (λ (n : PageName). ChipStays (on_request m s c.args.now x.to (page_request n.image n.version n.page x.want)) a.image s v c.hear_request.result) c.new-name.ensures (c.hear_request.ensures.rests a.image m s is))))
+    subst (λ (t : MoteStep Heard). Done t a a v c.hear_request.result) (sym (passed (source_of c.args.message.now == m.id) (dropped m s) (on_message m s c.args.now c.args.word c.args.message.now) e))
+    (subst (λ (y : Message). Done (on_message m s c.args.now c.args.word y) a a v c.hear_request.result) (sym c.in-Request.is) (rests_done (on_request m s c.args.now x.to (page_request x.image x.version x.page x.want)) a s v c.hear_request.result (subst (λ (n : PageName). ChipStays (on_request m s c.args.now x.to (page_request n.image n.version n.page x.want)) a.image s v c.hear_request.result) c.new-name.ensures (c.hear_request.ensures.rests a.image m s is))))
 
 pub returns-in-Packet-clause-done : goal.returns-in-Packet-clause-done
 returns-in-Packet-clause-done g c = if_ok c.hear_packet.result c.hear_packet.ensures.done (λ answer done m s is.
@@ -74,8 +74,8 @@ returns-in-Packet-clause-done g c = if_ok c.hear_packet.result c.hear_packet.ens
     let b = g.N.Nor.device c.hear_packet.new.nor in
     let v = c.hear_packet.new.self in
     let e = other_source _ (source_of c.args.message.now) _ m.id c.source.ensures is.id c.if-source-self.false in
-    subst (λ (t : MoteStep Heard). Done t a b v answer) (sym (passed (source_of c.args.message.now == m.id) (dropped m s) (on_message m s c.args.now c.args.draw c.args.message.now) e))
-    (subst (λ (y : Message). Done (on_message m s c.args.now c.args.draw y) a b v answer) (sym c.in-Packet.is) (subst (λ (n : PageName). Done (on_packet m.mode m s c.args.now c.args.draw (page_packet n.image n.version n.page x.packet x.bytes)) a b v answer) c.new-name-in-Packet.ensures (done m s is))))
+    subst (λ (t : MoteStep Heard). Done t a b v answer) (sym (passed (source_of c.args.message.now == m.id) (dropped m s) (on_message m s c.args.now c.args.word c.args.message.now) e))
+    (subst (λ (y : Message). Done (on_message m s c.args.now c.args.word y) a b v answer) (sym c.in-Packet.is) (subst (λ (n : PageName). Done (on_packet m.mode m s c.args.now c.args.word (page_packet n.image n.version n.page x.packet x.bytes)) a b v answer) c.new-name-in-Packet.ensures (done m s is))))
 
 pub returns-in-Packet-clause-stopped : goal.returns-in-Packet-clause-stopped
 returns-in-Packet-clause-stopped g c = on_err c.hear_packet.result c.hear_packet.ensures.stopped (λ stopped m s is.
@@ -83,8 +83,8 @@ returns-in-Packet-clause-stopped g c = on_err c.hear_packet.result c.hear_packet
     let a = g.N.Nor.device c.args.nor.now in
     let b = g.N.Nor.device c.hear_packet.new.nor in
     let e = other_source _ (source_of c.args.message.now) _ m.id c.source.ensures is.id c.if-source-self.false in
-    subst (λ (t : MoteStep Heard). Stops t.trail a b) (sym (passed (source_of c.args.message.now == m.id) (dropped m s) (on_message m s c.args.now c.args.draw c.args.message.now) e))
-    (subst (λ (y : Message). Stops (on_message m s c.args.now c.args.draw y).trail a b) (sym c.in-Packet.is) (subst (λ (n : PageName). Stops (on_packet m.mode m s c.args.now c.args.draw (page_packet n.image n.version n.page x.packet x.bytes)).trail a b) c.new-name-in-Packet.ensures (stopped m s is))))
+    subst (λ (t : MoteStep Heard). Stops t.trail a b) (sym (passed (source_of c.args.message.now == m.id) (dropped m s) (on_message m s c.args.now c.args.word c.args.message.now) e))
+    (subst (λ (y : Message). Stops (on_message m s c.args.now c.args.word y).trail a b) (sym c.in-Packet.is) (subst (λ (n : PageName). Stops (on_packet m.mode m s c.args.now c.args.word (page_packet n.image n.version n.page x.packet x.bytes)).trail a b) c.new-name-in-Packet.ensures (stopped m s is))))
 
 pub returns-in-Wide-clause-done : goal.returns-in-Wide-clause-done
 returns-in-Wide-clause-done g c = if_ok c.hear_advert-in-Wide.result c.hear_advert-in-Wide.ensures.done (λ answer done m s is.
@@ -92,13 +92,13 @@ returns-in-Wide-clause-done g c = if_ok c.hear_advert-in-Wide.result c.hear_adve
     let b = g.N.Nor.device c.hear_advert-in-Wide.new.nor in
     let v = c.hear_advert-in-Wide.new.self in
     let e = other_source _ (source_of c.args.message.now) _ m.id c.source.ensures is.id c.if-source-self.false in
-    subst (λ (t : MoteStep Heard). Done t a b v answer) (sym (passed (source_of c.args.message.now == m.id) (dropped m s) (on_message m s c.args.now c.args.draw c.args.message.now) e))
-    (subst (λ (y : Message). Done (on_message m s c.args.now c.args.draw y) a b v answer) (sym c.in-Wide.is) (done m s is)))
+    subst (λ (t : MoteStep Heard). Done t a b v answer) (sym (passed (source_of c.args.message.now == m.id) (dropped m s) (on_message m s c.args.now c.args.word c.args.message.now) e))
+    (subst (λ (y : Message). Done (on_message m s c.args.now c.args.word y) a b v answer) (sym c.in-Wide.is) (done m s is)))
 
 pub returns-in-Wide-clause-stopped : goal.returns-in-Wide-clause-stopped
 returns-in-Wide-clause-stopped g c = on_err c.hear_advert-in-Wide.result c.hear_advert-in-Wide.ensures.stopped (λ stopped m s is.
     let a = g.N.Nor.device c.args.nor.now in
     let b = g.N.Nor.device c.hear_advert-in-Wide.new.nor in
     let e = other_source _ (source_of c.args.message.now) _ m.id c.source.ensures is.id c.if-source-self.false in
-    subst (λ (t : MoteStep Heard). Stops t.trail a b) (sym (passed (source_of c.args.message.now == m.id) (dropped m s) (on_message m s c.args.now c.args.draw c.args.message.now) e))
-    (subst (λ (y : Message). Stops (on_message m s c.args.now c.args.draw y).trail a b) (sym c.in-Wide.is) (stopped m s is)))
+    subst (λ (t : MoteStep Heard). Stops t.trail a b) (sym (passed (source_of c.args.message.now == m.id) (dropped m s) (on_message m s c.args.now c.args.word c.args.message.now) e))
+    (subst (λ (y : Message). Stops (on_message m s c.args.now c.args.word y).trail a b) (sym c.in-Wide.is) (stopped m s is)))

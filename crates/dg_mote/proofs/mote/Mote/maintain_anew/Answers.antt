@@ -18,6 +18,6 @@ returns-in-Receive c d m s h =
       wide = h.wide;
       noted = h.noted;
       mounted = freed.mounted;
-      mode = subst (λ (x : ModeValue). ModeStands d w s x (Maintain (started c.args.now c.args.draw))) (sym c.replace.ensures.after) (c.new.ensures.value, freed.free);
+      mode = subst (λ (x : ModeValue). ModeStands d w s x (Maintain (started c.args.now c.args.word))) (sym c.replace.ensures.after) (c.new.ensures.value, freed.free);
       known = tt;
     }

@@ -88,7 +88,7 @@ returns-in_err-message-in-Send-clause-stopped g c = OnErr_from c.from_residual.r
     let a = g.N.Nor.device c.args.nor.now in
     let arm = c.in-Transmit in
     let at = transmitting a.image c.args.self.now m s arm.image arm.version arm.page arm.serving arm.is h in
-    read_stops _ a (g.N.Nor.device c.packet_message.new.nor) _ s _ _ (transmit_turn m s at.t arm.serving _ c.args.now c.args.draw at.is at.owes c.in-Send.ensures.serve) h.mounted.stands c.in_err-message-in-Send.ensures.ends)
+    read_stops _ a (g.N.Nor.device c.packet_message.new.nor) _ s _ _ (transmit_turn m s at.t arm.serving _ c.args.now c.args.word at.is at.owes c.in-Send.ensures.serve) h.mounted.stands c.in_err-message-in-Send.ensures.ends)
 
 pub put-requires-in-Send : goal.put-requires-in-Send
 put-requires-in-Send g c =
@@ -107,7 +107,7 @@ returns-in-Maintain-clause-done g c m s h =
     let new = c.maintain.new.trickle in
     let at = at_maintain a.image v.volume s arm.trickle m.mode (subst (λ (x : ModeValue). ModeStands a.image v.volume s x m.mode) arm.is h.mode) in
     let shows = c.maintain.ensures m s (sym h.id) (sym h.wide) at.is h.mounted.tells in
-    let turn = ap (λ (mode : Mode). mode_tick mode m s c.args.now c.args.draw) at.is in
+    let turn = ap (λ (mode : Mode). mode_tick mode m s c.args.now c.args.word) at.is in
     rests_done _ a a _ (record m { mode = Maintain new }) s c.maintain.result (ap (λ t. t.mote) turn ∙ shows.mote) (ap (λ t. t.trail) turn ∙ shows.trail) (shows.answer ∙ sym (ap (λ t. t.answer) turn)) (Looked-none a)
     (with_mode a.image a.image v m s (value.Maintain new) (Maintain new) refl h (refl, at.free) tt)
 
@@ -117,7 +117,7 @@ returns-in-Request-clause-done g c m s h =
     let v = c.args.self.now in
     let arm = c.in-Receive in
     let at = receiving a.image v m s arm.version arm.server arm.asking arm.job arm.is h in
-    turn_done _ a a _ _ s _ Sent (receive_turn m s at.r arm.asking _ c.args.now c.args.draw at.is at.asks c.in-Request.ensures.ask) (Looked-none a)
+    turn_done _ a a _ _ s _ Sent (receive_turn m s at.r arm.asking _ c.args.now c.args.word at.is at.asks c.in-Request.ensures.ask) (Looked-none a)
     (with_mode a.image a.image v m s (value.Receive arm.version arm.server c.next.new.self arm.job) (Receive (asked at.r c.args.now)) refl h
     (asked_stands a.image v.volume s arm.version arm.server c.args.now arm.asking c.next.new.self arm.job at.r at.asks c.next.ensures.after at.from_server at.of_version at.receives)
     (subst (NamesKnown m.wide) at.is h.known))
@@ -128,7 +128,7 @@ returns-in-GiveUp-clause-done g c m s h =
     let v = c.args.self.now in
     let arm = c.in-Receive in
     let at = receiving a.image v m s arm.version arm.server arm.asking arm.job arm.is h in
-    turn_done _ a a _ _ s _ Idle (receive_turn m s at.r arm.asking _ c.args.now c.args.draw at.is at.asks c.in-GiveUp.ensures.ask) (Looked-none a)
+    turn_done _ a a _ _ s _ Idle (receive_turn m s at.r arm.asking _ c.args.now c.args.word at.is at.asks c.in-GiveUp.ensures.ask) (Looked-none a)
     (c.maintain_anew.ensures a.image m s (same_mote a.image v m s (value.Receive arm.version arm.server c.next.new.self arm.job)
     (ap (λ (y : Reception). value.Receive arm.version arm.server y arm.job) (gives_up_same arm.asking c.next.new.self c.args.now c.in-GiveUp.ensures.ask c.next.ensures.after) ∙ sym arm.is) h))
 
@@ -138,7 +138,7 @@ returns-in-Wait-clause-done g c m s h =
     let v = c.args.self.now in
     let arm = c.in-Receive in
     let at = receiving a.image v m s arm.version arm.server arm.asking arm.job arm.is h in
-    turn_done _ a a _ _ s _ Idle (receive_turn m s at.r arm.asking _ c.args.now c.args.draw at.is at.asks c.in-Wait.ensures.ask) (Looked-none a)
+    turn_done _ a a _ _ s _ Idle (receive_turn m s at.r arm.asking _ c.args.now c.args.word at.is at.asks c.in-Wait.ensures.ask) (Looked-none a)
     (same_mote a.image v m s (value.Receive arm.version arm.server c.next.new.self arm.job)
     (ap (λ (y : Reception). value.Receive arm.version arm.server y arm.job) (waits_same arm.asking c.next.new.self c.args.now c.in-Wait.ensures.ask c.next.ensures.after) ∙ sym arm.is) h)
 
@@ -150,11 +150,11 @@ returns-then-left-eq0-clause-done g c m s h =
     let arm = c.in-Transmit in
     let ends = c.in_ok-message-in-Send.ensures.ends in
     let at = transmitting a.image v m s arm.image arm.version arm.page arm.serving arm.is h in
-    let turn = transmit_turn m s at.t arm.serving _ c.args.now c.args.draw at.is at.owes c.in-Send.ensures.serve in
-    rests_done _ a b _ (maintains m c.args.now c.args.draw) s Sent
-    (ap (λ t. t.mote) turn ∙ last_sent m at.t arm.serving c.next-in-Transmit.new.self c.left.result c.args.now c.args.draw at.owes c.next-in-Transmit.ensures.after c.left.ensures c.if-left-eq0.true)
+    let turn = transmit_turn m s at.t arm.serving _ c.args.now c.args.word at.is at.owes c.in-Send.ensures.serve in
+    rests_done _ a b _ (maintains m c.args.now c.args.word) s Sent
+    (ap (λ t. t.mote) turn ∙ last_sent m at.t arm.serving c.next-in-Transmit.new.self c.left.result c.args.now c.args.word at.owes c.next-in-Transmit.ensures.after c.left.ensures c.if-left-eq0.true)
     (ap (λ t. t.trail) turn) (sym (ap (λ t. t.answer) turn)) ends
-    (with_mode a.image b.image v m s (value.Maintain c.new.result) (Maintain (started c.args.now c.args.draw)) ends.same_image h (c.new.ensures.value, at.transmits.free) tt)
+    (with_mode a.image b.image v m s (value.Maintain c.new.result) (Maintain (started c.args.now c.args.word)) ends.same_image h (c.new.ensures.value, at.transmits.free) tt)
 
 pub returns-then-left-eq0-clause-sent : goal.returns-then-left-eq0-clause-sent
 returns-then-left-eq0-clause-sent g c m s h =
@@ -162,7 +162,7 @@ returns-then-left-eq0-clause-sent g c m s h =
     let arm = c.in-Transmit in
     let at = says a.image c.args.self.now m s arm.image arm.version arm.page c.in-Send.packet arm.serving arm.is h (c.in-Send.ensures.of_page c.in-Send.packet refl) in
     c.put-in-Send.ensures.sent ∙ ap (λ (x : Message). Some (frame_of x)) (c.in_ok-message-in-Send.ensures.message ∙ at.1.is c.args.self.now.id m.id h.id)
-    ∙ sym (ap (λ t. option_map frame_of t.sent) (transmit_turn m s at.0.t arm.serving _ c.args.now c.args.draw at.0.is at.0.owes c.in-Send.ensures.serve))
+    ∙ sym (ap (λ t. option_map frame_of t.sent) (transmit_turn m s at.0.t arm.serving _ c.args.now c.args.word at.0.is at.0.owes c.in-Send.ensures.serve))
 
 pub returns-else-left-eq0-clause-done : goal.returns-else-left-eq0-clause-done
 returns-else-left-eq0-clause-done g c m s h =
@@ -173,8 +173,8 @@ returns-else-left-eq0-clause-done g c m s h =
     let next = c.next-in-Transmit.new.self in
     let ends = c.in_ok-message-in-Send.ensures.ends in
     let at = transmitting a.image v m s arm.image arm.version arm.page arm.serving arm.is h in
-    let turn = transmit_turn m s at.t arm.serving _ c.args.now c.args.draw at.is at.owes c.in-Send.ensures.serve in
-    let on = sent_on a.image v.volume s m at.t arm.image arm.version arm.page arm.serving next c.left.result c.args.now c.args.draw at.of_image at.of_version at.of_page at.owes at.transmits (subst (NamesKnown m.wide) at.is h.known)
+    let turn = transmit_turn m s at.t arm.serving _ c.args.now c.args.word at.is at.owes c.in-Send.ensures.serve in
+    let on = sent_on a.image v.volume s m at.t arm.image arm.version arm.page arm.serving next c.left.result c.args.now c.args.word at.of_image at.of_version at.of_page at.owes at.transmits (subst (NamesKnown m.wide) at.is h.known)
     c.next-in-Transmit.ensures.after c.left.ensures c.if-left-eq0.false in
     rests_done _ a b _ (record m { mode = on.mode }) s Sent (ap (λ t. t.mote) turn ∙ on.is) (ap (λ t. t.trail) turn) (sym (ap (λ t. t.answer) turn)) ends
     (with_mode a.image b.image v m s (value.Transmit arm.image arm.version arm.page next) on.mode ends.same_image h on.stands on.known)
@@ -185,7 +185,7 @@ returns-else-left-eq0-clause-sent g c m s h =
     let arm = c.in-Transmit in
     let at = says a.image c.args.self.now m s arm.image arm.version arm.page c.in-Send.packet arm.serving arm.is h (c.in-Send.ensures.of_page c.in-Send.packet refl) in
     c.put-in-Send.ensures.sent ∙ ap (λ (x : Message). Some (frame_of x)) (c.in_ok-message-in-Send.ensures.message ∙ at.1.is c.args.self.now.id m.id h.id)
-    ∙ sym (ap (λ t. option_map frame_of t.sent) (transmit_turn m s at.0.t arm.serving _ c.args.now c.args.draw at.0.is at.0.owes c.in-Send.ensures.serve))
+    ∙ sym (ap (λ t. option_map frame_of t.sent) (transmit_turn m s at.0.t arm.serving _ c.args.now c.args.word at.0.is at.0.owes c.in-Send.ensures.serve))
 
 pub returns-in-Done : goal.returns-in-Done
 returns-in-Done g c =
@@ -196,15 +196,15 @@ returns-in-Done g c =
     record {
       done = λ m s h.
           let at = transmitting a.image v m s arm.image arm.version arm.page arm.serving arm.is h in
-          turn_done _ a a _ m s None Idle (idle_turn m s at.t arm.serving next.result c.args.now c.args.draw at.is at.owes c.in-Done.is next.ensures.serve) (Looked-none a)
+          turn_done _ a a _ m s None Idle (idle_turn m s at.t arm.serving next.result c.args.now c.args.word at.is at.owes c.in-Done.is next.ensures.serve) (Looked-none a)
           (same_mote a.image v m s (value.Transmit arm.image arm.version arm.page next.new.self)
           (ap (value.Transmit arm.image arm.version arm.page) (nothing_sent arm.serving next.new.self next.result c.args.now c.in-Done.is next.ensures.serve next.ensures.after) ∙ sym arm.is) h);
       sent = λ m s h.
           let at = transmitting a.image v m s arm.image arm.version arm.page arm.serving arm.is h in
-          c.requires.empty ∙ sym (ap (λ t. option_map frame_of t.sent) (idle_turn m s at.t arm.serving next.result c.args.now c.args.draw at.is at.owes c.in-Done.is next.ensures.serve));
+          c.requires.empty ∙ sym (ap (λ t. option_map frame_of t.sent) (idle_turn m s at.t arm.serving next.result c.args.now c.args.word at.is at.owes c.in-Done.is next.ensures.serve));
       read = λ m s h.
           let at = transmitting a.image v m s arm.image arm.version arm.page arm.serving arm.is h in
-          subst (λ (t : MoteStep Did). IfSome t.sent (IsRead m.wide)) (sym (idle_turn m s at.t arm.serving next.result c.args.now c.args.draw at.is at.owes c.in-Done.is next.ensures.serve)) tt;
+          subst (λ (t : MoteStep Did). IfSome t.sent (IsRead m.wide)) (sym (idle_turn m s at.t arm.serving next.result c.args.now c.args.word at.is at.owes c.in-Done.is next.ensures.serve)) tt;
       same_reference = refl;
       stopped = tt;
       nothing_sent = tt;
@@ -217,14 +217,14 @@ returns-in-Maintain-clause-read g c m s h =
     let arm = c.in-Maintain in
     let at = at_maintain a.image v.volume s arm.trickle m.mode (subst (λ (x : ModeValue). ModeStands a.image v.volume s x m.mode) arm.is h.mode) in
     let shows = c.maintain.ensures m s (sym h.id) (sym h.wide) at.is h.mounted.tells in
-    subst (λ (mode : Mode). IfSome (mode_tick mode m s c.args.now c.args.draw).sent (IsRead m.wide)) (sym at.is) shows.read
+    subst (λ (mode : Mode). IfSome (mode_tick mode m s c.args.now c.args.word).sent (IsRead m.wide)) (sym at.is) shows.read
 
 pub returns-then-left-eq0-clause-read : goal.returns-then-left-eq0-clause-read
 returns-then-left-eq0-clause-read g c m s h =
     let a = g.N.Nor.device c.args.nor.now in
     let arm = c.in-Transmit in
     let at = says a.image c.args.self.now m s arm.image arm.version arm.page c.in-Send.packet arm.serving arm.is h (c.in-Send.ensures.of_page c.in-Send.packet refl) in
-    subst (λ (t : MoteStep Did). IfSome t.sent (IsRead m.wide)) (sym (transmit_turn m s at.0.t arm.serving _ c.args.now c.args.draw at.0.is at.0.owes c.in-Send.ensures.serve))
+    subst (λ (t : MoteStep Did). IfSome t.sent (IsRead m.wide)) (sym (transmit_turn m s at.0.t arm.serving _ c.args.now c.args.word at.0.is at.0.owes c.in-Send.ensures.serve))
     (subst (IsRead m.wide) (c.in_ok-message-in-Send.ensures.message ∙ at.1.is c.args.self.now.id m.id h.id)
     (c.put-in-Send.ensures.read m.wide
     (said_fits a.image c.args.self.now m s arm.image arm.version arm.page c.in-Send.packet arm.serving c.in_ok-message-in-Send.message arm.is h (c.in-Send.ensures.of_page c.in-Send.packet refl) c.in_ok-message-in-Send.ensures.message)))
@@ -234,7 +234,7 @@ returns-else-left-eq0-clause-read g c m s h =
     let a = g.N.Nor.device c.args.nor.now in
     let arm = c.in-Transmit in
     let at = says a.image c.args.self.now m s arm.image arm.version arm.page c.in-Send.packet arm.serving arm.is h (c.in-Send.ensures.of_page c.in-Send.packet refl) in
-    subst (λ (t : MoteStep Did). IfSome t.sent (IsRead m.wide)) (sym (transmit_turn m s at.0.t arm.serving _ c.args.now c.args.draw at.0.is at.0.owes c.in-Send.ensures.serve))
+    subst (λ (t : MoteStep Did). IfSome t.sent (IsRead m.wide)) (sym (transmit_turn m s at.0.t arm.serving _ c.args.now c.args.word at.0.is at.0.owes c.in-Send.ensures.serve))
     (subst (IsRead m.wide) (c.in_ok-message-in-Send.ensures.message ∙ at.1.is c.args.self.now.id m.id h.id)
     (c.put-in-Send.ensures.read m.wide
     (said_fits a.image c.args.self.now m s arm.image arm.version arm.page c.in-Send.packet arm.serving c.in_ok-message-in-Send.message arm.is h (c.in-Send.ensures.of_page c.in-Send.packet refl) c.in_ok-message-in-Send.ensures.message)))
@@ -248,6 +248,6 @@ returns-in-Request-clause-read g c m s h =
     let x = at.receives in
     let said : Request v.id arm.server (outline_told (slot_of arm.job)).image arm.version (done_told (slot_of arm.job)) c.in-Request.want ≡ Request m.id at.r.server at.r.image at.r.version at.r.page c.in-Request.want =
     λ i. Request (h.id i) (at.from_server i) (x.image i) (at.of_version i) ((x.stands.slot.opens.done ∙ x.next) i) c.in-Request.want in
-    subst (λ (t : MoteStep Did). IfSome t.sent (IsRead m.wide)) (sym (receive_turn m s at.r arm.asking _ c.args.now c.args.draw at.is at.asks c.in-Request.ensures.ask))
+    subst (λ (t : MoteStep Did). IfSome t.sent (IsRead m.wide)) (sym (receive_turn m s at.r arm.asking _ c.args.now c.args.word at.is at.asks c.in-Request.ensures.ask))
     (subst (IsRead m.wide) (c.request_message.ensures ∙ said)
     (c.put.ensures.read m.wide (asked_fits a.image v m s arm.version arm.server c.args.now arm.asking arm.job c.in-Request.want c.request_message.result arm.is h c.in-Request.ensures.ask c.request_message.ensures)))

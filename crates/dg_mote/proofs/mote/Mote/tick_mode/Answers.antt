@@ -17,7 +17,7 @@ returns-in-Maintain-clause-done g c m s h =
     let new = c.maintain.new.trickle in
     let at = at_maintain a.image v.volume s arm.trickle m.mode (subst (λ (x : ModeValue). ModeStands a.image v.volume s x m.mode) arm.is h.mode) in
     let shows = c.maintain.ensures m s (sym h.id) (sym h.wide) at.is h.mounted.tells in
-    let turn = ap (λ (mode : Mode). mode_tick mode m s c.args.now c.args.draw) at.is in
+    let turn = ap (λ (mode : Mode). mode_tick mode m s c.args.now c.args.word) at.is in
     rests_done _ a a _ (record m { mode = Maintain new }) s c.maintain.result (ap (λ t. t.mote) turn ∙ shows.mote) (ap (λ t. t.trail) turn ∙ shows.trail) (shows.answer ∙ sym (ap (λ t. t.answer) turn)) (Looked-none a)
     (with_mode a.image a.image v m s (value.Maintain new) (Maintain new) refl h (refl, at.free) tt)
 
@@ -28,4 +28,4 @@ returns-in-Maintain-clause-read g c m s h =
     let arm = c.in-Maintain in
     let at = at_maintain a.image v.volume s arm.trickle m.mode (subst (λ (x : ModeValue). ModeStands a.image v.volume s x m.mode) arm.is h.mode) in
     let shows = c.maintain.ensures m s (sym h.id) (sym h.wide) at.is h.mounted.tells in
-    subst (λ (mode : Mode). IfSome (mode_tick mode m s c.args.now c.args.draw).sent (IsRead m.wide)) (sym at.is) shows.read
+    subst (λ (mode : Mode). IfSome (mode_tick mode m s c.args.now c.args.word).sent (IsRead m.wide)) (sym at.is) shows.read

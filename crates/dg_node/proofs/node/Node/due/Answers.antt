@@ -2,4 +2,4 @@ use Rattle.dg_node.proofs.NodeLemmas.{rest_is}
 use Rattle.dg_node.proofs.node.Node.due.Goals as goal
 
 pub returns : goal.returns
-returns c = λ d m s now draw mote l. rest_is m s now draw (c.due.ensures d m s mote now draw l)
+returns c = λ d m s now word mote l. rest_is m s now word (c.due.ensures d m s mote now word l)

@@ -20,7 +20,7 @@ returns-in_err-volume-clause-done g c = λ r s stands node.
     let b = g.N.Nor.device c.mount_known.new.board in
     let x = c.args.image.now in
     let row : Row = row_of x.image_version.image x.image_version.version x.name.now x.bytes.now in
-    let e = inject_effect (running_mote r) s row c.args.now c.args.draw in
+    let e = inject_effect (running_mote r) s row c.args.now c.args.word in
     let refusal = inject_refusal s row in
     let v = c.args.runs.now in
     handed (λ y. NodeInjected y refusal e s (host a v) (host b v)) c.from_residual.result (mount_failed c.in_err-volume.field-0.0) c.from_residual.ensures.1
@@ -47,7 +47,7 @@ returns-in-Ok-clause-done g c = λ r s stands node.
     let mounted = to.mounted s stands in
     let ends = c.in-Ok.ensures.ends s mounted in
     let change : Change = record { before = c.report_chip-before.result; after = c.report_chip.result; orderly = c.orderly.result } in
-    act_kept change (inject_refusal s row) (running_mote r) (inject_trail s row) c.args.now c.args.draw s c.inject.new.self c.args.runs.now c.reload.new.runs a m b ends.allowed to.looked ends.acted
+    act_kept change (inject_refusal s row) (running_mote r) (inject_trail s row) c.args.now c.args.word s c.inject.new.self c.args.runs.now c.reload.new.runs a m b ends.allowed to.looked ends.acted
     (c.report_chip-before.ensures s mounted.tells) (c.report_chip.ensures _ ends.acted.mounted.tells) (c.orderly.ensures b.image ends.acted.mounted.control) (c.reload.ensures a.image b.image s _ r node ends.acted.mounted)
 
 pub returns-in-Err-clause-done : goal.returns-in-Err-clause-done
@@ -63,7 +63,7 @@ returns-in-Err-clause-done g c = λ r s stands node.
     let ends = e.ends s mounted in
     let why = c.in-Err.why in
     let v = c.args.runs.now in
-    let effect = inject_effect (running_mote r) s row c.args.now c.args.draw in
+    let effect = inject_effect (running_mote r) s row c.args.now c.args.word in
     let refusal = inject_refusal s row in
     subst (λ y. NodeInjected y refusal effect s (host a v) (host b v)) (sym c.inject_failed.ensures)
     (inject_fails c.report_chip-before.result c.orderly-in-Err.result effect s v a m b why refusal ends.allowed (λ other. ends.refused why refl other) (λ taken. refused_trail s row inject.Taken taken) to.looked

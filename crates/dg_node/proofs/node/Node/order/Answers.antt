@@ -17,7 +17,7 @@ pub returns-in_err-volume-clause-done : goal.returns-in_err-volume-clause-done
 returns-in_err-volume-clause-done g c = λ r s stands node.
     let a = g.N.Nor.device c.args.board.now in
     let b = g.N.Nor.device c.mount_known.new.board in
-    let e = order_effect (running_mote r) s c.args.order c.args.now c.args.draw in
+    let e = order_effect (running_mote r) s c.args.order c.args.now c.args.word in
     let refusal = order_refusal s c.args.order in
     let v = c.args.runs.now in
     handed (λ x. NodeOrdered x refusal e s (host a v) (host b v)) c.from_residual.result (mount_failed c.in_err-volume.field-0.0) c.from_residual.ensures.1
@@ -41,7 +41,7 @@ returns-in-Ok-clause-done g c = λ r s stands node.
     let mounted = to.mounted s stands in
     let acted = c.in-Ok.ensures.acted s mounted in
     let x : Change = record { before = c.report_chip-before.result; after = c.report_chip.result; orderly = c.orderly.result } in
-    act_kept x (order_refusal s c.args.order) (running_mote r) (order_trail s c.args.order) c.args.now c.args.draw s c.order.new.self c.args.runs.now c.reload.new.runs a m b (c.in-Ok.ensures.allowed s mounted) to.looked acted
+    act_kept x (order_refusal s c.args.order) (running_mote r) (order_trail s c.args.order) c.args.now c.args.word s c.order.new.self c.args.runs.now c.reload.new.runs a m b (c.in-Ok.ensures.allowed s mounted) to.looked acted
     (c.report_chip-before.ensures s mounted.tells) (c.report_chip.ensures _ acted.mounted.tells) (c.orderly.ensures b.image acted.mounted.control) (c.reload.ensures a.image b.image s _ r node acted.mounted)
 
 pub returns-in-Ok-clause-reads : goal.returns-in-Ok-clause-reads
@@ -59,7 +59,7 @@ returns-in-Err-clause-done g c = λ r s stands node.
     let e = c.in-Err.ensures in
     let why = c.in-Err.why in
     let v = c.args.runs.now in
-    let effect = order_effect (running_mote r) s c.args.order c.args.now c.args.draw in
+    let effect = order_effect (running_mote r) s c.args.order c.args.now c.args.word in
     let refusal = order_refusal s c.args.order in
     subst (λ x. NodeOrdered x refusal effect s (host a v) (host b v)) (sym c.order_failed.ensures)
     (order_fails c.report_chip-before.result c.orderly-in-Err.result effect s v a m b why refusal (e.allowed s mounted) (λ other. e.refused why refl other s mounted) to.looked (λ other. (e.unchanged why refl other).0)
