@@ -24,9 +24,9 @@ use Rattle.dg_serial_base.specs.Agreeing.{HonestDeed, HonestLine, StandsWell, Ch
 -- what is known of motes that agree
 pub record Laws : Type 0 where
   pub later : (table : List Row) (m : MoteState) (s : Store) (now then : ℕ) → now ≤ then → IsWell table m s now → IsWell table m s then
-  pub ticked : (table : List Row) (m : MoteState) (s : Store) (now draw : ℕ) → IsTable table → IsWell table m s now → EffectIsWell table (tick_effect m s now draw) now
-  pub heard : (table : List Row) (m : MoteState) (s : Store) (now draw : ℕ) (bytes : List ℕ) → IsTable table → IsHonest table bytes → IsWell table m s now → EffectIsWell table (frame_effect m s now draw bytes) now
-  pub reset : (table : List Row) (s : Store) (id now draw : ℕ) (wide : Bool) → IsTable table → StoreIsWell table s → EffectIsWell table (reset_effect s id wide now draw) now
+  pub ticked : (table : List Row) (m : MoteState) (s : Store) (now word : ℕ) → IsTable table → IsWell table m s now → EffectIsWell table (tick_effect m s now word) now
+  pub heard : (table : List Row) (m : MoteState) (s : Store) (now word : ℕ) (bytes : List ℕ) → IsTable table → IsHonest table bytes → IsWell table m s now → EffectIsWell table (frame_effect m s now word bytes) now
+  pub reset : (table : List Row) (s : Store) (id now word : ℕ) (wide : Bool) → IsTable table → StoreIsWell table s → EffectIsWell table (reset_effect s id wide now word) now
   pub stopped : (table : List Row) (t : Trail Store) (k : ℕ) (s : Store) → Through (StoreIsWell table) t → Leaves IsNear t k s → StoreIsWell table s
 
 pub some_well : (P : MoteState → Type 0) (o : Option MoteState) (m : MoteState) → o ≡ Some m → IsSomeAnd o P → P m

@@ -39,8 +39,8 @@ pub record Laws (golden : Row) : Type 0 where
   pub ends : (cause : StartCause) (s : Store) → Boots s (boot cause s)
   pub row : RowLaws golden
   pub found : (cause : StartCause) (s : Store) → sound s 0 ≡ true → IsSome (boot cause s).runs
-  pub ticked : (m : MoteState) (s : Store) (now draw : ℕ) → StoreIsConsistent golden s → AsksForKnown m.mode → TurnIsConsistent golden (tick_of m s now draw)
-  pub heard : (m : MoteState) (s : Store) (now draw : ℕ) (bytes : List ℕ) → StoreIsConsistent golden s → AsksForKnown m.mode → TurnIsConsistent golden (heard_of m s now draw bytes)
+  pub ticked : (m : MoteState) (s : Store) (now word : ℕ) → StoreIsConsistent golden s → AsksForKnown m.mode → TurnIsConsistent golden (tick_of m s now word)
+  pub heard : (m : MoteState) (s : Store) (now word : ℕ) (bytes : List ℕ) → StoreIsConsistent golden s → AsksForKnown m.mode → TurnIsConsistent golden (heard_of m s now word bytes)
   pub stopped : (t : Trail Store) (k : ℕ) (s : Store) → Through (StoreIsConsistent golden) t → Leaves IsNear t k s → StoreIsConsistent golden s
 
 module _ (golden : Row) (laws : Laws golden) where
@@ -65,42 +65,42 @@ module _ (golden : Row) (laws : Laws golden) where
       (through_both (Consistent golden) HasSlots b.trail (laws.boots k s p.consistent)
       (through_then (OnTheWay s b.runs) HasSlots (λ x on. ap length on.kept ∙ p.count) b.trail (laws.ends k s).way))
 
-  boot_by_holds : (o : Option Runs) (t : Trail Store) (id : ℕ) (wide : Bool) (now draw : ℕ) → IsSome o → IfSome o (λ r. IsSoundApp golden (app_of r)) → Through P t → Holds (boot_by o t id wide now draw)
-  boot_by_holds None t id wide now draw some starts way = absurd cc
-  boot_by_holds (Some r) t id wide now draw some starts way = record { way = way; starts = starts; mote = tt }
+  boot_by_holds : (o : Option Runs) (t : Trail Store) (id : ℕ) (wide : Bool) (now word : ℕ) → IsSome o → IfSome o (λ r. IsSoundApp golden (app_of r)) → Through P t → Holds (boot_by o t id wide now word)
+  boot_by_holds None t id wide now word some starts way = absurd cc
+  boot_by_holds (Some r) t id wide now word some starts way = record { way = way; starts = starts; mote = tt }
 
-  boots_hold : (k : StartCause) (s : Store) (id : ℕ) (wide : Bool) (now draw : ℕ) → P s → Holds (boots k s id wide now draw)
-  boots_hold k s id wide now draw p =
+  boots_hold : (k : StartCause) (s : Store) (id : ℕ) (wide : Bool) (now word : ℕ) → P s → Holds (boots k s id wide now word)
+  boots_hold k s id wide now word p =
       let b = boot k s in
-      boot_by_holds b.runs b.trail id wide now draw (laws.found k s (laws.row.is_sound s 0 p.consistent.golden)) (laws.starts k s p.consistent) (boot_way k s p)
+      boot_by_holds b.runs b.trail id wide now word (laws.found k s (laws.row.is_sound s 0 p.consistent.golden)) (laws.starts k s p.consistent) (boot_way k s p)
 
-  reset_holds : (s : Store) (id : ℕ) (wide : Bool) (now draw : ℕ) → P s → Holds (reset_effect s id wide now draw)
+  reset_holds : (s : Store) (id : ℕ) (wide : Bool) (now word : ℕ) → P s → Holds (reset_effect s id wide now word)
   unfolding reset_effect
-  reset_holds s id wide now draw p = boots_hold cause.Power s id wide now draw p
+  reset_holds s id wide now word p = boots_hold cause.Power s id wide now word p
 
   -- ---- ticks and frames
 
   joined_holds : (t : Trail Store) (e : Effect) → Through P t → Holds e → Holds (record e { trail = joined t e.trail })
   joined_holds t e way h = record { way = Through-joined P t e.trail way h.way; starts = h.starts; mote = h.mote }
 
-  tick_by_holds : (a : Did) (step : MoteStep Did) (now draw : ℕ) → TurnIsConsistent golden step → Holds (tick_by a step now draw)
-  tick_by_holds Restart step now draw h =
+  tick_by_holds : (a : Did) (step : MoteStep Did) (now word : ℕ) → TurnIsConsistent golden step → Holds (tick_by a step now word)
+  tick_by_holds Restart step now word h =
       let s = last step.trail in
-      joined_holds step.trail (boots cause.Order s step.mote.id step.mote.wide now draw) h.way
-      (boots_hold cause.Order s step.mote.id step.mote.wide now draw (Through-last P step.trail h.way))
-  tick_by_holds Sent step now draw h = record { way = h.way; starts = tt; mote = h.asks }
-  tick_by_holds Idle step now draw h = record { way = h.way; starts = tt; mote = h.asks }
+      joined_holds step.trail (boots cause.Order s step.mote.id step.mote.wide now word) h.way
+      (boots_hold cause.Order s step.mote.id step.mote.wide now word (Through-last P step.trail h.way))
+  tick_by_holds Sent step now word h = record { way = h.way; starts = tt; mote = h.asks }
+  tick_by_holds Idle step now word h = record { way = h.way; starts = tt; mote = h.asks }
 
-  tick_holds : (m : MoteState) (s : Store) (now draw : ℕ) → P s → AsksForKnown m.mode → Holds (tick_effect m s now draw)
+  tick_holds : (m : MoteState) (s : Store) (now word : ℕ) → P s → AsksForKnown m.mode → Holds (tick_effect m s now word)
   unfolding tick_effect
-  tick_holds m s now draw p asks = tick_by_holds (tick_of m s now draw).answer (tick_of m s now draw) now draw (laws.ticked m s now draw p asks)
+  tick_holds m s now word p asks = tick_by_holds (tick_of m s now word).answer (tick_of m s now word) now word (laws.ticked m s now word p asks)
 
   silent_holds : {A : Type 0} (step : MoteStep A) → TurnIsConsistent golden step → Holds (silent step)
   silent_holds step h = record { way = h.way; starts = tt; mote = h.asks }
 
-  frame_holds : (m : MoteState) (s : Store) (now draw : ℕ) (bytes : List ℕ) → P s → AsksForKnown m.mode → Holds (frame_effect m s now draw bytes)
+  frame_holds : (m : MoteState) (s : Store) (now word : ℕ) (bytes : List ℕ) → P s → AsksForKnown m.mode → Holds (frame_effect m s now word bytes)
   unfolding frame_effect
-  frame_holds m s now draw bytes p asks = silent_holds (heard_of m s now draw bytes) (laws.heard m s now draw bytes p asks)
+  frame_holds m s now word bytes p asks = silent_holds (heard_of m s now word bytes) (laws.heard m s now word bytes p asks)
 
   -- ---- the deeds of a line
 

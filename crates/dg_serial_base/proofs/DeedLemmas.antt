@@ -96,13 +96,13 @@ pub timely_next : ((m : MoteState) (now then : ℕ) → now ≤ then → Timely 
 timely_next law m moment step new now t p q = let le : moment ≤ now = omega (arith, p, q) in law m moment now le t
 
 -- the node did this at that moment
-module _ (b : Base) (s : Store) (done : List Deed) (before : At) (v : Running) (c : List ℕ) (stood : Stood b s done v c before) (d : Deed) (at : ℕ → ℕ → Effect) (now draw : ℕ)
-    (drawn : (now ≡ moment_at b before.events) × (draw ≡ draw_at b before.events)) (means : at (moment_at b before.events) (draw_at b before.events) ≡ effect_of b stood.state before d) where
-  effect_is : at now draw ≡ effect_of b stood.state before d
-  effect_is = ap (λ (x : ℕ). at x draw) drawn.0 ∙ ap (λ (x : ℕ). at (moment_at b before.events) x) drawn.1 ∙ means
+module _ (b : Base) (s : Store) (done : List Deed) (before : At) (v : Running) (c : List ℕ) (stood : Stood b s done v c before) (d : Deed) (at : ℕ → ℕ → Effect) (now word : ℕ)
+    (drawn : (now ≡ moment_at b before.events) × (word ≡ draw_at b before.events)) (means : at (moment_at b before.events) (draw_at b before.events) ≡ effect_of b stood.state before d) where
+  effect_is : at now word ≡ effect_of b stood.state before d
+  effect_is = ap (λ (x : ℕ). at x word) drawn.0 ∙ ap (λ (x : ℕ). at (moment_at b before.events) x) drawn.1 ∙ means
 
-  pub done_at : (r : NodeEnd) (u : Running) (a new : Device) (frame : Option (List ℕ)) → now ≡ u.timeline.moment → IsTime u.timeline b (suc before.events) → Stands a.image before.store → NodeDone r frame (at now draw) (host a (Some v.node)) (host new (Some u.node))
-      → IfSome (at now draw).mote (λ m. Timely m now) → DeedEnds (result_of r) b s done d before (deed_left u new frame)
+  pub done_at : (r : NodeEnd) (u : Running) (a new : Device) (frame : Option (List ℕ)) → now ≡ u.timeline.moment → IsTime u.timeline b (suc before.events) → Stands a.image before.store → NodeDone r frame (at now word) (host a (Some v.node)) (host new (Some u.node))
+      → IfSome (at now word).mote (λ m. Timely m now) → DeedEnds (result_of r) b s done d before (deed_left u new frame)
   done_at r u a new frame is time stands x timely =
       deed_done b s done d before v c stood r u a new frame time stands (subst (λ (e : Effect). NodeDone r frame e (host a (Some v.node)) (host new (Some u.node))) effect_is x)
       (subst (λ (n : ℕ). IfSome (effect_of b stood.state before d).mote (λ m. Timely m n)) is (subst (λ (e : Effect). IfSome e.mote (λ m. Timely m now)) effect_is timely))

@@ -40,13 +40,13 @@ calm_then a b c x y = record { faults = y.faults ∙ x.faults; stopped = y.stopp
 
 -- ---- starts
 
-boot_silent : (o : Option Runs) (t : Trail Store) (id : ℕ) (wide : Bool) (now draw : ℕ) → (boot_by o t id wide now draw).sent ≡ None
-boot_silent None t id wide now draw = refl
-boot_silent (Some r) t id wide now draw = refl
+boot_silent : (o : Option Runs) (t : Trail Store) (id : ℕ) (wide : Bool) (now word : ℕ) → (boot_by o t id wide now word).sent ≡ None
+boot_silent None t id wide now word = refl
+boot_silent (Some r) t id wide now word = refl
 
-pub reset_silent : (s : Store) (id : ℕ) (wide : Bool) (now draw : ℕ) → (reset_effect s id wide now draw).sent ≡ None
+pub reset_silent : (s : Store) (id : ℕ) (wide : Bool) (now word : ℕ) → (reset_effect s id wide now word).sent ≡ None
 unfolding reset_effect
-reset_silent s id wide now draw = let b = boot cause.Power s in boot_silent b.runs b.trail id wide now draw
+reset_silent s id wide now word = let b = boot cause.Power s in boot_silent b.runs b.trail id wide now word
 
 -- ---- what an event of the node left
 

@@ -41,7 +41,7 @@ pub record At : Type 0 where
   pub events : ℕ
   pub sent : List Message
 
--- the moment and the draw of the event behind so many
+-- the moment and the word of the event behind so many
 abbrev pub moment_at : Base → ℕ → ℕ
 moment_at b events = b.step * suc events
 

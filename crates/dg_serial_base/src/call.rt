@@ -100,7 +100,7 @@ fn play_line<S: Source, K: Sink, N: Nor>(
 /// Starts a chip by power, and plays the items of the input at its mote: a frame is heard, and behind each item the mote
 /// ticks. What the mote sends is written to `out` as it stands on the line.
 ///
-/// The start is the first event. Each event comes `step` milliseconds behind the one before it, with the next draw of the
+/// The start is the first event. Each event comes `step` milliseconds behind the one before it, with the next word of the
 /// generator that `seed` begins. The input is read piece by piece, and what a piece tells is played before the next one is
 /// asked for. No more than 16,777,216 bytes of it are used. A status other than [`Status::Done`] writes its line last, where
 /// it has one.

@@ -12,6 +12,3 @@ mod stop;
 mod timeline;
 
 pub use call::base;
-
-#[cfg(test)]
-mod tests;

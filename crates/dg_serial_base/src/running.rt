@@ -41,7 +41,7 @@ impl Running {
             id,
             wide: true,
             now: timing.now,
-            draw: timing.draw,
+            word: timing.word,
         };
         let powered = Node::power(nor, at)?;
         Ok(Running {
@@ -66,7 +66,7 @@ impl Running {
         a_mote_stays_timely();
         a_node_stays_timely();
         let timing = self.timeline.next();
-        self.node.hear(nor, timing.now, timing.draw, bytes)?;
+        self.node.hear(nor, timing.now, timing.word, bytes)?;
         Ok(())
     }
 
@@ -88,7 +88,7 @@ impl Running {
         a_mote_stays_timely();
         a_node_stays_timely();
         let timing = self.timeline.next();
-        self.node.tick(nor, timing.now, timing.draw, outbox)?;
+        self.node.tick(nor, timing.now, timing.word, outbox)?;
         Ok(())
     }
 }

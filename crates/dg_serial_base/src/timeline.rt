@@ -1,4 +1,4 @@
-//! When events happen, and what they draw.
+//! When events happen, and what they word.
 ghost use Rattle.std.specs.Prelude.{◌≡◌, ℕ, suc, ◌+◌, ◌^◌, ◌<◌, ◌≤◌};
 ghost use Rattle.dg_serial_base.specs.Deeds.{Base, moment_at, draw_at};
 ghost use Rattle.dg_serial_base.specs.inner.Standing.{IsTime};
@@ -14,11 +14,11 @@ pub(crate) struct Timeline {
     pub(crate) draws: Draws,
 }
 
-/// What an event takes of time and chance: its moment, and a draw.
+/// What an event takes of time and chance: its moment, and a word.
 #[derive(Clone, Copy, Debug, PartialEq, Eq)]
 pub(crate) struct Timing {
     pub(crate) now: u64,
-    pub(crate) draw: u32,
+    pub(crate) word: u32,
 }
 
 impl Timeline {
@@ -35,22 +35,22 @@ impl Timeline {
         }
     }
 
-    /// The moment and the draw of the next event.
+    /// The moment and the word of the next event.
     pub(crate) fn next(&mut self) -> Timing
         requires early { self.old.moment < 2 ^ 61 }
         requires little { self.old.step ≤ 60000 }
         ensures time { (b : Base) (n : ℕ) → IsTime self.old b n → IsTime self.new b (suc n) }
         ensures drawn { (b : Base) (n : ℕ) → IsTime self.old b n → (result.now ≡ moment_at b n)
-            × (result.draw ≡ draw_at b n) }
+            × (result.word ≡ draw_at b n) }
         ensures now { result.now ≡ self.new.moment }
         ensures moment { self.new.moment ≡ self.old.moment + self.old.step }
         ensures step { self.new.step ≡ self.old.step }
     {
         self.moment += u64::from(self.step);
-        let draw = self.draws.next();
+        let word = self.draws.next();
         Timing {
             now: self.moment,
-            draw,
+            word,
         }
     }
 }

@@ -126,8 +126,8 @@ content_fits content made n seed is few e =
     let h : length content ≡ n = ap length (e ∙ is) ∙ length-tabulate n (generated_byte seed) in
     omega (arith, h, few)
 
-pub row_is : (name content made : List ℕ) (n pages seed draw : ℕ) → name ≡ codes "trial" → ◌≡◌ {A = Result (List ℕ) LineFault} (Ok (generated n seed)) (Ok content) → n ≡ size_by pages draw → row_of 1 1 name content ≡ row_by pages seed draw
-row_is name content made n pages seed draw named is size =
+pub row_is : (name content made : List ℕ) (n pages seed word : ℕ) → name ≡ codes "trial" → ◌≡◌ {A = Result (List ℕ) LineFault} (Ok (generated n seed)) (Ok content) → n ≡ size_by pages word → row_of 1 1 name content ≡ row_by pages seed word
+row_is name content made n pages seed word named is size =
     ap (λ (x : List ℕ). row_of 1 1 x content) named ∙ ap (λ (b : List ℕ). row_of 1 1 (codes "trial") b) (content_is content (generated n seed) is ∙ ap (λ (k : ℕ). generated k seed) size)
 
 -- links are made one after the other

@@ -51,9 +51,9 @@ generated_bytes len seed k =
       | inr behind ↦ subst (λ (x : ℕ). x < 256) (sym (get_or_past (tabulate len (generated_byte seed)) k 0 (omega (arith, behind, length-tabulate len (generated_byte seed))))) (omega arith)
     ]
 
-pub length-bytes : (pages seed draw : ℕ) → length (row_by pages seed draw).bytes ≡ size_by pages draw
+pub length-bytes : (pages seed word : ℕ) → length (row_by pages seed word).bytes ≡ size_by pages word
 unfolding generated
-length-bytes pages seed draw = length-tabulate (size_by pages draw) (generated_byte seed)
+length-bytes pages seed word = length-tabulate (size_by pages word) (generated_byte seed)
 
 few_bytes : (p w : ℕ) → p ≤ 65 → (p - 1) * 1104 - w % 1104 ≤ 70656
 few_bytes p w h = omega (arith, h)
@@ -61,24 +61,24 @@ few_bytes p w h = omega (arith, h)
 pub some_bytes : (p w : ℕ) → 2 ≤ p → 1 ≤ (p - 1) * 1104 - w % 1104
 some_bytes p w h = omega (arith, h)
 
-pub at_most : (pages seed draw : ℕ) → pages ≤ 65 → length (row_by pages seed draw).bytes ≤ 70656
-at_most pages seed draw few = subst (λ (n : ℕ). n ≤ 70656) (sym (length-bytes pages seed draw)) (few_bytes pages draw few)
+pub at_most : (pages seed word : ℕ) → pages ≤ 65 → length (row_by pages seed word).bytes ≤ 70656
+at_most pages seed word few = subst (λ (n : ℕ). n ≤ 70656) (sym (length-bytes pages seed word)) (few_bytes pages word few)
 
-pub at_least : (pages seed draw : ℕ) → 2 ≤ pages → 1 ≤ length (row_by pages seed draw).bytes
-at_least pages seed draw some = subst (λ (n : ℕ). 1 ≤ n) (sym (length-bytes pages seed draw)) (some_bytes pages draw some)
+pub at_least : (pages seed word : ℕ) → 2 ≤ pages → 1 ≤ length (row_by pages seed word).bytes
+at_least pages seed word some = subst (λ (n : ℕ). 1 ≤ n) (sym (length-bytes pages seed word)) (some_bytes pages word some)
 
 wider : (n : ℕ) → n ≤ 70656 → n ≤ 1048576
 wider n h = omega (arith, h)
 
-pub trial_declared : (pages seed draw : ℕ) → pages ≤ 65 → IsDeclared (row_by pages seed draw)
-trial_declared pages seed draw few = record {
+pub trial_declared : (pages seed word : ℕ) → pages ≤ 65 → IsDeclared (row_by pages seed word)
+trial_declared pages seed word few = record {
   not_golden = lit≤ tt;
   image = lit≤ tt;
   version = lit≤ tt;
   version_fits = lit< tt;
   name = refl;
-  fits = wider (length (row_by pages seed draw).bytes) (at_most pages seed draw few);
-  bytes = generated_bytes (size_by pages draw) seed;
+  fits = wider (length (row_by pages seed word).bytes) (at_most pages seed word few);
+  bytes = generated_bytes (size_by pages word) seed;
 }
 
 -- ---- the first world
@@ -136,7 +136,7 @@ module _ (name bytes : List ℕ) where
   none_there rows is = ap (λ (rs : List Row). row_at rs 1 1) is
 
   true_injection : (u : World) → u.table ≡ golden ∷ [] → TrueEvent u (Inject 0 1 1 0 0)
-  true_injection u table r kept known there = absurd (let none = none_there u.table table in cc)
+  true_injection u table taken r kept known there = absurd (let none = none_there u.table table in cc)
 
   -- every mote knows image 1
   known : (wide : Bool) (does refuses : Does) → (if knows wide 1 then does else refuses) ≡ does

@@ -114,7 +114,7 @@ free_moves laws w v e reports good free did =
 -- ---- runs
 
 abbrev pub IsReset : Step → Type 0
-IsReset x = (m dt draw : ℕ) × (x.event ≡ Reset m dt draw)
+IsReset x = (m dt word : ℕ) × (x.event ≡ Reset m dt word)
 
 -- an event that disturbs no rest and is not cut, or a reset
 abbrev pub Shakes : Step → Type 0
@@ -123,11 +123,11 @@ Shakes x = (IsFree x.event × (x.cut ≡ None)) ⊎ IsReset x
 abbrev pub PartShakes : Part → Type 0
 PartShakes p = (sent : ℕ) → Shakes (p sent)
 
-reset_within : (n : ℕ) (e : Event) (m dt draw : ℕ) → e ≡ Reset m dt draw → EventInRange n e → m < n
-reset_within n e m dt draw is fits = subst (λ (x : Event). EventInRange n x) is fits
+reset_within : (n : ℕ) (e : Event) (m dt word : ℕ) → e ≡ Reset m dt word → EventInRange n e → m < n
+reset_within n e m dt word is fits = subst (λ (x : Event). EventInRange n x) is fits
 
-true_reset : (w : World) (e : Event) (m dt draw : ℕ) → e ≡ Reset m dt draw → TrueEvent w e
-true_reset w e m dt draw is = subst (λ (x : Event). TrueEvent w x) (sym is) tt
+true_reset : (w : World) (e : Event) (m dt word : ℕ) → e ≡ Reset m dt word → TrueEvent w e
+true_reset w e m dt word is = subst (λ (x : Event). TrueEvent w x) (sym is) tt
 
 -- From w to v each of the first n motes was reset: they are on, and what is kept and what is declared is the same.
 pub record ResetRun (n : ℕ) (w v : World) : Type 0 where
@@ -137,9 +137,9 @@ pub record ResetRun (n : ℕ) (w v : World) : Type 0 where
   pub declared : v.declared ≡ w.declared
 
 module _ (laws : Laws) where
-  pub reset_restarts : (w v : World) (x : Step) (reports : List Report) (m dt draw : ℕ) → x.event ≡ Reset m dt draw → WorldStep w x v reports → Restarted w m dt x.cut v
-  reset_restarts w v x reports m dt draw is did =
-      restarted laws.boots w v m dt draw x.cut reports (subst (λ (e : Event). WorldStep w (record { event = e; cut = x.cut }) v reports) is did)
+  pub reset_restarts : (w v : World) (x : Step) (reports : List Report) (m dt word : ℕ) → x.event ≡ Reset m dt word → WorldStep w x v reports → Restarted w m dt x.cut v
+  reset_restarts w v x reports m dt word is did =
+      restarted laws.boots w v m dt word x.cut reports (subst (λ (e : Event). WorldStep w (record { event = e; cut = x.cut }) v reports) is did)
 
   pub step_moves : (w v : World) (x : Step) (reports : List Report) → WorldAgrees w → StepInRange (length w.sites) x → Shakes x → WorldStep w x v reports → Moves 5 w v
   step_moves w v x reports good fits shakes did =

@@ -25,14 +25,14 @@ use Rattle.dg_trial.proofs.RoomLemmas.{Roomy, boot_rooms, leaves_rooms}
 abbrev pub BootLaw : Type 0
 BootLaw = (k : StartCause) (s : Store) → Boots s (boot k s)
 
-starts_by : (w : World) (o : Option Runs) (t : Trail Store) (id : ℕ) (wide : Bool) (now draw : ℕ) (old : Option ImageVersion)
-    → of_effect w (boot_by o t id wide now draw) old ≡ Goes (record { trail = t; table = w.table; started = o; sent = None; runs = running_by o id wide now draw })
-starts_by w None t id wide now draw old = refl
-starts_by w (Some r) t id wide now draw old = refl
+starts_by : (w : World) (o : Option Runs) (t : Trail Store) (id : ℕ) (wide : Bool) (now word : ℕ) (old : Option ImageVersion)
+    → of_effect w (boot_by o t id wide now word) old ≡ Goes (record { trail = t; table = w.table; started = o; sent = None; runs = running_by o id wide now word })
+starts_by w None t id wide now word old = refl
+starts_by w (Some r) t id wide now word old = refl
 
-reset_does : (w : World) (m dt draw : ℕ) → does w (Reset m dt draw) ≡ starts w (boot cause.Power (store_at w m)) m (wide_at w m) (w.moment + dt) draw
+reset_does : (w : World) (m dt word : ℕ) → does w (Reset m dt word) ≡ starts w (boot cause.Power (store_at w m)) m (wide_at w m) (w.moment + dt) word
 unfolding does reset_effect
-reset_does w m dt draw = let b = boot cause.Power (store_at w m) in starts_by w b.runs b.trail m (wide_at w m) (w.moment + dt) draw None
+reset_does w m dt word = let b = boot cause.Power (store_at w m) in starts_by w b.runs b.trail m (wide_at w m) (w.moment + dt) word None
 
 -- The mote has another site: what is kept there is as before, and few commits were made. It is on, unless its power was to be cut.
 pub record Restarted (w : World) (m dt : ℕ) (cut : Option Cut) (v : World) : Type 0 where
@@ -42,11 +42,11 @@ pub record Restarted (w : World) (m dt : ℕ) (cut : Option Cut) (v : World) : T
   pub room : (c : ℕ) → c + 5 ≤ (store_at w m).room → c ≤ there.store.room
   pub on : cut ≡ None → (r : Running) × (there.runs ≡ Some r)
 
-started_on : (o : Option Runs) (id : ℕ) (wide : Bool) (now draw : ℕ) (runs : Option Running) → running_by o id wide now draw ≡ Some runs → (r : Running) × (runs ≡ Some r)
-started_on None id wide now draw runs e = absurd cc
-started_on (Some r) id wide now draw runs e = (_, sym (same_running _ runs e))
+started_on : (o : Option Runs) (id : ℕ) (wide : Bool) (now word : ℕ) (runs : Option Running) → running_by o id wide now word ≡ Some runs → (r : Running) × (runs ≡ Some r)
+started_on None id wide now word runs e = absurd cc
+started_on (Some r) id wide now word runs e = (_, sym (same_running _ runs e))
 
-module _ (boots : BootLaw) (w v : World) (m dt draw : ℕ) (cut : Option Cut) (reports : List Report) where
+module _ (boots : BootLaw) (w v : World) (m dt word : ℕ) (cut : Option Cut) (reports : List Report) where
   abbrev s : Store
   s = store_at w m
 
@@ -60,10 +60,10 @@ module _ (boots : BootLaw) (w v : World) (m dt draw : ℕ) (cut : Option Cut) (r
   same = Through-map (OnTheWay s b.runs) Same (λ t way. way.kept) b.trail (boots cause.Power s).way
 
   abbrev x : Step
-  x = record { event = Reset m dt draw; cut = cut }
+  x = record { event = Reset m dt word; cut = cut }
 
   abbrev d : Deed
-  d = record { trail = b.trail; table = w.table; started = b.runs; sent = None; runs = running_by b.runs m (wide_at w m) (w.moment + dt) draw }
+  d = record { trail = b.trail; table = w.table; started = b.runs; sent = None; runs = running_by b.runs m (wide_at w m) (w.moment + dt) word }
 
   uncut_blows : cut ≡ None → blows cut b.trail ≡ true → ⊥
   uncut_blows none e = let f : blows cut b.trail ≡ false = ap (λ (c : Option Cut). blows c b.trail) none in cc
@@ -81,9 +81,9 @@ module _ (boots : BootLaw) (w v : World) (m dt draw : ℕ) (cut : Option Cut) (r
     world = e.2;
     kept = Through-last Same b.trail same;
     room = λ c h. Through-last (Roomy c) b.trail (boot_rooms c cause.Power s (omega (arith, h)));
-    on = λ none. started_on b.runs m (wide_at w m) (w.moment + dt) draw e.0 e.1;
+    on = λ none. started_on b.runs m (wide_at w m) (w.moment + dt) word e.0 e.1;
   }
 
-  pub restarted : WorldStep w (record { event = Reset m dt draw; cut = cut }) v reports → Restarted w m dt cut v
+  pub restarted : WorldStep w (record { event = Reset m dt word; cut = cut }) v reports → Restarted w m dt cut v
   unfolding WorldStep
-  restarted did = restarted_by (blows cut b.trail) refl (subst (λ (D : Does). StepDoes D w x v reports) (reset_does w m dt draw) did)
+  restarted did = restarted_by (blows cut b.trail) refl (subst (λ (D : Does). StepDoes D w x v reports) (reset_does w m dt word) did)

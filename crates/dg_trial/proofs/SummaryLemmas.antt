@@ -101,12 +101,12 @@ module _ (row : Row) (image : row.image ≡ 1) (version : row.version ≡ 1) (pa
   world_told w = sites_told (λ m. site w m) 0 w.sites (λ k h. ap (λ (n : ℕ). site w n) (let e : 0 + k ≡ k = omega arith in e))
 
 -- the pages of the image of a trial
-pub page_count_is : (pages seed draw : ℕ) → 2 ≤ pages → page_count (row_by pages seed draw) ≡ pages
+pub page_count_is : (pages seed word : ℕ) → 2 ≤ pages → page_count (row_by pages seed word) ≡ pages
 unfolding generated
-page_count_is pages seed draw some =
-    let size = size_by pages draw in
+page_count_is pages seed word some =
+    let size = size_by pages word in
     let e : length (generated size seed) ≡ size = length-tabulate size (generated_byte seed) in
-    ap pages_for e ∙ counts (pages - 1) draw (omega arith) ∙ (let f : 1 + (pages - 1) ≡ pages = omega arith in f)
+    ap pages_for e ∙ counts (pages - 1) word (omega arith) ∙ (let f : 1 + (pages - 1) ≡ pages = omega arith in f)
   where
     counts : (n w : ℕ) → 1 ≤ n → pages_for (n * 1104 - w % 1104) ≡ 1 + n
     counts n w some = omega arith

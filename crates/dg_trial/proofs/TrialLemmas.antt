@@ -42,9 +42,9 @@ pub parts_are : (motes pages seed s : ℕ) (g : Lcg) (links : List (ℕ × ℕ))
 parts_are motes pages seed s g links a b c =
     ap (λ (ls : List (ℕ × ℕ)). parts_by motes s g ls) a ∙ ap (λ (n : ℕ). parts_by motes n g (line motes)) b ∙ ap (λ (x : Lcg). parts_by motes (sweep_count motes pages) x (line motes)) c
 
-pub row_drawn : (pages seed draw : ℕ) (g start : Lcg) → (draw, g) ≡ pcg32 start → start ≡ first_generator seed → (row_by pages seed draw ≡ row_of_seed pages seed) × (g ≡ (pcg32 (first_generator seed)).1)
-row_drawn pages seed draw g start e at =
-    let h : (draw, g) ≡ pcg32 (first_generator seed) = e ∙ ap pcg32 at in
+pub row_drawn : (pages seed word : ℕ) (g start : Lcg) → (word, g) ≡ pcg32 start → start ≡ first_generator seed → (row_by pages seed word ≡ row_of_seed pages seed) × (g ≡ (pcg32 (first_generator seed)).1)
+row_drawn pages seed word g start e at =
+    let h : (word, g) ≡ pcg32 (first_generator seed) = e ∙ ap pcg32 at in
     (ap (λ (x : ℕ × Lcg). row_by pages seed x.0) h, ap (λ (x : ℕ × Lcg). x.1) h)
 
 -- the schedule may be played behind the beginning

@@ -113,9 +113,9 @@ room_enough motes k c a b e = omega (arith, a, b, e)
 chip_room : 520223 ≤ chip.room
 chip_room = lit≤ tt
 
-module _ (laws : WholeLaws) (motes pages seed draw : ℕ) (g : Lcg) (some : 2 ≤ motes) (few : motes ≤ 16) (some_pages : 2 ≤ pages) (few_pages : pages ≤ 65) where
+module _ (laws : WholeLaws) (motes pages seed word : ℕ) (g : Lcg) (some : 2 ≤ motes) (few : motes ≤ 16) (some_pages : 2 ≤ pages) (few_pages : pages ≤ 65) where
   abbrev image : Row
-  image = row_by pages seed draw
+  image = row_by pages seed word
 
   abbrev begin : World
   begin = first motes image
@@ -127,7 +127,7 @@ module _ (laws : WholeLaws) (motes pages seed draw : ℕ) (g : Lcg) (some : 2 �
   ds = disturbances motes (100 * motes) g
 
   begin_good : WorldAgrees begin
-  begin_good = first_agrees laws.plays motes image few (trial_declared pages seed draw few_pages)
+  begin_good = first_agrees laws.plays motes image few (trial_declared pages seed word few_pages)
 
   begin_site : (j : ℕ) → j < motes → site begin j ≡ off_site chip
   begin_site j h = site_first motes j h
@@ -154,7 +154,7 @@ module _ (laws : WholeLaws) (motes pages seed draw : ℕ) (g : Lcg) (some : 2 �
     two : Injected image.name image.bytes p.begun p.injected
     two =
         is_injected image.name image.bytes laws.moving laws.inject p.begun p.injected p.reports resets_one.moves.good (omega (arith, some, count_one)) resets_one.declared resets_one.moves.table none_kept
-        (room_one 0 2 (omega (arith, some)) (omega (arith, few))) (at_least pages seed draw some_pages) (at_most pages seed draw few_pages) p.injection
+        (room_one 0 2 (omega (arith, some)) (omega (arith, few))) (at_least pages seed word some_pages) (at_most pages seed word few_pages) p.injection
 
     count_two : length p.injected.sites ≡ motes
     count_two = two.count ∙ count_one
@@ -199,7 +199,7 @@ module _ (laws : WholeLaws) (motes pages seed draw : ℕ) (g : Lcg) (some : 2 �
 
     kept_then : (m : ℕ) → m < motes → held (store_at v m) 1 ≡ Some (held_whole image)
     kept_then =
-        let pages_are = page_count_is pages seed draw some_pages in
+        let pages_are = page_count_is pages seed word some_pages in
         all_whole image.name image.bytes laws.within motes p.again some count_four links_four (four.moves.table ∙ table_three) narrow_four whole_four
         laws.enough laws.complete laws.moving.free laws.moving.spend laws.swept four.moves.good four.on k (omega (arith, pages_are)) v p.sweeps room_four
 
@@ -208,8 +208,8 @@ module _ (laws : WholeLaws) (motes pages seed draw : ℕ) (g : Lcg) (some : 2 �
 
 pub whole_law : WholeLaws → WholeLaw
 whole_law laws motes pages seed v some few some_pages few_pages run =
-    let draw = (pcg32 (first_generator seed)).0 in
+    let word = (pcg32 (first_generator seed)).0 in
     let g = (pcg32 (first_generator seed)).1 in
     let count = leads_sites (first motes (row_of_seed pages seed)) v (schedule motes pages seed) run ∙ length_first motes (row_of_seed pages seed) in
-    whole_then laws motes pages seed draw g some few some_pages few_pages v
+    whole_then laws motes pages seed word g some few some_pages few_pages v
     (in_parts motes (sweep_count motes pages) (disturbances motes (100 * motes) g) (first motes (row_of_seed pages seed)) v run) count

@@ -48,19 +48,19 @@ sweep_count motes pages = pages + motes - 2
 
 -- ---- what the draws of the seed choose
 
--- how many bytes the image has: some draw makes the last page shorter
-abbrev pub size_by : (pages draw : ℕ) → ℕ
-size_by pages draw = (pages - 1) * page_size - draw % page_size
+-- how many bytes the image has: some word makes the last page shorter
+abbrev pub size_by : (pages word : ℕ) → ℕ
+size_by pages word = (pages - 1) * page_size - word % page_size
 
 -- the image
-abbrev pub row_by : (pages seed draw : ℕ) → Row
-row_by pages seed draw = row_of 1 1 (codes "trial") (generated (size_by pages draw) seed)
+abbrev pub row_by : (pages seed word : ℕ) → Row
+row_by pages seed word = row_of 1 1 (codes "trial") (generated (size_by pages word) seed)
 
 -- the next mote on the line, or the one before the last
 abbrev pub beside : (motes a : ℕ) → ℕ
 beside motes a = if a + 1 == motes then a - 1 else a + 1
 
--- the cut in the operation that one draw chooses, with the mask that the other one chooses
+-- the cut in the operation that one word chooses, with the mask that the other one chooses
 abbrev pub drawn_cut : (w2 w3 : ℕ) → Cut
 drawn_cut w2 w3 =
     record { after = 1 + w2 % 64; mask = (w3 % 256) ∷ []; numbered = le-add_right 1 (w2 % 64); some = lit≤ tt; within = lit≤ tt }
@@ -98,7 +98,7 @@ drawn (suc n) g = drawn n (pcg32 (pcg32 (pcg32 g).1).1).1
 
 -- ---- the whole schedule
 
--- the image that the first draw of the seed chooses
+-- the image that the first word of the seed chooses
 abbrev pub row_of_seed : (pages seed : ℕ) → Row
 row_of_seed pages seed = row_by pages seed (pcg32 (first_generator seed)).0
 

@@ -49,15 +49,15 @@ pub fn linked(alloc: Global, motes: u8, links: &[(u8, u8)]) -> Result<World, All
     Ok(world)
 }
 
-/// How many bytes an image of so many pages has, where a draw makes its last page shorter.
-fn size(pages: u8, draw: u32) -> u32
+/// How many bytes an image of so many pages has, where a word makes its last page shorter.
+fn size(pages: u8, word: u32) -> u32
     requires some { 2 ≤ pages }
     requires few { pages ≤ 65 }
-    ensures size { result ≡ size_by pages draw }
+    ensures size { result ≡ size_by pages word }
     ensures fits { result ≤ most_bytes }
 {
     let page = PAGE_SIZE as u32;
-    (u32::from(pages) - 1) * page - draw % page
+    (u32::from(pages) - 1) * page - word % page
 }
 
 /// The image of a trial is declared.
@@ -66,16 +66,16 @@ pub fn declare(
     world: &mut World,
     pages: u8,
     seed: u32,
-    draw: u32,
+    word: u32,
 ) -> Result<(), AllocError>
     requires some { 2 ≤ pages }
     requires few { pages ≤ 65 }
     requires world { (boards : List Device) × (w : RuleWorld) × IsWorld world.old boards w × (w.declared ≡ []) }
     ensures { OnOk result ((boards : List Device) (w : RuleWorld) → IsWorld world.old boards w → w.declared ≡ []
-        → IsWorld world.new boards (record w { declared = row_by pages seed draw ∷ [] })) }
+        → IsWorld world.new boards (record w { declared = row_by pages seed word ∷ [] })) }
 {
     let name = Bytes::new(Vec::from_slice(alloc, b"trial")?);
-    let Ok(content) = generate(alloc, size(pages, draw), seed) else {
+    let Ok(content) = generate(alloc, size(pages, word), seed) else {
         return Err(AllocError);
     };
     match world.declare(1, 1, name, content) {

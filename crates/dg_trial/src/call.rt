@@ -47,7 +47,7 @@ fn play_schedule<N: Nor>(
     ensures { ScheduleEnds result motes pages seed (map N.device boards.old.items) (map N.device boards.new.items) }
 {
     let mut draws = Draws::of_seed(seed);
-    let draw = draws.next();
+    let word = draws.next();
     let Ok(links) = line(alloc, motes) else {
         return Err(Stop::Memory);
     };
@@ -55,7 +55,7 @@ fn play_schedule<N: Nor>(
         return Err(Stop::Memory);
     };
     format(boards, motes)?;
-    let Ok(()) = declare(alloc, &mut world, pages, seed, draw) else {
+    let Ok(()) = declare(alloc, &mut world, pages, seed, word) else {
         return Err(Stop::Memory);
     };
     play(

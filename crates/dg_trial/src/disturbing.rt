@@ -26,12 +26,12 @@ fn beside(motes: u8, mote: u8) -> u8
     }
 }
 
-/// The number of a frame that a draw chooses of those that were sent, or one more.
-fn chosen_frame(draw: u32, sent: usize) -> u32
+/// The number of a frame that a word chooses of those that were sent, or one more.
+fn chosen_frame(word: u32, sent: usize) -> u32
     requires { sent ≤ most_events }
-    ensures { result ≡ 1 + draw % (sent + 1) }
+    ensures { result ≡ 1 + word % (sent + 1) }
 {
-    1 + (u64::from(draw) % (sent as u64 + 1)) as u32
+    1 + (u64::from(word) % (sent as u64 + 1)) as u32
 }
 
 /// The cut that draws choose.
@@ -66,18 +66,18 @@ pub fn disturbance(
         0..=3 => Event::Tick {
             mote,
             dt,
-            draw: third,
+            word: third,
         },
         4 | 5 => Event::Last {
             from: beside(motes, mote),
             to: mote,
             dt,
-            draw: third,
+            word: third,
         },
         6 => Event::Hear {
             mote,
             dt: 1,
-            draw: third,
+            word: third,
             frame: chosen_frame(second, sent),
         },
         _ => return cut_reset(alloc, mote, second, third),
@@ -93,7 +93,7 @@ fn cut_reset(alloc: Global, mote: u8, second: u32, third: u32) -> Result<Step, A
     let event = Event::Reset {
         mote,
         dt: 0,
-        draw: third,
+        word: third,
     };
     Ok(Step {
         event,

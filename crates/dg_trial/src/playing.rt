@@ -1,5 +1,5 @@
 //! Plays the parts of a schedule.
-ghost use Rattle.std.specs.Prelude.{◌≡◌, ◌+◌, ◌*◌, ◌<◌, ◌≤◌, ◌∷◌, ◌++◌, [], ℕ, map, length, option_copied};
+ghost use Rattle.std.specs.Prelude.{◌≡◌, ◌+◌, ◌*◌, ◌<◌, ◌≤◌, ◌∷◌, ◌++◌, [], ℕ, map, length};
 ghost use Rattle.dg_rounds.specs.Rounds.{times, sweep};
 ghost use Rattle.dg_seed.specs.Draws.{generator_of};
 ghost use Rattle.dg_trial.specs.Schedule.{Part, always, only, resets, opening, disturbances, drawn};
@@ -7,11 +7,10 @@ ghost use Rattle.dg_trial.specs.Playing.{PartsPlay, MayPlayOver};
 ghost use Rattle.dg_rules.specs.Sizes.{most_motes};
 ghost use Rattle.dg_rules.specs.World.{World as RuleWorld};
 ghost use Rattle.dg_world.specs.Worlds.{IsWorld};
-ghost use Rattle.dg_world.specs.Applying.{step_of};
 
 use crate::disturbing::disturbance;
 use crate::laws::what_is_left_may_be_played;
-use dg_base::{Cut, Event};
+use dg_base::{Event, Step};
 use dg_nor::Nor;
 use dg_rounds::sweep;
 use dg_rules::{Report, golden_is_found};
@@ -30,25 +29,23 @@ pub enum Stop {
 /// The disturbances of each mote.
 const DISTURBANCES: u32 = 100;
 
-/// Plays an event with the cut that waits for it. What is reported of it is dropped.
+/// Plays a step. What is reported of it is dropped.
 fn play_step<N: Nor>(
     world: &mut World,
-    event: &Event,
-    cut: Option<&Cut>,
+    step: &Step,
     boards: &mut Vec<N>,
     reports: &mut Vec<Report>,
 ) -> Result<(), Stop>
-    requires { (motes : ℕ)
-        × MayPlayOver motes world.old (map N.device boards.old.items) (only (step_of event.now (option_copied cut))) }
+    requires { (motes : ℕ) × MayPlayOver motes world.old (map N.device boards.old.items) (only step.now) }
     // it may be the step of any part that is this one after so many frames
     ensures { (part : Part)
         → ((w : RuleWorld) → IsWorld world.old (map N.device boards.old.items) w
-        → part (length w.sent) ≡ step_of event.now (option_copied cut.entry))
+        → part (length w.sent) ≡ step.now)
         → PartsPlay result (part ∷ []) world.old world.new (map N.device boards.old.items) (map N.device boards.new.items) }
 {
     golden_is_found();
     reports.clear();
-    match world.apply(boards, event, cut, false, reports) {
+    match world.apply(boards, step, false, reports) {
         Ok(()) => Ok(()),
         Err(WorldFault::Memory) => Err(Stop::Memory),
         Err(WorldFault::Flash { .. }) => Err(Stop::Flash),
@@ -69,7 +66,8 @@ fn play_event<N: Nor>(
     ensures { PartsPlay result (always event ∷ []) world.old world.new (map N.device boards.old.items)
         (map N.device boards.new.items) }
 {
-    play_step(world, &event, None, boards, reports)
+    let step = Step { event, cut: None };
+    play_step(world, &step, boards, reports)
 }
 
 /// Resets each mote, in their order.
@@ -88,7 +86,7 @@ fn play_resets<N: Nor>(
         let event = Event::Reset {
             mote,
             dt: 0,
-            draw: 0,
+            word: 0,
         };
         play_event(world, event, boards, reports)?;
     }
@@ -110,7 +108,7 @@ fn play_injection<N: Nor>(
         image: 1,
         version: 1,
         dt: 0,
-        draw: 0,
+        word: 0,
     };
     play_event(world, event, boards, reports)
 }
@@ -136,7 +134,7 @@ fn play_disturbance<N: Nor>(
     let third = draws.next();
     let sent = world.frames_sent();
     match disturbance(alloc, motes, sent, first, second, third) {
-        Ok(step) => play_step(world, &step.event, step.cut.as_ref(), boards, reports),
+        Ok(step) => play_step(world, &step, boards, reports),
         Err(AllocError) => Err(Stop::Memory),
     }
 }

@@ -52,34 +52,34 @@ stands_in c None s (Some r) x = x
 stands_in c (Some v) s None x = x
 stands_in c (Some v) s (Some r) x = x
 
-goes_on : (c d : List ℕ) (v u : Option Node) (s t : Store) (o : Option Running) (now draw : ℕ) → MoteStands c v s o → NodeStands d u t (node_runs (option_map (λ m. maintains m now draw) (running_mote (node_running o))) None (option_map node_image v))
-    → MoteStands d u t (reloaded o now draw)
-goes_on c d v None s t None now draw was x = x
-goes_on c d v (Some n) s t None now draw was x = x
-goes_on c d None u s t (Some r) now draw was x = absurd was
-goes_on c d (Some n) None s t (Some r) now draw was x = x
-goes_on c d (Some n) (Some y) s t (Some r) now draw was x = (x.0 ∙ was.0, x.1)
+goes_on : (c d : List ℕ) (v u : Option Node) (s t : Store) (o : Option Running) (now word : ℕ) → MoteStands c v s o → NodeStands d u t (node_runs (option_map (λ m. maintains m now word) (running_mote (node_running o))) None (option_map node_image v))
+    → MoteStands d u t (reloaded o now word)
+goes_on c d v None s t None now word was x = x
+goes_on c d v (Some n) s t None now word was x = x
+goes_on c d None u s t (Some r) now word was x = absurd was
+goes_on c d (Some n) None s t (Some r) now word was x = x
+goes_on c d (Some n) (Some y) s t (Some r) now word was x = (x.0 ∙ was.0, x.1)
 
 -- ---- acts
 
-module _ (w : RuleWorld) (m now draw : ℕ) (v u : Option Node) (a b : Device) (was : MoteStands a.image v (store_at w m) (site w m).runs) where
+module _ (w : RuleWorld) (m now word : ℕ) (v u : Option Node) (a b : Device) (was : MoteStands a.image v (store_at w m) (site w m).runs) where
   abbrev s : Store
   s = store_at w m
 
   abbrev o : Option MoteState
   o = running_mote (node_running (site w m).runs)
 
-  kept_went : {R : Type 0} (refusal : Option R) (t : Trail Store) (table : List Row) (x : Change) → ActKept x refusal (acts_effect o t now draw) s (host a v) (host b u) → EventDone w m (acts w m t table now draw) u a b (Changes x.before x.after)
+  kept_went : {R : Type 0} (refusal : Option R) (t : Trail Store) (table : List Row) (x : Change) → ActKept x refusal (acts_effect o t now word) s (host a v) (host b u) → EventDone w m (acts w m t table now word) u a b (Changes x.before x.after)
   kept_went refusal t table x k =
       let lines = changes m s (last t) in
       record {
-        deed = record { trail = t; table = table; started = None; sent = None; runs = Some (reloaded (site w m).runs now draw) };
+        deed = record { trail = t; table = table; started = None; sent = None; runs = Some (reloaded (site w m).runs now word) };
         goes = refl;
         ran = k.went.ran;
         tells = record {
-          runs = reloaded (site w m).runs now draw;
+          runs = reloaded (site w m).runs now word;
           runs_then = refl;
-          mote = goes_on a.image b.image v u s (last t) (site w m).runs now draw was k.went.runs;
+          mote = goes_on a.image b.image v u s (last t) (site w m).runs now word was k.went.runs;
           lines = changes_are_reported m x.before x.after s (last t) k.before k.after ∙ sym (append-nil (lines ++ []) ∙ append-nil lines);
           sent = refl;
           stands = k.went.stands;
@@ -91,38 +91,38 @@ module _ (w : RuleWorld) (m now draw : ℕ) (v u : Option Node) (a b : Device) (
   before_by None t x = absurd x
   before_by (Some y) t x = x
 
-  stopped_on : {R : Type 0} (D : Does) (before : Option ChipReport) (refusal : Option R) (t : Trail Store) → trail_of D s ≡ trail_unless refusal t s → StoppedInAct before refusal (acts_effect o t now draw) s a b → EventStopped D s a b before
+  stopped_on : {R : Type 0} (D : Does) (before : Option ChipReport) (refusal : Option R) (t : Trail Store) → trail_of D s ≡ trail_unless refusal t s → StoppedInAct before refusal (acts_effect o t now word) s a b → EventStopped D s a b before
   stopped_on D before refusal t same x =
       record { stops = subst (λ (y : Trail Store). Rattle.dg_volume.specs.Acts.Stops y a b) (sym same) x.stops; is_report = λ whole blown. before_by before (trail_of D s) (x.told whole blown) }
 
-  act_ends : {R : Type 0} (f : ActFault) (D : Does) (refusal : Option R) (t : Trail Store) → trail_of D s ≡ trail_unless refusal t s → ActFails f refusal (acts_effect o t now draw) s (host a v) (host b u) → OutcomeEnds (Err (halt_of_act f)) w m D (host a v) (host b u)
+  act_ends : {R : Type 0} (f : ActFault) (D : Does) (refusal : Option R) (t : Trail Store) → trail_of D s ≡ trail_unless refusal t s → ActFails f refusal (acts_effect o t now word) s (host a v) (host b u) → OutcomeEnds (Err (halt_of_act f)) w m D (host a v) (host b u)
   act_ends (act_fault.Stopped before) D refusal t same x = stopped_on D before refusal t same x
   act_ends act_fault.NotAVolume D refusal t same x = absurd x
 
   -- ---- orders
 
-  order_trail_is : (refusal : Option OrderFault) (q : Order) → trail_of (order_unless refusal w m q now draw) s ≡ trail_unless refusal (order_trail s q) s
+  order_trail_is : (refusal : Option OrderFault) (q : Order) → trail_of (order_unless refusal w m q now word) s ≡ trail_unless refusal (order_trail s q) s
   order_trail_is None q = refl
   order_trail_is (Some why) q = refl
 
-  pub order_ends : (r : Result Ordered ActFault) (refusal : Option OrderFault) (q : Order) → NodeOrdered r refusal (order_effect o s q now draw) s (host a v) (host b u) → OutcomeEnds (order_outcome r) w m (order_unless refusal w m q now draw) (host a v) (host b u)
+  pub order_ends : (r : Result Ordered ActFault) (refusal : Option OrderFault) (q : Order) → NodeOrdered r refusal (order_effect o s q now word) s (host a v) (host b u) → OutcomeEnds (order_outcome r) w m (order_unless refusal w m q now word) (host a v) (host b u)
   order_ends (Ok (ordered.Kept x)) refusal q k =
-      subst (λ (y : Option OrderFault). EventDone w m (order_unless y w m q now draw) u a b (Changes x.before x.after)) (sym k.allowed) (kept_went refusal (order_trail s q) w.table x k)
-  order_ends (Ok (ordered.Refused why orderly)) refusal q k = (ap (λ (y : Option OrderFault). order_unless y w m q now draw) k.cause, k.looked, k.same)
-  order_ends (Err f) refusal q k = act_ends f (order_unless refusal w m q now draw) refusal (order_trail s q) (order_trail_is refusal q) k
+      subst (λ (y : Option OrderFault). EventDone w m (order_unless y w m q now word) u a b (Changes x.before x.after)) (sym k.allowed) (kept_went refusal (order_trail s q) w.table x k)
+  order_ends (Ok (ordered.Refused why orderly)) refusal q k = (ap (λ (y : Option OrderFault). order_unless y w m q now word) k.cause, k.looked, k.same)
+  order_ends (Err f) refusal q k = act_ends f (order_unless refusal w m q now word) refusal (order_trail s q) (order_trail_is refusal q) k
 
   -- ---- injections
 
-  inject_trail_is : (refusal : Option InjectFault) (row : Row) → trail_of (inject_unless refusal w m row now draw) s ≡ trail_unless refusal (inject_trail s row) s
+  inject_trail_is : (refusal : Option InjectFault) (row : Row) → trail_of (inject_unless refusal w m row now word) s ≡ trail_unless refusal (inject_trail s row) s
   inject_trail_is None row = refl
   inject_trail_is (Some why) row = refl
 
-  pub inject_ends : (r : Result Injected ActFault) (refusal : Option InjectFault) (row : Row) → NodeInjected r refusal (inject_effect o s row now draw) s (host a v) (host b u)
-      → OutcomeEnds (inject_outcome row r) w m (inject_unless refusal w m row now draw) (host a v) (host b u)
+  pub inject_ends : (r : Result Injected ActFault) (refusal : Option InjectFault) (row : Row) → NodeInjected r refusal (inject_effect o s row now word) s (host a v) (host b u)
+      → OutcomeEnds (inject_outcome row r) w m (inject_unless refusal w m row now word) (host a v) (host b u)
   inject_ends (Ok (injected.Kept x)) refusal row k =
-      subst (λ (y : Option InjectFault). EventDone w m (inject_unless y w m row now draw) u a b (Changes x.before x.after)) (sym k.allowed) (kept_went refusal (inject_trail s row) (with_row w.table row) x k)
-  inject_ends (Ok (injected.Refused why orderly)) refusal row k = (ap (λ (y : Option InjectFault). inject_unless y w m row now draw) k.cause, k.looked, k.same)
-  inject_ends (Err f) refusal row k = act_ends f (inject_unless refusal w m row now draw) refusal (inject_trail s row) (inject_trail_is refusal row) k
+      subst (λ (y : Option InjectFault). EventDone w m (inject_unless y w m row now word) u a b (Changes x.before x.after)) (sym k.allowed) (kept_went refusal (inject_trail s row) (with_row w.table row) x k)
+  inject_ends (Ok (injected.Refused why orderly)) refusal row k = (ap (λ (y : Option InjectFault). inject_unless y w m row now word) k.cause, k.looked, k.same)
+  inject_ends (Err f) refusal row k = act_ends f (inject_unless refusal w m row now word) refusal (inject_trail s row) (inject_trail_is refusal row) k
 
 -- ---- what was read
 

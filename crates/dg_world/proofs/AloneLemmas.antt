@@ -38,18 +38,18 @@ module _ (r : Result EventOutcome Halt) (w : RuleWorld) (v u : Option Node) (now
   at_moment : (m : ℕ) (D : ℕ → Does) (moment : ℕ) → now ≡ moment → OutcomeEnds r w m (D now) (host a v) (host b u) → OutcomeEnds r w m (D moment) (host a v) (host b u)
   at_moment m D moment e ends = subst (λ (n : ℕ). OutcomeEnds r w m (D n) (host a v) (host b u)) e ends
 
-  pub alone_ticks : (m dt draw : ℕ) → (SiteStands a v (site w m) → OutcomeEnds r w m (tick_does w (store_at w m) (site w m).runs now draw) (host a v) (host b u)) → AppliesAlone r w v u now a b (Tick m dt draw)
+  pub alone_ticks : (m dt word : ℕ) → (SiteStands a v (site w m) → OutcomeEnds r w m (tick_does w (store_at w m) (site w m).runs now word) (host a v) (host b u)) → AppliesAlone r w v u now a b (Tick m dt word)
   unfolding does
-  alone_ticks m dt draw ends = λ stands at wide. at_moment m (λ n. tick_does w (store_at w m) (site w m).runs n draw) _ at (ends stands)
+  alone_ticks m dt word ends = λ stands at wide. at_moment m (λ n. tick_does w (store_at w m) (site w m).runs n word) _ at (ends stands)
 
-  pub alone_hears : (m dt draw : ℕ) (bytes : List ℕ) → (SiteStands a v (site w m) → OutcomeEnds r w m (hear_by w (store_at w m) (site w m).runs now draw bytes) (host a v) (host b u)) → AppliesAlone r w v u now a b (Frame m dt draw bytes)
+  pub alone_hears : (m dt word : ℕ) (bytes : List ℕ) → (SiteStands a v (site w m) → OutcomeEnds r w m (hear_by w (store_at w m) (site w m).runs now word bytes) (host a v) (host b u)) → AppliesAlone r w v u now a b (Frame m dt word bytes)
   unfolding does
-  alone_hears m dt draw bytes ends = λ stands at wide. at_moment m (λ n. hear_by w (store_at w m) (site w m).runs n draw bytes) _ at (ends stands)
+  alone_hears m dt word bytes ends = λ stands at wide. at_moment m (λ n. hear_by w (store_at w m) (site w m).runs n word bytes) _ at (ends stands)
 
-  pub alone_starts : (m dt draw : ℕ) → (Stands a.image (store_at w m) → OutcomeEnds r w m (of_effect w (reset_effect (store_at w m) m true now draw) None) (host a v) (host b u)) → AppliesAlone r w v u now a b (Reset m dt draw)
+  pub alone_starts : (m dt word : ℕ) → (Stands a.image (store_at w m) → OutcomeEnds r w m (of_effect w (reset_effect (store_at w m) m true now word) None) (host a v) (host b u)) → AppliesAlone r w v u now a b (Reset m dt word)
   unfolding does
-  alone_starts m dt draw ends = λ stands at wide.
-      let D : Bool → ℕ → Does = λ x n. of_effect w (reset_effect (store_at w m) m x n draw) None in
+  alone_starts m dt word ends = λ stands at wide.
+      let D : Bool → ℕ → Does = λ x n. of_effect w (reset_effect (store_at w m) m x n word) None in
       at_moment m (D (wide_at w m)) _ at (subst (λ (x : Bool). OutcomeEnds r w m (D x now) (host a v) (host b u)) (sym wide) (ends stands.stands))
 
 -- ---- how it ends

@@ -38,52 +38,52 @@ module _ (r : Result EventOutcome Halt) (w : RuleWorld) (o : EventContext) (v u 
   at_moment : (m : ℕ) (D : ℕ → Does) (moment : ℕ) → o.moment ≡ moment → OutcomeEnds r w m (D o.moment) (host a v) (host b u) → OutcomeEnds r w m (D moment) (host a v) (host b u)
   at_moment m D moment e ends = subst (λ (n : ℕ). OutcomeEnds r w m (D n) (host a v) (host b u)) e ends
 
-  pub tick_applies : (m dt draw : ℕ) → (SiteStands a v (site w m) → OutcomeEnds r w m (tick_does w (store_at w m) (site w m).runs o.moment draw) (host a v) (host b u)) → ApplyEnsures r w o v u a b (Tick m dt draw)
+  pub tick_applies : (m dt word : ℕ) → (SiteStands a v (site w m) → OutcomeEnds r w m (tick_does w (store_at w m) (site w m).runs o.moment word) (host a v) (host b u)) → ApplyEnsures r w o v u a b (Tick m dt word)
   unfolding does
-  tick_applies m dt draw ends = λ on. at_moment m (λ n. tick_does w (store_at w m) (site w m).runs n draw) _ on.moment (ends on.stands)
+  tick_applies m dt word ends = λ on. at_moment m (λ n. tick_does w (store_at w m) (site w m).runs n word) _ on.moment (ends on.stands)
 
-  pub hear_applies : (m dt draw number : ℕ) → o.mote ≡ m
-      → (IsShared o.shared.now w → SiteStands a v (site w o.mote) → OutcomeEnds r w o.mote (unless_off (site w o.mote).runs (heard_sent w o.mote o.moment draw (frame_at w number))) (host a v) (host b u))
-      → ApplyEnsures r w o v u a b (Hear m dt draw number)
+  pub hear_applies : (m dt word number : ℕ) → o.mote ≡ m
+      → (IsShared o.shared.now w → SiteStands a v (site w o.mote) → OutcomeEnds r w o.mote (unless_off (site w o.mote).runs (heard_sent w o.mote o.moment word (frame_at w number))) (host a v) (host b u))
+      → ApplyEnsures r w o v u a b (Hear m dt word number)
   unfolding does
-  hear_applies m dt draw number here ends = λ on.
-      placed m _ (λ k n. unless_off (site w k).runs (heard_sent w k n draw (frame_at w number))) here on.moment (ends on.shared) on.stands
+  hear_applies m dt word number here ends = λ on.
+      placed m _ (λ k n. unless_off (site w k).runs (heard_sent w k n word (frame_at w number))) here on.moment (ends on.shared) on.stands
 
-  pub last_applies : (from to dt draw : ℕ) → o.mote ≡ to
+  pub last_applies : (from to dt word : ℕ) → o.mote ≡ to
       → (IsShared o.shared.now w → SiteStands a v (site w o.mote)
-      → OutcomeEnds r w o.mote (unless_off (site w o.mote).runs (if linked w from o.mote then heard_last w from o.mote o.moment draw (last_frame w from) else Refuses cause.Link)) (host a v) (host b u))
-      → ApplyEnsures r w o v u a b (Last from to dt draw)
+      → OutcomeEnds r w o.mote (unless_off (site w o.mote).runs (if linked w from o.mote then heard_last w from o.mote o.moment word (last_frame w from) else Refuses cause.Link)) (host a v) (host b u))
+      → ApplyEnsures r w o v u a b (Last from to dt word)
   unfolding does
-  last_applies from to dt draw here ends = λ on.
-      placed to _ (λ k n. unless_off (site w k).runs (if linked w from k then heard_last w from k n draw (last_frame w from) else Refuses cause.Link)) here on.moment (ends on.shared) on.stands
+  last_applies from to dt word here ends = λ on.
+      placed to _ (λ k n. unless_off (site w k).runs (if linked w from k then heard_last w from k n word (last_frame w from) else Refuses cause.Link)) here on.moment (ends on.shared) on.stands
 
-  pub frame_applies : (m dt draw : ℕ) (bytes : List ℕ) → (SiteStands a v (site w m) → OutcomeEnds r w m (hear_by w (store_at w m) (site w m).runs o.moment draw bytes) (host a v) (host b u)) → ApplyEnsures r w o v u a b (Frame m dt draw bytes)
+  pub frame_applies : (m dt word : ℕ) (bytes : List ℕ) → (SiteStands a v (site w m) → OutcomeEnds r w m (hear_by w (store_at w m) (site w m).runs o.moment word bytes) (host a v) (host b u)) → ApplyEnsures r w o v u a b (Frame m dt word bytes)
   unfolding does
-  frame_applies m dt draw bytes ends = λ on. at_moment m (λ n. hear_by w (store_at w m) (site w m).runs n draw bytes) _ on.moment (ends on.stands)
+  frame_applies m dt word bytes ends = λ on. at_moment m (λ n. hear_by w (store_at w m) (site w m).runs n word bytes) _ on.moment (ends on.stands)
 
-  pub reset_applies : (m dt draw : ℕ) → o.mote ≡ m
+  pub reset_applies : (m dt word : ℕ) → o.mote ≡ m
       → (IsShared o.shared.now w → Stands a.image (store_at w o.mote)
-      → OutcomeEnds r w o.mote (of_effect w (reset_effect (store_at w o.mote) o.mote (wide_at w o.mote) o.moment draw) None) (host a v) (host b u))
-      → ApplyEnsures r w o v u a b (Reset m dt draw)
+      → OutcomeEnds r w o.mote (of_effect w (reset_effect (store_at w o.mote) o.mote (wide_at w o.mote) o.moment word) None) (host a v) (host b u))
+      → ApplyEnsures r w o v u a b (Reset m dt word)
   unfolding does
-  reset_applies m dt draw here ends = λ on.
-      placed m _ (λ k n. of_effect w (reset_effect (store_at w k) k (wide_at w k) n draw) None) here on.moment (λ stands. ends on.shared stands.stands) on.stands
+  reset_applies m dt word here ends = λ on.
+      placed m _ (λ k n. of_effect w (reset_effect (store_at w k) k (wide_at w k) n word) None) here on.moment (λ stands. ends on.shared stands.stands) on.stands
 
-  pub inject_applies : (m image version dt draw : ℕ) → o.mote ≡ m
-      → (IsShared o.shared.now w → SiteStands a v (site w o.mote) → OutcomeEnds r w o.mote (if knows (wide_at w o.mote) image then injects w o.mote image version o.moment draw else Refuses cause.Image) (host a v) (host b u))
-      → ApplyEnsures r w o v u a b (Inject m image version dt draw)
+  pub inject_applies : (m image version dt word : ℕ) → o.mote ≡ m
+      → (IsShared o.shared.now w → SiteStands a v (site w o.mote) → OutcomeEnds r w o.mote (if knows (wide_at w o.mote) image then injects w o.mote image version o.moment word else Refuses cause.Image) (host a v) (host b u))
+      → ApplyEnsures r w o v u a b (Inject m image version dt word)
   unfolding does
-  inject_applies m image version dt draw here ends = λ on.
-      placed m _ (λ k n. if knows (wide_at w k) image then injects w k image version n draw else Refuses cause.Image) here on.moment (ends on.shared) on.stands
+  inject_applies m image version dt word here ends = λ on.
+      placed m _ (λ k n. if knows (wide_at w k) image then injects w k image version n word else Refuses cause.Image) here on.moment (ends on.shared) on.stands
 
-  pub order_applies : (m number image version dt draw : ℕ) → o.mote ≡ m
+  pub order_applies : (m number image version dt word : ℕ) → o.mote ≡ m
       → (let order : Order = record { number = number; image = image; version = version } in
-      IsShared o.shared.now w → SiteStands a v (site w o.mote) → OutcomeEnds r w o.mote (if knows (wide_at w o.mote) image then orders w o.mote order o.moment draw else Refuses cause.Image) (host a v) (host b u))
-      → ApplyEnsures r w o v u a b (OrderEvent m number image version dt draw)
+      IsShared o.shared.now w → SiteStands a v (site w o.mote) → OutcomeEnds r w o.mote (if knows (wide_at w o.mote) image then orders w o.mote order o.moment word else Refuses cause.Image) (host a v) (host b u))
+      → ApplyEnsures r w o v u a b (OrderEvent m number image version dt word)
   unfolding does
-  order_applies m number image version dt draw here ends = λ on.
+  order_applies m number image version dt word here ends = λ on.
       let order : Order = record { number = number; image = image; version = version } in
-      placed m _ (λ k n. if knows (wide_at w k) image then orders w k order n draw else Refuses cause.Image) here on.moment (ends on.shared) on.stands
+      placed m _ (λ k n. if knows (wide_at w k) image then orders w k order n word else Refuses cause.Image) here on.moment (ends on.shared) on.stands
 
   -- a mote that is on does what is asked of it
   pub not_off : (m : ℕ) (D : Does) (c : List ℕ) (s : Store) (y : Option Running) → MoteStands c v s y → is_none v ≡ false → OutcomeEnds r w m D (host a v) (host b u) → OutcomeEnds r w m (unless_off y D) (host a v) (host b u)

@@ -250,13 +250,13 @@ step_fails (Err e) f t w x reported v u a b told is p =
 
 -- the mote of a step that fits is one of the world
 pub event_mote : (motes : ℕ) (event : Event) → EventInRange motes event → mote_of event < motes
-event_mote motes (Tick m dt draw) fits = fits
-event_mote motes (Hear m dt draw frame) fits = fits.0
-event_mote motes (Last from to dt draw) fits = fits.second
-event_mote motes (Frame m dt draw bytes) fits = fits.0
-event_mote motes (Reset m dt draw) fits = fits
-event_mote motes (Inject m image version dt draw) fits = fits.0
-event_mote motes (OrderEvent m number image version dt draw) fits = fits.0
+event_mote motes (Tick m dt word) fits = fits
+event_mote motes (Hear m dt word frame) fits = fits.0
+event_mote motes (Last from to dt word) fits = fits.second
+event_mote motes (Frame m dt word bytes) fits = fits.0
+event_mote motes (Reset m dt word) fits = fits
+event_mote motes (Inject m image version dt word) fits = fits.0
+event_mote motes (OrderEvent m number image version dt word) fits = fits.0
 
 pub told_at : {T : Type 0} (r : Result T Fault) (m n : ℕ) (before : Option ChipReport) (s : Store) (a b : Device) (start end : List Report) → m ≡ n → ReadAndTold r m before s a b start end → ReadAndTold r n before s a b start end
 told_at r m n before s a b start end e told = subst (λ (k : ℕ). ReadAndTold r k before s a b start end) e told

@@ -63,13 +63,13 @@ board_stops motes board initial old new before after known all was is stopped la
 -- ---- behind a step
 
 pub event_within : (n : ℕ) (event : Event) → EventInRange n event → mote_of event < n
-event_within n (Tick mote dt draw) h = h
-event_within n (Hear mote dt draw frame) h = h.0
-event_within n (Last from to dt draw) h = h.second
-event_within n (Reset mote dt draw) h = h
-event_within n (Inject mote image version dt draw) h = h.0
-event_within n (Order mote number image version dt draw) h = h.0
-event_within n (Frame mote dt draw bytes) h = h.0
+event_within n (Tick mote dt word) h = h
+event_within n (Hear mote dt word frame) h = h.0
+event_within n (Last from to dt word) h = h.second
+event_within n (Reset mote dt word) h = h
+event_within n (Inject mote image version dt word) h = h.0
+event_within n (Order mote number image version dt word) h = h.0
+event_within n (Frame mote dt word bytes) h = h.0
 
 pub sites_same : (k : KeptWorld) (boards : List Device) (w z : World) → IsWorld k boards w → IsWorld k boards z → length w.sites ≡ length z.sites
 sites_same k boards w z a b = a.motes ∙ sym b.motes

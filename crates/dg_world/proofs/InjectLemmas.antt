@@ -13,10 +13,10 @@ use Rattle.dg_world.specs.inner.EventOutcomes.{EventOutcome, Halt}
 use Rattle.dg_world.specs.inner.OutcomeEndings.{OutcomeEnds}
 
 -- which injection an event is
-pub known_image : (r : Result EventOutcome Halt) (w : RuleWorld) (m now draw : ℕ) (image : ℕ) (known : Option Row) (row : Row) (v u : Option Node) (a b : Device) → (image == 0) ≡ false → known ≡ Some row
-    → OutcomeEnds r w m (inject_row w m (Some row) now draw) (host a v) (host b u) → OutcomeEnds r w m (if image == 0 then Refuses cause.Reserved else inject_row w m known now draw) (host a v) (host b u)
-known_image r w m now draw image known row v u a b other some ends =
-    let P : Bool → Option Row → Type 0 = λ x o. OutcomeEnds r w m (if x then Refuses cause.Reserved else inject_row w m o now draw) (host a v) (host b u) in
+pub known_image : (r : Result EventOutcome Halt) (w : RuleWorld) (m now word : ℕ) (image : ℕ) (known : Option Row) (row : Row) (v u : Option Node) (a b : Device) → (image == 0) ≡ false → known ≡ Some row
+    → OutcomeEnds r w m (inject_row w m (Some row) now word) (host a v) (host b u) → OutcomeEnds r w m (if image == 0 then Refuses cause.Reserved else inject_row w m known now word) (host a v) (host b u)
+known_image r w m now word image known row v u a b other some ends =
+    let P : Bool → Option Row → Type 0 = λ x o. OutcomeEnds r w m (if x then Refuses cause.Reserved else inject_row w m o now word) (host a v) (host b u) in
     subst (λ (x : Bool). P x known) (sym other) (subst (P false) (sym some) ends)
 
 pub not_zero : (n : ℕ) → (n ≡ 0 → ⊥) → (n == 0) ≡ false

@@ -83,22 +83,22 @@ undeclared (Changes old new) D x refused made = x
 undeclared (Starts line) D x refused made = x
 
 module _ (w : RuleWorld) (known : Bool) (u : Option Node) (c d : List ℕ) where
-  inject_sees : (m image version dt draw : ℕ) (o : Option Bool) (outcome : EventOutcome) → SeesInjected o outcome c d → ((why : Cause) → outcome ≡ Refused why → does w (Inject m image version dt draw) ≡ Refuses why) → StepSees w (Inject m image version dt draw) known o u c d
-  inject_sees m image version dt draw (Some o) outcome x refused = x
-  inject_sees m image version dt draw None outcome x refused = λ off. (λ is. x.0, λ made. undeclared outcome (does w (Inject m image version dt draw)) x.1 refused made)
+  inject_sees : (m image version dt word : ℕ) (o : Option Bool) (outcome : EventOutcome) → SeesInjected o outcome c d → ((why : Cause) → outcome ≡ Refused why → does w (Inject m image version dt word) ≡ Refuses why) → StepSees w (Inject m image version dt word) known o u c d
+  inject_sees m image version dt word (Some o) outcome x refused = x
+  inject_sees m image version dt word None outcome x refused = λ off. (λ is. x.0, λ made. undeclared outcome (does w (Inject m image version dt word)) x.1 refused made)
 
-  order_sees : (m number image version dt draw : ℕ) (o : Option Bool) (outcome : EventOutcome) → SeesInjected o outcome c d → ((why : Cause) → outcome ≡ Refused why → does w (OrderEvent m number image version dt draw) ≡ Refuses why) → StepSees w (OrderEvent m number image version dt draw) known o u c d
-  order_sees m number image version dt draw (Some o) outcome x refused = x
-  order_sees m number image version dt draw None outcome x refused = λ off. (λ is. x.0, λ made. undeclared outcome (does w (OrderEvent m number image version dt draw)) x.1 refused made)
+  order_sees : (m number image version dt word : ℕ) (o : Option Bool) (outcome : EventOutcome) → SeesInjected o outcome c d → ((why : Cause) → outcome ≡ Refused why → does w (OrderEvent m number image version dt word) ≡ Refuses why) → StepSees w (OrderEvent m number image version dt word) known o u c d
+  order_sees m number image version dt word (Some o) outcome x refused = x
+  order_sees m number image version dt word None outcome x refused = λ off. (λ is. x.0, λ made. undeclared outcome (does w (OrderEvent m number image version dt word)) x.1 refused made)
 
   pub step_sees : (e : Event) (t : Outcome) → EventSees e t u c d → ((why : Cause) → outcome_of t ≡ Refused why → does w e ≡ Refuses why) → StepSees w e known t.orderly u c d
-  step_sees (Tick m dt draw) t x refused = subst (λ (o : Option Bool). StepSees w (Tick m dt draw) known o u c d) (sym x.untold) (λ off. (λ is. x.off off, λ made. made))
-  step_sees (Hear m dt draw frame) t x refused = subst (λ (o : Option Bool). StepSees w (Hear m dt draw frame) known o u c d) (sym x.untold) (λ off. (λ is. x.off off, λ made. made))
-  step_sees (Last from to dt draw) t x refused = subst (λ (o : Option Bool). StepSees w (Last from to dt draw) known o u c d) (sym x.untold) (λ off. (λ is. x.off off, λ made. made))
-  step_sees (Frame m dt draw bytes) t x refused = subst (λ (o : Option Bool). StepSees w (Frame m dt draw bytes) known o u c d) (sym x.untold) (λ off. (λ is. x.off off, λ made. made))
-  step_sees (Reset m dt draw) t x refused = subst (λ (o : Option Bool). StepSees w (Reset m dt draw) known o u c d) (sym x.untold) (λ off. absurd (x.on off))
-  step_sees (Inject m image version dt draw) t x refused = inject_sees m image version dt draw t.orderly (outcome_of t) x refused
-  step_sees (OrderEvent m number image version dt draw) t x refused = order_sees m number image version dt draw t.orderly (outcome_of t) x refused
+  step_sees (Tick m dt word) t x refused = subst (λ (o : Option Bool). StepSees w (Tick m dt word) known o u c d) (sym x.untold) (λ off. (λ is. x.off off, λ made. made))
+  step_sees (Hear m dt word frame) t x refused = subst (λ (o : Option Bool). StepSees w (Hear m dt word frame) known o u c d) (sym x.untold) (λ off. (λ is. x.off off, λ made. made))
+  step_sees (Last from to dt word) t x refused = subst (λ (o : Option Bool). StepSees w (Last from to dt word) known o u c d) (sym x.untold) (λ off. (λ is. x.off off, λ made. made))
+  step_sees (Frame m dt word bytes) t x refused = subst (λ (o : Option Bool). StepSees w (Frame m dt word bytes) known o u c d) (sym x.untold) (λ off. (λ is. x.off off, λ made. made))
+  step_sees (Reset m dt word) t x refused = subst (λ (o : Option Bool). StepSees w (Reset m dt word) known o u c d) (sym x.untold) (λ off. absurd (x.on off))
+  step_sees (Inject m image version dt word) t x refused = inject_sees m image version dt word t.orderly (outcome_of t) x refused
+  step_sees (OrderEvent m number image version dt word) t x refused = order_sees m number image version dt word t.orderly (outcome_of t) x refused
 
   -- behind a cut that blew: the board was looked at, or was neither known nor made so
   pub cut_sees : (e : Event) (o : Option Bool) → SeesCut w e known o d → StepSees w e known o u c d
@@ -146,22 +146,22 @@ refused_told t why e = told_by (sent_in t.outbox) t.refused t.started t.before t
 -- ---- what a step reads
 
 reads_inject : (e : Event) (known : Bool) (done : Type 0) (o : Option Cause) (a b : Device) → IsInject e → EventReads e known done o a b → done → InjectReads known o a b
-reads_inject (Tick m dt draw) known done o a b is x d = absurd is
-reads_inject (Hear m dt draw frame) known done o a b is x d = absurd is
-reads_inject (Last from to dt draw) known done o a b is x d = absurd is
-reads_inject (Frame m dt draw bytes) known done o a b is x d = absurd is
-reads_inject (Reset m dt draw) known done o a b is x d = absurd is
-reads_inject (Inject m image version dt draw) known done o a b is x d = x d
-reads_inject (OrderEvent m number image version dt draw) known done o a b is x d = absurd is
+reads_inject (Tick m dt word) known done o a b is x d = absurd is
+reads_inject (Hear m dt word frame) known done o a b is x d = absurd is
+reads_inject (Last from to dt word) known done o a b is x d = absurd is
+reads_inject (Frame m dt word bytes) known done o a b is x d = absurd is
+reads_inject (Reset m dt word) known done o a b is x d = absurd is
+reads_inject (Inject m image version dt word) known done o a b is x d = x d
+reads_inject (OrderEvent m number image version dt word) known done o a b is x d = absurd is
 
 pub reads_order : (e : Event) (known : Bool) (done : Type 0) (o : Option Cause) (a b : Device) → IsOrder e → EventReads e known done o a b → OrderReads known a b
-reads_order (Tick m dt draw) known done o a b is x = absurd is
-reads_order (Hear m dt draw frame) known done o a b is x = absurd is
-reads_order (Last from to dt draw) known done o a b is x = absurd is
-reads_order (Frame m dt draw bytes) known done o a b is x = absurd is
-reads_order (Reset m dt draw) known done o a b is x = absurd is
-reads_order (Inject m image version dt draw) known done o a b is x = absurd is
-reads_order (OrderEvent m number image version dt draw) known done o a b is x = x
+reads_order (Tick m dt word) known done o a b is x = absurd is
+reads_order (Hear m dt word frame) known done o a b is x = absurd is
+reads_order (Last from to dt word) known done o a b is x = absurd is
+reads_order (Frame m dt word bytes) known done o a b is x = absurd is
+reads_order (Reset m dt word) known done o a b is x = absurd is
+reads_order (Inject m image version dt word) known done o a b is x = absurd is
+reads_order (OrderEvent m number image version dt word) known done o a b is x = x
 
 pub inject_takes : (w : RuleWorld) (e : Event) (known : Bool) (done : Type 0) (o : Option Cause) (a b : Device) → known ≡ true → done → EventReads e known done o a b → ((why : Cause) → does w e ≡ Refuses why → o ≡ Some why) → InjectTakes w e a b
 inject_takes w e known done o a b is d x told = record { took = λ inject n why refuses remount. reads_inject e known done o a b inject x d is n why remount (told why refuses) }
@@ -184,14 +184,14 @@ took_over : (n : ℕ) (x y a b : Device) → x.taken ≡ a.taken → y.taken ≡
 took_over n x y a b e f t = record { rise = subst (λ (p : Option ℕ). RisesAtMost n p b.taken) e (subst (λ (p : Option ℕ). RisesAtMost n x.taken p) f t.rise) }
 
 pub reads_over : (e : Event) (known : Bool) (p q : Type 0) (o : Option Cause) (x y a b : Device) → (q → p) → x.image ≡ a.image → y.image ≡ b.image → x.taken ≡ a.taken → y.taken ≡ b.taken → EventReads e known p o x y → EventReads e known q o a b
-reads_over (Tick m dt draw) known p q o x y a b done is js e f r = tt
-reads_over (Hear m dt draw frame) known p q o x y a b done is js e f r = tt
-reads_over (Last from to dt draw) known p q o x y a b done is js e f r = tt
-reads_over (Frame m dt draw bytes) known p q o x y a b done is js e f r = tt
-reads_over (Reset m dt draw) known p q o x y a b done is js e f r = tt
-reads_over (Inject m image version dt draw) known p q o x y a b done is js e f r =
+reads_over (Tick m dt word) known p q o x y a b done is js e f r = tt
+reads_over (Hear m dt word frame) known p q o x y a b done is js e f r = tt
+reads_over (Last from to dt word) known p q o x y a b done is js e f r = tt
+reads_over (Frame m dt word bytes) known p q o x y a b done is js e f r = tt
+reads_over (Reset m dt word) known p q o x y a b done is js e f r = tt
+reads_over (Inject m image version dt word) known p q o x y a b done is js e f r =
     λ d k n why remount some. took_over (n + beyond why) x y a b e f (r (done d) k n why (subst (λ (c : List ℕ). RemountBytes c n) (sym is) remount) some)
-reads_over (OrderEvent m number image version dt draw) known p q o x y a b done is js e f r = record {
+reads_over (OrderEvent m number image version dt word) known p q o x y a b done is js e f r = record {
   took = λ k n remount. took_over n x y a b e f (r.took k n (subst (λ (c : List ℕ). RemountBytes c n) (sym is) remount));
   stays = λ chip. subst (λ (c : List ℕ). IsKnownChip c) js (r.stays (subst (λ (c : List ℕ). IsKnownChip c) (sym is) chip));
   bytes = λ n k here after. r.bytes n k (subst (λ (c : List ℕ). RemountBytes c n) (sym is) here) (subst (λ (c : List ℕ). RemountBytes c k) (sym js) after);

@@ -1,3 +1,4 @@
+pub mod DueLemmas
 pub mod AirLemmas
 pub mod LinkLemmas
 pub mod ImageLemmas

@@ -75,29 +75,29 @@ module _ (s : Store) where
   abbrev IsOwn : Store → Bool → MoteStep Heard → Type 0
   IsOwn x own outcome = LeavesChip outcome.answer → (own ≡ true) × (outcome.trail ≡ resting x 0)
 
-  noting_own : (m : MoteState) (timer : Timer) (x : Store) (now draw : ℕ) (own : Bool) → IsOwn x own (noting m timer x now draw own)
-  noting_own m timer x now draw true = λ is. (refl, refl)
-  noting_own m timer x now draw false = λ is. absurd is
+  noting_own : (m : MoteState) (timer : Timer) (x : Store) (now word : ℕ) (own : Bool) → IsOwn x own (noting m timer x now word own)
+  noting_own m timer x now word true = λ is. (refl, refl)
+  noting_own m timer x now word false = λ is. absurd is
 
-  ahead_own : (o : Option ℕ) (m : MoteState) (timer : Timer) (x : Store) (now draw source : ℕ) (entries : List Entry) (own : Bool) → IsOwn x own (by_ahead o m x now draw (offer source entries) (noting m timer x now draw own))
-  ahead_own None m timer x now draw source entries own = noting_own m timer x now draw own
-  ahead_own (Some i) m timer x now draw source entries own =
-      cond_both (asks m x now i (entry_for entries i)) (asking m x now draw source i (entry_for entries i)) (noting m timer x now draw own) (IsOwn x own)
-      (λ _. λ is. absurd (asks_other i (asking m x now draw source i (entry_for entries i)).answer refl is)) (λ _. noting_own m timer x now draw own)
+  ahead_own : (o : Option ℕ) (m : MoteState) (timer : Timer) (x : Store) (now word source : ℕ) (entries : List Entry) (own : Bool) → IsOwn x own (by_ahead o m x now word (offer source entries) (noting m timer x now word own))
+  ahead_own None m timer x now word source entries own = noting_own m timer x now word own
+  ahead_own (Some i) m timer x now word source entries own =
+      cond_both (asks m x now i (entry_for entries i)) (asking m x now word source i (entry_for entries i)) (noting m timer x now word own) (IsOwn x own)
+      (λ _. λ is. absurd (asks_other i (asking m x now word source i (entry_for entries i)).answer refl is)) (λ _. noting_own m timer x now word own)
 
-  advert_calm : (m : MoteState) (timer : Timer) (now draw source : ℕ) (entries : List Entry) (order : Order) → IsCalm s (advert_heard m timer s now draw (offer source entries) order)
+  advert_calm : (m : MoteState) (timer : Timer) (now word source : ℕ) (entries : List Entry) (order : Order) → IsCalm s (advert_heard m timer s now word (offer source entries) order)
   unfolding advert_heard
-  advert_calm m timer now draw source entries order = λ is.
+  advert_calm m timer now word source entries order = λ is.
       let t = better_trail s order in
       let x = last t in
-      let h = ahead_own (ahead_in entries x) m timer x now draw source entries (is_own entries order m.wide s) is in
+      let h = ahead_own (ahead_in entries x) m timer x now word source entries (is_own entries order m.wide s) is in
       let first = own_rests entries order m.wide h.0 in
       Through-joined (SameReport s) t _ first (subst (Through (SameReport s)) (sym h.1) (Through-resting (SameReport s) x 0 (Through-last (SameReport s) t first)))
 
-  on_advert_calm : (mode : Mode) (m : MoteState) (now draw source : ℕ) (entries : List Entry) (order : Order) → IsCalm s (on_advert mode m s now draw (offer source entries) order)
-  on_advert_calm (Maintain timer) m now draw source entries order = advert_calm m timer now draw source entries order
-  on_advert_calm (Receive r) m now draw source entries order = λ is. rests 0
-  on_advert_calm (Transmit t) m now draw source entries order = λ is. rests 0
+  on_advert_calm : (mode : Mode) (m : MoteState) (now word source : ℕ) (entries : List Entry) (order : Order) → IsCalm s (on_advert mode m s now word (offer source entries) order)
+  on_advert_calm (Maintain timer) m now word source entries order = advert_calm m timer now word source entries order
+  on_advert_calm (Receive r) m now word source entries order = λ is. rests 0
+  on_advert_calm (Transmit t) m now word source entries order = λ is. rests 0
 
   -- ---- requests and packets
 
@@ -114,38 +114,38 @@ module _ (s : Store) where
       cond_both (to == m.id) (to_it m.mode m s now (page_request image version page want)) (overheard m s now image version page) (IsCalm s)
       (λ _. to_it_calm m.mode m now image version page want) (λ _. overheard_calm m now image version page)
 
-  seal_calm : (o : Option Held) (m : MoteState) (r : Receiving) (now draw : ℕ) (page : List ℕ) → IsCalm s (seal_by o m r s now draw page)
-  seal_calm None m r now draw page = λ is. rests 0
-  seal_calm (Some h) m r now draw page =
-      let sealed : MoteStep Heard = record { mote = maintains m now draw; trail = joined (resting s 1) (stepping s 1 (paged r.image page s)); sent = None; answer = Sealed r.image r.page } in
-      let bad : MoteStep Heard = record { mote = maintains m now draw; trail = resting s 1; sent = None; answer = Bad r.image r.page } in
+  seal_calm : (o : Option Held) (m : MoteState) (r : Receiving) (now word : ℕ) (page : List ℕ) → IsCalm s (seal_by o m r s now word page)
+  seal_calm None m r now word page = λ is. rests 0
+  seal_calm (Some h) m r now word page =
+      let sealed : MoteStep Heard = record { mote = maintains m now word; trail = joined (resting s 1) (stepping s 1 (paged r.image page s)); sent = None; answer = Sealed r.image r.page } in
+      let bad : MoteStep Heard = record { mote = maintains m now word; trail = resting s 1; sent = None; answer = Bad r.image r.page } in
       cond_both (may_seal r.image h page) sealed bad (IsCalm s) (λ _. λ is. absurd (sealed_other r.image r.page is)) (λ _. λ is. rests 1)
 
-  takes_calm : (m : MoteState) (r : Receiving) (now draw q : ℕ) (bytes : List ℕ) → IsCalm s (takes m r s now draw q bytes)
-  takes_calm m r now draw q bytes =
+  takes_calm : (m : MoteState) (r : Receiving) (now word q : ℕ) (bytes : List ℕ) → IsCalm s (takes m r s now word q bytes)
+  takes_calm m r now word q bytes =
       let a = accepted r now q bytes in
-      cond_both (set.len (came a.packets) == packets) (seal_by (held s r.image) m r s now draw (page_from a.packets)) _ (IsCalm s)
-      (λ _. seal_calm (held s r.image) m r now draw (page_from a.packets)) (λ _. λ is. rests 1)
+      cond_both (set.len (came a.packets) == packets) (seal_by (held s r.image) m r s now word (page_from a.packets)) _ (IsCalm s)
+      (λ _. seal_calm (held s r.image) m r now word (page_from a.packets)) (λ _. λ is. rests 1)
 
-  on_packet_calm : (mode : Mode) (m : MoteState) (now draw image version page q : ℕ) (bytes : List ℕ) → IsCalm s (on_packet mode m s now draw (page_packet image version page q bytes))
-  on_packet_calm (Receive r) m now draw image version page q bytes =
-      cond_both (is_wanted r image version page q) (takes m r s now draw q bytes) (dropped m s) (IsCalm s) (λ _. takes_calm m r now draw q bytes) (λ _. λ is. rests 0)
-  on_packet_calm (Maintain timer) m now draw image version page q bytes = cond_both _ _ _ (IsCalm s) (λ _. λ is. rests 0) (λ _. λ is. rests 0)
-  on_packet_calm (Transmit t) m now draw image version page q bytes = λ is. rests 0
+  on_packet_calm : (mode : Mode) (m : MoteState) (now word image version page q : ℕ) (bytes : List ℕ) → IsCalm s (on_packet mode m s now word (page_packet image version page q bytes))
+  on_packet_calm (Receive r) m now word image version page q bytes =
+      cond_both (is_wanted r image version page q) (takes m r s now word q bytes) (dropped m s) (IsCalm s) (λ _. takes_calm m r now word q bytes) (λ _. λ is. rests 0)
+  on_packet_calm (Maintain timer) m now word image version page q bytes = cond_both _ _ _ (IsCalm s) (λ _. λ is. rests 0) (λ _. λ is. rests 0)
+  on_packet_calm (Transmit t) m now word image version page q bytes = λ is. rests 0
 
   -- ---- frames
 
-  message_calm : (message : Message) (m : MoteState) (now draw : ℕ) → IsCalm s (on_message m s now draw message)
-  message_calm (Advert source entries order) m now draw = on_advert_calm m.mode m now draw source entries order
-  message_calm (Request source to image version page want) m now draw = on_request_calm m now to image version page want
-  message_calm (Packet source image version page packet bytes) m now draw = on_packet_calm m.mode m now draw image version page packet bytes
-  message_calm (Wide source entries order) m now draw = on_advert_calm m.mode m now draw source entries order
+  message_calm : (message : Message) (m : MoteState) (now word : ℕ) → IsCalm s (on_message m s now word message)
+  message_calm (Advert source entries order) m now word = on_advert_calm m.mode m now word source entries order
+  message_calm (Request source to image version page want) m now word = on_request_calm m now to image version page want
+  message_calm (Packet source image version page packet bytes) m now word = on_packet_calm m.mode m now word image version page packet bytes
+  message_calm (Wide source entries order) m now word = on_advert_calm m.mode m now word source entries order
 
-  by_message_calm : (r : Result Message FrameFault) (m : MoteState) (now draw : ℕ) → IsCalm s (by_message r m s now draw)
-  by_message_calm (Err fault) m now draw = λ is. rests 0
-  by_message_calm (Ok message) m now draw =
-      cond_both (source_of message == m.id) (dropped m s) (on_message m s now draw message) (IsCalm s) (λ _. λ is. rests 0) (λ _. message_calm message m now draw)
+  by_message_calm : (r : Result Message FrameFault) (m : MoteState) (now word : ℕ) → IsCalm s (by_message r m s now word)
+  by_message_calm (Err fault) m now word = λ is. rests 0
+  by_message_calm (Ok message) m now word =
+      cond_both (source_of message == m.id) (dropped m s) (on_message m s now word message) (IsCalm s) (λ _. λ is. rests 0) (λ _. message_calm message m now word)
 
-  pub heard_calm : (m : MoteState) (now draw : ℕ) (bytes : List ℕ) → IsCalm s (heard_of m s now draw bytes)
+  pub heard_calm : (m : MoteState) (now word : ℕ) (bytes : List ℕ) → IsCalm s (heard_of m s now word bytes)
   unfolding heard_of
-  heard_calm m now draw bytes = by_message_calm (message_of bytes m.wide) m now draw
+  heard_calm m now word bytes = by_message_calm (message_of bytes m.wide) m now word

@@ -75,17 +75,17 @@ pub stopped_same : (w : RuleWorld) (m : ℕ) (does : Does) (v u : Option Node) (
     → OutcomeEnds (Err (Stopped None)) w m does (host a v) (host b u)
 stopped_same w m does v u a b through stops = record { stops = stops; is_report = λ whole blown k t l. leaves_same (store_at w m) (trail_of does (store_at w m)) k t through l }
 
-boot_trail : (o : Option Runs) (t : Trail Store) (id : ℕ) (wide : Bool) (now draw : ℕ) → (boot_by o t id wide now draw).trail ≡ t
-boot_trail None t id wide now draw = refl
-boot_trail (Some r) t id wide now draw = refl
+boot_trail : (o : Option Runs) (t : Trail Store) (id : ℕ) (wide : Bool) (now word : ℕ) → (boot_by o t id wide now word).trail ≡ t
+boot_trail None t id wide now word = refl
+boot_trail (Some r) t id wide now word = refl
 
-pub reset_same : (s : Store) (id : ℕ) (wide : Bool) (now draw : ℕ) → Through (SameReport s) (reset_effect s id wide now draw).trail
+pub reset_same : (s : Store) (id : ℕ) (wide : Bool) (now word : ℕ) → Through (SameReport s) (reset_effect s id wide now word).trail
 unfolding reset_effect
-reset_same s id wide now draw = let b = boot start_cause.Power s in subst (Through (SameReport s)) (sym (boot_trail b.runs b.trail id wide now draw)) (boot_same start_cause.Power s)
+reset_same s id wide now word = let b = boot start_cause.Power s in subst (Through (SameReport s)) (sym (boot_trail b.runs b.trail id wide now word)) (boot_same start_cause.Power s)
 
 -- ---- ticks
 
-module _ (s : Store) (now draw : ℕ) where
+module _ (s : Store) (now word : ℕ) where
   abbrev Same : MoteStep Did → Type 0
   Same step = Through (SameReport s) step.trail
 
@@ -94,27 +94,27 @@ module _ (s : Store) (now draw : ℕ) where
 
   maintain_same : (a : Act) (m : MoteState) → Same (maintain_by a m s)
   maintain_same act.Send m = rests
-  maintain_same act.Suppressed m = rests
+  maintain_same act.Quiet m = rests
   maintain_same act.Expired m = rests
   maintain_same act.Nothing m = rests
 
-  receive_same : (a : Ask) (m : MoteState) (r : Receiving) → Same (receive_by a m r s now draw)
+  receive_same : (a : Ask) (m : MoteState) (r : Receiving) → Same (receive_by a m r s now word)
   receive_same (ask.Request want) m r = rests
   receive_same ask.GiveUp m r = rests
   receive_same ask.Wait m r = rests
 
-  transmit_same : (a : Serve) (m : MoteState) (t : Sending) → Same (transmit_by a m t s now draw)
+  transmit_same : (a : Serve) (m : MoteState) (t : Sending) → Same (transmit_by a m t s now word)
   transmit_same (serve.Send q) m t = rests
   transmit_same serve.Done m t = rests
   transmit_same serve.Wait m t = rests
 
-  mode_same : (mode : Mode) (m : MoteState) → Same (mode_tick mode m s now draw)
-  mode_same (Maintain timer) m = cond_both (order_waits s) _ _ Same (λ _. rests) (λ _. maintain_same (act_of timer now) (record m { mode = Maintain (after_tick timer now draw) }))
+  mode_same : (mode : Mode) (m : MoteState) → Same (mode_tick mode m s now word)
+  mode_same (Maintain timer) m = cond_both (order_waits s) _ _ Same (λ _. rests) (λ _. maintain_same (act_of timer now) (record m { mode = Maintain (after_tick timer now word) }))
   mode_same (Receive r) m = receive_same (ask_of (reception r) now) m r
   mode_same (Transmit t) m = transmit_same (serve_of t.owed now) m t
 
   -- a tick changes neither what is kept nor the order
-  pub tick_same : (m : MoteState) → Through (SameReport s) (tick_of m s now draw).trail
+  pub tick_same : (m : MoteState) → Through (SameReport s) (tick_of m s now word).trail
   unfolding tick_of
   tick_same m = cond_both (clears m s now) _ _ Same (λ _. clear_same s) (λ _. mode_same m.mode m)
 
@@ -141,20 +141,20 @@ sent_outcome None w m does v u a b x = x
 sent_outcome (Some bytes) w m does v u a b x = x
 
 -- a tick, also one that starts the chip, changes neither what is kept nor the order
-module _ (s : Store) (m : MoteState) (now draw : ℕ) where
+module _ (s : Store) (m : MoteState) (now word : ℕ) where
   abbrev step : MoteStep Did
-  step = tick_of m s now draw
+  step = tick_of m s now word
 
-  by_same : (d : Did) → Through (SameReport s) (tick_by d step now draw).trail
-  by_same did.Sent = tick_same s now draw m
-  by_same did.Idle = tick_same s now draw m
+  by_same : (d : Did) → Through (SameReport s) (tick_by d step now word).trail
+  by_same did.Sent = tick_same s now word m
+  by_same did.Idle = tick_same s now word m
   by_same did.Restart =
       let at = last step.trail in
-      let same = Through-last (SameReport s) step.trail (tick_same s now draw m) in
-      Through-joined (SameReport s) step.trail (boots start_cause.Order at step.mote.id step.mote.wide now draw).trail (tick_same s now draw m)
-      (subst (Through (SameReport s)) (sym (boot_trail (boot start_cause.Order at).runs (boot start_cause.Order at).trail step.mote.id step.mote.wide now draw)) (boot_same_from s at start_cause.Order same))
+      let same = Through-last (SameReport s) step.trail (tick_same s now word m) in
+      Through-joined (SameReport s) step.trail (boots start_cause.Order at step.mote.id step.mote.wide now word).trail (tick_same s now word m)
+      (subst (Through (SameReport s)) (sym (boot_trail (boot start_cause.Order at).runs (boot start_cause.Order at).trail step.mote.id step.mote.wide now word)) (boot_same_from s at start_cause.Order same))
 
-  pub effect_same : Through (SameReport s) (tick_effect m s now draw).trail
+  pub effect_same : Through (SameReport s) (tick_effect m s now word).trail
   unfolding tick_effect
   effect_same = by_same step.answer
 
@@ -328,9 +328,9 @@ power_references boot_fault.NoImage E v u a b finds done = (done finds.0 finds.1
 -- ---- heard frames
 
 -- neither what is kept nor the order is another behind such an answer
-pub hear_same : (s : Store) (m : MoteState) (now draw : ℕ) (bytes : List ℕ) → LeavesChip (heard_of m s now draw bytes).answer → Through (SameReport s) (frame_effect m s now draw bytes).trail
+pub hear_same : (s : Store) (m : MoteState) (now word : ℕ) (bytes : List ℕ) → LeavesChip (heard_of m s now word bytes).answer → Through (SameReport s) (frame_effect m s now word bytes).trail
 unfolding frame_effect
-hear_same s m now draw bytes is = heard_calm s m now draw bytes is
+hear_same s m now word bytes is = heard_calm s m now word bytes is
 
 -- ---- motes that are on or off
 

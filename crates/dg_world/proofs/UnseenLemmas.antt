@@ -55,9 +55,9 @@ unseen_at D x y e unseen = subst (λ z. RefusesUnseen (D z)) e unseen
 not_true : {A : Type 0} → false ≡ true → A
 not_true e = cc
 
-module _ (w : RuleWorld) (m now draw : ℕ) (row : Row) (s : Store) where
+module _ (w : RuleWorld) (m now word : ℕ) (row : Row) (s : Store) where
   abbrev Unseen : Option InjectFault → Type 0
-  Unseen o = RefusesUnseen (inject_unless o w m row now draw)
+  Unseen o = RefusesUnseen (inject_unless o w m row now word)
 
   by_room : {A : Type 0} (b : Bool) → Unseen (cond b (Some (inject.Worn s.room)) None) → A
   by_room true unseen = not_true unseen
@@ -83,26 +83,26 @@ module _ (w : RuleWorld) (m now draw : ℕ) (row : Row) (s : Store) where
   by_size false false false other unseen = by_kept (held s row.image) unseen
 
 -- an image that is not golden, and declared
-pub row_unseen : {A : Type 0} (w : RuleWorld) (m now draw : ℕ) (row : Row) → eqb row.image 0 ≡ false → RefusesUnseen (inject_row w m (Some row) now draw) → A
-row_unseen w m now draw row other unseen =
-    by_size w m now draw row (store_at w m) (eqb (length row.bytes) 0) (ltb most_bytes (length row.bytes)) (eqb row.image 0) other unseen
+pub row_unseen : {A : Type 0} (w : RuleWorld) (m now word : ℕ) (row : Row) → eqb row.image 0 ≡ false → RefusesUnseen (inject_row w m (Some row) now word) → A
+row_unseen w m now word row other unseen =
+    by_size w m now word row (store_at w m) (eqb (length row.bytes) 0) (ltb most_bytes (length row.bytes)) (eqb row.image 0) other unseen
 
-pub image_unseen : {A : Type 0} (w : RuleWorld) (m now draw image : ℕ) (known : Option Row) (row : Row) → eqb image 0 ≡ false → row.image ≡ image → known ≡ Some row
-    → RefusesUnseen (if image == 0 then Refuses cause.Reserved else inject_row w m known now draw) → A
-image_unseen w m now draw image known row other at some unseen =
-    let P : Bool → Option Row → Type 0 = λ x o. RefusesUnseen (if x then Refuses cause.Reserved else inject_row w m o now draw) in
+pub image_unseen : {A : Type 0} (w : RuleWorld) (m now word image : ℕ) (known : Option Row) (row : Row) → eqb image 0 ≡ false → row.image ≡ image → known ≡ Some row
+    → RefusesUnseen (if image == 0 then Refuses cause.Reserved else inject_row w m known now word) → A
+image_unseen w m now word image known row other at some unseen =
+    let P : Bool → Option Row → Type 0 = λ x o. RefusesUnseen (if x then Refuses cause.Reserved else inject_row w m o now word) in
     let here : P false (Some row) = subst (P false) some (subst (λ (x : Bool). P x known) other unseen) in
-    row_unseen w m now draw row (ap (λ (i : ℕ). eqb i 0) at ∙ other) here
+    row_unseen w m now word row (ap (λ (i : ℕ). eqb i 0) at ∙ other) here
 
-pub order_by : {A : Type 0} (o : Option OrderFault) (w : RuleWorld) (m now draw : ℕ) (order : Order) → RefusesUnseen (order_unless o w m order now draw) → A
-order_by None w m now draw order unseen = absurd unseen
-order_by (Some order_fault.Stopped) w m now draw order unseen = not_true unseen
-order_by (Some (order_fault.Worn room)) w m now draw order unseen = not_true unseen
-order_by (Some (order_fault.OldOrder kept)) w m now draw order unseen = not_true unseen
+pub order_by : {A : Type 0} (o : Option OrderFault) (w : RuleWorld) (m now word : ℕ) (order : Order) → RefusesUnseen (order_unless o w m order now word) → A
+order_by None w m now word order unseen = absurd unseen
+order_by (Some order_fault.Stopped) w m now word order unseen = not_true unseen
+order_by (Some (order_fault.Worn room)) w m now word order unseen = not_true unseen
+order_by (Some (order_fault.OldOrder kept)) w m now word order unseen = not_true unseen
 
 -- an order of an image that the mote knows looks at the chip
-pub order_seen : {A : Type 0} (w : RuleWorld) (m now draw : ℕ) (order : Order) → RefusesUnseen (orders w m order now draw) → A
-order_seen w m now draw order unseen = order_by (order_refusal (store_at w m) order) w m now draw order unseen
+pub order_seen : {A : Type 0} (w : RuleWorld) (m now word : ℕ) (order : Order) → RefusesUnseen (orders w m order now word) → A
+order_seen w m now word order unseen = order_by (order_refusal (store_at w m) order) w m now word order unseen
 
 -- an image that the mote knows
 pub known_unseen : (D : Does) (x known : Bool) → x ≡ known → known ≡ true → RefusesUnseen (if x then D else Refuses cause.Image) → RefusesUnseen D
@@ -130,47 +130,47 @@ module _ {N E : Type 0} (r : Result (Unit {0}) E) (old new : N) (w : RuleWorld) 
       subst (λ (k : ℕ). SiteStands a v (site w k) → RefusesUnseen (D k moment) → Unused r old new) here
       (subst (λ (n : ℕ). SiteStands a v (site w o.mote) → RefusesUnseen (D o.mote n) → Unused r old new) at stays)
 
-  pub tick_unseen : (m dt draw : ℕ) → (SiteStands a v (site w m) → RefusesUnseen (tick_does w (store_at w m) (site w m).runs o.moment draw) → Unused r old new) → StaysUnused r old new w o a v (Tick m dt draw)
+  pub tick_unseen : (m dt word : ℕ) → (SiteStands a v (site w m) → RefusesUnseen (tick_does w (store_at w m) (site w m).runs o.moment word) → Unused r old new) → StaysUnused r old new w o a v (Tick m dt word)
   unfolding does
-  tick_unseen m dt draw stays = λ on unseen. stays on.stands (at_moment (λ n. tick_does w (store_at w m) (site w m).runs n draw) _ on.moment unseen)
+  tick_unseen m dt word stays = λ on unseen. stays on.stands (at_moment (λ n. tick_does w (store_at w m) (site w m).runs n word) _ on.moment unseen)
 
-  pub hear_unseen : (m dt draw number : ℕ) → o.mote ≡ m
-      → (IsShared o.shared.now w → SiteStands a v (site w o.mote) → RefusesUnseen (unless_off (site w o.mote).runs (heard_sent w o.mote o.moment draw (frame_at w number))) → Unused r old new)
-      → StaysUnused r old new w o a v (Hear m dt draw number)
+  pub hear_unseen : (m dt word number : ℕ) → o.mote ≡ m
+      → (IsShared o.shared.now w → SiteStands a v (site w o.mote) → RefusesUnseen (unless_off (site w o.mote).runs (heard_sent w o.mote o.moment word (frame_at w number))) → Unused r old new)
+      → StaysUnused r old new w o a v (Hear m dt word number)
   unfolding does
-  hear_unseen m dt draw number here stays = λ on unseen.
-      placed m _ (λ k n. unless_off (site w k).runs (heard_sent w k n draw (frame_at w number))) here on.moment (stays on.shared) on.stands unseen
+  hear_unseen m dt word number here stays = λ on unseen.
+      placed m _ (λ k n. unless_off (site w k).runs (heard_sent w k n word (frame_at w number))) here on.moment (stays on.shared) on.stands unseen
 
-  pub last_unseen : (from to dt draw : ℕ) → o.mote ≡ to
+  pub last_unseen : (from to dt word : ℕ) → o.mote ≡ to
       → (IsShared o.shared.now w → SiteStands a v (site w o.mote)
-      → RefusesUnseen (unless_off (site w o.mote).runs (if linked w from o.mote then heard_last w from o.mote o.moment draw (last_frame w from) else Refuses cause.Link)) → Unused r old new)
-      → StaysUnused r old new w o a v (Last from to dt draw)
+      → RefusesUnseen (unless_off (site w o.mote).runs (if linked w from o.mote then heard_last w from o.mote o.moment word (last_frame w from) else Refuses cause.Link)) → Unused r old new)
+      → StaysUnused r old new w o a v (Last from to dt word)
   unfolding does
-  last_unseen from to dt draw here stays = λ on unseen.
-      placed to _ (λ k n. unless_off (site w k).runs (if linked w from k then heard_last w from k n draw (last_frame w from) else Refuses cause.Link)) here on.moment (stays on.shared) on.stands unseen
+  last_unseen from to dt word here stays = λ on unseen.
+      placed to _ (λ k n. unless_off (site w k).runs (if linked w from k then heard_last w from k n word (last_frame w from) else Refuses cause.Link)) here on.moment (stays on.shared) on.stands unseen
 
-  pub frame_unseen : (m dt draw : ℕ) (bytes : List ℕ) → (SiteStands a v (site w m) → RefusesUnseen (hear_by w (store_at w m) (site w m).runs o.moment draw bytes) → Unused r old new) → StaysUnused r old new w o a v (Frame m dt draw bytes)
+  pub frame_unseen : (m dt word : ℕ) (bytes : List ℕ) → (SiteStands a v (site w m) → RefusesUnseen (hear_by w (store_at w m) (site w m).runs o.moment word bytes) → Unused r old new) → StaysUnused r old new w o a v (Frame m dt word bytes)
   unfolding does
-  frame_unseen m dt draw bytes stays = λ on unseen. stays on.stands (at_moment (λ n. hear_by w (store_at w m) (site w m).runs n draw bytes) _ on.moment unseen)
+  frame_unseen m dt word bytes stays = λ on unseen. stays on.stands (at_moment (λ n. hear_by w (store_at w m) (site w m).runs n word bytes) _ on.moment unseen)
 
-  pub reset_unseen : (m dt draw : ℕ) → StaysUnused r old new w o a v (Reset m dt draw)
+  pub reset_unseen : (m dt word : ℕ) → StaysUnused r old new w o a v (Reset m dt word)
   unfolding does
-  reset_unseen m dt draw = λ on unseen. absurd unseen
+  reset_unseen m dt word = λ on unseen. absurd unseen
 
-  pub inject_unseen : (m image version dt draw : ℕ) → o.mote ≡ m
-      → (IsShared o.shared.now w → RefusesUnseen (if knows (wide_at w o.mote) image then injects w o.mote image version o.moment draw else Refuses cause.Image) → Unused r old new)
-      → StaysUnused r old new w o a v (Inject m image version dt draw)
+  pub inject_unseen : (m image version dt word : ℕ) → o.mote ≡ m
+      → (IsShared o.shared.now w → RefusesUnseen (if knows (wide_at w o.mote) image then injects w o.mote image version o.moment word else Refuses cause.Image) → Unused r old new)
+      → StaysUnused r old new w o a v (Inject m image version dt word)
   unfolding does
-  inject_unseen m image version dt draw here stays = λ on unseen.
-      placed m _ (λ k n. if knows (wide_at w k) image then injects w k image version n draw else Refuses cause.Image) here on.moment (λ stands. stays on.shared) on.stands unseen
+  inject_unseen m image version dt word here stays = λ on unseen.
+      placed m _ (λ k n. if knows (wide_at w k) image then injects w k image version n word else Refuses cause.Image) here on.moment (λ stands. stays on.shared) on.stands unseen
 
-  pub order_unseen : (m number image version dt draw : ℕ) → o.mote ≡ m
-      → (IsShared o.shared.now w → RefusesUnseen (if knows (wide_at w o.mote) image then orders w o.mote (record { number = number; image = image; version = version }) o.moment draw else Refuses cause.Image) → Unused r old new)
-      → StaysUnused r old new w o a v (OrderEvent m number image version dt draw)
+  pub order_unseen : (m number image version dt word : ℕ) → o.mote ≡ m
+      → (IsShared o.shared.now w → RefusesUnseen (if knows (wide_at w o.mote) image then orders w o.mote (record { number = number; image = image; version = version }) o.moment word else Refuses cause.Image) → Unused r old new)
+      → StaysUnused r old new w o a v (OrderEvent m number image version dt word)
   unfolding does
-  order_unseen m number image version dt draw here stays = λ on unseen.
+  order_unseen m number image version dt word here stays = λ on unseen.
       let order : Order = record { number = number; image = image; version = version } in
-      placed m _ (λ k n. if knows (wide_at w k) image then orders w k order n draw else Refuses cause.Image) here on.moment (λ stands. stays on.shared) on.stands unseen
+      placed m _ (λ k n. if knows (wide_at w k) image then orders w k order n word else Refuses cause.Image) here on.moment (λ stands. stays on.shared) on.stands unseen
 
 -- ---- over a fuse
 

@@ -21,23 +21,23 @@ use Rattle.dg_node.specs.declared.node.Node.{Node}
 
 -- the event asks nothing of other motes, and nothing of what was sent or declared
 abbrev pub IsAlone : Event → Type 0
-IsAlone (Tick mote dt draw) = Unit {0}
-IsAlone (Hear mote dt draw frame) = ⊥
-IsAlone (Last from to dt draw) = ⊥
-IsAlone (Reset mote dt draw) = Unit {0}
-IsAlone (Inject mote image version dt draw) = ⊥
-IsAlone (OrderEvent mote number image version dt draw) = ⊥
-IsAlone (Frame mote dt draw bytes) = Unit {0}
+IsAlone (Tick mote dt word) = Unit {0}
+IsAlone (Hear mote dt word frame) = ⊥
+IsAlone (Last from to dt word) = ⊥
+IsAlone (Reset mote dt word) = Unit {0}
+IsAlone (Inject mote image version dt word) = ⊥
+IsAlone (OrderEvent mote number image version dt word) = ⊥
+IsAlone (Frame mote dt word bytes) = Unit {0}
 
 -- the power of a mote comes
 abbrev pub IsReset : Event → Type 0
-IsReset (Tick mote dt draw) = ⊥
-IsReset (Hear mote dt draw frame) = ⊥
-IsReset (Last from to dt draw) = ⊥
-IsReset (Reset mote dt draw) = Unit {0}
-IsReset (Inject mote image version dt draw) = ⊥
-IsReset (OrderEvent mote number image version dt draw) = ⊥
-IsReset (Frame mote dt draw bytes) = ⊥
+IsReset (Tick mote dt word) = ⊥
+IsReset (Hear mote dt word frame) = ⊥
+IsReset (Last from to dt word) = ⊥
+IsReset (Reset mote dt word) = Unit {0}
+IsReset (Inject mote image version dt word) = ⊥
+IsReset (OrderEvent mote number image version dt word) = ⊥
+IsReset (Frame mote dt word bytes) = ⊥
 
 -- nothing cuts the event
 abbrev pub uncut : Event → Step

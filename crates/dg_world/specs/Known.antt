@@ -24,13 +24,13 @@ pub record IsLookedInto (deed : Does) : Type 0 where
 -- The event makes the board of its mote known, where that is orderly then: a reset,
 -- and an injection or an order that looks at the chip.
 abbrev pub MakesKnown : RuleWorld → Event → Type 0
-MakesKnown w (Tick mote dt draw) = ⊥
-MakesKnown w (Hear mote dt draw frame) = ⊥
-MakesKnown w (Last from to dt draw) = ⊥
-MakesKnown w (Frame mote dt draw bytes) = ⊥
-MakesKnown w (Reset mote dt draw) = Unit {0}
-MakesKnown w (Inject mote image version dt draw) = IsLookedInto (does w (Inject mote image version dt draw))
-MakesKnown w (OrderEvent mote number image version dt draw) = IsLookedInto (does w (OrderEvent mote number image version dt draw))
+MakesKnown w (Tick mote dt word) = ⊥
+MakesKnown w (Hear mote dt word frame) = ⊥
+MakesKnown w (Last from to dt word) = ⊥
+MakesKnown w (Frame mote dt word bytes) = ⊥
+MakesKnown w (Reset mote dt word) = Unit {0}
+MakesKnown w (Inject mote image version dt word) = IsLookedInto (does w (Inject mote image version dt word))
+MakesKnown w (OrderEvent mote number image version dt word) = IsLookedInto (does w (OrderEvent mote number image version dt word))
 
 -- beyond mounting it again, where an injection is refused so
 abbrev pub beyond : Cause → ℕ
@@ -47,22 +47,22 @@ beyond (cause.Worn room) = 0
 beyond (cause.OldOrder number) = 0
 
 abbrev pub IsInject : Event → Type 0
-IsInject (Tick mote dt draw) = ⊥
-IsInject (Hear mote dt draw frame) = ⊥
-IsInject (Last from to dt draw) = ⊥
-IsInject (Frame mote dt draw bytes) = ⊥
-IsInject (Reset mote dt draw) = ⊥
-IsInject (Inject mote image version dt draw) = Unit {0}
-IsInject (OrderEvent mote number image version dt draw) = ⊥
+IsInject (Tick mote dt word) = ⊥
+IsInject (Hear mote dt word frame) = ⊥
+IsInject (Last from to dt word) = ⊥
+IsInject (Frame mote dt word bytes) = ⊥
+IsInject (Reset mote dt word) = ⊥
+IsInject (Inject mote image version dt word) = Unit {0}
+IsInject (OrderEvent mote number image version dt word) = ⊥
 
 abbrev pub IsOrder : Event → Type 0
-IsOrder (Tick mote dt draw) = ⊥
-IsOrder (Hear mote dt draw frame) = ⊥
-IsOrder (Last from to dt draw) = ⊥
-IsOrder (Frame mote dt draw bytes) = ⊥
-IsOrder (Reset mote dt draw) = ⊥
-IsOrder (Inject mote image version dt draw) = ⊥
-IsOrder (OrderEvent mote number image version dt draw) = Unit {0}
+IsOrder (Tick mote dt word) = ⊥
+IsOrder (Hear mote dt word frame) = ⊥
+IsOrder (Last from to dt word) = ⊥
+IsOrder (Frame mote dt word bytes) = ⊥
+IsOrder (Reset mote dt word) = ⊥
+IsOrder (Inject mote image version dt word) = ⊥
+IsOrder (OrderEvent mote number image version dt word) = Unit {0}
 
 -- What an event reads of a known board, which is mounted again by n bytes: an order as many twice and 64 more,
 -- since a cut that blew mounts once more; an injection that is refused once.

@@ -62,20 +62,20 @@ fn apply_alone<N: Nor>(
     ensures powers { IsReset event.now → Powers result (N.device board.old) (N.device board.new) }
 {
     match event {
-        Event::Tick { draw, .. } => tick(runs, now, *draw, board, outcome),
-        Event::Reset { mote, draw, .. } => reset(
+        Event::Tick { word, .. } => tick(runs, now, *word, board, outcome),
+        Event::Reset { mote, word, .. } => reset(
             runs,
             u16::from(*mote),
             true,
             now,
-            *draw,
+            *word,
             board,
             outcome,
         ),
-        Event::Frame { draw, bytes, .. } => hear(
+        Event::Frame { word, bytes, .. } => hear(
             runs,
             now,
-            *draw,
+            *word,
             bytes.as_slice(),
             board,
             outcome,

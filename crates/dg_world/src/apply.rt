@@ -14,25 +14,42 @@ use crate::known_boards::{has, is_watched, known_after, makes_known, note};
 use crate::outcome::Fault;
 use crate::stepping::{MOST_LINES, step_at};
 use crate::world::{World, WorldFault};
+use dg_base::Step;
 use dg_nor::Nor;
 use dg_rules::{Cut, Event, Report, agreement_is_kept, consistency_is_kept};
 use dg_script::MOST_EVENTS;
 
 impl World {
-    /// One step: an event, and the cut that waits for it. What is reported of it is appended, its `sent` line only where
-    /// `reported` is true.
-    #[inline(always)]
+    /// One step: an event, and the cut that waits for it, if there is one. What is reported of it is appended, its `sent` line
+    /// only where `loud` is true.
     pub fn apply<N: Nor>(
+        &mut self,
+        boards: &mut Vec<N>,
+        step: &Step,
+        loud: bool,
+        out: &mut Vec<Report>,
+    ) -> Result<(), WorldFault>
+        requires world { (w : RuleWorld) × IsWorld self.old (map N.device boards.old.items) w
+            × StepInRange (length w.sites) step.now }
+        ensures { ApplyDone result step.now loud (deployed self.old (map N.device boards.old.items) out.old.items)
+            (deployed self.new (map N.device boards.new.items) out.new.items) }
+    {
+        self.apply_parts(boards, &step.event, step.cut.as_ref(), loud, out)
+    }
+
+    /// The same of an event and a cut that stand apart.
+    #[inline(always)]
+    pub fn apply_parts<N: Nor>(
         &mut self,
         boards: &mut Vec<N>,
         event: &Event,
         cut: Option<&Cut>,
-        reported: bool,
+        loud: bool,
         out: &mut Vec<Report>,
     ) -> Result<(), WorldFault>
         requires world { (w : RuleWorld) × IsWorld self.old (map N.device boards.old.items) w
             × StepInRange (length w.sites) (step_of event.now (option_copied cut)) }
-        ensures { ApplyDone result (step_of event.now (option_copied cut.entry)) reported
+        ensures { ApplyDone result (step_of event.now (option_copied cut.entry)) loud
             (deployed self.old (map N.device boards.old.items) out.old.items)
             (deployed self.new (map N.device boards.new.items) out.new.items) }
     {
@@ -60,7 +77,7 @@ impl World {
             mote,
             moment,
             known,
-            reported,
+            reported: loud,
         };
         match step_at(&context, runs, event, cut, board, &mut self.outcome, out) {
             Ok(()) => {

@@ -47,40 +47,40 @@ pub(crate) fn apply_event<N: Nor>(
 {
     let now = context.moment;
     match event {
-        Event::Tick { draw, .. } => tick(runs, now, *draw, board, outcome),
-        Event::Hear { draw, frame, .. } => {
-            hear_numbered(context, runs, *frame, *draw, board, outcome)
+        Event::Tick { word, .. } => tick(runs, now, *word, board, outcome),
+        Event::Hear { word, frame, .. } => {
+            hear_numbered(context, runs, *frame, *word, board, outcome)
         }
-        Event::Last { from, draw, .. } => hear_last(context, runs, *from, *draw, board, outcome),
-        Event::Frame { draw, bytes, .. } => {
+        Event::Last { from, word, .. } => hear_last(context, runs, *from, *word, board, outcome),
+        Event::Frame { word, bytes, .. } => {
             let frame = bytes.as_slice();
-            hear(runs, now, *draw, frame, board, outcome)
+            hear(runs, now, *word, frame, board, outcome)
         }
-        Event::Reset { draw, .. } => reset_here(context, runs, *draw, board, outcome),
+        Event::Reset { word, .. } => reset_here(context, runs, *word, board, outcome),
         Event::Inject {
             image,
             version,
-            draw,
+            word,
             ..
         } => {
             let image_version = ImageVersion {
                 image: *image,
                 version: *version,
             };
-            inject_known(context, runs, image_version, *draw, board, outcome)
+            inject_known(context, runs, image_version, *word, board, outcome)
         }
         Event::Order {
             number,
             image,
             version,
-            draw,
+            word,
             ..
         } => {
             let ordered = ImageVersion {
                 image: *image,
                 version: *version,
             };
-            order_known(context, runs, *number, ordered, *draw, board, outcome)
+            order_known(context, runs, *number, ordered, *word, board, outcome)
         }
     }
 }

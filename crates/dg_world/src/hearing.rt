@@ -12,14 +12,18 @@ ghost use Rattle.dg_node.specs.Hosts.{host};
 ghost use Rattle.dg_world.specs.Unseen.{RefusesUnseen};
 ghost use Rattle.dg_world.specs.inner.Outcomes.{IsNothing, as_outcome};
 ghost use Rattle.dg_world.specs.inner.Sees.{SeesMote};
+ghost use Rattle.dg_volume.specs.Store.{Store};
+ghost use Rattle.dg_volume.specs.Stands.{Tells};
+ghost use Rattle.dg_node.specs.Reports.{IsReportOf};
 
 use crate::context::EventContext;
 use crate::outcome::{Fault, Outcome};
 use dg_frame::Message;
 use dg_mote::Heard;
-use dg_node::{Node, report_chip};
+use dg_node::{ChipReport, Node, report_chip};
 use dg_nor::{Nor, Stopped};
 use dg_rules::Cause;
+use dg_volume::Volume;
 
 /// Whether what a chip keeps, and its order, are surely as they were before such an answer.
 fn leaves_chip(heard: Heard) -> bool
@@ -38,12 +42,21 @@ fn leaves_chip(heard: Heard) -> bool
     }
 }
 
+/// What is reported of a chip before a frame. It is not inlined: so it is copied once, to where it is kept until the mote
+/// answers.
+#[inline(never)]
+fn report_before(volume: &Volume) -> ChipReport
+    ensures { (s : Store) → Tells volume.now s → IsReportOf result s }
+{
+    report_chip(volume)
+}
+
 /// A frame is heard, where the mote is on: what its chip keeps is told by its own volume. One that is off refuses it.
 #[inline(never)]
 pub(crate) fn hear<N: Nor>(
     runs: &mut Option<Node>,
     now: u64,
-    draw: u32,
+    word: u32,
     bytes: &[u8],
     board: &mut N,
     outcome: &mut Outcome,
@@ -53,9 +66,9 @@ pub(crate) fn hear<N: Nor>(
     requires nothing { IsNothing outcome.old }
     ensures ends { (w : RuleWorld) (m : ℕ) → SiteStands (N.device board.old) runs.old (site w m)
         → OutcomeEnds (as_outcome result outcome.new) w m (hear_by w (store_at w m)
-        (site w m).runs now draw bytes.now) (host (N.device board.old) runs.old) (host (N.device board.new) runs.new) }
+        (site w m).runs now word bytes.now) (host (N.device board.old) runs.old) (host (N.device board.new) runs.new) }
     ensures unseen { (w : RuleWorld) (m : ℕ) → SiteStands (N.device board.old) runs.old (site w m)
-        → RefusesUnseen (hear_by w (store_at w m) (site w m).runs now draw bytes.now)
+        → RefusesUnseen (hear_by w (store_at w m) (site w m).runs now word bytes.now)
         → (board.new ≡ board.old) × OnErr result ⊥ }
     ensures sees { OnOk result (SeesMote outcome.new runs.new (N.device board.old).image (N.device board.new).image) }
     ensures same_reference { (N.device board.new).references ≡ (N.device board.old).references }
@@ -64,17 +77,21 @@ pub(crate) fn hear<N: Nor>(
         outcome.refused = Some(Cause::Off);
         return Ok(());
     };
-    outcome.before = Some(report_chip(node.volume()));
-    match node.hear(board, now, draw, bytes) {
+    let before = report_before(node.volume());
+    match node.hear(board, now, word, bytes) {
         Ok(heard) => {
             outcome.heard = heard;
             if leaves_chip(heard) {
                 return Ok(());
             }
+            outcome.before = Some(before);
             outcome.after = Some(report_chip(node.volume()));
             Ok(())
         }
-        Err(Stopped) => Err(Fault::Stopped),
+        Err(Stopped) => {
+            outcome.before = Some(before);
+            Err(Fault::Stopped)
+        }
     }
 }
 
@@ -82,7 +99,7 @@ pub(crate) fn hear<N: Nor>(
 pub(crate) fn hear_sent<N: Nor>(
     runs: &mut Option<Node>,
     now: u64,
-    draw: u32,
+    word: u32,
     message: &Message,
     board: &mut N,
     outcome: &mut Outcome,
@@ -93,10 +110,10 @@ pub(crate) fn hear_sent<N: Nor>(
     requires nothing { IsNothing outcome.old }
     ensures ends { (w : RuleWorld) (m : ℕ) → SiteStands (N.device board.old) runs.old (site w m)
         → OutcomeEnds (as_outcome result outcome.new) w m
-        (hear_by w (store_at w m) (site w m).runs now draw (frame_of message.now))
+        (hear_by w (store_at w m) (site w m).runs now word (frame_of message.now))
         (host (N.device board.old) runs.old) (host (N.device board.new) runs.new) }
     ensures unseen { (w : RuleWorld) (m : ℕ) → SiteStands (N.device board.old) runs.old (site w m)
-        → RefusesUnseen (hear_by w (store_at w m) (site w m).runs now draw (frame_of message.now))
+        → RefusesUnseen (hear_by w (store_at w m) (site w m).runs now word (frame_of message.now))
         → (board.new ≡ board.old) × OnErr result ⊥ }
     ensures sees { OnOk result (SeesMote outcome.new runs.new (N.device board.old).image (N.device board.new).image) }
     ensures same_reference { (N.device board.new).references ≡ (N.device board.old).references }
@@ -105,17 +122,21 @@ pub(crate) fn hear_sent<N: Nor>(
         outcome.refused = Some(Cause::Off);
         return Ok(());
     };
-    outcome.before = Some(report_chip(node.volume()));
-    match node.hear_sent(board, now, draw, message) {
+    let before = report_before(node.volume());
+    match node.hear_sent(board, now, word, message) {
         Ok(heard) => {
             outcome.heard = heard;
             if leaves_chip(heard) {
                 return Ok(());
             }
+            outcome.before = Some(before);
             outcome.after = Some(report_chip(node.volume()));
             Ok(())
         }
-        Err(Stopped) => Err(Fault::Stopped),
+        Err(Stopped) => {
+            outcome.before = Some(before);
+            Err(Fault::Stopped)
+        }
     }
 }
 
@@ -125,7 +146,7 @@ pub(crate) fn hear_numbered<N: Nor>(
     context: &EventContext<'_>,
     runs: &mut Option<Node>,
     number: u32,
-    draw: u32,
+    word: u32,
     board: &mut N,
     outcome: &mut Outcome,
 ) -> Result<(), Fault>
@@ -134,12 +155,12 @@ pub(crate) fn hear_numbered<N: Nor>(
     ensures ends { (w : RuleWorld) → IsShared context.now.shared.now w
         → SiteStands (N.device board.old) runs.old (site w context.now.mote)
         → OutcomeEnds (as_outcome result outcome.new) w context.now.mote
-        (unless_off (site w context.now.mote).runs (heard_sent w context.now.mote context.now.moment draw
+        (unless_off (site w context.now.mote).runs (heard_sent w context.now.mote context.now.moment word
         (frame_at w number)))
         (host (N.device board.old) runs.old) (host (N.device board.new) runs.new) }
     ensures unseen { (w : RuleWorld) → IsShared context.now.shared.now w
         → SiteStands (N.device board.old) runs.old (site w context.now.mote)
-        → RefusesUnseen (unless_off (site w context.now.mote).runs (heard_sent w context.now.mote context.now.moment draw
+        → RefusesUnseen (unless_off (site w context.now.mote).runs (heard_sent w context.now.mote context.now.moment word
         (frame_at w number)))
         → (board.new ≡ board.old) × OnErr result ⊥ }
     ensures sees { OnOk result (SeesMote outcome.new runs.new (N.device board.old).image (N.device board.new).image) }
@@ -156,7 +177,7 @@ pub(crate) fn hear_numbered<N: Nor>(
         }
         Some(sent) => {
             if context.shared.links.are_joined(sent.by, context.mote) {
-                hear_sent(runs, context.moment, draw, &sent.message, board, outcome)
+                hear_sent(runs, context.moment, word, &sent.message, board, outcome)
             } else {
                 outcome.refused = Some(Cause::Link);
                 Ok(())
@@ -171,7 +192,7 @@ pub(crate) fn hear_last<N: Nor>(
     context: &EventContext<'_>,
     runs: &mut Option<Node>,
     from: u8,
-    draw: u32,
+    word: u32,
     board: &mut N,
     outcome: &mut Outcome,
 ) -> Result<(), Fault>
@@ -182,12 +203,12 @@ pub(crate) fn hear_last<N: Nor>(
         → SiteStands (N.device board.old) runs.old (site w context.now.mote)
         → OutcomeEnds (as_outcome result outcome.new) w context.now.mote
         (unless_off (site w context.now.mote).runs (if linked w from context.now.mote
-        then heard_last w from context.now.mote context.now.moment draw (last_frame w from) else Refuses Cause.Link))
+        then heard_last w from context.now.mote context.now.moment word (last_frame w from) else Refuses Cause.Link))
         (host (N.device board.old) runs.old) (host (N.device board.new) runs.new) }
     ensures unseen { (w : RuleWorld) → IsShared context.now.shared.now w
         → SiteStands (N.device board.old) runs.old (site w context.now.mote)
         → RefusesUnseen (unless_off (site w context.now.mote).runs (if linked w from context.now.mote
-        then heard_last w from context.now.mote context.now.moment draw (last_frame w from) else Refuses Cause.Link))
+        then heard_last w from context.now.mote context.now.moment word (last_frame w from) else Refuses Cause.Link))
         → (board.new ≡ board.old) × OnErr result ⊥ }
     ensures sees { OnOk result (SeesMote outcome.new runs.new (N.device board.old).image (N.device board.new).image) }
     ensures same_reference { (N.device board.new).references ≡ (N.device board.old).references }
@@ -205,6 +226,6 @@ pub(crate) fn hear_last<N: Nor>(
             outcome.refused = Some(Cause::Frame);
             Ok(())
         }
-        Some(sent) => hear_sent(runs, context.moment, draw, &sent.message, board, outcome),
+        Some(sent) => hear_sent(runs, context.moment, word, &sent.message, board, outcome),
     }
 }

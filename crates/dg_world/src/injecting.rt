@@ -33,7 +33,7 @@ fn inject_image<N: Nor>(
     runs: &mut Option<Node>,
     image_version: ImageVersion,
     image: &Image,
-    draw: u32,
+    word: u32,
     board: &mut N,
     outcome: &mut Outcome,
 ) -> Result<(), Fault>
@@ -44,7 +44,7 @@ fn inject_image<N: Nor>(
     requires nothing { IsNothing outcome.old }
     ensures ends { (w : RuleWorld) (m : ℕ) → SiteStands (N.device board.old) runs.old (site w m)
         → OutcomeEnds (as_outcome result outcome.new) w m
-        (inject_row w m (Some (row_of_image image_version image.now)) context.now.moment draw)
+        (inject_row w m (Some (row_of_image image_version image.now)) context.now.moment word)
         (host (N.device board.old) runs.old) (host (N.device board.new) runs.new) }
     ensures sees { OnOk result (IsSomeAnd outcome.new.orderly (λ orderly. SeesOrder orderly (N.device board.new).image)) }
     ensures reads { OnOk result (InjectReads context.now.known outcome.new.refused (N.device board.old) (N.device board.new)) }
@@ -55,7 +55,7 @@ fn inject_image<N: Nor>(
         name: image.name.as_slice(),
         bytes: image.content.as_slice(),
     };
-    match Node::inject(runs, board, context.known, &bytes, context.moment, draw) {
+    match Node::inject(runs, board, context.known, &bytes, context.moment, word) {
         Ok(injected) => {
             note_injected(injected, bytes.bytes.len(), outcome);
             Ok(())
@@ -69,7 +69,7 @@ fn inject<N: Nor>(
     context: &EventContext<'_>,
     runs: &mut Option<Node>,
     image_version: ImageVersion,
-    draw: u32,
+    word: u32,
     board: &mut N,
     outcome: &mut Outcome,
 ) -> Result<(), Fault>
@@ -82,12 +82,12 @@ fn inject<N: Nor>(
         → SiteStands (N.device board.old) runs.old (site w m)
         → OutcomeEnds (as_outcome result outcome.new) w m
         (if image_version.image == 0 then Refuses Cause.Reserved else inject_row w m
-        (row_at w.declared image_version.image image_version.version) context.now.moment draw)
+        (row_at w.declared image_version.image image_version.version) context.now.moment word)
         (host (N.device board.old) runs.old) (host (N.device board.new) runs.new) }
     ensures unseen { (w : RuleWorld) (m : ℕ) → Declares context.now.shared.now.images w.declared
         → RefusesUnseen
         (if image_version.image == 0 then Refuses Cause.Reserved else inject_row w m
-        (row_at w.declared image_version.image image_version.version) context.now.moment draw)
+        (row_at w.declared image_version.image image_version.version) context.now.moment word)
         → (board.new ≡ board.old) × OnErr result ⊥ }
     ensures sees { OnOk result (SeesInjected outcome.new.orderly (outcome_of outcome.new) (N.device board.old).image
         (N.device board.new).image) }
@@ -103,7 +103,7 @@ fn inject<N: Nor>(
             outcome.refused = Some(Cause::Image);
             Ok(())
         }
-        Some(image) => inject_image(context, runs, image_version, image, draw, board, outcome),
+        Some(image) => inject_image(context, runs, image_version, image, word, board, outcome),
     }
 }
 
@@ -120,7 +120,7 @@ pub(crate) fn inject_known<N: Nor>(
     context: &EventContext<'_>,
     runs: &mut Option<Node>,
     image_version: ImageVersion,
-    draw: u32,
+    word: u32,
     board: &mut N,
     outcome: &mut Outcome,
 ) -> Result<(), Fault>
@@ -133,12 +133,12 @@ pub(crate) fn inject_known<N: Nor>(
         → SiteStands (N.device board.old) runs.old (site w context.now.mote)
         → OutcomeEnds (as_outcome result outcome.new) w context.now.mote
         (if knows (wide_at w context.now.mote) image_version.image
-        then injects w context.now.mote image_version.image image_version.version context.now.moment draw
+        then injects w context.now.mote image_version.image image_version.version context.now.moment word
         else Refuses Cause.Image)
         (host (N.device board.old) runs.old) (host (N.device board.new) runs.new) }
     ensures unseen { (w : RuleWorld) → IsShared context.now.shared.now w
         → RefusesUnseen (if knows (wide_at w context.now.mote) image_version.image
-        then injects w context.now.mote image_version.image image_version.version context.now.moment draw
+        then injects w context.now.mote image_version.image image_version.version context.now.moment word
         else Refuses Cause.Image)
         → (board.new ≡ board.old) × OnErr result ⊥ }
     ensures sees { OnOk result (SeesInjected outcome.new.orderly (outcome_of outcome.new) (N.device board.old).image
@@ -150,5 +150,5 @@ pub(crate) fn inject_known<N: Nor>(
         outcome.refused = Some(Cause::Image);
         return Ok(());
     }
-    inject(context, runs, image_version, draw, board, outcome)
+    inject(context, runs, image_version, word, board, outcome)
 }

@@ -53,8 +53,8 @@ fn is_known_to(shared: &Shared, mote: u8, image: u8) -> bool
 /// Whether an image is declared that is not golden, and that a mote knows.
 fn is_declared(shared: &Shared, mote: u8, image: u8, version: u32) -> bool
     requires { mote < most_motes }
-    ensures { (w : RuleWorld) (dt draw : ℕ) → IsShared shared.now w
-        → IsTrue result ↔ MakesKnown w (Inject mote image version dt draw) }
+    ensures { (w : RuleWorld) (dt word : ℕ) → IsShared shared.now w
+        → IsTrue result ↔ MakesKnown w (Inject mote image version dt word) }
 {
     if !is_known_to(shared, mote, image) {
         return false;

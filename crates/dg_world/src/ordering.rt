@@ -29,7 +29,7 @@ fn order<N: Nor>(
     runs: &mut Option<Node>,
     number: u32,
     image_version: ImageVersion,
-    draw: u32,
+    word: u32,
     board: &mut N,
     outcome: &mut Outcome,
 ) -> Result<(), Fault>
@@ -43,7 +43,7 @@ fn order<N: Nor>(
         → OutcomeEnds (as_outcome result outcome.new) w m
         (order_unless (order_refusal (store_at w m)
         (record { number = number; image = image_version.image; version = image_version.version })) w m
-        (record { number = number; image = image_version.image; version = image_version.version }) context.now.moment draw)
+        (record { number = number; image = image_version.image; version = image_version.version }) context.now.moment word)
         (host (N.device board.old) runs.old) (host (N.device board.new) runs.new) }
     ensures sees { OnOk result (IsSomeAnd outcome.new.orderly (λ orderly. SeesOrder orderly (N.device board.new).image)) }
     ensures reads { OrderReads context.now.known (N.device board.old) (N.device board.new) }
@@ -54,7 +54,7 @@ fn order<N: Nor>(
         image: image_version.image,
         version: image_version.version,
     };
-    match Node::order(runs, board, context.known, ordered, context.moment, draw) {
+    match Node::order(runs, board, context.known, ordered, context.moment, word) {
         Ok(ordered) => {
             note_ordered(ordered, outcome);
             Ok(())
@@ -70,7 +70,7 @@ pub(crate) fn order_known<N: Nor>(
     runs: &mut Option<Node>,
     number: u32,
     image_version: ImageVersion,
-    draw: u32,
+    word: u32,
     board: &mut N,
     outcome: &mut Outcome,
 ) -> Result<(), Fault>
@@ -85,13 +85,13 @@ pub(crate) fn order_known<N: Nor>(
         → OutcomeEnds (as_outcome result outcome.new) w context.now.mote
         (if knows (wide_at w context.now.mote) image_version.image
         then orders w context.now.mote
-        (record { number = number; image = image_version.image; version = image_version.version }) context.now.moment draw
+        (record { number = number; image = image_version.image; version = image_version.version }) context.now.moment word
         else Refuses Cause.Image)
         (host (N.device board.old) runs.old) (host (N.device board.new) runs.new) }
     ensures unseen { (w : RuleWorld) → IsShared context.now.shared.now w
         → RefusesUnseen (if knows (wide_at w context.now.mote) image_version.image
         then orders w context.now.mote
-        (record { number = number; image = image_version.image; version = image_version.version }) context.now.moment draw
+        (record { number = number; image = image_version.image; version = image_version.version }) context.now.moment word
         else Refuses Cause.Image)
         → (board.new ≡ board.old) × OnErr result ⊥ }
     ensures sees { OnOk result (SeesInjected outcome.new.orderly (outcome_of outcome.new) (N.device board.old).image
@@ -104,5 +104,5 @@ pub(crate) fn order_known<N: Nor>(
         outcome.refused = Some(Cause::Image);
         return Ok(());
     }
-    order(context, runs, number, image_version, draw, board, outcome)
+    order(context, runs, number, image_version, word, board, outcome)
 }

@@ -22,7 +22,7 @@ pub(crate) fn reset<N: Nor>(
     id: u16,
     wide: bool,
     now: u64,
-    draw: u32,
+    word: u32,
     board: &mut N,
     outcome: &mut Outcome,
 ) -> Result<(), Fault>
@@ -30,7 +30,7 @@ pub(crate) fn reset<N: Nor>(
     requires nothing { IsNothing outcome.old }
     ensures ends { (w : RuleWorld) (m : ℕ) → m ≡ id → Stands (N.device board.old).image (store_at w m)
         → OutcomeEnds (as_outcome result outcome.new) w m (of_effect w (reset_effect
-        (store_at w m) m wide now draw) None) (host (N.device board.old) runs.old) (host (N.device board.new) runs.new) }
+        (store_at w m) m wide now word) None) (host (N.device board.old) runs.old) (host (N.device board.new) runs.new) }
     ensures powers { Powers result (N.device board.old) (N.device board.new) }
     ensures sees { OnOk result (SeesStart outcome.new runs.new) }
     ensures same_reference { (N.device board.new).references ≡ (N.device board.old).references }
@@ -39,7 +39,7 @@ pub(crate) fn reset<N: Nor>(
         id,
         wide,
         now,
-        draw,
+        word,
     };
     let powered = Node::power(board, at)?;
     *runs = Some(powered.node);
@@ -52,7 +52,7 @@ pub(crate) fn reset<N: Nor>(
 pub(crate) fn reset_here<N: Nor>(
     context: &EventContext<'_>,
     runs: &mut Option<Node>,
-    draw: u32,
+    word: u32,
     board: &mut N,
     outcome: &mut Outcome,
 ) -> Result<(), Fault>
@@ -61,7 +61,7 @@ pub(crate) fn reset_here<N: Nor>(
         → Stands (N.device board.old).image (store_at w context.now.mote)
         → OutcomeEnds (as_outcome result outcome.new) w context.now.mote (of_effect w
         (reset_effect (store_at w context.now.mote) context.now.mote
-        (wide_at w context.now.mote) context.now.moment draw) None)
+        (wide_at w context.now.mote) context.now.moment word) None)
         (host (N.device board.old) runs.old) (host (N.device board.new) runs.new) }
     ensures sees { OnOk result (SeesStart outcome.new runs.new) }
     ensures same_reference { (N.device board.new).references ≡ (N.device board.old).references }
@@ -72,7 +72,7 @@ pub(crate) fn reset_here<N: Nor>(
         u16::from(context.mote),
         wide,
         context.moment,
-        draw,
+        word,
         board,
         outcome,
     )

@@ -1,8 +1,13 @@
 //! What a world tells of the event that was applied last, and of its motes.
-ghost use Rattle.std.specs.Prelude.{◌≡◌, true, option_map, IfSome};
+ghost use Rattle.std.specs.Prelude.{◌≡◌, ℕ, ◌<◌, true, List, length, slice_get, Some, option_map, IfSome};
+ghost use Rattle.dg_nor.specs.Device.{Device};
 ghost use Rattle.dg_frame.specs.Grammar.{in_range};
 ghost use Rattle.dg_frame.specs.Spelling.{frame_of};
+ghost use Rattle.dg_mote.specs.Effects.{tick_effect};
 ghost use Rattle.dg_mote.specs.Motes.{sent_in};
+ghost use Rattle.dg_node.specs.Nodes.{rest_effect};
+ghost use Rattle.dg_rules.specs.World.{World as RuleWorld, Running, site, store_at};
+ghost use Rattle.dg_world.specs.Worlds.{IsWorld};
 
 use crate::links::MOST_MOTES;
 use crate::world::World;
@@ -48,6 +53,18 @@ impl World {
     pub fn volume(&self, mote: u8) -> Option<&Volume> {
         match self.motes.get(usize::from(mote)) {
             Some(Some(node)) => Some(node.volume()),
+            _ => None,
+        }
+    }
+
+    /// The moment before which a tick of a mote changes nothing and sends nothing. None where it is off.
+    pub fn due(&self, mote: u8) -> Option<u64>
+        ensures { IfSome result (λ moment. (boards : List Device) (d : Device) (w : RuleWorld) (r : Running) (now word : ℕ)
+            → IsWorld self.now boards w → mote < length w.sites → slice_get boards mote ≡ Some d → (site w mote).runs ≡ Some r
+            → now < moment → tick_effect r.mote (store_at w mote) now word ≡ rest_effect r.mote (store_at w mote)) }
+    {
+        match self.motes.get(usize::from(mote)) {
+            Some(Some(node)) => Some(node.due()),
             _ => None,
         }
     }

@@ -21,7 +21,7 @@ use dg_rules::Cause;
 fn tick_on<N: Nor>(
     node: &mut Node,
     now: u64,
-    draw: u32,
+    word: u32,
     board: &mut N,
     outcome: &mut Outcome,
 ) -> Result<(), Fault>
@@ -31,13 +31,13 @@ fn tick_on<N: Nor>(
     ensures ends { (w : RuleWorld) (m : ℕ) (r : Running) → Stands (N.device board.old).image (store_at w m)
         → MoteStands (N.device board.old).image (Some node.old) (store_at w m) (Some r)
         → OutcomeEnds (as_outcome result outcome.new) w m
-        (of_effect w (tick_effect r.mote (store_at w m) now draw) (Some r.image_version))
+        (of_effect w (tick_effect r.mote (store_at w m) now word) (Some r.image_version))
         (host (N.device board.old) (Some node.old)) (host (N.device board.new) (Some node.new)) }
     ensures sees { OnOk result (outcome.new.orderly ≡ None) }
     ensures same_reference { (N.device board.new).references ≡ (N.device board.old).references }
 {
     one_reading();
-    match node.tick(board, now, draw, &mut outcome.outbox) {
+    match node.tick(board, now, word, &mut outcome.outbox) {
         Ok(Ticked::Idle) => Ok(()),
         Ok(Ticked::Sent) => Ok(()),
         Ok(Ticked::Restarted(image)) => {
@@ -53,7 +53,7 @@ fn tick_on<N: Nor>(
 pub(crate) fn tick<N: Nor>(
     runs: &mut Option<Node>,
     now: u64,
-    draw: u32,
+    word: u32,
     board: &mut N,
     outcome: &mut Outcome,
 ) -> Result<(), Fault>
@@ -61,10 +61,10 @@ pub(crate) fn tick<N: Nor>(
     requires moment { now < 2 ^ 62 }
     requires nothing { IsNothing outcome.old }
     ensures ends { (w : RuleWorld) (m : ℕ) → SiteStands (N.device board.old) runs.old (site w m)
-        → OutcomeEnds (as_outcome result outcome.new) w m (tick_does w (store_at w m) (site w m).runs now draw)
+        → OutcomeEnds (as_outcome result outcome.new) w m (tick_does w (store_at w m) (site w m).runs now word)
         (host (N.device board.old) runs.old) (host (N.device board.new) runs.new) }
     ensures unseen { (w : RuleWorld) (m : ℕ) → SiteStands (N.device board.old) runs.old (site w m)
-        → RefusesUnseen (tick_does w (store_at w m) (site w m).runs now draw)
+        → RefusesUnseen (tick_does w (store_at w m) (site w m).runs now word)
         → (board.new ≡ board.old) × OnErr result ⊥ }
     ensures sees { OnOk result (SeesMote outcome.new runs.new (N.device board.old).image (N.device board.new).image) }
     ensures same_reference { (N.device board.new).references ≡ (N.device board.old).references }
@@ -74,6 +74,6 @@ pub(crate) fn tick<N: Nor>(
             outcome.refused = Some(Cause::Off);
             Ok(())
         }
-        Some(node) => tick_on(node, now, draw, board, outcome),
+        Some(node) => tick_on(node, now, word, board, outcome),
     }
 }

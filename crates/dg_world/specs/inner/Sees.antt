@@ -52,13 +52,13 @@ pub record SeesStart (t : Outcome) (u : Option Node) : Type 0 where
   pub on : u ≢ None
 
 abbrev pub EventSees : Event → Outcome → Option Node → List ℕ → List ℕ → Type 0
-EventSees (Tick mote dt draw) t u c d = SeesMote t u c d
-EventSees (Hear mote dt draw frame) t u c d = SeesMote t u c d
-EventSees (Last from to dt draw) t u c d = SeesMote t u c d
-EventSees (Frame mote dt draw bytes) t u c d = SeesMote t u c d
-EventSees (Reset mote dt draw) t u c d = SeesStart t u
-EventSees (Inject mote image version dt draw) t u c d = SeesInjected t.orderly (outcome_of t) c d
-EventSees (OrderEvent mote number image version dt draw) t u c d = SeesInjected t.orderly (outcome_of t) c d
+EventSees (Tick mote dt word) t u c d = SeesMote t u c d
+EventSees (Hear mote dt word frame) t u c d = SeesMote t u c d
+EventSees (Last from to dt word) t u c d = SeesMote t u c d
+EventSees (Frame mote dt word bytes) t u c d = SeesMote t u c d
+EventSees (Reset mote dt word) t u c d = SeesStart t u
+EventSees (Inject mote image version dt word) t u c d = SeesInjected t.orderly (outcome_of t) c d
+EventSees (OrderEvent mote number image version dt word) t u c d = SeesInjected t.orderly (outcome_of t) c d
 
 -- A step tells whether the chip is orderly, or a mote is off after it whose board is as it was where it was known,
 -- and was not made known.
@@ -84,10 +84,10 @@ InjectReads known refused a b =
     known ≡ true → (n : ℕ) (why : Cause) → RemountBytes a.image n → refused ≡ Some why → Took (n + beyond why) a b
 
 abbrev pub EventReads : Event → Bool → (done : Type 0) → Option Cause → Device → Device → Type 0
-EventReads (Tick mote dt draw) known done refused a b = Unit {0}
-EventReads (Hear mote dt draw frame) known done refused a b = Unit {0}
-EventReads (Last from to dt draw) known done refused a b = Unit {0}
-EventReads (Frame mote dt draw bytes) known done refused a b = Unit {0}
-EventReads (Reset mote dt draw) known done refused a b = Unit {0}
-EventReads (Inject mote image version dt draw) known done refused a b = done → InjectReads known refused a b
-EventReads (OrderEvent mote number image version dt draw) known done refused a b = OrderReads known a b
+EventReads (Tick mote dt word) known done refused a b = Unit {0}
+EventReads (Hear mote dt word frame) known done refused a b = Unit {0}
+EventReads (Last from to dt word) known done refused a b = Unit {0}
+EventReads (Frame mote dt word bytes) known done refused a b = Unit {0}
+EventReads (Reset mote dt word) known done refused a b = Unit {0}
+EventReads (Inject mote image version dt word) known done refused a b = done → InjectReads known refused a b
+EventReads (OrderEvent mote number image version dt word) known done refused a b = OrderReads known a b

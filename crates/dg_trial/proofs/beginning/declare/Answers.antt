@@ -19,5 +19,5 @@ pub returns-in-Ok-declare : goal.returns-in-Ok-declare
 returns-in-Ok-declare c = λ boards w is none.
     let row : Row = row_of 1 1 c.new-name.result c.in-Ok.content in
     subst (λ (z : World). IsWorld c.declare.new.self boards z)
-    (declared_first w row none ∙ ap (λ (r : Row). record w { declared = r ∷ [] }) (row_is c.new-name.result c.in-Ok.content [] c.size.result c.args.pages c.args.seed c.args.draw (c.new-name.ensures ∙ c.in_ok-from_slice.ensures.items) c.in-Ok.ensures c.size.ensures.size))
+    (declared_first w row none ∙ ap (λ (r : Row). record w { declared = r ∷ [] }) (row_is c.new-name.result c.in-Ok.content [] c.size.result c.args.pages c.args.seed c.args.word (c.new-name.ensures ∙ c.in_ok-from_slice.ensures.items) c.in-Ok.ensures c.size.ensures.size))
     (c.in-Ok-declare.ensures.declared boards w is)

@@ -45,11 +45,11 @@ play-requires-clause-may g c =
     let links2 : c.deref-2.result.now ≡ line n = c.deref-2.ensures.value ∙ c.in-Ok.ensures in
     let f : Formatted n old mid = c.in_ok-format.ensures in
     let made = linked_is n c.in-Ok-linked.world c.deref.result.now old mid enough links_is f c.in-Ok-linked.ensures in
-    let drawn = row_drawn c.args.pages c.args.seed c.next-draw.result (generator_of c.next-draw.new.self) (generator_of c.of_seed-draws.result) c.next-draw.ensures.step c.of_seed-draws.ensures.first in
-    let row : Row = row_by c.args.pages c.args.seed c.next-draw.result in
+    let drawn = row_drawn c.args.pages c.args.seed c.next-word.result (generator_of c.next-word.new.self) (generator_of c.of_seed-draws.result) c.next-word.ensures.step c.of_seed-draws.ensures.first in
+    let row : Row = row_by c.args.pages c.args.seed c.next-word.result in
     let is : IsWorld c.declare.new.world mid (first n row) = c.in-Ok-declare.ensures mid _ made refl in
     let short : c.sweeps_of.result ≤ 79 = omega (arith, c.sweeps_of.ensures, c.requires.few, c.requires.few_pages) in
-    schedule_may n c.args.pages c.args.seed c.sweeps_of.result (generator_of c.next-draw.new.self) c.deref-2.result.now row c.declare.new.world old mid c.requires.some c.requires.few short links2 f is
+    schedule_may n c.args.pages c.args.seed c.sweeps_of.result (generator_of c.next-word.new.self) c.deref-2.result.now row c.declare.new.world old mid c.requires.some c.requires.few short links2 f is
 
 pub returns-in_err-play : goal.returns-in_err-play
 returns-in_err-play g c =
@@ -62,12 +62,12 @@ returns-in_err-play g c =
     let links2 : c.deref-2.result.now ≡ line n = c.deref-2.ensures.value ∙ c.in-Ok.ensures in
     let f : Formatted n old mid = c.in_ok-format.ensures in
     let made = linked_is n c.in-Ok-linked.world c.deref.result.now old mid enough links_is f c.in-Ok-linked.ensures in
-    let drawn = row_drawn c.args.pages c.args.seed c.next-draw.result (generator_of c.next-draw.new.self) (generator_of c.of_seed-draws.result) c.next-draw.ensures.step c.of_seed-draws.ensures.first in
-    let row : Row = row_by c.args.pages c.args.seed c.next-draw.result in
+    let drawn = row_drawn c.args.pages c.args.seed c.next-word.result (generator_of c.next-word.new.self) (generator_of c.of_seed-draws.result) c.next-word.ensures.step c.of_seed-draws.ensures.first in
+    let row : Row = row_by c.args.pages c.args.seed c.next-word.result in
     let is : IsWorld c.declare.new.world mid (first n row) = c.in-Ok-declare.ensures mid _ made refl in
-    let parts = parts_are n c.args.pages c.args.seed c.sweeps_of.result (generator_of c.next-draw.new.self) c.deref-2.result.now links2 c.sweeps_of.ensures drawn.1 in
+    let parts = parts_are n c.args.pages c.args.seed c.sweeps_of.result (generator_of c.next-word.new.self) c.deref-2.result.now links2 c.sweeps_of.ensures drawn.1 in
     rw (p.1, p.2)
-    (schedule_stopped c.in_err-play.field-0.0 n c.args.pages c.args.seed c.sweeps_of.result (generator_of c.next-draw.new.self) c.deref-2.result.now row c.declare.new.world c.play.new.world old mid _ parts drawn.0 f is c.in_err-play.ensures)
+    (schedule_stopped c.in_err-play.field-0.0 n c.args.pages c.args.seed c.sweeps_of.result (generator_of c.next-word.new.self) c.deref-2.result.now row c.declare.new.world c.play.new.world old mid _ parts drawn.0 f is c.in_err-play.ensures)
 
 pub returns : goal.returns
 returns g c =
@@ -79,8 +79,8 @@ returns g c =
     let links2 : c.deref-2.result.now ≡ line n = c.deref-2.ensures.value ∙ c.in-Ok.ensures in
     let f : Formatted n old mid = c.in_ok-format.ensures in
     let made = linked_is n c.in-Ok-linked.world c.deref.result.now old mid enough links_is f c.in-Ok-linked.ensures in
-    let drawn = row_drawn c.args.pages c.args.seed c.next-draw.result (generator_of c.next-draw.new.self) (generator_of c.of_seed-draws.result) c.next-draw.ensures.step c.of_seed-draws.ensures.first in
-    let row : Row = row_by c.args.pages c.args.seed c.next-draw.result in
+    let drawn = row_drawn c.args.pages c.args.seed c.next-word.result (generator_of c.next-word.new.self) (generator_of c.of_seed-draws.result) c.next-word.ensures.step c.of_seed-draws.ensures.first in
+    let row : Row = row_by c.args.pages c.args.seed c.next-word.result in
     let is : IsWorld c.declare.new.world mid (first n row) = c.in-Ok-declare.ensures mid _ made refl in
-    let parts = parts_are n c.args.pages c.args.seed c.sweeps_of.result (generator_of c.next-draw.new.self) c.deref-2.result.now links2 c.sweeps_of.ensures drawn.1 in
-    schedule_played n c.args.pages c.args.seed c.sweeps_of.result (generator_of c.next-draw.new.self) c.deref-2.result.now row c.declare.new.world c.play.new.world old mid _ parts drawn.0 f is c.in_ok-play.ensures
+    let parts = parts_are n c.args.pages c.args.seed c.sweeps_of.result (generator_of c.next-word.new.self) c.deref-2.result.now links2 c.sweeps_of.ensures drawn.1 in
+    schedule_played n c.args.pages c.args.seed c.sweeps_of.result (generator_of c.next-word.new.self) c.deref-2.result.now row c.declare.new.world c.play.new.world old mid _ parts drawn.0 f is c.in_ok-play.ensures

@@ -1,8 +1,6 @@
-use Rattle.std.proofs.Common.{Option, List, ◌∷◌, [], map, refl, sym, ap, subst, ◌∙◌, arith}
-use Rattle.dg_base.specs.declared.events.Cut.{Cut as PowerCut}
+use Rattle.std.proofs.Common.{List, ◌∷◌, [], map, refl, sym, ap, subst, ◌∙◌, arith}
 use Rattle.dg_seed.specs.Draws.{generator_of}
-use Rattle.dg_world.specs.Applying.{step_of}
-use Rattle.dg_trial.specs.Schedule.{Part, only, disturbance}
+use Rattle.dg_trial.specs.Schedule.{Part, disturbance}
 use Rattle.dg_trial.specs.Playing.{MayPlayOver, PartsPlay}
 use Rattle.dg_trial.proofs.ScheduleLemmas.{one_disturbance}
 use Rattle.dg_trial.proofs.PartLemmas.{nothing_played, may_only}
@@ -24,8 +22,7 @@ play_step-requires g c =
     let may : MayPlayOver motes c.args.world.now (map g.N.Nor.device c.args.boards.now.items) (part ∷ []) = subst (λ (ps : List Part). MayPlayOver motes c.args.world.now (map g.N.Nor.device c.args.boards.now.items) ps) one.0 c.requires.may in
     let step = c.in-Ok.step in
     let only_it = may_only motes _ _ step part may (sym (c.in-Ok.ensures ∙ ap part (c.frames_sent-sent.ensures _ may.world may.is))) in
-    let P : Option PowerCut → Type 0 = λ cut. MayPlayOver motes c.args.world.now (map g.N.Nor.device c.args.boards.now.items) (only (step_of step.event cut)) in
-    (motes, subst P (sym c.as_ref.ensures.value) only_it)
+    (motes, only_it)
 
 pub returns-in-Ok-clause-played : goal.returns-in-Ok-clause-played
 returns-in-Ok-clause-played g c =
@@ -33,7 +30,7 @@ returns-in-Ok-clause-played g c =
     let part : Part = disturbance motes c.next-first.result c.next-second.result c.next-third.result in
     let one = one_disturbance motes (generator_of c.args.draws.now) _ _ _ c.next-first.result c.next-second.result c.next-third.result c.next-first.ensures.step c.next-second.ensures.step c.next-third.ensures.step in
     subst (λ (ps : List Part). PartsPlay c.play_step.result ps c.args.world.now c.play_step.new.world (map g.N.Nor.device c.args.boards.now.items) (map g.N.Nor.device c.play_step.new.boards.items)) (sym one.0)
-    (c.play_step.ensures part (λ w is. sym (c.in-Ok.ensures ∙ ap part (c.frames_sent-sent.ensures _ w is)) ∙ ap (step_of c.in-Ok.step.event) (sym c.as_ref.ensures.value)))
+    (c.play_step.ensures part (λ w is. sym (c.in-Ok.ensures ∙ ap part (c.frames_sent-sent.ensures _ w is))))
 
 pub returns-in-Ok-clause-drawn : goal.returns-in-Ok-clause-drawn
 returns-in-Ok-clause-drawn g c =

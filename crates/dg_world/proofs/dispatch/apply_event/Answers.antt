@@ -11,95 +11,95 @@ pub returns-in-Tick-clause-ends : goal.returns-in-Tick-clause-ends
 returns-in-Tick-clause-ends g c = λ w.
     let e = c.in-Tick in
     let x = c.tick in
-    subst (ApplyEnsures (as_outcome x.result x.new.outcome) w c.args.context.now c.args.runs.now x.new.runs _ _) (sym e.is) (tick_applies (as_outcome x.result x.new.outcome) w c.args.context.now c.args.runs.now x.new.runs _ _ e.mote e.dt e.draw (x.ensures.ends w e.mote))
+    subst (ApplyEnsures (as_outcome x.result x.new.outcome) w c.args.context.now c.args.runs.now x.new.runs _ _) (sym e.is) (tick_applies (as_outcome x.result x.new.outcome) w c.args.context.now c.args.runs.now x.new.runs _ _ e.mote e.dt e.word (x.ensures.ends w e.mote))
 
 pub returns-in-Hear-clause-ends : goal.returns-in-Hear-clause-ends
 returns-in-Hear-clause-ends g c = λ w.
     let e = c.in-Hear in
     let x = c.hear_numbered in
-    subst (ApplyEnsures (as_outcome x.result x.new.outcome) w c.args.context.now c.args.runs.now x.new.runs _ _) (sym e.is) (hear_applies (as_outcome x.result x.new.outcome) w c.args.context.now c.args.runs.now x.new.runs _ _ e.mote e.dt e.draw e.frame (c.requires.may.here ∙ ap mote_of e.is) (x.ensures.ends w))
+    subst (ApplyEnsures (as_outcome x.result x.new.outcome) w c.args.context.now c.args.runs.now x.new.runs _ _) (sym e.is) (hear_applies (as_outcome x.result x.new.outcome) w c.args.context.now c.args.runs.now x.new.runs _ _ e.mote e.dt e.word e.frame (c.requires.may.here ∙ ap mote_of e.is) (x.ensures.ends w))
 
 pub returns-in-Last-clause-ends : goal.returns-in-Last-clause-ends
 returns-in-Last-clause-ends g c = λ w.
     let e = c.in-Last in
     let x = c.hear_last in
-    subst (ApplyEnsures (as_outcome x.result x.new.outcome) w c.args.context.now c.args.runs.now x.new.runs _ _) (sym e.is) (last_applies (as_outcome x.result x.new.outcome) w c.args.context.now c.args.runs.now x.new.runs _ _ e.from e.to e.dt e.draw (c.requires.may.here ∙ ap mote_of e.is) (x.ensures.ends w))
+    subst (ApplyEnsures (as_outcome x.result x.new.outcome) w c.args.context.now c.args.runs.now x.new.runs _ _) (sym e.is) (last_applies (as_outcome x.result x.new.outcome) w c.args.context.now c.args.runs.now x.new.runs _ _ e.from e.to e.dt e.word (c.requires.may.here ∙ ap mote_of e.is) (x.ensures.ends w))
 
 pub returns-in-Frame-clause-ends : goal.returns-in-Frame-clause-ends
 returns-in-Frame-clause-ends g c = λ w.
     let e = c.in-Frame in
     let x = c.hear in
     subst (ApplyEnsures (as_outcome x.result x.new.outcome) w c.args.context.now c.args.runs.now x.new.runs _ _) (sym e.is)
-    (frame_applies (as_outcome x.result x.new.outcome) w c.args.context.now c.args.runs.now x.new.runs _ _ e.mote e.dt e.draw e.bytes (λ stands.
-    ends_at (λ bytes. hear_by w (store_at w e.mote) (site w e.mote).runs c.args.context.now.moment e.draw bytes) e.bytes c.as_slice-frame.result.now (as_outcome x.result x.new.outcome) w e.mote c.args.runs.now x.new.runs _ _ (sym c.as_slice-frame.ensures) (x.ensures.ends w e.mote stands)))
+    (frame_applies (as_outcome x.result x.new.outcome) w c.args.context.now c.args.runs.now x.new.runs _ _ e.mote e.dt e.word e.bytes (λ stands.
+    ends_at (λ bytes. hear_by w (store_at w e.mote) (site w e.mote).runs c.args.context.now.moment e.word bytes) e.bytes c.as_slice-frame.result.now (as_outcome x.result x.new.outcome) w e.mote c.args.runs.now x.new.runs _ _ (sym c.as_slice-frame.ensures) (x.ensures.ends w e.mote stands)))
 
 pub returns-in-Reset-clause-ends : goal.returns-in-Reset-clause-ends
 returns-in-Reset-clause-ends g c = λ w.
     let e = c.in-Reset in
     let x = c.reset_here in
     subst (ApplyEnsures (as_outcome x.result x.new.outcome) w c.args.context.now c.args.runs.now x.new.runs _ _) (sym e.is)
-    (reset_applies (as_outcome x.result x.new.outcome) w c.args.context.now c.args.runs.now x.new.runs _ _ e.mote e.dt e.draw (c.requires.may.here ∙ ap mote_of e.is) (x.ensures.ends w))
+    (reset_applies (as_outcome x.result x.new.outcome) w c.args.context.now c.args.runs.now x.new.runs _ _ e.mote e.dt e.word (c.requires.may.here ∙ ap mote_of e.is) (x.ensures.ends w))
 
 pub returns-in-Inject-clause-ends : goal.returns-in-Inject-clause-ends
 returns-in-Inject-clause-ends g c = λ w.
     let e = c.in-Inject in
     let x = c.inject_known in
-    subst (ApplyEnsures (as_outcome x.result x.new.outcome) w c.args.context.now c.args.runs.now x.new.runs _ _) (sym e.is) (inject_applies (as_outcome x.result x.new.outcome) w c.args.context.now c.args.runs.now x.new.runs _ _ e.mote e.image e.version e.dt e.draw (c.requires.may.here ∙ ap mote_of e.is) (x.ensures.ends w))
+    subst (ApplyEnsures (as_outcome x.result x.new.outcome) w c.args.context.now c.args.runs.now x.new.runs _ _) (sym e.is) (inject_applies (as_outcome x.result x.new.outcome) w c.args.context.now c.args.runs.now x.new.runs _ _ e.mote e.image e.version e.dt e.word (c.requires.may.here ∙ ap mote_of e.is) (x.ensures.ends w))
 
 pub returns-in-Order-clause-ends : goal.returns-in-Order-clause-ends
 returns-in-Order-clause-ends g c = λ w.
     let e = c.in-Order in
     let x = c.order_known in
-    subst (ApplyEnsures (as_outcome x.result x.new.outcome) w c.args.context.now c.args.runs.now x.new.runs _ _) (sym e.is) (order_applies (as_outcome x.result x.new.outcome) w c.args.context.now c.args.runs.now x.new.runs _ _ e.mote e.number e.image e.version e.dt e.draw (c.requires.may.here ∙ ap mote_of e.is) (x.ensures.ends w))
+    subst (ApplyEnsures (as_outcome x.result x.new.outcome) w c.args.context.now c.args.runs.now x.new.runs _ _) (sym e.is) (order_applies (as_outcome x.result x.new.outcome) w c.args.context.now c.args.runs.now x.new.runs _ _ e.mote e.number e.image e.version e.dt e.word (c.requires.may.here ∙ ap mote_of e.is) (x.ensures.ends w))
 
 pub returns-in-Tick-clause-unseen : goal.returns-in-Tick-clause-unseen
 returns-in-Tick-clause-unseen g c = λ w.
     let e = c.in-Tick in
     let x = c.tick in
     subst (StaysUnused x.result c.args.board.now x.new.board w c.args.context.now _ c.args.runs.now) (sym e.is)
-    (tick_unseen x.result c.args.board.now x.new.board w c.args.context.now _ c.args.runs.now e.mote e.dt e.draw (x.ensures.unseen w e.mote))
+    (tick_unseen x.result c.args.board.now x.new.board w c.args.context.now _ c.args.runs.now e.mote e.dt e.word (x.ensures.unseen w e.mote))
 
 pub returns-in-Hear-clause-unseen : goal.returns-in-Hear-clause-unseen
 returns-in-Hear-clause-unseen g c = λ w.
     let e = c.in-Hear in
     let x = c.hear_numbered in
     subst (StaysUnused x.result c.args.board.now x.new.board w c.args.context.now _ c.args.runs.now) (sym e.is)
-    (hear_unseen x.result c.args.board.now x.new.board w c.args.context.now _ c.args.runs.now e.mote e.dt e.draw e.frame (c.requires.may.here ∙ ap mote_of e.is) (x.ensures.unseen w))
+    (hear_unseen x.result c.args.board.now x.new.board w c.args.context.now _ c.args.runs.now e.mote e.dt e.word e.frame (c.requires.may.here ∙ ap mote_of e.is) (x.ensures.unseen w))
 
 pub returns-in-Last-clause-unseen : goal.returns-in-Last-clause-unseen
 returns-in-Last-clause-unseen g c = λ w.
     let e = c.in-Last in
     let x = c.hear_last in
     subst (StaysUnused x.result c.args.board.now x.new.board w c.args.context.now _ c.args.runs.now) (sym e.is)
-    (last_unseen x.result c.args.board.now x.new.board w c.args.context.now _ c.args.runs.now e.from e.to e.dt e.draw (c.requires.may.here ∙ ap mote_of e.is) (x.ensures.unseen w))
+    (last_unseen x.result c.args.board.now x.new.board w c.args.context.now _ c.args.runs.now e.from e.to e.dt e.word (c.requires.may.here ∙ ap mote_of e.is) (x.ensures.unseen w))
 
 pub returns-in-Frame-clause-unseen : goal.returns-in-Frame-clause-unseen
 returns-in-Frame-clause-unseen g c = λ w.
     let e = c.in-Frame in
     let x = c.hear in
     subst (StaysUnused x.result c.args.board.now x.new.board w c.args.context.now _ c.args.runs.now) (sym e.is)
-    (frame_unseen x.result c.args.board.now x.new.board w c.args.context.now _ c.args.runs.now e.mote e.dt e.draw e.bytes (λ stands unseen. x.ensures.unseen w e.mote stands (unseen_at (λ bytes. hear_by w (store_at w e.mote) (site w e.mote).runs c.args.context.now.moment e.draw bytes) e.bytes c.as_slice-frame.result.now (sym c.as_slice-frame.ensures) unseen)))
+    (frame_unseen x.result c.args.board.now x.new.board w c.args.context.now _ c.args.runs.now e.mote e.dt e.word e.bytes (λ stands unseen. x.ensures.unseen w e.mote stands (unseen_at (λ bytes. hear_by w (store_at w e.mote) (site w e.mote).runs c.args.context.now.moment e.word bytes) e.bytes c.as_slice-frame.result.now (sym c.as_slice-frame.ensures) unseen)))
 
 pub returns-in-Reset-clause-unseen : goal.returns-in-Reset-clause-unseen
 returns-in-Reset-clause-unseen g c = λ w.
     let e = c.in-Reset in
     let x = c.reset_here in
     subst (StaysUnused x.result c.args.board.now x.new.board w c.args.context.now _ c.args.runs.now) (sym e.is)
-    (reset_unseen x.result c.args.board.now x.new.board w c.args.context.now _ c.args.runs.now e.mote e.dt e.draw)
+    (reset_unseen x.result c.args.board.now x.new.board w c.args.context.now _ c.args.runs.now e.mote e.dt e.word)
 
 pub returns-in-Inject-clause-unseen : goal.returns-in-Inject-clause-unseen
 returns-in-Inject-clause-unseen g c = λ w.
     let e = c.in-Inject in
     let x = c.inject_known in
     subst (StaysUnused x.result c.args.board.now x.new.board w c.args.context.now _ c.args.runs.now) (sym e.is)
-    (inject_unseen x.result c.args.board.now x.new.board w c.args.context.now _ c.args.runs.now e.mote e.image e.version e.dt e.draw (c.requires.may.here ∙ ap mote_of e.is) (x.ensures.unseen w))
+    (inject_unseen x.result c.args.board.now x.new.board w c.args.context.now _ c.args.runs.now e.mote e.image e.version e.dt e.word (c.requires.may.here ∙ ap mote_of e.is) (x.ensures.unseen w))
 
 pub returns-in-Order-clause-unseen : goal.returns-in-Order-clause-unseen
 returns-in-Order-clause-unseen g c = λ w.
     let e = c.in-Order in
     let x = c.order_known in
     subst (StaysUnused x.result c.args.board.now x.new.board w c.args.context.now _ c.args.runs.now) (sym e.is)
-    (order_unseen x.result c.args.board.now x.new.board w c.args.context.now _ c.args.runs.now e.mote e.number e.image e.version e.dt e.draw (c.requires.may.here ∙ ap mote_of e.is) (x.ensures.unseen w))
+    (order_unseen x.result c.args.board.now x.new.board w c.args.context.now _ c.args.runs.now e.mote e.number e.image e.version e.dt e.word (c.requires.may.here ∙ ap mote_of e.is) (x.ensures.unseen w))
 
 pub returns-in-Tick-clause-sees : goal.returns-in-Tick-clause-sees
 returns-in-Tick-clause-sees g c = sees_at c.tick.result c.tick.new.outcome c.tick.new.runs _ _ _ _ c.in-Tick.is c.tick.ensures.sees

@@ -22,7 +22,7 @@ returns-then-not-are_joined-clause-ends g c = λ w is stands.
     let m = c.args.context.now.mote in
     let v = c.args.runs.now in
     let a = g.N.Nor.device c.args.board.now in
-    let L : Bool → Does = λ b. if b then heard_last w c.args.from m c.args.context.now.moment c.args.draw (last_frame w c.args.from) else Refuses cause.Link in
+    let L : Bool → Does = λ b. if b then heard_last w c.args.from m c.args.context.now.moment c.args.word (last_frame w c.args.from) else Refuses cause.Link in
     let far : linked w c.args.from m ≡ false = sym (c.are_joined.ensures w.links is.links) ∙ c.if-not-are_joined.true in
     told_as w c.args.context.now.mote _ _ _ _ _ _ _ (is_refused _ _ _ _ _ c.requires.nothing.sent)
     (not_off (Ok (Refused cause.Link)) w c.args.context.now v v a a m (L (linked w c.args.from m)) a.image (store_at w m) (site w m).runs stands.mote (none_told c.args.runs.now c.is_none.result false c.is_none.ensures c.if-is_none.false)
@@ -33,7 +33,7 @@ returns-in-None-clause-ends g c = λ w is stands.
     let m = c.args.context.now.mote in
     let v = c.args.runs.now in
     let a = g.N.Nor.device c.args.board.now in
-    let D : Option Sent → Does = λ x. heard_last w c.args.from m c.args.context.now.moment c.args.draw x in
+    let D : Option Sent → Does = λ x. heard_last w c.args.from m c.args.context.now.moment c.args.word x in
     let L : Bool → Does = λ b. if b then D (last_frame w c.args.from) else Refuses cause.Link in
     let near : linked w c.args.from m ≡ true = sym (c.are_joined.ensures w.links is.links) ∙ c.if-not-are_joined.false in
     told_as w c.args.context.now.mote _ _ _ _ _ _ _ (is_refused _ _ _ _ _ c.requires.nothing.sent)
@@ -48,8 +48,8 @@ returns-in-Some-clause-ends g c = λ w is stands.
     let a = g.N.Nor.device c.args.board.now in
     let f = c.in-Some.sent.now in
     let sent : Sent = record { by = f.by; bytes = (frame_of f.message) } in
-    let H : List ℕ → Does = λ bytes. hear_by w (store_at w m) (site w m).runs c.args.context.now.moment c.args.draw bytes in
-    let D : Option Sent → Does = λ x. heard_last w c.args.from m c.args.context.now.moment c.args.draw x in
+    let H : List ℕ → Does = λ bytes. hear_by w (store_at w m) (site w m).runs c.args.context.now.moment c.args.word bytes in
+    let D : Option Sent → Does = λ x. heard_last w c.args.from m c.args.context.now.moment c.args.word x in
     let L : Bool → Does = λ b. if b then D (last_frame w c.args.from) else Refuses cause.Link in
     let near : linked w c.args.from m ≡ true = sym (c.are_joined.ensures w.links is.links) ∙ c.if-not-are_joined.false in
     not_off (as_outcome c.hear_sent.result c.hear_sent.new.outcome) w c.args.context.now v u a _ m (L (linked w c.args.from m)) a.image (store_at w m) (site w m).runs stands.mote (none_told c.args.runs.now c.is_none.result false c.is_none.ensures c.if-is_none.false)
@@ -62,8 +62,8 @@ returns-in-Some-clause-unseen g c = λ w is stands unseen.
     let m = c.args.context.now.mote in
     let f = c.in-Some.sent.now in
     let sent : Sent = record { by = f.by; bytes = (frame_of f.message) } in
-    let H : List ℕ → Does = λ bytes. hear_by w (store_at w m) (site w m).runs c.args.context.now.moment c.args.draw bytes in
-    let D : Option Sent → Does = λ x. heard_last w c.args.from m c.args.context.now.moment c.args.draw x in
+    let H : List ℕ → Does = λ bytes. hear_by w (store_at w m) (site w m).runs c.args.context.now.moment c.args.word bytes in
+    let D : Option Sent → Does = λ x. heard_last w c.args.from m c.args.context.now.moment c.args.word x in
     let L : Bool → Does = λ b. if b then D (last_frame w c.args.from) else Refuses cause.Link in
     let near : linked w c.args.from m ≡ true = sym (c.are_joined.ensures w.links is.links) ∙ c.if-not-are_joined.false in
     let on = unless_unseen (L (linked w c.args.from m)) c.args.runs.now _ (store_at w m) (site w m).runs stands.mote (none_told c.args.runs.now c.is_none.result false c.is_none.ensures c.if-is_none.false) unseen in

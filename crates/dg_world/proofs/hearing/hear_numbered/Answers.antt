@@ -22,7 +22,7 @@ returns-in-None-clause-ends g c = λ w is stands.
     let m = c.args.context.now.mote in
     let v = c.args.runs.now in
     let a = g.N.Nor.device c.args.board.now in
-    let D : Option Sent → Does = λ x. heard_sent w m c.args.context.now.moment c.args.draw x in
+    let D : Option Sent → Does = λ x. heard_sent w m c.args.context.now.moment c.args.word x in
     told_as w c.args.context.now.mote _ _ _ _ _ _ _ (is_refused _ _ _ _ _ c.requires.nothing.sent)
     (not_off (Ok (Refused cause.Frame)) w c.args.context.now v v a a m (D (frame_at w c.args.number)) a.image (store_at w m) (site w m).runs stands.mote (none_told c.args.runs.now c.is_none.result false c.is_none.ensures c.if-is_none.false)
     (refuses_at D (frame_at w c.args.number) None cause.Frame w m v a (sym (c.in-None.ensures w.sent is.sent)) refl (Looked-none a)))
@@ -32,10 +32,10 @@ returns-then-are_joined-clause-ends g c = λ w is stands.
     let m = c.args.context.now.mote in
     let v = c.args.runs.now in
     let a = g.N.Nor.device c.args.board.now in
-    let D : Option Sent → Does = λ x. heard_sent w m c.args.context.now.moment c.args.draw x in
+    let D : Option Sent → Does = λ x. heard_sent w m c.args.context.now.moment c.args.word x in
     let f = c.in-Some.sent.now in
     let sent : Sent = record { by = f.by; bytes = (frame_of f.message) } in
-    let H : List ℕ → Does = λ bytes. hear_by w (store_at w m) (site w m).runs c.args.context.now.moment c.args.draw bytes in
+    let H : List ℕ → Does = λ bytes. hear_by w (store_at w m) (site w m).runs c.args.context.now.moment c.args.word bytes in
     let L : Bool → Does = λ b. if b then H (frame_of f.message) else Refuses cause.Link in
     let near : linked w f.by m ≡ true = sym (c.are_joined.ensures w.links is.links) ∙ c.if-are_joined.true in
     not_off (as_outcome c.hear_sent.result c.hear_sent.new.outcome) w c.args.context.now v c.hear_sent.new.runs a _ m (D (frame_at w c.args.number)) a.image (store_at w m) (site w m).runs stands.mote (none_told c.args.runs.now c.is_none.result false c.is_none.ensures c.if-is_none.false)
@@ -48,10 +48,10 @@ returns-else-are_joined-clause-ends g c = λ w is stands.
     let m = c.args.context.now.mote in
     let v = c.args.runs.now in
     let a = g.N.Nor.device c.args.board.now in
-    let D : Option Sent → Does = λ x. heard_sent w m c.args.context.now.moment c.args.draw x in
+    let D : Option Sent → Does = λ x. heard_sent w m c.args.context.now.moment c.args.word x in
     let f = c.in-Some.sent.now in
     let sent : Sent = record { by = f.by; bytes = (frame_of f.message) } in
-    let L : Bool → Does = λ b. if b then hear_by w (store_at w m) (site w m).runs c.args.context.now.moment c.args.draw (frame_of f.message) else Refuses cause.Link in
+    let L : Bool → Does = λ b. if b then hear_by w (store_at w m) (site w m).runs c.args.context.now.moment c.args.word (frame_of f.message) else Refuses cause.Link in
     let far : linked w f.by m ≡ false = sym (c.are_joined.ensures w.links is.links) ∙ c.if-are_joined.false in
     told_as w c.args.context.now.mote _ _ _ _ _ _ _ (is_refused _ _ _ _ _ c.requires.nothing.sent)
     (not_off (Ok (Refused cause.Link)) w c.args.context.now v v a a m (D (frame_at w c.args.number)) a.image (store_at w m) (site w m).runs stands.mote (none_told c.args.runs.now c.is_none.result false c.is_none.ensures c.if-is_none.false)
@@ -60,10 +60,10 @@ returns-else-are_joined-clause-ends g c = λ w is stands.
 pub returns-then-are_joined-clause-unseen : goal.returns-then-are_joined-clause-unseen
 returns-then-are_joined-clause-unseen g c = λ w is stands unseen.
     let m = c.args.context.now.mote in
-    let D : Option Sent → Does = λ x. heard_sent w m c.args.context.now.moment c.args.draw x in
+    let D : Option Sent → Does = λ x. heard_sent w m c.args.context.now.moment c.args.word x in
     let f = c.in-Some.sent.now in
     let sent : Sent = record { by = f.by; bytes = (frame_of f.message) } in
-    let H : List ℕ → Does = λ bytes. hear_by w (store_at w m) (site w m).runs c.args.context.now.moment c.args.draw bytes in
+    let H : List ℕ → Does = λ bytes. hear_by w (store_at w m) (site w m).runs c.args.context.now.moment c.args.word bytes in
     let L : Bool → Does = λ b. if b then H (frame_of f.message) else Refuses cause.Link in
     let near : linked w f.by m ≡ true = sym (c.are_joined.ensures w.links is.links) ∙ c.if-are_joined.true in
     let on = unless_unseen (D (frame_at w c.args.number)) c.args.runs.now _ (store_at w m) (site w m).runs stands.mote (none_told c.args.runs.now c.is_none.result false c.is_none.ensures c.if-is_none.false) unseen in

@@ -1,4 +1,4 @@
-use Rattle.std.proofs.Common.{refl, sym, subst, ap, Some, None, Ok, Err}
+use Rattle.std.proofs.Common.{refl, sym, subst, ap, ◌∙◌, Some, None, Ok, Err}
 use Rattle.dg_nor.specs.Trail.{last}
 use Rattle.dg_volume.specs.Stands.{Tells}
 use Rattle.dg_rules.specs.World.{site, store_at}
@@ -6,18 +6,18 @@ use Rattle.dg_rules.specs.Events.{hear_by}
 use Rattle.dg_frame.specs.Spelling.{frame_of}
 use Rattle.dg_world.specs.inner.EventOutcomes.{Unreported, Changes, Stopped}
 use Rattle.dg_node.specs.declared.node.Node.{Node}
-use Rattle.dg_world.proofs.OutcomeLemmas.{told_as, is_refused, is_begun, is_changed}
+use Rattle.dg_world.proofs.OutcomeLemmas.{told_as, is_refused, is_changed, is_sent}
 use Rattle.dg_world.proofs.TickLemmas.{off_as, on_as, node_changes, node_rests, node_stopped_with, node_tells, hear_same}
 use Rattle.dg_mote.specs.Effects.{frame_effect}
 use Rattle.dg_world.specs.Worlds.{MayRun}
-use Rattle.dg_world.specs.inner.OutcomeEndings.{LeavesChip}
+use Rattle.dg_world.specs.inner.OutcomeEndings.{LeavesChip, outcome_sent}
 use Rattle.dg_world.proofs.UnseenLemmas.{on_unseen}
 use Rattle.dg_world.proofs.hearing.hear_sent.Goals as goal
 
 pub returns-in_default-clause-ends : goal.returns-in_default-clause-ends
 returns-in_default-clause-ends g c = λ w m stands.
     told_as w m _ _ _ _ _ _ _ (is_refused _ _ _ _ _ c.requires.nothing.sent)
-    (off_as (λ o. hear_by w (store_at w m) o c.args.now c.args.draw (frame_of c.args.message.now)) w m _ (store_at w m) (site w m).runs c.args.runs.now _ refl c.in_default.is stands.mote)
+    (off_as (λ o. hear_by w (store_at w m) o c.args.now c.args.word (frame_of c.args.message.now)) w m _ (store_at w m) (site w m).runs c.args.runs.now _ refl c.in_default.is stands.mote)
 
 pub returns-else-leaves_chip-clause-ends : goal.returns-else-leaves_chip-clause-ends
 returns-else-leaves_chip-clause-ends g c = λ w m stands.
@@ -25,13 +25,13 @@ returns-else-leaves_chip-clause-ends g c = λ w m stands.
     let v : Node = c.in-Some.node in
     let u : Node = c.hear_sent.new.self in
     let n = c.requires.nothing in
-    told_as w m _ _ _ _ _ _ _ (is_changed _ _ _ c.report_chip.result c.report_chip-in-Ok.result n.sent n.refused n.started)
-    (on_as (λ o. hear_by w s o c.args.now c.args.draw (frame_of c.args.message.now)) (Ok (Changes c.report_chip.result c.report_chip-in-Ok.result)) w m c.args.runs.now v (Some u) _ s (site w m).runs _ _ c.in-Some.is stands.mote
+    told_as w m _ _ _ _ _ _ _ (is_changed _ _ _ c.report_before-before.result c.report_chip.result n.sent n.refused n.started)
+    (on_as (λ o. hear_by w s o c.args.now c.args.word (frame_of c.args.message.now)) (Ok (Changes c.report_before-before.result c.report_chip.result)) w m c.args.runs.now v (Some u) _ s (site w m).runs _ _ c.in-Some.is stands.mote
     (λ r mote.
     let done = c.in-Ok.ensures.done r.mote s mote.1 in
-    let e = frame_effect r.mote s c.args.now c.args.draw (frame_of c.args.message.now) in
-    node_changes w m e (Some r.image_version) (Some v) _ _ (λ _. ap Some (sym mote.0)) u c.report_chip.result c.report_chip-in-Ok.result done
-    (c.report_chip.ensures s (subst (λ v. Tells v s) (sym c.volume.ensures) mote.1.mounted.tells)) (c.report_chip-in-Ok.ensures (last e.trail) (subst (λ v. Tells v (last e.trail)) (sym c.volume-in-Ok.ensures) (node_tells e None (Some v) u _ _ done.0)))))
+    let e = frame_effect r.mote s c.args.now c.args.word (frame_of c.args.message.now) in
+    node_changes w m e (Some r.image_version) (Some v) _ _ (λ _. ap Some (sym mote.0)) u c.report_before-before.result c.report_chip.result done
+    (c.report_before-before.ensures s (subst (λ v. Tells v s) (sym c.volume.ensures) mote.1.mounted.tells)) (c.report_chip.ensures (last e.trail) (subst (λ v. Tells v (last e.trail)) (sym c.volume-in-Ok.ensures) (node_tells e None (Some v) u _ _ done.0)))))
 
 pub returns-then-leaves_chip-clause-ends : goal.returns-then-leaves_chip-clause-ends
 returns-then-leaves_chip-clause-ends g c = λ w m stands.
@@ -39,20 +39,20 @@ returns-then-leaves_chip-clause-ends g c = λ w m stands.
     let v : Node = c.in-Some.node in
     let u : Node = c.hear_sent.new.self in
     let n = c.requires.nothing in
-    told_as w m _ _ _ _ _ _ _ (is_begun _ _ _ c.report_chip.result _ n.sent n.refused n.started n.after)
-    (on_as (λ o. hear_by w s o c.args.now c.args.draw (frame_of c.args.message.now)) (Ok Unreported) w m c.args.runs.now v (Some u) _ s (site w m).runs _ _ c.in-Some.is stands.mote
-    (λ r mote. node_rests w m (frame_effect r.mote s c.args.now c.args.draw (frame_of c.args.message.now)) (Some r.image_version) (Some v) _ _ (λ _. ap Some (sym mote.0)) u (c.in-Ok.ensures.done r.mote s mote.1)
-    (hear_same s r.mote c.args.now c.args.draw (frame_of c.args.message.now) (subst LeavesChip (c.in-Ok.ensures.answers r.mote s mote.1) (c.leaves_chip.ensures c.if-leaves_chip.true)))))
+    told_as w m _ _ _ _ _ _ _ (is_sent _ _ _ _ _ n.refused n.started n.before ∙ ap outcome_sent n.sent)
+    (on_as (λ o. hear_by w s o c.args.now c.args.word (frame_of c.args.message.now)) (Ok Unreported) w m c.args.runs.now v (Some u) _ s (site w m).runs _ _ c.in-Some.is stands.mote
+    (λ r mote. node_rests w m (frame_effect r.mote s c.args.now c.args.word (frame_of c.args.message.now)) (Some r.image_version) (Some v) _ _ (λ _. ap Some (sym mote.0)) u (c.in-Ok.ensures.done r.mote s mote.1)
+    (hear_same s r.mote c.args.now c.args.word (frame_of c.args.message.now) (subst LeavesChip (c.in-Ok.ensures.answers r.mote s mote.1) (c.leaves_chip.ensures c.if-leaves_chip.true)))))
 
 pub returns-in-Err-clause-ends : goal.returns-in-Err-clause-ends
 returns-in-Err-clause-ends g c = λ w m stands.
     let s = store_at w m in
     let v : Node = c.in-Some.node in
     let u : Node = c.hear_sent.new.self in
-    on_as (λ o. hear_by w s o c.args.now c.args.draw (frame_of c.args.message.now)) (Err (Stopped (Some c.report_chip.result))) w m c.args.runs.now v (Some u) _ s (site w m).runs (g.N.Nor.device c.args.board.now) (g.N.Nor.device c.hear_sent.new.board) c.in-Some.is stands.mote
+    on_as (λ o. hear_by w s o c.args.now c.args.word (frame_of c.args.message.now)) (Err (Stopped (Some c.report_before-before.result))) w m c.args.runs.now v (Some u) _ s (site w m).runs (g.N.Nor.device c.args.board.now) (g.N.Nor.device c.hear_sent.new.board) c.in-Some.is stands.mote
     (λ r mote.
-    node_stopped_with w m (frame_effect r.mote s c.args.now c.args.draw (frame_of c.args.message.now)) (Some r.image_version) (Some v) (g.N.Nor.device c.args.board.now) (g.N.Nor.device c.hear_sent.new.board) (λ _. ap Some (sym mote.0)) (Some u) c.report_chip.result (c.in-Err.ensures.done r.mote s mote.1).0
-    (c.report_chip.ensures s (subst (λ v. Tells v s) (sym c.volume.ensures) mote.1.mounted.tells)))
+    node_stopped_with w m (frame_effect r.mote s c.args.now c.args.word (frame_of c.args.message.now)) (Some r.image_version) (Some v) (g.N.Nor.device c.args.board.now) (g.N.Nor.device c.hear_sent.new.board) (λ _. ap Some (sym mote.0)) (Some u) c.report_before-before.result (c.in-Err.ensures.done r.mote s mote.1).0
+    (c.report_before-before.ensures s (subst (λ v. Tells v s) (sym c.volume.ensures) mote.1.mounted.tells)))
 
 pub returns-else-leaves_chip-clause-same_reference : goal.returns-else-leaves_chip-clause-same_reference
 returns-else-leaves_chip-clause-same_reference g c =
@@ -71,12 +71,12 @@ returns-in-Err-clause-same_reference g c =
 
 pub returns-else-leaves_chip-clause-unseen : goal.returns-else-leaves_chip-clause-unseen
 returns-else-leaves_chip-clause-unseen g c = λ w m stands unseen.
-    on_unseen (λ o. hear_by w (store_at w m) o c.args.now c.args.draw (frame_of c.args.message.now)) c.in-Some.node c.args.runs.now _ (store_at w m) (site w m).runs c.in-Some.is stands.mote (λ r on. on) unseen
+    on_unseen (λ o. hear_by w (store_at w m) o c.args.now c.args.word (frame_of c.args.message.now)) c.in-Some.node c.args.runs.now _ (store_at w m) (site w m).runs c.in-Some.is stands.mote (λ r on. on) unseen
 
 pub returns-then-leaves_chip-clause-unseen : goal.returns-then-leaves_chip-clause-unseen
 returns-then-leaves_chip-clause-unseen g c = λ w m stands unseen.
-    on_unseen (λ o. hear_by w (store_at w m) o c.args.now c.args.draw (frame_of c.args.message.now)) c.in-Some.node c.args.runs.now _ (store_at w m) (site w m).runs c.in-Some.is stands.mote (λ r on. on) unseen
+    on_unseen (λ o. hear_by w (store_at w m) o c.args.now c.args.word (frame_of c.args.message.now)) c.in-Some.node c.args.runs.now _ (store_at w m) (site w m).runs c.in-Some.is stands.mote (λ r on. on) unseen
 
 pub returns-in-Err-clause-unseen : goal.returns-in-Err-clause-unseen
 returns-in-Err-clause-unseen g c = λ w m stands unseen.
-    on_unseen (λ o. hear_by w (store_at w m) o c.args.now c.args.draw (frame_of c.args.message.now)) c.in-Some.node c.args.runs.now _ (store_at w m) (site w m).runs c.in-Some.is stands.mote (λ r on. on) unseen
+    on_unseen (λ o. hear_by w (store_at w m) o c.args.now c.args.word (frame_of c.args.message.now)) c.in-Some.node c.args.runs.now _ (store_at w m) (site w m).runs c.in-Some.is stands.mote (λ r on. on) unseen

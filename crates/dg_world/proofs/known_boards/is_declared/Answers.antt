@@ -7,17 +7,17 @@ use Rattle.dg_world.proofs.MakesLemmas.{narrow_injects, golden_makes, unknown_ma
 use Rattle.dg_world.proofs.known_boards.is_declared.Goals as goal
 
 pub returns-then-not-is_known_to : goal.returns-then-not-is_known_to
-returns-then-not-is_known_to c = λ w dt draw is. (λ x. absurd cc, λ made. absurd (narrow_injects w c.args.mote c.args.image c.args.version dt draw (c.is_known_to.ensures w is ∙ c.if-not-is_known_to.true) made))
+returns-then-not-is_known_to c = λ w dt word is. (λ x. absurd cc, λ made. absurd (narrow_injects w c.args.mote c.args.image c.args.version dt word (c.is_known_to.ensures w is ∙ c.if-not-is_known_to.true) made))
 
 pub returns-then-image-eq0 : goal.returns-then-image-eq0
-returns-then-image-eq0 c = λ w dt draw is. (λ x. absurd cc, λ made. absurd (golden_makes w c.args.mote c.args.image c.args.version dt draw (c.is_known_to.ensures w is ∙ c.if-not-is_known_to.false) c.if-image-eq0.true made))
+returns-then-image-eq0 c = λ w dt word is. (λ x. absurd cc, λ made. absurd (golden_makes w c.args.mote c.args.image c.args.version dt word (c.is_known_to.ensures w is ∙ c.if-not-is_known_to.false) c.if-image-eq0.true made))
 
 pub returns-in-None : goal.returns-in-None
-returns-in-None c = λ w dt draw is.
+returns-in-None c = λ w dt word is.
     let image_version : ImageVersion = record { image = c.args.image; version = c.args.version } in
-    (λ x. absurd cc, λ made. absurd (unknown_makes w c.args.mote c.args.image c.args.version dt draw (c.is_known_to.ensures w is ∙ c.if-not-is_known_to.false) (not_zero c.args.image c.if-image-eq0.false) (unknown_row c.args.shared.now.images w.declared image_version is.declared c.in-None.ensures) made))
+    (λ x. absurd cc, λ made. absurd (unknown_makes w c.args.mote c.args.image c.args.version dt word (c.is_known_to.ensures w is ∙ c.if-not-is_known_to.false) (not_zero c.args.image c.if-image-eq0.false) (unknown_row c.args.shared.now.images w.declared image_version is.declared c.in-None.ensures) made))
 
 pub returns-in-Some : goal.returns-in-Some
-returns-in-Some c = λ w dt draw is.
+returns-in-Some c = λ w dt word is.
     let image_version : ImageVersion = record { image = c.args.image; version = c.args.version } in
-    (λ x. known_makes w c.args.mote c.args.image c.args.version dt draw (row_of_image image_version c.in-Some.field-0.now) (c.is_known_to.ensures w is ∙ c.if-not-is_known_to.false) (not_zero c.args.image c.if-image-eq0.false) refl (known_row c.args.shared.now.images w.declared image_version c.in-Some.field-0.now is.declared c.in-Some.ensures), λ made. refl)
+    (λ x. known_makes w c.args.mote c.args.image c.args.version dt word (row_of_image image_version c.in-Some.field-0.now) (c.is_known_to.ensures w is ∙ c.if-not-is_known_to.false) (not_zero c.args.image c.if-image-eq0.false) refl (known_row c.args.shared.now.images w.declared image_version c.in-Some.field-0.now is.declared c.in-Some.ensures), λ made. refl)

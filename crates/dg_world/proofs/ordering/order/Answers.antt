@@ -18,8 +18,8 @@ returns-in-Ok-clause-ends g c = λ w m stands.
     let s = store_at w m in
     let at = c.args.context.now.moment in
     let v = c.args.runs.now in
-    told_as w m (order_unless (order_refusal s o) w m o at c.args.draw) v c.order.new.runs a b _ (ordered_outcome c.in-Ok.ordered) c.note_ordered.ensures.outcome
-    (order_ends w m at c.args.draw v c.order.new.runs a b stands.mote (Ok c.in-Ok.ordered) (order_refusal s o) o (c.in-Ok.ensures.done (node_running (site w m).runs) s stands.stands (stands_in a.image v s (site w m).runs stands.mote)))
+    told_as w m (order_unless (order_refusal s o) w m o at c.args.word) v c.order.new.runs a b _ (ordered_outcome c.in-Ok.ordered) c.note_ordered.ensures.outcome
+    (order_ends w m at c.args.word v c.order.new.runs a b stands.mote (Ok c.in-Ok.ordered) (order_refusal s o) o (c.in-Ok.ensures.done (node_running (site w m).runs) s stands.stands (stands_in a.image v s (site w m).runs stands.mote)))
 
 pub returns-in-Err-clause-ends : goal.returns-in-Err-clause-ends
 returns-in-Err-clause-ends g c = λ w m stands.
@@ -29,5 +29,5 @@ returns-in-Err-clause-ends g c = λ w m stands.
     let s = store_at w m in
     let at = c.args.context.now.moment in
     let v = c.args.runs.now in
-    subst (λ h. OutcomeEnds (Err h) w m (order_unless (order_refusal s o) w m o at c.args.draw) (host a v) (host b c.order.new.runs)) (sym c.act_fault.ensures)
-    (order_ends w m at c.args.draw v c.order.new.runs a b stands.mote (Err c.in-Err.fault) (order_refusal s o) o (c.in-Err.ensures.done (node_running (site w m).runs) s stands.stands (stands_in a.image v s (site w m).runs stands.mote)))
+    subst (λ h. OutcomeEnds (Err h) w m (order_unless (order_refusal s o) w m o at c.args.word) (host a v) (host b c.order.new.runs)) (sym c.act_fault.ensures)
+    (order_ends w m at c.args.word v c.order.new.runs a b stands.mote (Err c.in-Err.fault) (order_refusal s o) o (c.in-Err.ensures.done (node_running (site w m).runs) s stands.stands (stands_in a.image v s (site w m).runs stands.mote)))

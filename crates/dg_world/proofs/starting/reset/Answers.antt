@@ -18,20 +18,20 @@ returns-in_err-powered-clause-ends g c = λ w m at stands.
     let b = g.N.Nor.device c.power.new.board in
     let f = c.in_err-powered.field-0.0 in
     let s = store_at w m in
-    let e = reset_effect s m c.args.wide c.args.now c.args.draw in
-    let done = subst (λ i. NodeDone (power_end (Err f)) None (reset_effect s i c.args.wide c.args.now c.args.draw) (host a old) (host b None)) (sym at) (c.in_err-powered.ensures.done s old stands) in
+    let e = reset_effect s m c.args.wide c.args.now c.args.word in
+    let done = subst (λ i. NodeDone (power_end (Err f)) None (reset_effect s i c.args.wide c.args.now c.args.word) (host a old) (host b None)) (sym at) (c.in_err-powered.ensures.done s old stands) in
     as_outcome_err w m (of_effect w e None) old old a b c.from_residual.result (fault_of_start f) c.args.outcome.now None c.from_residual.ensures.1 c.requires.nothing.before
-    (power_halts w m e old old None a b f (reset_same s m c.args.wide c.args.now c.args.draw) done)
+    (power_halts w m e old old None a b f (reset_same s m c.args.wide c.args.now c.args.word) done)
 
 pub returns-in_err-powered-clause-powers : goal.returns-in_err-powered-clause-powers
 returns-in_err-powered-clause-powers g c =
     let f = c.in_err-powered.field-0.0 in
     powers_on c.from_residual.result (fault_of_start f) _ _ c.from_residual.ensures.1
-    (powers_of f (λ s. reset_effect s c.args.id c.args.wide c.args.now c.args.draw) c.args.runs.now None _ _ c.in_err-powered.ensures.finds (λ s stands. c.in_err-powered.ensures.done s c.args.runs.now stands))
+    (powers_of f (λ s. reset_effect s c.args.id c.args.wide c.args.now c.args.word) c.args.runs.now None _ _ c.in_err-powered.ensures.finds (λ s stands. c.in_err-powered.ensures.done s c.args.runs.now stands))
 
 pub returns-in_err-powered-clause-same_reference : goal.returns-in_err-powered-clause-same_reference
 returns-in_err-powered-clause-same_reference g c =
-    power_references c.in_err-powered.field-0.0 (λ s. reset_effect s c.args.id c.args.wide c.args.now c.args.draw) c.args.runs.now None _ _ c.in_err-powered.ensures.finds (λ s stands. c.in_err-powered.ensures.done s c.args.runs.now stands)
+    power_references c.in_err-powered.field-0.0 (λ s. reset_effect s c.args.id c.args.wide c.args.now c.args.word) c.args.runs.now None _ _ c.in_err-powered.ensures.finds (λ s stands. c.in_err-powered.ensures.done s c.args.runs.now stands)
 
 pub returns-clause-ends : goal.returns-clause-ends
 returns-clause-ends g c = λ w m at stands.
@@ -42,8 +42,8 @@ returns-clause-ends g c = λ w m at stands.
     let b = g.N.Nor.device c.power.new.board in
     let s = store_at w m in
     told_as w m _ _ _ _ _ _ _ (is_started _ _ x.image _ _ n.sent n.refused)
-    (node_begins w m (reset_effect s m c.args.wide c.args.now c.args.draw) old x.node a b x.image (reset_same s m c.args.wide c.args.now c.args.draw)
-    (subst (λ i. NodeDone (power_end (Ok x)) None (reset_effect s i c.args.wide c.args.now c.args.draw) (host a old) (host b (Some x.node))) (sym at) (c.in_ok-powered.ensures.done s old stands)))
+    (node_begins w m (reset_effect s m c.args.wide c.args.now c.args.word) old x.node a b x.image (reset_same s m c.args.wide c.args.now c.args.word)
+    (subst (λ i. NodeDone (power_end (Ok x)) None (reset_effect s i c.args.wide c.args.now c.args.word) (host a old) (host b (Some x.node))) (sym at) (c.in_ok-powered.ensures.done s old stands)))
 
 pub returns-clause-powers : goal.returns-clause-powers
 returns-clause-powers g c =

@@ -23,16 +23,16 @@ returns-in-Err-clause-ends g c = λ w m r stands mote.
     let u = c.tick.new.self in
     let s = store_at w m in
     let f = c.in-Err.fault in
-    let e = tick_effect r.mote s c.args.now c.args.draw in
+    let e = tick_effect r.mote s c.args.now c.args.word in
     let t : Outcome = record c.args.outcome.now { outbox = c.tick.new.out } in
     as_outcome_err w m (of_effect w e (Some r.image_version)) (Some v) (Some u) a b {T = Unit {0}} (Err c.from.result) (fault_of_tick f) t None c.from.ensures c.requires.nothing.before
     (tick_halts w m (of_effect w e (Some r.image_version)) (Some v) (Some u) a b f (sent_in c.tick.new.out)
-    (node_ends w m e (Some r.image_version) (Some v) a b (λ _. ap Some (sym mote.0)) c.one_reading.ensures.wider (effect_same s r.mote c.args.now c.args.draw) (tick_end (Err f)) (sent_in c.tick.new.out) u (c.in-Err.ensures r.mote s mote.1)))
+    (node_ends w m e (Some r.image_version) (Some v) a b (λ _. ap Some (sym mote.0)) c.one_reading.ensures.wider (effect_same s r.mote c.args.now c.args.word) (tick_end (Err f)) (sent_in c.tick.new.out) u (c.in-Err.ensures r.mote s mote.1)))
 
 pub returns-in-Err-clause-same_reference : goal.returns-in-Err-clause-same_reference
 returns-in-Err-clause-same_reference g c =
     let x = c.requires.mote in
-    node_references (tick_end (Err c.in-Err.fault)) (sent_in c.tick.new.out) (tick_effect x.0 x.1 c.args.now c.args.draw) (Some c.args.node.now) (Some c.tick.new.self) _ _ (c.in-Err.ensures x.0 x.1 x.2)
+    node_references (tick_end (Err c.in-Err.fault)) (sent_in c.tick.new.out) (tick_effect x.0 x.1 c.args.now c.args.word) (Some c.args.node.now) (Some c.tick.new.self) _ _ (c.in-Err.ensures x.0 x.1 x.2)
 
 pub returns-in-Ok-Idle : goal.returns-in-Ok-Idle
 returns-in-Ok-Idle g c =
@@ -46,12 +46,12 @@ returns-in-Ok-Idle g c =
     record {
       ends = λ w m r stands mote.
           let s = store_at w m in
-          let e = tick_effect r.mote s c.args.now c.args.draw in
+          let e = tick_effect r.mote s c.args.now c.args.word in
           told_as w m _ _ _ _ _ _ _ (is_sent frame _ _ _ _ n.refused n.started n.before)
           (subst (λ q. OutcomeEnds q w m (of_effect w e (Some r.image_version)) (host a (Some v)) (host b (Some u))) (tick_quiet t frame (inl c.in-Ok-Idle.field-0-is))
-          (node_ends w m e (Some r.image_version) (Some v) a b (λ _. ap Some (sym mote.0)) c.one_reading.ensures.wider (effect_same s r.mote c.args.now c.args.draw) (tick_end (Ok t)) frame u (c.in-Ok-Idle.ensures r.mote s mote.1)));
+          (node_ends w m e (Some r.image_version) (Some v) a b (λ _. ap Some (sym mote.0)) c.one_reading.ensures.wider (effect_same s r.mote c.args.now c.args.word) (tick_end (Ok t)) frame u (c.in-Ok-Idle.ensures r.mote s mote.1)));
       sees = n.orderly;
-      same_reference = let x = c.requires.mote in node_references (tick_end (Ok t)) frame (tick_effect x.0 x.1 c.args.now c.args.draw) (Some v) (Some u) a b (c.in-Ok-Idle.ensures x.0 x.1 x.2);
+      same_reference = let x = c.requires.mote in node_references (tick_end (Ok t)) frame (tick_effect x.0 x.1 c.args.now c.args.word) (Some v) (Some u) a b (c.in-Ok-Idle.ensures x.0 x.1 x.2);
     }
 
 pub returns-in-Ok-Sent : goal.returns-in-Ok-Sent
@@ -66,12 +66,12 @@ returns-in-Ok-Sent g c =
     record {
       ends = λ w m r stands mote.
           let s = store_at w m in
-          let e = tick_effect r.mote s c.args.now c.args.draw in
+          let e = tick_effect r.mote s c.args.now c.args.word in
           told_as w m _ _ _ _ _ _ _ (is_sent frame _ _ _ _ n.refused n.started n.before)
           (subst (λ q. OutcomeEnds q w m (of_effect w e (Some r.image_version)) (host a (Some v)) (host b (Some u))) (tick_quiet t frame (inr c.in-Ok-Sent.field-0-is))
-          (node_ends w m e (Some r.image_version) (Some v) a b (λ _. ap Some (sym mote.0)) c.one_reading.ensures.wider (effect_same s r.mote c.args.now c.args.draw) (tick_end (Ok t)) frame u (c.in-Ok-Sent.ensures r.mote s mote.1)));
+          (node_ends w m e (Some r.image_version) (Some v) a b (λ _. ap Some (sym mote.0)) c.one_reading.ensures.wider (effect_same s r.mote c.args.now c.args.word) (tick_end (Ok t)) frame u (c.in-Ok-Sent.ensures r.mote s mote.1)));
       sees = n.orderly;
-      same_reference = let x = c.requires.mote in node_references (tick_end (Ok t)) frame (tick_effect x.0 x.1 c.args.now c.args.draw) (Some v) (Some u) a b (c.in-Ok-Sent.ensures x.0 x.1 x.2);
+      same_reference = let x = c.requires.mote in node_references (tick_end (Ok t)) frame (tick_effect x.0 x.1 c.args.now c.args.word) (Some v) (Some u) a b (c.in-Ok-Sent.ensures x.0 x.1 x.2);
     }
 
 pub returns-in-Ok-Restarted : goal.returns-in-Ok-Restarted
@@ -87,10 +87,10 @@ returns-in-Ok-Restarted g c =
     record {
       ends = λ w m r stands mote.
           let s = store_at w m in
-          let e = tick_effect r.mote s c.args.now c.args.draw in
+          let e = tick_effect r.mote s c.args.now c.args.word in
           let done = subst (λ q. NodeDone (tick_end (Ok q)) frame e (host a (Some v)) (host b (Some u))) c.in-Ok-Restarted.field-0-is (c.in-Ok-Restarted.ensures r.mote s mote.1) in
           told_as w m _ _ _ _ _ _ _ (is_started frame _ image _ _ (done.0.sent ∙ ap (option_map frame_of) done.1) n.refused)
-          (node_ends w m e (Some r.image_version) (Some v) a b (λ _. ap Some (sym mote.0)) c.one_reading.ensures.wider (effect_same s r.mote c.args.now c.args.draw) (tick_end (Ok (ticked.Restarted image))) frame u done);
+          (node_ends w m e (Some r.image_version) (Some v) a b (λ _. ap Some (sym mote.0)) c.one_reading.ensures.wider (effect_same s r.mote c.args.now c.args.word) (tick_end (Ok (ticked.Restarted image))) frame u done);
       sees = n.orderly;
-      same_reference = let x = c.requires.mote in node_references (tick_end (Ok t)) frame (tick_effect x.0 x.1 c.args.now c.args.draw) (Some v) (Some u) a b (c.in-Ok-Restarted.ensures x.0 x.1 x.2);
+      same_reference = let x = c.requires.mote in node_references (tick_end (Ok t)) frame (tick_effect x.0 x.1 c.args.now c.args.word) (Some v) (Some u) a b (c.in-Ok-Restarted.ensures x.0 x.1 x.2);
     }

@@ -22,9 +22,9 @@ returns-in_err-hear-clause-ends g c = λ b s done before stood.
     let new = g.N.Nor.device c.hear.new.board in
     let timely = timely_next c.a_mote_stays_timely.ensures.later stood.state _ _ _ _ stood.timely c.next-timing.ensures.now c.next-timing.ensures.moment in
     handed (λ r. DeedEnds r b s done (Hears bytes) before (deed_left u new None)) c.from_residual.result stop.Flash c.from_residual.ensures.1
-    (done_at b s done before c.args.self.now _ stood (Hears bytes) (λ now draw. frame_effect stood.state before.store now draw bytes) t.now t.draw (c.next-timing.ensures.drawn b before.events stood.time) refl
+    (done_at b s done before c.args.self.now _ stood (Hears bytes) (λ now word. frame_effect stood.state before.store now word bytes) t.now t.word (c.next-timing.ensures.drawn b before.events stood.time) refl
     Stopped u (g.N.Nor.device c.args.nor.now) new None c.next-timing.ensures.now (c.next-timing.ensures.time b before.events stood.time) stood.mote.mounted.stands (c.in_err-hear.ensures.done stood.state before.store stood.mote)
-    (c.a_node_stays_timely.ensures.heard stood.state before.store t.now t.draw bytes timely))
+    (c.a_node_stays_timely.ensures.heard stood.state before.store t.now t.word bytes timely))
 
 pub returns-clause-ends : goal.returns-clause-ends
 returns-clause-ends g c = λ b s done before stood.
@@ -32,9 +32,9 @@ returns-clause-ends g c = λ b s done before stood.
     let t = c.next-timing.result in
     let u : Running = record { node = c.hear.new.self; timeline = c.next-timing.new.self } in
     let timely = timely_next c.a_mote_stays_timely.ensures.later stood.state _ _ _ _ stood.timely c.next-timing.ensures.now c.next-timing.ensures.moment in
-    done_at b s done before c.args.self.now _ stood (Hears bytes) (λ now draw. frame_effect stood.state before.store now draw bytes) t.now t.draw (c.next-timing.ensures.drawn b before.events stood.time) refl
+    done_at b s done before c.args.self.now _ stood (Hears bytes) (λ now word. frame_effect stood.state before.store now word bytes) t.now t.word (c.next-timing.ensures.drawn b before.events stood.time) refl
     Quiet u (g.N.Nor.device c.args.nor.now) (g.N.Nor.device c.hear.new.board) None c.next-timing.ensures.now (c.next-timing.ensures.time b before.events stood.time) stood.mote.mounted.stands
-    (c.in_ok-hear.ensures.done stood.state before.store stood.mote) (c.a_node_stays_timely.ensures.heard stood.state before.store t.now t.draw bytes timely)
+    (c.in_ok-hear.ensures.done stood.state before.store stood.mote) (c.a_node_stays_timely.ensures.heard stood.state before.store t.now t.word bytes timely)
 
 pub returns-clause-stood : goal.returns-clause-stood
 returns-clause-stood g c =
@@ -45,7 +45,7 @@ returns-clause-stood g c =
     let t = c.next-timing.result in
     let u : Running = record { node = c.hear.new.self; timeline = c.next-timing.new.self } in
     let timely = timely_next c.a_mote_stays_timely.ensures.later stood.state _ _ _ _ stood.timely c.next-timing.ensures.now c.next-timing.ensures.moment in
-    let x = done_at r.0 r.1 r.2 before c.args.self.now _ stood (Hears bytes) (λ now draw. frame_effect stood.state before.store now draw bytes) t.now t.draw (c.next-timing.ensures.drawn r.0 before.events stood.time) refl
+    let x = done_at r.0 r.1 r.2 before c.args.self.now _ stood (Hears bytes) (λ now word. frame_effect stood.state before.store now word bytes) t.now t.word (c.next-timing.ensures.drawn r.0 before.events stood.time) refl
     Quiet u (g.N.Nor.device c.args.nor.now) (g.N.Nor.device c.hear.new.board) None c.next-timing.ensures.now (c.next-timing.ensures.time r.0 before.events stood.time) stood.mote.mounted.stands
-    (c.in_ok-hear.ensures.done stood.state before.store stood.mote) (c.a_node_stays_timely.ensures.heard stood.state before.store t.now t.draw bytes timely) in
+    (c.in_ok-hear.ensures.done stood.state before.store stood.mote) (c.a_node_stays_timely.ensures.heard stood.state before.store t.now t.word bytes timely) in
     (r.0, r.1, r.2 ++ Hears bytes ∷ [], x.there, x.stood)

@@ -17,8 +17,8 @@ returns-in_err-powered-clause-ends g c = λ s stands.
     let f = c.in_err-powered.field-0.0 in
     let new = g.N.Nor.device c.power.new.board in
     handed (λ r. PowerEnds r b s new) c.from_residual.result (stop_of_start f) c.from_residual.ensures.1
-    (power_fails b s (stop_of_start f) t.now t.draw drawn.0 drawn.1 new
-    (start_failed None (reset_effect s b.id true t.now t.draw) None (g.N.Nor.device c.args.nor.now) new f s None (c.in_err-powered.ensures.done s None stands) stands))
+    (power_fails b s (stop_of_start f) t.now t.word drawn.0 drawn.1 new
+    (start_failed None (reset_effect s b.id true t.now t.word) None (g.N.Nor.device c.args.nor.now) new f s None (c.in_err-powered.ensures.done s None stands) stands))
 
 pub returns-in_err-powered-clause-none : goal.returns-in_err-powered-clause-none
 returns-in_err-powered-clause-none g c = λ none.
@@ -34,7 +34,7 @@ returns-in_err-powered-clause-counts g c =
     let a = g.N.Nor.device c.args.nor.now in
     let new = g.N.Nor.device c.power.new.board in
     handed (λ r. Counts r a new) c.from_residual.result (stop_of_start f) c.from_residual.ensures.1
-    (start_counts f (λ s. reset_effect s c.args.id true t.now t.draw) None None a new c.in_err-powered.ensures.finds (λ s stands. c.in_err-powered.ensures.done s None stands))
+    (start_counts f (λ s. reset_effect s c.args.id true t.now t.word) None None a new c.in_err-powered.ensures.finds (λ s stands. c.in_err-powered.ensures.done s None stands))
 
 pub returns-clause-ends : goal.returns-clause-ends
 returns-clause-ends g c = λ s stands.
@@ -45,8 +45,8 @@ returns-clause-ends g c = λ s stands.
     let new = g.N.Nor.device c.power.new.board in
     let v : Running = record { node = c.in_ok-powered.powered.node; timeline = c.next-timing.new.self } in
     let done = c.in_ok-powered.ensures.done s None stands in
-    power_stood b s t.now t.draw drawn.0 drawn.1 v new c.next-timing.ensures.now (c.next-timing.ensures.time b 0 zero)
-    (leaves None (reset_effect s b.id true t.now t.draw) None (g.N.Nor.device c.args.nor.now) new v.node t.now done.0 (c.a_node_stays_timely.ensures.powered s b.id t.now t.draw true))
+    power_stood b s t.now t.word drawn.0 drawn.1 v new c.next-timing.ensures.now (c.next-timing.ensures.time b 0 zero)
+    (leaves None (reset_effect s b.id true t.now t.word) None (g.N.Nor.device c.args.nor.now) new v.node t.now done.0 (c.a_node_stays_timely.ensures.powered s b.id t.now t.word true))
 
 pub returns-clause-stood : goal.returns-clause-stood
 returns-clause-stood g c =
@@ -58,8 +58,8 @@ returns-clause-stood g c =
     let v : Running = record { node = c.in_ok-powered.powered.node; timeline = c.next-timing.new.self } in
     let s = c.in_ok-powered.ensures.finds in
     let done = c.in_ok-powered.ensures.done s.0 None s.1 in
-    let x = power_stood b s.0 t.now t.draw drawn.0 drawn.1 v new c.next-timing.ensures.now (c.next-timing.ensures.time b 0 zero)
-    (leaves None (reset_effect s.0 b.id true t.now t.draw) None (g.N.Nor.device c.args.nor.now) new v.node t.now done.0 (c.a_node_stays_timely.ensures.powered s.0 b.id t.now t.draw true)) in
+    let x = power_stood b s.0 t.now t.word drawn.0 drawn.1 v new c.next-timing.ensures.now (c.next-timing.ensures.time b 0 zero)
+    (leaves None (reset_effect s.0 b.id true t.now t.word) None (g.N.Nor.device c.args.nor.now) new v.node t.now done.0 (c.a_node_stays_timely.ensures.powered s.0 b.id t.now t.word true)) in
     (b, s.0, [], powered b s.0, x.0)
 
 pub returns-clause-counts : goal.returns-clause-counts

@@ -26,9 +26,9 @@ returns-in_err-tick-clause-ends g c = λ b s done before stood.
     let timely = timely_next c.a_mote_stays_timely.ensures.later stood.state _ _ _ _ stood.timely c.next-timing.ensures.now c.next-timing.ensures.moment in
     handed (λ r. DeedEnds r b s done Ticks before (deed_left u new frame)) c.from_residual.result (stop_of_tick f) c.from_residual.ensures.1
     (subst (λ r. DeedEnds r b s done Ticks before (deed_left u new frame)) (tick_err f)
-    (done_at b s done before c.args.self.now _ stood Ticks (λ now draw. tick_effect stood.state before.store now draw) t.now t.draw (c.next-timing.ensures.drawn b before.events stood.time) refl
+    (done_at b s done before c.args.self.now _ stood Ticks (λ now word. tick_effect stood.state before.store now word) t.now t.word (c.next-timing.ensures.drawn b before.events stood.time) refl
     (tick_end (Err f)) u (g.N.Nor.device c.args.nor.now) new frame c.next-timing.ensures.now (c.next-timing.ensures.time b before.events stood.time) stood.mote.mounted.stands (c.in_err-tick.ensures stood.state before.store stood.mote)
-    (c.a_node_stays_timely.ensures.ticked stood.state before.store t.now t.draw timely)))
+    (c.a_node_stays_timely.ensures.ticked stood.state before.store t.now t.word timely)))
 
 pub returns-clause-ends : goal.returns-clause-ends
 returns-clause-ends g c = λ b s done before stood.
@@ -39,9 +39,9 @@ returns-clause-ends g c = λ b s done before stood.
     let frame = sent_in c.tick.new.out in
     let timely = timely_next c.a_mote_stays_timely.ensures.later stood.state _ _ _ _ stood.timely c.next-timing.ensures.now c.next-timing.ensures.moment in
     subst (λ r. DeedEnds r b s done Ticks before (deed_left u new frame)) (tick_ok x)
-    (done_at b s done before c.args.self.now _ stood Ticks (λ now draw. tick_effect stood.state before.store now draw) t.now t.draw (c.next-timing.ensures.drawn b before.events stood.time) refl
+    (done_at b s done before c.args.self.now _ stood Ticks (λ now word. tick_effect stood.state before.store now word) t.now t.word (c.next-timing.ensures.drawn b before.events stood.time) refl
     (tick_end (Ok x)) u (g.N.Nor.device c.args.nor.now) new frame c.next-timing.ensures.now (c.next-timing.ensures.time b before.events stood.time) stood.mote.mounted.stands (c.in_ok-tick.ensures stood.state before.store stood.mote)
-    (c.a_node_stays_timely.ensures.ticked stood.state before.store t.now t.draw timely))
+    (c.a_node_stays_timely.ensures.ticked stood.state before.store t.now t.word timely))
 
 pub returns-clause-stood : goal.returns-clause-stood
 returns-clause-stood g c =
@@ -56,9 +56,9 @@ returns-clause-stood g c =
     let timely = timely_next c.a_mote_stays_timely.ensures.later stood.state _ _ _ _ stood.timely c.next-timing.ensures.now c.next-timing.ensures.moment in
     ends_stood (Ok tt) r.0 r.1 r.2 Ticks before u new frame
     (subst (λ q. DeedEnds q r.0 r.1 r.2 Ticks before (deed_left u new frame)) (tick_ok x)
-    (done_at r.0 r.1 r.2 before c.args.self.now _ stood Ticks (λ now draw. tick_effect stood.state before.store now draw) t.now t.draw (c.next-timing.ensures.drawn r.0 before.events stood.time) refl
+    (done_at r.0 r.1 r.2 before c.args.self.now _ stood Ticks (λ now word. tick_effect stood.state before.store now word) t.now t.word (c.next-timing.ensures.drawn r.0 before.events stood.time) refl
     (tick_end (Ok x)) u (g.N.Nor.device c.args.nor.now) new frame c.next-timing.ensures.now (c.next-timing.ensures.time r.0 before.events stood.time) stood.mote.mounted.stands (c.in_ok-tick.ensures stood.state before.store stood.mote)
-    (c.a_node_stays_timely.ensures.ticked stood.state before.store t.now t.draw timely)))
+    (c.a_node_stays_timely.ensures.ticked stood.state before.store t.now t.word timely)))
 
 pub returns-clause-frame : goal.returns-clause-frame
 returns-clause-frame g c =
@@ -67,5 +67,5 @@ returns-clause-frame g c =
     let stood = r.4 in
     let t = c.next-timing.result in
     let x = c.in_ok-tick.field-0 in
-    frame_longs (tick_effect stood.state before.store t.now t.draw).sent
-    (frame_said (sent_in c.tick.new.out) (tick_effect stood.state before.store t.now t.draw) _ _ _ (tick_end (Ok x)) _ (c.in_ok-tick.ensures stood.state before.store stood.mote) tt (tick_ok x))
+    frame_longs (tick_effect stood.state before.store t.now t.word).sent
+    (frame_said (sent_in c.tick.new.out) (tick_effect stood.state before.store t.now t.word) _ _ _ (tick_end (Ok x)) _ (c.in_ok-tick.ensures stood.state before.store stood.mote) tt (tick_ok x))
