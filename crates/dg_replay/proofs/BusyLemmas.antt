@@ -12,7 +12,7 @@ use Rattle.dg_script.specs.Items.{Item, Declares, Applies, unreported, item_by, 
 use Rattle.dg_script.specs.Places.{first_place, place_after}
 use Rattle.dg_script.specs.declared.place.Place.{Place}
 use Rattle.dg_script.specs.declared.line.Line.{Line}
-use Rattle.dg_script.specs.declared.line.Line.TheVariants.{Image, Event as EventLine, Round, Sweeps}
+use Rattle.dg_script.specs.declared.line.Line.TheVariants.{Image, Happens as EventLine, Round, Sweeps}
 use Rattle.dg_rules.specs.Premises.{LinkFits}
 use Rattle.dg_script.specs.Ranges.{EventInRange, StepInRange}
 use Rattle.dg_rules.specs.World.{World}

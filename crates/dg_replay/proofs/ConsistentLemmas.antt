@@ -17,7 +17,8 @@ use Rattle.dg_replay.specs.Ending.{script_of}
 use Rattle.dg_replay.specs.Replayed.{Progress}
 use Rattle.dg_replay.specs.Promised.{StaysConsistent}
 use Rattle.dg_replay.proofs.ItemLemmas.{some_is}
-use Rattle.dg_replay.proofs.GoldenLemmas.{golden_at_end, nothing_or}
+use Rattle.dg_replay.proofs.FirstLemmas.{run_or}
+use Rattle.dg_replay.proofs.GoldenLemmas.{golden_at_end}
 use Rattle.dg_replay.proofs.GoldenRuns.{GoldenRun, ran_network}
 
 -- what is known of all that plays golden
@@ -50,7 +51,7 @@ module _ (laws : ConsistentLaws) where
   pub progress_consistent : {table : List Row} (input : List ℕ) (c : Progress table (script_of input)) → (UsesBoards c.done → ⊥) → (golden : Row) (w : World) → (beginning_of c.ground c.done).world ≡ Some w → w.table ≡ golden ∷ []
       → StaysConsistent golden c.played c.last c.left
   progress_consistent input c alone golden w is table =
-      nothing_or input c (λ ps last. StaysConsistent golden ps last c.left) (nothing_played golden c.left)
+      run_or (beginning_of c.ground c.done).world c.last c.played c.run (λ ps last. StaysConsistent golden ps last c.left) (nothing_played golden c.left)
       (λ v last.
       let g = golden_at_end input c alone v last in
       let same : golden_row g.name g.bytes ≡ golden = one_row (golden_row g.name g.bytes) golden (sym (ap (λ (u : World). u.table) (some_is w _ (sym is ∙ g.begins))) ∙ table) in

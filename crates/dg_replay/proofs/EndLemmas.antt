@@ -28,8 +28,9 @@ use Rattle.dg_world.specs.Boards.{WorldStands}
 use Rattle.dg_replay.specs.Boards.{EventNext, InSome, LacksImage, BoardsStand, StoppedIn}
 use Rattle.dg_replay.specs.Ending.{Ending, Ends, NoBoards, TooManyEvents, FaultAt, Over, events_in, InBounds, by_fault, ending_from, ending_line, whole_lines, used, has_unused_bytes, script_of, ending_of, InLimits}
 use Rattle.dg_replay.specs.Near.{behind_lines, FewBytesBehind}
-use Rattle.dg_replay.specs.Replayed.{Progress, item_played, played_text, ReachesEnding, closing, StopsAt, BoardsLeft, RunsTo, IsSettled, NextIsWhole, DoneIsWhole, BoardsEndIt, no_volume_line, no_image_line}
+use Rattle.dg_replay.specs.Replayed.{Untouched, Progress, item_played, played_text, ReachesEnding, closing, StopsAt, BoardsLeft, RunsTo, IsSettled, NextIsWhole, DoneIsWhole, BoardsEndIt, no_volume_line, no_image_line}
 use Rattle.dg_world.specs.Mounted.{StandFor}
+use Rattle.dg_world.specs.Applied.{SameBoards}
 use Rattle.dg_replay.specs.Replaying.{ReportedBefore, StopEnds, Reached, HasFew, StopsAtText, StopsInTaken, ByRules, ReadyToEnd, EndsWith, FinishesWith, ScriptReplayed}
 use Rattle.dg_replay.specs.declared.player.Player.{Player}
 use Rattle.dg_script.specs.declared.line.Line.{Line}
@@ -37,6 +38,7 @@ use Rattle.dg_replay.specs.declared.stop.Stop.{Stop}
 use Rattle.dg_replay.specs.Stages.{span, bytes_taken, failures}
 use Rattle.dg_replay.specs.declared.stop.Stop.TheVariants.{Memory, BadInput, WriteFault, FlashFault, TooMany, NoBoard, NoImage, NotAVolume}
 use Rattle.dg_replay.proofs.NearLemmas.{near_later}
+use Rattle.dg_replay.proofs.BytesLemmas.{keep_read, keep_then, untouched_done}
 use Rattle.dg_replay.proofs.EndingLemmas.{ended, below_is_false, over_is, few_events, few_ending, fault_ending, board_ending, many_ending}
 
 -- the ending that the rules give where they stop a replay
@@ -62,9 +64,9 @@ stop_ending NotAVolume over script W number initial now before after failed f = 
 
 -- boards end the replay, and the last line was not all written
 cut_at_end : {table : List Row} (result : Status) (script : Script) (over : Bool) (input : List ℕ) (at_end : Type 0) (number : ℕ) (initial now : List Device) (before mid after : Option (List ℕ)) (later reads worse : Type 0) → (later → worse) → FewBytesBehind number input
-    → (c : Progress table script) (line : List ℕ) → BoardsEndIt c line → Puts before mid (played_text c.played) → InBounds (length initial) c.done (map item_played c.played) → (UsesBoards c.done → StandFor (motes_in c.done) c.ground.stores initial) → BoardsLeft status.WriteFault c initial now
+    → (c : Progress table script) (line : List ℕ) → BoardsEndIt c line → Puts before mid (played_text c.played) → InBounds (length initial) c.done (map item_played c.played) → (UsesBoards c.done → StandFor (motes_in c.done) c.ground.stores initial) → BoardsLeft status.WriteFault c initial now → Untouched c initial now
     → ((more : List ℕ) → ReportedBefore number c (played_text c.played ++ more)) → at_end ⊎ NextIsWhole input c.done c.rest → result ≡ status.WriteFault → PutsFront mid after line → later → ScriptReplayed table result script (ending_from (length initial) over script) (bytes_taken input at_end) (span initial now before after) (failures reads worse)
-cut_at_end {table} result script over input at_end number initial now before mid after later reads worse widen near c line ends told limits stood boards tells whole same cut rose =
+cut_at_end {table} result script over input at_end number initial now before mid after later reads worse widen near c line ends told limits stood boards untouched tells whole same cut rose =
     let k = cut.0 in
     let front = tells (take k line) in
     let made : ScriptReplayed table status.WriteFault script (ending_from (length initial) over script) (bytes_taken input at_end) (span initial now before after) (failures reads worse) = record {
@@ -80,6 +82,7 @@ cut_at_end {table} result script over input at_end number initial now before mid
       limits = limits;
       stood = stood;
       boards = boards;
+      untouched = untouched;
       caused = widen rose;
     } in
     subst (λ (s : Status). ScriptReplayed table s script (ending_from (length initial) over script) (bytes_taken input at_end) (span initial now before after) (failures reads worse)) (sym same) made
@@ -98,20 +101,21 @@ stopped_ends {table} Memory result script over input at_end number initial now b
       text = f.text;
       written = subst (λ (o : Option (List ℕ)). Puts before o f.text) (sym told) f.reported;
       report = record { more = f.more; front = f.whole };
-      read = f.there.1;
+      read = f.there.1.0;
       near = tt;
       limits = f.limits;
       stood = f.stood;
       boards = f.there.0;
+      untouched = f.there.1.1;
       caused = tt;
     } in
     subst (λ (s : Status). ScriptReplayed table s script (ending_from (length initial) over script) (bytes_taken input at_end) (span initial now before after) (failures reads worse)) (sym same) made
 stopped_ends {table} (BadInput line fault) result script over input at_end number initial now before mid after failed later reads worse spread widen near settled (numbered, f) done =
     let e = fault_ending over script initial line fault f.there.3 f.there.1 in
-    let ready : ReadyToEnd table script (FaultAt line fault) (ending_line (FaultAt line fault)) (span initial now before mid) = record { came = f.came; reported = f.reported; boards = f.there.2; all = f.there.0; line = refl; limits = f.limits; stood = f.stood } in
+    let ready : ReadyToEnd table script (FaultAt line fault) (ending_line (FaultAt line fault)) (span initial now before mid) = record { came = f.came; reported = f.reported; boards = f.there.2; untouched = f.there.4.1; all = f.there.0; line = refl; limits = f.limits; stood = f.stood } in
     let there : FewBytesBehind line input = subst (λ (n : ℕ). FewBytesBehind n input) (sym numbered) near in
     subst (λ (x : Ending). ScriptReplayed table result script x (bytes_taken input at_end) (span initial now before after) (failures reads worse)) (sym e)
-    (ended result script (FaultAt line fault) _ input at_end initial now before mid after later reads worse widen ready settled f.there.4 (λ text. there) done)
+    (ended result script (FaultAt line fault) _ input at_end initial now before mid after later reads worse widen ready settled f.there.4.0 (λ text. there) done)
 stopped_ends {table} WriteFault result script over input at_end number initial now before mid after failed later reads worse spread widen near settled (rose, f) (same, told) =
     let before_it = f.there.1 in
     let made : ScriptReplayed table status.WriteFault script (ending_from (length initial) over script) (bytes_taken input at_end) (span initial now before after) (failures reads worse) = record {
@@ -119,11 +123,12 @@ stopped_ends {table} WriteFault result script over input at_end number initial n
       text = f.text;
       written = subst (λ (o : Option (List ℕ)). Puts before o f.text) (sym told) f.reported;
       report = record { more = f.more; front = inl f.whole };
-      read = ⊎_elim (λ (x : at_end). inl x) (λ (x : DoneIsWhole input f.came.done f.came.rest f.came.begun). inr (inr (inl (x, record { more = f.more; front = f.whole })))) f.there.2;
+      read = ⊎_elim (λ (x : at_end). inl x) (λ (x : DoneIsWhole input f.came.done f.came.rest f.came.begun). inr (inr (inl (x, record { more = f.more; front = f.whole })))) f.there.2.0;
       near = inl (record { lines = before_it.lines; within = before_it.within; more = before_it.more; reported = before_it.reported; near = near_later number (before_it.lines + 1) input before_it.behind near });
       limits = f.limits;
       stood = f.stood;
       boards = f.there.0;
+      untouched = f.there.2.1;
       caused = spread rose;
     } in
     subst (λ (s : Status). ScriptReplayed table s script (ending_from (length initial) over script) (bytes_taken input at_end) (span initial now before after) (failures reads worse)) (sym same) made
@@ -133,56 +138,59 @@ stopped_ends {table} FlashFault result script over input at_end number initial n
       text = played_text f.came.played;
       written = subst (λ (o : Option (List ℕ)). Puts before o (played_text f.came.played)) (sym told) f.reported;
       report = (refl, subst (λ (ls : List Line). StopsAt (ending_from (length initial) over script) ls) (sym f.there.0.2) f.there.0.3);
-      read = f.there.2;
+      read = f.there.2.0;
       near = tt;
       limits = f.limits;
       stood = f.stood;
       boards = f.there.1;
+      untouched = f.there.2.1;
       caused = f.there.1.stopped;
     } in
     subst (λ (s : Status). ScriptReplayed table s script (ending_from (length initial) over script) (bytes_taken input at_end) (span initial now before after) (failures reads worse)) (sym same) made
 stopped_ends {table} TooMany result script over input at_end number initial now before mid after failed later reads worse spread widen near settled f done =
     let e = many_ending over script initial f.came f.there.2 f.there.0 in
-    let ready : ReadyToEnd table script TooManyEvents (ending_line TooManyEvents) (span initial now before mid) = record { came = f.came; reported = f.reported; boards = f.there.1; all = f.there.0; line = refl; limits = f.limits; stood = f.stood } in
+    let ready : ReadyToEnd table script TooManyEvents (ending_line TooManyEvents) (span initial now before mid) = record { came = f.came; reported = f.reported; boards = f.there.1; untouched = f.there.3.1; all = f.there.0; line = refl; limits = f.limits; stood = f.stood } in
     subst (λ (x : Ending). ScriptReplayed table result script x (bytes_taken input at_end) (span initial now before after) (failures reads worse)) (sym e)
-    (ended result script TooManyEvents _ input at_end initial now before mid after later reads worse widen ready settled f.there.3 (λ text. tt) done)
+    (ended result script TooManyEvents _ input at_end initial now before mid after later reads worse widen ready settled f.there.3.0 (λ text. tt) done)
 stopped_ends {table} (NoBoard motes boards) result script over input at_end number initial now before mid after failed later reads worse spread widen near settled f done =
-    let e = stop_ending (NoBoard motes boards) over script (λ c. at_end ⊎ DoneIsWhole input c.done c.rest c.begun) number initial now before mid failed f in
-    let ready : ReadyToEnd table script (NoBoards motes boards) (ending_line (NoBoards motes boards)) (span initial now before mid) = record { came = f.came; reported = f.reported; boards = f.there.2; all = f.there.1; line = refl; limits = f.limits; stood = f.stood } in
+    let e = stop_ending (NoBoard motes boards) over script (λ c. (at_end ⊎ DoneIsWhole input c.done c.rest c.begun) × Untouched c initial now) number initial now before mid failed f in
+    let ready : ReadyToEnd table script (NoBoards motes boards) (ending_line (NoBoards motes boards)) (span initial now before mid) = record { came = f.came; reported = f.reported; boards = f.there.2; untouched = f.there.4.1; all = f.there.1; line = refl; limits = f.limits; stood = f.stood } in
     subst (λ (x : Ending). ScriptReplayed table result script x (bytes_taken input at_end) (span initial now before after) (failures reads worse)) (sym e)
-    (ended result script (NoBoards motes boards) _ input at_end initial now before mid after later reads worse widen ready settled f.there.4 (λ text. tt) done)
+    (ended result script (NoBoards motes boards) _ input at_end initial now before mid after later reads worse widen ready settled f.there.4.0 (λ text. tt) done)
 stopped_ends {table} NoImage result script over input at_end number initial now before mid after failed later reads worse spread widen near settled f (inl (same, put)) =
     let made : ScriptReplayed table status.NoImage script (ending_from (length initial) over script) (bytes_taken input at_end) (span initial now before after) (failures reads worse) = record {
       came = f.came;
       text = played_text f.came.played ++ no_image_line;
       written = Puts-join before mid after _ _ f.reported put;
       report = refl;
-      read = f.there.4;
+      read = f.there.4.0;
       near = tt;
       limits = f.limits;
       stood = f.stood;
       boards = f.there.2;
+      untouched = f.there.4.1;
       caused = (f.there.1, f.there.2);
     } in
     subst (λ (s : Status). ScriptReplayed table s script (ending_from (length initial) over script) (bytes_taken input at_end) (span initial now before after) (failures reads worse)) (sym same) made
 stopped_ends {table} NoImage result script over input at_end number initial now before mid after failed later reads worse spread widen near settled f (inr (same, cut, rose)) =
-    cut_at_end result script over input at_end number initial now before mid after later reads worse widen near f.came no_image_line (inr (f.there.1, lacks_next f.came.last f.came.left initial now f.there.2, refl)) f.reported f.limits f.stood (inr (inr (inr (f.there.1, f.there.2)))) f.there.3 f.there.4 same cut rose
+    cut_at_end result script over input at_end number initial now before mid after later reads worse widen near f.came no_image_line (inr (f.there.1, lacks_next f.came.last f.came.left initial now f.there.2, refl)) f.reported f.limits f.stood (inr (inr (inr (f.there.1, f.there.2)))) f.there.4.1 f.there.3 f.there.4.0 same cut rose
 stopped_ends {table} NotAVolume result script over input at_end number initial now before mid after failed later reads worse spread widen near settled f (inl (same, put)) =
     let made : ScriptReplayed table status.NotAVolume script (ending_from (length initial) over script) (bytes_taken input at_end) (span initial now before after) (failures reads worse) = record {
       came = f.came;
       text = played_text f.came.played ++ no_volume_line;
       written = Puts-join before mid after _ _ f.reported put;
       report = refl;
-      read = f.there.2;
+      read = f.there.2.0;
       near = tt;
       limits = f.limits;
       stood = f.stood;
       boards = f.there.0;
+      untouched = f.there.2.1;
       caused = f.there.0;
     } in
     subst (λ (s : Status). ScriptReplayed table s script (ending_from (length initial) over script) (bytes_taken input at_end) (span initial now before after) (failures reads worse)) (sym same) made
 stopped_ends {table} NotAVolume result script over input at_end number initial now before mid after failed later reads worse spread widen near settled f (inr (same, cut, rose)) =
-    cut_at_end result script over input at_end number initial now before mid after later reads worse widen near f.came no_volume_line (inl (f.there.0.more, f.there.0.next, refl)) f.reported f.limits f.stood (inr (inr (inl f.there.0))) f.there.1 f.there.2 same cut rose
+    cut_at_end result script over input at_end number initial now before mid after later reads worse widen near f.came no_volume_line (inl (f.there.0.more, f.there.0.next, refl)) f.reported f.limits f.stood (inr (inr (inl f.there.0))) f.there.2.1 f.there.1 f.there.2.0 same cut rose
 
 -- a script all of whose lines were played
 lines_done : {table : List Row} (ends : Bool) (script : Script) (n : ℕ) (p : Player) (initial now : List Device) (before mid : Option (List ℕ)) → (r : Reached table ends script [] n p (span initial now before mid)) → r.done ++ [] ≡ script.lines
@@ -225,7 +233,7 @@ abbrev ready_done : {table : List Row} (ends : Bool) (script : Script) (e : Endi
     → ((w : Option World) → closing e w ≡ ending_line e) → ReadyToEnd table script e (ending_line e) (span initial now before mid)
 ready_done ends script e n p initial now before mid r all closes =
     let came = came_to ends script n p initial now before mid r.last r refl in
-    record { came = came; reported = r.reported; boards = r.stood.boards; all = all came refl; line = closes r.last; limits = bounds_done ends script n p initial now before mid r; stood = λ uses. (r.grounded uses).1 }
+    record { came = came; reported = r.reported; boards = r.stood.boards; untouched = untouched_done came initial now r.untouched; all = all came refl; line = closes r.last; limits = bounds_done ends script n p initial now before mid r; stood = λ uses. (r.grounded uses).1 }
 
 -- nothing stands behind the last line
 nothing_near : (n : ℕ) (input : List ℕ) → behind_lines n input ≡ [] → FewBytesBehind n input
@@ -254,15 +262,16 @@ short_ends {table} result script input n fault p initial now before mid after fa
 
 -- a player that is behind the second line has a world
 finish_as : {table : List Row} (result : Status) (script : Script) (input : List ℕ) (w : World) (n : ℕ) (p : Player) (initial now new : List Device) (before mid after : Option (List ℕ)) (failed reads worse : Type 0) → (failed → worse)
-    → (r : Reached table true script [] n p (span initial now before mid)) → r.last ≡ Some w → motes_in r.done ≡ length w.sites → FinishesWith result w initial new mid after failed → ScriptReplayed table result script Ends (bytes_taken input ⊤) (span initial new before after) (failures reads worse)
-finish_as result script input w n p initial now new before mid after failed reads worse spread r is count (inl (ends, boards)) =
+    → (r : Reached table true script [] n p (span initial now before mid)) → SameBoards now new → r.last ≡ Some w → motes_in r.done ≡ length w.sites → FinishesWith result w initial new mid after failed → ScriptReplayed table result script Ends (bytes_taken input ⊤) (span initial new before after) (failures reads worse)
+finish_as result script input w n p initial now new before mid after failed reads worse spread r read is count (inl (ends, boards)) =
     let came = came_to true script n p initial now before mid (Some w) r is in
     ended result script Ends (report_text (final_lines w)) input ⊤ initial new before mid after failed reads worse spread
-    (record { came = came; reported = r.reported; boards = boards; all = refl; line = refl; limits = bounds_done true script n p initial now before mid r; stood = λ uses. (r.grounded uses).1 }) (inl tt) (inl tt) (λ text. tt) ends
-finish_as {table} result script input w n p initial now new before mid after failed reads worse spread r is count (inr (same, stopped, kept)) =
+    (record { came = came; reported = r.reported; boards = boards; untouched = untouched_done came initial new (λ none. keep_then (items_of r.done) initial now new (r.untouched none) (keep_read (items_of r.done) now new read)); all = refl; line = refl; limits = bounds_done true script n p initial now before mid r; stood = λ uses. (r.grounded uses).1 }) (inl tt) (inl tt) (λ text. tt) ends
+finish_as {table} result script input w n p initial now new before mid after failed reads worse spread r read is count (inr (same, stopped, kept)) =
     let there : StoppedIn (motes_in r.done) [] [] (Some w) initial new = stopped (motes_in r.done) count in
     let made : ScriptReplayed table status.FlashFault script Ends (bytes_taken input ⊤) (span initial new before after) (failures reads worse) = record {
       came = came_to true script n p initial now before mid (Some w) r is;
+      untouched = untouched_done (came_to true script n p initial now before mid (Some w) r is) initial new (λ none. keep_then (items_of r.done) initial now new (r.untouched none) (keep_read (items_of r.done) now new read));
       text = played_text r.played;
       written = subst (λ (o : Option (List ℕ)). Puts before o (played_text r.played)) (sym kept) r.reported;
       report = (refl, refl);
@@ -297,16 +306,16 @@ finishes_in p now none r = from r.world r.kept
 
 -- a script that ended
 pub script_ends : {table : List Row} (result : Status) (script : Script) (input : List ℕ) (n : ℕ) (p : Player) (initial now new : List Device) (before mid after : Option (List ℕ)) (failed reads worse : Type 0) → (failed → worse) → fault_at_end p.place ≡ None
-    → (r : Reached table true script [] n p (span initial now before mid)) → ((w : World) → IsWorld p.world now w → WorldStands w initial now → FinishesWith result w initial new mid after failed)
+    → (r : Reached table true script [] n p (span initial now before mid)) → SameBoards now new → ((w : World) → IsWorld p.world now w → WorldStands w initial now → FinishesWith result w initial new mid after failed)
     → ScriptReplayed table result script (ending_from (length initial) false script) (bytes_taken input ⊤) (span initial new before after) (failures reads worse)
-script_ends {table} result script input n p initial now new before mid after failed reads worse spread none r finishes =
+script_ends {table} result script input n p initial now new before mid after failed reads worse spread none r read finishes =
     let world = kept_world p r.last initial now (is_ready p.place none) r.stood.world r.stood.boards in
     let w = world.0 in
     let fault : script.fault ≡ None = sym (fault_done true script n p initial now before mid r) ∙ ap (λ (o : Option LineFault). numbered n o) none in
     let e : ending_from (length initial) false script ≡ Ends =
     few_ending false script initial (few_done true script n p initial now before mid r) ∙ ap (λ (f : Option (ℕ × LineFault)). by_fault false f) fault in
     subst (λ (x : Ending). ScriptReplayed table result script x (bytes_taken input ⊤) (span initial new before after) (failures reads worse)) (sym e)
-    (finish_as result script input w n p initial now new before mid after failed reads worse spread r world.1 (sym r.stood.motes ∙ sym world.4) (finishes w world.2 world.3))
+    (finish_as result script input w n p initial now new before mid after failed reads worse spread r read world.1 (sym r.stood.motes ∙ sym world.4) (finishes w world.2 world.3))
 
 -- ---- the bytes that are used
 

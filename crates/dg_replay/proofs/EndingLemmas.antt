@@ -24,7 +24,7 @@ use Rattle.dg_replay.specs.Replayed.{Progress, played_text, AtTooMany, IsWholeRe
 use Rattle.dg_replay.specs.Replaying.{HasFew, ReadyToEnd, EndsWith, ScriptReplayed}
 use Rattle.dg_base.specs.declared.events.Step.{Step}
 use Rattle.dg_script.specs.declared.line.Line.{Line}
-use Rattle.dg_script.specs.declared.line.Line.TheVariants.{Nothing, Motes, Golden, Boards as BoardsLine, Link, Narrow, Image, Cut, Event as EventLine, Round, Sweeps}
+use Rattle.dg_script.specs.declared.line.Line.TheVariants.{Nothing, Motes, Golden, Boards as BoardsLine, Link, Narrow, Image, Cut, Happens as EventLine, Round, Sweeps}
 use Rattle.dg_replay.specs.Stages.{span, bytes_taken, failures}
 use Rattle.dg_replay.proofs.ItemLemmas.{items_split, items_first, events_among-append}
 
@@ -81,6 +81,7 @@ ended {table} result script e piece input at_end initial now before mid after fa
       limits = r.limits;
       stood = r.stood;
       boards = boards_of e r.came initial now r.boards;
+      untouched = r.untouched;
       caused = caused_by e reads worse (BoardStopped (motes_in r.came.done) initial now) (NoVolumeThere r.came initial now) ((UsesBoards r.came.done) × NoImageThere r.came initial now);
     } in
     subst (λ (s : Status). ScriptReplayed table s script e (bytes_taken input at_end) (span initial now before after) (failures reads worse)) (sym done.0) made
@@ -102,6 +103,7 @@ ended {table} result script e piece input at_end initial now before mid after fa
       limits = r.limits;
       stood = r.stood;
       boards = inl r.boards;
+      untouched = r.untouched;
       caused = spread cut.2;
     } in
     subst (λ (s : Status). ScriptReplayed table s script e (bytes_taken input at_end) (span initial now before after) (failures reads worse)) (sym cut.0) made
@@ -116,6 +118,7 @@ ended {table} result script e piece input at_end initial now before mid after fa
       limits = r.limits;
       stood = r.stood;
       boards = r.boards;
+      untouched = r.untouched;
       caused = tt;
     } in
     subst (λ (s : Status). ScriptReplayed table s script e (bytes_taken input at_end) (span initial now before after) (failures reads worse)) (sym memory.0) made

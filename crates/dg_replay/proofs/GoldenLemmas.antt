@@ -13,7 +13,7 @@ use Rattle.dg_script.specs.Script.{Script}
 use Rattle.dg_script.proofs.SpelledLemmas.{IsSpelled, is_spelled}
 use Rattle.dg_script.specs.declared.place.Place.{Place}
 use Rattle.dg_script.specs.declared.line.Line.{Line}
-use Rattle.dg_script.specs.declared.line.Line.TheVariants.{Nothing, Motes, Golden, Boards, Link, Narrow, Image, Cut, Event as EventLine, Round, Sweeps}
+use Rattle.dg_script.specs.declared.line.Line.TheVariants.{Nothing, Motes, Golden, Boards, Link, Narrow, Image, Cut, Happens as EventLine, Round, Sweeps}
 use Rattle.dg_rules.specs.World.{World, first_world}
 use Rattle.dg_script.specs.Ranges.{EventInRange}
 use Rattle.dg_rounds.specs.Rounds.{round, sweep, times}
@@ -30,7 +30,7 @@ use Rattle.dg_completion.specs.Ends.{EndsInRest, PagesCome, KeepsNewest, EndsLaw
 use Rattle.dg_completion.proofs.GrowLemmas.{all_append, all_times}
 use Rattle.dg_replay.specs.Ending.{script_of}
 use Rattle.dg_replay.specs.Replayed.{Progress, RunsTo, item_played}
-use Rattle.dg_replay.specs.Promised.{FramesAreHonest}
+use Rattle.dg_replay.specs.Promised.{PlayedFirst, FramesAreHonest}
 use Rattle.dg_replay.specs.Boards.{LacksImage, InSome}
 use Rattle.dg_replay.specs.Playing.{LineBegun, RunsFrom}
 use Rattle.dg_replay.specs.Replaying.{Reached, TextRead}
@@ -38,6 +38,7 @@ use Rattle.dg_replay.specs.Stages.{span}
 use Rattle.dg_replay.specs.declared.player.Player.{Player}
 use Rattle.dg_replay.proofs.ItemLemmas.{motes_same, runs_append, runs_from_none}
 use Rattle.dg_nor.specs.Device.{Device}
+use Rattle.dg_replay.proofs.FirstLemmas.{run_or, first_run}
 use Rattle.dg_replay.proofs.GoldenRuns.{ByBoards, all_front, ScriptRun, GoldenRun, ran_network, BoardsRun, script_run, golden_of, boards_of, golden_run}
 use Rattle.dg_replay.proofs.LineRanges.{LinesFit, script_fits, front_fits, rest_fits, one_fits, HoldsOver, round_all, sweep_all, quiet_all}
 
@@ -78,51 +79,43 @@ module _ {table : List Row} (input : List ℕ) (c : Progress table (script_of in
       script_run c.ground c.done c.rest c.begun c.left c.played v (front_fits first_place c.done c.rest fits_all) (rest_fits first_place c.done c.rest fits_all) c.parts c.items
       (subst (λ (o : Option World). RunsTo (beginning_of c.ground c.done).world c.played o) is c.run)
 
-  boards_at : (v : World) (r : ScriptRun c.ground c.done (beginning_of c.ground c.done) c.left c.played v) → ByBoards c.ground c.done r.table r.stores → BoardsRun c.ground (beginning_of c.ground c.done) c.left c.played v
-  boards_at v r by =
+  boards_at : (left : List Item) (played : List Played) (v : World) (r : ScriptRun c.ground c.done (beginning_of c.ground c.done) left played v) → ByBoards c.ground c.done r.table r.stores → BoardsRun c.ground (beginning_of c.ground c.done) left played v
+  boards_at left played v r by =
       let there = boards_ground input c by.uses in
-      boards_of c.ground c.done (beginning_of c.ground c.done) c.left c.played v r by there.0 there.1
+      boards_of c.ground c.done (beginning_of c.ground c.done) left played v r by there.0 there.1
 
   pub golden_at_end : (UsesBoards c.done → ⊥) → (v : World) → c.last ≡ Some v → GoldenRun (beginning_of c.ground c.done) c.left c.played v
   golden_at_end alone v is =
       let r = run_at v is in elim r.opens [ inl by ↦ golden_of c.ground c.done (beginning_of c.ground c.done) c.left c.played v r by | inr by ↦ absurd (alone by.uses) ]
 
-  from_at : Ways → FramesAreHonest c → (v : World) → c.last ≡ Some v → FromSome c.played v
-  from_at ways honest v is =
-      let r = run_at v is in
-      elim r.opens [
-        | inl by ↦
-            let run = golden_of c.ground c.done (beginning_of c.ground c.done) c.left c.played v r by in
-            record { first = _; from = ways.golden (ran_network run) c.played v run.plays honest.frames }
-        | inr by ↦
-            let run = boards_at v r by in
-            record { first = _; from = ways.boards c.ground.table c.ground.stores run.links run.narrow c.played v run.plays (honest.agree by.uses) (honest.hold by.uses) }
-      ]
+  module _ (f : PlayedFirst c) where
+    from_at : Ways → FramesAreHonest f → (v : World) → f.last ≡ Some v → FromSome f.played v
+    from_at ways honest v is =
+        let r = first_run input c f run_at v is in
+        let left : List Item = map item_played f.rest ++ c.left in
+        elim r.opens [
+          | inl by ↦
+              let run = golden_of c.ground c.done (beginning_of c.ground c.done) left f.played v r by in
+              record { first = _; from = ways.golden (ran_network run) f.played v run.plays honest.frames }
+          | inr by ↦
+              let run = boards_at left f.played v r by in
+              record { first = _; from = ways.boards c.ground.table c.ground.stores run.links run.narrow f.played v run.plays (honest.agree by.uses) (honest.hold by.uses) }
+        ]
 
-  -- nothing was played, or it leads to a world
-  pub nothing_or : (P : List Played → Option World → Type 0) → P [] None → ((v : World) → c.last ≡ Some v → P c.played (Some v)) → P c.played c.last
-  nothing_or P none some = by_last c.last refl
-    where
-      by_last : (o : Option World) → c.last ≡ o → P c.played c.last
-      by_last None is =
-          let run : RunsTo (beginning_of c.ground c.done).world c.played None = subst (λ (o : Option World). RunsTo (beginning_of c.ground c.done).world c.played o) is c.run in
-          subst (λ (o : Option World). P c.played o) (sym is) (subst (λ (ps : List Played). P ps None) (sym (runs_from_none (beginning_of c.ground c.done).world c.played run).1) none)
-      by_last (Some v) is = subst (λ (o : Option World). P c.played o) (sym is) (some v is)
+    -- what holds of all that is played from a world that agrees, and of nothing, holds of what was played first of a script over honest frames
+    pub honest_worlds : Ways → (P : List Played → Option World → Type 0) → P [] None → ((u v : World) (played : List Played) → PlaysFrom u played v → P played (Some v)) → FramesAreHonest f → P f.played f.last
+    honest_worlds ways P none law honest = run_or (beginning_of c.ground c.done).world f.last f.played f.run P none (λ v is. let x = from_at ways honest v is in law x.first v f.played x.from)
 
-  -- what holds of all that is played from a world that agrees, and of nothing, holds of what was played of a script over honest frames
-  pub honest_worlds : Ways → (P : List Played → Option World → Type 0) → P [] None → ((u v : World) (played : List Played) → PlaysFrom u played v → P played (Some v)) → FramesAreHonest c → P c.played c.last
-  honest_worlds ways P none law honest = nothing_or P none (λ v is. let x = from_at ways honest v is in law x.first v c.played x.from)
+    pub honest_runs : Ways → (P : List Played → Type 0) → P [] → ((u v : World) (played : List Played) → PlaysFrom u played v → P played) → FramesAreHonest f → P f.played
+    honest_runs ways P none law honest = honest_worlds ways (λ ps last. P ps) none law honest
 
-  pub honest_runs : Ways → (P : List Played → Type 0) → P [] → ((u v : World) (played : List Played) → PlaysFrom u played v → P played) → FramesAreHonest c → P c.played
-  honest_runs ways P none law honest = honest_worlds ways (λ ps last. P ps) none law honest
+    -- where it ends with a rest of enough sweeps
+    pub ended_complete : Ways → EndsLaw → (w v : World) (n k : ℕ) → FramesAreHonest f → f.last ≡ Some v → EndsInRest f.played w n v → IsEnough w k → k ≤ n → KeepsNewest v
+    ended_complete ways law w v n k honest is ends enough most = let x = from_at ways honest v is in law x.first f.played w v n k x.from ends enough most
 
-  -- where it ends with a rest of enough sweeps
-  pub ended_complete : Ways → EndsLaw → (w v : World) (n k : ℕ) → FramesAreHonest c → c.last ≡ Some v → EndsInRest c.played w n v → IsEnough w k → k ≤ n → KeepsNewest v
-  ended_complete ways law w v n k honest is ends enough most = let x = from_at ways honest v is in law x.first c.played w v n k x.from ends enough most
-
-  -- where it ends with a rest of any number of sweeps
-  pub ended_pipelined : Ways → EndsPipelineLaw → (w v : World) (t : ℕ) → FramesAreHonest c → c.last ≡ Some v → EndsInRest c.played w t v → PagesCome w t v
-  ended_pipelined ways law w v t honest is ends = let x = from_at ways honest v is in law x.first c.played w v t x.from ends
+    -- where it ends with a rest of any number of sweeps
+    pub ended_pipelined : Ways → EndsPipelineLaw → (w v : World) (t : ℕ) → FramesAreHonest f → f.last ≡ Some v → EndsInRest f.played w t v → PagesCome w t v
+    ended_pipelined ways law w v t honest is ends = let x = from_at ways honest v is in law x.first f.played w v t x.from ends
 
 -- ---- the next event, wherever it is stopped
 
@@ -132,20 +125,21 @@ pub record HalvesLaws : Type 0 where
   pub boards : (table : List Row) (stores : List Store) (links : List (ℕ × ℕ)) (narrow : List Bool) (played : List Played) (v : World) (e : Event) → PlaysBoards table stores links narrow played v
       → StoresAgree table stores → AllByRecursion (HoldsToThen table) played → EventInRange (length stores) e → HoldsTo table v e → StopsAgree v e
 
-pub halves_agree : {table : List Row} → HalvesLaws → (input : List ℕ) (c : Progress table (script_of input)) (w : World) (step : Step) (reported : Bool) (more : List Item) → FramesAreHonest c → c.last ≡ Some w → c.left ≡ Applies step reported ∷ more
-    → HonestEvent w.table step.event → (UsesBoards c.done → HoldsTo c.ground.table w step.event) → StopsAgree w step.event
-halves_agree laws input c w step reported more honest is next here holds =
+pub halves_agree : {table : List Row} → HalvesLaws → (input : List ℕ) (c : Progress table (script_of input)) (f : PlayedFirst c) (w : World) (step : Step) (reported : Bool) (more : List Item) → FramesAreHonest f → f.last ≡ Some w
+    → map item_played f.rest ++ c.left ≡ Applies step reported ∷ more → HonestEvent w.table step.event → (UsesBoards c.done → HoldsTo c.ground.table w step.event) → StopsAgree w step.event
+halves_agree laws input c f w step reported more honest is next here holds =
     let b = beginning_of c.ground c.done in
-    let r = run_at input c w is in
+    let left : List Item = map item_played f.rest ++ c.left in
+    let r = first_run input c f (run_at input c) w is in
     elim r.opens [
       | inl by ↦
-          let run = golden_of c.ground c.done b c.left c.played w r by in
+          let run = golden_of c.ground c.done b left f.played w r by in
           let fits : AllByRecursion (ItemInRange b.motes) (Applies step reported ∷ more) = subst (AllByRecursion (ItemInRange b.motes)) next run.left_fits in
-          laws.golden (ran_network run) c.played w step.event run.plays honest.frames fits.0.event here
+          laws.golden (ran_network run) f.played w step.event run.plays honest.frames fits.0.event here
       | inr by ↦
-          let run = boards_at input c w r by in
+          let run = boards_at input c left f.played w r by in
           let fits : AllByRecursion (ItemInRange b.motes) (Applies step reported ∷ more) = subst (AllByRecursion (ItemInRange b.motes)) next run.left_fits in
-          laws.boards c.ground.table c.ground.stores run.links run.narrow c.played w step.event run.plays (honest.agree by.uses) (honest.hold by.uses)
+          laws.boards c.ground.table c.ground.stores run.links run.narrow f.played w step.event run.plays (honest.agree by.uses) (honest.hold by.uses)
           (subst (λ (n : ℕ). EventInRange n step.event) (sym (boards_ground input c by.uses).0) fits.0.event) (holds by.uses)
     ]
 
@@ -155,13 +149,13 @@ abbrev HonestAlways : Item → Type 0
 HonestAlways item = (w : World) → HonestItem item w
 
 event_honest : (event : Event) (table : List Row) → BringsNone event → HonestEvent table event
-event_honest (Tick mote dt draw) table none = tt
-event_honest (Hear mote dt draw frame) table none = tt
-event_honest (Last from to dt draw) table none = tt
-event_honest (Reset mote dt draw) table none = tt
-event_honest (Inject mote image version dt draw) table none = tt
-event_honest (Order mote number image version dt draw) table none = tt
-event_honest (Frame mote dt draw bytes) table none = absurd none
+event_honest (Tick mote dt word) table none = tt
+event_honest (Hear mote dt word frame) table none = tt
+event_honest (Last from to dt word) table none = tt
+event_honest (Reset mote dt word) table none = tt
+event_honest (Inject mote image version dt word) table none = tt
+event_honest (Order mote number image version dt word) table none = tt
+event_honest (Frame mote dt word bytes) table none = absurd none
 
 abbrev QuietHonest : Event → Type 0
 QuietHonest e = HonestAlways (Applies (record { event = e; cut = None }) false)
@@ -220,8 +214,12 @@ frames_honest : {table : List Row} (spells : Script) (c : Progress table spells)
 frames_honest spells c none =
     played_honest c.played (subst (AllByRecursion HonestAlways) (sym c.items) (all_append HonestAlways (items_of c.done) c.begun (items_honest first_place c.done none) (begun_honest c.done c.rest c.begun c.left c.parts c.within)))
 
-pub progress_honest : {table : List Row} (spells : Script) (c : Progress table spells) → AllByRecursion IsNoFrame c.done → (UsesBoards c.done → ⊥) → FramesAreHonest c
-progress_honest spells c none alone = record { frames = frames_honest spells c none; agree = λ uses. absurd (alone uses); hold = λ uses. absurd (alone uses) }
+pub progress_honest : {table : List Row} (spells : Script) (c : Progress table spells) → AllByRecursion IsNoFrame c.done → (UsesBoards c.done → ⊥) → (f : PlayedFirst c) → FramesAreHonest f
+progress_honest spells c none alone f = record {
+  frames = all_front IsHonestThen f.played f.rest (subst (AllByRecursion IsHonestThen) f.parts (frames_honest spells c none));
+  agree = λ uses. absurd (alone uses);
+  hold = λ uses. absurd (alone uses);
+}
 
 -- ---- no event lacks an image
 

@@ -16,7 +16,7 @@ use Rattle.dg_replay.specs.Ending.{script_of, has_unused_bytes, used, ending_of}
 use Rattle.dg_replay.specs.Fronts.{IsFront}
 use Rattle.dg_replay.specs.Following.{LineTaken, AllAsBefore, NextPlayed}
 use Rattle.dg_replay.specs.Near.{behind_lines}
-use Rattle.dg_replay.specs.Replayed.{Progress, IsSettled, AllRead, AllWhole, AreWhole}
+use Rattle.dg_replay.specs.Replayed.{Progress, Untouched, IsSettled, AllRead, AllWhole, AreWhole}
 use Rattle.dg_replay.specs.Playing.{Ready}
 use Rattle.dg_replay.specs.Replaying.{Reached, PlayedUpTo, StopsAtText, StopsThere, IsWholeAt, StopsInTaken, ByRules}
 use Rattle.dg_replay.specs.declared.halt.Halt.{Halt}
@@ -29,7 +29,8 @@ use Rattle.dg_replay.proofs.EndLemmas.{script_all, script_over, stop_ending, bou
 use Rattle.dg_replay.proofs.FollowingLemmas.{TextPlays}
 use Rattle.dg_replay.proofs.FrontLemmas.{used_begins, script_begins, front_begins}
 use Rattle.dg_replay.proofs.GoldenLemmas.{ImageIsFound}
-use Rattle.dg_replay.proofs.LiftLemmas.{lifted, progress_whole, stops_here}
+use Rattle.dg_replay.proofs.BytesLemmas.{untouched_done}
+use Rattle.dg_replay.proofs.LiftLemmas.{lifted, untouched_lifted, progress_whole, stops_here}
 use Rattle.dg_replay.proofs.LineByLine.{FrontPlayed, front_more, front_stopped, text_stopped, behind_more}
 use Rattle.dg_replay.proofs.ReplayLemmas.{ready_of}
 use Rattle.dg_replay.proofs.NextLineLemmas.{at_line}
@@ -78,7 +79,7 @@ whole_read front bytes done is none all = subst (λ (xs : List ℕ). AllRead (li
 
 read_stopped : {table : List Row} (front bytes : List ℕ) (given : ℕ) (p : Player) (initial now : List Device) (before after : Option (List ℕ)) → IsFront front → length front ≤ most_used_bytes → HasNoEnd bytes
     → Reached table false (script_from false first_place 1 (lines front)) [] (given + 1) p (span initial now before after)
-    → PlayedUpTo table (script_of (front ++ bytes)) initial before after (λ c. (c.begun ≡ []) × BoardsStand c.last initial now × AreWhole (front ++ bytes) c.done × AllWhole (front ++ bytes) c.done)
+    → PlayedUpTo table (script_of (front ++ bytes)) initial before after (λ c. (c.begun ≡ []) × BoardsStand c.last initial now × AreWhole (front ++ bytes) c.done × AllWhole (front ++ bytes) c.done × Untouched c initial now)
 read_stopped front bytes given p initial now before after is few none r =
     let first : Script = script_from false first_place 1 (lines front) in
     let c = at_line false first [] (given + 1) p initial now before after r in
@@ -87,7 +88,13 @@ read_stopped front bytes given p initial now before after is few none r =
       reported = r.reported;
       limits = bounds_done false first (given + 1) p initial now before after r;
       stood = λ uses. (r.grounded uses).1;
-      there = (refl, r.stood.boards, progress_whole front bytes is few c, whole_read front bytes r.done is none (all_read (lines front) (given + 1) p initial now before after r));
+      there = (
+        refl,
+        r.stood.boards,
+        progress_whole front bytes is few c,
+        whole_read front bytes r.done is none (all_read (lines front) (given + 1) p initial now before after r),
+        untouched_lifted (front_begins front bytes is few) c initial now (untouched_done c initial now r.untouched),
+      );
     }
 
 pub lines_failed : (a b c : Option (List ℕ)) (reads failed writes : Type 0) → (failed → reads) → (old : Reading) (more : List ℕ) (number : ℕ) (p q : Player) (initial was now : List Device) (before mid after : Option (List ℕ)) (at_end : Type 0)
@@ -124,16 +131,16 @@ lines_over a b c reads writes old more number p q initial was now before mid aft
 -- ---- a line at which a replay stops
 
 -- a stop is known by more of what was done
-stops_with : {table : List Row} (stop : Stop) (script : Script) (W : Progress table script → Type 0) (number : ℕ) (initial now : List Device) (before after : Option (List ℕ)) (failed : Type 0) → ((c : Progress table script) → W c)
+stops_with : {table : List Row} (stop : Stop) (script : Script) (W : Progress table script → Type 0) (number : ℕ) (initial now : List Device) (before after : Option (List ℕ)) (failed : Type 0) → ((c : Progress table script) → Untouched c initial now → W c)
     → StopsThere table stop script number (span initial now before after) failed → StopsAtText table stop script W number (span initial now before after) failed
-stops_with Memory script W number initial now before after failed w f = record { came = f.came; text = f.text; more = f.more; reported = f.reported; whole = f.whole; limits = f.limits; stood = f.stood; there = (f.there.0, w f.came) }
-stops_with (BadInput line fault) script W number initial now before after failed w (same, f) = (same, record { came = f.came; reported = f.reported; limits = f.limits; stood = f.stood; there = (f.there.0, f.there.1, f.there.2, f.there.3, w f.came) })
-stops_with WriteFault script W number initial now before after failed w (rose, f) = (rose, record { came = f.came; text = f.text; more = f.more; reported = f.reported; whole = f.whole; limits = f.limits; stood = f.stood; there = (f.there.0, f.there.1, w f.came) })
-stops_with FlashFault script W number initial now before after failed w f = record { came = f.came; reported = f.reported; limits = f.limits; stood = f.stood; there = (f.there.0, f.there.1, w f.came) }
-stops_with TooMany script W number initial now before after failed w f = record { came = f.came; reported = f.reported; limits = f.limits; stood = f.stood; there = (f.there.0, f.there.1, f.there.2, w f.came) }
-stops_with (NoBoard motes boards) script W number initial now before after failed w f = record { came = f.came; reported = f.reported; limits = f.limits; stood = f.stood; there = (f.there.0, f.there.1, f.there.2, f.there.3, w f.came) }
-stops_with NoImage script W number initial now before after failed w f = record { came = f.came; reported = f.reported; limits = f.limits; stood = f.stood; there = (f.there.0, f.there.1, f.there.2, f.there.3, w f.came) }
-stops_with NotAVolume script W number initial now before after failed w f = record { came = f.came; reported = f.reported; limits = f.limits; stood = f.stood; there = (f.there.0, f.there.1, w f.came) }
+stops_with Memory script W number initial now before after failed w f = record { came = f.came; text = f.text; more = f.more; reported = f.reported; whole = f.whole; limits = f.limits; stood = f.stood; there = (f.there.0, w f.came f.there.1) }
+stops_with (BadInput line fault) script W number initial now before after failed w (same, f) = (same, record { came = f.came; reported = f.reported; limits = f.limits; stood = f.stood; there = (f.there.0, f.there.1, f.there.2, f.there.3, w f.came f.there.4) })
+stops_with WriteFault script W number initial now before after failed w (rose, f) = (rose, record { came = f.came; text = f.text; more = f.more; reported = f.reported; whole = f.whole; limits = f.limits; stood = f.stood; there = (f.there.0, f.there.1, w f.came f.there.2) })
+stops_with FlashFault script W number initial now before after failed w f = record { came = f.came; reported = f.reported; limits = f.limits; stood = f.stood; there = (f.there.0, f.there.1, w f.came f.there.2) }
+stops_with TooMany script W number initial now before after failed w f = record { came = f.came; reported = f.reported; limits = f.limits; stood = f.stood; there = (f.there.0, f.there.1, f.there.2, w f.came f.there.3) }
+stops_with (NoBoard motes boards) script W number initial now before after failed w f = record { came = f.came; reported = f.reported; limits = f.limits; stood = f.stood; there = (f.there.0, f.there.1, f.there.2, f.there.3, w f.came f.there.4) }
+stops_with NoImage script W number initial now before after failed w f = record { came = f.came; reported = f.reported; limits = f.limits; stood = f.stood; there = (f.there.0, f.there.1, f.there.2, f.there.3, w f.came f.there.4) }
+stops_with NotAVolume script W number initial now before after failed w f = record { came = f.came; reported = f.reported; limits = f.limits; stood = f.stood; there = (f.there.0, f.there.1, w f.came f.there.2) }
 
 by_rules : (stop : Stop) {S : Type 0} → S → ByRules stop S
 by_rules Memory s = tt
@@ -162,16 +169,16 @@ same_ending table stop input more number initial now before after failed =
 ends_same : (table : List Row) (stop : Stop) (input more : List ℕ) (number : ℕ) (initial now : List Device) (before after : Option (List ℕ)) (failed : Type 0) → same_ending table stop input more number initial now before after failed
 ends_same table Memory input more number initial now before after failed f g = tt
 ends_same table (BadInput line fault) input more number initial now before after failed f g =
-    stop_ending (BadInput line fault) (has_unused_bytes (input ++ more)) (script_of (input ++ more)) (λ c. Unit {0}) number initial now before after failed f
-    ∙ sym (stop_ending (BadInput line fault) (has_unused_bytes input) (script_of input) (λ c. Unit {0}) number initial now before after failed g)
+    stop_ending (BadInput line fault) (has_unused_bytes (input ++ more)) (script_of (input ++ more)) (λ c. Untouched c initial now) number initial now before after failed f
+    ∙ sym (stop_ending (BadInput line fault) (has_unused_bytes input) (script_of input) (λ c. Untouched c initial now) number initial now before after failed g)
 ends_same table WriteFault input more number initial now before after failed f g = tt
 ends_same table FlashFault input more number initial now before after failed f g = tt
 ends_same table TooMany input more number initial now before after failed f g =
-    stop_ending TooMany (has_unused_bytes (input ++ more)) (script_of (input ++ more)) (λ c. Unit {0}) number initial now before after failed f
-    ∙ sym (stop_ending TooMany (has_unused_bytes input) (script_of input) (λ c. Unit {0}) number initial now before after failed g)
+    stop_ending TooMany (has_unused_bytes (input ++ more)) (script_of (input ++ more)) (λ c. Untouched c initial now) number initial now before after failed f
+    ∙ sym (stop_ending TooMany (has_unused_bytes input) (script_of input) (λ c. Untouched c initial now) number initial now before after failed g)
 ends_same table (NoBoard motes boards) input more number initial now before after failed f g =
-    stop_ending (NoBoard motes boards) (has_unused_bytes (input ++ more)) (script_of (input ++ more)) (λ c. Unit {0}) number initial now before after failed f
-    ∙ sym (stop_ending (NoBoard motes boards) (has_unused_bytes input) (script_of input) (λ c. Unit {0}) number initial now before after failed g)
+    stop_ending (NoBoard motes boards) (has_unused_bytes (input ++ more)) (script_of (input ++ more)) (λ c. Untouched c initial now) number initial now before after failed f
+    ∙ sym (stop_ending (NoBoard motes boards) (has_unused_bytes input) (script_of input) (λ c. Untouched c initial now) number initial now before after failed g)
 ends_same table NoImage input more number initial now before after failed f g = tt
 ends_same table NotAVolume input more number initial now before after failed f g = tt
 
@@ -214,7 +221,7 @@ stopped_whole law stop a c reads at_end front line text rest given p q initial w
     let whole : List ℕ = front ++ line in
     let few : length whole ≤ most_used_bytes = omega (arith, length-append whole rest, fits) in
     let is = front_more front text line l in
-    let all : (table : List Row) (ends : Bool) (more : List (List ℕ)) → StopsThere table stop (script_from ends first_place 1 (lines whole ++ more)) (given + 1) (span initial now before after) worse = front_stopped law stop front text line given p q initial was now before mid after failed worse spread f l (λ done w table s. answer done w table s) in
+    let all : (table : List Row) (ends : Bool) (more : List (List ℕ)) → StopsThere table stop (script_from ends first_place 1 (lines whole ++ more)) (given + 1) (span initial now before after) worse = front_stopped law stop front text line given p q initial was now before mid after failed worse spread f l answer.0 (λ done w table s. answer.1 done w table s) in
     let behind : behind_lines (given + 1) (whole ++ rest) ≡ rest = behind_more front text line given f.behind l rest in (
       whole ++ rest,
       taken,
@@ -234,7 +241,7 @@ stopped_part law stop a c reads at_end front line text given p q initial was now
     let spelled : script_from true first_place 1 (lines front ++ text ∷ []) ≡ script_of input = ap (λ (ls : List (List ℕ)). script_from true first_place 1 ls) (sym (last_text front text line f.is l)) ∙ sym (script_all input fits) in
     let there : (table : List Row) → StopsThere table stop (script_of input) (given + 1) (span initial now before after) worse =
     λ table. subst (λ (s : Script). StopsThere table stop s (given + 1) (span initial now before after) worse) spelled
-    (text_stopped law stop front text given p q initial was now before mid after failed worse spread f (λ done w table s. answer done w table s) table true []) in (
+    (text_stopped law stop front text given p q initial was now before mid after failed worse spread f answer.0 (λ done w table s. answer.1 done w table s) table true []) in (
       input,
       taken,
       λ table. (
@@ -243,7 +250,7 @@ stopped_part law stop a c reads at_end front line text given p q initial was now
         (
           given + 1,
           omega (arith, ap length (behind_last front text line given f.behind l)),
-          stops_with stop (script_of input) (λ c. at_end ⊎ IsWholeAt stop input c.done c.rest c.begun) (given + 1) initial now before after worse (λ c. inl ended) (there table),
+          stops_with stop (script_of input) (λ c. (at_end ⊎ IsWholeAt stop input c.done c.rest c.begun) × Untouched c initial now) (given + 1) initial now before after worse (λ c kept. (inl ended, kept)) (there table),
         ),
       ),
     )
@@ -298,4 +305,4 @@ lines_halted law r halt a b c old new more number p q initial was now before mid
     by_halt : (x : Halt) → NextPlayed (Err x) (bytes_taken (old.ahead ++ more) at_end) old new rose (AllAsBefore p q was now mid after) (λ y t. TextPlays y t (old.number + 1) p q was now mid after failed) → Comes a c (Err x) at_end reads initial now before after writes
     by_halt ReadFault k = lines_failed a b c reads rose writes spread old more number p q initial was now before mid after at_end i taken k
     by_halt TooLong k = lines_over a b c reads writes old more number p q initial was now before mid after at_end i taken k
-    by_halt (Stopped stop) k = lines_stopped law stop a b c reads old more number p q initial was now before mid after at_end failed writes widen i taken k.0 k.1 k.2 (λ done w table s. k.3 (based_on table initial) (done_so_far done w) s)
+    by_halt (Stopped stop) k = lines_stopped law stop a b c reads old more number p q initial was now before mid after at_end failed writes widen i taken k.0 k.1 k.2 (k.3.0, λ done w table s. k.3.1 (based_on table initial) (done_so_far done w) s)

@@ -1,14 +1,17 @@
 pub mod ItemLemmas
 pub mod ItemStepLemmas
 pub mod StepLemmas
+pub mod BytesLemmas
 pub mod PlayLemmas
 pub mod StandLemmas
 pub mod SilentLemmas
 pub mod BusyLemmas
 pub mod TextLemmas
 pub mod NextLineLemmas
+pub mod UntouchedLemmas
 pub mod ReplayLemmas
 pub mod FinishLemmas
+pub mod FirstLemmas
 pub mod LineRanges
 pub mod GoldenRuns
 pub mod GoldenLemmas

@@ -1,6 +1,7 @@
 -- What was played of the whole lines that were read is a run of the script of every input that begins with them.
-use Rattle.std.proofs.Common.{◌≡◌, ◌≢◌, ◌⊎◌, inl, inr, ℕ, ◌≤◌, false, List, [], ◌∷◌, ◌++◌, length, append-nil, append_assoc, refl, ap, sym, ◌∙◌, subst}
+use Rattle.std.proofs.Common.{◌≡◌, ◌≢◌, ◌⊎◌, inl, inr, ℕ, ◌≤◌, false, List, [], ◌∷◌, ◌++◌, length, map, append-nil, append_assoc, refl, ap, sym, ◌∙◌, subst}
 use Rattle.std.specs.Prelude.{Option, Some, None}
+use Rattle.std.specs.List.{AllByRecursion}
 use Rattle.std.specs.Str.Lines.{lines}
 use Rattle.dg_base.specs.declared.answers.Status.TheVariants as status
 use Rattle.dg_nor.specs.Device.{Device}
@@ -18,12 +19,14 @@ use Rattle.dg_replay.specs.Boards.{EventNext, InSome, LacksImage, BoardsStand, S
 use Rattle.dg_replay.specs.Items.{motes_in, lacking, next_items}
 use Rattle.dg_replay.specs.Ending.{script_of}
 use Rattle.dg_replay.specs.Fronts.{IsFront, BeginsAs}
-use Rattle.dg_replay.specs.Replayed.{Progress, played_text, AtTooMany, BoardsLeft, AreWhole, NextIsWhole, DoneIsWhole}
+use Rattle.dg_replay.specs.Replayed.{Progress, Untouched, item_played, played_text, AtTooMany, BoardsLeft, AreWhole, NextIsWhole, DoneIsWhole}
+use Rattle.dg_replay.specs.Untouched.{IsElsewhere, FormatsNone}
 use Rattle.dg_replay.specs.Replaying.{PlayedUpTo, HasFew, ReportedBefore, StopsThere, StopsInTaken}
 use Rattle.dg_replay.specs.declared.stop.Stop.{Stop}
 use Rattle.dg_replay.specs.Stages.{span, bytes_taken}
 use Rattle.dg_replay.specs.declared.stop.Stop.TheVariants.{Memory, BadInput, WriteFault, FlashFault, TooMany, NoBoard, NoImage, NotAVolume}
 use Rattle.dg_replay.proofs.FrontLemmas.{front_begins}
+use Rattle.dg_replay.proofs.GoldenRuns.{all_front}
 
 -- ---- a run goes over to a longer script
 
@@ -96,6 +99,21 @@ stopped_line : (done rest more : List Line) (left : List Item) (last : Option Wo
 stopped_line done [] more left last old new line behind e s = absurd (let f : [] ≡ line ∷ behind = e in cc)
 stopped_line done (l ∷ rest) more left last old new line behind e s = record { stopped = s.stopped; there = s.there }
 
+-- boards keep their bytes in the longer script
+left_away : (m : ℕ) (done rest more : List Line) (begun left before : List Item) → next_items done rest ≡ begun ++ left → AllByRecursion (IsElsewhere m) (before ++ left_of done rest more left) → AllByRecursion (IsElsewhere m) (before ++ left)
+left_away m done [] more begun left before e away =
+    subst (λ (xs : List Item). AllByRecursion (IsElsewhere m) (before ++ xs)) (sym (none_left begun left e))
+    (subst (AllByRecursion (IsElsewhere m)) (sym (append-nil before)) (all_front (IsElsewhere m) before (next_items done more) away))
+  where
+    none_left : (xs ys : List Item) → [] ≡ xs ++ ys → ys ≡ []
+    none_left [] ys e = sym e
+    none_left (x ∷ xs) ys e = cc
+left_away m done (line ∷ rest) more begun left before e away = away
+
+pub untouched_lifted : {table : List Row} {first script : Script} (b : BeginsAs first script) (c : Progress table first) (initial now : List Device) → Untouched c initial now → Untouched (lifted b c) initial now
+untouched_lifted {first = first} b c initial now kept = λ none m away.
+    kept (all_front FormatsNone first.lines b.rest (subst (AllByRecursion FormatsNone) b.lines none)) m (left_away m c.done c.rest b.rest c.begun c.left (map item_played c.played) c.parts away)
+
 -- ---- its lines are whole
 
 module _ (front ahead : List ℕ) (is : IsFront front) (few : length front ≤ most_used_bytes) where
@@ -139,18 +157,18 @@ module _ (front ahead : List ℕ) (is : IsFront front) (few : length front ≤ m
     fault_here {table} line fault (same, f) =
         let first : Script = script_from false first_place 1 (lines front) in
         let input : List ℕ = front ++ ahead in
-        let Q : (s : Script) → Progress table s → Type 0 = λ s c. (c.rest ≡ []) × (s.fault ≡ Some (line, fault)) × BoardsStand c.last initial now × HasFew s initial × (at_end ⊎ DoneIsWhole input c.done c.rest c.begun) in
+        let Q : (s : Script) → Progress table s → Type 0 = λ s c. (c.rest ≡ []) × (s.fault ≡ Some (line, fault)) × BoardsStand c.last initial now × HasFew s initial × ((at_end ⊎ DoneIsWhole input c.done c.rest c.begun) × Untouched c initial now) in
         let P : Script → Type 0 = λ s. PlayedUpTo table s initial before after (Q s) in
         let c = f.came in
         let all : DoneIsWhole input c.done c.rest c.begun = subst (λ (r : List Line). DoneIsWhole input c.done r c.begun) (append-nil c.rest) (done_whole c []) in
-        let made : P first = record { came = c; reported = f.reported; limits = f.limits; stood = f.stood; there = (f.there.0, f.there.1, f.there.2, f.there.3, inr all) } in
+        let made : P first = record { came = c; reported = f.reported; limits = f.limits; stood = f.stood; there = (f.there.0, f.there.1, f.there.2, f.there.3, (inr all, f.there.4)) } in
         (same, subst P (sym (begins_here.fault (line, fault) f.there.1)) made)
 
     pub stops_here : (table : List Row) (stop : Stop) → StopsThere table stop (script_from false first_place 1 (lines front)) number (span initial now before after) failed
         → (stop ≡ TooMany → lacking (length initial) (script_of (front ++ ahead)).lines ≡ None)
         → StopsInTaken table stop (script_of (front ++ ahead)) (bytes_taken (front ++ ahead) at_end) number (span initial now before after) failed
     stops_here table Memory f enough =
-        record { came = lifted begins_here f.came; text = f.text; more = f.more; reported = f.reported; whole = f.whole; limits = f.limits; stood = f.stood; there = (f.there.0, inr (done_whole f.came begins_here.rest)) }
+        record { came = lifted begins_here f.came; text = f.text; more = f.more; reported = f.reported; whole = f.whole; limits = f.limits; stood = f.stood; there = (f.there.0, (inr (done_whole f.came begins_here.rest), untouched_lifted begins_here f.came initial now f.there.1)) }
     stops_here table (BadInput line fault) f enough = fault_here line fault f
     stops_here table WriteFault (rose, f) enough = (
       rose,
@@ -162,7 +180,7 @@ module _ (front ahead : List ℕ) (is : IsFront front) (few : length front ≤ m
         whole = f.whole;
         limits = f.limits;
         stood = f.stood;
-        there = (left_there begins_here f.came initial now f.there.0, told_there begins_here f.came number f.text f.there.1, inr (done_whole f.came begins_here.rest));
+        there = (left_there begins_here f.came initial now f.there.0, told_there begins_here f.came number f.text f.there.1, (inr (done_whole f.came begins_here.rest), untouched_lifted begins_here f.came initial now f.there.2));
       },
     )
     stops_here table FlashFault f enough =
@@ -177,7 +195,7 @@ module _ (front ahead : List ℕ) (is : IsFront front) (few : length front ≤ m
           there = (
             (at.0, at.1 ++ b.rest, ap (λ (ls : List Line). ls ++ b.rest) at.2, at.3),
             stopped_line c.done c.rest b.rest c.left c.last initial now at.0 at.1 at.2 f.there.1,
-            inr (next_whole c b.rest at.0 at.1 at.2),
+            (inr (next_whole c b.rest at.0 at.1 at.2), untouched_lifted b c initial now f.there.2),
           );
         }
     stops_here table TooMany f enough =
@@ -188,7 +206,7 @@ module _ (front ahead : List ℕ) (is : IsFront front) (few : length front ≤ m
           reported = f.reported;
           limits = f.limits;
           stood = f.stood;
-          there = (many_on c.done c.rest b.rest c.begun c.left c.played c.parts f.there.0, f.there.1, enough refl, inr (done_whole c b.rest));
+          there = (many_on c.done c.rest b.rest c.begun c.left c.played c.parts f.there.0, f.there.1, enough refl, (inr (done_whole c b.rest), untouched_lifted b c initial now f.there.3));
         }
     stops_here table (NoBoard motes boards) f enough =
         let c = f.came in
@@ -198,7 +216,7 @@ module _ (front ahead : List ℕ) (is : IsFront front) (few : length front ≤ m
           reported = f.reported;
           limits = f.limits;
           stood = f.stood;
-          there = (f.there.0, (f.there.1.0 ++ b.rest, ap (λ (ls : List Line). ls ++ b.rest) f.there.1.1), f.there.2, f.there.3, inr (done_whole c b.rest));
+          there = (f.there.0, (f.there.1.0 ++ b.rest, ap (λ (ls : List Line). ls ++ b.rest) f.there.1.1), f.there.2, f.there.3, (inr (done_whole c b.rest), untouched_lifted b c initial now f.there.4));
         }
     stops_here table NoImage f enough =
         let c = f.came in
@@ -214,7 +232,7 @@ module _ (front ahead : List ℕ) (is : IsFront front) (few : length front ≤ m
             f.there.1,
             lacks_on c.last c.done c.rest b.rest c.begun c.left initial now c.parts f.there.2,
             λ more. told_there b c number (played_text c.played ++ more) (f.there.3 more),
-            inr (next_whole c b.rest at.0 at.1 at.2),
+            (inr (next_whole c b.rest at.0 at.1 at.2), untouched_lifted b c initial now f.there.4),
           );
         }
     stops_here table NotAVolume f enough =
@@ -229,6 +247,6 @@ module _ (front ahead : List ℕ) (is : IsFront front) (few : length front ≤ m
           there = (
             record { more = lacking.more ++ b.rest; next = ap (λ (ls : List Line). ls ++ b.rest) lacking.next; there = lacking.there },
             λ more. told_there b c number (played_text c.played ++ more) (f.there.1 more),
-            inr (next_whole c b.rest Boards lacking.more lacking.next),
+            (inr (next_whole c b.rest Boards lacking.more lacking.next), untouched_lifted b c initial now f.there.2),
           );
         }

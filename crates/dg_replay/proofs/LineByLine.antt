@@ -18,6 +18,7 @@ use Rattle.dg_replay.specs.Replaying.{TextReported, TextAnswer, Reached, StopsTh
 use Rattle.dg_replay.specs.declared.player.Player.{Player}
 use Rattle.dg_replay.specs.Stages.{based_on, done_so_far, replay_state, line_read, span}
 use Rattle.dg_replay.specs.declared.stop.Stop.{Stop}
+use Rattle.dg_replay.specs.Untouched.{TextKeepsBytes}
 use Rattle.dg_replay.proofs.FrontLemmas.{lines_front}
 use Rattle.dg_replay.proofs.GoldenLemmas.{ImageIsFound, image_found}
 use Rattle.dg_replay.proofs.LineRanges.{script_fits}
@@ -56,33 +57,33 @@ behind_more front text line given behind l more =
 
 -- one more line was played, and what is reported of it was written
 pub front_next : (front text line : List ℕ) (given : ℕ) (p q : Player) (initial old now : List Device) (before mid after : Option (List ℕ)) → FrontPlayed front given p initial old before mid → IsLine text line
-    → ((done : List Line) (w : Option World) (table : List Row) → Stood p done w initial old → TextReported (based_on table initial) text (done_so_far done w) (replay_state p old mid) (replay_state q now after)) → FrontPlayed (front ++ line) (given + 1) q initial now before after
-front_next front text line given p q initial old now before mid after f l told = record {
+    → TextKeepsBytes p.place text old now → ((done : List Line) (w : Option World) (table : List Row) → Stood p done w initial old → TextReported (based_on table initial) text (done_so_far done w) (replay_state p old mid) (replay_state q now after)) → FrontPlayed (front ++ line) (given + 1) q initial now before after
+front_next front text line given p q initial old now before mid after f l kept told = record {
   is = front_more front text line l;
   behind = behind_more front text line given f.behind l;
   reached = λ table ends more.
       let r = f.reached table ends (text ∷ more) in
       subst (λ (ts : List (List ℕ)). Reached table ends (script_from ends first_place 1 ts) more (given + 1 + 1) q (span initial now before after)) (sym (texts_next front text line more f.is l))
-      (reached_next ends (script_from ends first_place 1 (lines front ++ text ∷ more)) more text (given + 1) p q initial old now before mid after r (told r.done r.last table r.stood));
+      (reached_next ends (script_from ends first_place 1 (lines front ++ text ∷ more)) more text (given + 1) p q initial old now before mid after r kept (told r.done r.last table r.stood));
 }
 
 -- the replay stopped at the text that follows, whatever texts follow that
 pub text_stopped : (law : ImageIsFound) (stop : Stop) (front text : List ℕ) (given : ℕ) (p q : Player) (initial old now : List Device) (before mid after : Option (List ℕ)) (failed worse : Type 0) → (failed → worse)
-    → FrontPlayed front given p initial old before mid
+    → FrontPlayed front given p initial old before mid → TextKeepsBytes p.place text old now
     → ((done : List Line) (w : Option World) (table : List Row) → Stood p done w initial old → TextAnswer (based_on table initial) (Err stop) (line_read text (given + 1)) (done_so_far done w) (replay_state p old mid) (replay_state q now after) failed)
     → (table : List Row) (ends : Bool) (more : List (List ℕ)) → StopsThere table stop (script_from ends first_place 1 (lines front ++ text ∷ more)) (given + 1) (span initial now before after) worse
-text_stopped law stop front text given p q initial old now before mid after failed worse spread f answer table ends more =
+text_stopped law stop front text given p q initial old now before mid after failed worse spread f kept answer table ends more =
     let r = f.reached table ends (text ∷ more) in
     let script : Script = script_from ends first_place 1 (lines front ++ text ∷ more) in
     stopped_at stop ends script more text (given + 1) p q initial old now before mid after failed worse spread r
     (λ alone. image_found law ends script (text ∷ more) (given + 1) p initial old before mid (script_fits ends first_place 1 (lines front ++ text ∷ more)) r alone text initial now)
-    (answer r.done r.last table r.stood)
+    kept (answer r.done r.last table r.stood)
 
 -- the same at one more line
 pub front_stopped : (law : ImageIsFound) (stop : Stop) (front text line : List ℕ) (given : ℕ) (p q : Player) (initial old now : List Device) (before mid after : Option (List ℕ)) (failed worse : Type 0) → (failed → worse)
-    → FrontPlayed front given p initial old before mid → IsLine text line
+    → FrontPlayed front given p initial old before mid → IsLine text line → TextKeepsBytes p.place text old now
     → ((done : List Line) (w : Option World) (table : List Row) → Stood p done w initial old → TextAnswer (based_on table initial) (Err stop) (line_read text (given + 1)) (done_so_far done w) (replay_state p old mid) (replay_state q now after) failed)
     → (table : List Row) (ends : Bool) (more : List (List ℕ)) → StopsThere table stop (script_from ends first_place 1 (lines (front ++ line) ++ more)) (given + 1) (span initial now before after) worse
-front_stopped law stop front text line given p q initial old now before mid after failed worse spread f l answer table ends more =
+front_stopped law stop front text line given p q initial old now before mid after failed worse spread f l kept answer table ends more =
     subst (λ (ts : List (List ℕ)). StopsThere table stop (script_from ends first_place 1 ts) (given + 1) (span initial now before after) worse) (sym (texts_next front text line more f.is l))
-    (text_stopped law stop front text given p q initial old now before mid after failed worse spread f answer table ends more)
+    (text_stopped law stop front text given p q initial old now before mid after failed worse spread f kept answer table ends more)

@@ -12,7 +12,7 @@ use Rattle.dg_script.proofs.SpelledLemmas.{IsSpelled, is_spelled}
 use Rattle.dg_script.specs.declared.fault.LineFault.{LineFault}
 use Rattle.dg_script.specs.declared.place.Place.{Place}
 use Rattle.dg_script.specs.declared.line.Line.{Line}
-use Rattle.dg_script.specs.declared.line.Line.TheVariants.{Nothing, Motes, Golden, Boards, Link, Narrow, Image, Cut, Event as EventLine, Round, Sweeps}
+use Rattle.dg_script.specs.declared.line.Line.TheVariants.{Nothing, Motes, Golden, Boards, Link, Narrow, Image, Cut, Happens as EventLine, Round, Sweeps}
 use Rattle.dg_script.specs.Ranges.{EventInRange, CutInRange}
 use Rattle.dg_rounds.specs.Rounds.{round, sweep, times, paced, passed}
 use Rattle.dg_rules.specs.Premises.{ItemInRange, LinkFits}

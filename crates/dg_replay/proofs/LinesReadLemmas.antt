@@ -23,6 +23,7 @@ use Rattle.dg_replay.specs.declared.halt.Halt.{Halt}
 use Rattle.dg_replay.specs.declared.player.Player.{Player}
 use Rattle.dg_replay.specs.Stages.{based_on, done_so_far, replay_state, line_read, span, bytes_taken, failures}
 use Rattle.dg_replay.specs.declared.stop.Stop.{Stop}
+use Rattle.dg_replay.specs.Untouched.{TextKeepsBytes}
 use Rattle.dg_replay.proofs.EndLemmas.{script_all}
 use Rattle.dg_replay.proofs.FrontLemmas.{lines_front}
 use Rattle.dg_replay.proofs.LineByLine.{FrontPlayed, front_first, front_next}
@@ -58,7 +59,8 @@ lines_first left reader p initial before none unread first place = record {
 
 -- what is played of a text, from a player that stands behind lines
 abbrev pub PlaysText : Result (Unit {0}) Stop → (text : List ℕ) → (number : ℕ) → (p q : Player) → (initial old now : List Device) → (mid after : Option (List ℕ)) → (failed : Type 0) → Type 0
-PlaysText r text number p q initial old now mid after failed = (done : List Line) (w : Option World) (table : List Row) → Stood p done w initial old → TextAnswer (based_on table initial) r (line_read text number) (done_so_far done w) (replay_state p old mid) (replay_state q now after) failed
+PlaysText r text number p q initial old now mid after failed = TextKeepsBytes p.place text old now
+    × ((done : List Line) (w : Option World) (table : List Row) → Stood p done w initial old → TextAnswer (based_on table initial) r (line_read text number) (done_so_far done w) (replay_state p old mid) (replay_state q now after) failed)
 
 -- the bytes that came behind the lines
 pub joined : (a b c : Option (List ℕ)) (front ahead more : List ℕ) → Takes a b (front ++ ahead) → Takes b c more → Takes a c (front ++ (ahead ++ more))
@@ -88,7 +90,7 @@ next_line a b c old new more line number p q initial was now before mid after at
       numbered = ap (λ k. k + 1) i.numbered;
       counted = g.number ∙ ap (λ k. k + 1) i.counted;
       few = omega (arith, g.passed, long, i.few, some);
-      played = front_next i.front new.text line i.given p q initial was now before mid after i.played l (λ done w table s. told done w table s);
+      played = front_next i.front new.text line i.given p q initial was now before mid after i.played l told.0 (λ done w table s. told.1 done w table s);
     }
 
 pub lines_next : (a b c : Option (List ℕ)) (old new : Reading) (more : List ℕ) (number : ℕ) (p q : Player) (initial was now : List Device) (before mid after : Option (List ℕ)) (at_end failed : Type 0)
@@ -144,7 +146,7 @@ last_whole : (a c : Option (List ℕ)) (reads writes at_end : Type 0) (front lin
     → IsLine text line → PlaysText (Ok tt) text (given + 1) p q initial was now mid after failed → Comes a c (Ok (q, number + 1)) at_end reads initial now before after writes
 last_whole a c reads writes at_end front line text given number p q initial was now before mid after failed f numbered taken few ended l told =
     let input : List ℕ = front ++ line in
-    let next = front_next front text line given p q initial was now before mid after f l (λ done w table s. told done w table s) in
+    let next = front_next front text line given p q initial was now before mid after f l told.0 (λ done w table s. told.1 done w table s) in
     let same : number + 1 ≡ given + 1 + 1 = ap (λ k. k + 1) numbered in
     let behind : behind_lines (given + 1) input ≡ [] = ap (behind_lines (given + 1)) (sym (append-nil input)) ∙ next.behind [] in
     let script : script_from true first_place 1 (lines input ++ []) ≡ script_of input = ap (λ (ls : List (List ℕ)). script_from true first_place 1 ls) (append-nil (lines input)) ∙ sym (script_all input few) in (
@@ -165,7 +167,7 @@ last_part a c reads writes at_end front line text given number p q initial was n
     let input : List ℕ = front ++ line in
     let script : Script = script_from true first_place 1 (lines front ++ text ∷ []) in
     let next : (table : List Row) → Reached table true script [] (given + 1 + 1) q (span initial now before after) =
-    λ table. let r = f.reached table true (text ∷ []) in reached_next true script [] text (given + 1) p q initial was now before mid after r (told r.done r.last table r.stood) in
+    λ table. let r = f.reached table true (text ∷ []) in reached_next true script [] text (given + 1) p q initial was now before mid after r told.0 (told.1 r.done r.last table r.stood) in
     let same : number + 1 ≡ given + 1 + 1 = ap (λ k. k + 1) numbered in
     let spelled : script ≡ script_of input = ap (λ (ls : List (List ℕ)). script_from true first_place 1 ls) (sym (last_text front text line f.is l)) ∙ sym (script_all input few) in (
       input,
@@ -194,4 +196,4 @@ lines_last a b c reads writes old new more number p q initial was now before mid
     g.first.is
   where
     at_given : (text : List ℕ) (n given : ℕ) (p q : Player) (initial was now : List Device) (mid after : Option (List ℕ)) (failed : Type 0) → n ≡ given → PlaysText (Ok tt) text (n + 1) p q initial was now mid after failed → PlaysText (Ok tt) text (given + 1) p q initial was now mid after failed
-    at_given text n given p q initial was now mid after failed e told = λ done w table s. told done w table s
+    at_given text n given p q initial was now mid after failed e told = (told.0, λ done w table s. told.1 done w table s)

@@ -1,5 +1,5 @@
 -- The next line of a script: what was played with it, and how far a replay came.
-use Rattle.std.proofs.Common.{◌≡◌, ◌⊎◌, inl, inr, ℕ, ◌+◌, ◌≤◌, Bool, true, false, List, [], ◌∷◌, ◌++◌, length, map, take, drop, length-append, refl, append-nil, append_assoc, ap, sym, ◌∙◌, subst, arith}
+use Rattle.std.proofs.Common.{◌≡◌, ◌≢◌, ◌⊎◌, inl, inr, ℕ, ◌+◌, ◌≤◌, Bool, true, false, List, [], ◌∷◌, ◌++◌, length, map, take, drop, length-append, refl, append-nil, append_assoc, ap, sym, ◌∙◌, subst, arith}
 use Rattle.std.specs.Prelude.{Option, Some, None, Result, Ok, Err, IfSome, nat_lt, if◌then◌else◌}
 use Rattle.std.proofs.lemmas.List.{take-append-drop, map-append}
 use Rattle.dg_base.proofs.OutsideLemmas.{Puts-join, PutsFront-nil}
@@ -12,7 +12,7 @@ use Rattle.dg_script.specs.Script.{Script, script_from, with_line}
 use Rattle.dg_script.specs.declared.fault.LineFault.{LineFault}
 use Rattle.dg_script.specs.declared.place.Place.{Place}
 use Rattle.dg_script.specs.declared.line.Line.{Line}
-use Rattle.dg_script.specs.declared.line.Line.TheVariants.{Nothing, Motes, Golden, Boards, Link, Narrow, Image, Cut, Event as EventLine, Round, Sweeps}
+use Rattle.dg_script.specs.declared.line.Line.TheVariants.{Nothing, Motes, Golden, Boards, Link, Narrow, Image, Cut, Happens as EventLine, Round, Sweeps}
 use Rattle.dg_rules.specs.Sizes.{most_events}
 use Rattle.dg_rules.specs.World.{World}
 use Rattle.dg_rules.specs.Runs.{Played, Plays}
@@ -25,6 +25,8 @@ use Rattle.dg_replay.specs.Playing.{InWorld, RunsOn, RunsFrom, LineBegun, IsOneT
 use Rattle.dg_replay.specs.Replaying.{TextPlayed, TextReported, Reached, PlayedFront}
 use Rattle.dg_replay.specs.Stages.{based_on, done_so_far, replay_state, span}
 use Rattle.dg_replay.specs.declared.player.Player.{Player}
+use Rattle.dg_replay.specs.Untouched.{TextKeepsBytes}
+use Rattle.dg_replay.proofs.BytesLemmas.{keeps_next}
 use Rattle.dg_replay.proofs.ItemLemmas.{some_is, items_next, begin_next, plays_append, played_more, runs_from_none, run_counts}
 use Rattle.dg_world.specs.Mounted.{StandFor}
 use Rattle.dg_replay.proofs.StandLemmas.{few_in, grounded_next}
@@ -122,9 +124,13 @@ over (Some w0) (Some w) ps items v t (u, is, plays) (z, at, runs) =
     }
 
 -- where nothing is played, nothing is told
-pub none_told : (ps : List Played) → map item_played ps ≡ [] → played_text ps ≡ []
+none_told : (ps : List Played) → map item_played ps ≡ [] → played_text ps ≡ []
 none_told [] e = refl
 none_told (p ∷ ps) e = cc
+
+-- what is reported of items is reported of some
+pub begun_some : (o v : Option World) (ps : List Played) (begun : List Item) (t : List ℕ) → Over o ps begun v t → t ≢ [] → begun ≢ []
+begun_some o v ps begun t x some none = some (x.reported ∙ none_told x.now (x.are ∙ none))
 
 -- ---- the next line
 
@@ -152,8 +158,8 @@ few_items done ps items few = subst (λ (xs : List Item). events_among xs ≤ mo
 
 -- the next line was played, and what is reported of it was written
 pub reached_next : {table : List Row} (ends : Bool) (script : Script) (texts : List (List ℕ)) (text : List ℕ) (n : ℕ) (p q : Player) (initial old now : List Device) (before mid after : Option (List ℕ))
-    → (r : Reached table ends script (text ∷ texts) n p (span initial old before mid)) → TextReported (based_on table initial) text (done_so_far r.done r.last) (replay_state p old mid) (replay_state q now after) → Reached table ends script texts (n + 1) q (span initial now before after)
-reached_next ends script texts text n p q initial old now before mid after r t =
+    → (r : Reached table ends script (text ∷ texts) n p (span initial old before mid)) → TextKeepsBytes p.place text old now → TextReported (based_on table initial) text (done_so_far r.done r.last) (replay_state p old mid) (replay_state q now after) → Reached table ends script texts (n + 1) q (span initial now before after)
+reached_next ends script texts text n p q initial old now before mid after r kept t =
     let line = t.played.line in
     let to = t.played.to in
     let on = to.runs r.ground r.played r.grounded r.items r.run in
@@ -171,6 +177,7 @@ reached_next ends script texts text n p q initial old now before mid after r t =
       reported = subst (λ (xs : List ℕ). Puts before after xs) (ap (λ (xs : List ℕ). played_text r.played ++ xs) to.report_now ∙ sym on.reported) (Puts-join before mid after _ _ r.reported t.written);
       stood = to.stood;
       few = few_lines (r.done ++ line ∷ []) on.now on.items (few_next on.ground (r.done ++ line ∷ []) to.world on.now q now on.run to.stood.world);
+      untouched = keeps_next p.place r.done line initial old now r.stood.place r.untouched (kept line t.played.spelled);
       boards_enough = lacking_next (length initial) r.done line r.boards_enough to.boards_enough;
     }
 

@@ -8,7 +8,7 @@ use Rattle.dg_base.specs.declared.events.Event.TheVariants.{Tick, Hear, Last, Re
 use Rattle.dg_script.specs.Fitting.{StandsAt, verb_of_event}
 use Rattle.dg_script.specs.Verbs.{stands, is_later, is_second}
 use Rattle.dg_script.specs.declared.place.Place.{Place}
-use Rattle.dg_script.specs.declared.line.Line.TheVariants.{Golden, Boards, Link, Narrow, Image, Event as EventLine, Round, Sweeps}
+use Rattle.dg_script.specs.declared.line.Line.TheVariants.{Golden, Boards, Link, Narrow, Image, Happens as EventLine, Round, Sweeps}
 use Rattle.dg_rules.specs.World.{World}
 use Rattle.dg_world.specs.Worlds.{IsWorld}
 use Rattle.dg_world.specs.declared.world.World.{World as KeptWorld}
@@ -40,13 +40,13 @@ pub second_at : (place : Place) → is_second place ≡ true → (place.ready �
 second_at place e = let b = both_true (nat_lt 0 place.motes) (not place.ready) e in (not_true place.ready b.1, above 0 place.motes b.0)
 
 event_stands : (event : Event) (place : Place) → stands (verb_of_event event) place ≡ true → is_later place ≡ true
-event_stands (Tick mote dt draw) place h = h
-event_stands (Hear mote dt draw frame) place h = h
-event_stands (Last from to dt draw) place h = h
-event_stands (Reset mote dt draw) place h = h
-event_stands (Inject mote image version dt draw) place h = h
-event_stands (Order mote number image version dt draw) place h = h
-event_stands (Frame mote dt draw bytes) place h = h
+event_stands (Tick mote dt word) place h = h
+event_stands (Hear mote dt word frame) place h = h
+event_stands (Last from to dt word) place h = h
+event_stands (Reset mote dt word) place h = h
+event_stands (Inject mote image version dt word) place h = h
+event_stands (Order mote number image version dt word) place h = h
+event_stands (Frame mote dt word bytes) place h = h
 
 pub golden_at : (place : Place) (name : List ℕ) (used : ℕ) (content : List ℕ) → StandsAt place (Golden name used content) → (place.ready ≡ false) × (0 < place.motes)
 golden_at place name used content h = second_at place h.fits

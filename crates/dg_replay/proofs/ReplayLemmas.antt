@@ -12,7 +12,7 @@ use Rattle.dg_script.specs.Places.{first_place}
 use Rattle.dg_script.specs.Script.{Script, script_from}
 use Rattle.dg_script.specs.declared.place.Place.{Place}
 use Rattle.dg_script.specs.declared.line.Line.{Line}
-use Rattle.dg_script.specs.declared.line.Line.TheVariants.{Nothing, Motes, Golden, Boards, Link, Narrow, Image, Cut, Event as EventLine, Round, Sweeps}
+use Rattle.dg_script.specs.declared.line.Line.TheVariants.{Nothing, Motes, Golden, Boards, Link, Narrow, Image, Cut, Happens as EventLine, Round, Sweeps}
 use Rattle.dg_rules.specs.Sizes.{most_events}
 use Rattle.dg_rules.specs.World.{World}
 use Rattle.dg_rules.specs.Runs.{Played}
@@ -21,18 +21,21 @@ use Rattle.dg_replay.specs.Items.{UsesBoards, is_boards, begin_behind, beginning
 use Rattle.dg_replay.specs.Boards.{InSome, LacksImage, BoardsStand, StoppedIn}
 use Rattle.dg_replay.specs.Ending.{events_in}
 use Rattle.dg_base.specs.declared.answers.Status.TheVariants as status
-use Rattle.dg_replay.specs.Replayed.{Progress, AtTooMany, NoImageThere, BoardStoppedThere, BoardsLeft, item_played, played_text}
+use Rattle.dg_replay.specs.Replayed.{Progress, AtTooMany, NoImageThere, BoardStoppedThere, BoardsLeft, Untouched, item_played, played_text}
 use Rattle.dg_replay.specs.Playing.{InWorld, Stood, Ready, Joined, RunsOn, RunsFrom, LineBegun, IsOneTooMany}
 use Rattle.dg_replay.specs.Replaying.{TextPlayed, TextCut, TextRead, NothingDone, TextAnswer, CutAtStop, CutAtTooMany, CutAtImage, Reached, PlayedFront, PlayedUpTo, HasFew, ReportedBefore, StopsThere}
 use Rattle.dg_replay.specs.declared.player.Player.{Player}
 use Rattle.dg_replay.specs.declared.stop.Stop.{Stop}
+use Rattle.dg_replay.specs.Untouched.{TextKeepsBytes}
+use Rattle.dg_replay.proofs.BytesLemmas.{keep_read, keeps_next, untouched_done}
+use Rattle.dg_replay.proofs.UntouchedLemmas.{kept_begun, kept_done}
 use Rattle.dg_replay.specs.Stages.{based_on, done_so_far, replay_state, line_read, span}
 use Rattle.dg_replay.specs.declared.stop.Stop.TheVariants.{Memory, BadInput, WriteFault, FlashFault, TooMany, NoBoard, NoImage, NotAVolume}
 use Rattle.std.specs.List.{list_any}
 use Rattle.dg_replay.proofs.StandLemmas.{grounded_next}
 use Rattle.dg_replay.proofs.GoldenRuns.{lacking_none}
 use Rattle.dg_replay.proofs.LineRanges.{IsBehind, script_fits}
-use Rattle.dg_replay.proofs.NextLineLemmas.{script_line, script_fault, lacking_append, lacking_next, too_many_played, Over, none_told, few_next, few_items, front_put, front_kept, all_put, at_line, behind_line, in_line, run_of, over_tells, over_bounds, Choice, choose, IsBusy, busy, all_of_line, some_left, lacks_left, uses_or}
+use Rattle.dg_replay.proofs.NextLineLemmas.{script_line, script_fault, lacking_append, lacking_next, too_many_played, Over, begun_some, few_next, few_items, front_put, front_kept, all_put, at_line, behind_line, in_line, run_of, over_tells, over_bounds, Choice, choose, IsBusy, busy, all_of_line, some_left, lacks_left, uses_or}
 
 -- its boards are formatted
 begun_world : (P : World → Type 0) (p : Player) (w v : Option World) (items : List Item) (t : List ℕ) (now : List Device) → InSome v P → RunsFrom w items v t → InWorld p w now → IsBehind p.place
@@ -62,19 +65,15 @@ stop_within place (Sweeps n) motes begun [] v initial now parts s none = absurd 
 stopped_more : (motes : ℕ) (line : Line) (more : List Line) (left : List Item) (w : Option World) (initial now : List Device) → StoppedIn motes (line ∷ []) left w initial now → StoppedIn motes (line ∷ more) left w initial now
 stopped_more motes line more left w initial now s = record { stopped = s.stopped; there = s.there }
 
--- what is reported of items is reported of some
-begun_some : (o v : Option World) (ps : List Played) (begun : List Item) (t : List ℕ) → Over o ps begun v t → t ≢ [] → begun ≢ []
-begun_some o v ps begun t x some none = some (x.reported ∙ none_told x.now (x.are ∙ none))
-
 -- memory ran out in a line
 memory_begun : {table : List Row} (ends : Bool) (script : Script) (texts : List (List ℕ)) (text : List ℕ) (n : ℕ) (p : Player) (initial old now : List Device) (before mid after : Option (List ℕ)) (line : Line) (r : Reached table ends script (text ∷ texts) n p (span initial old before mid))
-    → line_of p.place text ≡ Ok line → (b : LineBegun r.done line r.last (λ v left t. BoardsStand v initial now)) → Choice b.begun b.left → after ≡ mid → PlayedFront table script initial before after (λ c text. BoardsStand c.last initial now × Unit {0})
-memory_begun ends script texts text n p initial old now before mid after line r spelled b (inl within) none =
+    → TextKeepsBytes p.place text old now → line_of p.place text ≡ Ok line → (b : LineBegun r.done line r.last (λ v left t. BoardsStand v initial now)) → Choice b.begun b.left → after ≡ mid → PlayedFront table script initial before after (λ c text. BoardsStand c.last initial now × Untouched c initial now)
+memory_begun ends script texts text n p initial old now before mid after line r kept spelled b (inl within) none =
     let o = run_of ends script texts text n p initial old before mid line r b in
     front_put script initial before mid after r.played b.text (in_line ends script texts text n p initial old before mid line r spelled b o within) r.reported
     (over_tells (beginning_of r.ground r.done).world b.world r.played b.begun b.text o) (front_kept mid after b.text none)
-    (over_bounds (length initial) r.ground r.done b.world r.played b.begun b.text r.boards_enough o) (λ uses. (r.grounded uses).1) (λ k. (b.there, tt))
-memory_begun ends script texts text n p initial old now before mid after line r spelled b (inr (left, (item, items, begun))) none =
+    (over_bounds (length initial) r.ground r.done b.world r.played b.begun b.text r.boards_enough o) (λ uses. (r.grounded uses).1) (λ k. (b.there, kept_begun ends script texts text n p initial old now before mid line r kept spelled b o within))
+memory_begun ends script texts text n p initial old now before mid after line r kept spelled b (inr (left, (item, items, begun))) none =
     let o = run_of ends script texts text n p initial old before mid line r b in
     let parts = b.parts ∙ ap (λ (xs : List Item). b.begun ++ xs) left ∙ append-nil b.begun in
     let does : IsBusy line = busy (place_behind first_place r.done) line item items (parts ∙ begun) in
@@ -83,7 +82,8 @@ memory_begun ends script texts text n p initial old now before mid after line r 
     (record {
       boards_enough = lacking_next (length initial) r.done line r.boards_enough (does.enough (length initial));
       few_events = (over_bounds (length initial) r.ground r.done b.world r.played b.begun b.text r.boards_enough o).few_events;
-    }) (λ uses. (grounded_next r.ground r.done line does.plain does.counts r.grounded uses).1) (λ k. (b.there, tt))
+    }) (λ uses. (grounded_next r.ground r.done line does.plain does.counts r.grounded uses).1)
+    (λ k. (b.there, untouched_done (all_of_line ends script texts text n p initial old before mid line b.begun b.world b.text r spelled parts does o) initial now (keeps_next p.place r.done line initial old now r.stood.place r.untouched (kept line spelled))))
 
 -- what is reported of the lines that were done before is what was told then
 told_front : (done all : List Line) (ps behind : List Played) → take (length done) all ≡ done → map item_played ps ≡ items_of done → played_text (take (length (items_of (take (length done) all))) (ps ++ behind)) ≡ played_text ps
@@ -124,8 +124,8 @@ told_line ends script texts text n p q initial old now before mid r t on told k 
 
 -- a line was played, and what is reported of it was not all written
 cut_told : {table : List Row} (ends : Bool) (script : Script) (texts : List (List ℕ)) (text : List ℕ) (n : ℕ) (p q : Player) (initial old now : List Device) (before mid after : Option (List ℕ))
-    → (r : Reached table ends script (text ∷ texts) n p (span initial old before mid)) → TextCut (based_on table initial) text (done_so_far r.done r.last) (replay_state p old mid) (replay_state q now after) → PlayedFront table script initial before after (λ c text. BoardsLeft status.WriteFault c initial now × ReportedBefore n c text × Unit {0})
-cut_told ends script texts text n p q initial old now before mid after r t =
+    → (r : Reached table ends script (text ∷ texts) n p (span initial old before mid)) → TextKeepsBytes p.place text old now → TextCut (based_on table initial) text (done_so_far r.done r.last) (replay_state p old mid) (replay_state q now after) → PlayedFront table script initial before after (λ c text. BoardsLeft status.WriteFault c initial now × ReportedBefore n c text × Untouched c initial now)
+cut_told ends script texts text n p q initial old now before mid after r kept t =
     let to = t.played.to in
     let line = t.played.line in
     let on = to.runs r.ground r.played r.grounded r.items r.run in
@@ -134,7 +134,11 @@ cut_told ends script texts text n p q initial old now before mid after r t =
     (record {
       boards_enough = lacking_next (length initial) r.done line r.boards_enough to.boards_enough;
       few_events = few_next on.ground (r.done ++ line ∷ []) to.world on.now q now on.run to.stood.world;
-    }) (λ uses. (on.grounded uses).1) (λ k. (inl to.stood.boards, told_line ends script texts text n p q initial old now before mid r t.played on t.played.reported k to.report_now, tt))
+    }) (λ uses. (on.grounded uses).1) (λ k. (
+      inl to.stood.boards,
+      told_line ends script texts text n p q initial old now before mid r t.played on t.played.reported k to.report_now,
+      untouched_done (behind_line ends script texts text n p q initial old now before mid r t.played on) initial now (keeps_next p.place r.done line initial old now r.stood.place r.untouched (kept line t.played.spelled)),
+    ))
 
 -- all that was told before a line that was begun was written
 told_begun : {table : List Row} {P : Option World → List Item → List ℕ → Type 0} (ends : Bool) (script : Script) (texts : List (List ℕ)) (text : List ℕ) (n : ℕ) (p : Player) (initial old : List Device) (before mid : Option (List ℕ)) (line : Line)
@@ -150,10 +154,10 @@ told_begun ends script texts text n p initial old before mid line r spelled b o 
 
 -- a line was begun, and so
 cut_begun : {table : List Row} (ends : Bool) (script : Script) (texts : List (List ℕ)) (text : List ℕ) (n : ℕ) (p : Player) (initial old now : List Device) (before mid after : Option (List ℕ)) (line : Line) (r : Reached table ends script (text ∷ texts) n p (span initial old before mid))
-    → line_of p.place text ≡ Ok line → (b : LineBegun r.done line r.last (λ v left t. CutAtStop r.done line v left t (span initial now mid after) ⊎ (CutAtTooMany v left t (span initial now mid after) ⊎ CutAtImage v left t (span initial now mid after))))
+    → TextKeepsBytes p.place text old now → line_of p.place text ≡ Ok line → (b : LineBegun r.done line r.last (λ v left t. CutAtStop r.done line v left t (span initial now mid after) ⊎ (CutAtTooMany v left t (span initial now mid after) ⊎ CutAtImage v left t (span initial now mid after))))
     → CutAtStop r.done line b.world b.left b.text (span initial now mid after) ⊎ (CutAtTooMany b.world b.left b.text (span initial now mid after) ⊎ CutAtImage b.world b.left b.text (span initial now mid after))
-    → (InSome b.world (λ u. LacksImage u b.left initial now) → UsesBoards r.done) → PlayedFront table script initial before after (λ c text. BoardsLeft status.WriteFault c initial now × ReportedBefore n c text × Unit {0})
-cut_begun ends script texts text n p initial old now before mid after line r spelled b (inl (some, stop, cut)) uses =
+    → (InSome b.world (λ u. LacksImage u b.left initial now) → UsesBoards r.done) → PlayedFront table script initial before after (λ c text. BoardsLeft status.WriteFault c initial now × ReportedBefore n c text × Untouched c initial now)
+cut_begun ends script texts text n p initial old now before mid after line r kept spelled b (inl (some, stop, cut)) uses =
     let o = run_of ends script texts text n p initial old before mid line r b in
     let within = stop_within (place_behind first_place r.done) line (motes_in r.done) b.begun b.left b.world initial now b.parts stop in
     front_put script initial before mid after r.played b.text (in_line ends script texts text n p initial old before mid line r spelled b o within) r.reported
@@ -162,15 +166,19 @@ cut_begun ends script texts text n p initial old now before mid after line r spe
     (λ k. (
       inr (inl (begun_some (beginning_of r.ground r.done).world b.world r.played b.begun b.text o some, stopped_more (motes_in r.done) line _ b.left b.world initial now stop)),
       told_begun ends script texts text n p initial old before mid line r spelled b o within k,
-      tt,
+      kept_begun ends script texts text n p initial old now before mid line r kept spelled b o within,
     ))
-cut_begun ends script texts text n p initial old now before mid after line r spelled b (inr (inl (full, boards, cut))) uses =
+cut_begun ends script texts text n p initial old now before mid after line r kept spelled b (inr (inl (full, boards, cut))) uses =
     let o = run_of ends script texts text n p initial old before mid line r b in
     front_put script initial before mid after r.played b.text (in_line ends script texts text n p initial old before mid line r spelled b o (λ none. absurd (some_left b.world b.left full none))) r.reported
     (over_tells (beginning_of r.ground r.done).world b.world r.played b.begun b.text o) cut
     (over_bounds (length initial) r.ground r.done b.world r.played b.begun b.text r.boards_enough o) (λ uses. (r.grounded uses).1)
-    (λ k. (inl boards, told_begun ends script texts text n p initial old before mid line r spelled b o (λ none. absurd (some_left b.world b.left full none)) k, tt))
-cut_begun ends script texts text n p initial old now before mid after line r spelled b (inr (inr (some, lacks, cut))) uses =
+    (λ k. (
+      inl boards,
+      told_begun ends script texts text n p initial old before mid line r spelled b o (λ none. absurd (some_left b.world b.left full none)) k,
+      kept_begun ends script texts text n p initial old now before mid line r kept spelled b o (λ none. absurd (some_left b.world b.left full none)),
+    ))
+cut_begun ends script texts text n p initial old now before mid after line r kept spelled b (inr (inr (some, lacks, cut))) uses =
     let o = run_of ends script texts text n p initial old before mid line r b in
     let within : b.left ≡ [] → b.begun ≡ [] = λ none. absurd (lacks_left b.world b.left initial now lacks none) in
     front_put script initial before mid after r.played b.text (in_line ends script texts text n p initial old before mid line r spelled b o within) r.reported
@@ -179,7 +187,7 @@ cut_begun ends script texts text n p initial old now before mid after line r spe
     (λ k. (
       inr (inr (inr (uses lacks, lacks))),
       told_begun ends script texts text n p initial old before mid line r spelled b o within k,
-      tt,
+      kept_begun ends script texts text n p initial old now before mid line r kept spelled b o within,
     ))
 
 -- all that was told before a line that was begun was told, whatever follows all that is reported of that
@@ -197,23 +205,29 @@ image_told ends script texts text n p initial old before mid line r spelled b o 
 
 -- an event of a line found no image to start
 image_begun : {table : List Row} (ends : Bool) (script : Script) (texts : List (List ℕ)) (text : List ℕ) (n : ℕ) (p : Player) (initial old now : List Device) (before mid after : Option (List ℕ)) (line : Line) (r : Reached table ends script (text ∷ texts) n p (span initial old before mid))
-    → line_of p.place text ≡ Ok line → UsesBoards r.done → LineBegun r.done line r.last (λ v left t. InSome v (λ u. LacksImage u left initial now) × Puts mid after t)
-    → PlayedUpTo table script initial before after (λ c. ((line : Line) × (more : List Line) × (c.rest ≡ line ∷ more)) × UsesBoards c.done × NoImageThere c initial now × ((more : List ℕ) → ReportedBefore n c (played_text c.played ++ more)) × Unit {0})
-image_begun ends script texts text n p initial old now before mid after line r spelled uses b =
+    → TextKeepsBytes p.place text old now → line_of p.place text ≡ Ok line → UsesBoards r.done → LineBegun r.done line r.last (λ v left t. InSome v (λ u. LacksImage u left initial now) × Puts mid after t)
+    → PlayedUpTo table script initial before after (λ c. ((line : Line) × (more : List Line) × (c.rest ≡ line ∷ more)) × UsesBoards c.done × NoImageThere c initial now × ((more : List ℕ) → ReportedBefore n c (played_text c.played ++ more)) × Untouched c initial now)
+image_begun ends script texts text n p initial old now before mid after line r kept spelled uses b =
     let o = run_of ends script texts text n p initial old before mid line r b in
     record {
       came = in_line ends script texts text n p initial old before mid line r spelled b o (λ none. absurd (lacks_left b.world b.left initial now b.there.0 none));
       reported = all_put before mid after r.played (r.played ++ o.now) b.text r.reported (over_tells (beginning_of r.ground r.done).world b.world r.played b.begun b.text o) b.there.1;
       limits = over_bounds (length initial) r.ground r.done b.world r.played b.begun b.text r.boards_enough o;
       stood = λ uses. (r.grounded uses).1;
-      there = ((line, _, refl), uses, b.there.0, λ more. image_told ends script texts text n p initial old before mid line r spelled b o (λ none. absurd (lacks_left b.world b.left initial now b.there.0 none)) more, tt);
+      there = (
+        (line, _, refl),
+        uses,
+        b.there.0,
+        λ more. image_told ends script texts text n p initial old before mid line r spelled b o (λ none. absurd (lacks_left b.world b.left initial now b.there.0 none)) more,
+        kept_begun ends script texts text n p initial old now before mid line r kept spelled b o (λ none. absurd (lacks_left b.world b.left initial now b.there.0 none)),
+      );
     }
 
 -- a board stopped in a line
 stop_begun : {table : List Row} (ends : Bool) (script : Script) (texts : List (List ℕ)) (text : List ℕ) (n : ℕ) (p : Player) (initial old now : List Device) (before mid after : Option (List ℕ)) (line : Line) (r : Reached table ends script (text ∷ texts) n p (span initial old before mid))
-    → line_of p.place text ≡ Ok line → UsesBoard line → LineBegun r.done line r.last (λ v left t. StoppedIn (motes_in r.done) (line ∷ []) left v initial now × Puts mid after t)
-    → PlayedUpTo table script initial before after (λ c. ((line : Line) × (more : List Line) × (c.rest ≡ line ∷ more) × UsesBoard line) × BoardStoppedThere c initial now × Unit {0})
-stop_begun ends script texts text n p initial old now before mid after line r spelled uses b =
+    → TextKeepsBytes p.place text old now → line_of p.place text ≡ Ok line → UsesBoard line → LineBegun r.done line r.last (λ v left t. StoppedIn (motes_in r.done) (line ∷ []) left v initial now × Puts mid after t)
+    → PlayedUpTo table script initial before after (λ c. ((line : Line) × (more : List Line) × (c.rest ≡ line ∷ more) × UsesBoard line) × BoardStoppedThere c initial now × Untouched c initial now)
+stop_begun ends script texts text n p initial old now before mid after line r kept spelled uses b =
     let o = run_of ends script texts text n p initial old before mid line r b in
     let stop = b.there.0 in
     record {
@@ -222,14 +236,18 @@ stop_begun ends script texts text n p initial old now before mid after line r sp
       reported = all_put before mid after r.played (r.played ++ o.now) b.text r.reported (over_tells (beginning_of r.ground r.done).world b.world r.played b.begun b.text o) b.there.1;
       limits = over_bounds (length initial) r.ground r.done b.world r.played b.begun b.text r.boards_enough o;
       stood = λ uses. (r.grounded uses).1;
-      there = ((line, _, refl, uses), stopped_more (motes_in r.done) line _ b.left b.world initial now stop, tt);
+      there = (
+        (line, _, refl, uses),
+        stopped_more (motes_in r.done) line _ b.left b.world initial now stop,
+        kept_begun ends script texts text n p initial old now before mid line r kept spelled b o (stop_within (place_behind first_place r.done) line (motes_in r.done) b.begun b.left b.world initial now b.parts stop),
+      );
     }
 
 -- there were too many events in it
 many_begun : {table : List Row} (ends : Bool) (script : Script) (texts : List (List ℕ)) (text : List ℕ) (n : ℕ) (p : Player) (initial old now : List Device) (before mid after : Option (List ℕ)) (line : Line) (r : Reached table ends script (text ∷ texts) n p (span initial old before mid))
-    → line_of p.place text ≡ Ok line → LineBegun r.done line r.last (λ v left t. InSome v (λ u. IsOneTooMany u left) × BoardsStand v initial now × Puts mid after t)
-    → PlayedUpTo table script initial before after (λ c. AtTooMany c.left c.played × BoardsStand c.last initial now × (lacking (length initial) script.lines ≡ None) × Unit {0})
-many_begun ends script texts text n p initial old now before mid after line r spelled b =
+    → TextKeepsBytes p.place text old now → line_of p.place text ≡ Ok line → LineBegun r.done line r.last (λ v left t. InSome v (λ u. IsOneTooMany u left) × BoardsStand v initial now × Puts mid after t)
+    → PlayedUpTo table script initial before after (λ c. AtTooMany c.left c.played × BoardsStand c.last initial now × (lacking (length initial) script.lines ≡ None) × Untouched c initial now)
+many_begun ends script texts text n p initial old now before mid after line r kept spelled b =
     let o = run_of ends script texts text n p initial old before mid line r b in
     record {
       came = in_line ends script texts text n p initial old before mid line r spelled b o (λ none. absurd (some_left b.world b.left b.there.0 none));
@@ -242,17 +260,17 @@ many_begun ends script texts text n p initial old now before mid after line r sp
         subst (λ (ls : List Line). lacking (length initial) ls ≡ None) r.lines
             (lacking_append (length initial) r.done (script_from ends p.place n (text ∷ texts)).lines r.boards_enough
             (lacking_none (length initial) p.place _ (begun_world (λ u. IsOneTooMany u b.left) p r.last b.world b.begun b.text old b.there.0 b.runs r.stood.world) (script_fits ends p.place n (text ∷ texts)))),
-        tt,
+        kept_begun ends script texts text n p initial old now before mid line r kept spelled b o (λ none. absurd (some_left b.world b.left b.there.0 none)),
       );
     }
 
 -- nothing was done behind the lines that were done
 nothing_more : {table : List Row} (ends : Bool) (script : Script) (texts : List (List ℕ)) (n : ℕ) (p : Player) (initial old now : List Device) (before mid after : Option (List ℕ))
-    → Reached table ends script texts n p (span initial old before mid) → NothingDone old now mid after → PlayedFront table script initial before after (λ c text. BoardsStand c.last initial now × Unit {0})
+    → Reached table ends script texts n p (span initial old before mid) → NothingDone old now mid after → PlayedFront table script initial before after (λ c text. BoardsStand c.last initial now × Untouched c initial now)
 nothing_more ends script texts n p initial old now before mid after r none =
     front_put script initial before mid after r.played [] (at_line ends script texts n p initial old before mid r) r.reported (sym (append-nil (played_text r.played))) (front_kept mid after [] none.written)
     (record { boards_enough = r.boards_enough; few_events = few_items r.done r.played r.items r.few })
-    (λ uses. (r.grounded uses).1) (λ k. (subst (λ (ds : List Device). BoardsStand r.last initial ds) (sym none.boards) r.stood.boards, tt))
+    (λ uses. (r.grounded uses).1) (λ k. (subst (λ (ds : List Device). BoardsStand r.last initial ds) (sym none.boards) r.stood.boards, kept_done ends script texts n p initial old now before mid r none.boards))
 
 -- where a line was read and not begun
 at_line_put : {table : List Row} (ends : Bool) (script : Script) (texts : List (List ℕ)) (n : ℕ) (p : Player) (initial old : List Device) (before mid after : Option (List ℕ)) {P : Progress table script → Type 0} → (r : Reached table ends script texts n p (span initial old before mid)) → after ≡ mid
@@ -287,11 +305,11 @@ image_uses r found line spelled begun left parts world told runs lacks =
 -- a stop at a line, behind the lines that were done
 pub stopped_at : {table : List Row} (stop : Stop) (ends : Bool) (script : Script) (texts : List (List ℕ)) (text : List ℕ) (n : ℕ) (p q : Player) (initial old now : List Device) (before mid after : Option (List ℕ)) (failed worse : Type 0) → (failed → worse)
     → (r : Reached table ends script (text ∷ texts) n p (span initial old before mid)) → ((UsesBoards r.done → ⊥) → TextRead text p (λ line. LineBegun r.done line r.last (λ v left t. InSome v (λ u. LacksImage u left initial now))) → ⊥)
-    → TextAnswer (based_on table initial) (Err stop) (line_read text n) (done_so_far r.done r.last) (replay_state p old mid) (replay_state q now after) failed → StopsThere table stop script n (span initial now before after) worse
-stopped_at Memory ends script texts text n p q initial old now before mid after failed worse spread r found (inl none) = nothing_more ends script (text ∷ texts) n p initial old now before mid after r none
-stopped_at Memory ends script texts text n p q initial old now before mid after failed worse spread r found (inr (t, none)) =
-    memory_begun ends script texts text n p initial old now before mid after t.line r t.spelled t.there (choose t.there.begun t.there.left) none
-stopped_at (BadInput line fault) ends script texts text n p q initial old now before mid after failed worse spread r found (same, spelled, none) =
+    → TextKeepsBytes p.place text old now → TextAnswer (based_on table initial) (Err stop) (line_read text n) (done_so_far r.done r.last) (replay_state p old mid) (replay_state q now after) failed → StopsThere table stop script n (span initial now before after) worse
+stopped_at Memory ends script texts text n p q initial old now before mid after failed worse spread r found kept (inl none) = nothing_more ends script (text ∷ texts) n p initial old now before mid after r none
+stopped_at Memory ends script texts text n p q initial old now before mid after failed worse spread r found kept (inr (t, none)) =
+    memory_begun ends script texts text n p initial old now before mid after t.line r kept t.spelled t.there (choose t.there.begun t.there.left) none
+stopped_at (BadInput line fault) ends script texts text n p q initial old now before mid after failed worse spread r found kept (same, spelled, none) =
     let bad = script_fault ends p.place n text texts fault spelled in
     let rest : (script_from ends p.place n (text ∷ texts)).lines ≡ [] = ap (λ (s : Script). s.lines) bad in (
       same,
@@ -300,18 +318,18 @@ stopped_at (BadInput line fault) ends script texts text n p q initial old now be
         sym r.fault ∙ ap (λ (s : Script). s.fault) bad ∙ ap (λ (k : ℕ). Some (k, fault)) (sym same),
         subst (λ (ds : List Device). BoardsStand r.last initial ds) (sym none.boards) r.stood.boards,
         all_done ends script (text ∷ texts) n p initial old before mid r rest,
-        tt,
+        kept_done ends script (text ∷ texts) n p initial old now before mid r none.boards,
       ),
     )
-stopped_at WriteFault ends script texts text n p q initial old now before mid after failed worse spread r found (rose, inl cut) =
-    (spread rose, cut_told ends script texts text n p q initial old now before mid after r cut)
-stopped_at WriteFault ends script texts text n p q initial old now before mid after failed worse spread r found (rose, inr t) =
-    (spread rose, cut_begun ends script texts text n p initial old now before mid after t.line r t.spelled t.there t.there.there (λ lacks. image_uses r found t.line t.spelled t.there.begun t.there.left t.there.parts t.there.world t.there.text t.there.runs lacks))
-stopped_at FlashFault ends script texts text n p q initial old now before mid after failed worse spread r found t =
-    stop_begun ends script texts text n p initial old now before mid after t.line r t.spelled t.there.0 t.there.1
-stopped_at TooMany ends script texts text n p q initial old now before mid after failed worse spread r found t =
-    many_begun ends script texts text n p initial old now before mid after t.line r t.spelled t.there
-stopped_at (NoBoard motes boards) ends script texts text n p q initial old now before mid after failed worse spread r found (t, told) =
+stopped_at WriteFault ends script texts text n p q initial old now before mid after failed worse spread r found kept (rose, inl cut) =
+    (spread rose, cut_told ends script texts text n p q initial old now before mid after r kept cut)
+stopped_at WriteFault ends script texts text n p q initial old now before mid after failed worse spread r found kept (rose, inr t) =
+    (spread rose, cut_begun ends script texts text n p initial old now before mid after t.line r kept t.spelled t.there t.there.there (λ lacks. image_uses r found t.line t.spelled t.there.begun t.there.left t.there.parts t.there.world t.there.text t.there.runs lacks))
+stopped_at FlashFault ends script texts text n p q initial old now before mid after failed worse spread r found kept t =
+    stop_begun ends script texts text n p initial old now before mid after t.line r kept t.spelled t.there.0 t.there.1
+stopped_at TooMany ends script texts text n p q initial old now before mid after failed worse spread r found kept t =
+    many_begun ends script texts text n p initial old now before mid after t.line r kept t.spelled t.there
+stopped_at (NoBoard motes boards) ends script texts text n p q initial old now before mid after failed worse spread r found kept (t, told) =
     let m = t.there in
     let spelled = t.spelled ∙ ap (λ (l : Line). Ok l) m.is_motes in
     at_line_put ends script (text ∷ texts) n p initial old before mid after r told (
@@ -319,12 +337,12 @@ stopped_at (NoBoard motes boards) ends script texts text n p q initial old now b
       (_, ap (λ (s : Script). s.lines) (script_line ends p.place n text texts (Motes motes) spelled)),
       subst (λ (ds : List Device). BoardsStand r.last initial ds) (sym m.same) r.stood.boards,
       r.boards_enough,
-      tt,
+      kept_done ends script (text ∷ texts) n p initial old now before mid r m.same,
     )
-stopped_at NoImage ends script texts text n p q initial old now before mid after failed worse spread r found t =
+stopped_at NoImage ends script texts text n p q initial old now before mid after failed worse spread r found kept t =
     let b = t.there in
-    image_begun ends script texts text n p initial old now before mid after t.line r t.spelled (image_uses r found t.line t.spelled b.begun b.left b.parts b.world b.text b.runs b.there.0) b
-stopped_at NotAVolume ends script texts text n p q initial old now before mid after failed worse spread r found (t, told) =
+    image_begun ends script texts text n p initial old now before mid after t.line r kept t.spelled (image_uses r found t.line t.spelled b.begun b.left b.parts b.world b.text b.runs b.there.0) b
+stopped_at NotAVolume ends script texts text n p q initial old now before mid after failed worse spread r found kept (t, told) =
     let spelled = t.spelled ∙ ap (λ (l : Line). Ok l) t.there.0 in
     at_line_put ends script (text ∷ texts) n p initial old before mid after r told (
       record { more = _; next = ap (λ (s : Script). s.lines) (script_line ends p.place n text texts Boards spelled); there = t.there.1 },
@@ -335,7 +353,7 @@ stopped_at NotAVolume ends script texts text n p q initial old now before mid af
         more = more;
         reported = ap (λ (xs : List ℕ). xs ++ more) (sym (told_all r.done r.played r.items));
       },
-      tt,
+      untouched_done (at_line ends script (text ∷ texts) n p initial old before mid r) initial now (λ none. keep_read (items_of r.done) initial now t.there.1.read),
     )
 
 -- the first line of the script is reached at once
@@ -366,6 +384,7 @@ reached_first {table} ends texts p initial before place =
         boards = refl;
       };
       few = omega arith;
+      untouched = λ none m away. refl;
       boards_enough = refl;
     }
 

@@ -20,7 +20,7 @@ use Rattle.dg_replay.specs.Ending.{Ending, Ends, Over, ending_from, ending_of, e
 use Rattle.dg_replay.specs.Around.{Around, around}
 use Rattle.dg_replay.specs.Promised.{Headline}
 use Rattle.dg_replay.specs.Done.{IsUnfailed, ReplaysAll, ReplayDone}
-use Rattle.dg_replay.specs.Replayed.{Progress, RunsTo, played_text, Wrote, BoardsLeft, NoVolumeThere, NoImageThere, IsComplete, AreVolumes, IsSettled, AreWhole, AllWhole, NextIsWhole, RestsOnTaken, IsCaused, Replayed}
+use Rattle.dg_replay.specs.Replayed.{Progress, Untouched, RunsTo, played_text, Wrote, BoardsLeft, NoVolumeThere, NoImageThere, IsComplete, AreVolumes, IsSettled, AreWhole, AllWhole, NextIsWhole, RestsOnTaken, IsCaused, Replayed}
 use Rattle.dg_replay.specs.Replaying.{Reached, PlayedUpTo, InputAnswer, StopEnds, EndsWith, ScriptReplayed}
 use Rattle.dg_replay.specs.declared.halt.Halt.{Halt}
 use Rattle.dg_replay.specs.declared.halt.Halt.TheVariants as halts
@@ -69,6 +69,7 @@ end_replayed {table} s input at_end old new before after reads writes ended few 
       limits = r.limits;
       stood = r.stood;
       boards = r.boards;
+      untouched = r.untouched;
       caused = caused_too s (ending_from (length old) false (script_of input)) reads writes (BoardStopped (motes_in r.came.done) old new) (NoVolumeThere r.came old new) ((UsesBoards r.came.done) × NoImageThere r.came old new) r.caused;
     } in
     subst (λ (b : Bool). ScriptReplayed table s (script_of input) (ending_from (length old) b (script_of input)) (bytes_taken input at_end) (span old new before after) (failures reads writes)) (sym (over_not input few)) made
@@ -85,10 +86,10 @@ over_replayed {table} s input at_end n p old new before mid after failed reads w
 
 -- a read failed
 pub failed_replayed : {table : List Row} (input : List ℕ) (at_end : Type 0) (ending : Ending) (old new : List Device) (before after : Option (List ℕ)) (reads writes : Type 0) → reads
-    → PlayedUpTo table (script_of input) old before after (λ c. (c.begun ≡ []) × BoardsStand c.last old new × AreWhole input c.done × AllWhole input c.done)
+    → PlayedUpTo table (script_of input) old before after (λ c. (c.begun ≡ []) × BoardsStand c.last old new × AreWhole input c.done × AllWhole input c.done × Untouched c old new)
     → ScriptReplayed table ReadFault (script_of input) ending (bytes_taken input at_end) (span old new before after) (failures reads writes)
 failed_replayed input at_end ending old new before after reads writes rose f =
-    record { came = f.came; text = played_text f.came.played; written = f.reported; report = (refl, f.there.0); read = (f.there.2, f.there.3); near = tt; limits = f.limits; stood = f.stood; boards = f.there.1; caused = rose }
+    record { came = f.came; text = played_text f.came.played; written = f.reported; report = (refl, f.there.0); read = (f.there.2, f.there.3); near = tt; limits = f.limits; stood = f.stood; boards = f.there.1; untouched = f.there.4; caused = rose }
 
 -- ---- how the lines that were played end
 
@@ -119,7 +120,7 @@ pub replayed_of : {table : List Row} (s : Status) (bytes : List ℕ) (a b : Arou
     → ScriptReplayed table s (script_of bytes) (ending_of (length a.boards) bytes) (bytes_taken bytes (AtEnd b.left)) (span a.boards b.boards a.written b.written) (failures (Rose a.reads b.reads) (Rose a.writes b.writes))
     → (s ≢ ReadFault → b.reads ≡ a.reads) → (s ≢ WriteFault → b.writes ≡ a.writes) → Replayed table s a b
 replayed_of s bytes a b taken few r reads writes =
-    record { input = bytes; taken = taken; few_bytes = few; came = r.came; text = r.text; written = r.written; report = r.report; read = r.read; near = r.near; limits = r.limits; stood = r.stood; boards = r.boards; caused = r.caused; read_faults = reads; write_faults = writes }
+    record { input = bytes; taken = taken; few_bytes = few; came = r.came; text = r.text; written = r.written; report = r.report; read = r.read; near = r.near; limits = r.limits; stood = r.stood; boards = r.boards; untouched = r.untouched; caused = r.caused; read_faults = reads; write_faults = writes }
 
 -- before the first line nothing is done
 none_bound : (boards : ℕ) → InBounds boards [] []
@@ -155,7 +156,7 @@ none_played {table} script = record {
 pub memory_unread : {table : List Row} (bytes : List ℕ) (lb la wb : Option (List ℕ)) (rb ra k : ℕ) (old : List Device) → Takes lb la bytes → length bytes ≤ (most_used_bytes + 1) → ra ≡ rb
     → Replayed table Memory (around lb rb wb k old) (around la ra wb k old)
 memory_unread bytes lb la wb rb ra k old taken few reads =
-    record { input = bytes; taken = taken; few_bytes = few; came = none_played (script_of bytes); text = []; written = Puts-nil wb; report = record { more = []; front = refl }; read = inr (none_whole bytes); near = tt; limits = none_bound (length old); stood = λ uses. absurd (cc); boards = refl; caused = tt; read_faults = λ other. reads; write_faults = λ other. refl }
+    record { input = bytes; taken = taken; few_bytes = few; came = none_played (script_of bytes); text = []; written = Puts-nil wb; report = record { more = []; front = refl }; read = inr (none_whole bytes); near = tt; limits = none_bound (length old); stood = λ uses. absurd (cc); boards = refl; untouched = λ none m away. refl; caused = tt; read_faults = λ other. reads; write_faults = λ other. refl }
 
 -- the status of an ending that is the script's
 by_status : {table : List Row} (s : Status) (input : List ℕ) (at_end : Type 0) (c : Progress table (script_of input)) (text : List ℕ) (r w b v i uses : Type 0) (n : ℕ) → RestsOnTaken s n (bytes_taken input at_end) c text → IsCaused s (ending_of n input) r w b v i → (r → ⊥) → (w → ⊥)

@@ -51,7 +51,7 @@ so_far_stops stop xs ys more whole first k k2 old mid now t0 t1 t2 s played is w
 unreported-append : (xs ys : List Event) → unreported (xs ++ ys) ≡ unreported xs ++ unreported ys
 unreported-append xs ys = map-append (λ (e : Event). Applies (record { event = e; cut = None }) false) xs ys
 
-unreported_join : (xs ys more all : List Event) → xs ++ (ys ++ more) ≡ all → unreported all ≡ unreported xs ++ (unreported ys ++ unreported more)
+pub unreported_join : (xs ys more all : List Event) → xs ++ (ys ++ more) ≡ all → unreported all ≡ unreported xs ++ (unreported ys ++ unreported more)
 unreported_join xs ys more all e =
     ap unreported (sym e) ∙ unreported-append xs (ys ++ more) ∙ ap (λ (zs : List Item). unreported xs ++ zs) (unreported-append ys more)
 
@@ -134,7 +134,7 @@ events_all all given left first kept old now report_before told s none =
 
 -- ---- what a loop over sweeps keeps
 
-times_next : (k n : ℕ) (xs : List Event) → k < n → times k xs ++ (xs ++ times (n - k - 1) xs) ≡ times n xs
+pub times_next : (k n : ℕ) (xs : List Event) → k < n → times k xs ++ (xs ++ times (n - k - 1) xs) ≡ times n xs
 times_next k n xs h =
     let e : k + (1 + (n - k - 1)) ≡ n = omega arith in
     ap (λ (ys : List Event). times k xs ++ (ys ++ times (n - k - 1) xs)) (sym (times_one xs)) ∙ ap (λ (ys : List Event). times k xs ++ ys) (sym (times_split 1 (n - k - 1) xs)) ∙ sym (times_split k (1 + (n - k - 1)) xs) ∙ ap (λ (m : ℕ). times m xs) e

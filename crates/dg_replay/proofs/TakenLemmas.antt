@@ -9,7 +9,7 @@ use Rattle.dg_script.specs.Places.{first_place, place_after}
 use Rattle.dg_script.specs.Script.{Script, script_from}
 use Rattle.dg_script.specs.declared.place.Place.{Place}
 use Rattle.dg_script.specs.declared.line.Line.{Line}
-use Rattle.dg_script.specs.declared.line.Line.TheVariants.{Nothing, Motes, Golden, Boards, Link, Narrow, Image, Cut, Event as EventLine, Round, Sweeps}
+use Rattle.dg_script.specs.declared.line.Line.TheVariants.{Nothing, Motes, Golden, Boards, Link, Narrow, Image, Cut, Happens as EventLine, Round, Sweeps}
 use Rattle.dg_script.specs.Items.{Item}
 use Rattle.dg_replay.specs.Items.{Ground, no_ground, Beginning, begin_by, begin_behind, motes_in, next_items}
 use Rattle.dg_world.specs.Boards.{BoardStopped}

@@ -29,6 +29,8 @@ use Rattle.dg_replay.specs.declared.player.Player.{Player}
 use Rattle.dg_replay.specs.declared.stop.Stop.{Stop}
 use Rattle.dg_replay.specs.Stages.{Basis, based_on, DoneSoFar, done_so_far, boards_reported, span, bytes_taken, failures}
 use Rattle.dg_replay.specs.declared.stop.Stop.TheVariants.{Memory, WriteFault}
+use Rattle.dg_replay.specs.Untouched.{LineKeepsBytes}
+use Rattle.dg_replay.proofs.BytesLemmas.{text_keeps, text_same}
 use Rattle.dg_replay.proofs.FollowingLemmas.{TextPlays, given_next}
 use Rattle.dg_replay.proofs.RunLemmas.{HeadlineLaw, replay_done, replayed_of}
 use Rattle.dg_replay.proofs.SilentLemmas.{nothing_played, cut_played, stop_as}
@@ -55,30 +57,36 @@ LinePlays r p q line report_before told old now = (basis : Basis) (so_far : Done
 
 -- no line was found
 pub text_unread : (stop : Stop) (text : List ℕ) (number : ℕ) (p : Player) (old : List Device) (before : Option (List ℕ)) (failed : Type 0) → NotFound p.place text number stop → TextPlays (Err stop) text number p p old old before before failed
-text_unread stop text number p old before failed missing = λ basis so_far s. not_found_as basis.table stop text number p p so_far.lines so_far.world basis.boards old before failed missing
+text_unread stop text number p old before failed missing = (text_same p.place text old old refl, λ basis so_far s. not_found_as basis.table stop text number p p so_far.lines so_far.world basis.boards old before failed missing)
 
 -- a line was played, its place went on, and what is reported of it was written, or a front of it
 pub text_played : (r : Result (Unit {0}) Stop) (text : List ℕ) (number : ℕ) (p q : Player) (place : Place) (old now : List Device) (line passed : Line) (cleared told shown : List ℕ) (before after : Option (List ℕ)) (failed : Type 0)
     → line_of p.place text ≡ Ok line → cleared ≡ [] → shown ≡ told → LinePlays (Ok tt) p (gone_on q passed) line cleared told old now → place_after q.place passed ≡ place_after p.place line → place ≡ place_after q.place passed
     → OnOk r (Puts before after shown) → OnErr r (PutsFront before after shown × (shown ≢ [])) → OnErr r ((r ≡ Err WriteFault) × failed)
-    → TextPlays r text number p (record q { place = place }) old now before after failed
-text_played r text number p q place old now line passed cleared told shown before after failed spelled clear same plays behind at ok cut cause = λ basis so_far s.
-    let there : PlayedLine basis (gone_on q passed) so_far line [] (boards_reported now told) = subst (λ (xs : List ℕ). PlayedLine basis (gone_on q passed) so_far line xs (boards_reported now told)) clear (plays basis so_far s) in
-    let to : PlayedLine basis (gone_on q passed) so_far line [] (boards_reported now shown) = subst (λ (xs : List ℕ). PlayedLine basis (gone_on q passed) so_far line [] (boards_reported now xs)) (sym same) there in
-    told_as basis.table r text number p (record q { place = place }) so_far.lines so_far.world basis.boards old now before after failed line shown spelled (passed_played basis.table q place so_far.lines so_far.world line passed [] shown basis.boards now at to) (at ∙ behind) ok cut cause
+    → LineKeepsBytes p.place line old now → TextPlays r text number p (record q { place = place }) old now before after failed
+text_played r text number p q place old now line passed cleared told shown before after failed spelled clear same plays behind at ok cut cause kept = (
+  text_keeps p.place text line old now spelled kept,
+  λ basis so_far s.
+      let there : PlayedLine basis (gone_on q passed) so_far line [] (boards_reported now told) = subst (λ (xs : List ℕ). PlayedLine basis (gone_on q passed) so_far line xs (boards_reported now told)) clear (plays basis so_far s) in
+      let to : PlayedLine basis (gone_on q passed) so_far line [] (boards_reported now shown) = subst (λ (xs : List ℕ). PlayedLine basis (gone_on q passed) so_far line [] (boards_reported now xs)) (sym same) there in
+      told_as basis.table r text number p (record q { place = place }) so_far.lines so_far.world basis.boards old now before after failed line shown spelled (passed_played basis.table q place so_far.lines so_far.world line passed [] shown basis.boards now at to) (at ∙ behind) ok cut cause,
+)
 
 -- a line was not played, or begun, and what is reported of that was written, or a front of it
 pub text_begun : (stop result : Stop) (text : List ℕ) (number : ℕ) (p q gone : Player) (old now : List Device) (line : Line) (cleared told shown : List ℕ) (before after : Option (List ℕ)) (failed : Type 0)
     → line_of p.place text ≡ Ok line → cleared ≡ [] → shown ≡ told → LinePlays (Err stop) p gone line cleared told old now → BegunWritten stop result shown before after failed
-    → TextPlays (Err result) text number p q old now before after failed
-text_begun stop result text number p q gone old now line cleared told shown before after failed spelled clear same plays written = λ basis so_far s.
-    let there : PlayedAs basis (Err stop) gone so_far line (boards_reported old []) (boards_reported now told) = subst (λ (xs : List ℕ). PlayedAs basis (Err stop) gone so_far line (boards_reported old xs) (boards_reported now told)) clear (plays basis so_far s) in
-    let to : PlayedAs basis (Err stop) gone so_far line (boards_reported old []) (boards_reported now shown) = subst (λ (xs : List ℕ). PlayedAs basis (Err stop) gone so_far line (boards_reported old []) (boards_reported now xs)) (sym same) there in
-    begun_as basis.table stop result text number p q so_far.lines so_far.world basis.boards old now before after failed line shown spelled (stop_as basis.table stop gone q so_far.lines so_far.world line [] shown basis.boards old now to) written
+    → LineKeepsBytes p.place line old now → TextPlays (Err result) text number p q old now before after failed
+text_begun stop result text number p q gone old now line cleared told shown before after failed spelled clear same plays written kept = (
+  text_keeps p.place text line old now spelled kept,
+  λ basis so_far s.
+      let there : PlayedAs basis (Err stop) gone so_far line (boards_reported old []) (boards_reported now told) = subst (λ (xs : List ℕ). PlayedAs basis (Err stop) gone so_far line (boards_reported old xs) (boards_reported now told)) clear (plays basis so_far s) in
+      let to : PlayedAs basis (Err stop) gone so_far line (boards_reported old []) (boards_reported now shown) = subst (λ (xs : List ℕ). PlayedAs basis (Err stop) gone so_far line (boards_reported old []) (boards_reported now xs)) (sym same) there in
+      begun_as basis.table stop result text number p q so_far.lines so_far.world basis.boards old now before after failed line shown spelled (stop_as basis.table stop gone q so_far.lines so_far.world line [] shown basis.boards old now to) written,
+)
 
 -- there was no memory for the place behind a line that left the boards as they were
 pub text_forgotten : (text : List ℕ) (number : ℕ) (p q : Player) (old now : List Device) (before : Option (List ℕ)) (failed : Type 0) → now ≡ old → TextPlays (Err Memory) text number p q old now before before failed
-text_forgotten text number p q old now before failed same = λ basis so_far s. inl (record { boards = same; written = refl })
+text_forgotten text number p q old now before failed same = (text_same p.place text old now same, λ basis so_far s. inl (record { boards = same; written = refl }))
 
 -- what is answered where the next line was given, and this became of it
 pub given_answer : (r : Result Bool Halt) (o : Option ℕ) (n : ℕ) (text : List ℕ) (old new : Reading) (at_end read_failed : Type 0) (Took : List ℕ → Type 0) (p q : Player) (was now : List Device) (before after : Option (List ℕ)) (failed : Type 0) → o ≡ Some n → text ≡ new.text

@@ -10,7 +10,7 @@ use Rattle.dg_script.specs.Items.{Item, Declares, Applies, item_by, place_behind
 use Rattle.dg_script.specs.Places.{first_place, none_narrow}
 use Rattle.dg_script.specs.declared.line.Line.{Line}
 use Rattle.dg_script.specs.declared.line.Line.TheVariants.{Nothing, Motes, Golden, Boards, Link, Narrow, Image, Cut}
-use Rattle.dg_script.specs.declared.line.Line.TheVariants.{Event as EventLine}
+use Rattle.dg_script.specs.declared.line.Line.TheVariants.{Happens as EventLine}
 use Rattle.dg_script.specs.declared.line.Line.TheVariants.{Round, Sweeps}
 use Rattle.dg_rules.specs.World.{World, first_world}
 
@@ -109,13 +109,13 @@ lacking boards (line ∷ lines) = lacking_by boards line (lacking boards lines)
 
 -- a line that brings no frame from outside
 abbrev pub BringsNone : Event → Type 0
-BringsNone (Tick mote dt draw) = Unit {0}
-BringsNone (Hear mote dt draw frame) = Unit {0}
-BringsNone (Last from to dt draw) = Unit {0}
-BringsNone (Reset mote dt draw) = Unit {0}
-BringsNone (Inject mote image version dt draw) = Unit {0}
-BringsNone (Order mote number image version dt draw) = Unit {0}
-BringsNone (Frame mote dt draw bytes) = ⊥
+BringsNone (Tick mote dt word) = Unit {0}
+BringsNone (Hear mote dt word frame) = Unit {0}
+BringsNone (Last from to dt word) = Unit {0}
+BringsNone (Reset mote dt word) = Unit {0}
+BringsNone (Inject mote image version dt word) = Unit {0}
+BringsNone (Order mote number image version dt word) = Unit {0}
+BringsNone (Frame mote dt word bytes) = ⊥
 
 abbrev pub IsNoFrame : Line → Type 0
 IsNoFrame Nothing = Unit {0}

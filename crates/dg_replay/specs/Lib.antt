@@ -6,6 +6,7 @@ pub mod Fronts
 pub mod Near
 pub mod Around
 pub mod Stages
+pub mod Untouched
 pub mod Replayed
 pub mod Promised
 pub mod Done

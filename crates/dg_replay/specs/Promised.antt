@@ -1,6 +1,6 @@
 -- What is promised of a script that was played so far, each with its premises (docs/PROMISES.md, "The report and what it
 -- tells").
-use Rattle.std.specs.Prelude.{◌≡◌, ◌≤◌, ℕ, Bool, List, [], ◌∷◌, Option, Some, IfSome}
+use Rattle.std.specs.Prelude.{◌≡◌, ◌≤◌, ℕ, Bool, List, [], ◌∷◌, ◌++◌, map, Option, Some, IfSome}
 use Rattle.std.specs.List.{AllByRecursion}
 use Rattle.dg_base.specs.declared.events.Step.{Step}
 use Rattle.dg_object.specs.Object.{Row}
@@ -16,59 +16,68 @@ use Rattle.dg_completion.specs.Ends.{EndsInRest, PagesCome, KeepsNewest}
 use Rattle.dg_completion.specs.Played.{RoundsBring}
 use Rattle.dg_rules.specs.Begins.{StoresAgree, HoldsTo, HoldsToThen}
 use Rattle.dg_replay.specs.Items.{IsNoFrame, UsesBoards, beginning_of}
-use Rattle.dg_replay.specs.Replayed.{Progress}
+use Rattle.dg_replay.specs.Replayed.{Progress, RunsTo, item_played}
+
+-- What was played first of a script, all or less, and the world that it leads to. What is promised of honest events is promised
+-- of each such part: an event that breaks the premise takes nothing from what was played before it.
+pub record PlayedFirst {table : List Row} {script : Script} (c : Progress table script) : Type 0 where
+  pub played : List Played
+  pub rest : List Played
+  pub last : Option World
+  pub parts : c.played ≡ played ++ rest
+  pub run : RunsTo (beginning_of c.ground c.done).world played last
 
 -- Each frame from outside is honest by the table of its moment. Where the boards are used as they are, what they stood for
--- agrees with the table, and no image version of that table is injected with another content. A script with golden
--- meets that.
-pub record FramesAreHonest {table : List Row} {script : Script} (c : Progress table script) : Type 0 where
-  pub frames : AllByRecursion IsHonestThen c.played
+-- agrees with the table, and no image version of that table is injected with another content, unless the rules refuse it. A
+-- script with golden meets that.
+pub record FramesAreHonest {table : List Row} {script : Script} {c : Progress table script} (f : PlayedFirst c) : Type 0 where
+  pub frames : AllByRecursion IsHonestThen f.played
   pub agree : UsesBoards c.done → StoresAgree c.ground.table c.ground.stores
-  pub hold : UsesBoards c.done → AllByRecursion (HoldsToThen c.ground.table) c.played
+  pub hold : UsesBoards c.done → AllByRecursion (HoldsToThen c.ground.table) f.played
 
 -- lines that bring no frame from outside meet that
 abbrev pub HonestWithoutFrames : {table : List Row} {script : Script} → Progress table script → Type 0
-HonestWithoutFrames c = AllByRecursion IsNoFrame c.done → (UsesBoards c.done → ⊥) → FramesAreHonest c
+HonestWithoutFrames c = AllByRecursion IsNoFrame c.done → (UsesBoards c.done → ⊥) → (f : PlayedFirst c) → FramesAreHonest f
 
 -- Where the next event is honest too, each store that the chip may stand for, wherever a stop comes in it,
 -- agrees with the table behind it.
-abbrev pub HalvesAgree : {table : List Row} {script : Script} → Progress table script → Type 0
-HalvesAgree c = (w : World) (step : Step) (reported : Bool) (more : List Item) → c.last ≡ Some w
-    → c.left ≡ Applies step reported ∷ more → HonestEvent w.table step.event
+abbrev pub HalvesAgree : {table : List Row} {script : Script} {c : Progress table script} → PlayedFirst c → Type 0
+HalvesAgree {c = c} f = (w : World) (step : Step) (reported : Bool) (more : List Item) → f.last ≡ Some w
+    → map item_played f.rest ++ c.left ≡ Applies step reported ∷ more → HonestEvent w.table step.event
     → (UsesBoards c.done → HoldsTo c.ground.table w step.event) → StopsAgree w step.event
 
 -- where it ends with a rest, pages came along the links as in a pipeline, by so many sweeps as the rest has
-abbrev pub RestsFillThePipeline : {table : List Row} {script : Script} → Progress table script → Type 0
-RestsFillThePipeline c = (w v : World) (t : ℕ) → c.last ≡ Some v → EndsInRest c.played w t v → PagesCome w t v
+abbrev pub RestsFillThePipeline : {table : List Row} {script : Script} {c : Progress table script} → PlayedFirst c → Type 0
+RestsFillThePipeline f = (w v : World) (t : ℕ) → f.last ≡ Some v → EndsInRest f.played w t v → PagesCome w t v
 
 -- where it ends with a rest of enough sweeps, every mote keeps the newest version of each image whole
-abbrev pub RestsComplete : {table : List Row} {script : Script} → Progress table script → Type 0
-RestsComplete c = (w v : World) (n k : ℕ) → c.last ≡ Some v → EndsInRest c.played w n v → IsEnough w k → k ≤ n → KeepsNewest v
+abbrev pub RestsComplete : {table : List Row} {script : Script} {c : Progress table script} → PlayedFirst c → Type 0
+RestsComplete f = (w v : World) (n k : ℕ) → f.last ≡ Some v → EndsInRest f.played w n v → IsEnough w k → k ≤ n → KeepsNewest v
 
--- What holds of a script that was played so far with honest frames.
-pub record HonestRun {table : List Row} {script : Script} (c : Progress table script) : Type 0 where
+-- What holds of what was played first, with honest frames.
+pub record HonestRun {table : List Row} {script : Script} {c : Progress table script} (f : PlayedFirst c) : Type 0 where
   -- each step is legal after those before it
-  pub legal : EachAfter IsLegal [] c.played
+  pub legal : EachAfter IsLegal [] f.played
   -- no version falls, and a complete page stays unless a newer version of its image replaces it,
   -- which a cut may have left half done
-  pub keeps : AllByRecursion KeepsAll c.played
+  pub keeps : AllByRecursion KeepsAll f.played
   -- what starts is a row of the table of images, byte for byte
-  pub starts : AllByRecursion StartsRow c.played
+  pub starts : AllByRecursion StartsRow f.played
   -- Every chip, also one that a cut left half done, every mote that is on and every frame that was sent agrees with the table:
   -- behind each item, and in the last world.
-  pub agrees : AllByRecursion LeavesAgreement c.played × IfSome c.last WorldAgrees
+  pub agrees : AllByRecursion LeavesAgreement f.played × IfSome f.last WorldAgrees
   -- so does the store of each half-done chip, wherever a stop comes in the next event
-  pub halves : HalvesAgree c
+  pub halves : HalvesAgree f
   -- Each round that was played between two neighbours, both wide or both narrow, both on and with room for three commits at
   -- its end, and in which no power was cut, brought the second one a page of the least image in which the first was ahead; and
   -- the 50 ticks with which one begins brought their mote to rest.
-  pub rounds : RoundsBring c.played
-  -- Where the run ends with an undisturbed rest of t sweeps, in which all motes are wide, or all are narrow and no image above 3
+  pub rounds : RoundsBring f.played
+  -- Where it ends with an undisturbed rest of t sweeps, in which all motes are wide, or all are narrow and no image above 3
   -- has a row, and in which every mote is on and has room for three commits at its end, a mote within j links of a whole image
   -- has t + 1 - j pages of it, or all, if every smaller image was whole everywhere.
-  pub pipeline : RestsFillThePipeline c
+  pub pipeline : RestsFillThePipeline f
   -- And where such a rest has enough sweeps, every mote keeps the newest version of every image whole.
-  pub completes : RestsComplete c
+  pub completes : RestsComplete f
 
 -- Behind each item, and in the last world, every store is consistent. What starts is golden, or an object that fits its
 -- own descriptor. And wherever a stop comes in the next event, each store that the chip may then stand for is consistent.
@@ -88,7 +97,7 @@ StoresStayConsistent c = (UsesBoards c.done → ⊥) → (golden : Row) (w : Wor
 
 -- All parts of it, for a script that was played so far.
 pub record Headline {table : List Row} {script : Script} (c : Progress table script) : Type 0 where
-  pub honest : FramesAreHonest c → HonestRun c
+  pub honest : (f : PlayedFirst c) → FramesAreHonest f → HonestRun f
   -- lines that bring no frame from outside meet that premise
   pub frames : HonestWithoutFrames c
   -- Whatever bytes its frames carry, every store is consistent: behind each item, in the last world, and wherever a stop comes in

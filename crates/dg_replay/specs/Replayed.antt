@@ -3,7 +3,7 @@
 use Rattle.std.specs.Prelude.{◌≡◌, ◌≢◌, ◌⊎◌, ℕ, ◌+◌, ◌<◌, ◌≤◌, false, List, [], ◌∷◌, ◌++◌, length, map, take, codes, slice_get}
 use Rattle.std.specs.Prelude.{Option, Some, None}
 use Rattle.std.specs.Str.Lines.{lines}
-use Rattle.std.specs.List.{flat_map}
+use Rattle.std.specs.List.{AllByRecursion, flat_map}
 use Rattle.dg_words.specs.Counts.{Rose}
 use Rattle.dg_base.specs.Outside.{Takes, Puts, AtEnd}
 use Rattle.dg_base.specs.declared.answers.Status.{Status}
@@ -25,6 +25,7 @@ use Rattle.dg_rules.specs.Runs.{Played, Plays}
 use Rattle.dg_rules.specs.Begins.{AreShaped}
 use Rattle.dg_script.specs.Items.{Item, items_of}
 use Rattle.dg_replay.specs.Near.{FewBytesBehind}
+use Rattle.dg_replay.specs.Untouched.{KeepBytes, FormatsNone}
 use Rattle.dg_volume.specs.Stands.{IsVolume}
 use Rattle.dg_world.specs.Mounted.{StandFor}
 use Rattle.dg_world.specs.Boards.{BoardStopped}
@@ -174,6 +175,12 @@ BoardsLeft NotAVolume c old new = NoVolumeThere c old new
 BoardsLeft NoImage c old new = NoImageThere c old new
 BoardsLeft _ c old new = BoardsStand c.last old new
 
+-- Where no line of the script formats the boards, as where it uses them as they are: the board of a mote at which no event was
+-- played, nor is left of the line that was begun, has its very bytes.
+abbrev pub Untouched : {table : List Row} {script : Script} → Progress table script → (old new : List Device) → Type 0
+Untouched {script = script} c old new =
+    AllByRecursion FormatsNone script.lines → KeepBytes (map item_played c.played ++ c.left) old new
+
 -- The status is the one that the rules give to the input. Memory alone is free, and a fault of the outside has risen its count.
 abbrev pub IsCaused : Status → Ending → (reads_failed writes_failed board_stopped no_volume no_image : Type 0) → Type 0
 IsCaused Memory ending r w b n i = Unit {0}
@@ -291,6 +298,8 @@ pub record Replayed (table : List Row) (status : Status) (a b : Around) : Type 0
   pub stood : UsesBoards came.done → StandFor (motes_in came.done) came.ground.stores a.boards
   -- the boards of the motes stand for that world's stores, but for one that is stopped, and the others are as before
   pub boards : BoardsLeft status came a.boards b.boards
+  -- boards at which nothing happens keep their very bytes, also at a `boards` line and in the reading at the end
+  pub untouched : Untouched came a.boards b.boards
   -- the status is the one that the rules give to the input, but for want of memory and faults of the outside
   pub caused : IsCaused status (ending_of (length a.boards) input) (Rose a.reads b.reads) (Rose a.writes b.writes)
       (BoardStopped (motes_in came.done) a.boards b.boards) (NoVolumeThere came a.boards b.boards) (UsesBoards came.done

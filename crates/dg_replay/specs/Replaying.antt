@@ -1,6 +1,7 @@
 -- What the steps of a replay do, text by text (docs/ARCHITECTURE.md, "The way of a script line").
 use Rattle.std.specs.Prelude.{◌≡◌, ◌≢◌, ◌⊎◌, ℕ, ◌+◌, ◌<◌, ◌≤◌, Bool, true, false, List, [], ◌∷◌, ◌++◌, length, map, Option, Some}
 use Rattle.std.specs.Prelude.{None, Result, Ok, Err}
+use Rattle.std.specs.List.{AllByRecursion}
 use Rattle.dg_base.specs.Outside.{Puts, PutsFront}
 use Rattle.dg_nor.specs.Device.{Device}
 use Rattle.dg_script.specs.Fitting.{StandsAt, FitsLine, IsPlayed, UsesBoard}
@@ -24,7 +25,9 @@ use Rattle.dg_replay.specs.Boards.{BoardsStand, StoppedIn, InSome, NoVolumeIn, L
 use Rattle.dg_replay.specs.Items.{Ground, UsesBoards, beginning_of, motes_in, lacking}
 use Rattle.dg_replay.specs.Ending.{Ending, NoBoards, TooManyEvents, FaultAt, script_of, events_in, InBounds, ending_line}
 use Rattle.dg_replay.specs.Near.{behind_lines, FewBytesBehind}
+use Rattle.dg_replay.specs.Untouched.{KeepBytes, FormatsNone}
 use Rattle.dg_replay.specs.Replayed.{Progress, ReachesEnding, AtTooMany, closing, Wrote, BoardsLeft, BoardStoppedThere, IsCaused}
+use Rattle.dg_replay.specs.Replayed.{Untouched}
 use Rattle.dg_replay.specs.Replayed.{RunsTo, item_played, played_text, report_of_lines, IsSettled, AreWhole, AllWhole}
 use Rattle.dg_replay.specs.Replayed.{NextIsWhole}
 use Rattle.dg_replay.specs.Replayed.{DoneIsWhole, RestsOnTaken, ReadsNear, NoVolumeThere, NoImageThere, no_volume_line}
@@ -167,6 +170,7 @@ pub record Reached (table : List Row) (ends : Bool) (script : Script) (texts : L
   pub reported : Puts s.before s.after (played_text played)
   pub stood : Stood p done last s.initial s.now
   pub few : events_in done ≤ most_events
+  pub untouched : AllByRecursion FormatsNone done → KeepBytes (items_of done) s.initial s.now
   -- there are boards for the motes of every line that was done
   pub boards_enough : lacking (length s.initial) done ≡ None
 
@@ -236,9 +240,10 @@ StopsAtText table NotAVolume script W number s failed =
     PlayedUpTo table script s.initial s.before s.after (λ c. NoVolumeThere c s.initial s.now
     × ((more : List ℕ) → ReportedBefore number c (played_text c.played ++ more)) × W c)
 
--- the same where nothing more is said of how far it came
+-- the same where what the boards keep is said
 abbrev pub StopsThere : (table : List Row) → Stop → (script : Script) → (number : ℕ) → Span → (write_failed : Type 0) → Type 0
-StopsThere table stop script number s failed = StopsAtText table stop script (λ c. Unit {0}) number s failed
+StopsThere table stop script number s failed =
+    StopsAtText table stop script (λ c. Untouched c s.initial s.now) number s failed
 
 -- Each line of which something was done is whole among these bytes, and so is the one at which the boards end the replay.
 abbrev pub IsWholeAt : Stop → (input : List ℕ) → (done rest : List Line) → (begun : List Item) → Type 0
@@ -251,7 +256,8 @@ IsWholeAt stop input done rest begun = DoneIsWhole input done rest begun
 abbrev pub StopsInTaken : (table : List Row) → Stop → (script : Script) → BytesTaken → (number : ℕ) → Span
     → (write_failed : Type 0) → Type 0
 StopsInTaken table stop script taken number s failed =
-    StopsAtText table stop script (λ c. taken.at_end ⊎ IsWholeAt stop taken.bytes c.done c.rest c.begun) number s failed
+    StopsAtText table stop script (λ c. (taken.at_end ⊎ IsWholeAt stop taken.bytes c.done c.rest c.begun)
+    × Untouched c s.initial s.now) number s failed
 
 -- where the rules end the script there, S holds
 abbrev pub ByRules : Stop → Type 0 → Type 0
@@ -267,7 +273,8 @@ InputAnswer table (Ok reached) taken s failed =
     × Reached table true (script_of taken.bytes) [] reached.1 reached.0 s
 InputAnswer table (Err ReadFault) taken s failed = failed.read × (length taken.bytes ≤ most_used_bytes)
     × PlayedUpTo table (script_of taken.bytes) s.initial s.before s.after (λ c. (c.begun ≡ [])
-    × BoardsStand c.last s.initial s.now × AreWhole taken.bytes c.done × AllWhole taken.bytes c.done)
+    × BoardsStand c.last s.initial s.now × AreWhole taken.bytes c.done × AllWhole taken.bytes c.done
+    × Untouched c s.initial s.now)
 InputAnswer table (Err TooLong) taken s failed = (length taken.bytes ≡ most_used_bytes + 1)
     × ((number : ℕ) × (p : Player) × Reached table false (script_of taken.bytes) [] number p s)
 InputAnswer table (Err (Stopped stop)) taken s failed =
@@ -280,6 +287,7 @@ pub record ReadyToEnd (table : List Row) (script : Script) (ending : Ending) (pi
   pub came : Progress table script
   pub reported : Puts s.before s.after (played_text came.played)
   pub boards : BoardsStand came.last s.initial s.now
+  pub untouched : Untouched came s.initial s.now
   pub all : ReachesEnding ending came
   pub line : closing ending came.last ≡ piece
   pub limits : InBounds (length s.initial) came.done (map item_played came.played)
@@ -330,5 +338,6 @@ pub record ScriptReplayed (table : List Row) (status : Status) (script : Script)
   pub limits : InBounds (length s.initial) came.done (map item_played came.played)
   pub stood : UsesBoards came.done → StandFor (motes_in came.done) came.ground.stores s.initial
   pub boards : BoardsLeft status came s.initial s.now
+  pub untouched : Untouched came s.initial s.now
   pub caused : IsCaused status ending failed.read failed.write (BoardStopped (motes_in came.done) s.initial s.now)
       (NoVolumeThere came s.initial s.now) ((UsesBoards came.done) × NoImageThere came s.initial s.now)

@@ -5,6 +5,7 @@ ghost use Rattle.dg_base.specs.Outside.{Puts, PutsFront};
 ghost use Rattle.dg_nor.specs.Device.{Device};
 ghost use Rattle.dg_script.specs.Report.{report_text};
 ghost use Rattle.dg_rules.specs.World.{World as RuleWorld};
+ghost use Rattle.dg_world.specs.Applied.{SameBoards};
 ghost use Rattle.dg_world.specs.Worlds.{IsWorld};
 ghost use Rattle.dg_world.specs.Boards.{WorldStands};
 ghost use Rattle.dg_replay.specs.Ending.{ending_line, FaultAt, NoBoards};
@@ -110,6 +111,7 @@ pub fn finish<K: Sink, N: Nor>(
         → WorldStands w initial (map N.device boards.old.items)
         → FinishesWith result w initial (map N.device boards.new.items) (K.written out.old) (K.written out.new)
         (Rose (K.faults out.old) (K.faults out.new)) }
+    ensures read { SameBoards (map N.device boards.old.items) (map N.device boards.new.items) }
     ensures counts { K.faults out.old ≤ K.faults out.new }
     ensures unfailed { result ≢ Status.WriteFault → K.faults out.new ≡ K.faults out.old }
 {

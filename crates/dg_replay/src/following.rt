@@ -7,6 +7,7 @@ ghost use Rattle.dg_replay.specs.Following.{HaltedAs, NextPlayed, AllAsBefore};
 ghost use Rattle.dg_replay.specs.Playing.{Stood, Ready};
 ghost use Rattle.dg_replay.specs.Replaying.{TextAnswer, InputAnswer};
 ghost use Rattle.dg_replay.specs.Stages.{Basis, DoneSoFar, replay_state, line_read, span, bytes_taken, failures};
+ghost use Rattle.dg_replay.specs.Untouched.{TextKeepsBytes};
 
 use crate::halt::Halt;
 use crate::items::LineReport;
@@ -50,12 +51,13 @@ fn play_next<S: Source, K: Sink, N: Nor, W: Watcher<N>>(
         (Rose (S.faults input.old) (S.faults input.new))
         (AllAsBefore player.old player.new (map N.device boards.old.items) (map N.device boards.new.items)
         (K.written out.old) (K.written out.new))
-        (λ r text. (basis : Basis) (behind : DoneSoFar)
+        (λ r text. TextKeepsBytes player.old.place text (map N.device boards.old.items) (map N.device boards.new.items)
+        × ((basis : Basis) (behind : DoneSoFar)
         → Stood player.old behind.lines behind.world basis.boards (map N.device boards.old.items)
         → TextAnswer basis r (line_read text (reader.old.number + 1)) behind
         (replay_state player.old (map N.device boards.old.items) (K.written out.old))
         (replay_state player.new (map N.device boards.new.items) (K.written out.new))
-        (Rose (K.faults out.old) (K.faults out.new))) }
+        (Rose (K.faults out.old) (K.faults out.new)))) }
     ensures reads { S.faults input.old ≤ S.faults input.new }
     ensures unread { result ≢ Err Halt.ReadFault → S.faults input.new ≡ S.faults input.old }
     ensures counts { K.faults out.old ≤ K.faults out.new }

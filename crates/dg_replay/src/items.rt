@@ -15,6 +15,7 @@ ghost use Rattle.dg_world.specs.Applying.{step_of};
 ghost use Rattle.dg_world.specs.Boards.{WorldStands};
 ghost use Rattle.dg_replay.specs.Playing.{ItemsPlayedAs, KeepsMotes};
 ghost use Rattle.dg_replay.specs.Stages.{boards_reported};
+ghost use Rattle.dg_replay.specs.Untouched.{KeepBytes};
 
 use crate::stop::Stop;
 use crate::watching::Watcher;
@@ -112,9 +113,11 @@ pub fn play_event<N: Nor, W: Watcher<N>>(
         → WorldStands w initial (map N.device boards.old.items)
         → ItemsPlayedAs result w (Applies (step_of event.now (option_copied cut.entry)) reported ∷ []) world.new initial
         line_report.old.text.items (boards_reported (map N.device boards.new.items) line_report.new.text.items) }
+    ensures kept { KeepBytes (Applies (step_of event.now (option_copied cut.entry)) reported ∷ []) (map N.device boards.old.items)
+        (map N.device boards.new.items) }
 {
     line_report.reports.clear();
-    match world.apply(boards, event, cut, reported, &mut line_report.reports) {
+    match world.apply_parts(boards, event, cut, reported, &mut line_report.reports) {
         Ok(()) => {
             let watcher = &mut *line_report.watcher;
             let reports = &line_report.reports;
@@ -147,6 +150,8 @@ pub fn play_round<N: Nor, W: Watcher<N>>(
         → WorldStands w initial (map N.device boards.old.items)
         → ItemsPlayedAs result w (unreported (round a b)) world.new initial line_report.old.text.items
         (boards_reported (map N.device boards.new.items) line_report.new.text.items) }
+    ensures kept { KeepBytes (unreported (round a b)) (map N.device boards.old.items)
+        (map N.device boards.new.items) }
 {
     let turns = RoundTurns::new(a, b);
     for position in 0..ROUND_EVENTS {
@@ -170,6 +175,8 @@ fn play_both<N: Nor, W: Watcher<N>>(
         → WorldStands w initial (map N.device boards.old.items)
         → ItemsPlayedAs result w (unreported (round a b ++ round b a)) world.new initial line_report.old.text.items
         (boards_reported (map N.device boards.new.items) line_report.new.text.items) }
+    ensures kept { KeepBytes (unreported (round a b ++ round b a)) (map N.device boards.old.items)
+        (map N.device boards.new.items) }
 {
     play_round(world, a, b, boards, line_report)?;
     play_round(world, b, a, boards, line_report)?;
@@ -190,6 +197,8 @@ fn play_sweep<N: Nor, W: Watcher<N>>(
         → WorldStands w initial (map N.device boards.old.items)
         → ItemsPlayedAs result w (unreported (sweep links.now)) world.new initial line_report.old.text.items
         (boards_reported (map N.device boards.new.items) line_report.new.text.items) }
+    ensures kept { KeepBytes (unreported (sweep links.now)) (map N.device boards.old.items)
+        (map N.device boards.new.items) }
 {
     for link in links {
         play_both(world, link.0, link.1, boards, line_report)?;
@@ -208,10 +217,12 @@ pub fn play_sweeps<N: Nor, W: Watcher<N>>(
 ) -> Result<(), Stop>
     requires { (w : RuleWorld) × IsWorld world.old (map N.device boards.old.items) w
         × AllByRecursion (LinkFits (length w.sites)) links.now }
-    ensures { (w : RuleWorld) (initial : List Device) → IsWorld world.old (map N.device boards.old.items) w
+    ensures played { (w : RuleWorld) (initial : List Device) → IsWorld world.old (map N.device boards.old.items) w
         → WorldStands w initial (map N.device boards.old.items)
         → ItemsPlayedAs result w (unreported (times count (sweep links.now))) world.new initial line_report.old.text.items
         (boards_reported (map N.device boards.new.items) line_report.new.text.items) }
+    ensures kept { KeepBytes (unreported (times count (sweep links.now))) (map N.device boards.old.items)
+        (map N.device boards.new.items) }
 {
     for _ in 0..count {
         play_sweep(world, links, boards, line_report)?;

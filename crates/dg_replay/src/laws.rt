@@ -29,15 +29,15 @@ pub fn first_lines_are_read_the_same()
         → BeginsAs (script_from false first_place 1 (lines front)) (script_of (front ++ more)) }
 {}
 
-/// However far a script was played: where each frame from outside is honest by the table of its moment, and boards that
-/// are used as they are agree with a table no image version of which is injected with another content, each step is
-/// legal, no version falls, what starts is a row of the table, and the chips, the motes that are on and the frames that
-/// were sent agree with the table, and so does the store of each half-done chip, wherever a stop comes in the next event.
-/// Lines that bring no frame meet that. Each round of two wide motes, or of two narrow ones, brought a page to one that was
-/// behind. Where what was played ends with an undisturbed rest, and all motes are wide, or all are narrow and no image above 3
-/// has a row, pages come along the links as in a pipeline, and after enough sweeps every mote keeps the newest version of every
-/// image whole. Whatever bytes frames carry, every store stays consistent, and what starts is golden, or fits its own
-/// descriptor.
+/// However far a script was played, and of each part that was played first: where each frame from outside is honest by
+/// the table of its moment, and boards that are used as they are agree with a table no image version of which is injected
+/// with another content, unless the rules refuse it, each step is legal, no version falls, what starts is a row of the
+/// table, and the chips, the motes that are on and the frames that were sent agree with the table, and so does the store
+/// of each half-done chip, wherever a stop comes in the next event. Lines that bring no frame meet that. Each round of
+/// two wide motes, or of two narrow ones, brought a page to one that was behind. Where what was played ends with an
+/// undisturbed rest, and all motes are wide, or all are narrow and no image above 3 has a row, pages come along the links
+/// as in a pipeline, and after enough sweeps every mote keeps the newest version of every image whole. Whatever bytes
+/// frames carry, every store stays consistent, and what starts is golden, or fits its own descriptor.
 pub fn replays_keep_the_rules()
     ensures { (table : List Row) (input : List ℕ) (c : Progress table (script_of input)) → Headline c }
 {

@@ -1,10 +1,11 @@
 //! Plays the lines of a script over its world.
-ghost use Rattle.std.specs.Prelude.{◌≡◌, ◌<◌, ◌≤◌, ℕ, true, false, List, Err, map, length, OnOk};
+ghost use Rattle.std.specs.Prelude.{◌≡◌, ◌<◌, ◌≤◌, ℕ, true, false, List, [], Err, map, length, OnOk};
 ghost use Rattle.dg_volume.specs.Store.{fresh};
 ghost use Rattle.dg_script.specs.Fitting.{IsGolden};
 ghost use Rattle.dg_script.specs.Places.{first_place, place_after};
 ghost use Rattle.dg_replay.specs.Playing.{Stood, MayPlay, gone_on, Counted, PlayedAs, FormattedAs, MountedAs, mount_stop};
 ghost use Rattle.dg_replay.specs.Stages.{Basis, DoneSoFar, boards_reported};
+ghost use Rattle.dg_replay.specs.Untouched.{KeepBytes, LineKeepsBytes};
 
 use crate::items::{LineReport, play_event, play_image, play_round, play_sweeps};
 use crate::stop::Stop;
@@ -155,6 +156,7 @@ fn play_boards<N: Nor>(alloc: Global, player: &mut Player, boards: &mut Vec<N>) 
         → PlayedAs basis result (gone_on player.new Line.Boards) behind Line.Boards
         (boards_reported (map N.device boards.old.items) text) (boards_reported (map N.device boards.new.items) text) }
     ensures place { player.new.place ≡ player.old.place }
+    ensures kept { KeepBytes [] (map N.device boards.old.items) (map N.device boards.new.items) }
 {
     let motes = player.place.motes;
     let world = match World::new(alloc, motes) {
@@ -194,6 +196,7 @@ pub fn play_line<N: Nor, W: Watcher<N>>(
         (boards_reported (map N.device boards.new.items) line_report.new.text.items) }
     ensures behind { place_after player.new.place line.new ≡ place_after player.old.place line.old }
     ensures linked { (a b : ℕ) → line.new ≡ Line.Link a b → boards.new.items ≡ boards.old.items }
+    ensures kept { LineKeepsBytes player.old.place line.old (map N.device boards.old.items) (map N.device boards.new.items) }
 {
     match line {
         Line::Nothing | Line::Cut(_) => Ok(()),
@@ -217,7 +220,7 @@ pub fn play_line<N: Nor, W: Watcher<N>>(
             let (name, content) = (take_bytes(alloc, name), take_bytes(alloc, content));
             play_image(&mut player.world, image_version, name, content, line_report)
         }
-        Line::Event(event) => {
+        Line::Happens(event) => {
             let cut = player.place.cut.as_ref();
             play_event(&mut player.world, event, cut, true, boards, line_report)
         }

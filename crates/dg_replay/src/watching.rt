@@ -72,7 +72,7 @@ pub fn show_line<N, W: Watcher<N>>(line: &Line, motes: u8, boards: &Vec<N>, watc
         Line::Nothing
         | Line::Cut(_)
         | Line::Image { .. }
-        | Line::Event(_)
+        | Line::Happens(_)
         | Line::Link(..)
         | Line::Narrow(_)
         | Line::Round(..)

@@ -30,7 +30,7 @@ use Rattle.dg_rules.proofs.StepLemmas.{step_count}
 use Rattle.dg_script.specs.Items.{Item, Declares, Applies, items_of, items_behind, place_behind}
 use Rattle.dg_script.specs.Places.{first_place, none_narrow}
 use Rattle.dg_script.specs.declared.line.Line.{Line}
-use Rattle.dg_script.specs.declared.line.Line.TheVariants.{Link, Event as EventLine}
+use Rattle.dg_script.specs.declared.line.Line.TheVariants.{Link, Happens as EventLine}
 use Rattle.dg_script.specs.declared.place.Place.{Place}
 use Rattle.dg_script.specs.declared.report.Report.{Report}
 use Rattle.dg_world.specs.Alone.{uncut}
@@ -155,16 +155,16 @@ keeps_behind laws motes table stores links played v count h run ranges =
     (plays (λ past w. Keeps motes w) (PlayedInRange motes) (λ past p. LeavesGolden p) (played_keeps laws motes) [] played (first_world table links none_narrow stores) v run ranges first).0.holds
 
 -- no part of a plan finds that there is no image
-part_finds : GoldenLaws → (motes : ℕ) (w : World) (part : Part) (dt draw : ℕ) (bytes : List ℕ) (old new : List Device) → Keeps motes w → PartFits motes part → FindsNoImage w (event_of part dt draw bytes) old new → ⊥
-part_finds laws motes w (Begins m) dt draw bytes old new k fits none =
-    laws.goes_on w none.world (uncut (Reset m dt draw)) k.golden (record { event = subst (λ (n : ℕ). m < n) (sym k.count) fits; cut = tt }) none.ends
-part_finds laws motes w (Looks m) dt draw bytes old new k fits none = frame_runs w m dt draw bytes none.ends.deed none.ends.goes none.ends.none
-part_finds laws motes w (Ticks m) dt draw bytes old new k fits none =
-    laws.goes_on w none.world (uncut (Tick m dt draw)) k.golden (record { event = subst (λ (n : ℕ). m < n) (sym k.count) fits; cut = tt }) none.ends
+part_finds : GoldenLaws → (motes : ℕ) (w : World) (part : Part) (dt word : ℕ) (bytes : List ℕ) (old new : List Device) → Keeps motes w → PartFits motes part → FindsNoImage w (event_of part dt word bytes) old new → ⊥
+part_finds laws motes w (Begins m) dt word bytes old new k fits none =
+    laws.goes_on w none.world (uncut (Reset m dt word)) k.golden (record { event = subst (λ (n : ℕ). m < n) (sym k.count) fits; cut = tt }) none.ends
+part_finds laws motes w (Looks m) dt word bytes old new k fits none = frame_runs w m dt word bytes none.ends.deed none.ends.goes none.ends.none
+part_finds laws motes w (Ticks m) dt word bytes old new k fits none =
+    laws.goes_on w none.world (uncut (Tick m dt word)) k.golden (record { event = subst (λ (n : ℕ). m < n) (sym k.count) fits; cut = tt }) none.ends
 
 next_finds : GoldenLaws → (motes : ℕ) (s : Moment) (left : List Part) (old : List Device) (new : Remains) → Keeps motes s.world → AllByRecursion (PartFits motes) left → EndsInNext stop.NoImage s left old new → ⊥
 next_finds laws motes s left old new k fits n =
-    part_finds laws motes s.world n.part n.dt n.draw n.bytes old new.boards k (subst (AllByRecursion (PartFits motes)) n.is fits).0 n.ends
+    part_finds laws motes s.world n.part n.dt n.word n.bytes old new.boards k (subst (AllByRecursion (PartFits motes)) n.is fits).0 n.ends
 
 -- a service ends so only where its last part did
 pub ends_found : (why : Option Stop) (answer : Status) (profile : NetProfile) (boards : ℕ) (s : Moment) (c : Course) (last : Moment) (first : List Device) (after : Outside) (text : List ℕ)

@@ -21,7 +21,7 @@ use Rattle.dg_script.specs.Sizes.{most_motes}
 use Rattle.dg_script.specs.Fitting.{FitsEvent, FitsLine}
 use Rattle.dg_script.specs.Spelling.{line_text}
 use Rattle.dg_script.specs.declared.line.Line.{Line}
-use Rattle.dg_script.specs.declared.line.Line.TheVariants.{Event as EventLine}
+use Rattle.dg_script.specs.declared.line.Line.TheVariants.{Happens as EventLine}
 use Rattle.dg_world.specs.Alone.{IsAlone, IsReset, CountKeeps}
 use Rattle.dg_world.specs.declared.outcome.Fault.{Fault}
 use Rattle.dg_world.specs.declared.outcome.Fault.TheVariants as fault
@@ -102,23 +102,23 @@ setting_done motes mote event (Err f) out p q e s = absurd (never_done f out e)
 
 -- whose board this is, among the motes that began
 inside : (motes : ℕ) (event : Event) → IsAlone event → mote_of event < motes → mote_of event < begun_behind motes event
-inside motes (Tick m dt draw) alone known = known
-inside motes (Frame m dt draw bytes) alone known = known
-inside motes (Reset m dt draw) alone known = omega arith
-inside motes (Hear m dt draw frame) alone known = absurd alone
-inside motes (Last from to dt draw) alone known = absurd alone
-inside motes (Inject m image version dt draw) alone known = absurd alone
-inside motes (Order m number image version dt draw) alone known = absurd alone
+inside motes (Tick m dt word) alone known = known
+inside motes (Frame m dt word bytes) alone known = known
+inside motes (Reset m dt word) alone known = omega arith
+inside motes (Hear m dt word frame) alone known = absurd alone
+inside motes (Last from to dt word) alone known = absurd alone
+inside motes (Inject m image version dt word) alone known = absurd alone
+inside motes (Order m number image version dt word) alone known = absurd alone
 
 -- others begin behind the event where they begin before it
 before_it : (motes : ℕ) (event : Event) (m : ℕ) → IsAlone event → begun_behind motes event ≤ m → begun_before motes event ≤ m
-before_it motes (Tick k dt draw) m alone h = h
-before_it motes (Frame k dt draw bytes) m alone h = h
-before_it motes (Reset k dt draw) m alone h = omega arith
-before_it motes (Hear k dt draw frame) m alone h = absurd alone
-before_it motes (Last from to dt draw) m alone h = absurd alone
-before_it motes (Inject k image version dt draw) m alone h = absurd alone
-before_it motes (Order k number image version dt draw) m alone h = absurd alone
+before_it motes (Tick k dt word) m alone h = h
+before_it motes (Frame k dt word bytes) m alone h = h
+before_it motes (Reset k dt word) m alone h = omega arith
+before_it motes (Hear k dt word frame) m alone h = absurd alone
+before_it motes (Last from to dt word) m alone h = absurd alone
+before_it motes (Inject k image version dt word) m alone h = absurd alone
+before_it motes (Order k number image version dt word) m alone h = absurd alone
 
 -- ---- the board, of which something is known
 
@@ -301,13 +301,13 @@ link_counts why old new is counts = subst (λ (w : Stop). FailuresBy {T = Unit {
 
 -- the line of an event fits where there may be more motes
 fits_event : (motes : ℕ) (event : Event) → motes ≤ most_motes → FitsEvent motes event → FitsEvent most_motes event
-fits_event motes (Tick m dt draw) few h = (omega (arith, few, h.0), h.1)
-fits_event motes (Hear m dt draw frame) few h = ((omega (arith, few, h.0.0), h.0.1), h.1)
-fits_event motes (Last from to dt draw) few h = (record { first = omega (arith, few, h.0.first); second = omega (arith, few, h.0.second); two = h.0.two }, h.1)
-fits_event motes (Reset m dt draw) few h = (omega (arith, few, h.0), h.1)
-fits_event motes (Inject m image version dt draw) few h = ((omega (arith, few, h.0.0), h.0.1), h.1)
-fits_event motes (Order m number image version dt draw) few h = ((omega (arith, few, h.0.0), h.0.1, h.0.2, h.0.3, h.0.4), h.1)
-fits_event motes (Frame m dt draw bytes) few h = ((omega (arith, few, h.0.0), h.0.1), h.1)
+fits_event motes (Tick m dt word) few h = (omega (arith, few, h.0), h.1)
+fits_event motes (Hear m dt word frame) few h = ((omega (arith, few, h.0.0), h.0.1), h.1)
+fits_event motes (Last from to dt word) few h = (record { first = omega (arith, few, h.0.first); second = omega (arith, few, h.0.second); two = h.0.two }, h.1)
+fits_event motes (Reset m dt word) few h = (omega (arith, few, h.0), h.1)
+fits_event motes (Inject m image version dt word) few h = ((omega (arith, few, h.0.0), h.0.1), h.1)
+fits_event motes (Order m number image version dt word) few h = ((omega (arith, few, h.0.0), h.0.1, h.0.2, h.0.3, h.0.4), h.1)
+fits_event motes (Frame m dt word bytes) few h = ((omega (arith, few, h.0.0), h.0.1), h.1)
 
 pub fits_more : (motes : ℕ) (line : Line) → motes ≤ most_motes → IsEventLine line → FitsLine motes line → FitsLine most_motes line
 fits_more motes line few told fits =

@@ -13,7 +13,7 @@ use Rattle.dg_link.specs.Inboxes.{Inboxes}
 use Rattle.dg_nor.specs.Device.{Device}
 use Rattle.dg_volume.specs.Stands.{IsVolume}
 use Rattle.dg_script.specs.Spelling.{line_text}
-use Rattle.dg_script.specs.declared.line.Line.TheVariants.{Event as EventLine}
+use Rattle.dg_script.specs.declared.line.Line.TheVariants.{Happens as EventLine}
 use Rattle.dg_serve.specs.Services.{Part, Moment, PartDone, PartsDone, course}
 use Rattle.dg_serve.specs.Traces.{UnwrittenLast, event_lines}
 use Rattle.dg_serve.specs.Endings.{Remains, remains, EndsInNext, LosesFrame, FoundBy, PartlyHanded, StopLeaves}
@@ -118,7 +118,7 @@ next_more why s left more old new n = record {
   bytes = n.bytes;
   fits = n.fits;
   dt = n.dt;
-  draw = n.draw;
+  word = n.word;
   after = n.after;
   reads = n.reads;
   takes = n.takes;

@@ -104,25 +104,25 @@ table_of : List Row → Does → List Row
 table_of old (Refuses why) = old
 table_of old (Goes d) = d.table
 
-ticked_table : (w : World) (s : Store) (o : Option Running) (now draw : ℕ) → table_of w.table (tick_does w s o now draw) ≡ w.table
+ticked_table : (w : World) (s : Store) (o : Option Running) (now word : ℕ) → table_of w.table (tick_does w s o now word) ≡ w.table
 unfolding table_of
-ticked_table w s None now draw = refl
-ticked_table w s (Some r) now draw = refl
+ticked_table w s None now word = refl
+ticked_table w s (Some r) now word = refl
 
-heard_table : (w : World) (s : Store) (o : Option Running) (now draw : ℕ) (bytes : List ℕ) → table_of w.table (hear_by w s o now draw bytes) ≡ w.table
+heard_table : (w : World) (s : Store) (o : Option Running) (now word : ℕ) (bytes : List ℕ) → table_of w.table (hear_by w s o now word bytes) ≡ w.table
 unfolding table_of
-heard_table w s None now draw bytes = refl
-heard_table w s (Some r) now draw bytes = refl
+heard_table w s None now word bytes = refl
+heard_table w s (Some r) now word bytes = refl
 
 does_table : (w : World) (event : Event) → IsAlone event → table_of w.table (does w event) ≡ w.table
 unfolding does table_of
-does_table w (Tick m dt draw) alone = ticked_table w (store_at w m) (site w m).runs _ draw
-does_table w (Reset m dt draw) alone = refl
-does_table w (Frame m dt draw bytes) alone = heard_table w (store_at w m) (site w m).runs _ draw bytes
-does_table w (Hear m dt draw frame) alone = absurd alone
-does_table w (Last from to dt draw) alone = absurd alone
-does_table w (Inject m image version dt draw) alone = absurd alone
-does_table w (OrderEvent m number image version dt draw) alone = absurd alone
+does_table w (Tick m dt word) alone = ticked_table w (store_at w m) (site w m).runs _ word
+does_table w (Reset m dt word) alone = refl
+does_table w (Frame m dt word bytes) alone = heard_table w (store_at w m) (site w m).runs _ word bytes
+does_table w (Hear m dt word frame) alone = absurd alone
+does_table w (Last from to dt word) alone = absurd alone
+does_table w (Inject m image version dt word) alone = absurd alone
+does_table w (OrderEvent m number image version dt word) alone = absurd alone
 
 sent_table : (w : World) (m : ℕ) (sent : Option Message) → (and_sent w m sent).table ≡ w.table
 sent_table w m None = refl
@@ -156,22 +156,22 @@ abbrev pub HonestAlone : List Row → Event → Type 0
 HonestAlone table event = IsAlone event × HonestEvent table event
 
 true_event : (table : List Row) (w : World) (event : Event) → w.table ≡ table → HonestAlone table event → TrueEvent w event
-true_event table w (Tick m dt draw) same h = tt
-true_event table w (Reset m dt draw) same h = tt
-true_event table w (Frame m dt draw bytes) same h = subst (λ (rows : List Row). IsHonest rows bytes) (sym same) h.1
-true_event table w (Hear m dt draw frame) same h = tt
-true_event table w (Last from to dt draw) same h = tt
-true_event table w (Inject m image version dt draw) same h = absurd h.0
-true_event table w (OrderEvent m number image version dt draw) same h = tt
+true_event table w (Tick m dt word) same h = tt
+true_event table w (Reset m dt word) same h = tt
+true_event table w (Frame m dt word bytes) same h = subst (λ (rows : List Row). IsHonest rows bytes) (sym same) h.1
+true_event table w (Hear m dt word frame) same h = tt
+true_event table w (Last from to dt word) same h = tt
+true_event table w (Inject m image version dt word) same h = absurd h.0
+true_event table w (OrderEvent m number image version dt word) same h = tt
 
 holds_event : (table : List Row) (w : World) (event : Event) → w.table ≡ table → HonestAlone table event → HoldsTo table w event
-holds_event table w (Tick m dt draw) same h = tt
-holds_event table w (Reset m dt draw) same h = tt
-holds_event table w (Frame m dt draw bytes) same h = subst (λ (rows : List Row). IsHonest rows bytes) (sym same) h.1
-holds_event table w (Hear m dt draw frame) same h = tt
-holds_event table w (Last from to dt draw) same h = tt
-holds_event table w (Inject m image version dt draw) same h = absurd h.0
-holds_event table w (OrderEvent m number image version dt draw) same h = tt
+holds_event table w (Tick m dt word) same h = tt
+holds_event table w (Reset m dt word) same h = tt
+holds_event table w (Frame m dt word bytes) same h = subst (λ (rows : List Row). IsHonest rows bytes) (sym same) h.1
+holds_event table w (Hear m dt word frame) same h = tt
+holds_event table w (Last from to dt word) same h = tt
+holds_event table w (Inject m image version dt word) same h = absurd h.0
+holds_event table w (OrderEvent m number image version dt word) same h = tt
 
 module _ (keeps : KeepsAgreement) (table : List Row) (motes : ℕ) where
   stepped : (s t : Moment) (event : Event) → IsHonestSo table motes s → EventInRange motes event → HonestAlone table event → Steps motes s event t → IsHonestSo table motes t
@@ -187,18 +187,18 @@ module _ (keeps : KeepsAgreement) (table : List Row) (motes : ℕ) where
       }
 
   -- the clock changes nothing of it
-  applied : (s t : Moment) (event : (dt draw : ℕ) → Event) (es : List Event) → IsHonestSo table motes s → ((dt draw : ℕ) → EventInRange motes (event dt draw)) → ((dt draw : ℕ) → HonestAlone table (event dt draw)) → EventApplied motes s event es t → AllByRecursion (HonestAlone table) es × IsHonestSo table motes t
+  applied : (s t : Moment) (event : (dt word : ℕ) → Event) (es : List Event) → IsHonestSo table motes s → ((dt word : ℕ) → EventInRange motes (event dt word)) → ((dt word : ℕ) → HonestAlone table (event dt word)) → EventApplied motes s event es t → AllByRecursion (HonestAlone table) es × IsHonestSo table motes t
   applied s t event es h range honest a =
       let between : IsHonestSo table motes a.between = subst (IsHonestSo table motes) (sym a.reads.same) (record { agrees = h.agrees; same = h.same; count = h.count; waits = h.waits }) in
-      (subst (AllByRecursion (HonestAlone table)) (sym a.one) (honest a.dt a.draw, tt), stepped a.between t (event a.dt a.draw) between (range a.dt a.draw) (honest a.dt a.draw) a.steps)
+      (subst (AllByRecursion (HonestAlone table)) (sym a.one) (honest a.dt a.word, tt), stepped a.between t (event a.dt a.word) between (range a.dt a.word) (honest a.dt a.word) a.steps)
 
   part_honest : (part : Part) (s t : Moment) (es : List Event) → PartFits motes part → IsHonestSo table motes s → PartDone motes part s es t → AllByRecursion (HonestAlone table) es × IsHonestSo table motes t
-  part_honest (Begins m) s t es fits h done = applied s t (λ dt draw. Reset m dt draw) es h (λ dt draw. fits) (λ dt draw. (tt, tt)) done
-  part_honest (Ticks m) s t es fits h done = applied s t (λ dt draw. Tick m dt draw) es h (λ dt draw. fits) (λ dt draw. (tt, tt)) done
+  part_honest (Begins m) s t es fits h done = applied s t (λ dt word. Reset m dt word) es h (λ dt word. fits) (λ dt word. (tt, tt)) done
+  part_honest (Ticks m) s t es fits h done = applied s t (λ dt word. Tick m dt word) es h (λ dt word. fits) (λ dt word. (tt, tt)) done
   part_honest (Looks m) s t es fits h (inl none) = (subst (AllByRecursion (HonestAlone table)) (sym none.nothing) tt, subst (IsHonestSo table motes) (sym none.same) h)
   part_honest (Looks m) s t es fits h (inr one) =
       let x = taken_honest table m one.bytes s.inboxes one.taken h.waits one.takes in
-      applied (record s { inboxes = one.taken }) t (λ dt draw. Frame m dt draw one.bytes) es (record { agrees = h.agrees; same = h.same; count = h.count; waits = x.1 }) (λ dt draw. (fits, one.fits)) (λ dt draw. (tt, x.0)) one.heard
+      applied (record s { inboxes = one.taken }) t (λ dt word. Frame m dt word one.bytes) es (record { agrees = h.agrees; same = h.same; count = h.count; waits = x.1 }) (λ dt word. (fits, one.fits)) (λ dt word. (tt, x.0)) one.heard
 
   pub parts_honest : (parts : List Part) (s t : Moment) (es : List Event) → AllByRecursion (PartFits motes) parts → IsHonestSo table motes s → PartsDone motes s parts es t → AllByRecursion (HonestAlone table) es × IsHonestSo table motes t
   unfolding PartsDone
@@ -209,11 +209,11 @@ module _ (keeps : KeepsAgreement) (table : List Row) (motes : ℕ) where
       (subst (AllByRecursion (HonestAlone table)) (sym done.4) (all_both (HonestAlone table) done.1 done.2 first.0 rest.0), rest.1)
 
   -- what the next part takes
-  pub next_honest : (part : Part) (dt draw : ℕ) (bytes : List ℕ) (s : Moment) (after : Option Inboxes) → IsHonestSo table motes s → TakesFor (event_of part dt draw bytes) s.inboxes after → HoldsTo table s.world (event_of part dt draw bytes)
-  next_honest (Begins m) dt draw bytes s after h takes = tt
-  next_honest (Ticks m) dt draw bytes s after h takes = tt
-  next_honest (Looks m) dt draw bytes s after h takes =
-      holds_event table s.world (Frame m dt draw bytes) h.same (tt, (taken_honest table m bytes s.inboxes after h.waits takes).0)
+  pub next_honest : (part : Part) (dt word : ℕ) (bytes : List ℕ) (s : Moment) (after : Option Inboxes) → IsHonestSo table motes s → TakesFor (event_of part dt word bytes) s.inboxes after → HoldsTo table s.world (event_of part dt word bytes)
+  next_honest (Begins m) dt word bytes s after h takes = tt
+  next_honest (Ticks m) dt word bytes s after h takes = tt
+  next_honest (Looks m) dt word bytes s after h takes =
+      holds_event table s.world (Frame m dt word bytes) h.same (tt, (taken_honest table m bytes s.inboxes after h.waits takes).0)
 
 -- ---- what was played
 

@@ -16,21 +16,21 @@ use Rattle.dg_serve.specs.Services.{Moment, ReadsClock, Steps, EventApplied, lat
 use Rattle.dg_serve.specs.Standings.{Standing, StandsFor}
 use Rattle.dg_serve.specs.declared.timeline.Timeline.{Timeline}
 
--- a timing: the clock was read, and a draw taken
-pub record Timed (old new : Timeline) (dt draw : ℕ) (told told_then : Option Answers) : Type 0 where
+-- a timing: the clock was read, and a word taken
+pub record Timed (old new : Timeline) (dt word : ℕ) (told told_then : Option Answers) : Type 0 where
   pub dt_is : dt ≡ later old.reading new.reading
   pub rises : old.reading ≤ new.reading
   pub answered : Answered told told_then new.reading
-  pub draw_is : (draw, generator_of new.draws) ≡ pcg32 (generator_of old.draws)
-  pub fits : IsTimed dt draw
+  pub draw_is : (word, generator_of new.draws) ≡ pcg32 (generator_of old.draws)
+  pub fits : IsTimed dt word
   pub moment : new.moment ≡ old.moment + dt
 
 -- the moment between the timing and the event
 abbrev pub drawn : Moment → Timeline → Option Answers → Moment
 drawn s new told_then = at_reading s new.reading told_then (generator_of new.draws)
 
-pub reads_of : (s : Moment) (old new : Timeline) (dt draw : ℕ) (told told_then : Option Answers) → old.reading ≡ s.reading → generator_of old.draws ≡ s.draws → told ≡ s.clock → Timed old new dt draw told told_then → ReadsClock s dt draw (drawn s new told_then)
-reads_of s old new dt draw told told_then reading draws clock d = record {
+pub reads_of : (s : Moment) (old new : Timeline) (dt word : ℕ) (told told_then : Option Answers) → old.reading ≡ s.reading → generator_of old.draws ≡ s.draws → told ≡ s.clock → Timed old new dt word told told_then → ReadsClock s dt word (drawn s new told_then)
+reads_of s old new dt word told told_then reading draws clock d = record {
   answer = new.reading;
   fits = d.fits;
   rises = omega (arith, reading, d.rises);
@@ -41,9 +41,9 @@ reads_of s old new dt draw told told_then reading draws clock d = record {
 }
 
 -- the code stands for the moment between them, its time ahead by the event's
-pub stands_drawn : (motes begun : ℕ) (links : List (ℕ × ℕ)) (first : List Device) (s : Moment) (p q : Standing) (dt draw : ℕ) → StandsFor motes begun links 0 first s p → Timed p.service.timeline q.service.timeline dt draw p.clock q.clock → q.boards ≡ p.boards → q.service.motes.items ≡ p.service.motes.items → q.inboxes ≡ p.inboxes
+pub stands_drawn : (motes begun : ℕ) (links : List (ℕ × ℕ)) (first : List Device) (s : Moment) (p q : Standing) (dt word : ℕ) → StandsFor motes begun links 0 first s p → Timed p.service.timeline q.service.timeline dt word p.clock q.clock → q.boards ≡ p.boards → q.service.motes.items ≡ p.service.motes.items → q.inboxes ≡ p.inboxes
     → StandsFor motes begun links dt first (drawn s q.service.timeline q.clock) q
-stands_drawn motes begun links first s p q dt draw st d boards motes_same inboxes = record {
+stands_drawn motes begun links first s p q dt word st d boards motes_same inboxes = record {
   moment = omega (arith, d.moment, st.moment);
   reading = refl;
   draws = refl;
@@ -61,8 +61,8 @@ stands_drawn motes begun links first s p q dt draw st d boards motes_same inboxe
 }
 
 -- an event that was applied after a timing
-pub applied_of : (motes : ℕ) (s t : Moment) (new : Timeline) (told_then : Option Answers) (event : (dt draw : ℕ) → Event) (dt draw : ℕ) → ReadsClock s dt draw (drawn s new told_then) → Steps motes (drawn s new told_then) (event dt draw) t → EventApplied motes s event (event dt draw ∷ []) t
-applied_of motes s t new told_then event dt draw reads steps = record { dt = dt; draw = draw; between = drawn s new told_then; reads = reads; one = refl; steps = steps }
+pub applied_of : (motes : ℕ) (s t : Moment) (new : Timeline) (told_then : Option Answers) (event : (dt word : ℕ) → Event) (dt word : ℕ) → ReadsClock s dt word (drawn s new told_then) → Steps motes (drawn s new told_then) (event dt word) t → EventApplied motes s event (event dt word ∷ []) t
+applied_of motes s t new told_then event dt word reads steps = record { dt = dt; word = word; between = drawn s new told_then; reads = reads; one = refl; steps = steps }
 
 -- a frame that is heard leaves its mote on
 runs_in : Does → Option (Option Running)
@@ -72,11 +72,11 @@ runs_in (Goes deed) = deed.runs
 some_left : (o : Option (Option Running)) (x : Option Running) → Some x ≡ o → o ≡ None → ⊥
 some_left o x is none = absurd cc
 
-heard_runs : (w : World) (m dt draw : ℕ) (bytes : List ℕ) (deed : Deed) (o : Option Running) → hear_by w (store_at w m) o (w.moment + dt) draw bytes ≡ Goes deed → deed.runs ≡ None → ⊥
+heard_runs : (w : World) (m dt word : ℕ) (bytes : List ℕ) (deed : Deed) (o : Option Running) → hear_by w (store_at w m) o (w.moment + dt) word bytes ≡ Goes deed → deed.runs ≡ None → ⊥
 unfolding frame_effect runs_in
-heard_runs w m dt draw bytes deed None e none = absurd cc
-heard_runs w m dt draw bytes deed (Some r) e none = some_left deed.runs _ (ap runs_in e) none
+heard_runs w m dt word bytes deed None e none = absurd cc
+heard_runs w m dt word bytes deed (Some r) e none = some_left deed.runs _ (ap runs_in e) none
 
-pub frame_runs : (w : World) (m dt draw : ℕ) (bytes : List ℕ) (deed : Deed) → does w (Frame m dt draw bytes) ≡ Goes deed → deed.runs ≡ None → ⊥
+pub frame_runs : (w : World) (m dt word : ℕ) (bytes : List ℕ) (deed : Deed) → does w (Frame m dt word bytes) ≡ Goes deed → deed.runs ≡ None → ⊥
 unfolding does
-frame_runs w m dt draw bytes deed e none = heard_runs w m dt draw bytes deed (site w m).runs e none
+frame_runs w m dt word bytes deed e none = heard_runs w m dt word bytes deed (site w m).runs e none

@@ -81,9 +81,9 @@ here_on links motes event r first s p q x st = record {
 
 pub is_here : (links : List (ℕ × ℕ)) (motes : ℕ) (event : Event) (r : Result Outbox Fault) (first : List Device) (s : Moment) (p q : Standing) → IsAlone event → (x : Setting motes (mote_of event) event r p q) → StandsFor motes (begun_before motes event) links (dt_of event) first s p
     → IsHere links motes (begun_before motes event) (begun_behind motes event) (dt_of event) event first s p q x.played.before x.played.after (ran_at p (mote_of event)) (ran_at q (mote_of event))
-is_here links motes (Tick m dt draw) r first s p q alone x st = here_on links motes (Tick m dt draw) r first s p q x st
-is_here links motes (Frame m dt draw bytes) r first s p q alone x st = here_on links motes (Frame m dt draw bytes) r first s p q x st
-is_here links motes (Reset m dt draw) r first s p q alone x st = record {
+is_here links motes (Tick m dt word) r first s p q alone x st = here_on links motes (Tick m dt word) r first s p q x st
+is_here links motes (Frame m dt word bytes) r first s p q alone x st = here_on links motes (Frame m dt word bytes) r first s p q x st
+is_here links motes (Reset m dt word) r first s p q alone x st = record {
   stands = st;
   known = x.known;
   many = x.many;
@@ -97,22 +97,22 @@ is_here links motes (Reset m dt draw) r first s p q alone x st = record {
   site_of = λ a was volume. off_stands a x.played.before (ran_at p m) s.world m (x.off tt) (st.off m a x.played.before (omega arith) x.known was x.played.was) volume;
   image_of = λ a was none. (st.off m a x.played.before (omega arith) x.known was x.played.was).0;
 }
-is_here links motes (Hear m dt draw frame) r first s p q alone x st = absurd alone
-is_here links motes (Last from to dt draw) r first s p q alone x st = absurd alone
-is_here links motes (Inject m image version dt draw) r first s p q alone x st = absurd alone
-is_here links motes (Order m number image version dt draw) r first s p q alone x st = absurd alone
+is_here links motes (Hear m dt word frame) r first s p q alone x st = absurd alone
+is_here links motes (Last from to dt word) r first s p q alone x st = absurd alone
+is_here links motes (Inject m image version dt word) r first s p q alone x st = absurd alone
+is_here links motes (Order m number image version dt word) r first s p q alone x st = absurd alone
 
 -- ---- whose board is a volume
 
 pub volume_on : (links : List (ℕ × ℕ)) (motes : ℕ) (event : Event) (r : Result Outbox Fault) (first : List Device) (s : Moment) (p q : Standing) → IsAlone event → (x : Setting motes (mote_of event) event r p q) → StandsFor motes (begun_before motes event) links (dt_of event) first s p
     → (IsReset event → IsVolume x.played.before.image) → (a : Device) → slice_get first (mote_of event) ≡ Some a → IsVolume a.image
-volume_on links motes (Tick m dt draw) r first s p q alone x st told a was = (st.on m a x.played.before x.known was x.played.was).0
-volume_on links motes (Frame m dt draw bytes) r first s p q alone x st told a was = (st.on m a x.played.before x.known was x.played.was).0
-volume_on links motes (Reset m dt draw) r first s p q alone x st told a was = subst IsVolume (st.off m a x.played.before (omega arith) x.known was x.played.was).0 (told tt)
-volume_on links motes (Hear m dt draw frame) r first s p q alone x st told a was = absurd alone
-volume_on links motes (Last from to dt draw) r first s p q alone x st told a was = absurd alone
-volume_on links motes (Inject m image version dt draw) r first s p q alone x st told a was = absurd alone
-volume_on links motes (Order m number image version dt draw) r first s p q alone x st told a was = absurd alone
+volume_on links motes (Tick m dt word) r first s p q alone x st told a was = (st.on m a x.played.before x.known was x.played.was).0
+volume_on links motes (Frame m dt word bytes) r first s p q alone x st told a was = (st.on m a x.played.before x.known was x.played.was).0
+volume_on links motes (Reset m dt word) r first s p q alone x st told a was = subst IsVolume (st.off m a x.played.before (omega arith) x.known was x.played.was).0 (told tt)
+volume_on links motes (Hear m dt word frame) r first s p q alone x st told a was = absurd alone
+volume_on links motes (Last from to dt word) r first s p q alone x st told a was = absurd alone
+volume_on links motes (Inject m image version dt word) r first s p q alone x st told a was = absurd alone
+volume_on links motes (Order m number image version dt word) r first s p q alone x st told a was = absurd alone
 
 -- every mote of a service is wide
 is_wide : (w : World) (m : ℕ) → w.narrow ≡ none_narrow → wide_at w m ≡ true
@@ -141,21 +141,21 @@ first_at links motes begun ahead mote first s p before st was = got_some first m
 
 -- the board endures the event, and its count stays unless it stopped
 pub kept : (links : List (ℕ × ℕ)) (motes : ℕ) (event : Event) (r : Result Outbox Fault) (p q : Standing) (alone : IsAlone event) (x : Setting motes (mote_of event) event r p q) → (IsReset event ⊎ ForSome motes links event p) → Kept r x.played.before x.played.after
-kept links motes (Tick m dt draw) r p q alone x (inl reset) = absurd reset
-kept links motes (Tick m dt draw) r p q alone x (inr y) =
+kept links motes (Tick m dt word) r p q alone x (inl reset) = absurd reset
+kept links motes (Tick m dt word) r p q alone x (inr y) =
     let a = first_at links motes motes dt m y.0 y.1 p x.played.before y.2 x.played.was in
-    let z = played_for links motes (Tick m dt draw) r p q alone x y.0 y.1 y.2 a.0 a.1 (y.2.on m a.0 x.played.before x.known a.1 x.played.was).0 in
+    let z = played_for links motes (Tick m dt word) r p q alone x y.0 y.1 y.2 a.0 a.1 (y.2.on m a.0 x.played.before x.known a.1 x.played.was).0 in
     (z.endures, z.count)
-kept links motes (Frame m dt draw bytes) r p q alone x (inl reset) = absurd reset
-kept links motes (Frame m dt draw bytes) r p q alone x (inr y) =
+kept links motes (Frame m dt word bytes) r p q alone x (inl reset) = absurd reset
+kept links motes (Frame m dt word bytes) r p q alone x (inr y) =
     let a = first_at links motes motes dt m y.0 y.1 p x.played.before y.2 x.played.was in
-    let z = played_for links motes (Frame m dt draw bytes) r p q alone x y.0 y.1 y.2 a.0 a.1 (y.2.on m a.0 x.played.before x.known a.1 x.played.was).0 in
+    let z = played_for links motes (Frame m dt word bytes) r p q alone x y.0 y.1 y.2 a.0 a.1 (y.2.on m a.0 x.played.before x.known a.1 x.played.was).0 in
     (z.endures, z.count)
-kept links motes (Reset m dt draw) r p q alone x known = let y = x.played.powers tt in (y.endures, y.count)
-kept links motes (Hear m dt draw frame) r p q alone x known = absurd alone
-kept links motes (Last from to dt draw) r p q alone x known = absurd alone
-kept links motes (Inject m image version dt draw) r p q alone x known = absurd alone
-kept links motes (Order m number image version dt draw) r p q alone x known = absurd alone
+kept links motes (Reset m dt word) r p q alone x known = let y = x.played.powers tt in (y.endures, y.count)
+kept links motes (Hear m dt word frame) r p q alone x known = absurd alone
+kept links motes (Last from to dt word) r p q alone x known = absurd alone
+kept links motes (Inject m image version dt word) r p q alone x known = absurd alone
+kept links motes (Order m number image version dt word) r p q alone x known = absurd alone
 
 -- ---- it was done
 
@@ -216,41 +216,41 @@ some_handed links motes mote s t (Some bytes) before after sent linked some = re
 -- a board of which nothing was known keeps its bytes
 same_on : (links : List (ℕ × ℕ)) (motes : ℕ) (event : Event) (r : Result Outbox Fault) (first : List Device) (s : Moment) (p q : Standing) → IsAlone event → (x : Setting motes (mote_of event) event r p q) → StandsFor motes (begun_before motes event) links (dt_of event) first s p
     → (IsReset event → IsNoVolume x.played.before.image → x.played.after.image ≡ x.played.before.image) → (a : Device) → slice_get first (mote_of event) ≡ Some a → IsNoVolume a.image → x.played.after.image ≡ x.played.before.image
-same_on links motes (Tick m dt draw) r first s p q alone x st told a was none = let v = (st.on m a x.played.before x.known was x.played.was).0 in absurd (none v.0 v.1)
-same_on links motes (Frame m dt draw bytes) r first s p q alone x st told a was none = let v = (st.on m a x.played.before x.known was x.played.was).0 in absurd (none v.0 v.1)
-same_on links motes (Reset m dt draw) r first s p q alone x st told a was none = told tt (subst IsNoVolume (sym (st.off m a x.played.before (omega arith) x.known was x.played.was).0) none)
-same_on links motes (Hear m dt draw frame) r first s p q alone x st told a was none = absurd alone
-same_on links motes (Last from to dt draw) r first s p q alone x st told a was none = absurd alone
-same_on links motes (Inject m image version dt draw) r first s p q alone x st told a was none = absurd alone
-same_on links motes (Order m number image version dt draw) r first s p q alone x st told a was none = absurd alone
+same_on links motes (Tick m dt word) r first s p q alone x st told a was none = let v = (st.on m a x.played.before x.known was x.played.was).0 in absurd (none v.0 v.1)
+same_on links motes (Frame m dt word bytes) r first s p q alone x st told a was none = let v = (st.on m a x.played.before x.known was x.played.was).0 in absurd (none v.0 v.1)
+same_on links motes (Reset m dt word) r first s p q alone x st told a was none = told tt (subst IsNoVolume (sym (st.off m a x.played.before (omega arith) x.known was x.played.was).0) none)
+same_on links motes (Hear m dt word frame) r first s p q alone x st told a was none = absurd alone
+same_on links motes (Last from to dt word) r first s p q alone x st told a was none = absurd alone
+same_on links motes (Inject m image version dt word) r first s p q alone x st told a was none = absurd alone
+same_on links motes (Order m number image version dt word) r first s p q alone x st told a was none = absurd alone
 
 -- the board is stopped
 stopped_on : (links : List (ℕ × ℕ)) (motes : ℕ) (event : Event) (first : List Device) (s : Moment) (p q : Standing) → (alone : IsAlone event) → (x : Setting motes (mote_of event) event (Err fault.Stopped) p q) → StandsFor motes (begun_before motes event) links (dt_of event) first s p → x.played.after.stopped ≡ true
-stopped_on links motes (Tick m dt draw) first s p q alone x st =
+stopped_on links motes (Tick m dt word) first s p q alone x st =
     let a = first_at links motes motes dt m first s p x.played.before st x.played.was in
-    (played_for links motes (Tick m dt draw) (Err fault.Stopped) p q alone x first s st a.0 a.1 (st.on m a.0 x.played.before x.known a.1 x.played.was).0).ends.stopped
-stopped_on links motes (Frame m dt draw bytes) first s p q alone x st =
+    (played_for links motes (Tick m dt word) (Err fault.Stopped) p q alone x first s st a.0 a.1 (st.on m a.0 x.played.before x.known a.1 x.played.was).0).ends.stopped
+stopped_on links motes (Frame m dt word bytes) first s p q alone x st =
     let a = first_at links motes motes dt m first s p x.played.before st x.played.was in
-    (played_for links motes (Frame m dt draw bytes) (Err fault.Stopped) p q alone x first s st a.0 a.1 (st.on m a.0 x.played.before x.known a.1 x.played.was).0).ends.stopped
-stopped_on links motes (Reset m dt draw) first s p q alone x st = (x.played.powers tt).ends.stopped
-stopped_on links motes (Hear m dt draw frame) first s p q alone x st = absurd alone
-stopped_on links motes (Last from to dt draw) first s p q alone x st = absurd alone
-stopped_on links motes (Inject m image version dt draw) first s p q alone x st = absurd alone
-stopped_on links motes (Order m number image version dt draw) first s p q alone x st = absurd alone
+    (played_for links motes (Frame m dt word bytes) (Err fault.Stopped) p q alone x first s st a.0 a.1 (st.on m a.0 x.played.before x.known a.1 x.played.was).0).ends.stopped
+stopped_on links motes (Reset m dt word) first s p q alone x st = (x.played.powers tt).ends.stopped
+stopped_on links motes (Hear m dt word frame) first s p q alone x st = absurd alone
+stopped_on links motes (Last from to dt word) first s p q alone x st = absurd alone
+stopped_on links motes (Inject m image version dt word) first s p q alone x st = absurd alone
+stopped_on links motes (Order m number image version dt word) first s p q alone x st = absurd alone
 
 -- a board that is found to be no volume is that of a mote that begins
 begins_there : (links : List (ℕ × ℕ)) (motes : ℕ) (event : Event) (first : List Device) (s : Moment) (p q : Standing) → (alone : IsAlone event) → (x : Setting motes (mote_of event) event (Err fault.NotAVolume) p q) → StandsFor motes (begun_before motes event) links (dt_of event) first s p → IsReset event
-begins_there links motes (Tick m dt draw) first s p q alone x st =
+begins_there links motes (Tick m dt word) first s p q alone x st =
     let a = first_at links motes motes dt m first s p x.played.before st x.played.was in
-    absurd (played_for links motes (Tick m dt draw) (Err fault.NotAVolume) p q alone x first s st a.0 a.1 (st.on m a.0 x.played.before x.known a.1 x.played.was).0).ends
-begins_there links motes (Frame m dt draw bytes) first s p q alone x st =
+    absurd (played_for links motes (Tick m dt word) (Err fault.NotAVolume) p q alone x first s st a.0 a.1 (st.on m a.0 x.played.before x.known a.1 x.played.was).0).ends
+begins_there links motes (Frame m dt word bytes) first s p q alone x st =
     let a = first_at links motes motes dt m first s p x.played.before st x.played.was in
-    absurd (played_for links motes (Frame m dt draw bytes) (Err fault.NotAVolume) p q alone x first s st a.0 a.1 (st.on m a.0 x.played.before x.known a.1 x.played.was).0).ends
-begins_there links motes (Reset m dt draw) first s p q alone x st = tt
-begins_there links motes (Hear m dt draw frame) first s p q alone x st = absurd alone
-begins_there links motes (Last from to dt draw) first s p q alone x st = absurd alone
-begins_there links motes (Inject m image version dt draw) first s p q alone x st = absurd alone
-begins_there links motes (Order m number image version dt draw) first s p q alone x st = absurd alone
+    absurd (played_for links motes (Frame m dt word bytes) (Err fault.NotAVolume) p q alone x first s st a.0 a.1 (st.on m a.0 x.played.before x.known a.1 x.played.was).0).ends
+begins_there links motes (Reset m dt word) first s p q alone x st = tt
+begins_there links motes (Hear m dt word frame) first s p q alone x st = absurd alone
+begins_there links motes (Last from to dt word) first s p q alone x st = absurd alone
+begins_there links motes (Inject m image version dt word) first s p q alone x st = absurd alone
+begins_there links motes (Order m number image version dt word) first s p q alone x st = absurd alone
 
 pub failed_run : (links : List (ℕ × ℕ)) (motes : ℕ) (event : Event) (f : Fault) (p q : Standing) (alone : IsAlone event) (x : Setting motes (mote_of event) event (Err f) p q) (first : List Device) (s : Moment) → StandsFor motes (begun_before motes event) links (dt_of event) first s p
     → EventEnds (stop_by f) s.world event first q.boards

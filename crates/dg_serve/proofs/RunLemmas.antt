@@ -22,7 +22,7 @@ use Rattle.dg_script.specs.declared.report.Report.{Report}
 use Rattle.dg_world.specs.Alone.{uncut}
 use Rattle.dg_serve.specs.Each.{each}
 use Rattle.dg_serve.specs.Services.{Part, Begins, Looks, Ticks, Moment, EventApplied, PartDone, PartsDone, plan, beginning, turn_of_all}
-use Rattle.dg_serve.specs.Promised.{event_item, item_played, RunOf}
+use Rattle.dg_serve.specs.Promised.{event_item, item_played, RunOf, ServedFirst}
 use Rattle.dg_serve.proofs.EachLemmas.{each_more, each_none}
 
 -- ---- all of a list
@@ -98,19 +98,19 @@ runs_both motes u v w es fs a b = record {
 
 -- ---- what the parts did
 
-applied_run : (motes : ℕ) (s : Moment) (event : (dt draw : ℕ) → Event) (es : List Event) (t : Moment) → ((dt draw : ℕ) → EventInRange motes (event dt draw)) → EventApplied motes s event es t → RunOf motes s.world es t.world
+applied_run : (motes : ℕ) (s : Moment) (event : (dt word : ℕ) → Event) (es : List Event) (t : Moment) → ((dt word : ℕ) → EventInRange motes (event dt word)) → EventApplied motes s event es t → RunOf motes s.world es t.world
 applied_run motes s event es t fits h =
     let same : h.between.world ≡ s.world = ap (λ (m : Moment). m.world) h.reads.same in
     subst (λ (l : List Event). RunOf motes s.world l t.world) (sym h.one)
-    (one_run motes s.world t.world (event h.dt h.draw) h.steps.reports (fits h.dt h.draw) (subst (λ (w : World). WorldStep w (uncut (event h.dt h.draw)) t.world h.steps.reports) same h.steps.step))
+    (one_run motes s.world t.world (event h.dt h.word) h.steps.reports (fits h.dt h.word) (subst (λ (w : World). WorldStep w (uncut (event h.dt h.word)) t.world h.steps.reports) same h.steps.step))
 
 part_run : (motes : ℕ) (part : Part) (s : Moment) (es : List Event) (t : Moment) → PartFits motes part → PartDone motes part s es t → RunOf motes s.world es t.world
-part_run motes (Begins m) s es t fits h = applied_run motes s (λ dt draw. Reset m dt draw) es t (λ dt draw. fits) h
-part_run motes (Ticks m) s es t fits h = applied_run motes s (λ dt draw. Tick m dt draw) es t (λ dt draw. fits) h
+part_run motes (Begins m) s es t fits h = applied_run motes s (λ dt word. Reset m dt word) es t (λ dt word. fits) h
+part_run motes (Ticks m) s es t fits h = applied_run motes s (λ dt word. Tick m dt word) es t (λ dt word. fits) h
 part_run motes (Looks m) s es t fits (inl h) =
     subst (λ (l : List Event). RunOf motes s.world l t.world) (sym h.nothing) (no_run motes s.world t.world (ap (λ (x : Moment). x.world) (sym h.same)))
 part_run motes (Looks m) s es t fits (inr h) =
-    applied_run motes (record s { inboxes = h.taken }) (λ dt draw. Frame m dt draw h.bytes) es t (λ dt draw. (fits, h.fits)) h.heard
+    applied_run motes (record s { inboxes = h.taken }) (λ dt word. Frame m dt word h.bytes) es t (λ dt word. (fits, h.fits)) h.heard
 
 pub serves_run : (motes : ℕ) (s : Moment) (parts : List Part) (es : List Event) (t : Moment) → AllByRecursion (PartFits motes) parts → PartsDone motes s parts es t → RunOf motes s.world es t.world
 unfolding PartsDone
@@ -138,4 +138,15 @@ plays_boards profile table stores events v allowed count shaped r = record {
   few = omega (arith, count, allowed.motes.1);
   links_fit = subst (λ (n : ℕ). AllByRecursion (LinkFits n) profile.links) (sym count) (links_fit profile.motes profile.links (recursion_from_All (Joins profile.motes) profile.links allowed.links));
   ranges = subst (λ (n : ℕ). AllByRecursion (PlayedInRange n) r.played) (sym count) r.ranges;
+}
+
+-- so is what was played first
+pub first_boards : (table : List Row) (stores : List Store) (links : List (ℕ × ℕ)) (played : List Played) (v : World) → PlaysBoards table stores links none_narrow played v
+    → (f : ServedFirst (first_world table links none_narrow stores) played) → PlaysBoards table stores links none_narrow f.first f.last
+first_boards table stores links played v boards f = record {
+  shaped = boards.shaped;
+  plays = f.plays;
+  few = boards.few;
+  links_fit = boards.links_fit;
+  ranges = all_front (PlayedInRange (length stores)) f.first f.rest (subst (AllByRecursion (PlayedInRange (length stores))) f.parts boards.ranges);
 }

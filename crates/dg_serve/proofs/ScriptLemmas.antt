@@ -28,7 +28,7 @@ use Rattle.dg_script.specs.Spelling.{content_text, line_text}
 use Rattle.dg_script.specs.Words.{behind_spaces}
 use Rattle.dg_script.specs.declared.fault.LineFault.{LineFault}
 use Rattle.dg_script.specs.declared.line.Line.{Line}
-use Rattle.dg_script.specs.declared.line.Line.TheVariants.{Nothing, Motes, Golden, Boards, Link, Image, Cut, Event as EventLine, Round, Sweeps, Narrow}
+use Rattle.dg_script.specs.declared.line.Line.TheVariants.{Nothing, Motes, Golden, Boards, Link, Image, Cut, Happens as EventLine, Round, Sweeps, Narrow}
 use Rattle.dg_script.specs.declared.place.Place.{Place}
 use Rattle.dg_script.proofs.ReadsBackLemmas.{line_reads}
 use Rattle.dg_serve.specs.Services.{Part, Begins, Looks, Ticks, Moment, EventApplied, PartDone, PartsDone}
@@ -116,15 +116,15 @@ Traced (Narrow m) = ⊥
 
 plain_event : (event : Event) → TracedEvent event → Plain (line_text (EventLine event))
 unfolding line_text
-plain_event (Tick m d w) h = plain_words (codes "tick") (decimal m ∷ decimal d ∷ decimal w ∷ []) refl (plain_number m h.0, (plain_number d h.1.dt, (plain_number w h.1.draw, tt)))
+plain_event (Tick m d w) h = plain_words (codes "tick") (decimal m ∷ decimal d ∷ decimal w ∷ []) refl (plain_number m h.0, (plain_number d h.1.dt, (plain_number w h.1.word, tt)))
 plain_event (Hear m d w k) h = absurd h
 plain_event (Last a b d w) h = absurd h
-plain_event (Reset m d w) h = plain_words (codes "reset") (decimal m ∷ decimal d ∷ decimal w ∷ []) refl (plain_number m h.0, (plain_number d h.1.dt, (plain_number w h.1.draw, tt)))
+plain_event (Reset m d w) h = plain_words (codes "reset") (decimal m ∷ decimal d ∷ decimal w ∷ []) refl (plain_number m h.0, (plain_number d h.1.dt, (plain_number w h.1.word, tt)))
 plain_event (Inject m i v d w) h = absurd h
 plain_event (Order m k i v d w) h = absurd h
 plain_event (Frame m d w bytes) h =
     plain_words (codes "frame") (decimal m ∷ decimal d ∷ decimal w ∷ content_text bytes ∷ []) refl
-    (plain_number m h.0, (plain_number d h.1.dt, (plain_number w h.1.draw, (all_both Keeps (codes "hex:") (hex_text bytes) (plain_by (codes "hex:") refl) (plain_hex bytes), tt))))
+    (plain_number m h.0, (plain_number d h.1.dt, (plain_number w h.1.word, (all_both Keeps (codes "hex:") (hex_text bytes) (plain_by (codes "hex:") refl) (plain_hex bytes), tt))))
 
 plain_line : (line : Line) → Traced line → Plain (line_text line)
 unfolding line_text
@@ -317,14 +317,14 @@ is_script profile events allowed served =
 
 -- ---- the events of a service
 
-applied_served : (motes : ℕ) (s : Moment) (event : (dt draw : ℕ) → Event) (es : List Event) (t : Moment) → ((dt draw : ℕ) → IsTimed dt draw → IsServed motes (event dt draw)) → EventApplied motes s event es t → AllByRecursion (IsServed motes) es
-applied_served motes s event es t fits h = subst (AllByRecursion (IsServed motes)) (sym h.one) (fits h.dt h.draw h.reads.fits, tt)
+applied_served : (motes : ℕ) (s : Moment) (event : (dt word : ℕ) → Event) (es : List Event) (t : Moment) → ((dt word : ℕ) → IsTimed dt word → IsServed motes (event dt word)) → EventApplied motes s event es t → AllByRecursion (IsServed motes) es
+applied_served motes s event es t fits h = subst (AllByRecursion (IsServed motes)) (sym h.one) (fits h.dt h.word h.reads.fits, tt)
 
 part_served : (motes : ℕ) (part : Part) (s : Moment) (es : List Event) (t : Moment) → PartFits motes part → PartDone motes part s es t → AllByRecursion (IsServed motes) es
-part_served motes (Begins m) s es t fits h = applied_served motes s (λ dt draw. Reset m dt draw) es t (λ dt draw timed. (fits, timed)) h
-part_served motes (Ticks m) s es t fits h = applied_served motes s (λ dt draw. Tick m dt draw) es t (λ dt draw timed. (fits, timed)) h
+part_served motes (Begins m) s es t fits h = applied_served motes s (λ dt word. Reset m dt word) es t (λ dt word timed. (fits, timed)) h
+part_served motes (Ticks m) s es t fits h = applied_served motes s (λ dt word. Tick m dt word) es t (λ dt word timed. (fits, timed)) h
 part_served motes (Looks m) s es t fits (inl h) = subst (AllByRecursion (IsServed motes)) (sym h.nothing) tt
-part_served motes (Looks m) s es t fits (inr h) = applied_served motes (record s { inboxes = h.taken }) (λ dt draw. Frame m dt draw h.bytes) es t (λ dt draw timed. ((fits, h.fits), timed)) h.heard
+part_served motes (Looks m) s es t fits (inr h) = applied_served motes (record s { inboxes = h.taken }) (λ dt word. Frame m dt word h.bytes) es t (λ dt word timed. ((fits, h.fits), timed)) h.heard
 
 pub all_served : (motes : ℕ) (s : Moment) (parts : List Part) (es : List Event) (t : Moment) → AllByRecursion (PartFits motes) parts → PartsDone motes s parts es t → AllByRecursion (IsServed motes) es
 unfolding PartsDone

@@ -92,10 +92,10 @@ EventEnds NotAVolume w event old new = FindsNoVolume w event old new
 EventEnds NoImage w event old new = FindsNoImage w event old new
 
 -- the event of a part at these numbers, where a frame of these bytes came
-abbrev pub event_of : Part → (dt draw : ℕ) → List ℕ → Event
-event_of (Begins m) dt draw bytes = Reset m dt draw
-event_of (Looks m) dt draw bytes = Frame m dt draw bytes
-event_of (Ticks m) dt draw bytes = Tick m dt draw
+abbrev pub event_of : Part → (dt word : ℕ) → List ℕ → Event
+event_of (Begins m) dt word bytes = Reset m dt word
+event_of (Looks m) dt word bytes = Frame m dt word bytes
+event_of (Ticks m) dt word bytes = Tick m dt word
 
 -- ---- what is left
 
@@ -110,10 +110,10 @@ remains boards inboxes clock = record { boards = boards; inboxes = inboxes; cloc
 
 -- what an event takes from the link before it is applied: the frame that is heard, and else nothing
 abbrev pub TakesFor : Event → Option Inboxes → Option Inboxes → Type 0
-TakesFor (Frame mote dt draw bytes) before after = TakesFrame mote bytes before after
+TakesFor (Frame mote dt word bytes) before after = TakesFrame mote bytes before after
 TakesFor event before after = after ≡ before
 
--- The event in which the service ended was not applied. It is that of the next part: the clock was read and a draw was taken
+-- The event in which the service ended was not applied. It is that of the next part: the clock was read and a word was taken
 -- for it, and it has the bytes of the frame that was received, or no frame was.
 pub record EndsInNext (stop : Stop) (s : Moment) (left : List Part) (old : List Device) (new : Remains) : Type 0 where
   pub part : Part
@@ -122,12 +122,12 @@ pub record EndsInNext (stop : Stop) (s : Moment) (left : List Part) (old : List 
   pub bytes : List ℕ
   pub fits : IsFrame bytes
   pub dt : ℕ
-  pub draw : ℕ
+  pub word : ℕ
   pub after : Moment
-  pub reads : ReadsClock s dt draw after
-  pub takes : TakesFor (event_of part dt draw bytes) s.inboxes new.inboxes
+  pub reads : ReadsClock s dt word after
+  pub takes : TakesFor (event_of part dt word bytes) s.inboxes new.inboxes
   pub clock : new.clock ≡ after.clock
-  pub ends : EventEnds stop s.world (event_of part dt draw bytes) old new.boards
+  pub ends : EventEnds stop s.world (event_of part dt word bytes) old new.boards
 
 -- A mote received a frame for which there was no memory. The clock was not read, and nothing else was done.
 pub record LosesFrame (s : Moment) (left : List Part) (old : List Device) (new : Remains) : Type 0 where

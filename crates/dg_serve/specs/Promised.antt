@@ -1,5 +1,5 @@
 -- What is promised of what a service did, each with its premises (docs/PROMISES.md, "The service").
-use Rattle.std.specs.Prelude.{◌≡◌, ℕ, ◌<◌, true, List, [], ◌∷◌, length, map, Option, IsSome}
+use Rattle.std.specs.Prelude.{◌≡◌, ℕ, ◌<◌, true, List, [], ◌∷◌, ◌++◌, length, map, Option, IsSome}
 use Rattle.std.specs.List.{AllByRecursion}
 use Rattle.dg_base.specs.declared.events.Event.{Event}
 use Rattle.dg_link.specs.Inboxes.{Inboxes}
@@ -37,6 +37,15 @@ pub record RunOf (motes : ℕ) (u : World) (events : List Event) (v : World) : T
   pub items : map item_played played ≡ map event_item events
   pub plays : Plays u played v
   pub ranges : AllByRecursion (PlayedInRange motes) played
+
+-- What was played first, all or less, and the world that it leads to. What is promised of honest frames is promised of each such
+-- part: a frame that is not honest takes nothing from what was played before it.
+pub record ServedFirst (u : World) (played : List Played) : Type 0 where
+  pub first : List Played
+  pub rest : List Played
+  pub last : World
+  pub parts : played ≡ first ++ rest
+  pub plays : Plays u first last
 
 -- What the boards stand for agrees with the table, and each frame that came is honest by it.
 pub record FramesAreHonest (table : List Row) (stores : List Store) (played : List Played) : Type 0 where
@@ -83,20 +92,24 @@ pub record KeepsRules (told : Option Inboxes) (table : List Row) (stores : List 
   -- over a link that tells its inboxes each frame that came was sent by a mote of it: so it is honest, where the boards agree
   pub honest : IsSome told → StoresAgree table stores → FramesAreHonest table stores run.played
   -- and so is the frame that the next event takes from them
-  pub next : IsSome told → StoresAgree table stores → (part : Part) (dt draw : ℕ) (bytes : List ℕ) (after : Option Inboxes)
-      → TakesFor (event_of part dt draw bytes) last.inboxes after → HoldsTo table last.world (event_of part dt draw bytes)
-  -- where its frames are honest, each step is legal after those before it
-  pub legal : FramesAreHonest table stores run.played → EachAfter IsLegal [] run.played
+  pub next : IsSome told → StoresAgree table stores → (part : Part) (dt word : ℕ) (bytes : List ℕ) (after : Option Inboxes)
+      → TakesFor (event_of part dt word bytes) last.inboxes after → HoldsTo table last.world (event_of part dt word bytes)
+  -- where the frames of what was played first are honest, each step of it is legal after those before it
+  pub legal : (f : ServedFirst (first_world table links none_narrow stores) run.played) → FramesAreHonest table stores f.first
+      → EachAfter IsLegal [] f.first
   -- there no version falls, and a complete page stays unless a newer version of its image replaces it
-  pub keeps : FramesAreHonest table stores run.played → AllByRecursion KeepsAll run.played
+  pub keeps : (f : ServedFirst (first_world table links none_narrow stores) run.played) → FramesAreHonest table stores f.first
+      → AllByRecursion KeepsAll f.first
   -- there what starts is a row of the table
-  pub starts : FramesAreHonest table stores run.played → AllByRecursion StartsRow run.played
-  -- there the world behind each event agrees with its table, and so does the last world
-  pub agrees : FramesAreHonest table stores run.played → AllByRecursion LeavesAgreement run.played × WorldAgrees last.world
+  pub starts : (f : ServedFirst (first_world table links none_narrow stores) run.played) → FramesAreHonest table stores f.first
+      → AllByRecursion StartsRow f.first
+  -- there the world behind each event agrees with its table, and so does the one that it leads to
+  pub agrees : (f : ServedFirst (first_world table links none_narrow stores) run.played) → FramesAreHonest table stores f.first
+      → AllByRecursion LeavesAgreement f.first × WorldAgrees f.last
   -- there each store that the chip may stand for, wherever a stop comes in the next event, agrees with the table,
   -- where that event is honest too
-  pub halves : (e : Event) → FramesAreHonest table stores run.played → EventInRange motes e → HoldsTo table last.world e
-      → StopsAgree last.world e
+  pub halves : (f : ServedFirst (first_world table links none_narrow stores) run.played) (e : Event)
+      → FramesAreHonest table stores f.first → EventInRange motes e → HoldsTo table f.last e → StopsAgree f.last e
   -- with any frames at all, over consistent boards: each store stays consistent,
   -- and what starts is golden or fits its own descriptor
   pub consistent : (golden : Row) → StoresConsistent golden stores → StaysConsistent golden motes run.played last.world

@@ -56,14 +56,14 @@ later before after = min (after - before) (2 ^ 32 - 1)
 abbrev pub at_reading : Moment → ℕ → Option Answers → Lcg → Moment
 at_reading s answer clock draws = record s { reading = answer; clock = clock; draws = draws }
 
--- Before an event the clock is read and a draw is taken. Nothing else changes.
-pub record ReadsClock (s : Moment) (dt draw : ℕ) (t : Moment) : Type 0 where
+-- Before an event the clock is read and a word is taken. Nothing else changes.
+pub record ReadsClock (s : Moment) (dt word : ℕ) (t : Moment) : Type 0 where
   pub answer : ℕ
   pub rises : s.reading ≤ answer
   pub told : Answered s.clock t.clock answer
   pub dt_is : dt ≡ later s.reading answer
-  pub draw_is : (draw, t.draws) ≡ pcg32 s.draws
-  pub fits : IsTimed dt draw
+  pub draw_is : (word, t.draws) ≡ pcg32 s.draws
+  pub fits : IsTimed dt word
   pub same : t ≡ at_reading s answer t.clock t.draws
 
 -- ---- frames over the link
@@ -91,7 +91,7 @@ handed w motes (f ∷ fs) boxes = handed w motes fs (handed_to (neighbours w mot
 
 -- ---- one event
 
--- The event was applied at this moment, and what it sent was handed on. Neither the clock was read nor a draw taken.
+-- The event was applied at this moment, and what it sent was handed on. Neither the clock was read nor a word taken.
 pub record Steps (motes : ℕ) (s : Moment) (event : Event) (t : Moment) : Type 0 where
   pub reports : List Report
   pub step : WorldStep s.world (uncut event) t.world reports
@@ -100,16 +100,16 @@ pub record Steps (motes : ℕ) (s : Moment) (event : Event) (t : Moment) : Type 
   pub same_draws : t.draws ≡ s.draws
   pub inboxes : t.inboxes ≡ option_map (handed t.world motes (new_frames s.world t.world)) s.inboxes
 
--- The clock was read, and the event of this time and draw was applied.
-pub record EventApplied (motes : ℕ) (s : Moment) (event : (dt draw : ℕ) → Event) (done : List Event) (t : Moment) : Type 0 where
+-- The clock was read, and the event of this time and word was applied.
+pub record EventApplied (motes : ℕ) (s : Moment) (event : (dt word : ℕ) → Event) (done : List Event) (t : Moment) : Type 0 where
   pub dt : ℕ
-  pub draw : ℕ
+  pub word : ℕ
   pub between : Moment
-  pub reads : ReadsClock s dt draw between
-  pub one : done ≡ event dt draw ∷ []
-  pub steps : Steps motes between (event dt draw) t
+  pub reads : ReadsClock s dt word between
+  pub one : done ≡ event dt word ∷ []
+  pub steps : Steps motes between (event dt word) t
 
--- no frame had come: nothing happens, and neither the clock is read nor a draw taken
+-- no frame had come: nothing happens, and neither the clock is read nor a word taken
 pub record NoneCame (mote : ℕ) (s : Moment) (done : List Event) (t : Moment) : Type 0 where
   pub none : IsEmptyAt mote s.inboxes
   pub nothing : done ≡ []
@@ -121,12 +121,12 @@ pub record OneCame (motes mote : ℕ) (s : Moment) (done : List Event) (t : Mome
   pub fits : IsFrame bytes
   pub taken : Option Inboxes
   pub takes : TakesFrame mote bytes s.inboxes taken
-  pub heard : EventApplied motes (record s { inboxes = taken }) (λ dt draw. Frame mote dt draw bytes) done t
+  pub heard : EventApplied motes (record s { inboxes = taken }) (λ dt word. Frame mote dt word bytes) done t
 
 abbrev pub PartDone : (motes : ℕ) → Part → Moment → List Event → Moment → Type 0
-PartDone motes (Begins m) s done t = EventApplied motes s (λ dt draw. Reset m dt draw) done t
+PartDone motes (Begins m) s done t = EventApplied motes s (λ dt word. Reset m dt word) done t
 PartDone motes (Looks m) s done t = NoneCame m s done t ⊎ OneCame motes m s done t
-PartDone motes (Ticks m) s done t = EventApplied motes s (λ dt draw. Tick m dt draw) done t
+PartDone motes (Ticks m) s done t = EventApplied motes s (λ dt word. Tick m dt word) done t
 
 -- these parts were done, one after the other, and gave these events
 unfoldable pub PartsDone : (motes : ℕ) → Moment → List Part → List Event → Moment → Type 0

@@ -18,7 +18,7 @@ use Rattle.dg_mote.specs.declared.outbox.Outbox.{Outbox}
 use Rattle.dg_script.specs.Ranges.{IsFrame}
 use Rattle.dg_script.specs.Fitting.{FitsLine}
 use Rattle.dg_script.specs.Spelling.{IsShort}
-use Rattle.dg_script.specs.declared.line.Line.TheVariants.{Event as EventLine}
+use Rattle.dg_script.specs.declared.line.Line.TheVariants.{Happens as EventLine}
 use Rattle.dg_script.specs.Places.{none_narrow}
 use Rattle.dg_rules.specs.World.{World, site, wide_at, store_at}
 use Rattle.dg_rules.specs.Events.{mote_of, dt_of}
@@ -206,22 +206,22 @@ pub record IsUnderWay (motes : ℕ) (links : List (ℕ × ℕ)) (limit : ℕ) (p
 
 -- how many motes' power came before an event and behind it, where it is a reset; else all motes' power came
 abbrev pub begun_before : ℕ → Event → ℕ
-begun_before motes (Tick mote dt draw) = motes
-begun_before motes (Hear mote dt draw frame) = motes
-begun_before motes (Last from to dt draw) = motes
-begun_before motes (Reset mote dt draw) = mote
-begun_before motes (Inject mote image version dt draw) = motes
-begun_before motes (Order mote number image version dt draw) = motes
-begun_before motes (Frame mote dt draw bytes) = motes
+begun_before motes (Tick mote dt word) = motes
+begun_before motes (Hear mote dt word frame) = motes
+begun_before motes (Last from to dt word) = motes
+begun_before motes (Reset mote dt word) = mote
+begun_before motes (Inject mote image version dt word) = motes
+begun_before motes (Order mote number image version dt word) = motes
+begun_before motes (Frame mote dt word bytes) = motes
 
 abbrev pub begun_behind : ℕ → Event → ℕ
-begun_behind motes (Tick mote dt draw) = motes
-begun_behind motes (Hear mote dt draw frame) = motes
-begun_behind motes (Last from to dt draw) = motes
-begun_behind motes (Reset mote dt draw) = mote + 1
-begun_behind motes (Inject mote image version dt draw) = motes
-begun_behind motes (Order mote number image version dt draw) = motes
-begun_behind motes (Frame mote dt draw bytes) = motes
+begun_behind motes (Tick mote dt word) = motes
+begun_behind motes (Hear mote dt word frame) = motes
+begun_behind motes (Last from to dt word) = motes
+begun_behind motes (Reset mote dt word) = mote + 1
+begun_behind motes (Inject mote image version dt word) = motes
+begun_behind motes (Order mote number image version dt word) = motes
+begun_behind motes (Frame mote dt word bytes) = motes
 
 -- What an event at a mote asks for: its mote may run, and is off before a reset. Else the service stands for some moment.
 pub record EventAsks (motes mote : ℕ) (links : List (ℕ × ℕ)) (event : Event) (p : Standing) : Type 0 where

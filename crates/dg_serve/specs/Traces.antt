@@ -10,7 +10,7 @@ use Rattle.dg_script.specs.Places.{first_place}
 use Rattle.dg_script.specs.Script.{script_from}
 use Rattle.dg_script.specs.Spelling.{line_text}
 use Rattle.dg_script.specs.declared.line.Line.{Line}
-use Rattle.dg_script.specs.declared.line.Line.TheVariants.{Motes, Boards, Link, Event as EventLine}
+use Rattle.dg_script.specs.declared.line.Line.TheVariants.{Motes, Boards, Link, Happens as EventLine}
 use Rattle.dg_netcfg.specs.declared.profile.NetProfile.{NetProfile}
 
 -- the first lines

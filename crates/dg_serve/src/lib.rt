@@ -14,6 +14,3 @@ mod timeline;
 pub use laws::services_keep_the_rules;
 pub use network::serve_network;
 pub use serving::serve;
-
-#[cfg(test)]
-mod tests;

@@ -51,7 +51,7 @@ impl Service {
             (standing_with (self.new, map N.device boards.new) (K.Sink, out.new) (L.Link, link.new) (told, reached)) }
     {
         agreement_is_kept();
-        let line = Line::Event(event);
+        let line = Line::Happens(event);
         write_event(&line, &mut self.text)?;
         let borrowed = line_event(&line);
         let now = self.timeline.moment;
@@ -84,7 +84,7 @@ impl Service {
         let event = Event::Reset {
             mote,
             dt: timing.dt,
-            draw: timing.draw,
+            word: timing.word,
         };
         self.apply_event(profile, mote, event, boards, link, out)
     }
@@ -114,7 +114,7 @@ impl Service {
                 let event = Event::Frame {
                     mote,
                     dt: timing.dt,
-                    draw: timing.draw,
+                    word: timing.word,
                     bytes,
                 };
                 self.apply_event(profile, mote, event, boards, link, out)
@@ -146,7 +146,7 @@ impl Service {
         let event = Event::Tick {
             mote,
             dt: timing.dt,
-            draw: timing.draw,
+            word: timing.word,
         };
         self.apply_event(profile, mote, event, boards, link, out)
     }

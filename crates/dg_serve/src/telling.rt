@@ -6,7 +6,7 @@ ghost use Rattle.dg_netcfg.specs.Readings.{IsAllowed};
 ghost use Rattle.dg_script.specs.Sizes.{most_motes};
 ghost use Rattle.dg_script.specs.Fitting.{FitsLine};
 ghost use Rattle.dg_script.specs.Spelling.{IsShort, line_text};
-ghost use Rattle.dg_script.specs.declared.line.Line.TheVariants.{Event as EventLine};
+ghost use Rattle.dg_script.specs.declared.line.Line.TheVariants.{Happens as EventLine};
 ghost use Rattle.dg_serve.specs.Traces.{lines_text, head_lines, IsEventLine};
 
 use crate::stop::Stop;
@@ -59,7 +59,7 @@ pub(crate) fn line_event(line: &Line) -> &Event
     ensures { line.now ≡ EventLine result.now }
 {
     match line {
-        Line::Event(event) => event,
+        Line::Happens(event) => event,
         _ => unreachable!(),
     }
 }

@@ -1,4 +1,4 @@
-//! When events are applied, and what they draw.
+//! When events are applied, and what they word.
 ghost use Rattle.std.specs.Prelude.{◌≡◌, ◌+◌, ◌-◌, ◌^◌, ◌<◌, ◌≤◌, min};
 ghost use Rattle.rand_pcg.specs.Pcg.{pcg32};
 ghost use Rattle.dg_base.specs.Clock.{Answered};
@@ -17,11 +17,11 @@ pub(crate) struct Timeline {
     pub(crate) draws: Draws,
 }
 
-/// What an event takes of time and chance: the milliseconds since the event before, and a draw.
+/// What an event takes of time and chance: the milliseconds since the event before, and a word.
 #[derive(Clone, Copy, Debug, PartialEq, Eq)]
 pub(crate) struct Timing {
     pub(crate) dt: u32,
-    pub(crate) draw: u32,
+    pub(crate) word: u32,
 }
 
 impl Timeline {
@@ -40,26 +40,26 @@ impl Timeline {
         }
     }
 
-    /// The timing of the next event: the clock is read and a draw is taken.
+    /// The timing of the next event: the clock is read and a word is taken.
     pub(crate) fn next<C: Clock>(&mut self, clock: &mut C) -> Timing
         requires known { self.old.reading ≤ C.reached clock.old }
         requires early { self.old.moment < 2 ^ 60 }
         ensures dt { result.dt ≡ later self.old.reading self.new.reading }
         ensures rises { self.old.reading ≤ self.new.reading }
         ensures told { Answered (C.told clock.old) (C.told clock.new) self.new.reading }
-        ensures draw { (result.draw, generator_of self.new.draws) ≡ pcg32 (generator_of self.old.draws) }
+        ensures word { (result.word, generator_of self.new.draws) ≡ pcg32 (generator_of self.old.draws) }
         ensures moment { self.new.moment ≡ self.old.moment + result.dt }
         ensures reached { self.new.reading ≤ C.reached clock.new }
         ensures goes_on { C.reached clock.old ≤ C.reached clock.new }
         ensures short { result.dt < 2 ^ 32 }
-        ensures drawn { result.draw < 2 ^ 32 }
+        ensures drawn { result.word < 2 ^ 32 }
     {
         let reading = clock.read();
         let dt = as_event_time(reading - self.reading);
         self.reading = reading;
         self.moment += u64::from(dt);
-        let draw = self.draws.next();
-        Timing { dt, draw }
+        let word = self.draws.next();
+        Timing { dt, word }
     }
 }
 

@@ -12,4 +12,4 @@ returns-in-Some-clause-ends g c = λ table script input initial before faults be
 
 pub returns-in-None-clause-ends : goal.returns-in-None-clause-ends
 returns-in-None-clause-ends g c = λ table script input initial before faults below behind r.
-    script_ends c.finish.result script input _ _ initial _ _ before _ _ _ ⊥ _ (rose_later faults _ _ below) (sym c.end_fault.ensures ∙ c.in-None.is) r (λ w is stands. c.finish.ensures.finishes w initial is stands)
+    script_ends c.finish.result script input _ _ initial _ _ before _ _ _ ⊥ _ (rose_later faults _ _ below) (sym c.end_fault.ensures ∙ c.in-None.is) r c.finish.ensures.read (λ w is stands. c.finish.ensures.finishes w initial is stands)

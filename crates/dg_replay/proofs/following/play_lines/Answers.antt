@@ -54,7 +54,7 @@ returns-then-is_last-clause-answer g c =
     c.if-branch.true a.2 in
     let last : new.last ≡ true = sym c.is_last.ensures ∙ c.if-is_last.true in
     lines_last (left c.args.input.now) (left c.loop-line_report.input) (left c.play_next.new.input) (Rose (faults c.args.input.now) (faults c.play_next.new.input)) (Rose (cuts c.args.out.now) (cuts c.play_next.new.out)) old new a.0 c.loop-line_report.number p q initial was now
-    (put c.args.out.now) mid after at_end failed i.0 a.1 given.0 last (λ done w table s. given.1 (based_on table initial) (done_so_far done w) s)
+    (put c.args.out.now) mid after at_end failed i.0 a.1 given.0 last (given.1.0, λ done w table s. given.1.1 (based_on table initial) (done_so_far done w) s)
 
 pub loop-line_report-smaller : goal.loop-line_report-smaller
 loop-line_report-smaller g c =
@@ -99,7 +99,7 @@ loop-line_report-preserved g c =
     let given = given_of c.in_ok-play_next.field-0 (old.ahead ++ a.0) old new at_end (Rose (faults c.loop-line_report.input) (faults c.play_next.new.input)) (AllAsBefore p q was now mid after) (λ x t. TextPlays x t (old.number + 1) p q was now mid after failed)
     c.if-branch.true a.2 in
     let more_lines : new.last ≡ false = sym c.is_last.ensures ∙ c.if-is_last.false in (
-      lines_next (left c.args.input.now) (left c.loop-line_report.input) (left c.play_next.new.input) old new a.0 c.loop-line_report.number p q initial was now (put c.args.out.now) mid after at_end failed i.0 a.1 given.0 more_lines (λ done w table s. given.1 (based_on table initial) (done_so_far done w) s),
+      lines_next (left c.args.input.now) (left c.loop-line_report.input) (left c.play_next.new.input) old new a.0 c.loop-line_report.number p q initial was now (put c.args.out.now) mid after at_end failed i.0 a.1 given.0 more_lines (given.1.0, λ done w table s. given.1.1 (based_on table initial) (done_so_far done w) s),
       c.in_ok-play_next.ensures.unread (λ e. cc) ∙ i.1,
       c.in_ok-play_next.ensures.unfailed (λ e. cc) ∙ i.2,
     )

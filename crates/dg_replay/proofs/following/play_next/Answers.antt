@@ -50,7 +50,7 @@ returns-in-Ok-write_text-clause-answer g c =
     given_answer (Ok true) c.in-Ok-Some.field-0 number text c.args.reader.now c.next.new.self (AtEnd (left c.next.new.input)) (Rose (faults c.args.input.now) (faults c.next.new.input)) (λ more. Takes (left c.args.input.now) (left c.next.new.input) more) p q was now before after failed
     c.in-Ok-Some.field-0-is c.text.ensures c.in-Ok-Some.ensures.answer
     (text_played (Ok tt) text number p c.play_line.new.player c.pass.new.self was now c.in-Ok.line c.play_line.new.line c.clear.new.self.items c.play_line.new.line_report.text.items c.deref.result.now before after failed c.in-Ok.ensures.spelled c.clear.ensures.items c.deref.ensures.value
-    c.in-Ok-play_line.ensures.played c.in-Ok-play_line.ensures.behind c.in-Ok-pass.ensures.ok c.in-Ok-write_text.ensures.ok tt tt)
+    c.in-Ok-play_line.ensures.played c.in-Ok-play_line.ensures.behind c.in-Ok-pass.ensures.ok c.in-Ok-write_text.ensures.ok tt tt c.in-Ok-play_line.ensures.kept)
 
 pub returns-in-Err-write_text-clause-answer : goal.returns-in-Err-write_text-clause-answer
 returns-in-Err-write_text-clause-answer g c =
@@ -69,7 +69,7 @@ returns-in-Err-write_text-clause-answer g c =
     given_answer (Err (Stopped c.in-Err-write_text.stop)) c.in-Ok-Some.field-0 number text c.args.reader.now c.next.new.self (AtEnd (left c.next.new.input)) (Rose (faults c.args.input.now) (faults c.next.new.input)) (λ more. Takes (left c.args.input.now) (left c.next.new.input) more) p q was now before after failed
     c.in-Ok-Some.field-0-is c.text.ensures c.in-Ok-Some.ensures.answer
     (text_played (Err c.in-Err-write_text.stop) text number p c.play_line.new.player c.pass.new.self was now c.in-Ok.line c.play_line.new.line c.clear.new.self.items c.play_line.new.line_report.text.items c.deref.result.now before after failed c.in-Ok.ensures.spelled c.clear.ensures.items c.deref.ensures.value
-    c.in-Ok-play_line.ensures.played c.in-Ok-play_line.ensures.behind c.in-Ok-pass.ensures.ok tt c.in-Err-write_text.ensures.front c.in-Err-write_text.ensures.cause)
+    c.in-Ok-play_line.ensures.played c.in-Ok-play_line.ensures.behind c.in-Ok-pass.ensures.ok tt c.in-Err-write_text.ensures.front c.in-Err-write_text.ensures.cause c.in-Ok-play_line.ensures.kept)
 
 pub returns-in-Err-pass-clause-answer : goal.returns-in-Err-pass-clause-answer
 returns-in-Err-pass-clause-answer g c =
@@ -107,7 +107,7 @@ returns-in-Err-play_line-clause-answer g c =
     given_answer (Err (Stopped c.write_begun.result)) c.in-Ok-Some.field-0 number text c.args.reader.now c.next.new.self (AtEnd (left c.next.new.input)) (Rose (faults c.args.input.now) (faults c.next.new.input)) (λ more. Takes (left c.args.input.now) (left c.next.new.input) more) p q was now before after failed
     c.in-Ok-Some.field-0-is c.text.ensures c.in-Ok-Some.ensures.answer
     (text_begun c.in-Err-play_line.stop c.write_begun.result text number p q (gone_on q c.play_line.new.line) was now c.in-Ok.line c.clear.new.self.items c.play_line.new.line_report.text.items c.deref-in-Err-play_line.result.now before after failed c.in-Ok.ensures.spelled c.clear.ensures.items c.deref-in-Err-play_line.ensures.value
-    c.in-Err-play_line.ensures.played c.write_begun.ensures.written)
+    c.in-Err-play_line.ensures.played c.write_begun.ensures.written c.in-Err-play_line.ensures.kept)
 
 pub returns-in-Err-clause-answer : goal.returns-in-Err-clause-answer
 returns-in-Err-clause-answer g c =

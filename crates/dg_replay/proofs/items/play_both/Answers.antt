@@ -3,6 +3,7 @@ use Rattle.std.proofs.lemmas.Result.{err_from_is_err_and}
 use Rattle.dg_base.specs.declared.events.Event.{Event}
 use Rattle.dg_rounds.specs.Rounds.{round}
 use Rattle.dg_script.specs.Items.{unreported}
+use Rattle.dg_replay.proofs.BytesLemmas.{keep_same, events_keep}
 use Rattle.dg_replay.proofs.StepLemmas.{so_far_none, so_far_one, so_far_then, so_far_stop}
 use Rattle.dg_replay.proofs.items.play_both.Goals as goal
 
@@ -35,3 +36,23 @@ returns-clause-goes_on g c =
     (so_far_then (round c.args.a c.args.b) (round c.args.b c.args.a) c.args.world.now c.play_round.new.world c.play_round-2.new.world _ _ _ c.args.line_report.now.text.items c.play_round.new.line_report.text.items c.play_round-2.new.line_report.text.items
     (so_far_one (unreported (round c.args.a c.args.b)) c.args.world.now c.play_round.new.world _ _ c.args.line_report.now.text.items c.play_round.new.line_report.text.items c.in_ok-play_round.ensures.goes_on c.in_ok-play_round.ensures.played)
     c.in_ok-play_round-2.ensures.goes_on c.in_ok-play_round-2.ensures.played).goes
+
+pub returns-in_err-play_round-clause-kept : goal.returns-in_err-play_round-clause-kept
+returns-in_err-play_round-clause-kept g c =
+    let there = round c.args.a c.args.b in
+    let back = round c.args.b c.args.a in
+    events_keep [] there back (there ++ back) _ _ _ refl (keep_same (unreported (there ++ back)) _ _ refl) c.in_err-play_round.ensures.kept
+
+pub returns-in_err-play_round-2-clause-kept : goal.returns-in_err-play_round-2-clause-kept
+returns-in_err-play_round-2-clause-kept g c =
+    let there = round c.args.a c.args.b in
+    let back = round c.args.b c.args.a in
+    events_keep there back [] (there ++ back) _ _ _ (ap (λ (xs : List Event). there ++ xs) (append-nil back))
+    (events_keep [] there back (there ++ back) _ _ _ refl (keep_same (unreported (there ++ back)) _ _ refl) c.in_ok-play_round.ensures.kept) c.in_err-play_round-2.ensures.kept
+
+pub returns-clause-kept : goal.returns-clause-kept
+returns-clause-kept g c =
+    let there = round c.args.a c.args.b in
+    let back = round c.args.b c.args.a in
+    events_keep there back [] (there ++ back) _ _ _ (ap (λ (xs : List Event). there ++ xs) (append-nil back))
+    (events_keep [] there back (there ++ back) _ _ _ refl (keep_same (unreported (there ++ back)) _ _ refl) c.in_ok-play_round.ensures.kept) c.in_ok-play_round-2.ensures.kept

@@ -1,17 +1,18 @@
 use Rattle.std.proofs.Common.{Err, option_copied, ap, refl, inl, inr}
 use Rattle.dg_world.specs.Applying.{step_of}
 use Rattle.dg_replay.proofs.ItemStepLemmas.{told_as, goes_on, not_full, applied_goes, nothing_applied, not_applied, stopped_in, ended_in}
+use Rattle.dg_replay.proofs.BytesLemmas.{step_keeps}
 use Rattle.dg_replay.proofs.items.play_event.Goals as goal
 
 pub returns-in-Ok-clause-played : goal.returns-in-Ok-clause-played
 returns-in-Ok-clause-played g c = λ w initial is stands.
-    told_as c.append_text.result w (step_of c.args.event.now (option_copied c.args.cut)) c.args.reported c.args.world.now c.apply.new.self initial _ _ c.clear.new.self.items c.apply.new.out.items c.args.line_report.now.text.items c.append_text.new.line_report.text.items
+    told_as c.append_text.result w (step_of c.args.event.now (option_copied c.args.cut)) c.args.reported c.args.world.now c.apply_parts.new.self initial _ _ c.clear.new.self.items c.apply_parts.new.out.items c.args.line_report.now.text.items c.append_text.new.line_report.text.items
     c.clear.ensures.items c.requires (c.in-Ok.ensures.applied w is) c.append_text.ensures.reported c.append_text.ensures.memory is stands
 
 pub returns-in-Ok-clause-goes_on : goal.returns-in-Ok-clause-goes_on
 returns-in-Ok-clause-goes_on g c =
-    goes_on c.append_text.result c.args.world.now c.apply.new.self _ _
-    (λ w is. applied_goes w (step_of c.args.event.now (option_copied c.args.cut)) c.args.reported c.args.world.now c.apply.new.self _ _ c.clear.new.self.items c.apply.new.out.items (c.in-Ok.ensures.applied w is))
+    goes_on c.append_text.result c.args.world.now c.apply_parts.new.self _ _
+    (λ w is. applied_goes w (step_of c.args.event.now (option_copied c.args.cut)) c.args.reported c.args.world.now c.apply_parts.new.self _ _ c.clear.new.self.items c.apply_parts.new.out.items (c.in-Ok.ensures.applied w is))
 
 pub returns-in-Err-Memory-clause-played : goal.returns-in-Err-Memory-clause-played
 returns-in-Err-Memory-clause-played g c = λ w initial is stands.
@@ -33,3 +34,21 @@ returns-in-Err-NoImage-clause-played g c = λ w initial is stands.
 
 pub returns-in-Err-NotAVolume-clause-played : goal.returns-in-Err-NotAVolume-clause-played
 returns-in-Err-NotAVolume-clause-played g c = λ w initial is stands. c.in-Err-NotAVolume.ensures.a_volume (ap Err c.in-Err-NotAVolume.field-0-is)
+
+pub returns-in-Ok-clause-kept : goal.returns-in-Ok-clause-kept
+returns-in-Ok-clause-kept g c = step_keeps _ (step_of c.args.event.now (option_copied c.args.cut)) c.args.reported _ _ c.requires.0 c.requires.1 c.in-Ok.ensures
+
+pub returns-in-Err-Memory-clause-kept : goal.returns-in-Err-Memory-clause-kept
+returns-in-Err-Memory-clause-kept g c = step_keeps _ (step_of c.args.event.now (option_copied c.args.cut)) c.args.reported _ _ c.requires.0 c.requires.1 c.in-Err-Memory.ensures
+
+pub returns-in-Err-Flash-clause-kept : goal.returns-in-Err-Flash-clause-kept
+returns-in-Err-Flash-clause-kept g c = step_keeps _ (step_of c.args.event.now (option_copied c.args.cut)) c.args.reported _ _ c.requires.0 c.requires.1 c.in-Err-Flash.ensures
+
+pub returns-in-Err-TooMany-clause-kept : goal.returns-in-Err-TooMany-clause-kept
+returns-in-Err-TooMany-clause-kept g c = step_keeps _ (step_of c.args.event.now (option_copied c.args.cut)) c.args.reported _ _ c.requires.0 c.requires.1 c.in-Err-TooMany.ensures
+
+pub returns-in-Err-NoImage-clause-kept : goal.returns-in-Err-NoImage-clause-kept
+returns-in-Err-NoImage-clause-kept g c = step_keeps _ (step_of c.args.event.now (option_copied c.args.cut)) c.args.reported _ _ c.requires.0 c.requires.1 c.in-Err-NoImage.ensures
+
+pub returns-in-Err-NotAVolume-clause-kept : goal.returns-in-Err-NotAVolume-clause-kept
+returns-in-Err-NotAVolume-clause-kept g c = step_keeps _ (step_of c.args.event.now (option_copied c.args.cut)) c.args.reported _ _ c.requires.0 c.requires.1 c.in-Err-NotAVolume.ensures

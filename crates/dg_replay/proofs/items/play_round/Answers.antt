@@ -2,11 +2,17 @@ use Rattle.std.proofs.Common.{[], ◌+◌, ◌∷◌, ◌++◌, drop, arith, ref
 use Rattle.std.proofs.lemmas.Result.{err_from_is_err_and}
 use Rattle.dg_rounds.specs.Rounds.{round}
 use Rattle.dg_rounds.proofs.RoundLemmas.{round_more, round_over}
+use Rattle.dg_script.specs.Items.{unreported}
+use Rattle.dg_replay.proofs.BytesLemmas.{keep_same, event_keeps}
 use Rattle.dg_replay.proofs.StepLemmas.{events_none, events_may, events_more, events_stop, events_all, round_fits}
 use Rattle.dg_replay.proofs.items.play_round.Goals as goal
 
 pub loop-position-init : goal.loop-position-init
-loop-position-init g c = ([], events_none (round c.args.a c.args.b) _ c.args.world.now _ c.args.line_report.now.text.items refl)
+loop-position-init g c = (
+  [],
+  events_none (round c.args.a c.args.b) _ c.args.world.now _ c.args.line_report.now.text.items refl,
+  keep_same (unreported (round c.args.a c.args.b)) _ _ refl,
+)
 
 pub play_event-requires : goal.play_event-requires
 play_event-requires g c =
@@ -29,6 +35,7 @@ loop-position-preserved g c =
       c.loop-position.invariant.0 ++ event ∷ [],
       events_more (round a b) c.loop-position.invariant.0 (drop p (round a b)) (drop (p + 1) (round a b)) event c.args.world.now c.loop-position.world c.play_event.new.world _ _ _ c.args.line_report.now.text.items c.loop-position.line_report.text.items c.play_event.new.line_report.text.items
           c.loop-position.invariant.1 next c.in_ok-play_event.ensures.goes_on c.in_ok-play_event.ensures.played,
+      event_keeps (round a b) p event _ _ _ next c.loop-position.invariant.2 c.in_ok-play_event.ensures.kept,
     )
 
 pub returns-in_err-play_event-clause-played : goal.returns-in_err-play_event-clause-played
@@ -50,3 +57,15 @@ returns-clause-played g c =
     let p = c.loop-position.position in
     (events_all (round a b) c.loop-position.invariant.0 (drop p (round a b)) c.args.world.now c.loop-position.world _ _ c.args.line_report.now.text.items c.loop-position.line_report.text.items c.loop-position.invariant.1
     (round_over a b p (omega (arith, c.loop-position-test.false)))).played
+
+pub returns-in_err-play_event-clause-kept : goal.returns-in_err-play_event-clause-kept
+returns-in_err-play_event-clause-kept g c =
+    let a = c.args.a in
+    let b = c.args.b in
+    let q = c.loop-position.position in
+    let event = c.at-event.result.now in
+    let next = round_more a b q event c.loop-position-test.true (λ d. c.at-event.ensures a b d c.new-turns.ensures) in
+    event_keeps (round a b) q event _ _ _ next c.loop-position.invariant.2 c.in_err-play_event.ensures.kept
+
+pub returns-clause-kept : goal.returns-clause-kept
+returns-clause-kept g c = c.loop-position.invariant.2

@@ -1,6 +1,7 @@
-use Rattle.std.proofs.Common.{Err, ◌∙◌, ap, refl, arith}
+use Rattle.std.proofs.Common.{[], Err, ◌∙◌, ap, refl, arith}
 use Rattle.std.proofs.lemmas.List.{length-map}
 use Rattle.dg_replay.proofs.SilentLemmas.{memory_line, boards_played, boards_ended}
+use Rattle.dg_replay.proofs.BytesLemmas.{keep_same, keep_read}
 use Rattle.dg_replay.proofs.player.play_boards.Goals as goal
 
 pub returns-in-Err-clause-played : goal.returns-in-Err-clause-played
@@ -16,3 +17,12 @@ returns-in-Ok-mount-clause-played g c = λ basis behind told stood.
     let count = length-map c.args.boards.now.items g.N.Nor.device in
     boards_played basis.table c.args.player.now _ behind.lines behind.world c.args.player.now.place.motes told basis.boards _ _ c.requires.unready refl (c.requires.counted.0, c.requires.counted.1, omega (arith, c.requires.counted.2, count)) refl
     c.in-Ok-mount.ensures.stands c.in-Ok-mount.ensures.awake c.in-Ok-mount.ensures.calm c.mount.ensures.read c.mount.ensures.others c.in-Ok.ensures.begins stood
+
+pub returns-in-Err-clause-kept : goal.returns-in-Err-clause-kept
+returns-in-Err-clause-kept g c = keep_same [] _ _ refl
+
+pub returns-in-Err-mount-clause-kept : goal.returns-in-Err-mount-clause-kept
+returns-in-Err-mount-clause-kept g c = keep_read [] _ _ c.mount.ensures.read
+
+pub returns-in-Ok-mount-clause-kept : goal.returns-in-Ok-mount-clause-kept
+returns-in-Ok-mount-clause-kept g c = keep_read [] _ _ c.mount.ensures.read

@@ -1,10 +1,13 @@
-use Rattle.std.proofs.Common.{refl, ap, option_copied, ◌∙◌, sym}
+use Rattle.std.proofs.Common.{ℕ, List, [], refl, ap, option_copied, ◌∙◌, sym}
 use Rattle.std.proofs.lemmas.List.{length-map}
 use Rattle.dg_replay.proofs.PlayLemmas.{golden_at, boards_at, link_at, narrow_at, image_at, event_at, round_at, sweeps_at}
 use Rattle.dg_replay.proofs.SilentLemmas.{motes_as, link_played, narrow_played}
 use Rattle.dg_replay.proofs.WayLemmas.{waits_played}
 use Rattle.dg_replay.proofs.BusyLemmas.{busy_in, image_has, event_has, round_has, sweeps_has, step_asked, round_asked, sweeps_asked}
 use Rattle.dg_script.specs.declared.place.Place.{Place}
+use Rattle.dg_rounds.specs.Rounds.{times, sweep}
+use Rattle.dg_script.specs.Items.{unreported}
+use Rattle.dg_replay.proofs.BytesLemmas.{keep_same, quiet_keeps, line_keeps, golden_keeps, event_line_keeps}
 use Rattle.dg_replay.proofs.player.play_line.Goals as goal
 
 pub play_golden-requires-clause-unready : goal.play_golden-requires-clause-unready
@@ -60,9 +63,9 @@ returns-in-Narrow-clause-played g c = λ basis behind stood.
     let at = narrow_at p.place e.mote (rw e.is at m.stands) in
     rw e.is (narrow_played p _ behind.lines behind.world e.mote _ basis.boards _ (rw e.is at m.stands) (rw e.is at m.fits) at.0.0 at.1 refl c.narrow.ensures.marked stood)
 
-pub returns-in-Event-clause-played : goal.returns-in-Event-clause-played
-returns-in-Event-clause-played g c = λ basis behind stood.
-    let e = c.in-Event in
+pub returns-in-Happens-clause-played : goal.returns-in-Happens-clause-played
+returns-in-Happens-clause-played g c = λ basis behind stood.
+    let e = c.in-Happens in
     let m = c.requires.may in
     let p = c.args.player.now in
     let cut = c.as_ref-cut in
@@ -84,12 +87,12 @@ returns-in-Sweeps-clause-played g c = λ basis behind stood.
     let p = c.args.player.now in
     let known = c.as_slice-links.ensures ∙ ap (λ (x : Place). x.links) stood.place in
     rw e.is (busy_in basis.table c.play_sweeps.result p _ behind.lines behind.world _ _ _ _ basis.boards _ _ (sweeps_has behind.lines e.count c.as_slice-links.result.now known) (rw e.is at m.stands) (rw e.is at m.fits)
-    (sweeps_at p.place e.count (rw e.is at m.stands)).0 refl stood (λ u is there. c.play_sweeps.ensures u basis.boards is there))
+    (sweeps_at p.place e.count (rw e.is at m.stands)).0 refl stood (λ u is there. c.play_sweeps.ensures.played u basis.boards is there))
 
 pub play_event-requires : goal.play_event-requires
 play_event-requires g c =
     let m = c.requires.may in
-    let e = c.in-Event in
+    let e = c.in-Happens in
     let p = c.args.player.now in
     let cut = c.as_ref-cut in
     step_asked p _ e.event (option_copied cut.result) m.ready (rw e.is at m.stands) (rw e.is at m.fits) (rw e.is at m.played) cut.ensures.value
@@ -105,3 +108,37 @@ play_sweeps-requires g c =
     let m = c.requires.may in
     let e = c.in-Sweeps in
     sweeps_asked c.args.player.now _ e.count c.as_slice-links.result.now m.ready (rw e.is at m.stands) c.as_slice-links.ensures
+
+pub returns-in-Nothing-clause-kept : goal.returns-in-Nothing-clause-kept
+returns-in-Nothing-clause-kept g c = quiet_keeps c.args.player.now.place c.args.line.now _ _ (keep_same [] _ _ refl)
+
+pub returns-in-Nothing-2-clause-kept : goal.returns-in-Nothing-2-clause-kept
+returns-in-Nothing-2-clause-kept g c = quiet_keeps c.args.player.now.place c.args.line.now _ _ (keep_same [] _ _ refl)
+
+pub returns-in-Motes-clause-kept : goal.returns-in-Motes-clause-kept
+returns-in-Motes-clause-kept g c = quiet_keeps c.args.player.now.place c.args.line.now _ _ (keep_same [] _ _ refl)
+
+pub returns-in-Image-clause-kept : goal.returns-in-Image-clause-kept
+returns-in-Image-clause-kept g c = quiet_keeps c.args.player.now.place c.args.line.now _ _ (keep_same [] _ _ refl)
+
+pub returns-in-Link-clause-kept : goal.returns-in-Link-clause-kept
+returns-in-Link-clause-kept g c = quiet_keeps c.args.player.now.place c.args.line.now _ _ (keep_same [] _ _ refl)
+
+pub returns-in-Narrow-clause-kept : goal.returns-in-Narrow-clause-kept
+returns-in-Narrow-clause-kept g c = quiet_keeps c.args.player.now.place c.args.line.now _ _ (keep_same [] _ _ refl)
+
+pub returns-in-Boards-clause-kept : goal.returns-in-Boards-clause-kept
+returns-in-Boards-clause-kept g c = quiet_keeps c.args.player.now.place c.args.line.now _ _ c.play_boards.ensures.kept
+
+pub returns-in-Golden-clause-kept : goal.returns-in-Golden-clause-kept
+returns-in-Golden-clause-kept g c = golden_keeps c.args.player.now.place c.args.line.now _ _ _ c.in-Golden.is (λ formats. formats)
+
+pub returns-in-Happens-clause-kept : goal.returns-in-Happens-clause-kept
+returns-in-Happens-clause-kept g c = event_line_keeps c.args.player.now.place c.args.line.now c.in-Happens.event (record { event = c.in-Happens.event; cut = option_copied c.as_ref-cut.result }) _ _ c.in-Happens.is refl c.play_event.ensures.kept
+
+pub returns-in-Round-clause-kept : goal.returns-in-Round-clause-kept
+returns-in-Round-clause-kept g c = line_keeps c.args.player.now.place c.args.line.now _ _ _ _ c.in-Round.is refl c.play_round.ensures.kept
+
+pub returns-in-Sweeps-clause-kept : goal.returns-in-Sweeps-clause-kept
+returns-in-Sweeps-clause-kept g c =
+    line_keeps c.args.player.now.place c.args.line.now _ _ _ _ c.in-Sweeps.is (ap (λ (ls : List (ℕ × ℕ)). unreported (times c.in-Sweeps.count (sweep ls))) (sym c.as_slice-links.ensures)) c.play_sweeps.ensures.kept

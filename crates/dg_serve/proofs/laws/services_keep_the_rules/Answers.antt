@@ -3,13 +3,13 @@ use Rattle.std.specs.Prelude.{IsSome, option_map}
 use Rattle.std.specs.List.{AllByRecursion}
 use Rattle.dg_link.specs.Inboxes.{emptied}
 use Rattle.dg_rules.specs.World.{World, first_world}
-use Rattle.dg_rules.specs.Begins.{StoresAgree}
+use Rattle.dg_rules.specs.Begins.{StoresAgree, PlaysBoards}
 use Rattle.dg_serve.specs.Endings.{begins}
-use Rattle.dg_serve.specs.Promised.{RunOf}
+use Rattle.dg_serve.specs.Promised.{RunOf, ServedFirst}
 use Rattle.dg_serve.proofs.HonestLemmas.{HonestAlone, IsHonestSo, none_waits, parts_honest, next_honest, played_honest}
 use Rattle.dg_script.specs.Ranges.{EventInRange}
 use Rattle.dg_script.specs.Places.{none_narrow}
-use Rattle.dg_serve.proofs.RunLemmas.{done_fits, serves_run, plays_boards, plays_none}
+use Rattle.dg_serve.proofs.RunLemmas.{done_fits, serves_run, plays_boards, first_boards, plays_none}
 use Rattle.dg_serve.proofs.ScriptLemmas.{is_script, all_served}
 use Rattle.dg_serve.proofs.AnyLemmas.{AnyLaws, GoldenLaws, stays_consistent, stays_golden, finds_golden, replays_to, first_count}
 use Rattle.dg_serve.proofs.laws.services_keep_the_rules.Goals as goal
@@ -19,6 +19,7 @@ returns-clause-kept c = λ answer profile seed turns before after allowed x tabl
     let came = x.came table stores fits in
     let run = serves_run profile.motes _ x.done x.events came.last (done_fits profile.motes turns x.done x.left x.parts) came.serves in
     let boards = plays_boards profile table stores x.events came.last.world allowed fits.count shaped run in
+    let part : (f : ServedFirst (first_world table profile.links none_narrow stores) run.played) → PlaysBoards table stores profile.links none_narrow f.first f.last = λ f. first_boards table stores profile.links run.played came.last.world boards f in
     let rules = c.scripts_with_boards.ensures in
     let keep = c.consistency_is_kept.ensures in
     let any : AnyLaws = record { stepped = keep.stepped; stopped = keep.stopped; declared = keep.declared; starts = keep.starts } in
@@ -26,9 +27,9 @@ returns-clause-kept c = λ answer profile seed turns before after allowed x tabl
     let finds : GoldenLaws = record { stepped = found.stepped; found = found.found; goes_on = found.goes_on } in
     let first : World = first_world table profile.links none_narrow stores in
     let none : RunOf profile.motes first [] first = record { played = []; items = refl; plays = plays_none first first refl; ranges = tt } in
-    let first_boards = plays_boards profile table stores [] first allowed fits.count shaped none in
+    let none_boards = plays_boards profile table stores [] first allowed fits.count shaped none in
     let begins_so : IsSome before.inboxes → StoresAgree table stores → IsHonestSo table profile.motes (begins table profile.links stores x.origin x.clock seed (option_map (emptied profile.motes) before.inboxes)) = λ told agree. record {
-      agrees = (rules.plays table stores profile.links none_narrow [] first first_boards agree tt).agrees;
+      agrees = (rules.plays table stores profile.links none_narrow [] first none_boards agree tt).agrees;
       same = refl;
       count = first_count table stores profile.links ∙ fits.count;
       waits = none_waits table profile.motes before.inboxes told;
@@ -37,12 +38,12 @@ returns-clause-kept c = λ answer profile seed turns before after allowed x tabl
     record {
       run = run;
       honest = λ told agree. record { agree = agree; hold = played_honest table x.events run.played first came.last.world run.items run.plays refl (so told agree).0 };
-      next = λ told agree part dt draw bytes after takes. next_honest c.agreement_is_kept.ensures.stepped table profile.motes part dt draw bytes came.last after (so told agree).1 takes;
-      legal = λ h. rules.legal table stores profile.links none_narrow run.played came.last.world boards h.agree h.hold;
-      keeps = λ h. rules.keeps table stores profile.links none_narrow run.played came.last.world boards h.agree h.hold;
-      starts = λ h. rules.starts table stores profile.links none_narrow run.played came.last.world boards h.agree h.hold;
-      agrees = λ h. rules.agrees table stores profile.links none_narrow run.played came.last.world boards h.agree h.hold;
-      halves = λ e h fits_range holds. rules.halves table stores profile.links none_narrow run.played came.last.world e boards h.agree h.hold (subst (λ n. EventInRange n e) (sym fits.count) fits_range) holds;
+      next = λ told agree part dt word bytes after takes. next_honest c.agreement_is_kept.ensures.stepped table profile.motes part dt word bytes came.last after (so told agree).1 takes;
+      legal = λ f h. rules.legal table stores profile.links none_narrow f.first f.last (part f) h.agree h.hold;
+      keeps = λ f h. rules.keeps table stores profile.links none_narrow f.first f.last (part f) h.agree h.hold;
+      starts = λ f h. rules.starts table stores profile.links none_narrow f.first f.last (part f) h.agree h.hold;
+      agrees = λ f h. rules.agrees table stores profile.links none_narrow f.first f.last (part f) h.agree h.hold;
+      halves = λ f e h fits_range holds. rules.halves table stores profile.links none_narrow f.first f.last e (part f) h.agree h.hold (subst (λ n. EventInRange n e) (sym fits.count) fits_range) holds;
       consistent = λ golden stands. stays_consistent any golden profile.motes table stores profile.links run.played came.last.world fits.count stands run.plays run.ranges;
       golden = λ stands. stays_golden finds profile.motes table stores profile.links run.played came.last.world fits.count stands run.plays run.ranges;
     }

@@ -8,7 +8,7 @@ use Rattle.dg_world.specs.Alone.{IsAlone}
 use Rattle.dg_world.specs.Worlds.{MayRun}
 use Rattle.std.specs.Vec.{with_items}
 use Rattle.dg_serve.specs.Standings.{Standing, HandedToSome, handed_by, standing_with}
-use Rattle.dg_script.specs.declared.line.Line.TheVariants.{Event as EventLine}
+use Rattle.dg_script.specs.declared.line.Line.TheVariants.{Happens as EventLine}
 use Rattle.dg_serve.specs.declared.stop.Stop.TheVariants as stop
 use Rattle.dg_serve.proofs.ApplyLemmas.{known_at, err_exit, event_is, text_is, setting_of, written_back, memory_ends, stopped_ends, err_as, link_counts, fits_more, is_played, untold_ends, unsent_ends, done_ends}
 use Rattle.dg_serve.proofs.service.Service.apply_event.Goals as goal

@@ -18,14 +18,14 @@ pub apply_event-requires-clause-asks : goal.apply_event-requires-clause-asks
 apply_event-requires-clause-asks g c =
     let p : Standing = service_standing (c.args.self.now, map g.N.Nor.device c.args.boards.now) (g.K.Sink, c.args.out.now) (g.L.Link, c.args.link.now) (g.C.Clock, c.args.clock.now) in
     let m : Standing = service_standing (record { motes = c.args.self.now.motes; timeline = c.next-timing.new.self; text = c.args.self.now.text; alloc = c.args.self.now.alloc }, map g.N.Nor.device c.args.boards.now) (g.K.Sink, c.args.out.now) (g.L.Link, c.args.link.now) (g.C.Clock, c.next-timing.new.clock) in
-    let d : DrawnTo p m c.next-timing.result.dt c.next-timing.result.draw = record { timed = record { dt_is = c.next-timing.ensures.dt; rises = c.next-timing.ensures.rises; answered = c.next-timing.ensures.told; draw_is = c.next-timing.ensures.draw; moment = c.next-timing.ensures.moment; fits = record { dt = c.next-timing.ensures.short; draw = c.next-timing.ensures.drawn } }; boards = refl; motes = refl; written = refl; port = refl; failures = refl; faults = refl; addressees = refl; reached = c.next-timing.ensures.goes_on; known = c.next-timing.ensures.reached; short = c.next-timing.ensures.short } in
-    (m.clock, m.reached, reset_asks c.args.profile.now.motes c.args.mote c.args.profile.now.links c.next-timing.result.dt c.next-timing.result.draw p m d c.requires.ready c.requires.early c.requires.known)
+    let d : DrawnTo p m c.next-timing.result.dt c.next-timing.result.word = record { timed = record { dt_is = c.next-timing.ensures.dt; rises = c.next-timing.ensures.rises; answered = c.next-timing.ensures.told; draw_is = c.next-timing.ensures.word; moment = c.next-timing.ensures.moment; fits = record { dt = c.next-timing.ensures.short; word = c.next-timing.ensures.drawn } }; boards = refl; motes = refl; written = refl; port = refl; failures = refl; faults = refl; addressees = refl; reached = c.next-timing.ensures.goes_on; known = c.next-timing.ensures.reached; short = c.next-timing.ensures.short } in
+    (m.clock, m.reached, reset_asks c.args.profile.now.motes c.args.mote c.args.profile.now.links c.next-timing.result.dt c.next-timing.result.word p m d c.requires.ready c.requires.early c.requires.known)
 
 pub returns : goal.returns
 returns g c =
     let p : Standing = service_standing (c.args.self.now, map g.N.Nor.device c.args.boards.now) (g.K.Sink, c.args.out.now) (g.L.Link, c.args.link.now) (g.C.Clock, c.args.clock.now) in
     let m : Standing = service_standing (record { motes = c.args.self.now.motes; timeline = c.next-timing.new.self; text = c.args.self.now.text; alloc = c.args.self.now.alloc }, map g.N.Nor.device c.args.boards.now) (g.K.Sink, c.args.out.now) (g.L.Link, c.args.link.now) (g.C.Clock, c.next-timing.new.clock) in
-    let d : DrawnTo p m c.next-timing.result.dt c.next-timing.result.draw = record { timed = record { dt_is = c.next-timing.ensures.dt; rises = c.next-timing.ensures.rises; answered = c.next-timing.ensures.told; draw_is = c.next-timing.ensures.draw; moment = c.next-timing.ensures.moment; fits = record { dt = c.next-timing.ensures.short; draw = c.next-timing.ensures.drawn } }; boards = refl; motes = refl; written = refl; port = refl; failures = refl; faults = refl; addressees = refl; reached = c.next-timing.ensures.goes_on; known = c.next-timing.ensures.reached; short = c.next-timing.ensures.short } in
+    let d : DrawnTo p m c.next-timing.result.dt c.next-timing.result.word = record { timed = record { dt_is = c.next-timing.ensures.dt; rises = c.next-timing.ensures.rises; answered = c.next-timing.ensures.told; draw_is = c.next-timing.ensures.word; moment = c.next-timing.ensures.moment; fits = record { dt = c.next-timing.ensures.short; word = c.next-timing.ensures.drawn } }; boards = refl; motes = refl; written = refl; port = refl; failures = refl; faults = refl; addressees = refl; reached = c.next-timing.ensures.goes_on; known = c.next-timing.ensures.reached; short = c.next-timing.ensures.short } in
     record {
-      goes = part_ends c.args.profile.now.motes c.args.mote (c.args.mote + 1) c.args.profile.now.links (Begins c.args.mote) (λ dt draw. Reset c.args.mote dt draw) [] c.next-timing.result.dt c.next-timing.result.draw p m _ d (begins_part c.args.profile.now.motes c.args.mote p.inboxes c.requires.known) c.apply_event.result c.requires.ready (c.apply_event.ensures.ends (g.C.Clock.told c.next-timing.new.clock) (g.C.Clock.reached c.next-timing.new.clock)) refl refl;
+      goes = part_ends c.args.profile.now.motes c.args.mote (c.args.mote + 1) c.args.profile.now.links (Begins c.args.mote) (λ dt word. Reset c.args.mote dt word) [] c.next-timing.result.dt c.next-timing.result.word p m _ d (begins_part c.args.profile.now.motes c.args.mote p.inboxes c.requires.known) c.apply_event.result c.requires.ready (c.apply_event.ensures.ends (g.C.Clock.told c.next-timing.new.clock) (g.C.Clock.reached c.next-timing.new.clock)) refl refl;
     }

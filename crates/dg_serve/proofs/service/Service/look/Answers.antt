@@ -29,18 +29,18 @@ pub apply_event-requires-clause-asks : goal.apply_event-requires-clause-asks
 apply_event-requires-clause-asks g c =
     let p : Standing = service_standing (c.args.self.now, map g.N.Nor.device c.args.boards.now) (g.K.Sink, c.args.out.now) (g.L.Link, c.args.link.now) (g.C.Clock, c.args.clock.now) in
     let m : Standing = service_standing (record { motes = c.args.self.now.motes; timeline = c.next-timing.new.self; text = c.args.self.now.text; alloc = c.args.self.now.alloc }, map g.N.Nor.device c.args.boards.now) (g.K.Sink, c.args.out.now) (g.L.Link, c.receive.new.link) (g.C.Clock, c.next-timing.new.clock) in
-    let d : DrawnTo p m c.next-timing.result.dt c.next-timing.result.draw = record { timed = record { dt_is = c.next-timing.ensures.dt; rises = c.next-timing.ensures.rises; answered = c.next-timing.ensures.told; draw_is = c.next-timing.ensures.draw; moment = c.next-timing.ensures.moment; fits = record { dt = c.next-timing.ensures.short; draw = c.next-timing.ensures.drawn } }; boards = refl; motes = refl; written = refl; port = c.in_ok-bytes.ensures.same_port; failures = c.in_ok-bytes.ensures.counts; faults = refl; addressees = c.in_ok-bytes.ensures.same_motes; reached = c.next-timing.ensures.goes_on; known = c.next-timing.ensures.reached; short = c.next-timing.ensures.short } in
+    let d : DrawnTo p m c.next-timing.result.dt c.next-timing.result.word = record { timed = record { dt_is = c.next-timing.ensures.dt; rises = c.next-timing.ensures.rises; answered = c.next-timing.ensures.told; draw_is = c.next-timing.ensures.word; moment = c.next-timing.ensures.moment; fits = record { dt = c.next-timing.ensures.short; word = c.next-timing.ensures.drawn } }; boards = refl; motes = refl; written = refl; port = c.in_ok-bytes.ensures.same_port; failures = c.in_ok-bytes.ensures.counts; faults = refl; addressees = c.in_ok-bytes.ensures.same_motes; reached = c.next-timing.ensures.goes_on; known = c.next-timing.ensures.reached; short = c.next-timing.ensures.short } in
     let came = came_is c.in_ok-bytes.field-0 c.in-Some.bytes c.args.mote _ _ c.in-Some.is c.in_ok-bytes.ensures.received in
-    (m.clock, m.reached, event_asks c.args.profile.now.motes c.args.mote c.args.profile.now.links (Frame c.args.mote c.next-timing.result.dt c.next-timing.result.draw c.in-Some.bytes) c.next-timing.result.dt c.next-timing.result.draw p m d c.requires.under_way ((c.requires.known, came.1), d.timed.fits) tt refl c.requires.known (λ reset. reset) refl refl)
+    (m.clock, m.reached, event_asks c.args.profile.now.motes c.args.mote c.args.profile.now.links (Frame c.args.mote c.next-timing.result.dt c.next-timing.result.word c.in-Some.bytes) c.next-timing.result.dt c.next-timing.result.word p m d c.requires.under_way ((c.requires.known, came.1), d.timed.fits) tt refl c.requires.known (λ reset. reset) refl refl)
 
 pub returns-in-Some : goal.returns-in-Some
 returns-in-Some g c =
     let p : Standing = service_standing (c.args.self.now, map g.N.Nor.device c.args.boards.now) (g.K.Sink, c.args.out.now) (g.L.Link, c.args.link.now) (g.C.Clock, c.args.clock.now) in
     let m : Standing = service_standing (record { motes = c.args.self.now.motes; timeline = c.next-timing.new.self; text = c.args.self.now.text; alloc = c.args.self.now.alloc }, map g.N.Nor.device c.args.boards.now) (g.K.Sink, c.args.out.now) (g.L.Link, c.receive.new.link) (g.C.Clock, c.next-timing.new.clock) in
-    let d : DrawnTo p m c.next-timing.result.dt c.next-timing.result.draw = record { timed = record { dt_is = c.next-timing.ensures.dt; rises = c.next-timing.ensures.rises; answered = c.next-timing.ensures.told; draw_is = c.next-timing.ensures.draw; moment = c.next-timing.ensures.moment; fits = record { dt = c.next-timing.ensures.short; draw = c.next-timing.ensures.drawn } }; boards = refl; motes = refl; written = refl; port = c.in_ok-bytes.ensures.same_port; failures = c.in_ok-bytes.ensures.counts; faults = refl; addressees = c.in_ok-bytes.ensures.same_motes; reached = c.next-timing.ensures.goes_on; known = c.next-timing.ensures.reached; short = c.next-timing.ensures.short } in
+    let d : DrawnTo p m c.next-timing.result.dt c.next-timing.result.word = record { timed = record { dt_is = c.next-timing.ensures.dt; rises = c.next-timing.ensures.rises; answered = c.next-timing.ensures.told; draw_is = c.next-timing.ensures.word; moment = c.next-timing.ensures.moment; fits = record { dt = c.next-timing.ensures.short; word = c.next-timing.ensures.drawn } }; boards = refl; motes = refl; written = refl; port = c.in_ok-bytes.ensures.same_port; failures = c.in_ok-bytes.ensures.counts; faults = refl; addressees = c.in_ok-bytes.ensures.same_motes; reached = c.next-timing.ensures.goes_on; known = c.next-timing.ensures.reached; short = c.next-timing.ensures.short } in
     let came = came_is c.in_ok-bytes.field-0 c.in-Some.bytes c.args.mote _ _ c.in-Some.is c.in_ok-bytes.ensures.received in
     record {
-      goes = part_ends c.args.profile.now.motes c.args.profile.now.motes c.args.profile.now.motes c.args.profile.now.links (Looks c.args.mote) (λ dt draw. Frame c.args.mote dt draw c.in-Some.bytes) c.in-Some.bytes c.next-timing.result.dt c.next-timing.result.draw p m _ d (looks_part c.args.profile.now.motes c.args.mote c.in-Some.bytes p.inboxes m.inboxes c.requires.known came.0 came.1) c.apply_event.result c.requires.under_way.ready (c.apply_event.ensures.ends (g.C.Clock.told c.next-timing.new.clock) (g.C.Clock.reached c.next-timing.new.clock)) refl refl;
+      goes = part_ends c.args.profile.now.motes c.args.profile.now.motes c.args.profile.now.motes c.args.profile.now.links (Looks c.args.mote) (λ dt word. Frame c.args.mote dt word c.in-Some.bytes) c.in-Some.bytes c.next-timing.result.dt c.next-timing.result.word p m _ d (looks_part c.args.profile.now.motes c.args.mote c.in-Some.bytes p.inboxes m.inboxes c.requires.known came.0 came.1) c.apply_event.result c.requires.under_way.ready (c.apply_event.ensures.ends (g.C.Clock.told c.next-timing.new.clock) (g.C.Clock.reached c.next-timing.new.clock)) refl refl;
     }
 
 pub returns-in-None : goal.returns-in-None
