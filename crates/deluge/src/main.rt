@@ -1,13 +1,20 @@
 //! `deluge` reprograms a network of motes over many hops. `run` of `dg_cli` does all that it does.
 #![tactic(auto)]
 
-use dg_base::{Clock, MOST_MOTES, Sink, Source, Status, StdSink, StdSource};
+mod notes;
+mod opening;
+mod telling;
+
+use crate::opening::{boards_in_memory, boards_on_files};
+use crate::telling::{Ended, first_gone, tell};
+use dg_base::{Clock, Sink, Source, Status};
 use dg_cli::{flash_names, run};
+use dg_messages::{Input, Output};
 use dg_net::{SystemClock, UdpLink};
 use dg_nor::Board;
 use std::env;
 use std::env::Args;
-use std::fs::{File, OpenOptions};
+use std::fs::File;
 use std::io::ErrorKind;
 use std::process::ExitCode;
 
@@ -16,9 +23,6 @@ mod tests;
 
 /// What is handed on in place of words of which one is not UTF-8. It is no command.
 const NOT_TEXT: &str = "\u{fffd}";
-
-/// The command that makes the file of a chip where there is none.
-const FORMAT: &str = "format";
 
 /// The words after the program's name. None where memory runs out.
 fn words(rt: &HostRuntime) -> Option<Vec<String>> {
@@ -46,51 +50,24 @@ fn no_command(rt: &HostRuntime) -> Option<Vec<String>> {
     Some(words)
 }
 
-/// A chip for each file that the words name, or chips in memory where they name none. None where memory runs out.
-fn boards(rt: &HostRuntime, words: &Vec<String>) -> Option<Vec<Board>> {
-    let names = flash_names(rt.alloc(), words).ok()?;
+/// A chip for each of these files, or chips in memory where there are none. None where memory runs out.
+fn boards(rt: &HostRuntime, words: &Vec<String>, names: &Vec<String>) -> Option<Vec<Board>> {
     if names.is_empty() {
         return boards_in_memory(rt);
     }
-    boards_on_files(rt, &names, begins_with_format(words))
-}
-
-/// Whether the words are those of `format`, which alone makes files.
-fn begins_with_format(words: &[String]) -> bool {
-    match words.first() {
-        Some(verb) => verb.as_str() == FORMAT,
-        None => false,
-    }
-}
-
-/// A chip on each of these files.
-fn boards_on_files(rt: &HostRuntime, names: &[String], create: bool) -> Option<Vec<Board>> {
-    let mut boards = Vec::new(rt.alloc());
-    for name in names {
-        let board = Board::on_file(rt, rt.alloc(), name.as_str(), create).ok()?;
-        boards.push(board).ok()?;
-    }
-    Some(boards)
-}
-
-/// A chip in memory for each mote that a script may have.
-fn boards_in_memory(rt: &HostRuntime) -> Option<Vec<Board>> {
-    let mut boards = Vec::new(rt.alloc());
-    for _ in 0..MOST_MOTES {
-        boards.push(Board::memory(rt.alloc()).ok()?).ok()?;
-    }
-    Some(boards)
+    boards_on_files(rt, words, names)
 }
 
 /// Files that take the numbers of standard streams that are closed. Where one is closed, the file that is opened next takes
-/// its number, and gets what is written there: let that be one of these, and no chip.
+/// its number, and gets what is written there: let that be one of these, and no chip. Reads and writes of a closed stream fail
+/// then, as they are to.
 #[derive(Drop)]
 struct Guard {
     files: [Option<File>; 3],
 }
 
 impl Guard {
-    /// A file that keeps nothing and gives nothing for each standard stream.
+    /// A file that can neither be read nor written for each standard stream.
     fn new(rt: &HostRuntime) -> Guard {
         Guard {
             files: [nothing(rt), nothing(rt), nothing(rt)],
@@ -98,22 +75,14 @@ impl Guard {
     }
 }
 
-/// The file that keeps nothing and gives nothing.
+/// A folder that is opened to be read: reads of it fail, as those of each folder, and so do writes.
 fn nothing(rt: &HostRuntime) -> Option<File> {
-    OpenOptions::new()
-        .read(true)
-        .write(true)
-        .open(rt, "/dev/null")
-        .ok()
-}
-
-/// Tells, beside the output, where help is.
-fn point_to_help(rt: &HostRuntime) {
-    let _ = rt.eprintln("deluge: try deluge --help");
+    File::open(rt, "/").ok()
 }
 
 /// How the program ends without memory for its words or its boards.
-fn without_memory() -> ExitCode {
+fn without_memory(rt: &HostRuntime) -> ExitCode {
+    let _ = rt.eprintln("deluge: memory ran out; give the program more of it");
     exit_code(Status::Memory)
 }
 
@@ -122,25 +91,26 @@ fn exit_code(status: Status) -> ExitCode {
     ExitCode::from(status.code())
 }
 
-/// Runs the command of these words over an input, an output and a clock, chips in files or in memory, and sockets of this
-/// machine. The guard stands while files of chips are open.
+/// Runs the command of these words over an input, an output and a clock, chips in the files with these names or in memory, and
+/// sockets of this machine. The guard stands while files of chips are open. None where memory runs out.
 fn run_words<S: Source, K: Sink, C: Clock>(
     rt: &HostRuntime,
     _guard: &Guard,
     words: &Vec<String>,
+    names: &Vec<String>,
     input: &mut S,
     out: &mut K,
     clock: &mut C,
-) -> ExitCode {
-    let Some(mut boards) = boards(rt, words) else {
-        return without_memory();
-    };
+) -> Option<Ended> {
+    let mut boards = boards(rt, words, names)?;
+    notes::note_volume(rt, words, names, &mut boards);
     let mut link = UdpLink::new(rt, rt.alloc());
     let status = run(rt.alloc(), words, input, out, &mut boards, &mut link, clock);
-    if status == Status::Usage {
-        point_to_help(rt);
-    }
-    exit_code(status)
+    Some(Ended {
+        status,
+        gone: first_gone(&boards),
+        link: link.cause(),
+    })
 }
 
 /// Runs the command over standard input and output, sockets of this machine and its clock.
@@ -148,9 +118,19 @@ fn main(rt: HostRuntime) -> ExitCode {
     let mut clock = SystemClock::new(&rt);
     let guard = Guard::new(&rt);
     let Some(words) = words(&rt) else {
-        return without_memory();
+        return without_memory(&rt);
     };
-    let mut input = StdSource::new(rt.stdin());
-    let mut out = StdSink::new(rt.stdout());
-    run_words(&rt, &guard, &words, &mut input, &mut out, &mut clock)
+    let Ok(names) = flash_names(rt.alloc(), &words) else {
+        return without_memory(&rt);
+    };
+    let mut input = Input::new(rt.stdin());
+    let mut out = Output::new(rt.stdout());
+    notes::note_waiting(&rt, &words);
+    let Some(ended) = run_words(
+        &rt, &guard, &words, &names, &mut input, &mut out, &mut clock,
+    ) else {
+        return without_memory(&rt);
+    };
+    tell(&rt, &words, &names, &ended, &input, &out);
+    exit_code(ended.status)
 }

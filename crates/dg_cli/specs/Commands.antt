@@ -23,8 +23,8 @@ use Rattle.dg_drip_run.specs.Dripped.{Dripped, played}
 use Rattle.dg_drip_run.specs.Causes.{DripEnds}
 use Rattle.dg_drip_run.specs.Promised.{GreatestIsKept, NothingFalls, SetsMakeAll, RoundsRaise, SweepsBringTheGreatest}
 use Rattle.dg_command.specs.Asking.{Said, Replay, Serve, Format, Inject, Order as OrderSaid, Boot, Ping, Dump, Migrate, Trial}
-use Rattle.dg_command.specs.Asking.{Wrap, Check, Receive, Drip, Base, Asking, Asks, Helps, Misuses}
-use Rattle.dg_cli.specs.Words.{UsageWritten, HelpWritten}
+use Rattle.dg_command.specs.Asking.{Wrap, Check, Receive, Drip, Base, Asking, Asks, Helps, TellsVersion, Misuses}
+use Rattle.dg_cli.specs.Words.{UsageWritten, HelpWritten, VersionWritten}
 use Rattle.dg_cli.specs.Parts.{around_of, service_of, drip_of}
 use Rattle.dg_cli.specs.Basing.{BaseDone}
 use Rattle.dg_cli.specs.Chained.{root_in, Checked}
@@ -88,6 +88,11 @@ pub record HelpDone (status : Status) (a b : Outside) : Type 0 where
   pub boards : b.boards ≡ a.boards
   pub written : HelpWritten status a.output.written b.output.written a.output.writes b.output.writes
 
+pub record VersionDone (status : Status) (a b : Outside) : Type 0 where
+  pub unread : b.input ≡ a.input
+  pub boards : b.boards ≡ a.boards
+  pub written : VersionWritten status a.output.written b.output.written a.output.writes b.output.writes
+
 -- ---- all commands
 
 abbrev pub SaidDone : Said → Status → Outside → Outside → Type 0
@@ -112,6 +117,7 @@ SaidDone (Base id step seed flash) status a b = BaseDone id step seed status (ar
 abbrev pub AskedDone : Asking → Status → Outside → Outside → Type 0
 AskedDone (Asks said) status a b = SaidDone said status a b
 AskedDone Helps status a b = HelpDone status a b
+AskedDone TellsVersion status a b = VersionDone status a b
 AskedDone Misuses status a b = UsageDone status a b
 
 -- the words themselves may take more memory than there is, and then nothing is done

@@ -1,5 +1,5 @@
--- What is told of words that are no command, or that ask for help (docs/COMMANDS.md, "How a command ends").
-use Rattle.std.specs.Prelude.{◌≡◌, ◌⊎◌, ℕ, List, [], ◌∷◌, ◌++◌, codes, Option}
+-- What is told of words that are no command, or that ask for help or the version (docs/COMMANDS.md, "How a command ends").
+use Rattle.std.specs.Prelude.{◌≡◌, ◌≢◌, ◌⊎◌, ℕ, List, [], ◌∷◌, ◌++◌, codes, Option}
 use Rattle.dg_words.specs.Counts.{Rose}
 use Rattle.dg_base.specs.Outside.{Puts, PutsFront}
 use Rattle.dg_base.specs.declared.answers.Status.{Status}
@@ -9,14 +9,26 @@ use Rattle.dg_base.specs.declared.answers.Status.TheVariants.{Done, Usage, Write
 abbrev pub usage_line : List ℕ
 usage_line = codes "usage" ++ 10 ∷ []
 
--- it was written, or a front of it, since a write failed
+-- and the line on the version
+abbrev pub version_line : List ℕ
+version_line = codes "deluge 0.9" ++ 10 ∷ []
+
+-- a text was written, or a front of it, since a write failed
+abbrev pub TextWritten : (text : List ℕ) → (wanted status : Status) → (written_before written_after : Option (List ℕ))
+    → (writes_before writes_after : ℕ) → Type 0
+TextWritten text wanted status before after faults_before faults_after =
+    ((status ≡ wanted) × Puts before after text × (faults_after ≡ faults_before))
+    ⊎ ((status ≡ WriteFault) × PutsFront before after text × Rose faults_before faults_after)
+
 abbrev pub UsageWritten : Status → (written_before written_after : Option (List ℕ)) → (writes_before writes_after : ℕ) → Type 0
 UsageWritten status before after faults_before faults_after =
-    ((status ≡ Usage) × Puts before after usage_line × (faults_after ≡ faults_before))
-    ⊎ ((status ≡ WriteFault) × PutsFront before after usage_line × Rose faults_before faults_after)
+    TextWritten usage_line Usage status before after faults_before faults_after
 
--- some text was written, or a front of it, since a write failed
+abbrev pub VersionWritten : Status → (written_before written_after : Option (List ℕ)) → (writes_before writes_after : ℕ) → Type 0
+VersionWritten status before after faults_before faults_after =
+    TextWritten version_line Done status before after faults_before faults_after
+
+-- some text that is not empty
 abbrev pub HelpWritten : Status → (written_before written_after : Option (List ℕ)) → (writes_before writes_after : ℕ) → Type 0
 HelpWritten status before after faults_before faults_after =
-    (text : List ℕ) × (((status ≡ Done) × Puts before after text × (faults_after ≡ faults_before))
-    ⊎ ((status ≡ WriteFault) × PutsFront before after text × Rose faults_before faults_after))
+    (text : List ℕ) × (text ≢ []) × TextWritten text Done status before after faults_before faults_after

@@ -7,7 +7,7 @@ ghost use Rattle.dg_command.specs.Asking.{asked_of};
 ghost use Rattle.dg_cli.specs.Commands.{CommandDone, ReadsInput, UsesLink};
 
 use crate::dispatch::dispatch;
-use crate::help::{tell_help, tell_usage};
+use crate::help::{tell_help, tell_usage, tell_version};
 use dg_base::{Clock, Sink, Source, Status};
 use dg_command::{Asked, asked};
 use dg_link::Link;
@@ -22,9 +22,9 @@ use std::alloc::{AllocError, Global};
 /// spells over them, the link and the clock, and writes what happens as a script. `trial` plays the schedule that a seed
 /// makes over them.
 /// `format`, `inject`, `order`, `boot`, `ping`, `dump`, `migrate`, `check` and `receive` work on the first board. `wrap` and
-/// `drip` use none: they make a hash-chained image of `input`, and replay the script of nodes that it spells. `--help` and
-/// `--version` write a text. All other words are [`Status::Usage`]. A status other than [`Status::Done`] writes its line last,
-/// where it has one.
+/// `drip` use none: they make a hash-chained image of `input`, and replay the script of nodes that it spells. `--help` writes a
+/// text that is not empty, and `--version` its line. All other words are [`Status::Usage`]. A status other than
+/// [`Status::Done`] writes its line last, where it has one.
 pub fn run<S: Source, K: Sink, N: Nor, L: Link, C: Clock>(
     alloc: Global,
     words: &Vec<String>,
@@ -61,6 +61,7 @@ pub fn run<S: Source, K: Sink, N: Nor, L: Link, C: Clock>(
     match asked(alloc, words) {
         Ok(Asked::Command(command)) => dispatch(alloc, &command, input, out, boards, link, clock),
         Ok(Asked::Help(text)) => tell_help(out, text.as_str()),
+        Ok(Asked::Version) => tell_version(out),
         Ok(Asked::Usage) => tell_usage(out),
         Err(AllocError) => Status::Memory,
     }

@@ -1,7 +1,7 @@
-//! What is told where words are no command, or ask for help.
-ghost use Rattle.std.specs.Prelude.{◌≡◌, ◌≤◌};
+//! What is told where words are no command, or ask for help or the version.
+ghost use Rattle.std.specs.Prelude.{◌≡◌, ◌≢◌, ◌≤◌, []};
 ghost use Rattle.dg_words.specs.Counts.{Rose};
-ghost use Rattle.dg_cli.specs.Words.{UsageWritten, HelpWritten};
+ghost use Rattle.dg_cli.specs.Words.{UsageWritten, HelpWritten, VersionWritten};
 
 use dg_base::{Sink, Status, WriteFailed};
 
@@ -18,10 +18,22 @@ pub(crate) fn tell_usage<K: Sink>(out: &mut K) -> Status
 
 /// Writes a text of help.
 pub(crate) fn tell_help<K: Sink>(out: &mut K, text: &str) -> Status
+    requires some { text.now ≢ [] }
     ensures written { HelpWritten result (K.written out.old) (K.written out.new) (K.faults out.old) (K.faults out.new) }
     ensures counts { K.faults out.old ≤ K.faults out.new }
 {
     match out.write(text.as_bytes()) {
+        Ok(()) => Status::Done,
+        Err(WriteFailed) => Status::WriteFault,
+    }
+}
+
+/// Writes the line on the version.
+pub(crate) fn tell_version<K: Sink>(out: &mut K) -> Status
+    ensures written { VersionWritten result (K.written out.old) (K.written out.new) (K.faults out.old) (K.faults out.new) }
+    ensures counts { K.faults out.old ≤ K.faults out.new }
+{
+    match out.write(b"deluge 0.9\n") {
         Ok(()) => Status::Done,
         Err(WriteFailed) => Status::WriteFault,
     }

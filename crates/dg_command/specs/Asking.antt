@@ -1,5 +1,6 @@
 -- What words ask for (the words of docs/COMMANDS.md).
-use Rattle.std.specs.Prelude.{ℕ, Bool, true, ◌&&◌, if◌then◌else◌, List, [], ◌∷◌, map, Option, Some, None, codes, string_bytes}
+use Rattle.std.specs.Prelude.{◌≢◌, ℕ, Bool, true, ◌&&◌, if◌then◌else◌, List, [], ◌∷◌, map, Option, Some, None, codes}
+use Rattle.std.specs.Prelude.{string_bytes}
 use Rattle.dg_base.specs.Texts.{spells_name}
 use Rattle.clap.specs.Words.{Kinds, Row, Text, fault_of, matches_of}
 use Rattle.clap.specs.declared.error.kind.ErrorKind.{ErrorKind}
@@ -33,10 +34,11 @@ pub data Said : Type 0 where
   Drip : Said
   Base : (id step seed : ℕ) → (flash : Text) → Said
 
--- a command, a text of help, or neither
+-- a command, a text of help, the version, or none of these
 pub data Asking : Type 0 where
   Asks : Said → Asking
   Helps : Asking
+  TellsVersion : Asking
   Misuses : Asking
 
 -- ---- what the code's values say
@@ -62,7 +64,13 @@ said_by (command.Base id step seed flash) = Base id step seed (string_bytes flas
 abbrev pub asking : Asked → Asking
 asking (asked.Command c) = Asks (said_by c)
 asking (asked.Help text) = Helps
+asking asked.Version = TellsVersion
 asking asked.Usage = Misuses
+
+-- a text of help is not empty
+abbrev pub HelpsBySome : Asked → Type 0
+HelpsBySome (asked.Help text) = string_bytes text ≢ []
+HelpsBySome _ = Unit {0}
 
 -- ---- what words say
 
@@ -111,7 +119,7 @@ taken_by None rows = Misuses
 -- words that it refuses, by the kind of the refusal
 abbrev pub refused_by : ErrorKind → Asking
 refused_by DisplayHelp = Helps
-refused_by DisplayVersion = Helps
+refused_by DisplayVersion = TellsVersion
 refused_by _ = Misuses
 
 abbrev pub by_fault : Kinds → Asking → Asking
@@ -147,4 +155,5 @@ flashes_said (Base id step seed flash) = flash ∷ []
 abbrev pub flashes_of : Asking → List Text
 flashes_of (Asks said) = flashes_said said
 flashes_of Helps = []
+flashes_of TellsVersion = []
 flashes_of Misuses = []

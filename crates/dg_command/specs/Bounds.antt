@@ -1,7 +1,7 @@
 -- The ranges of a command's values (the words of docs/COMMANDS.md).
 use Rattle.std.specs.Prelude.{◌≡◌, ◌⊎◌, ◌≤◌, ⊤, true}
 use Rattle.dg_command.specs.Asking.{Said, Replay, Serve, Format, Inject, Order, Boot, Ping, Dump, Migrate, Trial, Wrap, Check}
-use Rattle.dg_command.specs.Asking.{Receive, Drip, Base, Asking, Asks, Helps, Misuses, is_well_formed}
+use Rattle.dg_command.specs.Asking.{Receive, Drip, Base, Asking, Asks, Helps, TellsVersion, Misuses, is_well_formed}
 use Rattle.dg_command.specs.Sizes.{last_slot, most_turns, most_room, least_motes, most_motes, least_pages, most_pages, most_step}
 use Rattle.dg_command.specs.Sizes.{most_id, old_form, new_form}
 
@@ -26,4 +26,5 @@ IsInBounds (Base id step seed flash) = (id ≤ most_id) × (1 ≤ step) × (step
 abbrev pub FitsRanges : Asking → Type 0
 FitsRanges (Asks said) = IsInBounds said × (is_well_formed said ≡ true)
 FitsRanges Helps = ⊤
+FitsRanges TellsVersion = ⊤
 FitsRanges Misuses = ⊤

@@ -5,6 +5,7 @@ ghost use Rattle.dg_command.specs.Apps.{app_for, app_of_verb, flash_word, flash_
 ghost use Rattle.dg_command.specs.Apps.{other_slot_option, root_option, rules_of, seed_option, slot_option, text_option, top_app};
 ghost use Rattle.dg_command.specs.Apps.{version_option};
 
+use crate::helps::notes;
 use crate::ranges::{LEAST_MOTES, LEAST_PAGES, MOST_STEP, MOST_TURNS};
 use crate::verbs::Verb;
 use clap::{Arg, ArgAction, Command, value_parser};
@@ -13,16 +14,25 @@ use dg_control::{FORM, MOST_ROOM, OLD_FORM};
 use dg_object::{MOST_PAGES, SLOTS};
 use std::alloc::{AllocError, Global};
 
+/// How the program is called.
+pub(crate) const CALLED: &str = "deluge COMMAND [OPTIONS] [FLASH]..";
+
+/// `clap` knows by it that there is a version to ask for. The line on it is written by `run` of `dg_cli`.
 const VERSION: &str = "0.9";
 
 const IMAGE: &str = "The image, 0 to 6; 0 is golden";
 
-const TURNS: &str =
-    "How many turns it takes, of 16 to 50 ms. Of N motes, replay takes a trace of about 700000 / N turns";
+const NEW_IMAGE: &str = "The image, 1 to 6; 0 is golden, and is refused";
 
-const VERBS: &str = "Commands:
-  replay [FLASH]..                                        replay a script over boards
-  serve --turns T --seed S [FLASH]..                      run the motes of a network profile
+const TURNS: &str =
+    "How many turns it takes, 1 to 1000000, of 16 to 50 ms each; replay takes a trace of about 700000 / motes";
+
+const IN_MEMORY: &str = "The files of the chips; without any they are kept in memory";
+
+const OF_MOTES: &str =
+    "The files of the chips, one for each mote; without any, serve ends as over chips that are no volumes";
+
+const VERBS: &str = "Chips:
   format --name NAME --used U [--form F] FLASH            make a chip with a golden image
   inject --image I --ver V --name NAME FLASH              put an image into a chip
   order --number K --image I --ver V FLASH                keep an order in a chip
@@ -30,12 +40,25 @@ const VERBS: &str = "Commands:
   ping FLASH                                              tell what a chip keeps
   dump --image I FLASH                                    write an image of a chip
   migrate FLASH                                           write a chip of form 1 in form 2
+
+Rehearsal:
+  replay [FLASH]..                                        replay a script over boards
   trial --motes N --pages P --seed S                      play a schedule that a seed makes
+
+Service:
+  serve --turns T --seed S [FLASH]..                      run the motes of a network profile
+  base --id I --step D --seed S FLASH                     run a mote on a serial line
+
+Hash chains:
   wrap                                                    make a hash-chained image
-  check --image I --root HEX FLASH                        test an image of a chip against its root
   receive --image I --ver V --name NAME --root HEX FLASH  put a hash-chained image into a chip
+  check --image I --root HEX FLASH                        test an image of a chip against its root
+
+Values:
   drip                                                    replay a script of small values
-  base --id I --step D --seed S FLASH                     run a mote on a serial line";
+
+A command that fails ends with a status from 1 to 13, and standard error tells why.
+deluge COMMAND --help tells what it reads and writes; docs/COMMANDS.md tells all.";
 
 /// An option that must be there, whose value is a number within bounds.
 fn number<'a>(alloc: Global, name: &'a str, help: &'a str, low: u32, high: u32) -> Arg<'a>
@@ -71,11 +94,11 @@ fn flash<'a>(alloc: Global) -> Arg<'a>
 }
 
 /// Files of chips, any number of them.
-fn flashes<'a>(alloc: Global) -> Arg<'a>
+fn flashes<'a>(alloc: Global, help: &'a str) -> Arg<'a>
     ensures { rule_of result ≡ flash_words }
 {
     Arg::new(alloc, "FLASH")
-        .help("The files of the chips; without any they are kept in memory")
+        .help(help)
         .action(ArgAction::Append)
 }
 
@@ -91,10 +114,10 @@ fn form<'a>(alloc: Global) -> Arg<'a>
 }
 
 /// The number of an image that a chip has a slot for.
-fn slot<'a>(alloc: Global) -> Arg<'a>
+fn slot<'a>(alloc: Global, help: &'a str) -> Arg<'a>
     ensures { rule_of result ≡ slot_option }
 {
-    number(alloc, "image", IMAGE, 0, u32::from(SLOTS - 1))
+    number(alloc, "image", help, 0, u32::from(SLOTS - 1))
 }
 
 /// The number of an image that a chip has a slot for, and that is not golden.
@@ -129,7 +152,7 @@ fn seed<'a>(alloc: Global) -> Arg<'a>
     number(
         alloc,
         "seed",
-        "The seed of the words that are drawn",
+        "The number that all draws are made from, 0 to 4294967295",
         0,
         u32::MAX,
     )
@@ -140,16 +163,16 @@ fn arguments<'a>(alloc: Global, verb: Verb) -> Result<Vec<Arg<'a>>, AllocError>
     ensures { IfOk result (λ v. map rule_of v.items ≡ rules_of verb) }
 {
     match verb {
-        Verb::Replay => Ok(vec![in alloc; flashes(alloc)]?),
+        Verb::Replay => Ok(vec![in alloc; flashes(alloc, IN_MEMORY)]?),
         Verb::Serve => serve_arguments(alloc),
         Verb::Format => format_arguments(alloc),
         Verb::Inject => inject_arguments(alloc),
         Verb::Order => order_arguments(alloc),
         Verb::Boot | Verb::Ping | Verb::Migrate => Ok(vec![in alloc; flash(alloc)]?),
-        Verb::Dump => Ok(vec![in alloc; slot(alloc), flash(alloc)]?),
+        Verb::Dump => Ok(vec![in alloc; slot(alloc, IMAGE), flash(alloc)]?),
         Verb::Trial => trial_arguments(alloc),
         Verb::Wrap | Verb::Drip => Ok(Vec::new(alloc)),
-        Verb::Check => Ok(vec![in alloc; slot(alloc), root(alloc), flash(alloc)]?),
+        Verb::Check => Ok(vec![in alloc; slot(alloc, IMAGE), root(alloc), flash(alloc)]?),
         Verb::Receive => receive_arguments(alloc),
         Verb::Base => base_arguments(alloc),
     }
@@ -159,7 +182,7 @@ fn serve_arguments<'a>(alloc: Global) -> Result<Vec<Arg<'a>>, AllocError>
     ensures { IfOk result (λ v. map rule_of v.items ≡ rules_of Verb.Serve) }
 {
     let turns = number(alloc, "turns", TURNS, 1, MOST_TURNS);
-    Ok(vec![in alloc; turns, seed(alloc), flashes(alloc)]?)
+    Ok(vec![in alloc; turns, seed(alloc), flashes(alloc, OF_MOTES)]?)
 }
 
 fn format_arguments<'a>(alloc: Global) -> Result<Vec<Arg<'a>>, AllocError>
@@ -188,7 +211,7 @@ fn inject_arguments<'a>(alloc: Global) -> Result<Vec<Arg<'a>>, AllocError>
         "name",
         "The name of the image: 1 to 16 letters, digits, _, - and .",
     );
-    Ok(vec![in alloc; slot(alloc), version(alloc), name, flash(alloc)]?)
+    Ok(vec![in alloc; slot(alloc, NEW_IMAGE), version(alloc), name, flash(alloc)]?)
 }
 
 fn order_arguments<'a>(alloc: Global) -> Result<Vec<Arg<'a>>, AllocError>
@@ -201,7 +224,7 @@ fn order_arguments<'a>(alloc: Global) -> Result<Vec<Arg<'a>>, AllocError>
         1,
         u32::MAX,
     );
-    Ok(vec![in alloc; order, slot(alloc), version(alloc), flash(alloc)]?)
+    Ok(vec![in alloc; order, slot(alloc, IMAGE), version(alloc), flash(alloc)]?)
 }
 
 fn trial_arguments<'a>(alloc: Global) -> Result<Vec<Arg<'a>>, AllocError>
@@ -210,14 +233,14 @@ fn trial_arguments<'a>(alloc: Global) -> Result<Vec<Arg<'a>>, AllocError>
     let motes = number(
         alloc,
         "motes",
-        "How many motes there are",
+        "How many motes there are, 2 to 16",
         u32::from(LEAST_MOTES),
         u32::from(MOST_MOTES),
     );
     let pages = number(
         alloc,
         "pages",
-        "How many pages the image has",
+        "How many pages the image has, 2 to 65; its descriptor is one",
         u32::from(LEAST_PAGES),
         u32::from(MOST_PAGES),
     );
@@ -293,6 +316,7 @@ fn verb_command<'a>(alloc: Global, verb: Verb) -> Result<Command<'a>, AllocError
     let arguments = arguments(alloc, verb)?;
     let command = Command::new(alloc, verb.word())
         .about(does)
+        .after_help(notes(verb))
         .bin_name(called)?;
     command.args(arguments)
 }
@@ -303,7 +327,7 @@ fn top_command<'a>(alloc: Global) -> Command<'a>
 {
     Command::new(alloc, "deluge")
         .about("Spreads images over motes, and keeps them on flash")
-        .override_usage("deluge COMMAND [OPTIONS] [FLASH]..")
+        .override_usage(CALLED)
         .after_help(VERBS)
         .version(VERSION)
         .no_binary_name(true)

@@ -93,8 +93,10 @@ pub enum Command {
 pub enum Asked {
     /// A command.
     Command(Command),
-    /// A text of help, or the version.
+    /// A text of help, which is not empty.
     Help(String),
+    /// The version of the program.
+    Version,
     /// The words are none of these.
     Usage,
 }

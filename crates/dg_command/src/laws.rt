@@ -2,7 +2,7 @@
 ghost use Rattle.std.specs.Prelude.{◌≡◌, ◌≢◌, ℕ, true, List, [], ◌∷◌, codes, Some, None};
 ghost use Rattle.clap.specs.Words.{fault_of, matches_of};
 ghost use Rattle.dg_command.specs.Apps.{app_of_verb};
-ghost use Rattle.dg_command.specs.Asking.{Asking, Asks, Helps, Misuses, Said, asked_of, is_well_formed, said_at};
+ghost use Rattle.dg_command.specs.Asking.{Asking, Asks, Helps, TellsVersion, Misuses, Said, asked_of, is_well_formed, said_at};
 ghost use Rattle.dg_command.specs.Asking.{Replay, Serve, Format, Inject, Order, Boot, Ping, Dump, Migrate, Trial, Wrap, Check};
 ghost use Rattle.dg_command.specs.Asking.{Receive, Drip, Base};
 ghost use Rattle.dg_command.specs.Laws.{line};
@@ -57,7 +57,7 @@ pub fn forms_of_a_command()
 /// Help and the version are shown, and which comes first decides.
 pub fn help_is_shown()
     ensures top { asked_of (line (codes "--help")) ≡ Helps }
-    ensures version { asked_of (line (codes "-V")) ≡ Helps }
+    ensures version { asked_of (line (codes "-V")) ≡ TellsVersion }
     ensures verb { asked_of (line (codes "order --help")) ≡ Helps }
     ensures first { asked_of (line (codes "format --help --bogus")) ≡ Helps }
     ensures late { asked_of (line (codes "format --bogus --help")) ≡ Misuses }

@@ -6,12 +6,14 @@
 
 mod apps;
 mod command;
+mod helps;
 mod laws;
 mod ranges;
 mod reading;
 mod roots;
 mod values;
 mod verbs;
+mod wrong;
 
 pub use command::{Asked, Command};
 pub use laws::{
@@ -23,6 +25,7 @@ pub use ranges::{
 };
 pub use reading::{asked, flash_names};
 pub use roots::root_bytes;
+pub use wrong::misuse;
 
 #[cfg(test)]
 mod tests;

@@ -2,10 +2,10 @@
 ghost use Rattle.std.specs.Prelude.{◌≡◌, ◌≢◌, [], ◌∷◌, IfOk, map, string_bytes, Some};
 ghost use Rattle.clap.specs.Words.{found_of, kind_of, rows_of};
 ghost use Rattle.dg_command.specs.Bounds.{FitsRanges};
-ghost use Rattle.dg_command.specs.Asking.{asked_of, asking, flashes_of, flashes_said, is_well_formed, named, refused_by, said_at};
-ghost use Rattle.dg_command.specs.Asking.{said_by, taken_by};
+ghost use Rattle.dg_command.specs.Asking.{HelpsBySome, asked_of, asking, flashes_of, flashes_said, is_well_formed, named};
+ghost use Rattle.dg_command.specs.Asking.{refused_by, said_at, said_by, taken_by};
 
-use crate::apps::command_for;
+use crate::apps::{CALLED, command_for};
 use crate::command::{Asked, Command};
 use crate::roots::is_root;
 use crate::values::{form, number, short_number, small_number, text, texts};
@@ -23,6 +23,7 @@ pub fn asked(alloc: Global, words: &Vec<String>) -> Result<Asked, AllocError>
 
     // A command's numbers are in their ranges, the name that it gives an image is one, and so is a root.
     ensures fits { IfOk result (λ a. FitsRanges (asking a)) }
+    ensures some { IfOk result HelpsBySome }
 {
     let verb = Verb::among(words);
     let command = command_for(alloc, verb)?;
@@ -40,7 +41,7 @@ pub fn flash_names(alloc: Global, words: &Vec<String>) -> Result<Vec<String>, Al
     match asked(alloc, words)? {
         Asked::Command(command) => flashes(alloc, command),
         Asked::Help(_text) => Ok(Vec::new(alloc)),
-        Asked::Usage => Ok(Vec::new(alloc)),
+        Asked::Version | Asked::Usage => Ok(Vec::new(alloc)),
     }
 }
 
@@ -68,7 +69,8 @@ fn flashes(alloc: Global, mut command: Command) -> Result<Vec<String>, AllocErro
 
 // Words that are taken.
 fn taken(alloc: Global, verb: Option<Verb>, matches: &ArgMatches<'_>) -> Result<Asked, AllocError>
-    ensures { IfOk result (λ a. asking a ≡ taken_by verb (rows_of (found_of matches.now))) }
+    ensures taken { IfOk result (λ a. asking a ≡ taken_by verb (rows_of (found_of matches.now))) }
+    ensures some { IfOk result HelpsBySome }
 {
     match verb {
         Some(verb) => {
@@ -81,7 +83,8 @@ fn taken(alloc: Global, verb: Option<Verb>, matches: &ArgMatches<'_>) -> Result<
 
 // A command, unless the name that it gives an image is none, or a root.
 fn named(command: Command) -> Asked
-    ensures { asking result ≡ named (said_by command) }
+    ensures named { asking result ≡ named (said_by command) }
+    ensures some { HelpsBySome result }
 {
     if is_well_formed(&command) {
         Asked::Command(command)
@@ -103,21 +106,37 @@ fn is_well_formed(command: &Command) -> bool
     }
 }
 
-// Words that are refused: a text of help, or a mistake.
+// Words that are refused: a text of help, the version, or a mistake.
 fn refused(alloc: Global, error: &Error) -> Result<Asked, AllocError>
-    ensures { IfOk result (λ a. (asking a ≡ refused_by (kind_of error.now)) × (kind_of error.now ≢ ErrorKind.OutOfMemory)) }
+    ensures refused { IfOk result (λ a. (asking a ≡ refused_by (kind_of error.now))
+        × (kind_of error.now ≢ ErrorKind.OutOfMemory)) }
+    ensures some { IfOk result HelpsBySome }
 {
     match error.kind() {
-        ErrorKind::DisplayHelp | ErrorKind::DisplayVersion => {
-            Ok(Asked::Help(format!(in alloc; "{error}")?))
-        }
+        ErrorKind::DisplayHelp => Ok(Asked::Help(help_text(alloc, error)?)),
+        ErrorKind::DisplayVersion => Ok(Asked::Version),
         ErrorKind::OutOfMemory => Err(AllocError),
         _ => Ok(Asked::Usage),
     }
 }
 
+// The text of help that `clap` made. Were it empty, it is how the program is called.
+fn help_text(alloc: Global, error: &Error) -> Result<String, AllocError>
+    ensures { IfOk result (λ text. string_bytes text ≢ []) }
+{
+    let text = format!(in alloc; "{error}")?;
+    if text.is_empty() {
+        return String::from_str(alloc, CALLED);
+    }
+    Ok(text)
+}
+
 // The values of a command.
-fn command_at(alloc: Global, verb: Verb, matches: &ArgMatches<'_>) -> Result<Command, AllocError>
+pub(crate) fn command_at(
+    alloc: Global,
+    verb: Verb,
+    matches: &ArgMatches<'_>,
+) -> Result<Command, AllocError>
     ensures { IfOk result (λ c. said_by c ≡ said_at verb (rows_of (found_of matches.now))) }
 {
     match verb {

@@ -4,7 +4,7 @@ use dg_nor::{Board, Nor, SECTOR_SIZE, SECTORS, Stopped, erase_sector, program_in
 use std::alloc::{AllocError, Global};
 
 /// The bytes of a sector.
-const CELLS: usize = SECTOR_SIZE as usize;
+pub(crate) const CELLS: usize = SECTOR_SIZE as usize;
 
 /// A chip and its name.
 #[derive(Drop)]
@@ -38,6 +38,16 @@ pub(crate) fn take(chips: &mut Vec<Chip>, name: &str) -> Option<Chip> {
         return None;
     }
     Some(chips.remove(place))
+}
+
+/// The first chip that words name.
+pub(crate) fn chip_named<'a>(chips: &'a [Chip], words: &[String]) -> Option<&'a Chip> {
+    for word in words {
+        if let Some(place) = place_of(chips, word.as_str()) {
+            return chips.get(place);
+        }
+    }
+    None
 }
 
 /// Takes out the chips that words name, in the order of these.

@@ -2,6 +2,7 @@
 #![tactic(auto)]
 
 mod chips;
+mod operations;
 mod outside;
 mod player;
 mod row;

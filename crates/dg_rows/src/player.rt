@@ -1,8 +1,9 @@
 //! Playing the lines of a file of rows, one after the other.
 
 use crate::chips::{
-    Chip, are_same, blank_chip, blank_chips, copy_of, patch, put_back, take, take_named,
+    Chip, are_same, blank_chip, blank_chips, chip_named, copy_of, patch, put_back, take, take_named,
 };
+use crate::operations::operation_of;
 use crate::row::{Came, Row};
 use crate::runner::Runner;
 use crate::saved::{Saved, copies_of};
@@ -89,6 +90,11 @@ impl<'a, R: Runner> Player<'a, R> {
 
     /// Goes on with what is open, where the line does so.
     fn goes_on(&mut self, head: &str, rest: &str) -> Result<bool, AllocError> {
+        let operation = operation_of(self.alloc, head, rest);
+        if let (Open::Row(row), Some(operation)) = (&mut self.open, operation) {
+            row.operations.push(operation)?;
+            return Ok(true);
+        }
         let bytes = match head {
             "<" | ">" => Some(self.line_of(rest)?),
             "<x" | ">x" | "mask" => parse_hex(self.alloc, rest.as_bytes()).ok(),
@@ -140,6 +146,9 @@ impl<'a, R: Runner> Player<'a, R> {
 
     /// Plays a row in each of its turns.
     fn play(&mut self, row: &Row) -> Result<(), AllocError> {
+        if !row.operations.is_empty() {
+            return self.play_stops(row);
+        }
         for turn in &row.turns(self.alloc)? {
             self.play_turn(row, turn)?;
         }
@@ -158,6 +167,22 @@ impl<'a, R: Runner> Player<'a, R> {
         self.taken = came.taken;
         self.written = came.written;
         self.count(right);
+        Ok(())
+    }
+
+    /// Plays a row over copies of its chip, of which each stops at another of the operations that it lists.
+    fn play_stops(&mut self, row: &Row) -> Result<(), AllocError> {
+        for turn in &row.stops(self.alloc)? {
+            let Some(chip) = chip_named(&self.chips, &row.words) else {
+                return self.refuse("no such chip");
+            };
+            let (came, same) = row.play_listed(self.alloc, self.runner, turn, chip)?;
+            let right = same && row.wanted.is_met(turn, &came, 0);
+            if !right {
+                self.tell(row, &came)?;
+            }
+            self.count(right);
+        }
         Ok(())
     }
 

@@ -2,6 +2,7 @@
 ghost use Rattle.std.specs.Prelude.{◌≤◌, IfSome};
 
 use crate::chips::Chip;
+use crate::operations::Operation;
 use crate::outside::{CALM, CLOCK_STEP, MASK_SIZE, Outside, rest};
 use crate::runner::Runner;
 use crate::turns::{Part, Sweep, Turn};
@@ -22,6 +23,8 @@ pub(crate) struct Row {
     pub(crate) outside: Outside,
     pub(crate) wanted: Wanted,
     pub(crate) sweep: Sweep,
+    /// The operations that it makes on its chip, where they are listed.
+    pub(crate) operations: Vec<Operation>,
     /// How far the input goes with each of its lines, and what is written by then.
     pub(crate) parts: Vec<Part>,
     /// How much of what is written comes before the input is at its end.
@@ -108,6 +111,7 @@ impl Row {
                 least_taken: 0,
             },
             sweep: Sweep::Once,
+            operations: Vec::new(alloc),
             parts: Vec::new(alloc),
             lines_written: usize::MAX,
         })

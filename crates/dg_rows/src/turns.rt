@@ -115,6 +115,20 @@ impl Row {
         Ok(turns)
     }
 
+    /// The chip stops at each of the operations that are listed, so that nothing is written, and then behind the last.
+    pub(crate) fn stops(&self, alloc: Global) -> Result<Vec<Turn>, AllocError> {
+        let mut turns = Vec::new(alloc);
+        for (before, _) in self.operations.iter().enumerate() {
+            let mut turn = self.turn(u32::from(Status::FlashFault.code()), 0);
+            turn.outside.stop = u32::try_from(before).unwrap_or(0).saturating_add(1);
+            turns.push(turn)?;
+        }
+        let mut last = self.turn(self.wanted.status, self.wanted.written.len());
+        last.outside.stop = u32::try_from(turns.len()).unwrap_or(0).saturating_add(1);
+        turns.push(last)?;
+        Ok(turns)
+    }
+
     /// How much was written before each write.
     fn writes(&self, alloc: Global) -> Result<Vec<usize>, AllocError> {
         let mut writes = Vec::new(alloc);

@@ -8,7 +8,7 @@ ghost use Rattle.dg_tool.specs.Done.{OnBoards};
 ghost use Rattle.dg_tool.specs.Rules.{boot_rule};
 
 use dg_base::push_hex;
-use dg_boot::{StartCause, Started, start};
+use dg_boot::{Kind, Started, start};
 use dg_end::{End, push_words};
 use dg_nor::Nor;
 use std::alloc::{AllocError, Global};
@@ -38,7 +38,7 @@ pub(crate) fn boot_first<N: Nor>(alloc: Global, boards: &mut [N]) -> Result<Vec<
         return Err(End::NoBoard { need: 1, have: 0 });
     }
     let nor = &mut boards[0];
-    let started = start(nor, StartCause::Power)?;
+    let started = start(nor, Kind::Power)?;
     let line = start_line(alloc, &started)?;
     Ok(line)
 }

@@ -19,12 +19,12 @@ returns-in-Ok-clause-answer c =
     let is : app_of c.in_ok-command.command ≡ app_for c.among-verb.result = c.in_ok-command.ensures in
     let none = c.in-Ok.ensures.kinds (ap is_simple_and_free is ∙ plain_for c.among-verb.result) in
     let found = c.in-Ok.ensures.matches (ap is_simple is ∙ simple_for c.among-verb.result) in
-    IfOk-weaker c.taken.result _ _ (λ a says. takes_them c.among-verb.result words seen (app_of c.in_ok-command.command) (rows_of (found_of c.in-Ok.matches)) (asking a) verb is same none found.0 says) c.taken.ensures
+    IfOk-weaker c.taken.result _ _ (λ a says. takes_them c.among-verb.result words seen (app_of c.in_ok-command.command) (rows_of (found_of c.in-Ok.matches)) (asking a) verb is same none found.0 says) c.taken.ensures.taken
 
 pub returns-in-Ok-clause-fits : goal.returns-in-Ok-clause-fits
 returns-in-Ok-clause-fits c =
     let is : app_of c.in_ok-command.command ≡ app_for c.among-verb.result = c.in_ok-command.ensures in
-    IfOk-weaker c.taken.result _ _ (λ a says. subst (λ (x : Asking). FitsRanges x) (sym says) (taken_fits c.among-verb.result c.in_ok-command.command c.in-Ok.matches is c.in-Ok.ensures.parsed)) c.taken.ensures
+    IfOk-weaker c.taken.result _ _ (λ a says. subst (λ (x : Asking). FitsRanges x) (sym says) (taken_fits c.among-verb.result c.in_ok-command.command c.in-Ok.matches is c.in-Ok.ensures.parsed)) c.taken.ensures.taken
 
 pub returns-in-Err-clause-answer : goal.returns-in-Err-clause-answer
 returns-in-Err-clause-answer c =
@@ -34,8 +34,8 @@ returns-in-Err-clause-answer c =
     let verb : c.among-verb.result ≡ verb_in words = c.among-verb.ensures ∙ ap verb_in (ap (map string_bytes) c.deref.ensures.value) in
     let is : app_of c.in_ok-command.command ≡ app_for c.among-verb.result = c.in_ok-command.ensures in
     let has = c.in-Err.ensures.kinds (ap is_simple_and_free is ∙ plain_for c.among-verb.result) in
-    IfOk-weaker c.refused.result _ _ (λ a h. refuses_them c.among-verb.result words seen (app_of c.in_ok-command.command) c.in-Err.error (asking a) verb is same has h.1 h.0) c.refused.ensures
+    IfOk-weaker c.refused.result _ _ (λ a h. refuses_them c.among-verb.result words seen (app_of c.in_ok-command.command) c.in-Err.error (asking a) verb is same has h.1 h.0) c.refused.ensures.refused
 
 pub returns-in-Err-clause-fits : goal.returns-in-Err-clause-fits
 returns-in-Err-clause-fits c =
-    IfOk-weaker c.refused.result _ _ (λ a h. subst (λ (x : Asking). FitsRanges x) (sym h.0) (refused_fits (kind_of c.in-Err.error))) c.refused.ensures
+    IfOk-weaker c.refused.result _ _ (λ a h. subst (λ (x : Asking). FitsRanges x) (sym h.0) (refused_fits (kind_of c.in-Err.error))) c.refused.ensures.refused

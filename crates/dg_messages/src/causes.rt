@@ -1,0 +1,102 @@
+//! What an operator is told.
+use dg_base::Status;
+use dg_ihex::HexCause;
+use dg_net::LinkCause;
+use dg_netcfg::ProfileFault;
+use dg_nor::FileFault;
+use dg_script::LineFault;
+
+/// What is wrong with words that are no command.
+#[derive(Clone, Copy, Debug, PartialEq, Eq)]
+pub enum Misuse<'a> {
+    /// There is none.
+    NoWord,
+    /// The first one is no command.
+    NoCommand { word: &'a str },
+    /// One is not UTF-8.
+    NotText,
+    /// They are not those that the command takes.
+    Words { what: &'a str, verb: &'a str },
+}
+
+/// Why standard input could not be read.
+#[derive(Clone, Copy, Debug, PartialEq, Eq)]
+pub enum InputFault {
+    /// It is closed, or a folder.
+    NoStream,
+    /// A read failed for another reason.
+    Failed,
+}
+
+/// Why standard output could not be written.
+#[derive(Clone, Copy, Debug, PartialEq, Eq)]
+pub enum OutputFault {
+    /// The disk is full.
+    Full,
+    /// The reader of a pipe is gone.
+    NoReader,
+    /// It is closed, or a write failed for another reason.
+    Failed,
+}
+
+/// Why a command is refused.
+#[derive(Clone, Copy, Debug, PartialEq, Eq)]
+pub enum Refused {
+    /// The image has no byte.
+    Empty,
+    /// It has so many.
+    TooLarge { length: u32 },
+    /// It is golden.
+    Reserved,
+    /// This version is kept.
+    Stale { version: u32 },
+    /// The version is kept with other bytes or another name.
+    Taken,
+    /// So many commits are left.
+    Worn { room: u32 },
+    /// An order with this number is kept.
+    OldOrder { number: u32 },
+    /// Nothing is kept of the image.
+    Absent,
+    /// So many of its pages are complete.
+    NotWhole { done: u32, pages: u32 },
+    /// The page has another digest than the one that is kept.
+    Broken { page: u32 },
+    /// The pages are not those of their length.
+    Shape,
+    /// The page is none of the root.
+    Foreign { page: u32 },
+}
+
+/// Why a command did not do what it was asked.
+#[derive(Clone, Copy, Debug, PartialEq, Eq)]
+pub enum Told<'a> {
+    Memory,
+    /// The words are no command.
+    Misused(Misuse<'a>),
+    /// A line is no record of a HEX file.
+    Hex { cause: HexCause, line: u32 },
+    /// A line is none of a script.
+    Script { cause: LineFault, line: u32 },
+    /// The input is no profile of a network.
+    Profile(ProfileFault),
+    Input(InputFault),
+    Output(OutputFault),
+    /// The file of a chip is gone.
+    File(FileFault),
+    /// Another chip has the file, by the same name.
+    NamedTwice,
+    /// A chip stopped.
+    Stopped,
+    NotAVolume,
+    Refused(Refused),
+    Link(LinkCause),
+    /// The link failed.
+    NoLink,
+    TooLong,
+    TooMany,
+    NoBoard { need: u32, have: u32 },
+    NoImage,
+    /// The command ended with this status, and nothing more is known.
+    Other { status: Status },
+}
