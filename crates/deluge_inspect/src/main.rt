@@ -5,11 +5,14 @@
 ghost use Rattle.std.specs.Prelude.{ℕ, List, IfOk};
 ghost use Rattle.dg_inspect.specs.Files.{ShowsFile};
 
+use dg_compare::{Compared, Comparison, Rooted, Side, Verdict, compare, verify};
 use dg_inspect::{ChipSeen, FileSeen, LookFault, inspect, next_numbers};
 use dg_inspect_text::{
-    Asked, Moment, Report, Request, next_data, next_lines, read_words, report_lines, reports_data,
+    Asked, Moment, Report, Request, comparison_data, comparison_lines, file_line, next_data,
+    next_lines, read_words, report_lines, reports_data, verdict_data, verdict_line,
 };
 use dg_nor::CHIP_SIZE;
+use serde_json::Value;
 use std::alloc::AllocError;
 use std::env::Args;
 use std::fs::{Metadata, OpenOptions};
@@ -17,6 +20,29 @@ use std::io::{ErrorKind, Read};
 use std::process::ExitCode;
 use std::time::UNIX_EPOCH;
 use std::{env, io};
+
+const HELP: &str = "\
+deluge_inspect: looks into the files of chips, and changes none
+
+Usage:
+  deluge_inspect show [--json] CHIP..
+      what each file is, what its chip keeps, and what its next start runs
+  deluge_inspect next [--json] CHIP
+      the versions and the order number that may be used next
+  deluge_inspect verify [--json] [--root ROOT --image I] CHIP
+      whether all that the chip keeps and runs is sound, and image I has this root
+  deluge_inspect compare [--json] CHIP CHIP
+      which chip is ahead in each image, and whether what both have is equal
+
+Options:
+  --json     writes JSON
+  --root     the root of a hash chain: the 64 hex digits that deluge wrap wrote
+  --image    the image that is to have it, 0 to 6
+  --help     writes this text
+  --version  writes the version
+";
+
+const VERSION: &str = "deluge_inspect 0.9\n";
 
 /// The most often that a file is read.
 const MOST_READS: u8 = 10;
@@ -36,8 +62,8 @@ enum Stop {
     Write,
     /// A file could not be read. Standard error tells which one, and why.
     File,
-    /// A file holds no volume.
-    NoVolume,
+    /// A file holds no volume, is not sound, or two are not alike.
+    NotSo,
 }
 
 impl From<AllocError> for Stop {
@@ -66,7 +92,7 @@ impl Stop {
     /// The status of the program.
     fn status(self) -> u8 {
         match self {
-            Stop::Memory | Stop::NoVolume => NOT_SO,
+            Stop::Memory | Stop::NotSo => NOT_SO,
             Stop::Write => WRITE_FAULT,
             Stop::File => FILE_FAULT,
         }
@@ -152,34 +178,54 @@ fn read_settled(rt: &HostRuntime, name: &str) -> io::Result<(Vec<u8>, Moment)> {
     Ok((last.bytes, seen))
 }
 
-/// What is seen of a file. Where it cannot be read, standard error tells why.
+/// The bytes of a file, and the moment that was seen. Where it cannot be read, standard error tells why.
+fn read(rt: &HostRuntime, name: &str) -> Result<(Vec<u8>, Moment), Stop> {
+    match read_settled(rt, name) {
+        Ok((bytes, moment)) => {
+            if !moment.settled {
+                let _ = eprintln!(rt;
+                    "deluge_inspect: {name}: it changed between each two of {MOST_READS} reads"
+                );
+            }
+            Ok((bytes, moment))
+        }
+        Err(error) => {
+            let _ = eprintln!(rt; "deluge_inspect: {name}: {error}");
+            Err(Stop::File)
+        }
+    }
+}
+
+/// What is seen of a file.
 fn see(rt: &HostRuntime, name: &str) -> Result<Report, Stop>
     ensures { IfOk result (λ report. (bytes : List ℕ) × ShowsFile bytes report.seen) }
 {
-    let (bytes, moment) = match read_settled(rt, name) {
-        Ok(read) => read,
-        Err(error) => {
-            let _ = eprintln!(rt; "deluge_inspect: {name}: {error}");
-            return Err(Stop::File);
-        }
-    };
-    if !moment.settled {
-        let _ = eprintln!(rt;
-            "deluge_inspect: {name}: it changed between each two of {MOST_READS} reads"
-        );
-    }
+    let (bytes, moment) = read(rt, name)?;
     match inspect(rt.alloc(), &bytes) {
         Ok(seen) => Ok(Report {
             name: String::from_str(rt.alloc(), name)?,
             moment,
             seen,
         }),
-        Err(LookFault::Memory) => Err(Stop::Memory),
-        Err(LookFault::Stopped) => {
+        Err(fault) => Err(not_seen(rt, name, fault)),
+    }
+}
+
+/// Why a file was not seen, where its bytes were read.
+fn not_seen(rt: &HostRuntime, name: &str, fault: LookFault) -> Stop {
+    match fault {
+        LookFault::Memory => Stop::Memory,
+        LookFault::Stopped => {
             let _ = eprintln!(rt; "deluge_inspect: {name}: its chip stopped");
-            Err(Stop::File)
+            Stop::File
         }
     }
+}
+
+/// Tells that a file holds no volume.
+fn no_volume(rt: &HostRuntime, name: &str) -> Stop {
+    let _ = eprintln!(rt; "deluge_inspect: {name}: it holds no volume");
+    Stop::NotSo
 }
 
 /// Writes a text to standard output.
@@ -190,12 +236,17 @@ fn write(rt: &HostRuntime, text: &str) -> Result<(), Stop> {
     }
 }
 
+/// Writes JSON, as a line.
+fn write_data(rt: &HostRuntime, data: &Value) -> Result<(), Stop> {
+    let text = data.to_string(rt.alloc())?;
+    write(rt, text.as_str())?;
+    write(rt, "\n")
+}
+
 /// Writes what is seen of files.
 fn write_reports(rt: &HostRuntime, reports: &[Report], json: bool) -> Result<(), Stop> {
     if json {
-        let text = reports_data(rt.alloc(), reports)?.to_string(rt.alloc())?;
-        write(rt, text.as_str())?;
-        return write(rt, "\n");
+        return write_data(rt, &reports_data(rt.alloc(), reports)?);
     }
     for report in reports {
         let lines = report_lines(rt.alloc(), report)?;
@@ -205,11 +256,11 @@ fn write_reports(rt: &HostRuntime, reports: &[Report], json: bool) -> Result<(),
 }
 
 /// Tells what files show. Each that can be read is told, also where another one cannot.
-fn show(rt: &HostRuntime, files: &[String], json: bool) -> Result<(), Stop> {
+fn show(rt: &HostRuntime, files: &[&str], json: bool) -> Result<(), Stop> {
     let mut reports = Vec::new(rt.alloc());
     let mut unread = false;
     for name in files {
-        match see(rt, name.as_str()) {
+        match see(rt, *name) {
             Ok(report) => match reports.push(report) {
                 Ok(()) => {}
                 Err(_) => return Err(Stop::Memory),
@@ -230,47 +281,107 @@ fn next(rt: &HostRuntime, name: &str, json: bool) -> Result<(), Stop> {
         ..
     } = &report.seen
     else {
-        let _ = eprintln!(rt; "deluge_inspect: {name}: it holds no volume");
-        return Err(Stop::NoVolume);
+        return Err(no_volume(rt, name));
     };
     let numbers = next_numbers(volume);
     if json {
-        let text = next_data(rt.alloc(), &numbers)?.to_string(rt.alloc())?;
-        write(rt, text.as_str())?;
-        return write(rt, "\n");
+        return write_data(rt, &next_data(rt.alloc(), &numbers)?);
     }
     let lines = next_lines(rt.alloc(), &numbers)?;
     write(rt, lines.as_str())
 }
 
-/// Does what is asked.
-fn answer(rt: &HostRuntime, asked: &Asked) -> Result<(), Stop> {
-    match asked {
-        Asked::Request {
-            request: Request::Show { files },
-            json,
-        } => show(rt, files, *json),
-        Asked::Request {
-            request: Request::Next { file },
-            json,
-        } => next(rt, file.as_str(), *json),
-        Asked::Help(text) => write(rt, text.as_str()),
-        Asked::Usage(_) => Ok(()),
+/// Tells whether the chip in a file is sound.
+fn verify_file(
+    rt: &HostRuntime,
+    name: &str,
+    rooted: &Option<Rooted>,
+    json: bool,
+) -> Result<(), Stop> {
+    let (bytes, moment) = read(rt, name)?;
+    let verdict = match verify(rt.alloc(), &bytes, rooted) {
+        Ok(verdict) => verdict,
+        Err(fault) => return Err(not_seen(rt, name, fault)),
+    };
+    if json {
+        write_data(rt, &verdict_data(rt.alloc(), name, &moment, verdict)?)?;
+    } else {
+        write(rt, file_line(rt.alloc(), name, &moment)?.as_str())?;
+        write(rt, verdict_line(rt.alloc(), verdict)?.as_str())?;
+    }
+    match verdict {
+        Verdict::Sound => Ok(()),
+        _ => Err(Stop::NotSo),
+    }
+}
+
+/// Writes how the chips in two files stand to each other.
+fn write_comparison(rt: &HostRuntime, found: &Comparison, json: bool) -> Result<(), Stop> {
+    if json {
+        write_data(rt, &comparison_data(rt.alloc(), found)?)?;
+    } else {
+        write(rt, comparison_lines(rt.alloc(), found)?.as_str())?;
+    }
+    if found.alike {
+        Ok(())
+    } else {
+        Err(Stop::NotSo)
+    }
+}
+
+/// Tells how the chips in two files stand to each other.
+fn compare_files(rt: &HostRuntime, first: &str, second: &str, json: bool) -> Result<(), Stop> {
+    let (bytes, moment) = read(rt, first)?;
+    let (other_bytes, other_moment) = read(rt, second)?;
+    if !json {
+        write(rt, file_line(rt.alloc(), first, &moment)?.as_str())?;
+        write(rt, file_line(rt.alloc(), second, &other_moment)?.as_str())?;
+    }
+    match compare(rt.alloc(), &bytes, &other_bytes) {
+        Ok(Compared::Volumes(found)) => write_comparison(rt, &found, json),
+        Ok(Compared::NoVolume(Side::First)) => Err(no_volume(rt, first)),
+        Ok(Compared::NoVolume(Side::Second)) => Err(no_volume(rt, second)),
+        Err(fault) => Err(not_seen(rt, first, fault)),
+    }
+}
+
+/// Does what is asked of files.
+fn answer(rt: &HostRuntime, request: &Request<'_>, json: bool) -> Result<(), Stop> {
+    match request {
+        Request::Show { files } => show(rt, files, json),
+        Request::Next { file } => next(rt, *file, json),
+        Request::Verify { file, rooted } => verify_file(rt, *file, rooted, json),
+        Request::Compare { first, second } => compare_files(rt, *first, *second, json),
+    }
+}
+
+/// The status that an end gives.
+fn status_of(end: Result<(), Stop>) -> u8 {
+    match end {
+        Ok(()) => DONE,
+        Err(stop) => stop.status(),
     }
 }
 
 /// How the program ends with these words.
-fn run(rt: &HostRuntime, words: &Vec<String>) -> u8 {
+fn run(rt: &HostRuntime, words: &[String]) -> u8 {
     let Ok(asked) = read_words(rt.alloc(), words) else {
         return NOT_SO;
     };
-    if let Asked::Usage(text) = &asked {
-        let _ = eprint!(rt; "deluge_inspect: {}", text.as_str());
-        return USAGE;
-    }
-    match answer(rt, &asked) {
-        Ok(()) => DONE,
-        Err(stop) => stop.status(),
+    match asked {
+        Asked::Request { request, json } => status_of(answer(rt, &request, json)),
+        Asked::Help => status_of(write(rt, HELP)),
+        Asked::Version => status_of(write(rt, VERSION)),
+        Asked::Wrong(word) => {
+            let _ = eprintln!(rt; "deluge_inspect: {word} is wrong: try deluge_inspect --help");
+            USAGE
+        }
+        Asked::Count => {
+            let _ = rt.eprintln(
+                "deluge_inspect: a word is missing, or one is too many: try --help",
+            );
+            USAGE
+        }
     }
 }
 

@@ -1,3 +1,4 @@
+pub mod FilledLemmas
 pub mod PageLemmas
 pub mod ImageLemmas
 pub mod StartingLemmas

@@ -3,7 +3,7 @@ use Rattle.std.proofs.Common.{◌≡◌, ℕ, ◌+◌, ◌-◌, ◌<◌, ◌≤�
 use Rattle.std.proofs.lemmas.List.{take_all, get_or_append_left, get_or-append-add}
 use Rattle.dg_nor.specs.Sizes.{chip_size}
 use Rattle.dg_nor.specs.Chip.{blank}
-use Rattle.dg_nor.specs.Filled.{filled}
+use Rattle.dg_inspect.proofs.FilledLemmas.{filled}
 use Rattle.dg_nor.specs.Device.{Device}
 use Rattle.dg_nor.specs.Reads.{Looked}
 use Rattle.dg_boot.proofs.ReadLemmas.{Looked_then, ReadStopped_after}

@@ -4,8 +4,10 @@ ghost use Rattle.dg_words.specs.Cells.{part};
 ghost use Rattle.dg_nor.specs.Sizes.{sectors, sector_size, chip_size};
 ghost use Rattle.dg_nor.specs.Chip.{IsChip, blank, programmed, erased, CutProgram, CutErase};
 ghost use Rattle.dg_nor.specs.Device.{Ran, Halts};
+ghost use Rattle.dg_slot.specs.Pages.{page_in};
 
-use dg_nor::{CHIP_SIZE, Nor, Stopped};
+use dg_nor::{CHIP_SIZE, Nor, SECTOR_SIZE, Stopped};
+use dg_object::PAGE_SIZE;
 use std::alloc::{AllocError, Global};
 
 /// A chip that is only read: no call changes a byte of it. A program or an erase stops it.
@@ -34,6 +36,15 @@ impl StillChip {
             stopped: false,
             faults: 0,
         })
+    }
+
+    /// The page that stands in a sector.
+    pub fn page(&self, index: u32) -> &[u8]
+        requires { index < sectors }
+        ensures { result.now ≡ page_in (still_device self.now).image index }
+    {
+        let from = (SECTOR_SIZE * index) as usize;
+        &self.cells[from..from + PAGE_SIZE]
     }
 
     /// Stops the chip.

@@ -1,7 +1,6 @@
 //! The bytes of a file as those of a chip.
-ghost use Rattle.std.specs.Prelude.{◌≡◌, ◌↔◌, ◌≤◌, IfOk, IsTrue, length, replicate};
-ghost use Rattle.dg_nor.specs.Sizes.{chip_size, old_chip_size};
-ghost use Rattle.dg_inspect.specs.Files.{ShowsFile};
+ghost use Rattle.std.specs.Prelude.{◌≡◌, ◌↔◌, IfOk, IsTrue, length, replicate};
+ghost use Rattle.dg_inspect.specs.Files.{IsChipLength, ShowsFile};
 
 use crate::chip::StillChip;
 use crate::looking::look;
@@ -16,9 +15,9 @@ fn is_blank(bytes: &[u8]) -> bool
     bytes.iter().all(|byte| *byte == 0xFF)
 }
 
-/// Whether there are as many bytes as a chip may have.
-fn is_chip_length(length: usize) -> bool
-    ensures { IsTrue result ↔ ((old_chip_size ≤ length) × (length ≤ chip_size)) }
+/// Whether a file of so many bytes may be a chip's.
+pub fn is_chip_length(length: usize) -> bool
+    ensures { IsTrue result ↔ IsChipLength length }
 {
     OLD_CHIP_SIZE as usize <= length && length <= CHIP_SIZE as usize
 }

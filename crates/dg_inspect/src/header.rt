@@ -23,7 +23,7 @@ pub(crate) fn header_sector(image: u8) -> u32
 }
 
 /// What a header says of its slot.
-#[derive(Clone, Copy, Debug, PartialEq, Eq)]
+#[derive(Drop)]
 pub(crate) struct HeaderSeen {
     pub(crate) pages: u8,
     pub(crate) crc: u16,

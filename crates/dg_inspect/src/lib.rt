@@ -20,7 +20,7 @@ mod starting;
 
 pub use breaks::find_break;
 pub use chip::StillChip;
-pub use files::inspect;
+pub use files::{inspect, is_chip_length};
 pub use looking::look;
 pub use numbers::next_numbers;
 pub use seen::{

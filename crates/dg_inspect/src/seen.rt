@@ -147,7 +147,7 @@ pub struct Break {
 }
 
 /// The numbers that may be used next: a version of each image, and the number of an order.
-#[derive(Clone, Copy, Debug, PartialEq, Eq)]
+#[derive(Clone, Copy)]
 pub struct NextNumbers {
     pub versions: [Option<u32>; IMAGES],
     pub number: Option<u32>,

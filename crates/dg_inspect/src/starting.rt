@@ -19,7 +19,7 @@ use dg_order::START_COMMITS;
 use dg_volume::Volume;
 
 /// What a start chooses by, once it is counted.
-#[derive(Clone, Copy, Debug, PartialEq, Eq)]
+#[derive(Drop)]
 pub(crate) struct StartFacts {
     /// Short starts choose golden.
     pub(crate) short_starts: bool,

@@ -1,7 +1,11 @@
 //! What is seen as JSON.
 use crate::report::{Moment, Report};
-use crate::texts::{condition_text, order_text, reason_text};
+use crate::texts::{condition_text, order_text, reason_text, side_text};
 use dg_bits::PageBits;
+use dg_compare::{
+    Ahead, Comparison, Flaw, ImageCompared, OrderCompared, ProgramCompared, SharedPages, Side,
+    Verdict,
+};
 use dg_control::MOST_ROOM;
 use dg_inspect::{
     Break, BytesSeen, ChainSeen, ChipSeen, FileSeen, ImageSeen, ImageVersion, NextNumbers,
@@ -27,7 +31,7 @@ fn bytes_data(alloc: Global, bytes: &Option<BytesSeen>) -> Result<Value, AllocEr
     let Some(bytes) = bytes else {
         return Ok(Value::Null);
     };
-    let crc = format!(in alloc; "{:04x}", bytes.crc)?;
+    let crc = hex::encode(alloc, bytes.crc.to_be_bytes())?;
     let sha256 = hex::encode(alloc, bytes.sha256)?;
     json!(in alloc; {"crc": crc, "sha256": sha256})
 }
@@ -57,7 +61,7 @@ fn chain_data(alloc: Global, chain: &Option<ChainSeen>) -> Result<Value, AllocEr
 
 /// What a slot keeps.
 fn image_data(alloc: Global, number: usize, image: &ImageSeen) -> Result<Value, AllocError> {
-    let crc = format!(in alloc; "{:04x}", image.crc)?;
+    let crc = hex::encode(alloc, image.crc.to_be_bytes())?;
     let complete = match &image.complete {
         None => Value::Null,
         Some(pages) => complete_data(alloc, pages)?,
@@ -240,4 +244,123 @@ pub fn next_data(alloc: Global, next: &NextNumbers) -> Result<Value, AllocError>
     }
     let versions = Value::Array(versions);
     json!(in alloc; {"number": number_data(next.number), "versions": versions})
+}
+
+/// What is not sound.
+fn flaw_data(alloc: Global, flaw: Flaw) -> Result<Value, AllocError> {
+    match flaw {
+        Flaw::Image { image, page } => {
+            json!(in alloc; {"image": image, "page": page, "what": "image"})
+        }
+        Flaw::Program { page } => json!(in alloc; {"image": null, "page": page, "what": "program"}),
+        Flaw::Root { image } => json!(in alloc; {"image": image, "page": null, "what": "root"}),
+    }
+}
+
+/// The word of a verdict.
+fn verdict_text(verdict: Verdict) -> &'static str {
+    match verdict {
+        Verdict::Sound => "sound",
+        Verdict::Flawed(_) => "not sound",
+        Verdict::NoVolume => "no volume",
+    }
+}
+
+/// A verdict on the chip in a file, as JSON.
+pub fn verdict_data(
+    alloc: Global,
+    file: &str,
+    moment: &Moment,
+    verdict: Verdict,
+) -> Result<Value, AllocError> {
+    let flaw = match verdict {
+        Verdict::Flawed(flaw) => flaw_data(alloc, flaw)?,
+        _ => Value::Null,
+    };
+    let moment = moment_data(alloc, moment)?;
+    json!(in alloc; {
+        "file": file,
+        "flaw": flaw,
+        "moment": moment,
+        "verdict": verdict_text(verdict)
+    })
+}
+
+/// Which of two chips, or null.
+fn side_data(alloc: Global, side: Option<Side>) -> Result<Value, AllocError> {
+    match side {
+        None => Ok(Value::Null),
+        Some(side) => Value::try_from_str(alloc, side_text(side)),
+    }
+}
+
+/// What both chips have of one version.
+fn shared_data(alloc: Global, shared: SharedPages) -> Result<Value, AllocError> {
+    match shared {
+        SharedPages::Nothing => Ok(Value::Null),
+        SharedPages::Equal => json!(in alloc; {"differs": null, "equal": true}),
+        SharedPages::Differ { page } => json!(in alloc; {"differs": page, "equal": false}),
+    }
+}
+
+/// The chip that is ahead, or null.
+fn ahead_data(alloc: Global, ahead: Option<Ahead>) -> Result<Value, AllocError> {
+    let Some(ahead) = ahead else {
+        return Ok(Value::Null);
+    };
+    json!(in alloc; {
+        "chip": side_text(ahead.side),
+        "has_room": ahead.has_room,
+        "other_profile": ahead.other_profile
+    })
+}
+
+/// How two chips stand to each other in an image.
+fn image_compared_data(
+    alloc: Global,
+    number: usize,
+    image: &ImageCompared,
+) -> Result<Value, AllocError> {
+    let ahead = ahead_data(alloc, image.ahead)?;
+    let shared = shared_data(alloc, image.shared)?;
+    json!(in alloc; {
+        "ahead": ahead,
+        "alike": image.alike,
+        "image": number,
+        "shared": shared
+    })
+}
+
+/// How two chips stand to each other in each image.
+fn images_compared_data(alloc: Global, images: &[ImageCompared]) -> Result<Value, AllocError> {
+    let mut values = Vec::new(alloc);
+    for number in 0..images.len() {
+        values.push(image_compared_data(alloc, number, &images[number])?)?;
+    }
+    Ok(Value::Array(values))
+}
+
+/// How two program memories stand to each other.
+fn program_compared_data(alloc: Global, program: &ProgramCompared) -> Result<Value, AllocError> {
+    let shared = shared_data(alloc, program.shared)?;
+    json!(in alloc; {"alike": program.alike, "shared": shared})
+}
+
+/// How two orders stand to each other.
+fn order_compared_data(alloc: Global, order: &OrderCompared) -> Result<Value, AllocError> {
+    let ahead = side_data(alloc, order.ahead)?;
+    json!(in alloc; {"ahead": ahead, "alike": order.alike})
+}
+
+/// How two chips stand to each other, as JSON.
+pub fn comparison_data(alloc: Global, found: &Comparison) -> Result<Value, AllocError> {
+    let images = images_compared_data(alloc, &found.images)?;
+    let order = order_compared_data(alloc, &found.order)?;
+    let program = program_compared_data(alloc, &found.program)?;
+    json!(in alloc; {
+        "alike": found.alike,
+        "images": images,
+        "order": order,
+        "program": program
+    })
 }

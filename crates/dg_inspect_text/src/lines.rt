@@ -11,7 +11,7 @@ use std::alloc::{AllocError, Global};
 use std::str;
 
 /// Appends a line.
-fn push_line(text: &mut String, line: &str) -> Result<(), AllocError> {
+pub(crate) fn push_line(text: &mut String, line: &str) -> Result<(), AllocError> {
     text.push_str(line)?;
     text.push_str("\n")?;
     Ok(())
@@ -251,4 +251,10 @@ pub fn next_lines(alloc: Global, next: &NextNumbers) -> Result<String, AllocErro
     }
     push_next(alloc, &mut text, "number", next.number)?;
     Ok(text)
+}
+
+/// The name of a file, and the moment of it that was seen.
+pub fn file_line(alloc: Global, name: &str, moment: &Moment) -> Result<String, AllocError> {
+    let seen = moment_line(alloc, moment)?;
+    format!(in alloc; "{name}: {seen}\n")
 }

@@ -1,4 +1,5 @@
 //! Words for what is seen.
+use dg_compare::Side;
 use dg_inspect::{Condition, OrderState, StartReason};
 
 /// The condition of a volume that a chip does not meet.
@@ -32,5 +33,13 @@ pub fn reason_text(reason: StartReason) -> &'static str {
         StartReason::Order => "order",
         StartReason::Program => "program memory",
         StartReason::Blank => "blank program memory",
+    }
+}
+
+/// Which of two chips.
+pub fn side_text(side: Side) -> &'static str {
+    match side {
+        Side::First => "first",
+        Side::Second => "second",
     }
 }

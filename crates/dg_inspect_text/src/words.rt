@@ -1,127 +1,250 @@
 //! What the words behind the name of the program ask for.
-use clap::error::ErrorKind;
-use clap::{Arg, ArgAction, ArgMatches, Command, Error};
+use dg_chain::DIGEST_SIZE;
+use dg_compare::Rooted;
+use dg_control::IMAGES;
 use std::alloc::{AllocError, Global};
 
-const VERSION: &str = "0.9";
-
-/// What is asked of chips.
-#[derive(Debug, PartialEq, Eq, Drop)]
-pub enum Request {
+/// What is asked of the chips in files.
+#[derive(Drop)]
+pub enum Request<'a> {
     /// What each of these files shows.
-    Show { files: Vec<String> },
+    Show {
+        files: Vec<&'a str>,
+    },
     /// The numbers that may be used next on the chip in this file.
-    Next { file: String },
+    Next {
+        file: &'a str,
+    },
+    /// Whether the chip in this file is sound, and has this root.
+    Verify {
+        file: &'a str,
+        rooted: Option<Rooted>,
+    },
+    /// How the chips in two files stand to each other.
+    Compare {
+        first: &'a str,
+        second: &'a str,
+    },
 }
 
 /// What words ask for.
-#[derive(Debug, PartialEq, Eq, Drop)]
-pub enum Asked {
-    Request { request: Request, json: bool },
-    /// A text, which is written to the output.
-    Help(String),
-    /// Why the words are none, which word it is first.
-    Usage(String),
+#[derive(Drop)]
+pub enum Asked<'a> {
+    Request { request: Request<'a>, json: bool },
+    Help,
+    Version,
+    /// They are no command: this word is the first that is wrong.
+    Wrong(&'a str),
+    /// They are no command: a word is missing, or one too many is there.
+    Count,
 }
 
-/// The option for JSON.
-fn json<'a>(alloc: Global) -> Arg<'a> {
-    Arg::new(alloc, "json")
-        .long("json")
-        .help("Writes JSON")
-        .action(ArgAction::SetTrue)
+/// A command of the program.
+#[derive(Clone, Copy)]
+enum Verb {
+    Show,
+    Next,
+    Verify,
+    Compare,
 }
 
-/// The file of a chip.
-fn chip<'a>(alloc: Global) -> Arg<'a> {
-    Arg::new(alloc, "CHIP")
-        .help("The file of a chip")
-        .required(true)
-        .action(ArgAction::Set)
+/// What the next word is.
+#[derive(Clone, Copy)]
+enum Expected {
+    Any,
+    Root,
+    Image,
 }
 
-/// Files of chips.
-fn chips<'a>(alloc: Global) -> Arg<'a> {
-    Arg::new(alloc, "CHIP")
-        .help("The files of chips")
-        .required(true)
-        .action(ArgAction::Append)
+/// The words behind a verb.
+#[derive(Drop)]
+struct Behind<'a> {
+    json: bool,
+    root: Option<[u8; DIGEST_SIZE]>,
+    image: Option<u8>,
+    files: Vec<&'a str>,
+    /// The first word that is wrong.
+    wrong: Option<&'a str>,
 }
 
-/// The command of `show`.
-fn show<'a>(alloc: Global) -> Result<Command<'a>, AllocError> {
-    Command::new(alloc, "show")
-        .about("Tells what chips are, what they keep, and what their next start runs")
-        .arg(json(alloc))?
-        .arg(chips(alloc))
-}
-
-/// The command of `next`.
-fn next<'a>(alloc: Global) -> Result<Command<'a>, AllocError> {
-    Command::new(alloc, "next")
-        .about("Tells the versions and the order number that may be used next")
-        .arg(json(alloc))?
-        .arg(chip(alloc))
-}
-
-/// The command of the program.
-fn command<'a>(alloc: Global) -> Result<Command<'a>, AllocError> {
-    Command::new(alloc, "deluge_inspect")
-        .about("Looks into the files of chips, and changes none")
-        .version(VERSION)
-        .no_binary_name(true)
-        .subcommand(show(alloc)?)?
-        .subcommand(next(alloc)?)
-}
-
-/// What words ask for.
-pub fn read_words(alloc: Global, words: &Vec<String>) -> Result<Asked, AllocError> {
-    let command = command(alloc)?;
-    match command.try_get_matches_from(words.as_slice()) {
-        Ok(matches) => taken(alloc, &matches),
-        Err(error) => refused(alloc, &error),
+/// The verb that a word is.
+fn verb_of(word: &str) -> Option<Verb> {
+    match word {
+        "show" => Some(Verb::Show),
+        "next" => Some(Verb::Next),
+        "verify" => Some(Verb::Verify),
+        "compare" => Some(Verb::Compare),
+        _ => None,
     }
 }
 
-/// Words that are taken.
-fn taken(alloc: Global, matches: &ArgMatches<'_>) -> Result<Asked, AllocError> {
-    match matches.subcommand() {
-        Some((name, inner)) => request_of(alloc, name, inner),
-        None => Ok(Asked::Usage(String::from_str(alloc, "a command is missing: show or next\n")?)),
-    }
+/// A root: 64 hex digits.
+fn root_of(word: &str) -> Option<[u8; DIGEST_SIZE]> {
+    let mut root = [0; DIGEST_SIZE];
+    hex::decode_to_slice(word, &mut root).ok()?;
+    Some(root)
 }
 
-/// What a command asks for.
-fn request_of(alloc: Global, name: &str, matches: &ArgMatches<'_>) -> Result<Asked, AllocError> {
-    let json = matches.get_flag("json");
-    let mut files = files(alloc, matches)?;
-    let request = match name {
-        "next" => Request::Next {
-            file: files.pop().unwrap_or(String::new(alloc)),
-        },
-        _ => Request::Show { files },
+/// The number of an image: a digit.
+fn image_of(word: &str) -> Option<u8> {
+    let [digit] = word.as_bytes() else {
+        return None;
     };
-    Ok(Asked::Request { request, json })
+    let image = digit.checked_sub(b'0')?;
+    if usize::from(image) < IMAGES {
+        Some(image)
+    } else {
+        None
+    }
 }
 
-/// The files that are named.
-fn files(alloc: Global, matches: &ArgMatches<'_>) -> Result<Vec<String>, AllocError> {
-    let mut files = Vec::new(alloc);
-    if let Some(names) = matches.get_strs("CHIP") {
-        for name in names {
-            files.push(String::from_str(alloc, name)?)?;
+impl<'a> Behind<'a> {
+    /// Takes a word, and tells what the next one is.
+    fn take(
+        &mut self,
+        verb: Verb,
+        expected: Expected,
+        word: &'a str,
+    ) -> Result<Expected, AllocError> {
+        match expected {
+            Expected::Any => self.take_any(verb, word),
+            Expected::Root => {
+                self.root = root_of(word);
+                let wrong = self.root.is_none();
+                self.note(wrong, word);
+                Ok(Expected::Any)
+            }
+            Expected::Image => {
+                self.image = image_of(word);
+                let wrong = self.image.is_none();
+                self.note(wrong, word);
+                Ok(Expected::Any)
+            }
         }
     }
-    Ok(files)
+
+    /// Takes an option or the name of a file.
+    fn take_any(&mut self, verb: Verb, word: &'a str) -> Result<Expected, AllocError> {
+        match word {
+            "--json" => {
+                let twice = self.json;
+                self.note(twice, word);
+                self.json = true;
+            }
+            "--root" => {
+                let twice = self.root.is_some();
+                self.note(twice || !matches!(verb, Verb::Verify), word);
+                return Ok(Expected::Root);
+            }
+            "--image" => {
+                let twice = self.image.is_some();
+                self.note(twice || !matches!(verb, Verb::Verify), word);
+                return Ok(Expected::Image);
+            }
+            _ => {
+                self.note(word.starts_with('-'), word);
+                self.files.push(word)?;
+            }
+        }
+        Ok(Expected::Any)
+    }
+
+    /// Keeps a word that is wrong, where it is the first.
+    fn note(&mut self, wrong: bool, word: &'a str) {
+        if wrong && self.wrong.is_none() {
+            self.wrong = Some(word);
+        }
+    }
 }
 
-/// Words that are refused: a text of help, or a mistake.
-fn refused(alloc: Global, error: &Error) -> Result<Asked, AllocError> {
-    match error.kind() {
-        ErrorKind::DisplayHelp | ErrorKind::DisplayVersion => {
-            Ok(Asked::Help(format!(in alloc; "{error}")?))
+/// The image and its root, where both are told. None where one of them is missing.
+fn rooted_of(root: Option<[u8; DIGEST_SIZE]>, image: Option<u8>) -> Option<Option<Rooted>> {
+    match (root, image) {
+        (None, None) => Some(None),
+        (Some(root), Some(image)) => Some(Some(Rooted { image, root })),
+        _ => None,
+    }
+}
+
+/// What a verb and the words behind it ask for. None where a word is missing, or one too many is there.
+fn request_of<'a>(verb: Verb, behind: Behind<'a>) -> Option<Request<'a>> {
+    let files = behind.files;
+    match verb {
+        Verb::Show => {
+            if files.is_empty() {
+                return None;
+            }
+            Some(Request::Show { files })
         }
-        ErrorKind::OutOfMemory => Err(AllocError),
-        _ => Ok(Asked::Usage(format!(in alloc; "{error}")?)),
+        Verb::Next => {
+            let [file] = files.as_slice() else {
+                return None;
+            };
+            Some(Request::Next { file: *file })
+        }
+        Verb::Verify => {
+            let rooted = rooted_of(behind.root, behind.image)?;
+            let [file] = files.as_slice() else {
+                return None;
+            };
+            Some(Request::Verify {
+                file: *file,
+                rooted,
+            })
+        }
+        Verb::Compare => {
+            let [first, second] = files.as_slice() else {
+                return None;
+            };
+            Some(Request::Compare {
+                first: *first,
+                second: *second,
+            })
+        }
+    }
+}
+
+/// What the words behind a verb ask for.
+fn read_behind<'a>(
+    alloc: Global,
+    verb: Verb,
+    words: &'a [String],
+) -> Result<Asked<'a>, AllocError> {
+    let mut behind = Behind {
+        json: false,
+        root: None,
+        image: None,
+        files: Vec::new(alloc),
+        wrong: None,
+    };
+    let mut expected = Expected::Any;
+    for word in words {
+        expected = behind.take(verb, expected, word.as_str())?;
+    }
+    if let Some(word) = behind.wrong {
+        return Ok(Asked::Wrong(word));
+    }
+    if !matches!(expected, Expected::Any) {
+        return Ok(Asked::Count);
+    }
+    let json = behind.json;
+    match request_of(verb, behind) {
+        Some(request) => Ok(Asked::Request { request, json }),
+        None => Ok(Asked::Count),
+    }
+}
+
+/// What words ask for.
+pub fn read_words<'a>(alloc: Global, words: &'a [String]) -> Result<Asked<'a>, AllocError> {
+    let Some(first) = words.first() else {
+        return Ok(Asked::Count);
+    };
+    match first.as_str() {
+        "--help" => Ok(Asked::Help),
+        "--version" => Ok(Asked::Version),
+        word => match verb_of(word) {
+            Some(verb) => read_behind(alloc, verb, &words[1..]),
+            None => Ok(Asked::Wrong(word)),
+        },
     }
 }

@@ -1,8 +1,8 @@
 use Rattle.std.proofs.Common.{ℕ, List, ◌++◌, sym, ap, subst, ◌∙◌, arith, refl, vec_len}
 use Rattle.dg_words.proofs.CellLemmas.{AreBytes_fits}
 use Rattle.dg_nor.specs.Chip.{IsChip}
-use Rattle.dg_nor.specs.Filled.{filled}
-use Rattle.dg_nor.proofs.FilledLemmas.{IsChip-filled}
+use Rattle.dg_inspect.proofs.FilledLemmas.{filled}
+use Rattle.dg_inspect.proofs.FilledLemmas.{IsChip-filled}
 use Rattle.dg_inspect.proofs.SeenLemmas.{lengthened}
 use Rattle.dg_inspect.proofs.chip.StillChip.new.Goals as goal
 

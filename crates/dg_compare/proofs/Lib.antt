@@ -1,0 +1,3 @@
+pub mod FlawLemmas
+pub mod RootLemmas
+pub mod AlikeLemmas

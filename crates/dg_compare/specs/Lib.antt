@@ -1,0 +1,3 @@
+pub mod Volumes
+pub mod Sound
+pub mod Alike
