@@ -3,36 +3,55 @@
 
 use dg_base::{MOST_MOTES, Status, StdSink, StdSource};
 use dg_cost::{Form, cost};
+use dg_cost_text::{Model, ModelFault, read_model};
 use dg_meter::Metered;
 use dg_nor::Board;
 use std::alloc::AllocError;
 use std::env;
 use std::env::Args;
 use std::fs::{File, OpenOptions};
-use std::io::ErrorKind;
+use std::io::{ErrorKind, Read};
 use std::process::ExitCode;
 
 const HELP: &str = "\
 deluge_cost: tells what the run of a script costs
 
-Usage: deluge_cost [--boards FILE..] [--csv|--timed] <SCRIPT
+Usage: deluge_cost [--boards FILE..] [--csv|--json|--timed] [--model FILE] <SCRIPT
 
-It replays the script from standard input over chips in memory, or over these files.
+It replays the script from standard input over chips in memory, or over these files, and writes tables.
 
 Options:
   --boards   the words behind it, up to the next option, are files of chips: mote 0 works on the first
-  --csv      writes the counts of each mote, and of all, as rows (the default)
+  --csv      writes the counts of each mote, and of all, as rows
+  --json     writes them as JSON
   --timed    writes the report of the replay, each line behind its event and its moment
+  --model    the word behind it is a file of picojoules, by which tables and JSON tell energy
   --help     writes this text
   --version  writes the version
 ";
 
 const VERSION: &str = "deluge_cost 0.9\n";
 
+/// The most bytes that a model has.
+const MOST_MODEL: u64 = 65_536;
+
+/// What is written.
+#[derive(Clone, Copy, Debug, PartialEq, Eq)]
+enum Told {
+    Table,
+    Csv,
+    Json,
+    Timed,
+}
+
 /// What the words after the program's name ask for.
 #[derive(Drop)]
 enum Asked {
-    Cost { form: Form, files: Vec<String> },
+    Cost {
+        told: Told,
+        model: Option<String>,
+        files: Vec<String>,
+    },
     Help,
     Version,
     /// The words are none that it knows.
@@ -42,9 +61,9 @@ enum Asked {
 /// What one word asks for.
 #[derive(Clone, Copy)]
 enum Word {
-    Csv,
-    Timed,
+    Tells(Told),
     Boards,
+    Model,
     Help,
     Version,
     /// An option that is none of these.
@@ -54,9 +73,11 @@ enum Word {
 
 fn word_of(word: &str) -> Word {
     match word {
-        "--csv" => Word::Csv,
-        "--timed" => Word::Timed,
+        "--csv" => Word::Tells(Told::Csv),
+        "--json" => Word::Tells(Told::Json),
+        "--timed" => Word::Tells(Told::Timed),
         "--boards" => Word::Boards,
+        "--model" => Word::Model,
         "--help" => Word::Help,
         "--version" => Word::Version,
         _ => {
@@ -69,34 +90,46 @@ fn word_of(word: &str) -> Word {
     }
 }
 
+/// What the next word may be besides an option.
+#[derive(Clone, Copy, Debug, PartialEq, Eq)]
+enum Next {
+    Option,
+    /// A file of a chip.
+    Chip,
+    /// The file of the model, and no option.
+    Model,
+}
+
 /// What was read of the words so far.
 #[derive(Drop)]
 struct Reading {
-    form: Option<Form>,
+    told: Option<Told>,
+    next: Next,
+    model: Option<String>,
     /// Whether `--boards` was read.
     on_files: bool,
-    /// Whether the word before is `--boards` or one of its files.
-    takes_files: bool,
     files: Vec<String>,
 }
 
 impl Reading {
     /// Reads a word. Answers whether it may stand there.
     fn read(&mut self, word: String) -> Result<bool, AllocError> {
+        let next = self.next;
+        self.next = Next::Option;
         match word_of(word.as_str()) {
-            Word::Csv => Ok(self.ask_for(Form::Csv)),
-            Word::Timed => Ok(self.ask_for(Form::Timed)),
+            Word::File => self.take_file(next, word),
+            _ if next == Next::Model => Ok(false),
+            Word::Tells(told) => Ok(self.tell(told)),
             Word::Boards => Ok(self.begin_files()),
-            Word::File => self.take_file(word),
+            Word::Model => Ok(self.begin_model()),
             Word::Help | Word::Version | Word::Unknown => Ok(false),
         }
     }
 
     /// What is told is named once.
-    fn ask_for(&mut self, form: Form) -> bool {
-        let first = self.form.is_none();
-        self.form = Some(form);
-        self.takes_files = false;
+    fn tell(&mut self, told: Told) -> bool {
+        let first = self.told.is_none();
+        self.told = Some(told);
         first
     }
 
@@ -104,31 +137,47 @@ impl Reading {
     fn begin_files(&mut self) -> bool {
         let first = !self.on_files;
         self.on_files = true;
-        self.takes_files = true;
+        self.next = Next::Chip;
         first
     }
 
-    /// A file stands behind `--boards`.
-    fn take_file(&mut self, file: String) -> Result<bool, AllocError> {
-        self.files.push(file)?;
-        Ok(self.takes_files)
+    /// `--model` stands once.
+    fn begin_model(&mut self) -> bool {
+        self.next = Next::Model;
+        self.model.is_none()
     }
 
-    /// What all words ask for: `--boards` has at least one file.
+    /// A file stands behind `--boards` or `--model`.
+    fn take_file(&mut self, next: Next, file: String) -> Result<bool, AllocError> {
+        match next {
+            Next::Option => Ok(false),
+            Next::Chip => {
+                self.files.push(file)?;
+                self.next = Next::Chip;
+                Ok(true)
+            }
+            Next::Model => {
+                self.model = Some(file);
+                Ok(true)
+            }
+        }
+    }
+
+    /// What all words ask for: `--boards` has at least one file, and energy is told in tables and in JSON alone.
     fn asked(self) -> Asked {
         let Reading {
-            form,
+            told,
+            next,
+            model,
             on_files,
             files,
-            ..
         } = self;
-        if on_files && files.is_empty() {
+        let told = told.unwrap_or(Told::Table);
+        let tells_energy = told == Told::Table || told == Told::Json;
+        if on_files && files.is_empty() || next == Next::Model || model.is_some() && !tells_energy {
             return Asked::Other;
         }
-        Asked::Cost {
-            form: form.unwrap_or(Form::Csv),
-            files,
-        }
+        Asked::Cost { told, model, files }
     }
 }
 
@@ -144,9 +193,10 @@ fn words_ask(rt: &HostRuntime) -> Result<Asked, AllocError> {
 /// What these words ask for, the program's name aside.
 fn read_words(rt: &HostRuntime, args: Args) -> Result<Asked, AllocError> {
     let mut reading = Reading {
-        form: None,
+        told: None,
+        next: Next::Option,
+        model: None,
         on_files: false,
-        takes_files: false,
         files: Vec::new(rt.alloc()),
     };
     for (number, word) in args.skip(1).enumerate() {
@@ -212,14 +262,77 @@ fn nothing(rt: &HostRuntime) -> Option<File> {
         .ok()
 }
 
-/// Replays the script that comes by standard input. The guard stands while files of chips are open.
-fn tell_cost(rt: &HostRuntime, _guard: &Guard, form: Form, files: &Vec<String>) -> Status {
-    let Some(mut boards) = boards(rt, files) else {
-        return Status::Memory;
+/// Why no model was read.
+#[derive(Clone, Copy, Debug, PartialEq, Eq)]
+enum NoModel {
+    Unread,
+    Fault(ModelFault),
+}
+
+/// The bytes of a file, those behind the most that a model has aside.
+fn read_file(rt: &HostRuntime, name: &str) -> Option<Vec<u8>> {
+    let file = OpenOptions::new().read(true).open(rt, name).ok()?;
+    let mut bytes = Vec::new(rt.alloc());
+    file.take(MOST_MODEL).read_to_end(&mut bytes).ok()?;
+    Some(bytes)
+}
+
+/// The model in a file.
+fn model_in(rt: &HostRuntime, name: &str) -> Result<Model, NoModel> {
+    let Some(bytes) = read_file(rt, name) else {
+        return Err(NoModel::Unread);
     };
-    let mut input = StdSource::new(rt.stdin());
-    let mut out = StdSink::new(rt.stdout());
-    cost(rt.alloc(), form, &mut input, &mut out, &mut boards)
+    match read_model(rt.alloc(), &bytes) {
+        Ok(model) => Ok(model),
+        Err(fault) => Err(NoModel::Fault(fault)),
+    }
+}
+
+/// What is to be written. A model that is none is told on standard error.
+fn form(rt: &HostRuntime, told: Told, model: &Option<String>) -> Result<Form, Status> {
+    let model = match model {
+        None => None,
+        Some(name) => match model_in(rt, name.as_str()) {
+            Ok(model) => Some(model),
+            Err(NoModel::Unread) => {
+                let _ = eprintln!(rt; "deluge_cost: {name}: the model cannot be read");
+                return Err(Status::ReadFault);
+            }
+            Err(NoModel::Fault(ModelFault::Memory)) => return Err(Status::Memory),
+            Err(NoModel::Fault(fault)) => {
+                let _ = eprintln!(rt; "deluge_cost: {name}: no model: {fault}");
+                return Err(Status::BadInput);
+            }
+        },
+    };
+    Ok(match told {
+        Told::Table => Form::Table(model),
+        Told::Csv => Form::Csv,
+        Told::Json => Form::Json(model),
+        Told::Timed => Form::Timed,
+    })
+}
+
+/// Replays the script that comes by standard input. The guard stands while files of chips are open. A line on standard error
+/// names the cause where the status is not 0.
+fn tell_cost(rt: &HostRuntime, _guard: &Guard, form: &Form, files: &Vec<String>) -> Status {
+    let status = match boards(rt, files) {
+        None => Status::Memory,
+        Some(mut boards) => {
+            let mut input = StdSource::new(rt.stdin());
+            let mut out = StdSink::new(rt.stdout());
+            cost(rt.alloc(), form, &mut input, &mut out, &mut boards)
+        }
+    };
+    tell_cause(rt, status)
+}
+
+/// Tells on standard error why it ends so.
+fn tell_cause(rt: &HostRuntime, status: Status) -> Status {
+    if let Some(cause) = cause(status) {
+        let _ = eprintln!(rt; "deluge_cost: {cause}");
+    }
+    status
 }
 
 /// Writes a text to standard output, and ends so where that is done.
@@ -253,19 +366,18 @@ fn cause(status: Status) -> Option<&'static str> {
 /// Does what the words ask for.
 fn done(rt: &HostRuntime, guard: &Guard) -> Status {
     match words_ask(rt) {
-        Ok(Asked::Cost { form, files }) => tell_cost(rt, guard, form, &files),
-        Ok(Asked::Help) => write(rt, HELP, Status::Done),
-        Ok(Asked::Version) => write(rt, VERSION, Status::Done),
-        Ok(Asked::Other) => write(rt, "usage\n", Status::Usage),
-        Err(AllocError) => Status::Memory,
+        Ok(Asked::Cost { told, model, files }) => match form(rt, told, &model) {
+            Ok(form) => tell_cost(rt, guard, &form, &files),
+            Err(status) => status,
+        },
+        Ok(Asked::Help) => tell_cause(rt, write(rt, HELP, Status::Done)),
+        Ok(Asked::Version) => tell_cause(rt, write(rt, VERSION, Status::Done)),
+        Ok(Asked::Other) => tell_cause(rt, write(rt, "usage\n", Status::Usage)),
+        Err(AllocError) => tell_cause(rt, Status::Memory),
     }
 }
 
 fn main(rt: HostRuntime) -> ExitCode {
     let guard = Guard::new(&rt);
-    let status = done(&rt, &guard);
-    if let Some(cause) = cause(status) {
-        let _ = eprintln!(rt; "deluge_cost: {cause}");
-    }
-    ExitCode::from(status.code())
+    ExitCode::from(done(&rt, &guard).code())
 }

@@ -7,13 +7,17 @@ use Rattle.dg_base.specs.declared.answers.Status.TheVariants.{Memory, WriteFault
 use Rattle.dg_nor.specs.Device.{Device}
 use Rattle.dg_replay.specs.Around.{Around, around}
 use Rattle.dg_replay.specs.Done.{ReplayDone}
-use Rattle.dg_cost.specs.Timed.{IsStampedReport}
+use Rattle.dg_cost_text.specs.Csv.{csv}
+use Rattle.dg_cost_text.specs.Timed.{IsStampedReport}
+use Rattle.dg_cost_text.specs.declared.rows.Counted.{Counted}
 use Rattle.dg_cost.specs.declared.call.Form.{Form}
-use Rattle.dg_cost.specs.declared.call.Form.TheVariants.{Csv, Timed}
+use Rattle.dg_cost.specs.declared.call.Form.TheVariants.{Table, Csv, Json, Timed}
 
 -- what is written where this was asked for, and the replay wrote this report
 abbrev pub IsText : Form → (report text : List ℕ) → Type 0
-IsText Csv report text = Unit {0}
+IsText (Table model) report text = Unit {0}
+IsText Csv report text = (counted : Counted) × (text ≡ csv counted)
+IsText (Json model) report text = Unit {0}
 IsText Timed report text = IsStampedReport report text
 
 -- The text was written, and the status is that of the replay, or a front of it, since a write failed.

@@ -1,16 +1,15 @@
 //! The call that replays a script and tells what it costs.
-ghost use Rattle.std.specs.Prelude.{◌≤◌, map, IfOk};
+ghost use Rattle.std.specs.Prelude.{◌≡◌, ◌≤◌, map, IfOk};
 ghost use Rattle.dg_meter.specs.Meters.{metered_device};
 ghost use Rattle.dg_replay.specs.Around.{around};
 ghost use Rattle.dg_cost.specs.Costs.{CostDone, IsText};
+ghost use Rattle.dg_cost_text.specs.Csv.{csv};
+ghost use Rattle.dg_cost_text.specs.declared.rows.Counted.{Counted};
 
-use crate::counter::{Counter, Given};
-use crate::csv::csv_text;
-use crate::moments::Moment;
-use crate::rows::Rows;
-use crate::share::narrow;
-use crate::timed::timed_text;
+use crate::mote_rows::counted;
 use dg_base::{Sink, Source, Status, WriteFailed};
+use dg_cost_text::{Model, csv_text, json_text, table_text, timed_text};
+use dg_count::{Counter, Given};
 use dg_meter::Metered;
 use dg_nor::Nor;
 use dg_replay::replay_watched;
@@ -18,12 +17,25 @@ use dg_volume::Volume;
 use std::alloc::{AllocError, Global};
 
 /// What is asked for.
-#[derive(Clone, Copy, Debug, PartialEq, Eq)]
+#[derive(Clone, Copy)]
 pub enum Form {
+    /// Tables for people, with the energy of each mote where there is a model.
+    Table(Option<Model>),
     /// Rows of comma-separated values.
     Csv,
+    /// JSON, with the energy of each mote where there is a model.
+    Json(Option<Model>),
     /// The report, each line behind its event and its moment.
     Timed,
+}
+
+impl Form {
+    fn is_timed(&self) -> bool {
+        match self {
+            Form::Timed => true,
+            Form::Table(_) | Form::Csv | Form::Json(_) => false,
+        }
+    }
 }
 
 /// A report that is kept.
@@ -84,62 +96,57 @@ fn look_at<N: Nor>(board: &mut Metered<N>) -> Option<Given> {
 
 /// The room that is left on each chip at the end.
 fn look_again<N: Nor>(counter: &mut Counter, boards: &mut Vec<Metered<N>>) {
-    for index in 0..counter.motes.len().min(boards.len()) {
-        if let Ok(volume) = Volume::mount(&mut boards[index]) {
-            counter.motes[index].room_end = Some(u64::from(volume.room()));
+    for index in 0..boards.len() {
+        if index < boards.len() && index < counter.motes.len() {
+            if let Ok(volume) = Volume::mount(&mut boards[index]) {
+                counter.motes[index].room_end = Some(u64::from(volume.room()));
+            }
         }
     }
 }
 
-/// The rows of what was counted.
-fn csv(alloc: Global, counter: &Counter, status: Status) -> Result<Vec<u8>, AllocError> {
-    let by = counter.frames.sent_by_each(alloc, counter.motes.len())?;
-    let mut motes = Vec::new(alloc);
-    for mote in 0..counter.motes.len() {
-        if mote < by.len() {
-            let mut rows = Rows::new(alloc);
-            rows.mote(narrow(mote), &counter.motes[mote], &by[mote], counter)?;
-            motes.push(rows)?;
-        }
-    }
-    let mut all = Rows::new(alloc);
-    all.all(&motes, counter, &by, status)?;
-    csv_text(alloc, &motes, &all)
+/// The counts as rows of comma-separated values.
+fn csv_of(alloc: Global, counter: &Counter, status: Status) -> Result<Vec<u8>, AllocError>
+    ensures { IfOk result (λ text. (counts : Counted) × (text.items ≡ csv counts)) }
+{
+    let counted = counted(alloc, counter, status)?;
+    let text = csv_text(alloc, &counted)?;
+    Ok(text)
 }
 
 /// What is written.
 fn text_of(
     alloc: Global,
-    asked: Form,
+    asked: &Form,
     counter: &Counter,
     report: &[u8],
     status: Status,
 ) -> Result<Vec<u8>, AllocError>
-    ensures { IfOk result (λ text. IsText asked report.now text.items) }
+    ensures { IfOk result (λ text. IsText asked.now report.now text.items) }
 {
     match asked {
-        Form::Csv => csv(alloc, counter, status),
-        Form::Timed => timed_text(
-            alloc,
-            report,
-            &counter.stamps,
-            Moment {
-                event: counter.events,
-                ms: counter.ms,
-            },
-        ),
+        Form::Timed => timed_text(alloc, report, &counter.stamps, counter.now()),
+        Form::Csv => csv_of(alloc, counter, status),
+        Form::Table(model) => {
+            let counted = counted(alloc, counter, status)?;
+            table_text(alloc, &counted, model.as_ref())
+        }
+        Form::Json(model) => {
+            let counted = counted(alloc, counter, status)?;
+            json_text(alloc, &counted, model.as_ref())
+        }
     }
 }
 
 /// Replays a script over boards, and writes what it costs, or its report with moments.
 pub fn cost<S: Source, K: Sink, N: Nor>(
     alloc: Global,
-    asked: Form,
+    asked: &Form,
     input: &mut S,
     out: &mut K,
     boards: &mut Vec<Metered<N>>,
 ) -> Status
-    ensures done { CostDone asked result
+    ensures done { CostDone asked.now result
         (around (S.left input.old) (S.faults input.old) (K.written out.old) (K.faults out.old)
         (map (metered_device N.device) boards.old.items))
         (around (S.left input.new) (S.faults input.new) (K.written out.new) (K.faults out.new)
@@ -154,7 +161,7 @@ pub fn cost<S: Source, K: Sink, N: Nor>(
         bytes: Vec::new(alloc),
         faults: 0,
     };
-    let mut counter = Counter::new(alloc, given, asked == Form::Timed);
+    let mut counter = Counter::new(alloc, given, asked.is_timed());
     let status = replay_watched(alloc, input, &mut report, boards, &mut counter);
     if counter.failed || 0 < report.faults {
         return Status::Memory;

@@ -1,8 +1,7 @@
 //! The rows of a chip.
 
-use crate::kinds::EVENTS;
-use crate::mote::MoteCost;
-use crate::rows::{Part, Rows};
+use dg_cost_text::{Part, Rows};
+use dg_count::{EVENTS, MoteCost};
 use dg_meter::{Kind, REGIONS, Region, Share, Shares, Tally};
 use std::alloc::AllocError;
 
@@ -33,79 +32,70 @@ fn count_of(counts: &[u64; REGIONS], one: Region, other: Option<Region>) -> u64 
     }
 }
 
-impl Rows {
-    /// The rows of the operations of a phase, without those that were made before it.
-    pub fn flash(&mut self, phase: &str, tally: &Tally, before: &Tally) -> Result<(), AllocError> {
-        self.flash_kind(
-            phase,
-            "program.",
-            tally.of(Kind::Program),
-            before.of(Kind::Program),
-        )?;
-        self.flash_kind(
-            phase,
-            "erase.",
-            tally.of(Kind::Erase),
-            before.of(Kind::Erase),
-        )
-    }
+/// The rows of the operations of a phase, without those that were made before it.
+fn push_flash(
+    rows: &mut Rows,
+    phase: &str,
+    tally: &Tally,
+    before: &Tally,
+) -> Result<(), AllocError> {
+    let (made, made_before) = (tally.of(Kind::Program), before.of(Kind::Program));
+    push_kind(rows, phase, "program.", made, made_before)?;
+    let (made, made_before) = (tally.of(Kind::Erase), before.of(Kind::Erase));
+    push_kind(rows, phase, "erase.", made, made_before)
+}
 
-    pub fn flash_kind(
-        &mut self,
-        phase: &str,
-        kind: &str,
-        made: &Shares,
-        before: &Shares,
-    ) -> Result<(), AllocError> {
-        for (name, one, other) in regions() {
-            let share = region_share(made, one, other).since(region_share(before, one, other));
-            let parts = [Part::Text(phase), Part::Text(kind), Part::Text(name)];
-            self.push_ended(&parts, ".count", share.count, true)?;
-            self.push_ended(&parts, ".bytes", share.bytes, true)?;
-        }
-        Ok(())
+fn push_kind(
+    rows: &mut Rows,
+    phase: &str,
+    kind: &str,
+    made: &Shares,
+    before: &Shares,
+) -> Result<(), AllocError> {
+    for (name, one, other) in regions() {
+        let share = region_share(made, one, other).since(region_share(before, one, other));
+        let parts = [Part::Text(phase), Part::Text(kind), Part::Text(name)];
+        rows.push_ended(&parts, ".count", share.count, true)?;
+        rows.push_ended(&parts, ".bytes", share.bytes, true)?;
     }
+    Ok(())
+}
 
-    pub fn flash_cut(&mut self, kind: &str, counts: &[u64; REGIONS]) -> Result<(), AllocError> {
-        for (name, one, other) in regions() {
-            let parts = [
-                Part::Text("flash.cut."),
-                Part::Text(kind),
-                Part::Text(name),
-                Part::Text(".count"),
-            ];
-            self.push(&parts, count_of(counts, one, other), true)?;
-        }
-        Ok(())
+fn push_cut(rows: &mut Rows, kind: &str, counts: &[u64; REGIONS]) -> Result<(), AllocError> {
+    for (name, one, other) in regions() {
+        let parts = [Part::Text("flash.cut."), Part::Text(kind), Part::Text(name)];
+        rows.push_ended(&parts, ".count", count_of(counts, one, other), true)?;
     }
+    Ok(())
+}
 
-    pub fn chip(&mut self, cost: &MoteCost) -> Result<(), AllocError> {
-        self.flash("flash.format.", &cost.format, &Tally::none())?;
-        self.flash("flash.run.", &cost.tally, &cost.format)?;
-        self.flash_cut("program.", &cost.cut_programs)?;
-        self.flash_cut("erase.", &cost.cut_erases)?;
-        self.each("flash.event.", &EVENTS, &cost.flash_events, ".count")?;
-        self.sum("pages.begun", cost.begun)?;
-        self.sum("pages.sealed", cost.sealed)?;
-        self.sum("pages.copied", cost.copied)?;
-        self.sum("takes", cost.takes)?;
-        self.commits(cost)
-    }
+/// The rows of a mote's chip.
+pub fn push_chip(rows: &mut Rows, cost: &MoteCost) -> Result<(), AllocError> {
+    push_flash(rows, "flash.format.", &cost.format, &Tally::none())?;
+    push_flash(rows, "flash.run.", &cost.tally, &cost.format)?;
+    push_cut(rows, "program.", &cost.cut_programs)?;
+    push_cut(rows, "erase.", &cost.cut_erases)?;
+    rows.each("flash.event.", &EVENTS, &cost.flash_events, ".count")?;
+    rows.sum("pages.begun", cost.begun)?;
+    rows.sum("pages.sealed", cost.sealed)?;
+    rows.sum("pages.copied", cost.copied)?;
+    rows.sum("takes", cost.takes)?;
+    push_commits(rows, cost)
+}
 
-    pub fn commits(&mut self, cost: &MoteCost) -> Result<(), AllocError> {
-        let end = match cost.room_end {
-            Some(room) => room,
-            None => cost.room_begin.saturating_sub(cost.commits),
-        };
-        let spent = cost.room_begin.saturating_sub(end);
-        let torn = spent.saturating_sub(cost.commits);
-        self.sum("commits.made", cost.commits)?;
-        self.sum("commits.cut", torn)?;
-        self.sum("commits.free", cost.torn.saturating_sub(torn))?;
-        self.sum("handovers", cost.handovers)?;
-        self.own("room.begin", cost.room_begin)?;
-        self.own("room.end", end)
-    }
+fn push_commits(rows: &mut Rows, cost: &MoteCost) -> Result<(), AllocError> {
+    let end = match cost.room_end {
+        Some(room) => room,
+        None => cost.room_begin.saturating_sub(cost.commits),
+    };
+    let spent = cost.room_begin.saturating_sub(end);
+    let torn = spent.saturating_sub(cost.commits);
+    rows.sum("commits.made", cost.commits)?;
+    rows.sum("commits.cut", torn)?;
+    rows.sum("commits.free", cost.torn.saturating_sub(torn))?;
+    rows.sum("handovers", cost.handovers)?;
+    rows.own("room.begin", cost.room_begin)?;
+    rows.own("room.end", end)
 }
 
 /// Operations, bytes programmed and erases, with those of a mote.

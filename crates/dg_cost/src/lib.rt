@@ -5,20 +5,8 @@
 #![tactic(auto)]
 
 mod call;
-mod counter;
-mod csv;
 mod flash_rows;
-mod frames;
-mod hearing;
-mod kinds;
 mod moment_rows;
-mod moments;
-mod mote;
-mod rows;
-mod share;
-mod timed;
-mod told;
-mod watching;
-mod work;
+mod mote_rows;
 
 pub use call::{Form, cost};

@@ -17,6 +17,10 @@ use std::alloc::AllocError;
 /// The number of ticks among the kinds of events.
 const TICK: usize = 0;
 
+const HEAR: usize = 1;
+
+const LAST: usize = 2;
+
 /// Where an event is, its step of time, and its kind.
 #[derive(Clone, Copy)]
 struct EventPlace {
@@ -70,19 +74,20 @@ impl Counter {
         Ok(())
     }
 
-    /// A tick was applied. Of most nothing is reported, and they leave the chip as it was.
+    /// A tick of a mote was applied, after so many milliseconds. Of most nothing is reported, and they leave the chip as it was.
     #[inline(always)]
     fn note_tick<N: Nor>(
         &mut self,
         world: &World,
         event: &Event,
-        place: EventPlace,
+        mote: u8,
+        dt: u32,
         boards: &[Metered<N>],
         reports: &[Report],
     ) -> Result<(), AllocError> {
         self.events = self.events.wrapping_add(1);
-        self.ms = self.ms.wrapping_add(u64::from(place.dt));
-        let index = usize::from(place.mote);
+        self.ms = self.ms.wrapping_add(u64::from(dt));
+        let index = usize::from(mote);
         if self.motes.len() <= index || boards.len() <= index {
             return Ok(());
         }
@@ -90,11 +95,90 @@ impl Counter {
         cost.events[TICK] = cost.events[TICK].wrapping_add(1);
         let tally = boards[index].tally();
         if !reports.is_empty() || cost.tally.operations != tally.operations {
-            self.note_all(world, event, place, tally, reports)?;
+            self.note_busy_tick(world, event, mote, tally, reports)?;
         }
         match world.sent() {
-            Some(message) => self.frames.send(place.mote, kind_of(message)),
+            Some(message) => self.frames.send(mote, kind_of(message)),
             None => Ok(()),
+        }
+    }
+
+    /// A tick was applied of which something is reported, or that made operations.
+    #[inline(never)]
+    fn note_busy_tick(
+        &mut self,
+        world: &World,
+        event: &Event,
+        mote: u8,
+        tally: &Tally,
+        reports: &[Report],
+    ) -> Result<(), AllocError> {
+        let place = EventPlace {
+            mote,
+            dt: 0,
+            kind: TICK,
+        };
+        self.note_all(world, event, place, tally, reports)
+    }
+
+    /// An event was applied that brings a mote the frame with this number.
+    #[inline(always)]
+    fn note_hearing<N: Nor>(
+        &mut self,
+        world: &World,
+        event: &Event,
+        place: EventPlace,
+        number: usize,
+        boards: &[Metered<N>],
+        reports: &[Report],
+    ) -> Result<(), AllocError> {
+        self.count_event(place);
+        let index = usize::from(place.mote);
+        if self.motes.len() <= index || boards.len() <= index {
+            return Ok(());
+        }
+        let tally = boards[index].tally();
+        if !reports.is_empty() || self.motes[index].tally.operations != tally.operations {
+            return self.note_all(world, event, place, tally, reports);
+        }
+        self.note_quiet(place.mote, number, world.heard());
+        Ok(())
+    }
+
+    /// An event was applied that is no tick.
+    #[inline(always)]
+    fn note_no_tick<N: Nor>(
+        &mut self,
+        world: &World,
+        event: &Event,
+        boards: &[Metered<N>],
+        reports: &[Report],
+    ) -> Result<(), AllocError> {
+        match event {
+            Event::Hear {
+                mote,
+                dt,
+                frame,
+                ..
+            } => {
+                let place = EventPlace {
+                    mote: *mote,
+                    dt: *dt,
+                    kind: HEAR,
+                };
+                let number = *frame as usize;
+                self.note_hearing(world, event, place, number, boards, reports)
+            }
+            Event::Last { from, to, dt, .. } => {
+                let place = EventPlace {
+                    mote: *to,
+                    dt: *dt,
+                    kind: LAST,
+                };
+                let number = self.frames.last_of(*from);
+                self.note_hearing(world, event, place, number, boards, reports)
+            }
+            _ => self.note_other(world, event, boards, reports),
         }
     }
 
@@ -105,10 +189,8 @@ impl Counter {
         world: &World,
         event: &Event,
         boards: &[Metered<N>],
-        reported: bool,
         reports: &[Report],
     ) -> Result<(), AllocError> {
-        self.scheduled = self.scheduled || !reported;
         let place = place_of(event);
         self.count_event(place);
         let index = usize::from(place.mote);
@@ -190,6 +272,7 @@ impl<N: Nor> Watcher<Metered<N>> for Counter {
         self.stamp(1);
     }
 
+    #[inline(always)]
     fn applied(
         &mut self,
         world: &World,
@@ -200,14 +283,12 @@ impl<N: Nor> Watcher<Metered<N>> for Counter {
     ) {
         let done = match event {
             Event::Tick { mote, dt, .. } => {
-                let place = EventPlace {
-                    mote: *mote,
-                    dt: *dt,
-                    kind: TICK,
-                };
-                self.note_tick(world, event, place, boards, reports)
+                self.note_tick(world, event, *mote, *dt, boards, reports)
             }
-            _ => self.note_other(world, event, boards, reported, reports),
+            _ => {
+                self.scheduled = self.scheduled || !reported;
+                self.note_no_tick(world, event, boards, reports)
+            }
         };
         self.unless(done);
     }

@@ -1,1 +1,2 @@
 mod TimedLemmas
+mod CsvLemmas

@@ -11,7 +11,7 @@ pub const MOTES: usize = 16;
 pub const FILL: usize = 48;
 
 /// The starts of a mote, by power and by order.
-#[derive(Clone, Copy, Debug, PartialEq, Eq)]
+#[derive(Clone, Copy)]
 pub struct Starts {
     pub power: u64,
     pub order: u64,

@@ -1,8 +1,8 @@
 use Rattle.std.proofs.Common.{take, get_or}
 use Rattle.std.proofs.lemmas.List.{take_more}
-use Rattle.dg_cost.specs.Timed.{stamped}
-use Rattle.dg_cost.proofs.TimedLemmas.{timed_more}
-use Rattle.dg_cost.proofs.timed.timed_text.Goals as goal
+use Rattle.dg_cost_text.specs.Timed.{stamped}
+use Rattle.dg_cost_text.proofs.TimedLemmas.{timed_more}
+use Rattle.dg_cost_text.proofs.timed.timed_text.Goals as goal
 
 pub loop-byte-preserved : goal.loop-byte-preserved
 loop-byte-preserved c =

@@ -2,7 +2,7 @@ use Rattle.std.proofs.Common.{◌≡◌, ◌++◌, ◌∷◌, [], List, ℕ, tak
 use Rattle.std.specs.List.{AllByRecursion, flat_map}
 use Rattle.std.proofs.lemmas.List.{map-append, flat_map_more, take_more}
 use Rattle.std.specs.Prelude.{slice_index}
-use Rattle.dg_cost.specs.Timed.{Stamped, stamped, IsStamp, stamped_text, reported_byte, IsStampedReport}
+use Rattle.dg_cost_text.specs.Timed.{Stamped, stamped, IsStamp, stamped_text, reported_byte, IsStampedReport}
 
 pub all_more : (xs : List Stamped) (s : Stamped) → AllByRecursion IsStamp xs → IsStamp s → AllByRecursion IsStamp (xs ++ s ∷ [])
 all_more [] s all is = (is, tt)

@@ -113,7 +113,9 @@ impl MoteCost {
     /// What the operations of an event come to, the last of which a cut interrupted, where there is one.
     fn work(&mut self, kind: usize, after: &Tally, cut: Option<Operation>) -> Work {
         if cut.is_none() && self.is_put(after) {
-            self.tally = *after;
+            self.tally.operations = after.operations;
+            self.tally.programs.page = after.programs.page;
+            self.tally.last = after.last;
             add_one(&mut self.flash_events, kind);
             return ONE_PUT;
         }

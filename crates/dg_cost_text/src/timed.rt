@@ -1,18 +1,11 @@
 //! A report with the event and the moment of each line.
 
 ghost use Rattle.std.specs.Prelude.{◌≡◌, ◌++◌, ℕ, List, OnOk, IfOk};
-ghost use Rattle.dg_cost.specs.Timed.{stamp_text, stamped, stamped_text, IsStamp, IsStampedReport};
+ghost use Rattle.dg_cost_text.specs.Timed.{stamp_text, stamped, stamped_text, IsStamp, IsStampedReport};
 
 use crate::csv::push_u64;
-use crate::moments::Moment;
+use crate::moment::{Moment, Stamp};
 use std::alloc::{AllocError, Global};
-
-/// So many lines were reported of this event, at this moment.
-#[derive(Clone, Copy, Debug, PartialEq, Eq)]
-pub struct Stamp {
-    pub at: Moment,
-    pub lines: usize,
-}
 
 /// The stamp of the next line: that of its event, and behind the last of them that of the end.
 #[derive(Drop)]

@@ -1,6 +1,6 @@
 use Rattle.std.proofs.Common.{take}
-use Rattle.dg_cost.specs.Timed.{IsStampedReport}
-use Rattle.dg_cost.proofs.timed.timed_text.Given as goal
+use Rattle.dg_cost_text.specs.Timed.{IsStampedReport}
+use Rattle.dg_cost_text.proofs.timed.timed_text.Given as goal
 
 -- the bytes so far are told
 abbrev pub invariant-loop-byte : goal.invariant-loop-byte

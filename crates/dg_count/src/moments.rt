@@ -1,19 +1,13 @@
 //! When motes have what.
 
 use dg_base::ImageVersion;
+use dg_cost_text::Moment;
 use dg_meter::SLOTS;
 use std::alloc::{AllocError, Global};
 use std::collections::BTreeMap;
 
-/// An event's number, and its moment in milliseconds.
-#[derive(Clone, Copy, Debug, PartialEq, Eq)]
-pub struct Moment {
-    pub event: u64,
-    pub ms: u64,
-}
-
 /// What a mote keeps of an image.
-#[derive(Clone, Copy, Debug, PartialEq, Eq)]
+#[derive(Clone, Copy)]
 pub struct Have {
     pub version: u32,
     pub done: u8,
@@ -22,7 +16,7 @@ pub struct Have {
 }
 
 /// That an image became whole: at which mote, and how often it had been whole there then.
-#[derive(Clone, Copy, Debug, PartialEq, Eq, PartialOrd, Ord)]
+#[derive(Clone, Copy, PartialEq, Eq, PartialOrd, Ord)]
 pub struct Whole {
     pub mote: u8,
     pub image: u8,

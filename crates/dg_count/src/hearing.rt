@@ -24,7 +24,8 @@ impl MoteCost {
 }
 
 impl Counter {
-    /// The number of the frame that an event brings to its mote, and its bytes. The number is 0 where it comes from outside.
+    /// The number of the frame that an event brings to its mote, and 0 where it comes from outside.
+    #[inline(always)]
     fn frame_number(&self, event: &Event) -> usize {
         match event {
             Event::Hear { frame, .. } => *frame as usize,
@@ -99,7 +100,18 @@ impl Counter {
         Ok(())
     }
 
+    /// A mote heard the frame with this number. Nothing is reported of it, and it left the chip as it was.
+    #[inline(always)]
+    pub fn note_quiet(&mut self, mote: u8, number: usize, heard: Heard) {
+        self.heard_frame(mote, number, Some(heard), 0);
+        let index = usize::from(mote);
+        if index < self.motes.len() {
+            add_one(&mut self.motes[index].answers, answer_kind(heard));
+        }
+    }
+
     /// A frame was heard, unless the event is refused or of another kind.
+    #[inline(never)]
     pub fn note_heard(
         &mut self,
         world: &World,

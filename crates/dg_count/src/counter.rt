@@ -1,11 +1,11 @@
 //! What is counted of a replay.
 
 use crate::frames::Frames;
-use crate::moments::{Moment, Moments};
+use crate::moments::Moments;
 use crate::mote::MoteCost;
 use crate::share::narrow;
-use crate::timed::Stamp;
 use dg_control::IMAGES;
+use dg_cost_text::{Moment, Stamp};
 use dg_meter::{Metered, SLOTS};
 use dg_nor::Nor;
 use dg_volume::Kept;

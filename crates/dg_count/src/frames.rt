@@ -9,7 +9,7 @@ use std::alloc::{AllocError, Global};
 use std::collections::BTreeMap;
 
 /// A frame that was sent, and what became of it.
-#[derive(Clone, Copy, Debug, PartialEq, Eq)]
+#[derive(Clone, Copy)]
 pub struct SentFrame {
     pub by: u8,
     pub kind: u8,
@@ -255,7 +255,7 @@ fn state_of(frame: &SentFrame) -> usize {
 }
 
 /// How many frames a mote sent of each kind, by what became of them.
-#[derive(Clone, Copy, Debug, PartialEq, Eq)]
+#[derive(Clone, Copy)]
 pub struct SentBy {
     states: [[u64; STATES]; SENT_KINDS],
 }

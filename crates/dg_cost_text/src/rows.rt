@@ -1,0 +1,235 @@
+//! What was counted, as rows of a key and a value.
+
+use crate::moment::{Moment, What};
+use dg_base::push_u32;
+use dg_meter::Share;
+use std::alloc::{AllocError, Global};
+
+/// A key with its value.
+#[derive(Drop)]
+pub struct Row {
+    pub key: Vec<u8>,
+    pub value: u64,
+    /// The sum over the motes is a row of all.
+    pub summed: bool,
+}
+
+/// Rows, in the order in which they are told, of a mote or of all motes.
+#[derive(Drop)]
+pub struct Rows {
+    alloc: Global,
+    pub rows: Vec<Row>,
+    /// The moments among them.
+    pub moments: Vec<(What, Moment)>,
+}
+
+/// What a run came to.
+#[derive(Drop)]
+pub struct Counted {
+    /// The rows of each mote, that of mote 0 first.
+    pub motes: Vec<Rows>,
+    /// Those of all.
+    pub all: Rows,
+    /// Whether rounds or sweeps were played, whose moments are those of a schedule.
+    pub scheduled: bool,
+}
+
+/// A part of a key.
+#[derive(Clone, Copy)]
+pub enum Part<'a> {
+    Text(&'a str),
+    Number(u32),
+}
+
+impl Rows {
+    /// There are none yet.
+    pub fn new(alloc: Global) -> Rows {
+        Rows {
+            alloc,
+            rows: Vec::new(alloc),
+            moments: Vec::new(alloc),
+        }
+    }
+
+    /// A row with a key of these parts.
+    pub fn push(&mut self, parts: &[Part<'_>], value: u64, summed: bool) -> Result<(), AllocError> {
+        self.push_ended(parts, "", value, summed)
+    }
+
+    /// A row with a key of these parts and this end.
+    pub fn push_ended(
+        &mut self,
+        parts: &[Part<'_>],
+        end: &str,
+        value: u64,
+        summed: bool,
+    ) -> Result<(), AllocError> {
+        let mut key = Vec::new(self.alloc);
+        for part in parts {
+            match part {
+                Part::Text(text) => key.extend_from_slice(text.as_bytes())?,
+                Part::Number(number) => push_u32(&mut key, *number)?,
+            }
+        }
+        key.extend_from_slice(end.as_bytes())?;
+        self.rows.push(Row { key, value, summed })?;
+        Ok(())
+    }
+
+    /// A row with the key of another one.
+    pub fn push_as(&mut self, row: &Row, value: u64) -> Result<(), AllocError> {
+        let mut key = Vec::new(self.alloc);
+        key.extend_from_slice(&row.key)?;
+        self.rows.push(Row {
+            key,
+            value,
+            summed: true,
+        })?;
+        Ok(())
+    }
+
+    /// A row whose sum over the motes is told too.
+    pub fn sum(&mut self, key: &str, value: u64) -> Result<(), AllocError> {
+        self.push(&[Part::Text(key)], value, true)
+    }
+
+    /// A row of a mote alone, or of all motes alone.
+    pub fn own(&mut self, key: &str, value: u64) -> Result<(), AllocError> {
+        self.push(&[Part::Text(key)], value, false)
+    }
+
+    /// A row for each of these names, between two pieces of the key.
+    pub fn each(
+        &mut self,
+        before: &str,
+        names: &[&str],
+        values: &[u64],
+        after: &str,
+    ) -> Result<(), AllocError> {
+        for index in 0..names.len() {
+            if index < values.len() {
+                let parts = [
+                    Part::Text(before),
+                    Part::Text(names[index]),
+                    Part::Text(after),
+                ];
+                self.push(&parts, values[index], true)?;
+            }
+        }
+        Ok(())
+    }
+
+    /// Two rows for a share.
+    pub fn share(&mut self, before: &str, name: &str, share: Share) -> Result<(), AllocError> {
+        let parts = [Part::Text(before), Part::Text(name)];
+        self.push_ended(&parts, ".count", share.count, true)?;
+        self.push_ended(&parts, ".bytes", share.bytes, true)
+    }
+
+    /// Two rows for each of these shares.
+    pub fn shares(
+        &mut self,
+        before: &str,
+        names: &[&str],
+        shares: &[Share],
+    ) -> Result<(), AllocError> {
+        for index in 0..names.len() {
+            if index < shares.len() {
+                self.share(before, names[index], shares[index])?;
+            }
+        }
+        Ok(())
+    }
+
+    /// The two rows of a moment.
+    pub fn moment(&mut self, what: What, at: Moment) -> Result<(), AllocError> {
+        match what {
+            What::Whole {
+                image,
+                version,
+                times,
+            } => self.whole(image, version, times, at)?,
+            What::All { image, version } => {
+                let parts = [
+                    Part::Text("all."),
+                    Part::Number(u32::from(image)),
+                    Part::Text("."),
+                    Part::Number(version),
+                ];
+                self.moment_rows(&parts, at)?;
+            }
+            What::Newest { image } => {
+                let parts = [Part::Text("newest."), Part::Number(u32::from(image))];
+                self.moment_rows(&parts, at)?;
+            }
+        }
+        self.moments.push((what, at))?;
+        Ok(())
+    }
+
+    fn whole(&mut self, image: u8, version: u32, times: u32, at: Moment) -> Result<(), AllocError> {
+        let again = 1 < times;
+        let parts = [
+            Part::Text("whole."),
+            Part::Number(u32::from(image)),
+            Part::Text("."),
+            Part::Number(version),
+            Part::Text(if again { ".again." } else { "" }),
+            if again {
+                Part::Number(times)
+            } else {
+                Part::Text("")
+            },
+        ];
+        self.moment_rows(&parts, at)
+    }
+
+    fn moment_rows(&mut self, parts: &[Part<'_>], at: Moment) -> Result<(), AllocError> {
+        self.push_ended(parts, ".event", at.event, false)?;
+        self.push_ended(parts, ".ms", at.ms, false)
+    }
+
+    /// The value of a key, where there is a row of it.
+    pub fn find(&self, key: &str) -> Option<u64> {
+        for row in &self.rows {
+            if row.key.as_slice() == key.as_bytes() {
+                return Some(row.value);
+            }
+        }
+        None
+    }
+
+    /// The value of a key, 0 where there is no row of it.
+    pub fn value(&self, key: &str) -> u64 {
+        self.find(key).unwrap_or(0)
+    }
+
+    /// The sum of the values of keys that have one name between this beginning and this end.
+    pub fn sum_of(&self, begin: &str, end: &str) -> u64 {
+        let mut sum: u64 = 0;
+        for row in &self.rows {
+            if begins_and_ends(&row.key, begin.as_bytes(), end.as_bytes()) {
+                sum = sum.saturating_add(row.value);
+            }
+        }
+        sum
+    }
+}
+
+/// Whether a key has a name between this beginning and this end.
+fn begins_and_ends(key: &[u8], begin: &[u8], end: &[u8]) -> bool {
+    begin.len().saturating_add(end.len()) < key.len()
+        && key.starts_with(begin)
+        && key.ends_with(end)
+}
+
+/// The sum of the rows that stand there.
+pub fn total_of(motes: &[Rows], index: usize) -> u64 {
+    let mut total: u64 = 0;
+    for rows in motes {
+        if let Some(row) = rows.rows.get(index) {
+            total = total.saturating_add(row.value);
+        }
+    }
+    total
+}
