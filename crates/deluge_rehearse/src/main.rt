@@ -1,0 +1,226 @@
+//! `deluge_rehearse` plays an update of a network by the clock, and writes the script of it. `rehearse` of `dg_rehearse` does
+//! all that it does.
+#![tactic(auto)]
+
+ghost use Rattle.std.specs.Prelude.{IfOk};
+ghost use Rattle.dg_netcfg.specs.Readings.{IsAllowed};
+ghost use Rattle.dg_script.specs.Ranges.{IsDeclared};
+ghost use Rattle.dg_rehearse.specs.Rehearsed.{planned_row};
+
+mod words;
+
+use dg_base::{Bytes, MOST_INPUT, MOST_MOTES, Status, StdSource};
+use dg_ihex::read_ihex;
+use dg_input::{ReadStop, read_whole};
+use dg_netcfg::{NetProfile, read_profile};
+use dg_nor::Board;
+use dg_rehearse::{Ending, Plan, Rehearsal, Stop, rehearse};
+use std::alloc::AllocError;
+use std::env;
+use std::fs::File;
+use std::io::{self, ErrorKind, Read};
+use std::process::ExitCode;
+use words::{Asked, Rehearse, read_words};
+
+const HELP: &str = "\
+deluge_rehearse: plays an update of a network by the clock, and writes the script of it
+
+Usage: deluge_rehearse [OPTIONS] --image I --ver V --name NAME <PROFILE> < IMAGE.HEX
+
+It reads the image from standard input, as Intel HEX. Each mote of the network profile (TOML) starts golden, the image
+is injected into one of them, and the network runs by the rules: a mote is ticked when something of it is due, and each
+frame is heard by each neighbour unless it is lost. It ends when every mote has the image. `deluge replay` plays the
+script again, `deluge_cost` tells what it costs, and `deluge_picture` draws its report.
+
+Options:
+  --image I     the number of the image, 1 to 6
+  --ver V       its version, 1 to 4294967295
+  --name NAME   its name, 1 to 16 bytes
+  --at MOTE     the mote into which it is injected (default 0)
+  --order       it is ordered too: it ends when every mote runs the image
+  --loss P      of a hundred frames, so many are lost on their way to one neighbour (0 to 100, default 0)
+  --cuts N      so many resets come whose power is cut within the start (0 to 1000, default 0)
+  --minutes M   it ends after so many minutes of the schedule (1 to 60000, default 1440)
+  --seed S      what stands for chance (0 to 4294967295, default 0)
+  --help        writes this text
+  --version     writes the version
+
+Statuses: 0 every mote has it, 8 the time was over before, 2 usage, 3 bad input, 4 read, 5 write, 6 the profile's file.
+";
+
+const VERSION: &str = "deluge_rehearse 0.9\n";
+
+/// What is told of an image that cannot be injected.
+const SIZE: &str = "the image is empty, or has more than 70,656 bytes";
+
+/// The longest profile that is read, in bytes.
+const MOST_PROFILE: u64 = 16_777_217;
+
+/// Tells a cause on standard error, and answers the status.
+fn fail(rt: &HostRuntime, cause: &str, status: Status) -> Status {
+    let _ = eprintln!(rt; "deluge_rehearse: {cause}");
+    status
+}
+
+/// The bytes of a file.
+fn read_file(rt: &HostRuntime, name: &str) -> io::Result<Vec<u8>> {
+    let file = File::open(rt, name)?;
+    let mut bytes = Vec::new(rt.alloc());
+    file.take(MOST_PROFILE).read_to_end(&mut bytes)?;
+    Ok(bytes)
+}
+
+/// The network profile of a file.
+fn profile(rt: &HostRuntime, name: &str) -> Result<NetProfile, Status>
+    ensures { IfOk result IsAllowed }
+{
+    let bytes = match read_file(rt, name) {
+        Ok(bytes) => bytes,
+        Err(error) => {
+            let _ = eprintln!(rt; "deluge_rehearse: {name}: {error}");
+            return Err(Status::FlashFault);
+        }
+    };
+    match read_profile(rt.alloc(), bytes.as_slice()) {
+        Ok(profile) => Ok(profile),
+        Err(fault) => {
+            let _ = eprintln!(rt; "deluge_rehearse: {name}: profile {fault}");
+            Err(Status::BadInput)
+        }
+    }
+}
+
+/// The image that comes by standard input.
+fn image(rt: &HostRuntime) -> Result<Vec<u8>, Status> {
+    let mut input = StdSource::new(rt.stdin());
+    let text = match read_whole(rt.alloc(), &mut input) {
+        Ok(text) => text,
+        Err(ReadStop::Memory) => return Err(fail(rt, "out of memory", Status::Memory)),
+        Err(ReadStop::ReadFault) => {
+            return Err(fail(rt, "standard input: a read failed", Status::ReadFault));
+        }
+    };
+    if text.as_slice().len() > MOST_INPUT {
+        return Err(fail(
+            rt,
+            "standard input: more than 16,777,216 bytes",
+            Status::TooLong,
+        ));
+    }
+    match read_ihex(rt.alloc(), text.as_slice()) {
+        Ok(bytes) => Ok(bytes),
+        Err(fault) => {
+            let line = fault.line;
+            let cause = fault.cause;
+            let _ = eprintln!(rt; "deluge_rehearse: standard input: line {line} {cause}");
+            Err(Status::BadInput)
+        }
+    }
+}
+
+/// A chip in memory for each mote.
+fn boards(rt: &HostRuntime) -> Result<Vec<Board>, AllocError> {
+    let mut boards = Vec::new(rt.alloc());
+    for _ in 0..MOST_MOTES {
+        boards.push(Board::memory(rt.alloc())?)?;
+    }
+    Ok(boards)
+}
+
+/// What a rehearsal came to: its script is written, and how it ended is told.
+fn told(rt: &HostRuntime, rehearsal: &Rehearsal) -> Status {
+    let mut out = rt.stdout();
+    if io::Write::write_all(&mut out, rehearsal.script.as_slice()).is_err() {
+        return fail(rt, "standard output: a write failed", Status::WriteFault);
+    }
+    let minutes = rehearsal.moment / 60_000;
+    let seconds = rehearsal.moment / 1_000 % 60;
+    let how = match rehearsal.ending {
+        Ending::Complete => "every mote has it",
+        Ending::OutOfTime => "the time was over before every mote had it",
+        Ending::TooMany => "a script has no more than 1,000,000 events",
+        Ending::TooLong => "a script has no more than 16,777,216 bytes",
+    };
+    let _ = eprintln!(rt; "deluge_rehearse: {how}, after {minutes} min {seconds} s");
+    match rehearsal.ending {
+        Ending::Complete => Status::Done,
+        Ending::OutOfTime => Status::Refused,
+        Ending::TooMany => Status::TooMany,
+        Ending::TooLong => Status::TooLong,
+    }
+}
+
+/// Rehearses what the words ask for.
+fn run(rt: &HostRuntime, asked: Rehearse) -> Status {
+    let profile = match profile(rt, asked.profile.as_str()) {
+        Ok(profile) => profile,
+        Err(status) => return status,
+    };
+    let content = match image(rt) {
+        Ok(content) => content,
+        Err(status) => return status,
+    };
+    let plan = Plan {
+        image: asked.image,
+        version: asked.version,
+        name: asked.name,
+        content: Bytes::new(content),
+        at: asked.at,
+        ordered: asked.ordered,
+        loss: asked.loss,
+        seed: asked.seed,
+        minutes: asked.minutes,
+        cuts: asked.cuts,
+    };
+    if plan.is_declarable() {
+        play(rt, &profile, &plan)
+    } else {
+        fail(rt, SIZE, Status::BadInput)
+    }
+}
+
+/// Rehearses a plan over chips in memory.
+fn play(rt: &HostRuntime, profile: &NetProfile, plan: &Plan) -> Status
+    requires allowed { IsAllowed profile.now }
+    requires declared { IsDeclared (planned_row plan.now) }
+{
+    let Ok(mut boards) = boards(rt) else {
+        return fail(rt, "out of memory", Status::Memory);
+    };
+    match rehearse(rt.alloc(), profile, plan, &mut boards) {
+        Ok(rehearsal) => told(rt, &rehearsal),
+        Err(Stop::Memory) => fail(rt, "out of memory", Status::Memory),
+        Err(Stop::Flash) => fail(rt, "a chip stopped", Status::FlashFault),
+        Err(Stop::NoBoard) => fail(rt, "fewer chips than motes", Status::NoBoard),
+        Err(Stop::NoMote) => fail(rt, "--at is no mote of the profile", Status::BadInput),
+        Err(Stop::Size) => fail(rt, SIZE, Status::BadInput),
+    }
+}
+
+/// Writes a text to standard output.
+fn write(rt: &HostRuntime, text: &str) -> Status {
+    match rt.print(text) {
+        Ok(()) => Status::Done,
+        Err(_) => Status::WriteFault,
+    }
+}
+
+/// Does what the words ask for.
+fn done(rt: &HostRuntime) -> Status {
+    let asked = match env::args(rt) {
+        Ok(args) => read_words(rt, args),
+        Err(error) if error.kind() == ErrorKind::InvalidData => Ok(Asked::Other),
+        Err(_) => Err(AllocError),
+    };
+    match asked {
+        Ok(Asked::Rehearse(asked)) => run(rt, asked),
+        Ok(Asked::Help) => write(rt, HELP),
+        Ok(Asked::Version) => write(rt, VERSION),
+        Ok(Asked::Other) => fail(rt, "try deluge_rehearse --help", Status::Usage),
+        Err(AllocError) => fail(rt, "out of memory", Status::Memory),
+    }
+}
+
+fn main(rt: HostRuntime) -> ExitCode {
+    ExitCode::from(done(&rt).code())
+}

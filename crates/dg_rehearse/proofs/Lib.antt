@@ -1,0 +1,4 @@
+pub mod WrittenLemmas
+pub mod PlayLemmas
+pub mod BeginLemmas
+pub mod SpellLemmas

@@ -1,0 +1,60 @@
+//! Resets whose power is cut within the start, at moments that draws choose.
+ghost use Rattle.std.specs.Prelude.{◌≤◌, map, OnOk, IfOk};
+ghost use Rattle.dg_script.specs.Fitting.{FitsCut};
+ghost use Rattle.dg_rehearse.specs.Rehearsed.{IsUnderWay, GoesOn, staging};
+
+use crate::plan::Plan;
+use crate::schedule::{Schedule, since};
+use crate::stage::{Played, Stage};
+use crate::stop::Halt;
+use dg_base::{Bytes, Cut, Event};
+use dg_nor::Nor;
+use std::alloc::{AllocError, Global};
+
+/// A reset with a cut comes at most so long after the one before, in milliseconds.
+pub(crate) const BETWEEN_CUTS: u32 = 60_000;
+
+/// A cut is in one of so many operations of a start.
+const CUT_OPERATIONS: u32 = 3;
+
+impl Schedule {
+    /// A mote that draws choose is reset, and its power is cut in the start.
+    pub(crate) fn cut<N: Nor>(
+        &mut self,
+        alloc: Global,
+        motes: u8,
+        moment: u64,
+        plan: &Plan,
+        stage: &mut Stage,
+        boards: &mut Vec<N>,
+    ) -> Result<Played, Halt>
+        requires under_way { IsUnderWay motes
+            (staging stage.old.world (map N.device boards.old.items) stage.old.script.items) }
+        requires some { 1 ≤ motes }
+        ensures { OnOk result (GoesOn (staging stage.old.world (map N.device boards.old.items) stage.old.script.items)
+            (staging stage.new.world (map N.device boards.new.items) stage.new.script.items)) }
+    {
+        let mote = (self.draws.next() % u32::from(motes)) as u8;
+        let dt = since(stage.moment, moment);
+        let word = self.draws.next();
+        let cut = self.drawn_cut(alloc)?;
+        self.cuts = self.cuts.saturating_sub(1);
+        self.next_cut = moment.saturating_add(u64::from(self.draws.next() % BETWEEN_CUTS));
+        let event = Event::Reset { mote, dt, word };
+        let played = stage.play_cut(cut, event, dt, boards)?;
+        self.note(mote, plan, stage);
+        Ok(played)
+    }
+
+    /// The cut that draws choose.
+    fn drawn_cut(&mut self, alloc: Global) -> Result<Cut, AllocError>
+        ensures { IfOk result FitsCut }
+    {
+        let mut mask = Vec::with_capacity(alloc, 1)?;
+        mask.push((self.draws.next() % 256) as u8)?;
+        Ok(Cut {
+            after: 1 + self.draws.next() % CUT_OPERATIONS,
+            mask: Bytes::new(mask),
+        })
+    }
+}

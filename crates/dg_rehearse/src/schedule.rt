@@ -1,0 +1,359 @@
+//! The schedule: each mote is ticked when something of it is due, and each frame is heard by the neighbours that it reaches.
+ghost use Rattle.std.specs.Prelude.{◌≡◌, ◌≤◌, ◌<◌, ℕ, map, OnOk};
+ghost use Rattle.dg_rehearse.specs.Rehearsed.{IsPlanned, IsRehearsed, IsUnderWay, GoesOn, staging};
+ghost use Rattle.dg_rehearse.specs.declared.schedule.Coming.{Coming};
+ghost use Rattle.dg_rehearse.specs.declared.schedule.Next.{Next};
+
+use crate::cutting::BETWEEN_CUTS;
+use crate::plan::{Ending, Plan};
+use crate::progress::Progress;
+use crate::stage::{Played, Stage};
+use crate::stop::Halt;
+use dg_base::{Event, MOST_MOTES};
+use dg_nor::Nor;
+use dg_script::MOST_EVENTS;
+use dg_seed::Draws;
+use std::alloc::Global;
+
+/// How long a mote stays off whose start was cut, in milliseconds.
+const OFF: u64 = 1_000;
+
+/// A script has at most 16,777,216 bytes, and a turn writes the lines of no more than sixteen events.
+const MOST_SCRIPT: usize = dg_script::USED - 16 * 64;
+
+/// Milliseconds of a minute.
+const MINUTE: u64 = 60_000;
+
+/// What is still to come.
+#[derive(Drop)]
+pub(crate) struct Schedule {
+    pub(crate) draws: Draws,
+    progress: Progress,
+    /// The moment before which nothing of a mote is due, or at which its power comes back.
+    due: [u64; MOST_MOTES as usize],
+    /// Resets with a cut that are left, and the moment of the next.
+    pub(crate) cuts: u32,
+    pub(crate) next_cut: u64,
+}
+
+/// What comes next, and when.
+#[derive(Clone, Copy, Debug, PartialEq, Eq)]
+struct Next {
+    mote: u8,
+    moment: u64,
+}
+
+/// What comes next: the end, a reset with a cut, or a mote's turn.
+#[derive(Clone, Copy)]
+enum Coming {
+    End(Ending),
+    Cut { moment: u64 },
+    Turn(Next),
+}
+
+impl Schedule {
+    /// The schedule of a plan for so many motes and an image of so many pages.
+    pub(crate) fn of(plan: &Plan, pages: u8) -> Schedule {
+        let mut draws = Draws::of_seed(plan.seed);
+        let next_cut = u64::from(draws.next() % BETWEEN_CUTS);
+        Schedule {
+            draws,
+            progress: Progress::none(pages),
+            due: [0; MOST_MOTES as usize],
+            cuts: plan.cuts,
+            next_cut,
+        }
+    }
+
+    /// Plays all of it.
+    pub(crate) fn play<N: Nor>(
+        &mut self,
+        alloc: Global,
+        motes: u8,
+        plan: &Plan,
+        stage: &mut Stage,
+        boards: &mut Vec<N>,
+    ) -> Result<Ending, Halt>
+        requires under_way { IsUnderWay motes
+            (staging stage.old.world (map N.device boards.old.items) stage.old.script.items) }
+        requires planned { IsPlanned motes plan.now }
+        requires some { 1 ≤ motes }
+        ensures { OnOk result (GoesOn (staging stage.old.world (map N.device boards.old.items) stage.old.script.items)
+            (staging stage.new.world (map N.device boards.new.items) stage.new.script.items)) }
+    {
+        self.start_all(motes, plan, stage, boards)?;
+        self.inject(motes, plan, stage, boards)?;
+        self.play_turns(alloc, motes, plan, stage, boards)
+    }
+
+    /// Turns, until it ends.
+    fn play_turns<N: Nor>(
+        &mut self,
+        alloc: Global,
+        motes: u8,
+        plan: &Plan,
+        stage: &mut Stage,
+        boards: &mut Vec<N>,
+    ) -> Result<Ending, Halt>
+        requires under_way { IsUnderWay motes
+            (staging stage.old.world (map N.device boards.old.items) stage.old.script.items) }
+        requires some { 1 ≤ motes }
+        ensures { OnOk result (GoesOn (staging stage.old.world (map N.device boards.old.items) stage.old.script.items)
+            (staging stage.new.world (map N.device boards.new.items) stage.new.script.items)) }
+    {
+        for _ in 0..MOST_EVENTS {
+            if let Some(ending) = self.play_next(alloc, motes, plan, stage, boards)? {
+                return Ok(ending);
+            }
+        }
+        Ok(Ending::TooMany)
+    }
+
+    /// Plays what comes next, or tells how it ended.
+    #[tactic(auto, using(crate::proofs::PlayLemmas::goes_nowhere))]
+    fn play_next<N: Nor>(
+        &mut self,
+        alloc: Global,
+        motes: u8,
+        plan: &Plan,
+        stage: &mut Stage,
+        boards: &mut Vec<N>,
+    ) -> Result<Option<Ending>, Halt>
+        requires under_way { IsUnderWay motes
+            (staging stage.old.world (map N.device boards.old.items) stage.old.script.items) }
+        requires some { 1 ≤ motes }
+        ensures { OnOk result (GoesOn (staging stage.old.world (map N.device boards.old.items) stage.old.script.items)
+            (staging stage.new.world (map N.device boards.new.items) stage.new.script.items)) }
+    {
+        match self.coming(motes, plan, stage) {
+            Coming::End(ending) => Ok(Some(ending)),
+            Coming::Cut { moment } => {
+                let played = self.cut(alloc, motes, moment, plan, stage, boards)?;
+                Ok(ending_of(played))
+            }
+            Coming::Turn(next) => {
+                let played = self.turn(motes, next, plan, stage, boards)?;
+                Ok(ending_of(played))
+            }
+        }
+    }
+
+    /// What comes next.
+    fn coming(&self, motes: u8, plan: &Plan, stage: &Stage) -> Coming
+        requires some { 1 ≤ motes }
+        ensures { (next : Next) → result ≡ Coming.Turn next → next.mote < motes }
+    {
+        if self.progress.is_complete(plan, motes) {
+            return Coming::End(Ending::Complete);
+        }
+        if stage.script.len() > MOST_SCRIPT {
+            return Coming::End(Ending::TooLong);
+        }
+        let next = self.next(motes, stage.moment);
+        let is_cut = self.cuts > 0 && self.next_cut <= next.moment;
+        let moment = if is_cut {
+            self.next_cut.max(stage.moment)
+        } else {
+            next.moment
+        };
+        if moment > u64::from(plan.minutes) * MINUTE {
+            return Coming::End(Ending::OutOfTime);
+        }
+        if is_cut {
+            return Coming::Cut { moment };
+        }
+        Coming::Turn(next)
+    }
+
+    /// The mote of which something is due first, and the moment, which is not before this one.
+    fn next(&self, motes: u8, now: u64) -> Next
+        requires some { 1 ≤ motes }
+        ensures { result.mote < motes }
+    {
+        let mut next = Next {
+            mote: 0,
+            moment: u64::MAX,
+        };
+        for mote in 0..motes {
+            let due = match self.due.get(usize::from(mote)) {
+                Some(due) => *due,
+                None => u64::MAX,
+            };
+            if due < next.moment {
+                next = Next { mote, moment: due };
+            }
+        }
+        Next {
+            mote: next.mote,
+            moment: next.moment.max(now),
+        }
+    }
+
+    /// A mote has its turn: it ticks, or its power comes back.
+    fn turn<N: Nor>(
+        &mut self,
+        motes: u8,
+        next: Next,
+        plan: &Plan,
+        stage: &mut Stage,
+        boards: &mut Vec<N>,
+    ) -> Result<Played, Halt>
+        requires under_way { IsUnderWay motes
+            (staging stage.old.world (map N.device boards.old.items) stage.old.script.items) }
+        requires known { next.mote < motes }
+        ensures { OnOk result (GoesOn (staging stage.old.world (map N.device boards.old.items) stage.old.script.items)
+            (staging stage.new.world (map N.device boards.new.items) stage.new.script.items)) }
+    {
+        let dt = since(stage.moment, next.moment);
+        let word = self.draws.next();
+        let mote = next.mote;
+        let event = event_of_turn(stage.world.due(mote).is_some(), mote, dt, word);
+        let before = stage.world.frames_sent();
+        let played = self.event(motes, event, mote, dt, plan, stage, boards)?;
+        // a mote ticks at most once in a millisecond
+        self.rest(mote, stage.moment.saturating_add(1));
+        match played {
+            Played::Done => self.deliver(motes, mote, before, plan, stage, boards),
+            Played::TooMany => Ok(Played::TooMany),
+        }
+    }
+
+    /// The frame that a mote sent, if there are more than before, is heard by each neighbour that it reaches.
+    #[tactic(auto, using(crate::proofs::PlayLemmas::goes_nowhere))]
+    fn deliver<N: Nor>(
+        &mut self,
+        motes: u8,
+        from: u8,
+        before: usize,
+        plan: &Plan,
+        stage: &mut Stage,
+        boards: &mut Vec<N>,
+    ) -> Result<Played, Halt>
+        requires under_way { IsUnderWay motes
+            (staging stage.old.world (map N.device boards.old.items) stage.old.script.items) }
+        ensures { OnOk result (GoesOn (staging stage.old.world (map N.device boards.old.items) stage.old.script.items)
+            (staging stage.new.world (map N.device boards.new.items) stage.new.script.items)) }
+    {
+        let sent = stage.world.frames_sent();
+        if sent <= before {
+            return Ok(Played::Done);
+        }
+        let Ok(frame) = u32::try_from(sent) else {
+            return Ok(Played::TooMany);
+        };
+        for mote in 0..motes {
+            match self.hear(motes, from, mote, frame, plan, stage, boards)? {
+                Played::Done => {}
+                Played::TooMany => return Ok(Played::TooMany),
+            }
+        }
+        Ok(Played::Done)
+    }
+
+    /// A frame is heard by a mote, if it reaches it.
+    #[tactic(auto, using(crate::proofs::PlayLemmas::goes_nowhere))]
+    fn hear<N: Nor>(
+        &mut self,
+        motes: u8,
+        from: u8,
+        mote: u8,
+        frame: u32,
+        plan: &Plan,
+        stage: &mut Stage,
+        boards: &mut Vec<N>,
+    ) -> Result<Played, Halt>
+        requires under_way { IsUnderWay motes
+            (staging stage.old.world (map N.device boards.old.items) stage.old.script.items) }
+        requires known { mote < motes }
+        requires numbered { 1 ≤ frame }
+        ensures { OnOk result (GoesOn (staging stage.old.world (map N.device boards.old.items) stage.old.script.items)
+            (staging stage.new.world (map N.device boards.new.items) stage.new.script.items)) }
+    {
+        if !self.reaches(from, mote, plan, stage) {
+            return Ok(Played::Done);
+        }
+        let word = self.draws.next();
+        let event = Event::Hear {
+            mote,
+            dt: 0,
+            word,
+            frame,
+        };
+        self.event(motes, event, mote, 0, plan, stage, boards)
+    }
+
+    /// Whether a frame reaches a mote: they are neighbours, the mote is on, and the draw does not lose it.
+    fn reaches(&mut self, from: u8, mote: u8, plan: &Plan, stage: &Stage) -> bool {
+        mote != from
+            && stage.world.are_joined(from, mote)
+            && stage.world.due(mote).is_some()
+            && self.draws.next() % 100 >= u32::from(plan.loss)
+    }
+
+    /// Plays an event at a mote, and notes what came of it.
+    pub(crate) fn event<N: Nor>(
+        &mut self,
+        motes: u8,
+        event: Event,
+        mote: u8,
+        dt: u32,
+        plan: &Plan,
+        stage: &mut Stage,
+        boards: &mut Vec<N>,
+    ) -> Result<Played, Halt>
+        requires under_way { IsUnderWay motes
+            (staging stage.old.world (map N.device boards.old.items) stage.old.script.items) }
+        requires fits { IsRehearsed motes event }
+        ensures { OnOk result (GoesOn (staging stage.old.world (map N.device boards.old.items) stage.old.script.items)
+            (staging stage.new.world (map N.device boards.new.items) stage.new.script.items)) }
+    {
+        let played = stage.play(event, dt, boards)?;
+        self.note(mote, plan, stage);
+        Ok(played)
+    }
+
+    /// What an event at a mote leaves to come.
+    pub(crate) fn note(&mut self, mote: u8, plan: &Plan, stage: &Stage) {
+        self.progress.note(plan, &stage.reports);
+        let due = match stage.world.due(mote) {
+            Some(due) => due,
+            None => stage.moment.saturating_add(OFF),
+        };
+        let mote = usize::from(mote);
+        if mote < self.due.len() {
+            self.due[mote] = due;
+        }
+    }
+
+    /// Nothing of a mote is due before this moment.
+    fn rest(&mut self, mote: u8, moment: u64) {
+        let mote = usize::from(mote);
+        if mote < self.due.len() {
+            self.due[mote] = self.due[mote].max(moment);
+        }
+    }
+}
+
+/// The event of a mote's turn: a tick where it is on, else the reset by which its power comes back.
+fn event_of_turn(is_on: bool, mote: u8, dt: u32, word: u32) -> Event
+    ensures { (motes : ℕ) → mote < motes → IsRehearsed motes result }
+{
+    if is_on {
+        Event::Tick { mote, dt, word }
+    } else {
+        Event::Reset { mote, dt, word }
+    }
+}
+
+/// What ends a rehearsal in which an event was played, or was one too many.
+fn ending_of(played: Played) -> Option<Ending> {
+    match played {
+        Played::Done => None,
+        Played::TooMany => Some(Ending::TooMany),
+    }
+}
+
+/// The milliseconds from one moment to another, which is not before it.
+pub(crate) fn since(from: u64, to: u64) -> u32 {
+    to.saturating_sub(from).min(u64::from(u32::MAX)) as u32
+}
