@@ -2,7 +2,7 @@
 #![tactic(auto)]
 
 use anyhow::Result;
-use dg_boot::{StartCause, start};
+use dg_boot::{Kind, start};
 use dg_nor::{Board, Fused};
 use dg_volume::{FORM, Volume};
 
@@ -14,11 +14,11 @@ fn main(rt: HostRuntime) -> Result<()> {
 
     // The power goes in the tenth operation of the start, which copies a page.
     let mut cut = Fused::new(&mut board, Some(10), &[0x00]);
-    if let Err(fault) = start(&mut cut, StartCause::Power) {
+    if let Err(fault) = start(&mut cut, Kind::Power) {
         println!(rt; "{fault}")?;
     }
 
-    let started = start(&mut board, StartCause::Power)?;
+    let started = start(&mut board, Kind::Power)?;
     println!(rt;
         "image {} version {} runs: {} bytes, CRC {:04x}",
         started.image, started.version, started.length, started.crc

@@ -1,4 +1,4 @@
-//! A Trickle timer that is looked at each millisecond. Every random draw is 0, so each interval fires at its half.
+//! A Trickle timer that is looked at each millisecond. Every random word is 0, so each interval fires at its half.
 #![tactic(auto)]
 
 use anyhow::Result;
@@ -17,7 +17,7 @@ fn main(rt: HostRuntime) -> Result<()> {
         }
         match timer.tick(now, 0) {
             Act::Send => println!(rt; "{now} send")?,
-            Act::Suppressed => println!(rt; "{now} suppressed")?,
+            Act::Quiet => println!(rt; "{now} suppressed")?,
             Act::Expired => println!(rt; "{now} expired")?,
             Act::Nothing => {}
         }
