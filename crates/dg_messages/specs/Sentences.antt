@@ -64,7 +64,7 @@ script_before lines.Number = codes "a field is no number, or none of its range, 
 script_before lines.Mote = codes "a mote is none that there is, or the one before it, in line "
 script_before lines.Image = codes "an image is none of the range of images, in line "
 script_before lines.Version = codes "a version, or the number of an order, is 0 in line "
-script_before lines.Name = codes "a name has other bytes than 1 to 16 letters, digits, _, - and ., in line "
+script_before lines.Name = codes "a name is not of 1 to 16 letters, digits, _, - and ., in line "
 script_before lines.Content = codes "a content is none, or has a length that is not allowed, in line "
 script_before lines.Mask = codes "a mask is none, or has a length that is not allowed, in line "
 script_before lines.Place = codes "a line may not stand where it does, or one is missing before it: line "
@@ -83,7 +83,7 @@ script_after lines.Version = codes "; the least one is 1"
 script_after lines.Name = codes "; choose another one"
 script_after lines.Content = codes "; docs/SCRIPTS.md tells which are"
 script_after lines.Mask = codes "; it has 1 to 2048 bytes, as hex digits"
-script_after lines.Place = codes "; motes, then golden or boards, then link, then events"
+script_after lines.Place = codes "; motes (nodes for drip) comes first, then golden or boards, then link, then events"
 script_after lines.Cut = codes "; put the event there that it interrupts"
 script_after lines.Long = codes "; declare shorter contents"
 
@@ -93,7 +93,7 @@ script_sentence cause line = script_before cause ++ decimal line ++ script_after
 -- ---- of the file of a chip
 
 abbrev pub file_before : FileFault → List ℕ
-file_before file.Missing = codes "there is no such file; deluge format makes one"
+file_before file.Missing = codes "there is no such file or folder; deluge format makes a file in a folder that is there"
 file_before file.Denied = codes "the system does not let it be read and written; look at its rights (ls -l)"
 file_before file.NoFile = codes "it is a folder, or another thing that is no file; name the file of a chip"
 file_before file.Unopened = codes "it cannot be opened or made; look at its name and its folder"
@@ -157,7 +157,7 @@ refusal_after refused.Absent = []
 refusal_after (refused.NotWhole done pages) = codes " pages are complete; let the mote go on, or give inject or receive again"
 refusal_after (refused.Broken page) = codes "; do not trust the image: compare the root, or bring a larger version"
 refusal_after refused.Shape = []
-refusal_after (refused.Foreign page) = codes " on; give the right root, and the same file again"
+refusal_after (refused.Foreign page) = codes " on; give the right root and its file, or a larger --ver for another file"
 
 abbrev pub refusal_value : Refused → List ℕ
 refusal_value refused.Empty = []

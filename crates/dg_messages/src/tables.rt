@@ -61,8 +61,7 @@ pub(crate) fn script_before<'a>(cause: LineFault) -> &'a str
         LineFault::Mote => "a mote is none that there is, or the one before it, in line ",
         LineFault::Image => "an image is none of the range of images, in line ",
         LineFault::Version => "a version, or the number of an order, is 0 in line ",
-        LineFault::Name =>
-            "a name has other bytes than 1 to 16 letters, digits, _, - and ., in line ",
+        LineFault::Name => "a name is not of 1 to 16 letters, digits, _, - and ., in line ",
         LineFault::Content => "a content is none, or has a length that is not allowed, in line ",
         LineFault::Mask => "a mask is none, or has a length that is not allowed, in line ",
         LineFault::Place =>
@@ -88,7 +87,8 @@ pub(crate) fn script_after<'a>(cause: LineFault) -> &'a str
         LineFault::Name => "; choose another one",
         LineFault::Content => "; docs/SCRIPTS.md tells which are",
         LineFault::Mask => "; it has 1 to 2048 bytes, as hex digits",
-        LineFault::Place => "; motes, then golden or boards, then link, then events",
+        LineFault::Place =>
+            "; motes (nodes for drip) comes first, then golden or boards, then link, then events",
         LineFault::Cut => "; put the event there that it interrupts",
         LineFault::Long => "; declare shorter contents",
     }
@@ -99,7 +99,8 @@ pub(crate) fn file_before<'a>(cause: FileFault) -> &'a str
     ensures { result.now ≡ file_before cause }
 {
     match cause {
-        FileFault::Missing => "there is no such file; deluge format makes one",
+        FileFault::Missing =>
+            "there is no such file or folder; deluge format makes a file in a folder that is there",
         FileFault::Denied =>
             "the system does not let it be read and written; look at its rights (ls -l)",
         FileFault::NoFile =>
@@ -172,7 +173,8 @@ pub(crate) fn refusal_after<'a>(cause: Refused) -> &'a str
         Refused::Broken { .. } =>
             "; do not trust the image: compare the root, or bring a larger version",
         Refused::Shape => "",
-        Refused::Foreign { .. } => " on; give the right root, and the same file again",
+        Refused::Foreign { .. } =>
+            " on; give the right root and its file, or a larger --ver for another file",
     }
 }
 
