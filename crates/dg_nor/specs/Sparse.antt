@@ -33,3 +33,7 @@ pub record IsSparse (places stored : List ℕ) : Type 0 where
   pub count : length stored ≡ board_piece * stored_pieces places
   pub within : (s : ℕ) → slice_index places s ≤ stored_pieces places
   pub apart : (s t : ℕ) → 0 < slice_index places s → slice_index places s ≡ slice_index places t → s ≡ t
+
+-- Each of these cells from one to another is blank.
+pub record IsBlankIn (cells : List ℕ) (from to : ℕ) : Type 0 where
+  pub each : (k : ℕ) → from ≤ k → k < to → slice_index cells k ≡ 255

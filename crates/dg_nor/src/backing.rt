@@ -55,6 +55,24 @@ impl Backing {
         ensures gone { is_gone self.new ≡ not result }
         ensures memory { is_memory self.new ≡ is_memory self.old }
     {
+        match self {
+            Backing::Mirrored(_) => self.save_in_file(cells, at, count),
+            Backing::Memory | Backing::Gone(_) => true,
+        }
+    }
+
+    /// The same where there is a file.
+    #[inline(never)]
+    fn save_in_file(&mut self, cells: &Cells, at: u32, count: usize) -> bool
+        requires in_chip { at + count ≤ chip_size }
+        requires in_sector { count ≤ sector_size }
+        requires awake { is_gone self.old ≡ false }
+        requires whole { IfSome (mirrored_bytes self.old) (λ bytes. length bytes ≡ chip_size) }
+        ensures written { OnTrue result (mirrored_bytes self.new
+            ≡ option_map (λ bytes. overwritten bytes at (part (cells_image cells.now) at count)) (mirrored_bytes self.old)) }
+        ensures gone { is_gone self.new ≡ not result }
+        ensures memory { is_memory self.new ≡ is_memory self.old }
+    {
         if let Backing::Mirrored(file) = self {
             if let Err(fault) = write_range(file, cells, at, count) {
                 *self = Backing::Gone(fault);

@@ -1,6 +1,7 @@
-use Rattle.std.proofs.Common.{◌/◌, set, sym, ap, ◌∙◌, subst, arith}
-use Rattle.dg_nor.specs.Sparse.{board_piece, sparse, IsSparse}
+use Rattle.std.proofs.Common.{◌+◌, ◌/◌, set, sym, ap, ◌∙◌, subst, arith}
+use Rattle.dg_nor.specs.Sparse.{board_piece, sparse, IsSparse, IsBlankIn}
 use Rattle.dg_nor.proofs.SparseLemmas.{stored_pieces-lt, IsSparse-more, IsChip-sparse, sparse-more}
+use Rattle.dg_nor.proofs.BlankLemmas.{IsBlankIn-more}
 use Rattle.dg_nor.proofs.cells.Cells.store_next.Goals as goal
 
 pub append_blank-requires : goal.append_blank-requires
@@ -26,6 +27,13 @@ invariant_of-self-clause-placed c =
 
 pub invariant_of-self-clause-chip : goal.invariant_of-self-clause-chip
 invariant_of-self-clause-chip c = IsChip-sparse _ c.append_blank.new.cells.items c.append_blank.ensures.bytes
+
+pub invariant_of-self-clause-unused : goal.invariant_of-self-clause-unused
+invariant_of-self-clause-unused c =
+    let old = c.args.self.now in
+    let at = c.len-at.result in
+    subst (λ xs. IsBlankIn xs c.blank_with-self.result (at + board_piece)) (sym c.append_blank.ensures.cells)
+    (IsBlankIn-more old.stored.items old.blank_from old.blank_to at c.blank_with-self.result board_piece old.unused (omega arith) c.blank_with-self.ensures)
 
 pub returns-clause-same : goal.returns-clause-same
 returns-clause-same c =
