@@ -5,7 +5,7 @@ ghost use Rattle.dg_rules.specs.Sizes.{most_motes};
 use crate::shared::Shared;
 
 /// Where and when an event is applied: what it has at hand beside its board and what the mote there runs.
-#[derive(Drop)]
+#[derive(Clone, Copy)]
 pub(crate) struct EventContext<'a> {
     /// What the motes of the world share.
     pub(crate) shared: &'a Shared,

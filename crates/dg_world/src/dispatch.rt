@@ -23,6 +23,7 @@ use dg_nor::Nor;
 use dg_rules::{Event, ImageVersion};
 
 /// What an event does at the board of its mote, which runs `runs`. Where the board is known it is mounted again by halving.
+/// Ticks and last frames are the common events: the others stand apart.
 #[inline(always)]
 pub(crate) fn apply_event<N: Nor>(
     context: &EventContext<'_>,
@@ -45,18 +46,52 @@ pub(crate) fn apply_event<N: Nor>(
         (N.device board.new) }
     ensures same_reference { (N.device board.new).references ≡ (N.device board.old).references }
 {
+    match event {
+        Event::Tick { word, .. } => tick(runs, context.moment, *word, board, outcome),
+        Event::Last { from, word, .. } => hear_last(context, runs, *from, *word, board, outcome),
+        Event::Hear { .. }
+        | Event::Frame { .. }
+        | Event::Reset { .. }
+        | Event::Inject { .. }
+        | Event::Order { .. } => apply_apart(*context, runs, event, board, outcome),
+    }
+}
+
+/// The same, not inlined. It has the context by value, so that common events need none in memory.
+#[inline(never)]
+fn apply_apart<N: Nor>(
+    context: EventContext<'_>,
+    runs: &mut Option<Node>,
+    event: &Event,
+    board: &mut N,
+    outcome: &mut Outcome,
+) -> Result<(), Fault>
+    requires fits { (motes : ℕ) × EventInRange motes event.now × (motes ≤ most_motes) }
+    requires may { MayApply context event.now (N.device board.old) runs.old }
+    requires nothing { IsNothing outcome.old }
+    ensures ends { (w : RuleWorld) → AppliesIn context.entry w event.now (N.device board.old) runs.old
+        → OutcomeEnds (as_outcome result outcome.new) w (mote_of event.now) (does w event.now)
+        (host (N.device board.old) runs.old) (host (N.device board.new) runs.new) }
+    // an event that is refused without a look at the chip uses no board
+    ensures unseen { (w : RuleWorld) → AppliesIn context.entry w event.now (N.device board.old) runs.old
+        → RefusesUnseen (does w event.now) → (board.new ≡ board.old) × OnErr result ⊥ }
+    ensures sees { OnOk result (EventSees event.now outcome.new runs.new (N.device board.old).image (N.device board.new).image) }
+    ensures reads { EventReads event.now context.entry.known (OnErr result ⊥) outcome.new.refused (N.device board.old)
+        (N.device board.new) }
+    ensures same_reference { (N.device board.new).references ≡ (N.device board.old).references }
+{
     let now = context.moment;
     match event {
         Event::Tick { word, .. } => tick(runs, now, *word, board, outcome),
         Event::Hear { word, frame, .. } => {
-            hear_numbered(context, runs, *frame, *word, board, outcome)
+            hear_numbered(&context, runs, *frame, *word, board, outcome)
         }
-        Event::Last { from, word, .. } => hear_last(context, runs, *from, *word, board, outcome),
+        Event::Last { from, word, .. } => hear_last(&context, runs, *from, *word, board, outcome),
         Event::Frame { word, bytes, .. } => {
             let frame = bytes.as_slice();
             hear(runs, now, *word, frame, board, outcome)
         }
-        Event::Reset { word, .. } => reset_here(context, runs, *word, board, outcome),
+        Event::Reset { word, .. } => reset_here(&context, runs, *word, board, outcome),
         Event::Inject {
             image,
             version,
@@ -67,7 +102,7 @@ pub(crate) fn apply_event<N: Nor>(
                 image: *image,
                 version: *version,
             };
-            inject_known(context, runs, image_version, *word, board, outcome)
+            inject_known(&context, runs, image_version, *word, board, outcome)
         }
         Event::Order {
             number,
@@ -80,7 +115,7 @@ pub(crate) fn apply_event<N: Nor>(
                 image: *image,
                 version: *version,
             };
-            order_known(context, runs, *number, ordered, *word, board, outcome)
+            order_known(&context, runs, *number, ordered, *word, board, outcome)
         }
     }
 }

@@ -240,7 +240,7 @@ fn look_after_cut<N: Nor>(
 /// reported.
 #[inline(never)]
 fn step_cut<N: Nor>(
-    context: &EventContext<'_>,
+    context: EventContext<'_>,
     runs: &mut Option<Node>,
     event: &Event,
     cut: &Cut,
@@ -250,13 +250,13 @@ fn step_cut<N: Nor>(
 ) -> Result<(), Fault>
     requires capacity { vec_len out.old + MOST_LINES ≤ vec_capacity out.old }
     requires fits { (motes : ℕ) × StepInRange motes (step_of event.now (Some cut.now)) × (motes ≤ most_motes) }
-    requires may { MayApply context.now event.now (N.device board.old) runs.old }
+    requires may { MayApply context event.now (N.device board.old) runs.old }
     requires nothing { IsNothing outcome.old }
-    ensures { StepDid result context.now (step_of event.now (Some cut.now)) outcome.new
+    ensures { StepDid result context.entry (step_of event.now (Some cut.now)) outcome.new
         (station (N.device board.old) runs.old out.old.items) (station (N.device board.new) runs.new out.new.items) }
 {
     let mote = context.mote;
-    match play_cut(context, runs, event, cut, board, outcome)? {
+    match play_cut(&context, runs, event, cut, board, outcome)? {
         Power::Stays => push_outcome(mote, outcome, context.reported, out),
         Power::Cut => {
             a_volume_bounds_a_remount();
@@ -295,6 +295,6 @@ pub(crate) fn step_at<N: Nor>(
             push_outcome(context.mote, outcome, context.reported, out);
             Ok(())
         }
-        Some(cut) => step_cut(context, runs, event, cut, board, outcome, out),
+        Some(cut) => step_cut(*context, runs, event, cut, board, outcome, out),
     }
 }

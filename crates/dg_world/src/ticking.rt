@@ -18,6 +18,7 @@ use dg_nor::Nor;
 use dg_rules::Cause;
 
 /// A tick of a mote that is on.
+#[inline(always)]
 fn tick_on<N: Nor>(
     node: &mut Node,
     now: u64,

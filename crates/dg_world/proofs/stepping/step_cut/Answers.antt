@@ -21,11 +21,11 @@ play_cut-requires-clause-fits g c = let x = c.requires.fits in (x.0, x.1.event, 
 
 pub look_after_cut-requires-clause-known_chip : goal.look_after_cut-requires-clause-known_chip
 look_after_cut-requires-clause-known_chip g c = λ known order.
-    (reads_order c.args.event.now c.args.context.now.known _ c.play_cut.new.outcome.refused _ _ order c.play_cut.ensures.reads).stays (c.requires.may.known known)
+    (reads_order c.args.event.now c.args.context.known _ c.play_cut.new.outcome.refused _ _ order c.play_cut.ensures.reads).stays (c.requires.may.known known)
 
 pub returns-in_err-play_cut : goal.returns-in_err-play_cut
 returns-in_err-play_cut g c =
-    let o = c.args.context.now in
+    let o = c.args.context in
     let event = c.args.event.now in
     let x = step_of event (Some c.args.cut.now) in
     let m = mote_of event in
@@ -42,7 +42,7 @@ returns-in_err-play_cut g c =
 
 pub returns-in-Stays : goal.returns-in-Stays
 returns-in-Stays g c =
-    let o = c.args.context.now in
+    let o = c.args.context in
     let event = c.args.event.now in
     let x = step_of event (Some c.args.cut.now) in
     let m = mote_of event in
@@ -68,7 +68,7 @@ returns-in-Stays g c =
 
 pub returns-in_ok-orderly-in-Cut : goal.returns-in_ok-orderly-in-Cut
 returns-in_ok-orderly-in-Cut g c =
-    let o = c.args.context.now in
+    let o = c.args.context in
     let event = c.args.event.now in
     let x = step_of event (Some c.args.cut.now) in
     let m = mote_of event in
@@ -97,7 +97,7 @@ returns-in_ok-orderly-in-Cut g c =
 
 pub returns-in_err-orderly-in-Cut : goal.returns-in_err-orderly-in-Cut
 returns-in_err-orderly-in-Cut g c =
-    let o = c.args.context.now in
+    let o = c.args.context in
     let event = c.args.event.now in
     let x = step_of event (Some c.args.cut.now) in
     let m = mote_of event in
