@@ -162,7 +162,7 @@ part_finds laws motes w (Looks m) dt word bytes old new k fits none = frame_runs
 part_finds laws motes w (Ticks m) dt word bytes old new k fits none =
     laws.goes_on w none.world (uncut (Tick m dt word)) k.golden (record { event = subst (λ (n : ℕ). m < n) (sym k.count) fits; cut = tt }) none.ends
 
-next_finds : GoldenLaws → (motes : ℕ) (s : Moment) (left : List Part) (old : List Device) (new : Remains) → Keeps motes s.world → AllByRecursion (PartFits motes) left → EndsInNext stop.NoImage s left old new → ⊥
+pub next_finds : GoldenLaws → (motes : ℕ) (s : Moment) (left : List Part) (old : List Device) (new : Remains) → Keeps motes s.world → AllByRecursion (PartFits motes) left → EndsInNext stop.NoImage s left old new → ⊥
 next_finds laws motes s left old new k fits n =
     part_finds laws motes s.world n.part n.dt n.word n.bytes old new.boards k (subst (AllByRecursion (PartFits motes)) n.is fits).0 n.ends
 

@@ -122,19 +122,25 @@ before_it motes (Order k number image version dt word) m alone h = absurd alone
 
 -- ---- the board, of which something is known
 
--- its mote begins, or its board stands for some moment
+-- Its mote begins, or its board stands for some moment, maybe among other boards.
 abbrev pub IsKnown : (motes : ℕ) → List (ℕ × ℕ) → Event → Standing → Type 0
 IsKnown motes links event p =
-    IsReset event ⊎ ((told : Option Answers) × (reached : ℕ) × (first : List Device) × (s : Moment) × StandsFor motes (begun_before motes event) links (dt_of event) first s (record p { clock = told; reached = reached }))
+    IsReset event ⊎ ((told : Option Answers) × (reached : ℕ) × (boards : List Device) × (slice_get boards (mote_of event) ≡ slice_get p.boards (mote_of event)) × (first : List Device) × (s : Moment)
+    × StandsFor motes (begun_before motes event) links (dt_of event) first s (record p { boards = boards; clock = told; reached = reached }))
+
+pub known_over : (motes : ℕ) (links : List (ℕ × ℕ)) (event : Event) (p : Standing) (boards : List Device) (told : Option Answers) (reached : ℕ) → slice_get boards (mote_of event) ≡ slice_get p.boards (mote_of event) → IsReset event ⊎ ForSome motes links event (record p { boards = boards; clock = told; reached = reached }) → IsKnown motes links event p
+known_over motes links event p boards told reached same (inl reset) = inl reset
+known_over motes links event p boards told reached same (inr y) = inr (told, reached, boards, same, y.0, y.1, y.2)
 
 pub known_at : (motes : ℕ) (links : List (ℕ × ℕ)) (event : Event) (p : Standing) (told : Option Answers) (reached : ℕ) → IsReset event ⊎ ForSome motes links event (record p { clock = told; reached = reached }) → IsKnown motes links event p
-known_at motes links event p told reached (inl reset) = inl reset
-known_at motes links event p told reached (inr y) = inr (told, reached, y.0, y.1, y.2)
+known_at motes links event p told reached some = known_over motes links event p p.boards told reached refl some
 
 board_kept : (links : List (ℕ × ℕ)) (motes : ℕ) (event : Event) (r : Result Outbox Fault) (p q : Standing) (alone : IsAlone event) (x : Setting motes (mote_of event) event r p q) → IsKnown motes links event p → Endures (beneath_of x.played.before) (beneath_of x.played.after) × CountKeeps r x.played.before x.played.after
 board_kept links motes event r p q alone x (inl reset) = kept links motes event r p q alone x (inl reset)
 board_kept links motes event r p q alone x (inr y) =
-    kept links motes event r (record p { clock = y.0; reached = y.1 }) q alone (record { played = x.played; put = x.put; timeline = x.timeline; known = x.known; many = x.many; off = x.off }) (inr (y.2, y.3, y.4))
+    kept links motes event r (record p { boards = y.2; clock = y.0; reached = y.1 }) (record q { boards = set y.2 (mote_of event) x.played.after }) alone
+    (record { played = record { before = x.played.before; after = x.played.after; was = y.3 ∙ x.played.was; put = refl; plays = x.played.plays; powers = x.played.powers }; put = x.put; timeline = x.timeline; known = x.known; many = x.many; off = x.off })
+    (inr (y.4, y.5, y.6))
 
 -- ---- it was not done
 

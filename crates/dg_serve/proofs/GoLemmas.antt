@@ -17,10 +17,10 @@ use Rattle.dg_script.specs.declared.line.Line.TheVariants.{Happens as EventLine}
 use Rattle.dg_serve.specs.Services.{Part, Moment, PartDone, PartsDone, course}
 use Rattle.dg_serve.specs.Traces.{UnwrittenLast, event_lines}
 use Rattle.dg_serve.specs.Endings.{Remains, remains, EndsInNext, LosesFrame, FoundBy, PartlyHanded, StopLeaves}
-use Rattle.dg_serve.specs.Standings.{Standing, Ready, IsBelow, Went, CountsBy, PartsHalted, GoesOn, stretch}
+use Rattle.dg_serve.specs.Standings.{Standing, Ready, IsBelow, IsEventAt, IsPartAt, Went, CountsBy, PartsHalted, GoesOn, stretch}
 use Rattle.dg_serve.specs.declared.stop.Stop.{Stop}
 use Rattle.dg_serve.specs.declared.stop.Stop.TheVariants as stop
-use Rattle.dg_serve.proofs.RunLemmas.{all_both}
+use Rattle.dg_serve.proofs.RunLemmas.{all_front, all_back, all_both}
 use Rattle.dg_serve.proofs.BoardLemmas.{used_same, used_then, used_more, all_calm, calm_all_then}
 
 -- ---- services
@@ -60,6 +60,7 @@ went_none motes begun links p ready = record {
   ready = ready;
   volumes = λ m a low high was. absurd (omega arith);
   below = tt;
+  own = λ mote at. tt;
   rises = omega arith;
   boards = used_same begun p.boards;
   calm = all_calm p.boards;
@@ -75,7 +76,7 @@ went_none motes begun links p ready = record {
     puts_none (Some w) = ap Some (sym (append-nil w))
 
 -- a volume is one as it was before
-volumes_then : (begun mid on : ℕ) (xs ys : List Device) → ((m : ℕ) → mid ≤ m → slice_get ys m ≡ slice_get xs m) → ((m : ℕ) (a : Device) → begun ≤ m → m < mid → slice_get xs m ≡ Some a → IsVolume a.image)
+pub volumes_then : (begun mid on : ℕ) (xs ys : List Device) → ((m : ℕ) → mid ≤ m → slice_get ys m ≡ slice_get xs m) → ((m : ℕ) (a : Device) → begun ≤ m → m < mid → slice_get xs m ≡ Some a → IsVolume a.image)
     → ((m : ℕ) (a : Device) → mid ≤ m → m < on → slice_get ys m ≡ Some a → IsVolume a.image) → (m : ℕ) (a : Device) → begun ≤ m → m < on → slice_get xs m ≡ Some a → IsVolume a.image
 volumes_then begun mid on xs ys same first second m a low high was =
     ⊎_elim (λ less. first m a low less was) (λ more. second m a more high (same m more ∙ was)) (cases_lt m mid)
@@ -95,6 +96,7 @@ went_then motes begun mid on links ps qs p q r order a b = record {
   ready = b.ready;
   volumes = volumes_then begun mid on p.boards q.boards a.boards.others a.volumes b.volumes;
   below = all_both (IsBelow on) a.events b.events (below_more mid on a.events order a.below) b.below;
+  own = λ mote at. all_both (IsEventAt mote) a.events b.events (a.own mote (all_front (IsPartAt mote) ps qs at)) (b.own mote (all_back (IsPartAt mote) ps qs at));
   rises = omega (arith, order, a.rises);
   port = b.port ∙ a.port;
   boards = used_then on p.boards q.boards r.boards (used_more mid on p.boards q.boards order a.boards) b.boards;
@@ -137,7 +139,7 @@ lost_more s left more old new n = record {
   boards = n.boards;
 }
 
-left_more : (why : Stop) (motes : ℕ) (s : Moment) (done : List Part) (events : List Event) (left more : List Part) (last : Moment) (old : List Device) (new : Remains) → StopLeaves why motes s (course done events left) last old new → StopLeaves why motes s (course done events (left ++ more)) last old new
+pub left_more : (why : Stop) (motes : ℕ) (s : Moment) (done : List Part) (events : List Event) (left more : List Part) (last : Moment) (old : List Device) (new : Remains) → StopLeaves why motes s (course done events left) last old new → StopLeaves why motes s (course done events (left ++ more)) last old new
 left_more stop.Memory motes s done events left more last old new (inl h) = inl (lost_more last left more old new h)
 left_more stop.Memory motes s done events left more last old new (inr h) = inr (next_more stop.Memory last left more old new h)
 left_more stop.Write motes s done events left more last old new h = h
@@ -163,6 +165,7 @@ halts_more why motes begun links ps more p q h = record {
   on = h.on;
   volumes = h.volumes;
   below = h.below;
+  own = h.own;
   rises = h.rises;
   port = h.port;
   boards = h.boards;
@@ -173,7 +176,7 @@ halts_more why motes begun links ps more p q h = record {
 pub halts_as : (why : Stop) (motes begun : ℕ) (links : List (ℕ × ℕ)) (ps qs : List Part) (p q : Standing) → ps ≡ qs → PartsHalted why motes begun links ps p q → PartsHalted why motes begun links qs p q
 halts_as why motes begun links ps qs p q e h = subst (λ l. PartsHalted why motes begun links l p q) e h
 
-counts_then : (why : Stop) (p q r : Standing) → q.faults ≡ p.faults → q.failures ≡ p.failures → p.reached ≤ q.reached → CountsBy why q r → CountsBy why p r
+pub counts_then : (why : Stop) (p q r : Standing) → q.faults ≡ p.faults → q.failures ≡ p.failures → p.reached ≤ q.reached → CountsBy why q r → CountsBy why p r
 counts_then why p q r faults failures reached c = record {
   wrote = λ is. subst (λ n. Rose n r.faults) faults (c.wrote is);
   faults = λ is. c.faults is ∙ faults;
@@ -203,7 +206,7 @@ partly_then : (motes : ℕ) (s t u : Moment) (ps qs : List Part) (es fs : List E
 unfolding found_then
 partly_then motes s t u ps qs es fs after first h = record { found = h.found; by = found_then motes s t u ps qs es fs h.found first h.by; first = h.first }
 
-stop_then : (why : Stop) (motes : ℕ) (s t u : Moment) (ps qs left : List Part) (es fs : List Event) (old : List Device) (new : Remains) → PartsDone motes s ps es t → StopLeaves why motes t (course qs fs left) u old new → StopLeaves why motes s (course (ps ++ qs) (es ++ fs) left) u old new
+pub stop_then : (why : Stop) (motes : ℕ) (s t u : Moment) (ps qs left : List Part) (es fs : List Event) (old : List Device) (new : Remains) → PartsDone motes s ps es t → StopLeaves why motes t (course qs fs left) u old new → StopLeaves why motes s (course (ps ++ qs) (es ++ fs) left) u old new
 stop_then stop.Memory motes s t u ps qs left es fs old new first h = h
 stop_then stop.Write motes s t u ps qs left es fs old new first h = (h.0, found_then motes s t u ps qs es fs new.inboxes first h.1, h.2)
 stop_then stop.Link motes s t u ps qs left es fs old new first h =
@@ -213,7 +216,7 @@ stop_then stop.NotAVolume motes s t u ps qs left es fs old new first h = h
 stop_then stop.NoImage motes s t u ps qs left es fs old new first h = h
 
 -- the lines of all events but the last were written, also where others came before
-untold_then : (es fs : List Event) (text : List ℕ) → UnwrittenLast [] fs text → UnwrittenLast [] (es ++ fs) (event_lines es ++ text)
+pub untold_then : (es fs : List Event) (text : List ℕ) → UnwrittenLast [] fs text → UnwrittenLast [] (es ++ fs) (event_lines es ++ text)
 untold_then es fs text u =
     let line = take u.n (event_lines (u.event ∷ [])) in
     record {
@@ -245,6 +248,7 @@ went_halts why motes begun mid links ps qs p q r order a h = record {
   on = h.on;
   volumes = volumes_then begun mid h.on p.boards q.boards a.boards.others a.volumes h.volumes;
   below = all_both (IsBelow h.on) a.events h.events (below_more mid h.on a.events h.rises a.below) h.below;
+  own = λ mote at. all_both (IsEventAt mote) a.events h.events (a.own mote (all_front (IsPartAt mote) ps h.done at)) (h.own mote (all_back (IsPartAt mote) ps h.done at));
   rises = omega (arith, a.rises, h.rises);
   port = h.port ∙ a.port;
   boards = used_then motes p.boards q.boards r.boards (used_more mid motes p.boards q.boards order a.boards) h.boards;

@@ -29,6 +29,7 @@ none_came_at motes mote links p q ready none same = subst (λ x. Went motes mote
   ready = ready;
   volumes = λ m a low high was. absurd (omega (arith, low, high));
   below = tt;
+  own = λ m at. tt;
   rises = omega arith;
   boards = used_same motes p.boards;
   calm = all_calm p.boards;
@@ -70,6 +71,7 @@ module _ (motes mote : ℕ) (links : List (ℕ × ℕ)) (p q : Standing) (boards
     on = motes;
     volumes = λ m a low high was. absurd (omega (arith, low, high));
     below = tt;
+    own = λ m at. tt;
     rises = omega arith;
     port = port;
     boards = subst (λ bs. BoardsAreUsed motes p.boards bs) (sym boards) (used_same motes p.boards);

@@ -27,7 +27,7 @@ one_in x zero m = refl
 one_in x (suc n) zero = refl
 one_in x (suc n) (suc m) = one_in x n m
 
-many_in : {X : Type 0} (x : X) (n : ℕ) → length (replicate n x) ≡ n
+pub many_in : {X : Type 0} (x : X) (n : ℕ) → length (replicate n x) ≡ n
 many_in x zero = refl
 many_in x (suc n) = ap suc (many_in x n)
 

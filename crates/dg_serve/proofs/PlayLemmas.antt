@@ -52,7 +52,7 @@ setting_at motes mote event r p q at x = subst (λ m. Setting motes m event r p 
 
 -- ---- a board whose mote did not begin
 
-off_stands : (a before : Device) (v : Option Node) (w : World) (m : ℕ) → v ≡ None → (before.image ≡ a.image) × ((site w m).runs ≡ None) × (Stands a.image (store_at w m) ⊎ IsNoVolume a.image) → IsVolume a.image → SiteStands before v (site w m)
+pub off_stands : (a before : Device) (v : Option Node) (w : World) (m : ℕ) → v ≡ None → (before.image ≡ a.image) × ((site w m).runs ≡ None) × (Stands a.image (store_at w m) ⊎ IsNoVolume a.image) → IsVolume a.image → SiteStands before v (site w m)
 off_stands a before v w m off x volume =
     let stands : Stands a.image (store_at w m) = ⊎_elim (λ s. s) (λ none. absurd (none volume.0 volume.1)) x.2 in
     let P : Option Node → Option Running → Type 0 = λ o r. MoteStands before.image o (store_at w m) r in

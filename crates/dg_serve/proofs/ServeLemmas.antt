@@ -35,17 +35,17 @@ outside_of p = outside p.written p.faults p.clock p.inboxes p.failures p.port p.
 
 -- ---- boards
 
-endures_at : (o n : Option Device) (a b : Device) → o ≡ Some a → n ≡ Some b → BoardEndures o n → Endures (beneath_of a) (beneath_of b)
+pub endures_at : (o n : Option Device) (a b : Device) → o ≡ Some a → n ≡ Some b → BoardEndures o n → Endures (beneath_of a) (beneath_of b)
 endures_at o n a b was now e =
     let P : Option Device → Option Device → Type 0 = λ x y. BoardEndures x y in
     subst (λ y. P (Some a) y) now (subst (λ x. P x n) was e)
 
-calm_at : (o n : Option Device) (a b : Device) → o ≡ Some a → n ≡ Some b → BoardIsCalm o n → b.faults ≡ a.faults
+pub calm_at : (o n : Option Device) (a b : Device) → o ≡ Some a → n ≡ Some b → BoardIsCalm o n → b.faults ≡ a.faults
 calm_at o n a b was now e =
     let P : Option Device → Option Device → Type 0 = λ x y. BoardIsCalm x y in
     subst (λ y. P (Some a) y) now (subst (λ x. P x n) was e)
 
-boards_endure : (motes : ℕ) (old new : List Device) → BoardsAreUsed motes old new → MotesEndure motes old new
+pub boards_endure : (motes : ℕ) (old new : List Device) → BoardsAreUsed motes old new → MotesEndure motes old new
 boards_endure motes old new u = record { all = record { count = u.count; endures = λ m a b was now. endures_at (slice_get old m) (slice_get new m) a b was now (u.endures m) }; others = u.others }
 
 at_volumes : (on : ℕ) (boards : List Device) (events : List Event) → ((m : ℕ) (a : Device) → 0 ≤ m → m < on → slice_get boards m ≡ Some a → IsVolume a.image) → AllByRecursion (IsBelow on) events → AllByRecursion (IsAtVolume boards) events
@@ -54,7 +54,7 @@ at_volumes on boards (e ∷ es) volumes below = (λ a was. volumes (mote_of e) a
 
 -- ---- from the opening to where it ended
 
-wrote_by : (why : Stop) (head : List ℕ) (events : List Event) (text : List ℕ) → (why ≡ stop.Write → UnwrittenLast [] events text) → (why ≢ stop.Write → text ≡ event_lines events) → WroteBy (Some why) head events (head ++ text)
+pub wrote_by : (why : Stop) (head : List ℕ) (events : List Event) (text : List ℕ) → (why ≡ stop.Write → UnwrittenLast [] events text) → (why ≢ stop.Write → text ≡ event_lines events) → WroteBy (Some why) head events (head ++ text)
 wrote_by stop.Memory head events text front whole = ap (λ l. head ++ l) (whole (λ x. absurd cc))
 wrote_by stop.Write head events text front whole =
     let u = front refl in
@@ -147,7 +147,7 @@ hindered_to (Err e) why profile seed turns before after is boards h =
 abbrev told_after : Outside → Option (List ℕ) → ℕ → Outside
 told_after mid v g = record mid { written = v; faults = g }
 
-left_same : (why : Option Stop) (motes : ℕ) (s : Moment) (c : Course) (last : Moment) (first : List Device) (mid : Outside) (v : Option (List ℕ)) (g : ℕ) → LeftBy why motes s c last first mid → LeftBy why motes s c last first (told_after mid v g)
+pub left_same : (why : Option Stop) (motes : ℕ) (s : Moment) (c : Course) (last : Moment) (first : List Device) (mid : Outside) (v : Option (List ℕ)) (g : ℕ) → LeftBy why motes s c last first mid → LeftBy why motes s c last first (told_after mid v g)
 left_same None motes s c last first mid v g l = l
 left_same (Some why) motes s c last first mid v g l = l
 

@@ -64,7 +64,7 @@ with_first n d ds s stores stands of = record { count = let e = of.count in omeg
 no_stores : (boards : List Device) → StoresOf 0 boards []
 no_stores boards = record { count = refl; stands = λ m a h was. absurd (omega (arith, h)) }
 
-stores_of : (n : ℕ) (boards : List Device) → n ≤ length boards → ((m : ℕ) (a : Device) → m < n → slice_get boards m ≡ Some a → IsVolume a.image) → (stores : List Store) × StoresOf n boards stores
+pub stores_of : (n : ℕ) (boards : List Device) → n ≤ length boards → ((m : ℕ) (a : Device) → m < n → slice_get boards m ≡ Some a → IsVolume a.image) → (stores : List Store) × StoresOf n boards stores
 stores_of zero boards wide volumes = ([], no_stores boards)
 stores_of (suc n) [] wide volumes = absurd (omega arith)
 stores_of (suc n) (d ∷ ds) wide volumes =

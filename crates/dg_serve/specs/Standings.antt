@@ -29,7 +29,7 @@ use Rattle.dg_world.specs.declared.outcome.Fault.{Fault}
 use Rattle.dg_world.specs.declared.outcome.Fault.TheVariants as fault
 use Rattle.dg_node.specs.declared.node.Node.{Node}
 use Rattle.dg_seed.specs.Draws.{generator_of}
-use Rattle.dg_serve.specs.Services.{Part, Moment, PartsDone, course, Steps, handed_to, neighbours_by}
+use Rattle.dg_serve.specs.Services.{Part, Begins, Looks, Ticks, Moment, PartsDone, course, Steps, handed_to, neighbours_by}
 use Rattle.dg_serve.specs.Traces.{UnwrittenLast, event_lines}
 use Rattle.dg_serve.specs.Endings.{BoardsStand, EventEnds, HandedToFirst, remains, StopLeaves}
 use Rattle.dg_serve.specs.declared.service.Service.{Service}
@@ -126,6 +126,16 @@ BoardsAreCalm old new = (m : ℕ) → BoardIsCalm (slice_get old m) (slice_get n
 abbrev pub IsBelow : ℕ → Event → Type 0
 IsBelow on event = mote_of event < on
 
+-- the event is at this mote
+abbrev pub IsEventAt : ℕ → Event → Type 0
+IsEventAt mote event = mote_of event ≡ mote
+
+-- so is the part
+abbrev pub IsPartAt : ℕ → Part → Type 0
+IsPartAt mote (Begins m) = m ≡ mote
+IsPartAt mote (Looks m) = m ≡ mote
+IsPartAt mote (Ticks m) = m ≡ mote
+
 -- These parts were done. Then the power of the first `on` motes came.
 pub record Went (motes begun on : ℕ) (links : List (ℕ × ℕ)) (parts : List Part) (p q : Standing) : Type 0 where
   pub events : List Event
@@ -138,6 +148,8 @@ pub record Went (motes begun on : ℕ) (links : List (ℕ × ℕ)) (parts : List
   pub calm : BoardsAreCalm p.boards q.boards
   -- each event was at a mote that had begun
   pub below : AllByRecursion (IsBelow on) events
+  -- where all parts were those of one mote, so are the events
+  pub own : (mote : ℕ) → AllByRecursion (IsPartAt mote) parts → AllByRecursion (IsEventAt mote) events
   pub rises : begun ≤ on
   pub moved : q.service.timeline.moment ≤ p.service.timeline.moment + length parts * (2 ^ 32 - 1)
   pub port : q.port ≡ p.port
@@ -172,6 +184,7 @@ pub record PartsHalted (why : Stop) (motes begun : ℕ) (links : List (ℕ × �
   pub on : ℕ
   pub volumes : (m : ℕ) (a : Device) → begun ≤ m → m < on → slice_get p.boards m ≡ Some a → IsVolume a.image
   pub below : AllByRecursion (IsBelow on) events
+  pub own : (mote : ℕ) → AllByRecursion (IsPartAt mote) done → AllByRecursion (IsEventAt mote) events
   pub rises : begun ≤ on
   pub port : q.port ≡ p.port
   pub boards : BoardsAreUsed motes p.boards q.boards

@@ -16,7 +16,7 @@ use dg_netcfg::NetProfile;
 use std::alloc::{AllocError, Global};
 
 /// The frame that came to a mote, if one did.
-pub(crate) fn receive<L: Link>(alloc: Global, link: &mut L, mote: u8) -> Result<Option<Bytes>, Stop>
+pub fn receive<L: Link>(alloc: Global, link: &mut L, mote: u8) -> Result<Option<Bytes>, Stop>
     requires { mote < L.mote_count link.old }
     ensures received { ReceivedAt result mote (L.inboxes link.old) (L.inboxes link.new) }
     ensures counts { FailuresBy result (L.faults link.old) (L.faults link.new) }
@@ -43,7 +43,7 @@ fn keep(alloc: Global, frame: &[u8]) -> Result<Bytes, Stop>
 }
 
 /// Hands what a mote sent, if anything, to each of its neighbours in rising number.
-pub(crate) fn hand_on<L: Link>(
+pub fn hand_on<L: Link>(
     profile: &NetProfile,
     mote: u8,
     out: &Outbox,

@@ -11,6 +11,12 @@ mod stop;
 mod telling;
 mod timeline;
 
+pub use handing::{hand_on, receive};
 pub use laws::services_keep_the_rules;
-pub use network::serve_network;
-pub use serving::serve;
+pub use network::{NoProfile, read_network, serve_network, tell_none};
+pub use playing::stop_of;
+pub use service::Service;
+pub use serving::{open_service, serve, tell_stop};
+pub use stop::Stop;
+pub use telling::{line_event, put, write_event};
+pub use timeline::{Timeline, Timing};

@@ -20,7 +20,7 @@ use std::alloc::{AllocError, Global};
 
 /// Why an input gives no network profile.
 #[derive(Clone, Copy, Debug, PartialEq, Eq)]
-pub(crate) enum NoProfile {
+pub enum NoProfile {
     /// Memory ran out.
     Memory,
     /// A read failed.
@@ -69,7 +69,7 @@ pub fn serve_network<S: Source, K: Sink, N: Nor, L: Link, C: Clock>(
 }
 
 /// Reads the network profile that an input spells. At most 16,777,216 bytes are used.
-fn read_network<S: Source>(alloc: Global, input: &mut S) -> Result<NetProfile, NoProfile>
+pub fn read_network<S: Source>(alloc: Global, input: &mut S) -> Result<NetProfile, NoProfile>
     ensures read { NetworkRead result (S.left input.old) (S.left input.new) (S.faults input.old) (S.faults input.new) }
     ensures allowed { IfOk result IsAllowed }
     ensures counts { S.faults input.old ≤ S.faults input.new }
@@ -106,7 +106,7 @@ fn none_at(fault: ProfileFault) -> NoProfile
 }
 
 /// Writes the last line of a service without a profile, and answers its status.
-fn tell_none<K: Sink>(alloc: Global, why: NoProfile, out: &mut K) -> Status
+pub fn tell_none<K: Sink>(alloc: Global, why: NoProfile, out: &mut K) -> Status
     ensures { TellsNone why result (K.written out.old) (K.written out.new) (K.faults out.old) (K.faults out.new) }
 {
     match why {

@@ -45,7 +45,7 @@ pub(crate) fn play<N: Nor>(
 }
 
 /// Why a service ends in an event that was not done.
-fn stop_of(fault: Fault) -> Stop
+pub fn stop_of(fault: Fault) -> Stop
     ensures { result ≡ stop_by fault }
 {
     match fault {

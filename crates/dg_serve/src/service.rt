@@ -23,11 +23,11 @@ use std::alloc::Global;
 
 /// The motes of a service, None where one is off, their time, and the text that is written next.
 #[derive(Drop)]
-pub(crate) struct Service {
-    pub(crate) motes: Vec<Option<Node>>,
-    pub(crate) timeline: Timeline,
-    pub(crate) text: Vec<u8>,
-    pub(crate) alloc: Global,
+pub struct Service {
+    pub motes: Vec<Option<Node>>,
+    pub timeline: Timeline,
+    pub text: Vec<u8>,
+    pub alloc: Global,
 }
 
 impl Service {

@@ -92,7 +92,7 @@ fn serve_boards<K: Sink, N: Nor, L: Link, C: Clock>(
 }
 
 /// Writes the first lines, opens the link and reads the clock. All motes are off.
-fn open_service<K: Sink, L: Link, C: Clock>(
+pub fn open_service<K: Sink, L: Link, C: Clock>(
     alloc: Global,
     profile: &NetProfile,
     link: &mut L,
@@ -146,7 +146,7 @@ fn all_off(alloc: Global, motes: u8) -> Result<Vec<Option<Node>>, AllocError>
 }
 
 /// Writes the last line of a service that ended so, and answers its status.
-fn tell_stop<K: Sink>(stop: Stop, out: &mut K) -> Status
+pub fn tell_stop<K: Sink>(stop: Stop, out: &mut K) -> Status
     ensures { TellsStop stop result (K.written out.old) (K.written out.new) (K.faults out.old) (K.faults out.new) }
 {
     match stop {

@@ -3,7 +3,8 @@ use std::alloc::AllocError;
 
 /// Why a service ends before its turns are over.
 #[derive(Clone, Copy, Debug, PartialEq, Eq)]
-pub(crate) enum Stop {
+pub enum Stop {
+    /// Memory ran out.
     Memory,
     /// The trace could not be written.
     Write,

@@ -16,7 +16,7 @@ use dg_script::{Line, write_line};
 use std::alloc::AllocError;
 
 /// Writes a text.
-pub(crate) fn put<K: Sink>(text: &[u8], out: &mut K) -> Result<(), Stop>
+pub fn put<K: Sink>(text: &[u8], out: &mut K) -> Result<(), Stop>
     ensures ok { OnOk result (Puts (K.written out.old) (K.written out.new) text.now) }
     ensures err { OnErr result (PutsFront (K.written out.old) (K.written out.new) text.now) }
     ensures cause { IfErr result (λ why. why ≡ Stop.Write) }
@@ -44,7 +44,7 @@ pub(crate) fn write_head(profile: &NetProfile, text: &mut Vec<u8>) -> Result<(),
 }
 
 /// The line of an event, in place of what stood in `text`.
-pub(crate) fn write_event(line: &Line, text: &mut Vec<u8>) -> Result<(), AllocError>
+pub fn write_event(line: &Line, text: &mut Vec<u8>) -> Result<(), AllocError>
     requires fits { FitsLine most_motes line.now }
     requires short { IsShort line.now }
     ensures { OnOk result (text.new.items ≡ line_text line.now ++ 10 ∷ []) }
@@ -54,7 +54,7 @@ pub(crate) fn write_event(line: &Line, text: &mut Vec<u8>) -> Result<(), AllocEr
 }
 
 /// The event that a line tells, which is the line of one.
-pub(crate) fn line_event(line: &Line) -> &Event
+pub fn line_event(line: &Line) -> &Event
     requires { IsEventLine line.now }
     ensures { line.now ≡ EventLine result.now }
 {

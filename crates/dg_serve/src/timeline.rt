@@ -10,23 +10,23 @@ use dg_seed::Draws;
 
 /// The moment of the last event, what the clock answered last, and the draws to come.
 #[derive(Drop)]
-pub(crate) struct Timeline {
+pub struct Timeline {
     /// In milliseconds since the service began, as its events tell it.
-    pub(crate) moment: u64,
-    pub(crate) reading: u64,
-    pub(crate) draws: Draws,
+    pub moment: u64,
+    pub reading: u64,
+    pub draws: Draws,
 }
 
 /// What an event takes of time and chance: the milliseconds since the event before, and a word.
 #[derive(Clone, Copy, Debug, PartialEq, Eq)]
-pub(crate) struct Timing {
-    pub(crate) dt: u32,
-    pub(crate) word: u32,
+pub struct Timing {
+    pub dt: u32,
+    pub word: u32,
 }
 
 impl Timeline {
     /// Reads the clock for the origin. The draws are those of a seed.
-    pub(crate) fn begin<C: Clock>(clock: &mut C, seed: u32) -> Timeline
+    pub fn begin<C: Clock>(clock: &mut C, seed: u32) -> Timeline
         ensures moment { result.moment ≡ 0 }
         ensures draws { generator_of result.draws ≡ first_generator seed }
         ensures told { Answered (C.told clock.old) (C.told clock.new) result.reading }
@@ -41,7 +41,7 @@ impl Timeline {
     }
 
     /// The timing of the next event: the clock is read and a word is taken.
-    pub(crate) fn next<C: Clock>(&mut self, clock: &mut C) -> Timing
+    pub fn next<C: Clock>(&mut self, clock: &mut C) -> Timing
         requires known { self.old.reading ≤ C.reached clock.old }
         requires early { self.old.moment < 2 ^ 60 }
         ensures dt { result.dt ≡ later self.old.reading self.new.reading }
