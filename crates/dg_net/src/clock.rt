@@ -6,12 +6,13 @@ use dg_base::Clock;
 use std::time::{Clock as Timer, Instant};
 
 /// The clock of the system, in whole milliseconds since it was made. Where the system's clock can't be read, it answers
-/// its last answer again.
+/// its last answer again. One that is scaled goes so many times as fast.
 #[derive(Drop)]
 pub struct SystemClock<'r, R> {
     timer: &'r R,
     began: Option<Instant>,
     last: u64,
+    scale: u64,
 }
 
 impl<'r, R: Timer> SystemClock<'r, R> {
@@ -19,10 +20,18 @@ impl<'r, R: Timer> SystemClock<'r, R> {
     pub fn new(timer: &'r R) -> SystemClock<'r, R>
         ensures { result.last ≡ 0 }
     {
+        SystemClock::scaled(timer, 1)
+    }
+
+    /// The same, of which each millisecond of the system counts as `scale`.
+    pub fn scaled(timer: &'r R, scale: u64) -> SystemClock<'r, R>
+        ensures { result.last ≡ 0 }
+    {
         SystemClock {
             timer,
             began: Instant::now(timer).ok(),
             last: 0,
+            scale,
         }
     }
 }
@@ -33,7 +42,9 @@ impl<'r, R: Timer> Clock for SystemClock<'r, R> {
     ghost reached = { λ c. c.last };
 
     fn read(&mut self) -> u64 {
-        let now = passed(self.began, self.timer).unwrap_or(0);
+        let now = passed(self.began, self.timer)
+            .unwrap_or(0)
+            .saturating_mul(self.scale);
         self.last = self.last.max(now);
         self.last
     }

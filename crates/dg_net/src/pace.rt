@@ -2,14 +2,17 @@
 use std::thread;
 use std::time::{Clock as Timer, Duration, Instant};
 
-/// How long a turn lasts in which nothing came, in milliseconds. It is the time between two packets of a mote.
+/// How long a turn lasts in which nothing came, in milliseconds of the rules. It is the time between two packets of a mote.
 const TURN: u64 = 16;
 
-/// How long it lasts once nothing came for `QUIET`, in milliseconds.
+/// How long it lasts once nothing came for `QUIET`, in milliseconds of the rules.
 const QUIET_TURN: u64 = 50;
 
-/// In milliseconds.
+/// In milliseconds of the rules.
 const QUIET: u64 = 1_000;
+
+/// The shortest turn, in milliseconds of the system: so no processor is busy with turns in which nothing comes.
+const LEAST_TURN: u64 = 1;
 
 /// What is known of the turn that is played. In a turn each mote looks once whether a frame came, in rising number: so a
 /// mote that looks behind one of its own or of a higher number begins the next turn. Only then is anything waited for,
@@ -24,17 +27,20 @@ pub(crate) struct Pace {
     next: u16,
     /// Whether a frame came in this turn.
     came: bool,
+    /// A millisecond of the system counts as so many of the rules.
+    scale: u64,
 }
 
 impl Pace {
-    /// The first turn begins now.
-    pub(crate) fn begin<R: Timer>(timer: &R) -> Pace {
+    /// The first turn begins now. A millisecond of the system counts as `scale` of the rules.
+    pub(crate) fn begin<R: Timer>(timer: &R, scale: u64) -> Pace {
         let now = Instant::now(timer).ok();
         Pace {
             began: now,
             last: now,
             next: 0,
             came: false,
+            scale,
         }
     }
 
@@ -67,17 +73,22 @@ impl Pace {
     fn wait<R: Timer>(&self, timer: &R) {
         let quiet = elapsed(self.last, timer).unwrap_or(Duration::ZERO);
         let passed = elapsed(self.began, timer).unwrap_or(Duration::ZERO);
-        thread::sleep(timer, turn_after(quiet).saturating_sub(passed));
+        thread::sleep(timer, turn_after(quiet, self.scale).saturating_sub(passed));
     }
 }
 
 // How long a turn lasts where nothing came for this long.
-fn turn_after(quiet: Duration) -> Duration {
-    if quiet < Duration::from_millis(QUIET) {
-        Duration::from_millis(TURN)
+fn turn_after(quiet: Duration, scale: u64) -> Duration {
+    if quiet < scaled(QUIET, scale) {
+        scaled(TURN, scale)
     } else {
-        Duration::from_millis(QUIET_TURN)
+        scaled(QUIET_TURN, scale)
     }
+}
+
+// So many milliseconds of the rules by the system's clock, in whole milliseconds and at least one.
+fn scaled(millis: u64, scale: u64) -> Duration {
+    Duration::from_millis((millis / scale.max(1)).max(LEAST_TURN))
 }
 
 /// The time since a moment, where the system tells both.

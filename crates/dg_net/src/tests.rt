@@ -3,7 +3,7 @@ ghost use Rattle.std.specs.Prelude.{◌<◌, ◌≤◌, length};
 ghost use Rattle.dg_base.specs.Sizes.{longest_frame};
 
 use crate::udp::{address, is_sent, receive_datagram};
-use crate::{SystemClock, UdpLink};
+use crate::{MoteLink, SystemClock, UdpLink};
 use dg_base::{Clock, LONGEST_FRAME};
 use dg_link::{Link, LinkFailed, OpenFault};
 use std::alloc::Global;
@@ -193,5 +193,50 @@ fn turns_are_longer_where_nothing_came_for_a_second(rt: HostRuntime) -> Result<(
     );
     // 63 turns of 16 ms take a second, and 20 longer ones another
     assert!(rt; 1_960 <= passed && passed < 6_000, "{passed}");
+    Ok(())
+}
+
+// Two motes of a network, each over a link of its own: what one sends the other receives, a mote that is elsewhere has
+// nothing, and none sends for it.
+#[test]
+fn links_of_one_mote_reach_one_another(rt: HostRuntime) -> Result<(), Fail> {
+    let alloc = rt.alloc();
+    let port = free_port(&rt, alloc, process::id(rt.process()));
+    let mut first = MoteLink::new(&rt, 0, 1);
+    let mut second = MoteLink::new(&rt, 1, 1);
+    let mut into = [0; LONGEST_FRAME];
+    first.open(alloc, port, 3)?;
+    second.open(alloc, port, 3)?;
+    first.send(0, 1, b"hello")?;
+    // nobody listens there, which is not told
+    first.send(0, 2, b"hello")?;
+    assert_eq!(rt; second.receive(0, &mut into)?, None);
+    assert_eq!(rt; second.receive(1, &mut into)?, Some(5));
+    assert_eq!(rt; into[..5], b"hello"[..]);
+    assert_eq!(rt; second.receive(1, &mut into)?, None);
+    assert_eq!(rt; second.send(0, 1, b"hello").is_err(), true);
+    let mut other = MoteLink::new(&rt, 1, 1);
+    assert_eq!(rt;
+        other.open(alloc, port, 3).err(),
+        Some(OpenFault::LinkFailed)
+    );
+    Ok(())
+}
+
+#[test]
+fn a_scaled_turn_is_as_much_shorter(rt: HostRuntime) -> Result<(), Fail> {
+    let alloc = rt.alloc();
+    let mut clock = SystemClock::scaled(&rt, 8);
+    let port = free_port(&rt, alloc, process::id(rt.process()));
+    let mut link = MoteLink::new(&rt, 2, 8);
+    let mut into = [0; LONGEST_FRAME];
+    link.open(alloc, port, 4)?;
+    let before = clock.read();
+    for _ in 0..50 {
+        assert_eq!(rt; link.receive(2, &mut into)?, None);
+    }
+    let passed = clock.read().saturating_sub(before);
+    // 49 turns of 2 ms, each of which the clock tells as 8; a machine under load makes them longer
+    assert!(rt; 776 <= passed && passed < 32_000, "{passed}");
     Ok(())
 }

@@ -43,7 +43,7 @@ impl<'r, R: Net + Timer> UdpLink<'r, R> {
             net,
             port: 0,
             sockets: Vec::new(alloc),
-            pace: Pace::begin(net),
+            pace: Pace::begin(net, 1),
             cause: None,
             faults: 0,
         }
@@ -81,7 +81,7 @@ impl<'r, R: Net + Timer> Link for UdpLink<'r, R> {
     fn open(&mut self, alloc: Global, port: u16, motes: u16) -> Result<(), OpenFault> {
         self.sockets.clear();
         self.port = port;
-        self.pace = Pace::begin(self.net);
+        self.pace = Pace::begin(self.net, 1);
         match open_sockets(self.net, alloc, port, motes) {
             Ok(sockets) => {
                 self.sockets = sockets;
@@ -172,7 +172,7 @@ fn push(sockets: &mut Vec<UdpSocket>, socket: UdpSocket) -> Result<(), Unopened>
 }
 
 // A socket at a port, whose calls do not wait.
-fn open_socket<R: Net>(net: &R, port: u16) -> io::Result<UdpSocket> {
+pub(crate) fn open_socket<R: Net>(net: &R, port: u16) -> io::Result<UdpSocket> {
     let socket = UdpSocket::bind(net, address(port))?;
     socket.set_nonblocking(true)?;
     Ok(socket)
