@@ -7,13 +7,14 @@ use Rattle.dg_base.specs.declared.events.Event.{Event}
 use Rattle.dg_base.specs.declared.events.Event.TheVariants.{Frame}
 use Rattle.dg_nor.specs.Device.{Device}
 use Rattle.dg_rules.specs.World.{World, Running, site, store_at}
-use Rattle.dg_rules.specs.Events.{Deed, Does, Refuses, Goes, does, hear_by}
+use Rattle.dg_rules.specs.Events.{mote_of, Deed, Does, Refuses, Goes, does, hear_by}
 use Rattle.dg_mote.specs.Effects.{frame_effect}
 use Rattle.dg_script.specs.Fitting.{IsTimed}
 use Rattle.dg_world.specs.Worlds.{SiteStands}
 use Rattle.dg_seed.specs.Draws.{generator_of}
-use Rattle.dg_serve.specs.Services.{Moment, ReadsClock, Steps, EventApplied, later, at_reading}
-use Rattle.dg_serve.specs.Standings.{Standing, StandsFor}
+use Rattle.dg_serve.specs.Services.{Part, Begins, Looks, Ticks, Moment, ReadsClock, Steps, EventApplied, later, at_reading}
+use Rattle.dg_serve.specs.Endings.{event_of}
+use Rattle.dg_serve.specs.Standings.{Standing, StandsFor, IsPartAt}
 use Rattle.dg_serve.specs.declared.timeline.Timeline.{Timeline}
 
 -- a timing: the clock was read, and a word taken
@@ -80,3 +81,9 @@ heard_runs w m dt word bytes deed (Some r) e none = some_left deed.runs _ (ap ru
 pub frame_runs : (w : World) (m dt word : ℕ) (bytes : List ℕ) (deed : Deed) → does w (Frame m dt word bytes) ≡ Goes deed → deed.runs ≡ None → ⊥
 unfolding does
 frame_runs w m dt word bytes deed e none = heard_runs w m dt word bytes deed (site w m).runs e none
+
+-- the event of a part is at its mote
+pub part_at : (mote : ℕ) (part : Part) (dt word : ℕ) (bytes : List ℕ) → IsPartAt mote part → mote_of (event_of part dt word bytes) ≡ mote
+part_at mote (Begins m) dt word bytes at = at
+part_at mote (Looks m) dt word bytes at = at
+part_at mote (Ticks m) dt word bytes at = at

@@ -22,13 +22,13 @@ use Rattle.dg_node.specs.declared.node.Node.{Node}
 use Rattle.dg_serve.specs.Services.{Part, Begins, Looks, Ticks, Moment, Steps, EventApplied, PartDone, course}
 use Rattle.dg_serve.specs.Traces.{event_lines}
 use Rattle.dg_serve.specs.Endings.{BoardsStand, FindsNoImage, FindsNoVolume, EventEnds, remains, EndsInNext, TakesFor, FoundBy, HandedToFirst, PartlyHanded, StopLeaves, event_of}
-use Rattle.dg_serve.specs.Standings.{Standing, StandsFor, StandsForSome, Ready, IsUnderWay, IsEventAt, IsPartAt, EventAsks, BoardsAreUsed, BoardsAreCalm, Went, PartsHalted, GoesOn, stretch, AppliedAt, NotApplied, HandedThen, AppliedPartly, ApplyEnds, begun_before, begun_behind}
+use Rattle.dg_serve.specs.Standings.{Standing, StandsFor, StandsForSome, Ready, IsUnderWay, EventAsks, BoardsAreUsed, BoardsAreCalm, Went, PartsHalted, GoesOn, stretch, AppliedAt, NotApplied, HandedThen, AppliedPartly, ApplyEnds, begun_before, begun_behind}
 use Rattle.dg_serve.specs.declared.stop.Stop.{Stop}
 use Rattle.dg_serve.specs.declared.stop.Stop.TheVariants as stop
 use Rattle.dg_serve.proofs.BoardLemmas.{got_within}
 use Rattle.dg_serve.proofs.EventLemmas.{got_some}
 use Rattle.dg_serve.proofs.GoLemmas.{one_part, no_part}
-use Rattle.dg_serve.proofs.PartLemmas.{Timed, drawn, reads_of, stands_drawn, applied_of, frame_runs}
+use Rattle.dg_serve.proofs.PartLemmas.{Timed, drawn, reads_of, stands_drawn, applied_of, frame_runs, part_at}
 
 pub puts_none : (o p : Option (List ℕ)) → p ≡ o → Puts o p []
 puts_none None p e = e
@@ -69,12 +69,6 @@ pub record IsPart (motes begun on : ℕ) (part : Part) (event : (dt word : ℕ) 
   -- where a frame was taken, its mote had begun, and starts nothing
   pub untaken : (dt word : ℕ) (w : World) (old new : List Device) → FindsNoVolume w (event dt word) old new ⊎ FindsNoImage w (event dt word) old new → ((m : ℕ) (a : Device) → mote_of (event dt word) ≡ m → m < begun → slice_get old m ≡ Some a → IsVolume a.image) → taken ≡ before
   pub new_volumes : (dt word : ℕ) (boards : List Device) → ((a : Device) → IsReset (event dt word) → slice_get boards (mote_of (event dt word)) ≡ Some a → IsVolume a.image) → (m : ℕ) (a : Device) → begun ≤ m → m < on → slice_get boards m ≡ Some a → IsVolume a.image
-
--- the event of a part is at its mote
-part_at : (mote : ℕ) (part : Part) (dt word : ℕ) (bytes : List ℕ) → IsPartAt mote part → mote_of (event_of part dt word bytes) ≡ mote
-part_at mote (Begins m) dt word bytes at = at
-part_at mote (Looks m) dt word bytes at = at
-part_at mote (Ticks m) dt word bytes at = at
 
 -- the link gave a frame, and nothing else changed
 stands_looked : (motes begun : ℕ) (links : List (ℕ × ℕ)) (boxes : Option Inboxes) (p : Standing) (first : List Device) (s : Moment) → StandsFor motes begun links 0 first s p → StandsFor motes begun links 0 first (looked s boxes) (record p { inboxes = boxes })
@@ -178,10 +172,6 @@ module _ (motes begun on : ℕ) (links : List (ℕ × ℕ)) (part : Part) (event
   new_volumes : ((a : Device) → IsReset (event dt word) → slice_get m.boards (mote_of (event dt word)) ≡ Some a → IsVolume a.image) → (k : ℕ) (a : Device) → begun ≤ k → k < on → slice_get p.boards k ≡ Some a → IsVolume a.image
   new_volumes told = subst (λ bs. (k : ℕ) (a : Device) → begun ≤ k → k < on → slice_get bs k ≡ Some a → IsVolume a.image) d.boards (h.new_volumes dt word m.boards told)
 
-  -- its event is at the mote of the part
-  own_event : (mote : ℕ) → IsPartAt mote part → IsEventAt mote (event dt word)
-  own_event mote at = ap mote_of (h.event_is dt word) ∙ part_at mote part dt word bytes at
-
   -- it was done
   pub part_went : Ready motes begun p → AppliedAt motes links (event dt word) m q → q.reached ≡ m.reached → Went motes begun on links (part ∷ []) p q
   part_went ready e reached = record {
@@ -193,7 +183,7 @@ module _ (motes begun on : ℕ) (links : List (ℕ × ℕ)) (part : Part) (event
     ready = subst (λ n. Ready motes n q) (h.behind_is dt word) (e.ready (subst (λ n. Ready motes n m) (sym (h.before_is dt word)) (ready_before ready)));
     volumes = new_volumes e.volumes;
     below = (h.at dt word, tt);
-    own = λ mote at. (own_event mote at.0, tt);
+    own = λ mote at. (ap mote_of (h.event_is dt word) ∙ part_at mote part dt word bytes at.0, tt);
     rises = h.rises;
     port = e.port ∙ d.port;
     boards = subst (λ bs. BoardsAreUsed on bs q.boards) d.boards (subst (λ n. BoardsAreUsed n m.boards q.boards) (h.behind_is dt word) e.boards);
@@ -283,7 +273,7 @@ module _ (motes begun on : ℕ) (links : List (ℕ × ℕ)) (part : Part) (event
     on = on;
     volumes = new_volumes e.volumes;
     below = (h.at dt word, tt);
-    own = λ mote at. (own_event mote at.0, tt);
+    own = λ mote at. (ap mote_of (h.event_is dt word) ∙ part_at mote part dt word bytes at.0, tt);
     rises = h.rises;
     port = e.port ∙ d.port;
     boards = subst (λ bs. BoardsAreUsed motes bs q.boards) d.boards e.boards;
