@@ -16,7 +16,8 @@ pub(crate) fn is_root(text: &[u8]) -> bool
     text.len() == ROOT_DIGITS && has_hex_digits(text)
 }
 
-fn has_hex_digits(text: &[u8]) -> bool
+/// Whether each byte is a hex digit.
+pub(crate) fn has_hex_digits(text: &[u8]) -> bool
     ensures { result ≡ list_all is_hex_digit text.now }
 {
     text.iter().all(|digit| is_hex_digit(*digit))

@@ -4,12 +4,16 @@ ghost use Rattle.dg_command.specs.Verbs.{verb_in};
 
 use crate::apps::command_for;
 use crate::command::Command;
+use crate::ranges::ROOT_DIGITS;
 use crate::reading::command_at;
-use crate::roots::is_root;
+use crate::roots::{has_hex_digits, is_root};
 use crate::verbs::Verb;
 use clap::ArgMatches;
 use dg_base::is_name;
 use std::alloc::{AllocError, Global};
+
+/// The most bytes of a name.
+const LONGEST_NAME: usize = 16;
 
 /// What is wrong with words that begin with a verb and are no command: a text for an operator, which tells the option and its
 /// range, or the word. None where they begin with no verb, or nothing is wrong with them.
@@ -70,18 +74,34 @@ fn name_misuse(alloc: Global, name: &String) -> Result<Option<String>, AllocErro
     if is_name(name.as_bytes()) {
         return Ok(None);
     }
-    Ok(Some(format!(in alloc;
-        "invalid value '{name}' for '--name <name>': it has other bytes than 1 to 16 letters, digits, _, - and ."
-    )?))
+    let what = if has_name_bytes(name.as_bytes()) {
+        let length = name.len();
+        format!(in alloc; "it has {length} bytes, and a name has 1 to {LONGEST_NAME}")?
+    } else {
+        String::from_str(
+            alloc,
+            "it has another byte than letters, digits, _, - and .",
+        )?
+    };
+    Ok(Some(format!(in alloc; "invalid value '{name}' for '--name <name>': {what}")?))
+}
+
+/// Whether each byte is a name by itself.
+fn has_name_bytes(name: &[u8]) -> bool {
+    name.iter().all(|byte| is_name(&[*byte]))
 }
 
 fn root_misuse(alloc: Global, root: &String) -> Result<Option<String>, AllocError> {
     if is_root(root.as_bytes()) {
         return Ok(None);
     }
-    Ok(Some(format!(in alloc;
-        "invalid value '{root}' for '--root <root>': it has other bytes than 64 hex digits"
-    )?))
+    let what = if has_hex_digits(root.as_bytes()) {
+        let length = root.len();
+        format!(in alloc; "it has {length} hex digits, and a root has {ROOT_DIGITS}")?
+    } else {
+        String::from_str(alloc, "it has another byte than hex digits")?
+    };
+    Ok(Some(format!(in alloc; "invalid value '{root}' for '--root <root>': {what}")?))
 }
 
 /// What `clap` says of words before it tells their usage, in one line.
