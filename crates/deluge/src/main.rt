@@ -1,17 +1,20 @@
 //! `deluge` reprograms a network of motes over many hops. `run` of `dg_cli` does all that it does.
 #![tactic(auto)]
 
+mod finding;
 mod notes;
 mod opening;
+mod showing;
 mod telling;
 
+use crate::finding::first_chip;
 use crate::opening::{boards_in_memory, boards_on_files};
-use crate::telling::{Ended, first_gone, tell};
+use crate::telling::{Ended, tell};
 use dg_base::{Clock, Sink, Source, Status};
 use dg_cli::{flash_names, run};
 use dg_messages::{Input, Output};
 use dg_net::{SystemClock, UdpLink};
-use dg_nor::Board;
+use dg_nor::{Board, FileFault};
 use std::env;
 use std::env::Args;
 use std::fs::File;
@@ -91,6 +94,11 @@ fn exit_code(status: Status) -> ExitCode {
     ExitCode::from(status.code())
 }
 
+/// Why the file of the board with this number is gone, if it is.
+fn fault_at(boards: &[Board], chip: Option<usize>) -> Option<FileFault> {
+    boards.get(chip?)?.file_fault()
+}
+
 /// Runs the command of these words over an input, an output and a clock, chips in the files with these names or in memory, and
 /// sockets of this machine. The guard stands while files of chips are open. None where memory runs out.
 fn run_words<S: Source, K: Sink, C: Clock>(
@@ -106,9 +114,11 @@ fn run_words<S: Source, K: Sink, C: Clock>(
     notes::note_volume(rt, words, names, &mut boards);
     let mut link = UdpLink::new(rt, rt.alloc());
     let status = run(rt.alloc(), words, input, out, &mut boards, &mut link, clock);
+    let chip = first_chip(rt, status, &mut boards);
     Some(Ended {
         status,
-        gone: first_gone(&boards),
+        chip,
+        file: fault_at(&boards, chip),
         link: link.cause(),
     })
 }

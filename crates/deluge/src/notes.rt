@@ -1,5 +1,7 @@
 //! What is told beside the output before a command begins.
 use crate::opening::{begin_with, begin_with_format};
+use crate::showing::shown_word;
+use dg_command::{Asked, asked};
 use dg_nor::Board;
 use dg_volume::Volume;
 use std::alloc::AllocError;
@@ -17,25 +19,32 @@ const READERS: [(&str, &str); 8] = [
     ("base", "frames and ticks"),
 ];
 
+/// What ends the input at a terminal. A line of frames is raw, so that Ctrl-D is a byte as any other there.
+fn end_of_input<'a>(verb: &str) -> &'a str {
+    match verb {
+        "base" => "Ctrl-C",
+        _ => "Ctrl-D",
+    }
+}
+
 /// Tells what is waited for, where standard input is a terminal and the command reads it.
-pub(crate) fn note_waiting(rt: &HostRuntime, words: &[String]) {
-    if !rt.stdin().is_terminal() || has_help(words) {
+pub(crate) fn note_waiting(rt: &HostRuntime, words: &Vec<String>) {
+    if !rt.stdin().is_terminal() || !are_a_command(rt, words) {
         return;
     }
     for (verb, what) in READERS {
         if begin_with(words, verb) {
+            let end = end_of_input(verb);
             let _ = eprintln!(rt;
-                "deluge: {verb}: reading {what} from standard input; end it with Ctrl-D"
+                "deluge: {verb}: reading {what} from standard input; end it with {end}"
             );
         }
     }
 }
 
-/// Whether a word asks for help.
-fn has_help(words: &[String]) -> bool {
-    words
-        .iter()
-        .any(|word| word.as_str() == "--help" || word.as_str() == "-h")
+/// Whether words are a command, and ask neither for help nor for the version.
+fn are_a_command(rt: &HostRuntime, words: &Vec<String>) -> bool {
+    matches!(asked(rt.alloc(), words), Ok(Asked::Command(_)))
 }
 
 /// Tells what a chip keeps that is about to be formatted.
@@ -68,9 +77,10 @@ fn tell_volume(rt: &HostRuntime, name: &str, board: &mut Board) -> Result<(), Al
             images.push_str(one.as_str())?;
         }
     }
+    let name = shown_word(rt, name)?;
     let room = volume.room();
     let _ = eprintln!(rt;
-        "deluge: format: {name}: this volume is formatted anew: {images}; room {room}"
+        "deluge: format: {name}: it is a volume, and a good HEX file empties it: {images}; room {room}"
     );
     Ok(())
 }

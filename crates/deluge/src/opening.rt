@@ -1,4 +1,5 @@
 //! The chips of a command: in files, or in memory.
+use crate::showing::shown_word;
 use dg_base::MOST_MOTES;
 use dg_nor::{Board, CHIP_SIZE};
 use std::alloc::AllocError;
@@ -44,7 +45,7 @@ pub(crate) fn boards_on_files(
         let before = length_at(rt, name.as_str());
         let board = board_on_file(rt, words, name.as_str()).ok()?;
         if board.file_fault().is_none() && before < u64::from(CHIP_SIZE) {
-            tell_lengthened(rt, name.as_str(), before);
+            tell_lengthened(rt, name.as_str(), before).ok()?;
         }
         boards.push(board).ok()?;
     }
@@ -68,10 +69,12 @@ fn length_at(rt: &HostRuntime, name: &str) -> u64 {
 }
 
 /// Tells, beside the output, that a file of an older chip was lengthened.
-fn tell_lengthened(rt: &HostRuntime, name: &str, before: u64) {
+fn tell_lengthened(rt: &HostRuntime, name: &str, before: u64) -> Result<(), AllocError> {
+    let name = shown_word(rt, name)?;
     let _ = eprintln!(rt;
         "deluge: {name}: it had {before} bytes, and was lengthened to {CHIP_SIZE} with 0xFF"
     );
+    Ok(())
 }
 
 /// A chip in memory for each mote that a script may have. None where memory runs out.

@@ -1,48 +1,50 @@
 //! What is told beside the output of a command that ended.
 use crate::NOT_TEXT;
+use crate::finding::is_named_before;
+use crate::opening::begin_with;
+use crate::showing::shown_word;
 use dg_base::Status;
 use dg_command::misuse;
-use dg_messages::{Causes, Input, Misuse, Output, message, told};
+use dg_messages::{Causes, Input, Misuse, Output, Reads, message, told};
 use dg_net::LinkCause;
-use dg_nor::{Board, FileFault};
+use dg_nor::FileFault;
 use std::alloc::AllocError;
 use std::io::{Read, Write};
 
-/// How a command ended, the first of its chips whose file is gone, and why a call of its link failed.
+/// The program.
+const PROGRAM: &str = "deluge";
+
+/// How a command ended, the chip that its status is about, by its number among those that are named, why the file of that is
+/// gone, and why a call of its link failed.
 #[derive(Drop)]
 pub(crate) struct Ended {
     pub(crate) status: Status,
-    pub(crate) gone: Option<(usize, FileFault)>,
+    pub(crate) chip: Option<usize>,
+    pub(crate) file: Option<FileFault>,
     pub(crate) link: Option<LinkCause>,
-}
-
-/// The first of these chips whose file is gone, and why.
-pub(crate) fn first_gone(boards: &[Board]) -> Option<(usize, FileFault)> {
-    for (index, board) in boards.iter().enumerate() {
-        if let Some(fault) = board.file_fault() {
-            return Some((index, fault));
-        }
-    }
-    None
 }
 
 /// Tells why a command did not do what it was asked, if it did not.
 pub(crate) fn tell<R: Read, W: Write>(
     rt: &HostRuntime,
-    words: &Vec<String>,
+    words: &[String],
     names: &[String],
     ended: &Ended,
     input: &Input<R>,
     out: &Output<W>,
 ) {
     let wrong = match ended.status {
-        Status::Usage => misuse(rt.alloc(), words).unwrap_or(None),
+        Status::Usage => misuse_of(rt, words).unwrap_or(None),
         _ => None,
     };
     let causes = Causes {
         misuse: misuse_told(words, &wrong),
-        file: fault_of(ended),
-        named_twice: is_named_before(names, ended),
+        reads: what_is_read(words),
+        in_memory: names.is_empty(),
+        file: ended.file,
+        named_twice: ended
+            .chip
+            .is_some_and(|chip| is_named_before(rt, names, chip)),
         input: input.fault(),
         output: out.fault(),
         link: ended.link,
@@ -50,23 +52,24 @@ pub(crate) fn tell<R: Read, W: Write>(
     let _ = tell_by(rt, words, names, ended, out.last_line(), &causes);
 }
 
-/// Why the file of a chip is gone, if one is.
-fn fault_of(ended: &Ended) -> Option<FileFault> {
-    match ended.gone {
-        Some((_index, fault)) => Some(fault),
-        None => None,
+/// What a command reads, as far as its causes differ by that.
+fn what_is_read(words: &[String]) -> Reads {
+    if begin_with(words, "drip") {
+        return Reads::Nodes;
     }
+    if begin_with(words, "receive") {
+        return Reads::Wrapped;
+    }
+    Reads::Other
 }
 
-/// Whether the file that is gone is named before.
-fn is_named_before(names: &[String], ended: &Ended) -> bool {
-    let Some((index, _fault)) = ended.gone else {
-        return false;
-    };
-    match (names.get(index), names.get(..index)) {
-        (Some(name), Some(before)) => before.iter().any(|other| other.as_str() == name.as_str()),
-        _ => false,
+/// What is wrong with words, of which each is as it is shown.
+fn misuse_of(rt: &HostRuntime, words: &[String]) -> Result<Option<String>, AllocError> {
+    let mut all = Vec::new(rt.alloc());
+    for word in words {
+        all.push(shown_word(rt, word.as_str())?)?;
     }
+    misuse(rt.alloc(), &all)
 }
 
 /// What is wrong with the words, if something is.
@@ -90,12 +93,13 @@ fn tell_by(
     words: &[String],
     names: &[String],
     ended: &Ended,
-    last: &str,
+    last: &[u8],
     causes: &Causes<'_>,
 ) -> Result<(), AllocError> {
     if let Some(told) = told(ended.status, last, causes) {
         let line = message(
             rt.alloc(),
+            PROGRAM,
             verb_of(words, ended),
             place_of(names, ended),
             &told,
@@ -115,17 +119,10 @@ fn verb_of<'a>(words: &'a [String], ended: &Ended) -> &'a str {
     }
 }
 
-/// The file that a status is about: the one that is gone, or the only one of a status of chips.
+/// The file of the chip that a status is about, and nothing where there is none.
 fn place_of<'a>(names: &'a [String], ended: &Ended) -> &'a str {
-    let place = match (ended.status, ended.gone) {
-        (Status::FlashFault, Some((index, _fault))) => names.get(index),
-        (Status::NotAVolume | Status::Refused | Status::NoImage, _) if names.len() == 1 => {
-            names.first()
-        }
-        _ => None,
-    };
-    match place {
-        Some(name) => name.as_str(),
+    match ended.chip {
+        Some(chip) => names.get(chip).map_or("", |name| name.as_str()),
         None => "",
     }
 }

@@ -1,8 +1,12 @@
 //! `deluge_sign` tells whether images are signed, and receives those that are, by the calls of `dg_signed`.
 #![tactic(auto)]
 
-use dg_base::{Sink, Source, Status, StdSink, StdSource, WriteFailed};
+mod telling;
+
+use crate::telling::{Ended, UNREAD, Why, tell, tell_memory, unread, unreadable};
+use dg_base::{Sink, Source, Status, WriteFailed};
 use dg_input::{ReadStop, read_whole};
+use dg_messages::{Input, Output};
 use dg_nor::Board;
 use dg_sign_tool::{misuse, receive, text, verify};
 use dg_signed::{
@@ -10,7 +14,7 @@ use dg_signed::{
 };
 use std::env;
 use std::env::Args;
-use std::fs::{File, OpenOptions};
+use std::fs::File;
 use std::io::ErrorKind;
 use std::process::ExitCode;
 
@@ -44,14 +48,15 @@ fn no_command(rt: &HostRuntime) -> Option<Vec<String>> {
 }
 
 /// Files that take the numbers of standard streams that are closed. Where one is closed, the file that is opened next takes
-/// its number, and gets what is written there: let that be one of these, and no chip.
+/// its number, and gets what is written there: let that be one of these, and no chip. Reads and writes of a closed stream fail
+/// then, as they are to.
 #[derive(Drop)]
 struct Guard {
     files: [Option<File>; 3],
 }
 
 impl Guard {
-    /// A file that keeps nothing and gives nothing for each standard stream.
+    /// A file that can neither be read nor written for each standard stream.
     fn new(rt: &HostRuntime) -> Guard {
         Guard {
             files: [nothing(rt), nothing(rt), nothing(rt)],
@@ -59,13 +64,9 @@ impl Guard {
     }
 }
 
-/// The file that keeps nothing and gives nothing.
+/// A folder that is opened to be read: reads of it fail, as those of each folder, and so do writes.
 fn nothing(rt: &HostRuntime) -> Option<File> {
-    OpenOptions::new()
-        .read(true)
-        .write(true)
-        .open(rt, "/dev/null")
-        .ok()
+    File::open(rt, "/").ok()
 }
 
 /// How the program ends where its command ended so.
@@ -73,58 +74,35 @@ fn exit_code(status: Status) -> ExitCode {
     ExitCode::from(status.code())
 }
 
-/// Tells, beside the output, that memory ran out.
-fn without_memory(rt: &HostRuntime) -> Status {
-    let _ = rt.eprintln("deluge_sign: memory ran out");
-    Status::Memory
+/// How the program ends without memory for its words.
+fn without_memory(rt: &HostRuntime) -> ExitCode {
+    tell_memory(rt);
+    exit_code(Status::Memory)
 }
 
-/// The bytes of a file, as far as a key or a signature could have them. Tells, beside the output, where there are none.
-fn contents(rt: &HostRuntime, name: &str) -> Result<Vec<u8>, Status> {
-    let Ok(file) = File::open(rt, name) else {
-        return Err(cannot_read(rt, name));
+/// The bytes of a file, as far as a key or a signature could have them.
+fn contents(rt: &HostRuntime, name: &str) -> Result<Vec<u8>, Ended> {
+    let file = match File::open(rt, name) {
+        Ok(file) => file,
+        Err(error) => return Err(unreadable(rt, name, unread(error.kind()))),
     };
-    match read_whole(rt.alloc(), &mut StdSource::new(file)) {
+    let mut source = Input::new(file);
+    match read_whole(rt.alloc(), &mut source) {
         Ok(bytes) => Ok(bytes),
-        Err(ReadStop::ReadFault) => Err(cannot_read(rt, name)),
-        Err(ReadStop::Memory) => Err(without_memory(rt)),
+        Err(ReadStop::ReadFault) => Err(unreadable(rt, name, UNREAD)),
+        Err(ReadStop::Memory) => Err(Ended::of(Status::Memory)),
     }
 }
 
-/// Tells, beside the output, that a file cannot be read.
-fn cannot_read(rt: &HostRuntime, name: &str) -> Status {
-    let _ = eprintln!(rt; "deluge_sign: {name}: this file cannot be read");
-    Status::ReadFault
-}
-
-/// Whether an image is signed, by the files of a key and of a signature. Tells, beside the output, why it is not.
+/// Whether an image is signed, by the files of a key and of a signature.
 fn found(
     rt: &HostRuntime,
     files: &KeyFiles,
     release: Release,
-) -> Result<Result<SignedImage, Unsigned>, Status> {
+) -> Result<Result<SignedImage, Unsigned>, Ended> {
     let key = contents(rt, files.key.as_str())?;
     let signature = contents(rt, files.signature.as_str())?;
-    let found = signed_image(rt.alloc(), &key, &signature, release);
-    if let Err(cause) = &found {
-        tell_unsigned(rt, files, *cause);
-    }
-    Ok(found)
-}
-
-/// Tells, beside the output, why an image is not signed, and the file that is at fault.
-fn tell_unsigned(rt: &HostRuntime, files: &KeyFiles, cause: Unsigned) {
-    match cause {
-        Unsigned::Memory => {
-            without_memory(rt);
-        }
-        Unsigned::Key(_) => {
-            let _ = eprintln!(rt; "deluge_sign: {}: {cause}", files.key);
-        }
-        Unsigned::Text(_) | Unsigned::Signature(_) => {
-            let _ = eprintln!(rt; "deluge_sign: {}: {cause}", files.signature);
-        }
-    }
+    Ok(signed_image(rt.alloc(), &key, &signature, release))
 }
 
 /// A chip on the file with this name. None where memory runs out.
@@ -135,63 +113,39 @@ fn board(rt: &HostRuntime, name: &str) -> Option<Vec<Board>> {
     Some(boards)
 }
 
+/// Tells by the status whether an image is signed.
+fn verify_signed<K: Sink>(
+    files: KeyFiles,
+    found: &Result<SignedImage, Unsigned>,
+    out: &mut K,
+) -> Ended {
+    let status = verify(found, out);
+    Ended::unsigned(status, files, found)
+}
+
 /// Receives an image, if it is signed: the file of the chip is opened only then. The guard stands while it is open.
 fn receive_signed<S: Source, K: Sink>(
     rt: &HostRuntime,
     _guard: &Guard,
     found: &Result<SignedImage, Unsigned>,
     name: &ImageName,
-    chip: &str,
+    chip: String,
     input: &mut S,
     out: &mut K,
-) -> Status {
+) -> Ended {
     let alloc = rt.alloc();
-    if found.is_err() {
-        let mut none = Vec::<Board>::new(alloc);
-        return written(rt, receive(alloc, found, name, input, out, &mut none));
-    }
-    let Some(mut boards) = board(rt, chip) else {
-        return without_memory(rt);
+    let Some(mut boards) = board(rt, chip.as_str()) else {
+        return Ended::of(Status::Memory);
     };
     let status = receive(alloc, found, name, input, out, &mut boards);
-    tell_receiving(rt, chip, status);
-    status
-}
-
-/// Tells, beside the output, why an image that is signed is not received.
-fn tell_receiving(rt: &HostRuntime, chip: &str, status: Status) {
-    let (at, text) = match status {
-        Status::Done => return,
-        Status::Memory => ("memory", "it ran out"),
-        Status::BadInput => (
-            "standard input",
-            "no HEX file of an image: the last line tells line and cause",
-        ),
-        Status::ReadFault => ("standard input", "it cannot be read"),
-        Status::TooLong => ("standard input", "it has more than 16777216 bytes"),
-        Status::WriteFault => ("standard output", "it cannot be written"),
-        Status::FlashFault => (chip, "the chip stopped, or its file cannot be used"),
-        Status::NotAVolume => (chip, "no volume: deluge format makes one"),
-        Status::Refused => (chip, "the image is refused: the last line tells the cause"),
-        _ => (chip, "the image is not received"),
+    let fault = match boards.first() {
+        Some(board) => board.file_fault(),
+        None => None,
     };
-    let _ = eprintln!(rt; "deluge_sign: {at}: {text}");
-}
-
-/// Tells, beside the output, that standard output cannot be written, where it cannot.
-fn written(rt: &HostRuntime, status: Status) -> Status {
-    if status == Status::WriteFault {
-        let _ = rt.eprintln("deluge_sign: standard output cannot be written");
+    Ended {
+        status,
+        why: Why::Chip { name: chip, fault },
     }
-    status
-}
-
-/// The same, and that memory ran out.
-fn told(rt: &HostRuntime, status: Status) -> Status {
-    if status == Status::Memory {
-        return without_memory(rt);
-    }
-    written(rt, status)
 }
 
 /// Writes a text of help.
@@ -209,12 +163,12 @@ fn run<S: Source, K: Sink>(
     command: Command,
     input: &mut S,
     out: &mut K,
-) -> Result<Status, Status> {
+) -> Result<Ended, Ended> {
     match command {
-        Command::Text { release } => Ok(told(rt, text(rt.alloc(), &release, out))),
+        Command::Text { release } => Ok(Ended::of(text(rt.alloc(), &release, out))),
         Command::Verify { files, release } => {
             let found = found(rt, &files, release)?;
-            Ok(written(rt, verify(&found, out)))
+            Ok(verify_signed(files, &found, out))
         }
         Command::Receive {
             files,
@@ -223,7 +177,10 @@ fn run<S: Source, K: Sink>(
             chip,
         } => {
             let found = found(rt, &files, release)?;
-            Ok(receive_signed(rt, guard, &found, &name, chip.as_str(), input, out))
+            if found.is_err() {
+                return Ok(verify_signed(files, &found, out));
+            }
+            Ok(receive_signed(rt, guard, &found, &name, chip, input, out))
         }
     }
 }
@@ -235,26 +192,25 @@ fn run_words<S: Source, K: Sink>(
     words: &Vec<String>,
     input: &mut S,
     out: &mut K,
-) -> Status {
+) -> Ended {
     match asked(rt.alloc(), words) {
         Ok(Asked::Command(command)) => match run(rt, guard, command, input, out) {
-            Ok(status) | Err(status) => status,
+            Ok(ended) | Err(ended) => ended,
         },
-        Ok(Asked::Help(text)) => told(rt, help(out, text.as_str())),
-        Ok(Asked::Usage(text)) => {
-            let _ = rt.eprint(text.as_str());
-            told(rt, misuse(out))
-        }
-        Err(_) => without_memory(rt),
+        Ok(Asked::Help(text)) => Ended::of(help(out, text.as_str())),
+        Ok(Asked::Usage(_text)) => Ended::of(misuse(out)),
+        Err(_) => Ended::of(Status::Memory),
     }
 }
 
 fn main(rt: HostRuntime) -> ExitCode {
     let guard = Guard::new(&rt);
     let Some(words) = words(&rt) else {
-        return exit_code(without_memory(&rt));
+        return without_memory(&rt);
     };
-    let mut input = StdSource::new(rt.stdin());
-    let mut out = StdSink::new(rt.stdout());
-    exit_code(run_words(&rt, &guard, &words, &mut input, &mut out))
+    let mut input = Input::new(rt.stdin());
+    let mut out = Output::new(rt.stdout());
+    let ended = run_words(&rt, &guard, &words, &mut input, &mut out);
+    tell(&rt, &words, &ended, &input, &out);
+    exit_code(ended.status)
 }

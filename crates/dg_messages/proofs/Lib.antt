@@ -1,1 +1,4 @@
 pub mod TellLemmas
+pub mod ReadLemmas
+pub mod KeepLemmas
+pub mod ShowLemmas

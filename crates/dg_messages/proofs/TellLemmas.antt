@@ -1,5 +1,7 @@
 -- Each sentence tells its cause.
 use Rattle.std.proofs.Common.{◌≡◌, ◌≢◌, ℕ, refl}
+use Rattle.dg_drip_script.specs.declared.line.DripFault.{DripFault}
+use Rattle.dg_drip_script.specs.declared.line.DripFault.TheVariants as nodes
 use Rattle.dg_ihex.specs.declared.faults.HexCause.{HexCause}
 use Rattle.dg_ihex.specs.declared.faults.HexCause.TheVariants as hex
 use Rattle.dg_script.specs.declared.fault.LineFault.{LineFault}
@@ -100,6 +102,12 @@ tells told.TooMany = refl
 tells (told.NoBoard need have) = refl
 tells told.NoImage = refl
 tells (told.Other status) = refl
+tells told.RootLine = refl
+tells (told.Nodes nodes.Long line) = refl
+tells (told.Nodes nodes.Verb line) = refl
+tells (told.Nodes nodes.Place line) = refl
+tells (told.Nodes nodes.Number line) = refl
+tells told.InMemory = refl
 
 pub some_number : (cause : Told) → 0 ≢ cause_number cause
 some_number told.Memory e = cc
@@ -177,3 +185,9 @@ some_number told.TooMany e = cc
 some_number (told.NoBoard need have) e = cc
 some_number told.NoImage e = cc
 some_number (told.Other status) e = cc
+some_number told.RootLine e = cc
+some_number (told.Nodes nodes.Long line) e = cc
+some_number (told.Nodes nodes.Verb line) e = cc
+some_number (told.Nodes nodes.Place line) e = cc
+some_number (told.Nodes nodes.Number line) e = cc
+some_number told.InMemory e = cc

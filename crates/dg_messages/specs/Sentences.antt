@@ -1,8 +1,10 @@
 -- The sentence of each cause that an operator is told (docs/COMMANDS.md, "How a command ends"): what happened, with the value
 -- that it goes by, and behind a semicolon what to do.
-use Rattle.std.specs.Prelude.{ℕ, List, [], ◌∷◌, ◌++◌, codes}
+use Rattle.std.specs.Prelude.{ℕ, ◌-◌, ◌^◌, ◌==◌, if◌then◌else◌, List, [], ◌∷◌, ◌++◌, codes}
 use Rattle.std.specs.Fmt.{decimal}
 use Rattle.dg_base.specs.Status.{code_of}
+use Rattle.dg_drip_script.specs.declared.line.DripFault.{DripFault}
+use Rattle.dg_drip_script.specs.declared.line.DripFault.TheVariants as nodes
 use Rattle.dg_ihex.specs.declared.faults.HexCause.{HexCause}
 use Rattle.dg_ihex.specs.declared.faults.HexCause.TheVariants as hex
 use Rattle.dg_script.specs.declared.fault.LineFault.{LineFault}
@@ -11,6 +13,7 @@ use Rattle.dg_netcfg.specs.declared.profile.ProfileFault.{ProfileFault}
 use Rattle.dg_netcfg.specs.declared.profile.ProfileFault.TheVariants as profile
 use Rattle.dg_nor.specs.declared.files.FileFault.{FileFault}
 use Rattle.dg_nor.specs.declared.files.FileFault.TheVariants as file
+use Rattle.dg_messages.specs.Showing.{shown}
 use Rattle.dg_messages.specs.declared.causes.Refused.{Refused}
 use Rattle.dg_messages.specs.declared.causes.Refused.TheVariants as refused
 use Rattle.dg_net.specs.declared.cause.LinkCause.{LinkCause}
@@ -34,7 +37,7 @@ hex_before hex.Check = codes "the sum of a record is not 0, in line "
 hex_before hex.Kind = codes "a record has a type above 05, in line "
 hex_before hex.Shape = codes "a record has a count that its type does not allow, or passes address FFFF, in line "
 hex_before hex.Overlap = codes "an address is given for the second time in line "
-hex_before hex.Span = codes "the addresses lie more than 1048576 bytes apart with line "
+hex_before hex.Span = codes "the addresses span more than 1048576 bytes with line "
 hex_before hex.End = codes "the end record is missing, or records stand behind it, at line "
 hex_before hex.Memory = codes "memory ran out for the HEX file, at line "
 
@@ -83,12 +86,29 @@ script_after lines.Version = codes "; the least one is 1"
 script_after lines.Name = codes "; choose another one"
 script_after lines.Content = codes "; docs/SCRIPTS.md tells which are"
 script_after lines.Mask = codes "; it has 1 to 2048 bytes, as hex digits"
-script_after lines.Place = codes "; motes (nodes for drip) comes first, then golden or boards, then link, then events"
+script_after lines.Place = codes "; motes comes first, then golden or boards, then link and narrow, then events"
 script_after lines.Cut = codes "; put the event there that it interrupts"
 script_after lines.Long = codes "; declare shorter contents"
 
 abbrev pub script_sentence : LineFault → (line : ℕ) → List ℕ
 script_sentence cause line = script_before cause ++ decimal line ++ script_after cause
+
+-- ---- of a script of nodes
+
+abbrev pub nodes_before : DripFault → List ℕ
+nodes_before nodes.Long = codes "a line of nodes has more than 300000 bytes: line "
+nodes_before nodes.Verb = codes "no line of a script of nodes begins so, or it has another number of fields: line "
+nodes_before nodes.Place = codes "a line of nodes may not stand where it does, or nodes is missing before it: line "
+nodes_before nodes.Number = codes "a number, a node or a key is none of its range, or a node is named twice, in line "
+
+abbrev pub nodes_after : DripFault → List ℕ
+nodes_after nodes.Long = codes "; make it shorter"
+nodes_after nodes.Verb = codes "; docs/SCRIPTS.md tells which there are"
+nodes_after nodes.Place = codes "; nodes comes first, then link, then events"
+nodes_after nodes.Number = codes "; docs/SCRIPTS.md tells the ranges"
+
+abbrev pub nodes_sentence : DripFault → (line : ℕ) → List ℕ
+nodes_sentence cause line = nodes_before cause ++ decimal line ++ nodes_after cause
 
 -- ---- of the file of a chip
 
@@ -130,13 +150,17 @@ file_sentence cause = file_before cause ++ file_value cause ++ file_after cause
 
 -- ---- of a command that is refused
 
+-- the last version, and the last number of an order
+abbrev pub last_number : ℕ
+last_number = 2 ^ 32 - 1
+
 abbrev pub refusal_before : Refused → List ℕ
 refusal_before refused.Empty = codes "the image has no byte; give a HEX file that has data"
 refusal_before (refused.TooLarge length) = codes "the image has as many bytes as "
 refusal_before refused.Reserved = codes "image 0 is golden, which format alone writes; give --image from 1 to 6"
 refusal_before (refused.Stale version) = codes "version "
 refusal_before refused.Taken =
-    codes "this version is kept with other bytes or another name; give a larger --ver, or the same file and name"
+    codes "this version is kept with other bytes or another name; give the same file and name, a larger --ver or another image"
 refusal_before (refused.Worn room) = codes "the commits of this chip are spent, all but "
 refusal_before (refused.OldOrder number) = codes "an order is kept already, with number "
 refusal_before refused.Absent = codes "nothing is kept of this image; deluge ping tells which are kept"
@@ -149,15 +173,19 @@ abbrev pub refusal_after : Refused → List ℕ
 refusal_after refused.Empty = []
 refusal_after (refused.TooLarge length) = codes ", and 70656 are the most (68604 for wrap); gaps count"
 refusal_after refused.Reserved = []
-refusal_after (refused.Stale version) = codes " is kept already; give a larger --ver"
+refusal_after (refused.Stale version) =
+    if version == last_number then codes " is kept already, and no version is larger; take another image, or format the chip"
+    else codes " is kept already; give a larger --ver"
 refusal_after refused.Taken = []
 refusal_after (refused.Worn room) = codes "; take another chip"
-refusal_after (refused.OldOrder number) = codes "; give a larger --number"
+refusal_after (refused.OldOrder number) =
+    if number == last_number then codes ", and no number is larger; format the chip"
+    else codes "; give a larger --number"
 refusal_after refused.Absent = []
 refusal_after (refused.NotWhole done pages) = codes " pages are complete; let the mote go on, or give inject or receive again"
 refusal_after (refused.Broken page) = codes "; do not trust the image: compare the root, or bring a larger version"
 refusal_after refused.Shape = []
-refusal_after (refused.Foreign page) = codes " on; give the right root and its file, or a larger --ver for another file"
+refusal_after (refused.Foreign page) = codes " on; give it with its own root, or another file with a larger --ver"
 
 abbrev pub refusal_value : Refused → List ℕ
 refusal_value refused.Empty = []
@@ -230,10 +258,10 @@ output_sentence output.Failed = codes "standard output is closed, or a write of 
 abbrev pub misuse_sentence : Misuse → List ℕ
 misuse_sentence misuse.NoWord = codes "no command is given; deluge --help tells which there are"
 misuse_sentence (misuse.NoCommand word) =
-    codes "no command has the name " ++ word.now ++ codes "; deluge --help tells which there are"
+    codes "no command has the name " ++ shown word.now ++ codes "; deluge --help tells which there are"
 misuse_sentence misuse.NotText = codes "a word is not UTF-8, so none of a command; rename the file"
 misuse_sentence (misuse.Words what verb) =
-    codes "the words are no command: " ++ what.now ++ codes "; deluge " ++ verb.now ++ codes " --help tells which are"
+    codes "the words are no command: " ++ shown what.now ++ codes "; deluge " ++ shown verb.now ++ codes " --help tells which are"
 
 -- ---- of any cause
 
@@ -241,7 +269,10 @@ abbrev pub sentence_of : Told → List ℕ
 sentence_of told.Memory = codes "memory ran out; give the program more of it"
 sentence_of (told.Misused cause) = misuse_sentence cause
 sentence_of (told.Hex cause line) = hex_sentence cause line
+sentence_of told.RootLine =
+    codes "the first line is no record; where it is the root that wrap wrote, cut it off (tail -n +2), else give Intel HEX"
 sentence_of (told.Script cause line) = script_sentence cause line
+sentence_of (told.Nodes cause line) = nodes_sentence cause line
 sentence_of (told.Profile cause) = profile_sentence cause
 sentence_of (told.Input cause) = input_sentence cause
 sentence_of (told.Output cause) = output_sentence cause
@@ -249,6 +280,7 @@ sentence_of (told.File cause) = file_sentence cause
 sentence_of told.NamedTwice = codes "it is named twice; name each chip once"
 sentence_of told.Stopped = codes "the chip stopped; look at it by deluge ping"
 sentence_of told.NotAVolume = codes "it is no volume; name another file, or format it, which empties it"
+sentence_of told.InMemory = codes "no file of a chip is named, and chips in memory are no volumes; name their files"
 sentence_of (told.Refused cause) = refusal_sentence cause
 sentence_of (told.Link cause) = link_sentence cause
 sentence_of told.NoLink = codes "the link failed; look at the network of this machine"
@@ -264,8 +296,9 @@ sentence_of (told.Other status) =
 -- a word in front, which is left out where there is none
 abbrev pub front : List ℕ → List ℕ
 front [] = []
-front (c ∷ cs) = (c ∷ cs) ++ codes ": "
+front (c ∷ cs) = shown (c ∷ cs) ++ codes ": "
 
 -- the line that is told: the program, its command, what it is about, and the sentence
-abbrev pub message_of : (verb place : List ℕ) → Told → List ℕ
-message_of verb place cause = codes "deluge: " ++ front verb ++ front place ++ sentence_of cause ++ 10 ∷ []
+abbrev pub message_line : (program verb place : List ℕ) → Told → List ℕ
+message_line program verb place cause =
+    front program ++ front verb ++ front place ++ sentence_of cause ++ 10 ∷ []

@@ -1,5 +1,7 @@
 -- Which cause a sentence tells: each begins in its own way (docs/COMMANDS.md, "How a command ends").
 use Rattle.std.specs.Prelude.{ℕ, ◌+◌, ◌==◌, Bool, true, false, if◌then◌else◌, List, [], ◌∷◌, codes}
+use Rattle.dg_drip_script.specs.declared.line.DripFault.{DripFault}
+use Rattle.dg_drip_script.specs.declared.line.DripFault.TheVariants as nodes
 use Rattle.dg_ihex.specs.declared.faults.HexCause.{HexCause}
 use Rattle.dg_ihex.specs.declared.faults.HexCause.TheVariants as hex
 use Rattle.dg_script.specs.declared.fault.LineFault.{LineFault}
@@ -106,6 +108,12 @@ link_number (link.PortFailed port) = 67
 link_number (link.Send port) = 68
 link_number (link.Receive port) = 69
 
+abbrev pub nodes_number : DripFault → ℕ
+nodes_number nodes.Long = 77
+nodes_number nodes.Verb = 78
+nodes_number nodes.Place = 79
+nodes_number nodes.Number = 80
+
 abbrev pub cause_number : Told → ℕ
 cause_number told.Memory = 1
 cause_number (told.Misused cause) = misuse_number cause
@@ -126,6 +134,9 @@ cause_number told.TooMany = 72
 cause_number (told.NoBoard need have) = 73
 cause_number told.NoImage = 74
 cause_number (told.Other status) = 75
+cause_number told.RootLine = 76
+cause_number (told.Nodes cause line) = nodes_number cause
+cause_number told.InMemory = 81
 
 -- ---- and back from the text
 
@@ -145,7 +156,7 @@ openings =
     codes "memory ran out;" ∷ codes "no command is" ∷ codes "no command has" ∷ codes "a word" ∷ codes "the words" ∷
     codes "no colon" ∷ codes "a byte" ∷ codes "a record is" ∷ codes "the sum" ∷ codes "a record has a type" ∷
     codes "a record has a count" ∷ codes "an address" ∷ codes "the addresses" ∷ codes "the end" ∷
-    codes "memory ran out for the HEX" ∷ codes "memory ran out for the script" ∷ codes "the first" ∷
+    codes "memory ran out for the HEX" ∷ codes "memory ran out for the script" ∷ codes "the first word" ∷
     codes "a line has fewer" ∷ codes "a line has more fields" ∷ codes "a field" ∷ codes "a mote" ∷ codes "an image" ∷
     codes "a version" ∷ codes "a name" ∷ codes "a content" ∷ codes "a mask" ∷ codes "a line may" ∷ codes "a cut" ∷
     codes "a line has more than" ∷ codes "the profile is" ∷ codes "the profile has" ∷ codes "the motes of" ∷
@@ -157,7 +168,8 @@ openings =
     codes "the image is" ∷ codes "the digest" ∷ codes "the pages" ∷ codes "the file" ∷ codes "a port is in" ∷
     codes "a port is not" ∷ codes "a port cannot" ∷ codes "a send" ∷ codes "a receive" ∷ codes "the link " ∷
     codes "the input" ∷ codes "the script" ∷ codes "the motes are" ∷ codes "golden" ∷ codes "the command" ∷
-    []
+    codes "the first line" ∷ codes "a line of nodes has" ∷ codes "no line" ∷ codes "a line of nodes may" ∷ codes "a number" ∷
+    codes "no file" ∷ []
 
 -- the number of the cause that a sentence tells, 0 where it tells none
 abbrev pub told_number : List ℕ → ℕ

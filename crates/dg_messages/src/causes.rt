@@ -1,5 +1,6 @@
 //! What an operator is told.
 use dg_base::Status;
+use dg_drip_script::DripFault;
 use dg_ihex::HexCause;
 use dg_net::LinkCause;
 use dg_netcfg::ProfileFault;
@@ -68,6 +69,17 @@ pub enum Refused {
     Foreign { page: u32 },
 }
 
+/// What a command reads from standard input.
+#[derive(Clone, Copy, Debug, PartialEq, Eq)]
+pub enum Reads {
+    /// A script of nodes.
+    Nodes,
+    /// A HEX file that `wrap` made.
+    Wrapped,
+    /// Another HEX file, another text, or nothing.
+    Other,
+}
+
 /// Why a command did not do what it was asked.
 #[derive(Clone, Copy, Debug, PartialEq, Eq)]
 pub enum Told<'a> {
@@ -76,19 +88,26 @@ pub enum Told<'a> {
     Misused(Misuse<'a>),
     /// A line is no record of a HEX file.
     Hex { cause: HexCause, line: u32 },
+    /// The first line of a HEX file that `wrap` made is no record.
+    RootLine,
     /// A line is none of a script.
     Script { cause: LineFault, line: u32 },
+    /// A line is none of a script of nodes.
+    Nodes { cause: DripFault, line: u32 },
     /// The input is no profile of a network.
     Profile(ProfileFault),
     Input(InputFault),
     Output(OutputFault),
     /// The file of a chip is gone.
     File(FileFault),
-    /// Another chip has the file, by the same name.
+    /// Another chip of the command has the file, by the same name or by another one.
     NamedTwice,
     /// A chip stopped.
     Stopped,
+    /// A chip is no volume.
     NotAVolume,
+    /// A chip that is kept in memory is no volume.
+    InMemory,
     Refused(Refused),
     Link(LinkCause),
     /// The link failed.

@@ -3,16 +3,18 @@ ghost use Rattle.std.specs.Prelude.{◌≡◌, ◌++◌, OnOk};
 ghost use Rattle.dg_messages.specs.Sentences.{sentence_of, hex_sentence, script_sentence, profile_sentence, file_sentence};
 ghost use Rattle.dg_messages.specs.Sentences.{refusal_sentence, link_sentence, input_sentence, output_sentence};
 ghost use Rattle.dg_messages.specs.declared.causes.Told.TheVariants as told;
-ghost use Rattle.dg_messages.specs.Sentences.{misuse_sentence, file_value, refusal_value, link_value};
+ghost use Rattle.dg_messages.specs.Sentences.{misuse_sentence, nodes_sentence, file_value, refusal_value, link_value};
 
 use crate::causes::{Misuse, Refused, Told};
 use crate::tables::{
-    file_after, file_before, hex_after, hex_before, input_sentence, link_after, link_before,
-    output_sentence, profile_sentence, refusal_after, refusal_before, script_after, script_before,
+    file_after, file_before, hex_after, hex_before, in_memory_sentence, input_sentence, link_after,
+    link_before, nodes_after, nodes_before, output_sentence, profile_sentence, refusal_after,
+    refusal_before, root_line_sentence, script_after, script_before,
 };
 use crate::text::{
     push, push_decimal, push_number, push_part, push_two, push_two_words, push_word,
 };
+use dg_drip_script::DripFault;
 use dg_ihex::HexCause;
 use dg_net::LinkCause;
 use dg_nor::FileFault;
@@ -47,6 +49,24 @@ fn push_script(
         script_before(cause),
         u64::from(line),
         script_after(cause),
+    )
+}
+
+/// Appends the sentence of a cause of a script of nodes, in this line.
+fn push_nodes(
+    alloc: Global,
+    text: &mut Vec<u8>,
+    cause: DripFault,
+    line: u32,
+) -> Result<(), AllocError>
+    ensures { OnOk result (text.new.items ≡ text.old.items ++ nodes_sentence cause line) }
+{
+    push_number(
+        alloc,
+        text,
+        nodes_before(cause),
+        u64::from(line),
+        nodes_after(cause),
     )
 }
 
@@ -185,6 +205,8 @@ pub fn push_sentence(alloc: Global, text: &mut Vec<u8>, told: &Told<'_>) -> Resu
         Told::Memory => push(text, "memory ran out; give the program more of it"),
         Told::Misused(cause) => push_misuse(text, cause),
         Told::Hex { cause, line } => push_hex(alloc, text, cause, line),
+        Told::RootLine => push(text, root_line_sentence()),
+        Told::Nodes { cause, line } => push_nodes(alloc, text, cause, line),
         Told::Script { cause, line } => push_script(alloc, text, cause, line),
         Told::Profile(cause) => push(text, profile_sentence(cause)),
         Told::Input(cause) => push(text, input_sentence(cause)),
@@ -196,6 +218,7 @@ pub fn push_sentence(alloc: Global, text: &mut Vec<u8>, told: &Told<'_>) -> Resu
             text,
             "it is no volume; name another file, or format it, which empties it",
         ),
+        Told::InMemory => push(text, in_memory_sentence()),
         Told::Refused(cause) => push_refusal(alloc, text, cause),
         Told::Link(cause) => push_link(alloc, text, cause),
         Told::NoLink => push(text, "the link failed; look at the network of this machine"),

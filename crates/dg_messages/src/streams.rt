@@ -1,10 +1,13 @@
 //! Standard input and output, or any other reader and writer of std, that keep why they failed.
-ghost use Rattle.std.specs.Prelude.{◌≡◌, ◌≤◌, None};
+ghost use Rattle.std.specs.Prelude.{◌≡◌, ◌≤◌, ℕ, List, None, OnOk, OnErr};
+ghost use Rattle.dg_words.specs.Counts.{Rose};
+ghost use Rattle.dg_end.specs.Texts.{line};
+ghost use Rattle.dg_messages.specs.Keeping.{MayEnd, kept_of};
 
 use crate::causes::{InputFault, OutputFault};
+use arrayvec::ArrayVec;
 use dg_base::{ReadFailed, Sink, Source, WriteFailed};
 use std::io::{ErrorKind, Read, Write};
-use std::str;
 
 /// A reader as a source that tells no bytes. It keeps why its last read failed.
 #[derive(Drop)]
@@ -58,19 +61,18 @@ fn input_fault(kind: ErrorKind) -> InputFault {
     }
 }
 
-/// The most bytes of a last line.
+/// More bytes than a last line has.
 const MOST: usize = 192;
 
-/// A writer as a sink that tells no bytes. It keeps why its last write failed, and the end of what it wrote last.
+/// A writer as a sink that tells no bytes. It keeps why its last write failed, and the line that it wrote last. Each last line of
+/// a command is written by itself, is shorter than 192 bytes, and does not begin with `s`, as most lines of a report do: those
+/// are not kept.
 #[derive(Drop)]
 pub struct Output<W> {
     writer: W,
     fault: OutputFault,
     faults: u64,
-    kept: [u8; MOST],
-    /// The first bytes of `kept` that are kept.
-    count: usize,
-    ghost within: { count ≤ 192 },
+    kept: ArrayVec<u8, MOST>,
 }
 
 impl<W: Write> Output<W> {
@@ -82,8 +84,7 @@ impl<W: Write> Output<W> {
             writer,
             fault: OutputFault::Failed,
             faults: 0,
-            kept: [0; MOST],
-            count: 0,
+            kept: ArrayVec::new(),
         }
     }
 
@@ -94,37 +95,27 @@ impl<W: Write> Output<W> {
         self.fault
     }
 
-    /// The last line of what was written last, without its LF.
-    pub fn last_line(&self) -> &str {
-        match str::from_utf8(&self.kept[..self.count]) {
-            Ok(text) => last_of(text),
-            Err(_) => "",
+    /// The line that is kept, without its LF.
+    pub fn last_line(&self) -> &[u8]
+        ensures { (text : List ℕ) → kept_of self.now ≡ line text → result.now ≡ text }
+    {
+        match self.kept.split_last() {
+            Some((b'\n', text)) => text,
+            _ => self.kept.as_slice(),
         }
     }
 
-    /// Keeps the end of what was written.
+    /// Keeps what was written, if it may be a last line.
     fn keep(&mut self, bytes: &[u8])
-        ensures { self.new.faults ≡ self.old.faults }
+        ensures kept { MayEnd bytes.now → kept_of self.new ≡ bytes.now }
+        ensures faults { self.new.faults ≡ self.old.faults }
     {
-        let (kept, count) = end_of(bytes);
-        self.kept = kept;
-        self.count = count;
+        if bytes.first() == Some(&b's') {
+            return;
+        }
+        self.kept.clear();
+        let _ = self.kept.try_extend_from_slice(bytes);
     }
-}
-
-/// The last bytes, and how many there are.
-fn end_of(bytes: &[u8]) -> ([u8; MOST], usize)
-    ensures { result.1 ≤ 192 }
-{
-    let end = &bytes[bytes.len().saturating_sub(MOST)..];
-    let mut kept = [0; MOST];
-    kept[..end.len()].copy_from_slice(end);
-    (kept, end.len())
-}
-
-/// The last line of a text.
-fn last_of(text: &str) -> &str {
-    text.trim_end().rsplit('\n').next().unwrap_or("")
 }
 
 impl<W: Write> Sink for Output<W> {
@@ -132,7 +123,14 @@ impl<W: Write> Sink for Output<W> {
 
     ghost faults = { λ output. output.faults };
 
-    fn write(&mut self, bytes: &[u8]) -> Result<(), WriteFailed> {
+    fn write(&mut self, bytes: &[u8]) -> Result<(), WriteFailed>
+        ensures counts { self.old.faults ≤ self.new.faults }
+        ensures failed { OnErr result (Rose self.old.faults self.new.faults) }
+        ensures unfailed { OnOk result (self.new.faults ≡ self.old.faults) }
+
+        // What may be a last line is kept.
+        ensures kept { OnOk result (MayEnd bytes.now → kept_of self.new ≡ bytes.now) }
+    {
         match self.writer.write_all(bytes) {
             Ok(()) => {
                 self.keep(bytes);

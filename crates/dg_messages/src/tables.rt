@@ -2,14 +2,20 @@
 ghost use Rattle.std.specs.Prelude.{◌≡◌};
 ghost use Rattle.dg_messages.specs.Sentences.{hex_before, hex_after, script_before, script_after, file_before, file_after};
 ghost use Rattle.dg_messages.specs.Sentences.{refusal_before, refusal_after, link_before, link_after};
-ghost use Rattle.dg_messages.specs.Sentences.{profile_sentence, input_sentence, output_sentence};
+ghost use Rattle.dg_messages.specs.Sentences.{profile_sentence, input_sentence, output_sentence, nodes_before, nodes_after};
+ghost use Rattle.dg_messages.specs.Sentences.{sentence_of};
+ghost use Rattle.dg_messages.specs.declared.causes.Told.TheVariants as told;
 
 use crate::causes::{InputFault, OutputFault, Refused};
+use dg_drip_script::DripFault;
 use dg_ihex::HexCause;
 use dg_net::LinkCause;
 use dg_netcfg::ProfileFault;
 use dg_nor::FileFault;
 use dg_script::LineFault;
+
+/// The last version, and the last number of an order.
+const LAST_NUMBER: u32 = u32::MAX;
 
 /// What stands before the value of a cause of a HEX file.
 pub(crate) fn hex_before<'a>(cause: HexCause) -> &'a str
@@ -24,7 +30,7 @@ pub(crate) fn hex_before<'a>(cause: HexCause) -> &'a str
         HexCause::Shape =>
             "a record has a count that its type does not allow, or passes address FFFF, in line ",
         HexCause::Overlap => "an address is given for the second time in line ",
-        HexCause::Span => "the addresses lie more than 1048576 bytes apart with line ",
+        HexCause::Span => "the addresses span more than 1048576 bytes with line ",
         HexCause::End => "the end record is missing, or records stand behind it, at line ",
         HexCause::Memory => "memory ran out for the HEX file, at line ",
     }
@@ -88,9 +94,36 @@ pub(crate) fn script_after<'a>(cause: LineFault) -> &'a str
         LineFault::Content => "; docs/SCRIPTS.md tells which are",
         LineFault::Mask => "; it has 1 to 2048 bytes, as hex digits",
         LineFault::Place =>
-            "; motes (nodes for drip) comes first, then golden or boards, then link, then events",
+            "; motes comes first, then golden or boards, then link and narrow, then events",
         LineFault::Cut => "; put the event there that it interrupts",
         LineFault::Long => "; declare shorter contents",
+    }
+}
+
+/// What stands before the value of a cause of a script of nodes.
+pub(crate) fn nodes_before<'a>(cause: DripFault) -> &'a str
+    ensures { result.now ≡ nodes_before cause }
+{
+    match cause {
+        DripFault::Long => "a line of nodes has more than 300000 bytes: line ",
+        DripFault::Verb =>
+            "no line of a script of nodes begins so, or it has another number of fields: line ",
+        DripFault::Place =>
+            "a line of nodes may not stand where it does, or nodes is missing before it: line ",
+        DripFault::Number =>
+            "a number, a node or a key is none of its range, or a node is named twice, in line ",
+    }
+}
+
+/// What stands behind it.
+pub(crate) fn nodes_after<'a>(cause: DripFault) -> &'a str
+    ensures { result.now ≡ nodes_after cause }
+{
+    match cause {
+        DripFault::Long => "; make it shorter",
+        DripFault::Verb => "; docs/SCRIPTS.md tells which there are",
+        DripFault::Place => "; nodes comes first, then link, then events",
+        DripFault::Number => "; docs/SCRIPTS.md tells the ranges",
     }
 }
 
@@ -143,7 +176,7 @@ pub(crate) fn refusal_before<'a>(cause: Refused) -> &'a str
             "image 0 is golden, which format alone writes; give --image from 1 to 6",
         Refused::Stale { .. } => "version ",
         Refused::Taken =>
-            "this version is kept with other bytes or another name; give a larger --ver, or the same file and name",
+            "this version is kept with other bytes or another name; give the same file and name, a larger --ver or another image",
         Refused::Worn { .. } => "the commits of this chip are spent, all but ",
         Refused::OldOrder { .. } => "an order is kept already, with number ",
         Refused::Absent => "nothing is kept of this image; deluge ping tells which are kept",
@@ -163,9 +196,15 @@ pub(crate) fn refusal_after<'a>(cause: Refused) -> &'a str
         Refused::Empty => "",
         Refused::TooLarge { .. } => ", and 70656 are the most (68604 for wrap); gaps count",
         Refused::Reserved => "",
+        Refused::Stale {
+            version: LAST_NUMBER,
+        } => " is kept already, and no version is larger; take another image, or format the chip",
         Refused::Stale { .. } => " is kept already; give a larger --ver",
         Refused::Taken => "",
         Refused::Worn { .. } => "; take another chip",
+        Refused::OldOrder {
+            number: LAST_NUMBER,
+        } => ", and no number is larger; format the chip",
         Refused::OldOrder { .. } => "; give a larger --number",
         Refused::Absent => "",
         Refused::NotWhole { .. } =>
@@ -174,7 +213,7 @@ pub(crate) fn refusal_after<'a>(cause: Refused) -> &'a str
             "; do not trust the image: compare the root, or bring a larger version",
         Refused::Shape => "",
         Refused::Foreign { .. } =>
-            " on; give the right root and its file, or a larger --ver for another file",
+            " on; give it with its own root, or another file with a larger --ver",
     }
 }
 
@@ -220,6 +259,20 @@ pub(crate) fn profile_sentence<'a>(cause: ProfileFault) -> &'a str
             "the port of the profile is not from 1024 to 65500; choose another one",
         ProfileFault::Memory => "the profile found no memory; give the program more of it",
     }
+}
+
+/// The sentence of a HEX file that `wrap` made and whose first line is no record.
+pub(crate) fn root_line_sentence<'a>() -> &'a str
+    ensures { result.now ≡ sentence_of told.RootLine }
+{
+    "the first line is no record; where it is the root that wrap wrote, cut it off (tail -n +2), else give Intel HEX"
+}
+
+/// The sentence of chips that are kept in memory.
+pub(crate) fn in_memory_sentence<'a>() -> &'a str
+    ensures { result.now ≡ sentence_of told.InMemory }
+{
+    "no file of a chip is named, and chips in memory are no volumes; name their files"
 }
 
 /// The sentence of a cause of standard input.

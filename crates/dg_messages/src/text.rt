@@ -1,7 +1,9 @@
 //! Texts of words and values.
 ghost use Rattle.std.specs.Prelude.{◌≡◌, ◌++◌, OnOk, codes};
 ghost use Rattle.std.specs.Fmt.{decimal};
+ghost use Rattle.dg_messages.specs.Showing.{shown};
 
+use crate::showing::push_shown;
 use std::alloc::{AllocError, Global};
 
 /// Appends words.
@@ -12,21 +14,21 @@ pub(crate) fn push(text: &mut Vec<u8>, words: &str) -> Result<(), AllocError>
     Ok(())
 }
 
-/// Appends words around a word.
+/// Appends words around a word that is shown.
 pub(crate) fn push_word(
     text: &mut Vec<u8>,
     before: &str,
     word: &str,
     after: &str,
 ) -> Result<(), AllocError>
-    ensures { OnOk result (text.new.items ≡ text.old.items ++ (before.now ++ word.now ++ after.now)) }
+    ensures { OnOk result (text.new.items ≡ text.old.items ++ (before.now ++ shown word.now ++ after.now)) }
 {
     push(text, before)?;
-    push(text, word)?;
+    push_shown(text, word)?;
     push(text, after)
 }
 
-/// Appends words around two words.
+/// Appends words around two words that are shown.
 pub(crate) fn push_two_words(
     text: &mut Vec<u8>,
     before: &str,
@@ -36,7 +38,7 @@ pub(crate) fn push_two_words(
     after: &str,
 ) -> Result<(), AllocError>
     ensures { OnOk result (text.new.items ≡ text.old.items
-        ++ (before.now ++ first.now ++ between.now ++ second.now ++ after.now)) }
+        ++ (before.now ++ shown first.now ++ between.now ++ shown second.now ++ after.now)) }
 {
     push_word(text, before, first, between)?;
     push_word(text, "", second, after)
