@@ -58,6 +58,7 @@ Values:
   drip                                                    replay a script of small values
 
 A command that fails ends with a status from 1 to 13, and standard error tells why.
+A file of an older chip, with 679936 to 1085439 bytes, is lengthened as it is opened.
 deluge COMMAND --help tells what it reads and writes; docs/COMMANDS.md tells all.";
 
 /// An option that must be there, whose value is a number within bounds.
