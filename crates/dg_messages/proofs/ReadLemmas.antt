@@ -1,5 +1,5 @@
 -- Of each last line just its end is read.
-use Rattle.std.proofs.Common.{◌≡◌, ◌≢◌, ℕ, ◌<◌, ◌^◌, Bool, true, List, [], ◌∷◌, ◌++◌, length, Option, Some, None, decimal, refl, ap, sym, ◌∙◌, arith, codes, append_assoc}
+use Rattle.std.proofs.Common.{◌≡◌, ◌≢◌, ℕ, ◌<◌, ◌^◌, Bool, true, List, [], ◌∷◌, ◌++◌, Some, decimal, refl, ap, sym, ◌∙◌, arith, codes, append_assoc}
 use Rattle.std.proofs.lemmas.List.{append-nil, append_cancel_right}
 use Rattle.dg_base.specs.Hexadecimal.{hex_text}
 use Rattle.dg_base.specs.Numbers.{number_of}
@@ -21,18 +21,16 @@ use Rattle.dg_script.specs.Words.{split_of, words_of, behind_spaces}
 use Rattle.dg_script.specs.declared.fault.LineFault.{LineFault}
 use Rattle.dg_script.specs.declared.fault.LineFault.TheVariants as lines
 use Rattle.dg_script.proofs.WordsReadLemmas.{IsWord, words_spaced, number, hex_lacks}
-use Rattle.dg_end.specs.Lines.{bad_line, last_line, refusal_text, status_of}
+use Rattle.dg_end.specs.Lines.{last_line, refusal_text, status_of}
 use Rattle.dg_end.specs.Texts.{line, numbers}
 use Rattle.dg_end.specs.declared.ends.End.{End}
 use Rattle.dg_end.specs.declared.ends.End.TheVariants as ends
 use Rattle.dg_end.specs.declared.refusal.Refusal.{Refusal}
 use Rattle.dg_end.specs.declared.refusal.Refusal.TheVariants as refusals
-use Rattle.dg_messages.specs.LastLines.{or_zero, no_board_told, profile_told, profile_end, hex_told, hex_end, script_end, bad_input_told, refused_told, refusal_end, has_last_line, words_told, last_line_told, end_told, RefusalFits, EndFits}
+use Rattle.dg_messages.specs.LastLines.{or_zero, no_board_told, profile_end, hex_told, hex_end, script_end, bad_input_told, refused_told, refusal_end, has_last_line, last_line_told, end_told, RefusalFits, EndFits}
 use Rattle.dg_messages.specs.declared.causes.Reads.{Reads}
 use Rattle.dg_messages.specs.declared.causes.Reads.TheVariants as reads
-use Rattle.dg_messages.specs.declared.causes.Refused.{Refused}
 use Rattle.dg_messages.specs.declared.causes.Refused.TheVariants as refused
-use Rattle.dg_messages.specs.declared.causes.Told.{Told}
 use Rattle.dg_messages.specs.declared.causes.Told.TheVariants as told
 
 -- ---- words

@@ -1,24 +1,14 @@
 -- Each sentence tells its cause.
-use Rattle.std.proofs.Common.{◌≡◌, ◌≢◌, ℕ, refl}
-use Rattle.dg_drip_script.specs.declared.line.DripFault.{DripFault}
+use Rattle.std.proofs.Common.{◌≡◌, ◌≢◌, refl}
 use Rattle.dg_drip_script.specs.declared.line.DripFault.TheVariants as nodes
-use Rattle.dg_ihex.specs.declared.faults.HexCause.{HexCause}
 use Rattle.dg_ihex.specs.declared.faults.HexCause.TheVariants as hex
-use Rattle.dg_script.specs.declared.fault.LineFault.{LineFault}
 use Rattle.dg_script.specs.declared.fault.LineFault.TheVariants as lines
-use Rattle.dg_netcfg.specs.declared.profile.ProfileFault.{ProfileFault}
 use Rattle.dg_netcfg.specs.declared.profile.ProfileFault.TheVariants as profile
-use Rattle.dg_nor.specs.declared.files.FileFault.{FileFault}
 use Rattle.dg_nor.specs.declared.files.FileFault.TheVariants as file
-use Rattle.dg_messages.specs.declared.causes.Refused.{Refused}
 use Rattle.dg_messages.specs.declared.causes.Refused.TheVariants as refused
-use Rattle.dg_net.specs.declared.cause.LinkCause.{LinkCause}
 use Rattle.dg_net.specs.declared.cause.LinkCause.TheVariants as link
-use Rattle.dg_messages.specs.declared.causes.InputFault.{InputFault}
 use Rattle.dg_messages.specs.declared.causes.InputFault.TheVariants as input
-use Rattle.dg_messages.specs.declared.causes.OutputFault.{OutputFault}
 use Rattle.dg_messages.specs.declared.causes.OutputFault.TheVariants as output
-use Rattle.dg_messages.specs.declared.causes.Misuse.{Misuse}
 use Rattle.dg_messages.specs.declared.causes.Misuse.TheVariants as misuse
 use Rattle.dg_messages.specs.declared.causes.Told.{Told}
 use Rattle.dg_messages.specs.declared.causes.Told.TheVariants as told
