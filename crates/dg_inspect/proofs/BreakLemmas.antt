@@ -23,7 +23,8 @@ use Rattle.dg_volume.specs.Store.{App, Store, held}
 use Rattle.dg_volume.specs.Stands.{IsVolume}
 use Rattle.dg_volume.specs.Reading.{SlotKeeps, ProgramHolds}
 use Rattle.dg_volume.proofs.MountLemmas.{gathered}
-use Rattle.dg_inspect.specs.Breaks.{slot_state, HoldsGolden, HoldsHeader, HoldsDescriptor, HoldsSet, HoldsBehind, FailsBehind, FailsAt, IsSectorOf, BreaksAt}
+use Rattle.dg_inspect.specs.Breaks.{slot_state, HoldsGolden, HoldsHeader, HoldsDescriptor, HoldsSet, HoldsBehind, FailsBehind, FailsAt, IsSectorOf, BreaksBehind, IsByteOf, BreaksAt}
+use Rattle.dg_inspect.specs.Bytes.{BreaksPlace}
 use Rattle.dg_inspect.specs.declared.seen.Break.{Break}
 use Rattle.dg_inspect.specs.declared.seen.Condition.{Condition}
 use Rattle.dg_inspect.specs.declared.seen.Condition.TheVariants as condition
@@ -133,14 +134,26 @@ fails_with c p room (condition.Header i) controls fails = (p, room, controls, fa
 fails_with c p room (condition.Descriptor i) controls fails = (p, room, controls, fails)
 fails_with c p room condition.Program controls fails = (p, room, controls, fails)
 
+bytes_with : (c : List ℕ) (p : Snapshot) (room : ℕ) (x : Condition) (y : ℕ) → Controls c p room → BreaksBehind c p x y → IsByteOf c x y
+bytes_with c p room condition.Ledger y controls breaks = absurd breaks
+bytes_with c p room condition.Snapshot y controls breaks = absurd breaks
+bytes_with c p room condition.Golden y controls breaks = (p, room, controls, breaks)
+bytes_with c p room (condition.Header i) y controls breaks = (p, room, controls, breaks)
+bytes_with c p room (condition.Descriptor i) y controls breaks = (p, room, controls, breaks)
+bytes_with c p room condition.Program y controls breaks = (p, room, controls, breaks)
+
 pub breaks_behind : (c d e : List ℕ) (p : Snapshot) (room : ℕ) (r : Result (Option Break) Stopped) → d ≡ c → e ≡ c → Controls d p room
-    → IfOk r (λ found. IfSome found (λ b. FailsBehind e p b.condition)) → IfOk r (λ found. IfSome found (λ b. IsSectorOf e b.condition b.sector)) → IfOk r (λ found. IfSome found (BreaksAt c))
-breaks_behind c d e p room (Err x) s t controls fails place = tt
-breaks_behind c d e p room (Ok None) s t controls fails place = tt
-breaks_behind c d e p room (Ok (Some b)) s t controls fails place = record {
-  fails = fails_with c p room b.condition (subst (λ (x : List ℕ). Controls x p room) s controls) (subst (λ (x : List ℕ). FailsBehind x p b.condition) t fails);
-  sector = subst (λ (x : List ℕ). IsSectorOf x b.condition b.sector) t place;
-}
+    → IfOk r (λ found. IfSome found (λ b. FailsBehind e p b.condition)) → IfOk r (λ found. IfSome found (λ b. IsSectorOf e b.condition b.sector))
+    → IfOk r (λ found. IfSome found (λ b. BreaksBehind e p b.condition b.byte)) → IfOk r (λ found. IfSome found (BreaksAt c))
+breaks_behind c d e p room (Err x) s t controls fails place byte = tt
+breaks_behind c d e p room (Ok None) s t controls fails place byte = tt
+breaks_behind c d e p room (Ok (Some b)) s t controls fails place byte =
+    let held : Controls c p room = subst (λ (x : List ℕ). Controls x p room) s controls in
+    record {
+      fails = fails_with c p room b.condition held (subst (λ (x : List ℕ). FailsBehind x p b.condition) t fails);
+      sector = subst (λ (x : List ℕ). IsSectorOf x b.condition b.sector) t place;
+      byte = bytes_with c p room b.condition b.byte held (subst (λ (x : List ℕ). BreaksBehind x p b.condition b.byte) t byte);
+    }
 
 pub no_break : (c d e : List ℕ) (p : Snapshot) (room : ℕ) (r : Result (Option Break) Stopped) → d ≡ c → e ≡ c → Controls d p room
     → IfOk r (λ found. IsNone found → HoldsBehind e p) → IfOk r (λ found. IsNone found → IsVolume c)
@@ -148,8 +161,14 @@ no_break c d e p room (Err x) s t controls holds = tt
 no_break c d e p room (Ok found) s t controls holds = λ none. all_hold c p room (subst (λ (x : List ℕ). Controls x p room) s controls) (subst (λ (x : List ℕ). HoldsBehind x p) t (holds none))
 
 -- no snapshot is told
-pub snapshot_breaks : (c d : List ℕ) (n k : ℕ) (b : Break) → b.condition ≡ condition.Snapshot → b.sector ≡ k → k ≡ current n → HasCount c n → d ≡ c → ((p : Snapshot) (room : ℕ) → Controls d p room → ⊥) → BreaksAt c b
-snapshot_breaks c d n k b e at place counted same none = record {
-  fails = subst (FailsAt c) (sym e) ((n, counted), λ p room controls. none p room (subst (λ (x : List ℕ). Controls x p room) (sym same) controls));
-  sector = subst (λ (x : Condition). IsSectorOf c x b.sector) (sym e) (λ m other. at ∙ place ∙ ap current (one_HasCount c n m counted other));
+pub snapshot_breaks : (c : List ℕ) (n k y : ℕ) → k ≡ current n → HasCount c n → ((p : Snapshot) (room : ℕ) → Controls c p room → ⊥) → BreaksPlace (sector c k) y
+    → BreaksAt c (record { condition = condition.Snapshot; sector = k; byte = y })
+snapshot_breaks c n k y at counted none breaks = record {
+  fails = ((n, counted), none);
+  sector = λ m other. at ∙ ap current (one_HasCount c n m counted other);
+  byte = λ m other. subst (λ (j : ℕ). BreaksPlace (sector c j) y) (at ∙ ap current (one_HasCount c n m counted other)) breaks;
 }
+
+-- of a chip that was read on
+pub breaks_before : (c d : List ℕ) (r : Result Break Stopped) → d ≡ c → IfOk r (BreaksAt d) → IfOk r (BreaksAt c)
+breaks_before c d r same h = subst (λ (x : List ℕ). IfOk r (BreaksAt x)) same h

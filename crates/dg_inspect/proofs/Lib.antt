@@ -3,5 +3,6 @@ pub mod PageLemmas
 pub mod ImageLemmas
 pub mod StartingLemmas
 pub mod FactsLemmas
+pub mod ByteLemmas
 pub mod BreakLemmas
 pub mod SeenLemmas

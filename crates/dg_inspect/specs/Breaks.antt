@@ -15,6 +15,7 @@ use Rattle.dg_slot.specs.Pages.{page_in}
 use Rattle.dg_slot.specs.Header.{IsHeader}
 use Rattle.dg_slot.specs.Kept.{HasDescriptor}
 use Rattle.dg_volume.specs.Sizes.{images, golden_version}
+use Rattle.dg_inspect.specs.Bytes.{BreaksLedger, BreaksPlace, BreaksGolden, BreaksHeader, BreaksDescriptor, BreaksProgram}
 use Rattle.dg_inspect.specs.declared.seen.Condition.{Condition}
 use Rattle.dg_inspect.specs.declared.seen.Condition.TheVariants as condition
 use Rattle.dg_inspect.specs.declared.seen.Break.{Break}
@@ -87,9 +88,27 @@ IsSectorOf c (condition.Header i) k = k ≡ header_sector i
 IsSectorOf c (condition.Descriptor i) k = k ≡ page_sector i 0
 IsSectorOf c condition.Program k = k ≡ program_sector 0
 
+-- the first byte of it at which it breaks
+abbrev pub BreaksBehind : List ℕ → Snapshot → Condition → ℕ → Type 0
+BreaksBehind c p condition.Ledger b = ⊥
+BreaksBehind c p condition.Snapshot b = ⊥
+BreaksBehind c p condition.Golden b = BreaksGolden c (slot_state p 0) b
+BreaksBehind c p (condition.Header i) b = BreaksHeader c i (slot_state p i) b
+BreaksBehind c p (condition.Descriptor i) b = BreaksDescriptor c i (slot_state p i) b
+BreaksBehind c p condition.Program b = BreaksProgram c p.program b
+
+abbrev pub IsByteOf : List ℕ → Condition → ℕ → Type 0
+IsByteOf c condition.Ledger b = BreaksLedger (sector c ledger_sector) b
+IsByteOf c condition.Snapshot b = (n : ℕ) → HasCount c n → BreaksPlace (sector c (current n)) b
+IsByteOf c condition.Golden b = HasSnapshot c (λ p. BreaksBehind c p condition.Golden b)
+IsByteOf c (condition.Header i) b = HasSnapshot c (λ p. BreaksBehind c p (condition.Header i) b)
+IsByteOf c (condition.Descriptor i) b = HasSnapshot c (λ p. BreaksBehind c p (condition.Descriptor i) b)
+IsByteOf c condition.Program b = HasSnapshot c (λ p. BreaksBehind c p condition.Program b)
+
 pub record BreaksAt (c : List ℕ) (b : Break) : Type 0 where
   pub fails : FailsAt c b.condition
   pub sector : IsSectorOf c b.condition b.sector
+  pub byte : IsByteOf c b.condition b.byte
 
 -- all conditions behind the snapshot are met
 pub record HoldsBehind (c : List ℕ) (p : Snapshot) : Type 0 where

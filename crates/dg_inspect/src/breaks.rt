@@ -13,8 +13,11 @@ ghost use Rattle.dg_volume.specs.Sizes.{images};
 ghost use Rattle.dg_volume.specs.Stands.{IsVolume};
 ghost use Rattle.dg_inspect.specs.Breaks.{slot_state, HoldsGolden, HoldsHeader};
 ghost use Rattle.dg_inspect.specs.Breaks.{HoldsDescriptor, HoldsSet, HeadersTo, DescriptorsTo};
-ghost use Rattle.dg_inspect.specs.Breaks.{FailsBehind, IsSectorOf, BreaksAt, HoldsBehind};
+ghost use Rattle.dg_inspect.specs.Breaks.{FailsBehind, IsSectorOf, BreaksBehind, BreaksAt, HoldsBehind};
 
+use crate::bytes::{
+    descriptor_byte, golden_byte, header_byte, ledger_byte, place_byte, program_byte,
+};
 use crate::header::{HeaderSeen, header_sector, see_header};
 use crate::seen::{Break, Condition};
 use dg_control::{
@@ -172,39 +175,74 @@ fn holds_set<N: Nor>(nor: &mut N, program: Program) -> Result<bool, Stopped>
     Ok(descriptor.image == image && descriptor.version == version)
 }
 
-/// A condition that is read from the first byte of a sector on.
-fn broken(condition: Condition, sector: u32) -> Break
-    ensures condition { result.condition ≡ condition }
-    ensures sector { result.sector ≡ sector }
-{
-    Break {
-        condition,
-        sector,
-        byte: 0,
-    }
-}
-
 /// The first condition behind the control sectors that a chip with this snapshot does not meet.
 fn break_behind<N: Nor>(nor: &mut N, snapshot: &Snapshot) -> Result<Option<Break>, Stopped>
     ensures fails { IfOk result (λ found. IfSome found (λ b.
         FailsBehind (N.device nor.old).image snapshot.now b.condition)) }
     ensures sector { IfOk result (λ found. IfSome found (λ b. IsSectorOf (N.device nor.old).image b.condition b.sector)) }
+    ensures byte { IfOk result (λ found. IfSome found (λ b.
+        BreaksBehind (N.device nor.old).image snapshot.now b.condition b.byte)) }
     ensures none { IfOk result (λ found. IsNone found → HoldsBehind (N.device nor.old).image snapshot.now) }
     ensures ends { ReadEnds result (N.device nor.old) (N.device nor.new) }
 {
-    if !holds_golden(nor, snapshot.slots[usize::from(GOLDEN)])? {
-        return Ok(Some(broken(Condition::Golden, header_sector(GOLDEN))));
+    let golden = snapshot.slots[usize::from(GOLDEN)];
+    if !holds_golden(nor, golden)? {
+        return Ok(Some(Break {
+            condition: Condition::Golden,
+            sector: header_sector(GOLDEN),
+            byte: golden_byte(nor, golden)?,
+        }));
     }
     if let Some(image) = first_without_header(nor, snapshot)? {
-        return Ok(Some(broken(Condition::Header { image }, header_sector(image))));
+        return Ok(Some(Break {
+            condition: Condition::Header { image },
+            sector: header_sector(image),
+            byte: header_byte(nor, image, snapshot.slots[usize::from(image)])?,
+        }));
     }
     if let Some(image) = first_undescribed(nor, snapshot)? {
-        return Ok(Some(broken(Condition::Descriptor { image }, page_sector(image, 0))));
+        return Ok(Some(Break {
+            condition: Condition::Descriptor { image },
+            sector: page_sector(image, 0),
+            byte: descriptor_byte(nor, image, snapshot.slots[usize::from(image)])?,
+        }));
     }
     if !holds_set(nor, snapshot.program)? {
-        return Ok(Some(broken(Condition::Program, PROGRAM_SECTOR)));
+        return Ok(Some(Break {
+            condition: Condition::Program,
+            sector: PROGRAM_SECTOR,
+            byte: program_byte(nor, snapshot.program)?,
+        }));
     }
     Ok(None)
+}
+
+/// Why the control sectors of a chip with this count tell no snapshot.
+fn snapshot_break<N: Nor>(nor: &mut N, count: u16) -> Result<Break, Stopped>
+    requires count { HasCount (N.device nor.old).image count }
+    requires none { (p : Snapshot) (room : ℕ) → Controls (N.device nor.old).image p room → ⊥ }
+    ensures breaks { IfOk result (BreaksAt (N.device nor.old).image) }
+    ensures ends { ReadEnds result (N.device nor.old) (N.device nor.new) }
+{
+    let sector = CONTROL_SECTOR + u32::from(count % 2);
+    Ok(Break {
+        condition: Condition::Snapshot,
+        sector,
+        byte: place_byte(nor, sector)?,
+    })
+}
+
+/// Why sector 0 of a chip is no ledger.
+fn ledger_break<N: Nor>(nor: &mut N) -> Result<Break, Stopped>
+    requires { (n : ℕ) → HasCount (N.device nor.old).image n → ⊥ }
+    ensures breaks { IfOk result (BreaksAt (N.device nor.old).image) }
+    ensures ends { ReadEnds result (N.device nor.old) (N.device nor.new) }
+{
+    Ok(Break {
+        condition: Condition::Ledger,
+        sector: LEDGER_SECTOR,
+        byte: ledger_byte(nor)?,
+    })
 }
 
 /// The first condition of a volume that a chip does not meet. None where it is a volume.
@@ -214,11 +252,10 @@ pub fn find_break<N: Nor>(nor: &mut N) -> Result<Option<Break>, Stopped>
     ensures ends { ReadEnds result (N.device nor.old) (N.device nor.new) }
 {
     let Some(count) = ledger_count(nor)? else {
-        return Ok(Some(broken(Condition::Ledger, LEDGER_SECTOR)));
+        return Ok(Some(ledger_break(nor)?));
     };
     let Some(snapshot) = chip_snapshot(nor)? else {
-        let sector = CONTROL_SECTOR + u32::from(count % 2);
-        return Ok(Some(broken(Condition::Snapshot, sector)));
+        return Ok(Some(snapshot_break(nor, count)?));
     };
     break_behind(nor, &snapshot)
 }

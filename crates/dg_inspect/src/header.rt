@@ -2,9 +2,10 @@
 ghost use Rattle.std.specs.Prelude.{◌≡◌, ℕ, ◌<◌, ◌≤◌, IfOk, IfSome, IsNone};
 ghost use Rattle.std.specs.List.{sum_by};
 ghost use Rattle.std.specs.Int.{count_zeros, w8};
+ghost use Rattle.dg_words.specs.Cells.{part};
 ghost use Rattle.dg_nor.specs.Chip.{sector};
 ghost use Rattle.dg_nor.specs.Reads.{ReadEnds};
-ghost use Rattle.dg_slot.specs.Layout.{slots, header_sector};
+ghost use Rattle.dg_slot.specs.Layout.{slots, header_sector, header_size, gates_at, gates_size};
 ghost use Rattle.dg_slot.specs.Header.{header_bytes, gates_of, Heads, IsHeader};
 
 use dg_nor::{Nor, Stopped, read_in};
@@ -12,7 +13,7 @@ use dg_object::{FEWEST_PAGES, MOST_PAGES};
 use dg_slot::{Gates, Header, SIZE_OF_GATES, SIZE_OF_HEADER, page_sector};
 
 /// Where the gates begin in the sector of a header.
-const GATES_AT: u32 = 16;
+pub(crate) const GATES_AT: u32 = 16;
 
 /// The sector of the header of an image's slot, which is the one before page 0.
 pub(crate) fn header_sector(image: u8) -> u32
@@ -31,7 +32,7 @@ pub(crate) struct HeaderSeen {
 }
 
 /// The bytes that a header spells.
-fn header_bytes(image: u8, version: u32, seen: &HeaderSeen) -> Header
+pub(crate) fn header_bytes(image: u8, version: u32, seen: &HeaderSeen) -> Header
     ensures { result ≡ header_bytes image version seen.now.pages seen.now.crc }
 {
     let version = version.to_be_bytes();
@@ -43,7 +44,7 @@ fn header_bytes(image: u8, version: u32, seen: &HeaderSeen) -> Header
 }
 
 /// The gates of a slot with that many complete pages.
-fn gates_of(done: u8) -> Gates
+pub(crate) fn gates_of(done: u8) -> Gates
     ensures { result ≡ gates_of done }
 {
     let mut gates = [0; SIZE_OF_GATES];
@@ -85,6 +86,30 @@ fn header_seen(first: &Header, gates: &Gates, image: u8, version: u32) -> Option
         return None;
     }
     Some(seen)
+}
+
+/// The bytes of a header, and its gates.
+#[derive(Drop)]
+pub(crate) struct HeaderCells {
+    pub(crate) first: Header,
+    pub(crate) gates: Gates,
+}
+
+/// The bytes that stand where the header of a slot does.
+pub(crate) fn read_header<N: Nor>(nor: &mut N, image: u8) -> Result<HeaderCells, Stopped>
+    requires { image < slots }
+    ensures first { IfOk result (λ cells. cells.first
+        ≡ part (sector (N.device nor.old).image (header_sector image)) 0 header_size) }
+    ensures gates { IfOk result (λ cells. cells.gates
+        ≡ part (sector (N.device nor.old).image (header_sector image)) gates_at gates_size) }
+    ensures ends { ReadEnds result (N.device nor.old) (N.device nor.new) }
+{
+    let mut first: Header = [0; SIZE_OF_HEADER];
+    let mut gates: Gates = [0; SIZE_OF_GATES];
+    let index = header_sector(image);
+    read_in(nor, index, 0, &mut first)?;
+    read_in(nor, index, GATES_AT, &mut gates)?;
+    Ok(HeaderCells { first, gates })
 }
 
 /// What the header of a slot says, where it is one of that version.

@@ -6,6 +6,7 @@
 #![tactic(auto)]
 
 mod breaks;
+mod bytes;
 mod chip;
 mod faults;
 mod files;
@@ -17,6 +18,7 @@ mod orders;
 mod pages;
 mod seen;
 mod starting;
+mod unfit;
 
 pub use breaks::find_break;
 pub use chip::StillChip;

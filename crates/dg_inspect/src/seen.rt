@@ -137,8 +137,8 @@ pub enum Condition {
     Program,
 }
 
-/// The first condition of a volume that a chip does not meet, in the order in which they stand, and where that is read: a
-/// sector, and the byte of it from which on it is read.
+/// The first condition of a volume that a chip does not meet, in the order in which they stand, and where it breaks: a
+/// sector, and the first byte of it that is not as the condition needs it.
 #[derive(Clone, Copy, Debug, PartialEq, Eq)]
 pub struct Break {
     pub condition: Condition,
