@@ -1,0 +1,21 @@
+//! Bytes that are handed out in the caller's room.
+ghost use Rattle.std.specs.Prelude.{◌≡◌, ◌≢◌, ◌↔◌, ◌≤◌, ◌++◌, take, drop, length};
+ghost use Rattle.deluge_c.specs.Answers.{done};
+
+use crate::answers::{DONE, ROOM};
+
+/// Writes bytes to the beginning of the room, and how many, where there is room for them.
+pub(crate) fn put_bytes(bytes: &[u8], into: &mut [u8], count: &mut usize) -> u32
+    ensures answer { (result ≡ done) ↔ (length bytes.now ≤ length into.old) }
+    ensures counted { result ≡ done → count.new ≡ length bytes.now }
+    ensures written { result ≡ done → take count.new into.new ≡ bytes.now }
+    ensures refused { result ≢ done → (into.new ≡ into.old) × (count.new ≡ count.old) }
+    ensures one { result ≢ done → result ≡ ROOM }
+{
+    if bytes.len() > into.len() {
+        return ROOM;
+    }
+    into[..bytes.len()].copy_from_slice(bytes);
+    *count = bytes.len();
+    DONE
+}
