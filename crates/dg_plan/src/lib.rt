@@ -7,6 +7,8 @@
 mod command;
 mod plan;
 mod recording;
+mod starts;
 
 pub use command::Command;
 pub use plan::Plan;
+pub use starts::start;
