@@ -1,0 +1,5 @@
+pub mod Plans
+pub mod Overs
+pub mod Singles
+pub mod Rans
+pub mod Networks

@@ -1,0 +1,71 @@
+-- What a service of one mote did: the events that were applied at its mote, what it wrote, and how it left its board, the link
+-- and the clock. What is outside of it has a board for each mote, of which it has its own alone (docs/COMMANDS.md, "One mote a
+-- process").
+use Rattle.std.specs.Prelude.{◌≡◌, ◌≢◌, ◌⊎◌, ℕ, ◌<◌, ◌≤◌, Bool, List, [], ◌++◌, length, slice_get, Option, Some, None, option_map}
+use Rattle.std.specs.List.{AllByRecursion}
+use Rattle.dg_base.specs.Clock.{Answers, Answered}
+use Rattle.dg_base.specs.Outside.{Puts}
+use Rattle.dg_base.specs.declared.answers.Status.{Status}
+use Rattle.dg_base.specs.declared.events.Event.{Event}
+use Rattle.dg_link.specs.Inboxes.{emptied}
+use Rattle.dg_netcfg.specs.declared.profile.NetProfile.{NetProfile}
+use Rattle.dg_nor.specs.Device.{Device}
+use Rattle.dg_object.specs.Object.{Row}
+use Rattle.dg_volume.specs.Store.{Store}
+use Rattle.dg_volume.specs.Stands.{IsVolume}
+use Rattle.dg_world.specs.Boards.{BoardsEndure}
+use Rattle.dg_serve.specs.Services.{Part, Moment, Course, course}
+use Rattle.dg_serve.specs.Endings.{StoresOf, begins}
+use Rattle.dg_serve.specs.Standings.{IsEventAt}
+use Rattle.dg_serve.specs.Served.{Outside, Came, Wrote, AtPort, Causes, DidNotBegin, IsAtVolume}
+use Rattle.dg_serve.specs.declared.stop.Stop.{Stop}
+use Rattle.dg_single.specs.Overs.{latest_moment}
+use Rattle.dg_single.specs.Plans.{plan_of}
+
+-- the boards of the other motes are volumes, whatever they hold
+abbrev pub OthersAreVolumes : (motes mote : ℕ) → List Device → Type 0
+OthersAreVolumes motes mote boards = (m : ℕ) (a : Device) → m < motes → m ≢ mote → slice_get boards m ≡ Some a → IsVolume a.image
+
+-- From this moment on the service came as far as this. Where it did not stop, all turns were played, unless it is late.
+pub record MoteCame (why : Option Stop) (motes : ℕ) (s : Moment) (c : Course) (first : List Device) (after : Outside)
+    (all : Type 0) : Type 0 where
+  pub came : Came why motes s c first after
+  pub whole : why ≡ None → all ⊎ (latest_moment ≤ came.last.world.moment)
+
+-- The service began: its link was opened, and its clock read.
+pub record MoteRun (why : Option Stop) (profile : NetProfile) (mote seed turns : ℕ) (before after : Outside) : Type 0 where
+  pub origin : ℕ
+  pub clock : Option Answers
+  pub first : Answered before.clock clock origin
+  -- the events that were applied, in which turns the mote was to tick, the parts that were done, and those that are left
+  pub events : List Event
+  pub ticks : List Bool
+  pub done : List Part
+  pub left : List Part
+  pub parts : done ++ left ≡ plan_of mote ticks
+  pub few : length ticks ≤ turns
+  pub all : why ≡ None → left ≡ []
+  -- from whatever the boards stand for, and whatever the table of images is: the rules of a service look at none
+  pub came : (table : List Row) (stores : List Store) → StoresOf profile.motes before.boards stores
+      → OthersAreVolumes profile.motes mote before.boards
+      → MoteCame why profile.motes (begins table profile.links stores origin clock seed
+      (option_map (emptied profile.motes) before.inboxes))
+      (course done events left) before.boards after (length ticks ≡ turns)
+  -- each event was at the mote, and none where its board is no volume
+  pub own : AllByRecursion (IsEventAt mote) events
+  pub volumes : AllByRecursion (IsAtVolume before.boards) events
+  pub boards : BoardsEndure before.boards after.boards
+  pub port : AtPort profile before after
+
+-- It wrote the trace of its events, and then the last line of its status.
+pub record MoteBegan (answer : Status) (profile : NetProfile) (mote seed turns : ℕ) (before after : Outside) : Type 0 where
+  pub why : Option Stop
+  pub run : MoteRun why profile mote seed turns before after
+  pub text : List ℕ
+  pub put : Puts before.written after.written text
+  pub wrote : Wrote why answer profile (length before.boards) run.events text
+  pub causes : Causes answer before after
+
+abbrev pub MoteServed : Status → NetProfile → (mote seed turns : ℕ) → (before after : Outside) → Type 0
+MoteServed answer profile mote seed turns before after =
+    DidNotBegin answer profile before after ⊎ MoteBegan answer profile mote seed turns before after

@@ -1,0 +1,92 @@
+//! A service of one mote from its first line to its last.
+ghost use Rattle.std.specs.Prelude.{◌≡◌, ◌<◌, List, [], slice_set};
+ghost use Rattle.dg_mote.specs.Sizes.{BuffersFit, ValuesAreSmall};
+ghost use Rattle.dg_netcfg.specs.Readings.{IsAllowed};
+ghost use Rattle.dg_nor.specs.Device.{Device};
+ghost use Rattle.dg_serve.specs.Served.{outside};
+ghost use Rattle.dg_single.specs.Overs.{Owns};
+ghost use Rattle.dg_single.specs.Rans.{MoteRanTo};
+ghost use Rattle.dg_single.specs.Singles.{MoteServed};
+
+use crate::turns::run;
+use dg_base::{Clock, Sink, Status};
+use dg_link::Link;
+use dg_mote::a_mote_buffers_little;
+use dg_netcfg::NetProfile;
+use dg_nor::Nor;
+use dg_serve::{Stop, open_service, tell_stop};
+use std::alloc::Global;
+
+/// Runs a mote of a profile, which is wide, for so many turns, over its board, the link and the clock, and writes what
+/// happens to `out` as a script. In a turn the mote looks whether a frame came, and ticks where one did, where `watch` tells
+/// that something of it is due, or where it did not tick for a second of the watch.
+///
+/// It does what a service of all motes does at this one, whatever the boards of the others are.
+pub fn serve_mote<K: Sink, N: Nor, L: Link, C: Clock, W: Clock>(
+    alloc: Global,
+    profile: &NetProfile,
+    mote: u8,
+    board: &mut N,
+    link: &mut L,
+    clock: &mut C,
+    watch: &mut W,
+    seed: u32,
+    turns: u64,
+    out: &mut K,
+) -> Status
+    requires allowed { IsAllowed profile.now }
+    requires known { mote < profile.now.motes }
+    ensures served { (boards : List Device) → Owns profile.now.motes mote (N.device board.old) boards
+        → MoteServed result profile.now mote seed turns
+        (outside (K.written out.old) (K.faults out.old) (C.told clock.old) (L.inboxes link.old) (L.faults link.old)
+        (L.first_port link.old) boards)
+        (outside (K.written out.new) (K.faults out.new) (C.told clock.new) (L.inboxes link.new) (L.faults link.new)
+        (L.first_port link.new) (slice_set boards mote (N.device board.new))) }
+    // All arrays of bytes that are alive at once in a mote's call have no more than 256, and beside the outbox and its sets
+    // none lies in the value of a mote.
+    ensures buffers { BuffersFit × ValuesAreSmall }
+{
+    a_mote_buffers_little();
+    match serve_board(
+        alloc, profile, mote, board, link, clock, watch, seed, turns, out,
+    ) {
+        Ok(()) => Status::Done,
+        Err(stop) => tell_stop(stop, out),
+    }
+}
+
+/// The same, where the last line is not written yet.
+fn serve_board<K: Sink, N: Nor, L: Link, C: Clock, W: Clock>(
+    alloc: Global,
+    profile: &NetProfile,
+    mote: u8,
+    board: &mut N,
+    link: &mut L,
+    clock: &mut C,
+    watch: &mut W,
+    seed: u32,
+    turns: u64,
+    out: &mut K,
+) -> Result<(), Stop>
+    requires allowed { IsAllowed profile.now }
+    requires known { mote < profile.now.motes }
+    ensures ran { (boards : List Device) → Owns profile.now.motes mote (N.device board.old) boards
+        → MoteRanTo result profile.now mote seed turns
+        (outside (K.written out.old) (K.faults out.old) (C.told clock.old) (L.inboxes link.old) (L.faults link.old)
+        (L.first_port link.old) boards)
+        (outside (K.written out.new) (K.faults out.new) (C.told clock.new) (L.inboxes link.new) (L.faults link.new)
+        (L.first_port link.new) (slice_set boards mote (N.device board.new))) }
+{
+    let mut service = open_service(alloc, profile, link, clock, seed, out)?;
+    run(
+        &mut service,
+        turns,
+        profile,
+        mote,
+        board,
+        link,
+        clock,
+        watch,
+        out,
+    )
+}
