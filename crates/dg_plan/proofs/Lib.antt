@@ -1,2 +1,3 @@
 pub mod CommandLemmas
 mod StartLemmas
+mod TakeLemmas

@@ -8,7 +8,9 @@ mod command;
 mod plan;
 mod recording;
 mod starts;
+mod takes;
 
 pub use command::Command;
 pub use plan::Plan;
 pub use starts::start;
+pub use takes::{ActFault, take};

@@ -1,0 +1,46 @@
+//! A taking, planned: the chip is mounted, and the slot is taken.
+ghost use Rattle.std.specs.Prelude.{◌≡◌, ◌≢◌, ◌<◌, Some, Err, OnOk};
+ghost use Rattle.dg_object.specs.Records.{outline_of};
+ghost use Rattle.dg_volume.specs.Sizes.{images};
+ghost use Rattle.dg_volume.specs.Store.{Store};
+ghost use Rattle.dg_volume.specs.Stands.{Stands, IsNoVolume};
+ghost use Rattle.dg_volume.specs.Changes.{take_refusal};
+ghost use Rattle.dg_volume.specs.Trails.{take_trail};
+ghost use Rattle.dg_plan.specs.Plans.{planned, lists_of};
+ghost use Rattle.dg_plan.specs.Acts.{IsPlanOf};
+
+use crate::plan::Plan;
+use dg_object::Profile;
+use dg_volume::{MountFault, TakeFault, Volume};
+
+/// Why an act is not planned.
+#[derive(Clone, Copy, Debug, PartialEq, Eq)]
+pub enum ActFault<E> {
+    /// The plan was stopped before.
+    Unread,
+    /// The bytes of the chip are no volume.
+    NotAVolume,
+    /// The act is refused, or stopped, where the list or its bytes have no room.
+    Act(E),
+}
+
+/// Plans that the slot of an image is taken for a profile.
+pub fn take(plan: &mut Plan<'_>, profile: &Profile) -> Result<(), ActFault<TakeFault>>
+    requires { profile.now.image < images }
+    ensures planned { OnOk result ((s : Store) → Stands (planned plan.old) s
+        → IsPlanOf (take_trail s (outline_of profile.now)) plan.old plan.new) }
+    ensures same_lists { lists_of plan.new ≡ lists_of plan.old }
+    ensures no_volume { result ≡ Err ActFault.NotAVolume → IsNoVolume (planned plan.old) }
+    ensures refused { (e : TakeFault) → result ≡ Err (ActFault.Act e) → e ≢ TakeFault.Stopped → (s : Store)
+        → Stands (planned plan.old) s → take_refusal s (outline_of profile.now) ≡ Some e }
+{
+    let mut volume = match Volume::mount(plan) {
+        Ok(volume) => volume,
+        Err(MountFault::NotAVolume) => return Err(ActFault::NotAVolume),
+        Err(MountFault::Stopped) => return Err(ActFault::Unread),
+    };
+    match volume.take(plan, profile.image, profile) {
+        Ok(_) => Ok(()),
+        Err(fault) => Err(ActFault::Act(fault)),
+    }
+}
