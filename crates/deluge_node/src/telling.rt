@@ -1,13 +1,13 @@
 //! What is told on standard error.
 use dg_base::Status;
-use dg_messages::{Causes, Input, Misuse, Output, Told, push_sentence, told};
+use dg_messages::{Causes, Input, Misuse, Output, Reads, Told, push_sentence, told};
 use dg_net::LinkCause;
 use dg_nor::{Board, FileFault};
 use std::alloc::AllocError;
 use std::io::{IsTerminal, Read, Write};
 
 /// The last line where the number of motes is none, or not above that of the mote.
-const NO_MOTE: &str = "profile id";
+const NO_MOTE: &[u8] = b"profile id";
 
 /// What is known of a service that ended, besides its status and what its input and output keep.
 #[derive(Clone, Copy, Debug)]
@@ -63,6 +63,8 @@ pub(crate) fn tell_ended<R: Read, W: Write>(
     }
     let causes = Causes {
         misuse: Misuse::NoWord,
+        reads: Reads::Other,
+        in_memory: false,
         file: ended.file,
         named_twice: false,
         input: input.fault(),
