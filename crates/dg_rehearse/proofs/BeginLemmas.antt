@@ -1,5 +1,5 @@
 -- How a rehearsal begins: its world over chips that were formatted, and its first lines.
-use Rattle.std.proofs.Common.{◌≡◌, ℕ, zero, suc, ◌+◌, ◌<◌, ◌≤◌, List, [], ◌∷◌, ◌++◌, length, map, replicate, take, get_or, append-nil, append_assoc, refl, ap, sym, subst, ◌∙◌, arith}
+use Rattle.std.proofs.Common.{◌≡◌, ℕ, zero, suc, ◌+◌, ◌<◌, ◌≤◌, ⊎_elim, None, List, [], ◌∷◌, ◌++◌, length, map, replicate, take, get_or, append-nil, append_assoc, refl, ap, sym, subst, ◌∙◌, arith}
 use Rattle.std.specs.Prelude.{Some, slice_get, slice_index_or, codes}
 use Rattle.std.proofs.lemmas.List.{length-map, length-replicate, get_or-replicate, map-append, take_more, take_all}
 use Rattle.std.proofs.lemmas.Grind.{flat_map-append}
@@ -18,11 +18,12 @@ use Rattle.dg_volume.specs.Stands.{Stands}
 use Rattle.dg_volume.specs.Table.{row_at}
 use Rattle.dg_rules.specs.Runs.{Plays}
 use Rattle.dg_rules.specs.Steps.{declared_as}
+use Rattle.dg_rules.proofs.TableLemmas.{row_at-cons, not_none}
 use Rattle.dg_rules.specs.World.{World, Site, first_world, off_site, no_site}
 use Rattle.dg_world.specs.Boards.{WorldStands}
 use Rattle.dg_world.specs.Worlds.{IsWorld}
 use Rattle.dg_world.specs.declared.world.World.{World as KeptWorld}
-use Rattle.dg_rehearse.specs.Rehearsed.{IsStaged, Rehearses, AreFormatted, staging, base_row, base_chip, planned_row, rehearsed_world, declared_world, opening_lines, written, written_lines}
+use Rattle.dg_rehearse.specs.Rehearsed.{IsStaged, OnlyDeclared, AreFormatted, base_row, base_chip, planned_row, rehearsed_world, declared_world, opening_lines, written, written_lines}
 use Rattle.dg_rehearse.specs.declared.plan.Plan.{Plan}
 
 -- ---- the first world
@@ -48,25 +49,31 @@ first_stands n p old new f =
       others = λ m past. f.boards.others m (omega (arith, many, past));
     }
 
-first_run : (n : NetProfile) (p : Plan) → Rehearses n p [] (declared_world (rehearsed_world n) p)
-unfolding Plays
-first_run n p =
-    record {
-      fits = tt;
-      played = record { item = Declares (planned_row p); before = rehearsed_world n; after = declared_world (rehearsed_world n) p; reports = [] } ∷ [];
-      items = refl;
-      plays = (refl, record { world = refl; told = refl }, refl);
-    }
+-- the table has no row but golden
+only_golden : (n : NetProfile) (p : Plan) → OnlyDeclared (declared_world (rehearsed_world n) p)
+only_golden n p image version row low e =
+    ⊎_elim (λ here. let zero_is = here.1 in absurd (omega (arith, low, zero_is))) (λ there. absurd (not_none None row there refl)) (row_at-cons [] base_row row image version e)
 
 -- a rehearsal of no steps
 pub staged_first : (n : NetProfile) (p : Plan) (kept : KeptWorld) (old new : List Device) (script : List ℕ) → AreFormatted n.motes old new
-    → IsWorld kept new (declared_world (rehearsed_world n) p) → script ≡ written_lines (opening_lines n p) → IsStaged n p old (staging kept new script)
+    → IsWorld kept new (declared_world (rehearsed_world n) p) → script ≡ written_lines (opening_lines n p) → IsStaged n p old (record { kept = kept; boards = new; script = script; moment = 0 })
+unfolding Plays
 staged_first n p kept old new script formatted is wrote =
     record {
       steps = [];
       world = declared_world (rehearsed_world n) p;
-      run = first_run n p;
+      run = record {
+        fits = tt;
+        played = record { item = Declares (planned_row p); before = rehearsed_world n; after = declared_world (rehearsed_world n) p; reports = [] } ∷ [];
+        items = refl;
+        plays = (refl, record { world = refl; told = refl }, refl);
+      };
+      along = (tt, tt);
       count = first_count n p;
+      links = refl;
+      declared = refl;
+      table = only_golden n p;
+      moment = refl;
       is = is;
       stands = first_stands n p old new formatted;
       spelled = wrote ∙ ap written_lines (sym (append-nil (opening_lines n p)));

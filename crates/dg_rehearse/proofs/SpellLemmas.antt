@@ -360,14 +360,18 @@ plain_all n p steps allowed planned fits =
     (plain_motes n.motes few, (plain_golden, all_both IsPlain (map link_line n.links) (image_said p ∷ []) (plain_links n.motes n.links few (twos n.motes n.links (recursion_from_All (Joins n.motes) n.links allowed.links))) (plain_image n.motes p planned, tt)))
     (plain_steps n.motes steps few fits)
 
-spells : (n : NetProfile) (p : Plan) (steps : List Step) (script : List ℕ) → IsAllowed n → IsPlanned n.motes p → AllByRecursion (IsRehearsedStep n.motes) steps → script ≡ written_lines (rehearsed_lines n p steps)
+pub spells : (n : NetProfile) (p : Plan) (steps : List Step) (script : List ℕ) → IsAllowed n → IsPlanned n.motes p → AllByRecursion (IsRehearsedStep n.motes) steps → script ≡ written_lines (rehearsed_lines n p steps)
     → SpellsScript script (rehearsed_lines n p steps)
 spells n p steps script allowed planned fits is =
     ap (λ (xs : List (List ℕ)). script_from true first_place 1 xs) (ap lines is ∙ lines_written (rehearsed_lines n p steps) (plain_all n p steps allowed planned fits))
     ∙ script_read first_place 1 (rehearsed_lines n p steps) (lines_read n p steps allowed planned fits)
 
+-- the links of a profile join two of its motes
+pub links_fit : (n : NetProfile) → IsAllowed n → AllByRecursion (λ l. AreTwo n.motes l.0 l.1) n.links
+links_fit n allowed = twos n.motes n.links (recursion_from_All (Joins n.motes) n.links allowed.links)
+
 -- what was staged is a rehearsal
-pub rehearsed : (n : NetProfile) (p : Plan) (s : Staging) (initial : List Device) → IsAllowed n → IsPlanned n.motes p → IsStaged n p initial s → Rehearsed n p initial s.boards s.script
+abbrev pub rehearsed : (n : NetProfile) (p : Plan) (s : Staging) (initial : List Device) → IsAllowed n → IsPlanned n.motes p → IsStaged n p initial s → Rehearsed n p initial s.boards s.script
 rehearsed n p s initial allowed planned t =
     record {
       steps = t.steps;

@@ -1,12 +1,13 @@
 -- Lines that are written, one after the other.
 use Rattle.std.proofs.Common.{◌≡◌, ℕ, List, [], ◌∷◌, ◌++◌, append-nil, append_assoc, ap, sym, ◌∙◌}
-use Rattle.std.specs.Prelude.{Some, None}
+use Rattle.std.specs.Prelude.{Some}
 use Rattle.std.specs.List.{flat_map}
 use Rattle.std.proofs.lemmas.Grind.{flat_map-append}
 use Rattle.dg_base.specs.declared.events.Event.{Event}
 use Rattle.dg_base.specs.declared.events.Cut.{Cut as PowerCut}
 use Rattle.dg_base.specs.declared.events.Step.{Step}
 use Rattle.dg_netcfg.specs.declared.profile.NetProfile.{NetProfile}
+use Rattle.dg_world.specs.Alone.{uncut}
 use Rattle.dg_script.specs.declared.line.Line.{Line}
 use Rattle.dg_script.specs.declared.line.Line.TheVariants.{Cut, Happens}
 use Rattle.dg_rehearse.specs.Rehearsed.{step_lines, opening_lines, rehearsed_lines, written, written_lines}
@@ -27,9 +28,6 @@ lines_more : (n : NetProfile) (p : Plan) (steps : List Step) (x : Step) → rehe
 lines_more n p steps x =
     ap (λ ls. opening_lines n p ++ ls) (flat_map-append step_lines steps (x ∷ []) ∙ ap (λ ls. flat_map step_lines steps ++ ls) (append-nil (step_lines x)))
     ∙ sym (append_assoc (opening_lines n p) (flat_map step_lines steps) (step_lines x))
-
-abbrev pub uncut : Event → Step
-uncut event = record { event = event; cut = None }
 
 abbrev pub cut_by : PowerCut → Event → Step
 cut_by cut event = record { event = event; cut = Some cut }

@@ -1,5 +1,5 @@
 -- A rehearsal: the script that was written, and the run that it tells (docs/COMMANDS.md, "Rehearsing by the clock").
-use Rattle.std.specs.Prelude.{◌≡◌, ℕ, ◌<◌, ◌≤◌, true, false, Option, Some, None, IfSome}
+use Rattle.std.specs.Prelude.{◌≡◌, ◌⊎◌, ℕ, ◌+◌, ◌<◌, ◌≤◌, true, false, Option, Some, None, IfSome, IsSomeAnd}
 use Rattle.std.specs.Prelude.{List, slice_get, [], ◌∷◌, ◌++◌, map, replicate, length, codes}
 use Rattle.std.specs.List.{AllByRecursion, flat_map}
 use Rattle.std.specs.Str.Lines.{lines}
@@ -21,14 +21,19 @@ use Rattle.dg_script.specs.Spelling.{line_text}
 use Rattle.dg_script.specs.declared.line.Line.{Line}
 use Rattle.dg_script.specs.declared.line.Line.TheVariants.{Motes, Golden, Link, Image, Cut as CutLine, Happens as EventLine}
 use Rattle.dg_rules.specs.Runs.{Played, Plays}
-use Rattle.dg_rules.specs.World.{World, first_world}
+use Rattle.dg_rules.specs.Sizes.{most_events}
+use Rattle.dg_rules.specs.World.{World, Sent, first_world, frame_at}
+use Rattle.dg_netcfg.specs.Readings.{IsAllowed}
 use Rattle.dg_volume.specs.Stands.{Stands}
+use Rattle.dg_volume.specs.Table.{row_at}
 use Rattle.dg_world.specs.Boards.{WorldStands}
 use Rattle.dg_world.specs.Counts.{NoneRose}
 use Rattle.dg_world.specs.Formatted.{FirstBoards}
 use Rattle.dg_world.specs.Worlds.{IsWorld}
 use Rattle.dg_world.specs.declared.world.World.{World as KeptWorld}
 use Rattle.dg_rehearse.specs.declared.plan.Plan.{Plan}
+use Rattle.dg_rehearse.specs.declared.stage.Stage.{Stage}
+use Rattle.dg_rehearse.specs.Along.{IsAlong, IsAlongEvent}
 
 -- ---- where it begins
 
@@ -127,14 +132,19 @@ pub record IsPlanned (motes : ℕ) (p : Plan) : Type 0 where
 
 -- ---- what is promised
 
--- a world as the code keeps it, the boards, and the script so far
+-- a world as the code keeps it, the boards, the script so far, and the moment in milliseconds
 pub record Staging : Type 0 where
   pub kept : KeptWorld
   pub boards : List Device
   pub script : List ℕ
+  pub moment : ℕ
 
-abbrev pub staging : KeptWorld → List Device → List ℕ → Staging
-staging kept boards script = record { kept = kept; boards = boards; script = script }
+abbrev pub staging : Stage → List Device → Staging
+staging stage boards = record { kept = stage.world; boards = boards; script = stage.script.items; moment = stage.moment }
+
+-- the table of images has no rows but golden and those that were declared
+abbrev pub OnlyDeclared : World → Type 0
+OnlyDeclared w = (image version : ℕ) (row : Row) → 1 ≤ image → row_at w.table image version ≡ Some row → row_at w.declared image version ≡ Some row
 
 -- The script spells the steps that were played so far, and the boards, which were `initial` before they were formatted, stand
 -- for the world then.
@@ -142,22 +152,78 @@ pub record IsStaged (n : NetProfile) (p : Plan) (initial : List Device) (s : Sta
   pub steps : List Step
   pub world : World
   pub run : Rehearses n p steps world
+  pub along : AllByRecursion (IsAlong n) run.played
   pub count : length world.sites ≡ n.motes
+  pub links : world.links ≡ n.links
+  pub declared : world.declared ≡ planned_row p ∷ []
+  pub table : OnlyDeclared world
+  pub moment : s.moment ≡ world.moment
   pub is : IsWorld s.kept s.boards world
   pub stands : WorldStands world initial s.boards
   pub spelled : s.script ≡ written_lines (rehearsed_lines n p steps)
 
--- a rehearsal of so many motes is under way
-pub record IsUnderWay (motes : ℕ) (s : Staging) : Type 0 where
-  pub profile : NetProfile
-  pub plan : Plan
+-- a rehearsal of a plan is under way
+pub record IsUnderWay (n : NetProfile) (p : Plan) (s : Staging) : Type 0 where
+  pub allowed : IsAllowed n
+  pub planned : IsPlanned n.motes p
   pub initial : List Device
-  pub count : profile.motes ≡ motes
-  pub staged : IsStaged profile plan initial s
+  pub staged : IsStaged n p initial s
 
--- whatever was staged so far, it goes on
-pub record GoesOn (s t : Staging) : Type 0 where
-  pub goes : (n : NetProfile) (p : Plan) (initial : List Device) → IsStaged n p initial s → IsStaged n p initial t
+-- What was staged goes on: these steps were played more, and these frames were sent.
+pub record Onward (n : NetProfile) (p : Plan) (initial : List Device) (s : Staging) (x : IsStaged n p initial s) (t : Staging) : Type
+    0 where
+  pub staged : IsStaged n p initial t
+  pub more : List Step
+  pub steps : staged.steps ≡ x.steps ++ more
+  pub frames : List Sent
+  pub sent : staged.world.sent ≡ x.world.sent ++ frames
+
+-- It goes on, whatever the boards were before, by steps to a world of which P holds.
+pub record GoesOnBy (P : List Step → World → Type 0) (n : NetProfile) (p : Plan) (s t : Staging) : Type 0 where
+  pub goes : (initial : List Device) (x : IsStaged n p initial s) → (o : Onward n p initial s x t) × P o.more o.staged.world
+  pub events : s.kept.events ≤ t.kept.events
+
+abbrev pub Any : List Step → World → Type 0
+Any more w = Unit {0}
+
+abbrev pub GoesOn : NetProfile → Plan → (s t : Staging) → Type 0
+GoesOn n p s t = GoesOnBy Any n p s t
+
+-- one event more at least
+abbrev pub MoreEvents : (s t : Staging) → Type 0
+MoreEvents s t = s.kept.events + 1 ≤ t.kept.events
+
+-- there are no more events
+abbrev pub IsFull : Staging → Type 0
+IsFull t = t.kept.events ≡ most_events
+
+-- exactly this step was played
+abbrev pub Makes : Step → NetProfile → Plan → (s t : Staging) → Type 0
+Makes x n p s t = GoesOnBy (λ more w. more ≡ x ∷ []) n p s t × MoreEvents s t
+
+-- ---- frames
+
+-- mote m sent at most one frame
+abbrev pub SendsAtMost : ℕ → (old new : List Sent) → Type 0
+SendsAtMost m old new = (new ≡ old) ⊎ ((bytes : List ℕ) × (new ≡ old ++ record { by = m; bytes = bytes } ∷ []))
+
+abbrev pub SendsOnly : ℕ → (s t : Staging) → Type 0
+SendsOnly m s t = (w v : World) → IsWorld s.kept s.boards w → IsWorld t.kept t.boards v → SendsAtMost m w.sent v.sent
+
+-- the frame with this number was sent by mote m
+abbrev pub IsSentBy : ℕ → ℕ → World → Type 0
+IsSentBy m number w = IsSomeAnd (frame_at w number) (λ f. f.by ≡ m)
+
+abbrev pub SentBy : ℕ → ℕ → Staging → Type 0
+SentBy m number s = (w : World) → IsWorld s.kept s.boards w → IsSentBy m number w
+
+-- so was the last one, if there are more than so many
+abbrev pub LastSentBy : ℕ → (before : ℕ) → Staging → Type 0
+LastSentBy m before s = (w : World) → IsWorld s.kept s.boards w → before < length w.sent → IsSentBy m (length w.sent) w
+
+-- an event may be played: a frame that it delivers goes along a link
+abbrev pub GoesAlong : NetProfile → Event → Staging → Type 0
+GoesAlong n event s = (w : World) → IsWorld s.kept s.boards w → IsAlongEvent n w event
 
 -- A rehearsal was written: the bytes are a script of the steps that were played, and the boards stand for the world to which its
 -- run leads.

@@ -3,6 +3,7 @@ ghost use Rattle.std.specs.Prelude.{◌≡◌, ◌≢◌, ◌⊎◌, ◌<◌, �
 ghost use Rattle.dg_netcfg.specs.Readings.{IsAllowed};
 ghost use Rattle.dg_script.specs.Ranges.{IsDeclared};
 ghost use Rattle.dg_object.specs.Sizes.{most_bytes};
+ghost use Rattle.dg_rehearse.specs.Ended.{Ended, DeliversAlong};
 ghost use Rattle.dg_rehearse.specs.Rehearsed.{Rehearsed, IsPlanned, planned_row};
 ghost use Rattle.dg_rehearse.specs.declared.stop.Stop.{Stop};
 
@@ -13,6 +14,7 @@ use crate::stop::{Halt, Stop};
 use dg_netcfg::NetProfile;
 use dg_nor::Nor;
 use dg_object::{check_size, pages_of};
+use dg_rules::scripts_with_golden;
 use std::alloc::Global;
 
 /// Plays what is planned by the clock, over chips that are formatted first, and answers the script of it.
@@ -25,6 +27,10 @@ pub fn rehearse<N: Nor>(
     requires allowed { IsAllowed profile.now }
     requires declared { IsDeclared (planned_row plan.now) }
     ensures rehearsed { IfOk result (λ r. Rehearsed profile.now plan.now (map N.device boards.old.items)
+        (map N.device boards.new.items) r.script.items) }
+    // every mote has the image, or the minutes are over, or a script has no room for more
+    ensures ends { IfOk result (Ended profile.now plan.now (map N.device boards.old.items) (map N.device boards.new.items)) }
+    ensures along { IfOk result (λ r. DeliversAlong profile.now plan.now (map N.device boards.old.items)
         (map N.device boards.new.items) r.script.items) }
     ensures no_mote { result ≡ Err Stop.NoMote → profile.now.motes ≤ plan.now.at }
     ensures no_board { result ≡ Err Stop.NoBoard → length boards.old.items < profile.now.motes }
@@ -51,13 +57,17 @@ fn play<N: Nor>(
     requires allowed { IsAllowed profile.now }
     requires planned { IsPlanned profile.now.motes plan.now }
     requires boards { profile.now.motes ≤ length boards.old.items }
-    ensures { IfOk result (λ r. Rehearsed profile.now plan.now (map N.device boards.old.items)
+    ensures rehearsed { IfOk result (λ r. Rehearsed profile.now plan.now (map N.device boards.old.items)
+        (map N.device boards.new.items) r.script.items) }
+    ensures ends { IfOk result (Ended profile.now plan.now (map N.device boards.old.items) (map N.device boards.new.items)) }
+    ensures along { IfOk result (λ r. DeliversAlong profile.now plan.now (map N.device boards.old.items)
         (map N.device boards.new.items) r.script.items) }
 {
+    scripts_with_golden();
     let pages = pages_of(plan.content.as_slice().len() as u32);
     let mut stage = Stage::set(alloc, profile, plan, boards)?;
     let mut schedule = Schedule::of(plan, pages);
-    let ending = schedule.play(alloc, profile.motes, plan, &mut stage, boards)?;
+    let ending = schedule.play(alloc, profile, plan, &mut stage, boards)?;
     let Stage { script, moment, .. } = stage;
     Ok(Rehearsal {
         script,

@@ -1,13 +1,14 @@
 //! Resets whose power is cut within the start, at moments that draws choose.
-ghost use Rattle.std.specs.Prelude.{◌≤◌, map, OnOk, IfOk};
+ghost use Rattle.std.specs.Prelude.{◌≡◌, ◌≤◌, map, Ok, OnOk, IfOk};
 ghost use Rattle.dg_script.specs.Fitting.{FitsCut};
-ghost use Rattle.dg_rehearse.specs.Rehearsed.{IsUnderWay, GoesOn, staging};
+ghost use Rattle.dg_rehearse.specs.Rehearsed.{IsUnderWay, GoesOn, MoreEvents, IsFull, staging};
 
 use crate::plan::Plan;
 use crate::schedule::{Schedule, since};
 use crate::stage::{Played, Stage};
 use crate::stop::Halt;
 use dg_base::{Bytes, Cut, Event};
+use dg_netcfg::NetProfile;
 use dg_nor::Nor;
 use std::alloc::{AllocError, Global};
 
@@ -22,26 +23,28 @@ impl Schedule {
     pub(crate) fn cut<N: Nor>(
         &mut self,
         alloc: Global,
-        motes: u8,
         moment: u64,
+        profile: &NetProfile,
         plan: &Plan,
         stage: &mut Stage,
         boards: &mut Vec<N>,
     ) -> Result<Played, Halt>
-        requires under_way { IsUnderWay motes
-            (staging stage.old.world (map N.device boards.old.items) stage.old.script.items) }
-        requires some { 1 ≤ motes }
-        ensures { OnOk result (GoesOn (staging stage.old.world (map N.device boards.old.items) stage.old.script.items)
-            (staging stage.new.world (map N.device boards.new.items) stage.new.script.items)) }
+        requires under_way { IsUnderWay profile.now plan.now (staging stage.old (map N.device boards.old.items)) }
+        requires some { 1 ≤ profile.now.motes }
+        ensures goes_on { OnOk result (GoesOn profile.now plan.now (staging stage.old (map N.device boards.old.items))
+            (staging stage.new (map N.device boards.new.items))) }
+        ensures events { result ≡ Ok Played.Done → MoreEvents (staging stage.old (map N.device boards.old.items))
+            (staging stage.new (map N.device boards.new.items)) }
+        ensures full { result ≡ Ok Played.TooMany → IsFull (staging stage.new (map N.device boards.new.items)) }
     {
-        let mote = (self.draws.next() % u32::from(motes)) as u8;
+        let mote = (self.draws.next() % u32::from(profile.motes)) as u8;
         let dt = since(stage.moment, moment);
         let word = self.draws.next();
         let cut = self.drawn_cut(alloc)?;
         self.cuts = self.cuts.saturating_sub(1);
         self.next_cut = moment.saturating_add(u64::from(self.draws.next() % BETWEEN_CUTS));
         let event = Event::Reset { mote, dt, word };
-        let played = stage.play_cut(cut, event, dt, boards)?;
+        let played = stage.play_cut(profile, plan, cut, event, boards)?;
         self.note(mote, plan, stage);
         Ok(played)
     }

@@ -6,12 +6,14 @@
 mod beginning;
 mod call;
 mod cutting;
+mod neighbours;
 mod opening;
 mod plan;
 mod progress;
 mod schedule;
 mod stage;
 mod stop;
+mod telling;
 
 pub use call::rehearse;
 pub use plan::{Ending, Plan, Rehearsal};

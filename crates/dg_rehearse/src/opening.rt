@@ -1,30 +1,31 @@
 //! How a rehearsal begins: the power of each mote comes, and the image is injected.
-ghost use Rattle.std.specs.Prelude.{◌<◌, map, OnOk};
-ghost use Rattle.dg_rehearse.specs.Rehearsed.{IsPlanned, IsUnderWay, GoesOn, staging};
+ghost use Rattle.std.specs.Prelude.{◌≡◌, ◌<◌, map, Ok, OnOk};
+ghost use Rattle.dg_rehearse.specs.Ended.{IsBegun, IsOrdered};
+ghost use Rattle.dg_rehearse.specs.Rehearsed.{IsUnderWay, GoesOn, GoesOnBy, IsFull, staging};
 
 use crate::plan::Plan;
 use crate::schedule::Schedule;
 use crate::stage::{Played, Stage};
 use crate::stop::Halt;
 use dg_base::Event;
+use dg_netcfg::NetProfile;
 use dg_nor::Nor;
 
 impl Schedule {
     /// The power of each mote comes.
     pub(crate) fn start_all<N: Nor>(
         &mut self,
-        motes: u8,
+        profile: &NetProfile,
         plan: &Plan,
         stage: &mut Stage,
         boards: &mut Vec<N>,
     ) -> Result<(), Halt>
-        requires under_way { IsUnderWay motes
-            (staging stage.old.world (map N.device boards.old.items) stage.old.script.items) }
-        ensures { OnOk result (GoesOn (staging stage.old.world (map N.device boards.old.items) stage.old.script.items)
-            (staging stage.new.world (map N.device boards.new.items) stage.new.script.items)) }
+        requires under_way { IsUnderWay profile.now plan.now (staging stage.old (map N.device boards.old.items)) }
+        ensures goes_on { OnOk result (GoesOn profile.now plan.now (staging stage.old (map N.device boards.old.items))
+            (staging stage.new (map N.device boards.new.items))) }
     {
-        for mote in 0..motes {
-            self.start(motes, mote, plan, stage, boards)?;
+        for mote in 0..profile.motes {
+            self.start(mote, profile, plan, stage, boards)?;
         }
         Ok(())
     }
@@ -32,36 +33,36 @@ impl Schedule {
     /// The power of a mote comes.
     fn start<N: Nor>(
         &mut self,
-        motes: u8,
         mote: u8,
+        profile: &NetProfile,
         plan: &Plan,
         stage: &mut Stage,
         boards: &mut Vec<N>,
     ) -> Result<Played, Halt>
-        requires under_way { IsUnderWay motes
-            (staging stage.old.world (map N.device boards.old.items) stage.old.script.items) }
-        requires known { mote < motes }
-        ensures { OnOk result (GoesOn (staging stage.old.world (map N.device boards.old.items) stage.old.script.items)
-            (staging stage.new.world (map N.device boards.new.items) stage.new.script.items)) }
+        requires under_way { IsUnderWay profile.now plan.now (staging stage.old (map N.device boards.old.items)) }
+        requires known { mote < profile.now.motes }
+        ensures goes_on { OnOk result (GoesOn profile.now plan.now (staging stage.old (map N.device boards.old.items))
+            (staging stage.new (map N.device boards.new.items))) }
     {
         let word = self.draws.next();
         let event = Event::Reset { mote, dt: 0, word };
-        self.event(motes, event, mote, 0, plan, stage, boards)
+        self.event(event, mote, profile, plan, stage, boards)
     }
 
-    /// The image is injected, and ordered.
+    /// The image is injected, and ordered, if it is to be.
     pub(crate) fn inject<N: Nor>(
         &mut self,
-        motes: u8,
+        profile: &NetProfile,
         plan: &Plan,
         stage: &mut Stage,
         boards: &mut Vec<N>,
     ) -> Result<Played, Halt>
-        requires under_way { IsUnderWay motes
-            (staging stage.old.world (map N.device boards.old.items) stage.old.script.items) }
-        requires planned { IsPlanned motes plan.now }
-        ensures { OnOk result (GoesOn (staging stage.old.world (map N.device boards.old.items) stage.old.script.items)
-            (staging stage.new.world (map N.device boards.new.items) stage.new.script.items)) }
+        requires under_way { IsUnderWay profile.now plan.now (staging stage.old (map N.device boards.old.items)) }
+        ensures goes_on { OnOk result (GoesOn profile.now plan.now (staging stage.old (map N.device boards.old.items))
+            (staging stage.new (map N.device boards.new.items))) }
+        ensures begun { result ≡ Ok Played.Done → GoesOnBy (λ more w. IsBegun plan.now more) profile.now plan.now (staging stage.old (map N.device boards.old.items))
+            (staging stage.new (map N.device boards.new.items)) }
+        ensures full { result ≡ Ok Played.TooMany → IsFull (staging stage.new (map N.device boards.new.items)) }
     {
         let mote = plan.at;
         let word = self.draws.next();
@@ -72,27 +73,30 @@ impl Schedule {
             dt: 0,
             word,
         };
-        let played = self.event(motes, event, mote, 0, plan, stage, boards)?;
-        if plan.ordered {
-            return self.order(motes, plan, stage, boards);
+        match self.event(event, mote, profile, plan, stage, boards)? {
+            Played::Done => self.order(profile, plan, stage, boards),
+            Played::TooMany => Ok(Played::TooMany),
         }
-        Ok(played)
     }
 
-    /// The image is ordered where it was injected.
+    /// The image is ordered where it was injected, if it is to be.
     fn order<N: Nor>(
         &mut self,
-        motes: u8,
+        profile: &NetProfile,
         plan: &Plan,
         stage: &mut Stage,
         boards: &mut Vec<N>,
     ) -> Result<Played, Halt>
-        requires under_way { IsUnderWay motes
-            (staging stage.old.world (map N.device boards.old.items) stage.old.script.items) }
-        requires planned { IsPlanned motes plan.now }
-        ensures { OnOk result (GoesOn (staging stage.old.world (map N.device boards.old.items) stage.old.script.items)
-            (staging stage.new.world (map N.device boards.new.items) stage.new.script.items)) }
+        requires under_way { IsUnderWay profile.now plan.now (staging stage.old (map N.device boards.old.items)) }
+        ensures goes_on { OnOk result (GoesOn profile.now plan.now (staging stage.old (map N.device boards.old.items))
+            (staging stage.new (map N.device boards.new.items))) }
+        ensures ordered { result ≡ Ok Played.Done → GoesOnBy (λ more w. IsOrdered plan.now more) profile.now plan.now (staging stage.old (map N.device boards.old.items))
+            (staging stage.new (map N.device boards.new.items)) }
+        ensures full { result ≡ Ok Played.TooMany → IsFull (staging stage.new (map N.device boards.new.items)) }
     {
+        if !plan.ordered {
+            return Ok(Played::Done);
+        }
         let word = self.draws.next();
         let event = Event::Order {
             mote: plan.at,
@@ -102,6 +106,6 @@ impl Schedule {
             dt: 0,
             word,
         };
-        self.event(motes, event, plan.at, 0, plan, stage, boards)
+        self.event(event, plan.at, profile, plan, stage, boards)
     }
 }

@@ -51,6 +51,7 @@ impl Progress {
                 *mote,
                 *image == plan.image && *version == plan.version,
             ),
+            Report::Off { mote } => set(&mut self.runs, *mote, false),
             _ => {}
         }
     }

@@ -1,15 +1,27 @@
 //! The schedule: each mote is ticked when something of it is due, and each frame is heard by the neighbours that it reaches.
-ghost use Rattle.std.specs.Prelude.{◌≡◌, ◌≤◌, ◌<◌, ℕ, map, OnOk};
-ghost use Rattle.dg_rehearse.specs.Rehearsed.{IsPlanned, IsRehearsed, IsUnderWay, GoesOn, staging};
+ghost use Rattle.std.specs.Prelude.{◌≡◌, ◌≢◌, ◌≤◌, ◌<◌, ℕ, true, map, List, length, Ok, OnOk, Some, None};
+ghost use Rattle.dg_nor.specs.Device.{Device};
+ghost use Rattle.dg_netcfg.specs.declared.profile.NetProfile.{NetProfile as Profile};
+ghost use Rattle.dg_rules.specs.Events.{mote_of};
+ghost use Rattle.dg_rules.specs.World.{World as RuleWorld};
+ghost use Rattle.dg_script.specs.Places.{is_linked};
+ghost use Rattle.dg_world.specs.Alone.{uncut};
+ghost use Rattle.dg_world.specs.Worlds.{IsWorld};
+ghost use Rattle.dg_rehearse.specs.Ended.{Ends, EndsNow, EndsBegun};
+ghost use Rattle.dg_rehearse.specs.Rehearsed.{IsRehearsed, IsUnderWay, GoesOn, GoesOnBy, Makes, MoreEvents, IsFull, staging};
+ghost use Rattle.dg_rehearse.specs.Rehearsed.{SendsOnly, SentBy, LastSentBy, GoesAlong, Staging};
+ghost use Rattle.dg_rehearse.specs.declared.plan.Ending.{Ending as End};
 ghost use Rattle.dg_rehearse.specs.declared.schedule.Coming.{Coming};
 ghost use Rattle.dg_rehearse.specs.declared.schedule.Next.{Next};
 
 use crate::cutting::BETWEEN_CUTS;
+use crate::neighbours::are_linked;
 use crate::plan::{Ending, Plan};
 use crate::progress::Progress;
 use crate::stage::{Played, Stage};
 use crate::stop::Halt;
 use dg_base::{Event, MOST_MOTES};
+use dg_netcfg::NetProfile;
 use dg_nor::Nor;
 use dg_script::MOST_EVENTS;
 use dg_seed::Draws;
@@ -69,40 +81,45 @@ impl Schedule {
     pub(crate) fn play<N: Nor>(
         &mut self,
         alloc: Global,
-        motes: u8,
+        profile: &NetProfile,
         plan: &Plan,
         stage: &mut Stage,
         boards: &mut Vec<N>,
     ) -> Result<Ending, Halt>
-        requires under_way { IsUnderWay motes
-            (staging stage.old.world (map N.device boards.old.items) stage.old.script.items) }
-        requires planned { IsPlanned motes plan.now }
-        requires some { 1 ≤ motes }
-        ensures { OnOk result (GoesOn (staging stage.old.world (map N.device boards.old.items) stage.old.script.items)
-            (staging stage.new.world (map N.device boards.new.items) stage.new.script.items)) }
+        requires under_way { IsUnderWay profile.now plan.now (staging stage.old (map N.device boards.old.items)) }
+        requires some { 1 ≤ profile.now.motes }
+        ensures goes_on { OnOk result (GoesOn profile.now plan.now (staging stage.old (map N.device boards.old.items))
+            (staging stage.new (map N.device boards.new.items))) }
+        ensures ends { (e : End) → result ≡ Ok e
+            → GoesOnBy (EndsBegun e profile.now plan.now stage.new.script.items) profile.now plan.now
+            (staging stage.old (map N.device boards.old.items)) (staging stage.new (map N.device boards.new.items)) }
     {
-        self.start_all(motes, plan, stage, boards)?;
-        self.inject(motes, plan, stage, boards)?;
-        self.play_turns(alloc, motes, plan, stage, boards)
+        self.start_all(profile, plan, stage, boards)?;
+        match self.inject(profile, plan, stage, boards)? {
+            Played::Done => self.play_turns(alloc, profile, plan, stage, boards),
+            Played::TooMany => Ok(Ending::TooMany),
+        }
     }
 
     /// Turns, until it ends.
     fn play_turns<N: Nor>(
         &mut self,
         alloc: Global,
-        motes: u8,
+        profile: &NetProfile,
         plan: &Plan,
         stage: &mut Stage,
         boards: &mut Vec<N>,
     ) -> Result<Ending, Halt>
-        requires under_way { IsUnderWay motes
-            (staging stage.old.world (map N.device boards.old.items) stage.old.script.items) }
-        requires some { 1 ≤ motes }
-        ensures { OnOk result (GoesOn (staging stage.old.world (map N.device boards.old.items) stage.old.script.items)
-            (staging stage.new.world (map N.device boards.new.items) stage.new.script.items)) }
+        requires under_way { IsUnderWay profile.now plan.now (staging stage.old (map N.device boards.old.items)) }
+        requires some { 1 ≤ profile.now.motes }
+        ensures goes_on { OnOk result (GoesOn profile.now plan.now (staging stage.old (map N.device boards.old.items))
+            (staging stage.new (map N.device boards.new.items))) }
+        ensures ends { (e : End) → result ≡ Ok e
+            → GoesOnBy (λ more w. Ends e profile.now plan.now stage.new.script.items w) profile.now plan.now
+            (staging stage.old (map N.device boards.old.items)) (staging stage.new (map N.device boards.new.items)) }
     {
         for _ in 0..MOST_EVENTS {
-            if let Some(ending) = self.play_next(alloc, motes, plan, stage, boards)? {
+            if let Some(ending) = self.play_next(alloc, profile, plan, stage, boards)? {
                 return Ok(ending);
             }
         }
@@ -110,42 +127,90 @@ impl Schedule {
     }
 
     /// Plays what comes next, or tells how it ended.
-    #[tactic(auto, using(crate::proofs::PlayLemmas::goes_nowhere))]
     fn play_next<N: Nor>(
         &mut self,
         alloc: Global,
-        motes: u8,
+        profile: &NetProfile,
         plan: &Plan,
         stage: &mut Stage,
         boards: &mut Vec<N>,
     ) -> Result<Option<Ending>, Halt>
-        requires under_way { IsUnderWay motes
-            (staging stage.old.world (map N.device boards.old.items) stage.old.script.items) }
-        requires some { 1 ≤ motes }
-        ensures { OnOk result (GoesOn (staging stage.old.world (map N.device boards.old.items) stage.old.script.items)
-            (staging stage.new.world (map N.device boards.new.items) stage.new.script.items)) }
+        requires under_way { IsUnderWay profile.now plan.now (staging stage.old (map N.device boards.old.items)) }
+        requires some { 1 ≤ profile.now.motes }
+        ensures goes_on { OnOk result (GoesOn profile.now plan.now (staging stage.old (map N.device boards.old.items))
+            (staging stage.new (map N.device boards.new.items))) }
+        ensures ends { (e : End) → result ≡ Ok (Some e)
+            → GoesOnBy (λ more w. Ends e profile.now plan.now stage.new.script.items w) profile.now plan.now
+            (staging stage.old (map N.device boards.old.items)) (staging stage.new (map N.device boards.new.items)) }
+        ensures events { result ≡ Ok None → MoreEvents (staging stage.old (map N.device boards.old.items)) (staging stage.new (map N.device boards.new.items)) }
     {
-        match self.coming(motes, plan, stage) {
+        if self.is_complete(profile, plan, stage, boards)? {
+            return Ok(Some(Ending::Complete));
+        }
+        self.play_coming(alloc, profile, plan, stage, boards)
+    }
+
+    /// Whether every mote has the image, or runs it. The chips are read where the reports told so.
+    #[tactic(auto, using(crate::proofs::PlayLemmas::goes_nowhere))]
+    fn is_complete<N: Nor>(
+        &self,
+        profile: &NetProfile,
+        plan: &Plan,
+        stage: &mut Stage,
+        boards: &mut Vec<N>,
+    ) -> Result<bool, Halt>
+        requires under_way { IsUnderWay profile.now plan.now (staging stage.old (map N.device boards.old.items)) }
+        ensures goes_on { OnOk result (GoesOn profile.now plan.now (staging stage.old (map N.device boards.old.items))
+            (staging stage.new (map N.device boards.new.items))) }
+        ensures complete { result ≡ Ok true
+            → GoesOnBy (λ more w. Ends End.Complete profile.now plan.now stage.new.script.items w) profile.now plan.now
+            (staging stage.old (map N.device boards.old.items)) (staging stage.new (map N.device boards.new.items)) }
+    {
+        if !self.progress.is_complete(plan, profile.motes) {
+            return Ok(false);
+        }
+        stage.is_complete(profile, plan, boards)
+    }
+
+    /// Plays what comes next, where it has not ended by being complete.
+    #[tactic(auto, using(crate::proofs::PlayLemmas::goes_nowhere))]
+    fn play_coming<N: Nor>(
+        &mut self,
+        alloc: Global,
+        profile: &NetProfile,
+        plan: &Plan,
+        stage: &mut Stage,
+        boards: &mut Vec<N>,
+    ) -> Result<Option<Ending>, Halt>
+        requires under_way { IsUnderWay profile.now plan.now (staging stage.old (map N.device boards.old.items)) }
+        requires some { 1 ≤ profile.now.motes }
+        ensures goes_on { OnOk result (GoesOn profile.now plan.now (staging stage.old (map N.device boards.old.items))
+            (staging stage.new (map N.device boards.new.items))) }
+        ensures ends { (e : End) → result ≡ Ok (Some e)
+            → GoesOnBy (λ more w. Ends e profile.now plan.now stage.new.script.items w) profile.now plan.now
+            (staging stage.old (map N.device boards.old.items)) (staging stage.new (map N.device boards.new.items)) }
+        ensures events { result ≡ Ok None → MoreEvents (staging stage.old (map N.device boards.old.items)) (staging stage.new (map N.device boards.new.items)) }
+    {
+        match self.coming(profile.motes, plan, stage) {
             Coming::End(ending) => Ok(Some(ending)),
             Coming::Cut { moment } => {
-                let played = self.cut(alloc, motes, moment, plan, stage, boards)?;
+                let played = self.cut(alloc, moment, profile, plan, stage, boards)?;
                 Ok(ending_of(played))
             }
             Coming::Turn(next) => {
-                let played = self.turn(motes, next, plan, stage, boards)?;
+                let played = self.turn(next, profile, plan, stage, boards)?;
                 Ok(ending_of(played))
             }
         }
     }
 
-    /// What comes next.
+    /// What comes next. Where nothing is due before the time is over, the mote of which something is due first has a turn at its
+    /// end.
     fn coming(&self, motes: u8, plan: &Plan, stage: &Stage) -> Coming
         requires some { 1 ≤ motes }
-        ensures { (next : Next) → result ≡ Coming.Turn next → next.mote < motes }
+        ensures turn { (next : Next) → result ≡ Coming.Turn next → next.mote < motes }
+        ensures ends { (e : End) (boards : List Device) → result ≡ Coming.End e → EndsNow e plan.now (staging stage.now boards) }
     {
-        if self.progress.is_complete(plan, motes) {
-            return Coming::End(Ending::Complete);
-        }
         if stage.script.len() > MOST_SCRIPT {
             return Coming::End(Ending::TooLong);
         }
@@ -156,13 +221,17 @@ impl Schedule {
         } else {
             next.moment
         };
-        if moment > u64::from(plan.minutes) * MINUTE {
+        let end = u64::from(plan.minutes) * MINUTE;
+        if moment <= end {
+            return coming_at(is_cut, moment, next);
+        }
+        if stage.moment >= end {
             return Coming::End(Ending::OutOfTime);
         }
-        if is_cut {
-            return Coming::Cut { moment };
-        }
-        Coming::Turn(next)
+        Coming::Turn(Next {
+            mote: next.mote,
+            moment: end,
+        })
     }
 
     /// The mote of which something is due first, and the moment, which is not before this one.
@@ -192,28 +261,30 @@ impl Schedule {
     /// A mote has its turn: it ticks, or its power comes back.
     fn turn<N: Nor>(
         &mut self,
-        motes: u8,
         next: Next,
+        profile: &NetProfile,
         plan: &Plan,
         stage: &mut Stage,
         boards: &mut Vec<N>,
     ) -> Result<Played, Halt>
-        requires under_way { IsUnderWay motes
-            (staging stage.old.world (map N.device boards.old.items) stage.old.script.items) }
-        requires known { next.mote < motes }
-        ensures { OnOk result (GoesOn (staging stage.old.world (map N.device boards.old.items) stage.old.script.items)
-            (staging stage.new.world (map N.device boards.new.items) stage.new.script.items)) }
+        requires under_way { IsUnderWay profile.now plan.now (staging stage.old (map N.device boards.old.items)) }
+        requires known { next.mote < profile.now.motes }
+        ensures goes_on { OnOk result (GoesOn profile.now plan.now (staging stage.old (map N.device boards.old.items))
+            (staging stage.new (map N.device boards.new.items))) }
+        ensures events { result ≡ Ok Played.Done → MoreEvents (staging stage.old (map N.device boards.old.items))
+            (staging stage.new (map N.device boards.new.items)) }
+        ensures full { result ≡ Ok Played.TooMany → IsFull (staging stage.new (map N.device boards.new.items)) }
     {
         let dt = since(stage.moment, next.moment);
         let word = self.draws.next();
         let mote = next.mote;
         let event = event_of_turn(stage.world.due(mote).is_some(), mote, dt, word);
         let before = stage.world.frames_sent();
-        let played = self.event(motes, event, mote, dt, plan, stage, boards)?;
+        let played = self.event(event, mote, profile, plan, stage, boards)?;
         // a mote ticks at most once in a millisecond
         self.rest(mote, stage.moment.saturating_add(1));
         match played {
-            Played::Done => self.deliver(motes, mote, before, plan, stage, boards),
+            Played::Done => self.deliver(mote, before, profile, plan, stage, boards),
             Played::TooMany => Ok(Played::TooMany),
         }
     }
@@ -222,27 +293,28 @@ impl Schedule {
     #[tactic(auto, using(crate::proofs::PlayLemmas::goes_nowhere))]
     fn deliver<N: Nor>(
         &mut self,
-        motes: u8,
         from: u8,
         before: usize,
+        profile: &NetProfile,
         plan: &Plan,
         stage: &mut Stage,
         boards: &mut Vec<N>,
     ) -> Result<Played, Halt>
-        requires under_way { IsUnderWay motes
-            (staging stage.old.world (map N.device boards.old.items) stage.old.script.items) }
-        ensures { OnOk result (GoesOn (staging stage.old.world (map N.device boards.old.items) stage.old.script.items)
-            (staging stage.new.world (map N.device boards.new.items) stage.new.script.items)) }
+        requires under_way { IsUnderWay profile.now plan.now (staging stage.old (map N.device boards.old.items)) }
+        requires sent { LastSentBy from before (staging stage.old (map N.device boards.old.items)) }
+        ensures goes_on { OnOk result (GoesOn profile.now plan.now (staging stage.old (map N.device boards.old.items))
+            (staging stage.new (map N.device boards.new.items))) }
+        ensures full { result ≡ Ok Played.TooMany → IsFull (staging stage.new (map N.device boards.new.items)) }
     {
         let sent = stage.world.frames_sent();
         if sent <= before {
             return Ok(Played::Done);
         }
         let Ok(frame) = u32::try_from(sent) else {
-            return Ok(Played::TooMany);
+            return Ok(Played::Done);
         };
-        for mote in 0..motes {
-            match self.hear(motes, from, mote, frame, plan, stage, boards)? {
+        for mote in 0..profile.motes {
+            match self.hear(from, mote, frame, profile, plan, stage, boards)? {
                 Played::Done => {}
                 Played::TooMany => return Ok(Played::TooMany),
             }
@@ -254,22 +326,23 @@ impl Schedule {
     #[tactic(auto, using(crate::proofs::PlayLemmas::goes_nowhere))]
     fn hear<N: Nor>(
         &mut self,
-        motes: u8,
         from: u8,
         mote: u8,
         frame: u32,
+        profile: &NetProfile,
         plan: &Plan,
         stage: &mut Stage,
         boards: &mut Vec<N>,
     ) -> Result<Played, Halt>
-        requires under_way { IsUnderWay motes
-            (staging stage.old.world (map N.device boards.old.items) stage.old.script.items) }
-        requires known { mote < motes }
+        requires under_way { IsUnderWay profile.now plan.now (staging stage.old (map N.device boards.old.items)) }
+        requires known { mote < profile.now.motes }
         requires numbered { 1 ≤ frame }
-        ensures { OnOk result (GoesOn (staging stage.old.world (map N.device boards.old.items) stage.old.script.items)
-            (staging stage.new.world (map N.device boards.new.items) stage.new.script.items)) }
+        requires sent { SentBy from frame (staging stage.old (map N.device boards.old.items)) }
+        ensures goes_on { OnOk result (GoesOn profile.now plan.now (staging stage.old (map N.device boards.old.items))
+            (staging stage.new (map N.device boards.new.items))) }
+        ensures full { result ≡ Ok Played.TooMany → IsFull (staging stage.new (map N.device boards.new.items)) }
     {
-        if !self.reaches(from, mote, plan, stage) {
+        if !self.reaches(from, mote, profile, plan, stage) {
             return Ok(Played::Done);
         }
         let word = self.draws.next();
@@ -279,13 +352,22 @@ impl Schedule {
             word,
             frame,
         };
-        self.event(motes, event, mote, 0, plan, stage, boards)
+        self.event(event, mote, profile, plan, stage, boards)
     }
 
     /// Whether a frame reaches a mote: they are neighbours, the mote is on, and the draw does not lose it.
-    fn reaches(&mut self, from: u8, mote: u8, plan: &Plan, stage: &Stage) -> bool {
+    fn reaches(
+        &mut self,
+        from: u8,
+        mote: u8,
+        profile: &NetProfile,
+        plan: &Plan,
+        stage: &Stage,
+    ) -> bool
+        ensures { result ≡ true → is_linked profile.now.links from mote ≡ true }
+    {
         mote != from
-            && stage.world.are_joined(from, mote)
+            && are_linked(profile.links.as_slice(), from, mote)
             && stage.world.due(mote).is_some()
             && self.draws.next() % 100 >= u32::from(plan.loss)
     }
@@ -293,21 +375,25 @@ impl Schedule {
     /// Plays an event at a mote, and notes what came of it.
     pub(crate) fn event<N: Nor>(
         &mut self,
-        motes: u8,
         event: Event,
         mote: u8,
-        dt: u32,
+        profile: &NetProfile,
         plan: &Plan,
         stage: &mut Stage,
         boards: &mut Vec<N>,
     ) -> Result<Played, Halt>
-        requires under_way { IsUnderWay motes
-            (staging stage.old.world (map N.device boards.old.items) stage.old.script.items) }
-        requires fits { IsRehearsed motes event }
-        ensures { OnOk result (GoesOn (staging stage.old.world (map N.device boards.old.items) stage.old.script.items)
-            (staging stage.new.world (map N.device boards.new.items) stage.new.script.items)) }
+        requires under_way { IsUnderWay profile.now plan.now (staging stage.old (map N.device boards.old.items)) }
+        requires fits { IsRehearsed profile.now.motes event }
+        requires along { GoesAlong profile.now event (staging stage.old (map N.device boards.old.items)) }
+        ensures goes_on { OnOk result (GoesOn profile.now plan.now (staging stage.old (map N.device boards.old.items))
+            (staging stage.new (map N.device boards.new.items))) }
+        ensures makes { result ≡ Ok Played.Done → Makes (uncut event) profile.now plan.now (staging stage.old (map N.device boards.old.items))
+            (staging stage.new (map N.device boards.new.items)) }
+        ensures full { result ≡ Ok Played.TooMany → IsFull (staging stage.new (map N.device boards.new.items)) }
+        ensures sends { OnOk result (SendsOnly (mote_of event) (staging stage.old (map N.device boards.old.items))
+            (staging stage.new (map N.device boards.new.items))) }
     {
-        let played = stage.play(event, dt, boards)?;
+        let played = stage.play(profile, plan, event, boards)?;
         self.note(mote, plan, stage);
         Ok(played)
     }
@@ -336,7 +422,9 @@ impl Schedule {
 
 /// The event of a mote's turn: a tick where it is on, else the reset by which its power comes back.
 fn event_of_turn(is_on: bool, mote: u8, dt: u32, word: u32) -> Event
-    ensures { (motes : ℕ) → mote < motes → IsRehearsed motes result }
+    ensures fits { (motes : ℕ) → mote < motes → IsRehearsed motes result }
+    ensures mote { mote_of result ≡ mote }
+    ensures along { (n : Profile) (s : Staging) → GoesAlong n result s }
 {
     if is_on {
         Event::Tick { mote, dt, word }
@@ -345,8 +433,22 @@ fn event_of_turn(is_on: bool, mote: u8, dt: u32, word: u32) -> Event
     }
 }
 
+/// What comes within the time: a reset with a cut, or a turn.
+fn coming_at(is_cut: bool, moment: u64, next: Next) -> Coming
+    ensures turn { (n : Next) → result ≡ Coming.Turn n → n ≡ next }
+    ensures goes_on { (e : End) → result ≢ Coming.End e }
+{
+    if is_cut {
+        return Coming::Cut { moment };
+    }
+    Coming::Turn(next)
+}
+
 /// What ends a rehearsal in which an event was played, or was one too many.
-fn ending_of(played: Played) -> Option<Ending> {
+fn ending_of(played: Played) -> Option<Ending>
+    ensures none { result ≡ None → played ≡ Played.Done }
+    ensures many { (e : End) → result ≡ Some e → (e ≡ End.TooMany) × (played ≡ Played.TooMany) }
+{
     match played {
         Played::Done => None,
         Played::TooMany => Some(Ending::TooMany),

@@ -1,20 +1,26 @@
 //! A world over chips, and the script of what happened in it so far.
-ghost use Rattle.std.specs.Prelude.{◌≡◌, ◌≤◌, ◌++◌, ℕ, map, OnOk, IfOk, length};
+ghost use Rattle.std.specs.Prelude.{◌≡◌, ◌≢◌, ◌≤◌, ◌+◌, ◌-◌, ◌^◌, ◌++◌, min, true, map, Ok, OnOk, IfOk, length};
 ghost use Rattle.dg_netcfg.specs.Readings.{IsAllowed};
 ghost use Rattle.dg_script.specs.Fitting.{FitsCut, FitsEvent};
 ghost use Rattle.dg_script.specs.Sizes.{most_motes};
 ghost use Rattle.dg_script.specs.declared.line.Line.TheVariants.{Cut as CutLine, Happens as EventLine};
+ghost use Rattle.dg_rules.specs.Events.{mote_of, dt_of};
+ghost use Rattle.dg_world.specs.Alone.{uncut};
 ghost use Rattle.dg_world.specs.declared.world.WorldFault.{WorldFault};
-ghost use Rattle.dg_rehearse.specs.Rehearsed.{IsPlanned, IsRehearsed, IsStaged, IsUnderWay, GoesOn, staging, written};
+ghost use Rattle.dg_rehearse.specs.Ended.{Ends};
+ghost use Rattle.dg_rehearse.specs.Rehearsed.{IsPlanned, IsRehearsed, IsStaged, IsUnderWay, GoesOn, GoesOnBy, Makes, MoreEvents, IsFull};
+ghost use Rattle.dg_rehearse.specs.Rehearsed.{SendsOnly, GoesAlong, staging, written};
+ghost use Rattle.dg_rehearse.specs.declared.plan.Ending.{Ending};
 
 use crate::beginning::{declare, format_chips, network_of, write_opening};
 use crate::plan::Plan;
 use crate::stop::Halt;
+use crate::telling::all_have;
 use dg_base::{Cut, Event};
 use dg_netcfg::NetProfile;
 use dg_nor::Nor;
 use dg_script::{Line, Report, write_line};
-use dg_world::{World, WorldFault};
+use dg_world::{FinishFault, World, WorldFault};
 use std::alloc::{AllocError, Global};
 
 /// A world over chips, and the script of what happened in it so far.
@@ -47,7 +53,7 @@ impl Stage {
         requires planned { IsPlanned profile.now.motes plan.now }
         requires boards { profile.now.motes ≤ length boards.old.items }
         ensures { IfOk result (λ s. IsStaged profile.now plan.now (map N.device boards.old.items)
-            (staging s.world (map N.device boards.new.items) s.script.items)) }
+            (staging s (map N.device boards.new.items))) }
     {
         format_chips(boards, profile.motes)?;
         let mut world = network_of(alloc, profile)?;
@@ -62,18 +68,26 @@ impl Stage {
         })
     }
 
-    /// Plays an event, which brings this time, and writes its line.
+    /// Plays an event, and writes its line.
     pub(crate) fn play<N: Nor>(
         &mut self,
+        profile: &NetProfile,
+        plan: &Plan,
         event: Event,
-        dt: u32,
         boards: &mut Vec<N>,
     ) -> Result<Played, Halt>
-        requires { (motes : ℕ) × IsRehearsed motes event
-            × IsUnderWay motes (staging self.old.world (map N.device boards.old.items) self.old.script.items) }
-        ensures { OnOk result (GoesOn (staging self.old.world (map N.device boards.old.items) self.old.script.items)
-            (staging self.new.world (map N.device boards.new.items) self.new.script.items)) }
+        requires under_way { IsUnderWay profile.now plan.now (staging self.old (map N.device boards.old.items)) }
+        requires fits { IsRehearsed profile.now.motes event }
+        requires along { GoesAlong profile.now event (staging self.old (map N.device boards.old.items)) }
+        ensures goes_on { OnOk result (GoesOn profile.now plan.now (staging self.old (map N.device boards.old.items))
+            (staging self.new (map N.device boards.new.items))) }
+        ensures makes { result ≡ Ok Played.Done → Makes (uncut event) profile.now plan.now
+            (staging self.old (map N.device boards.old.items)) (staging self.new (map N.device boards.new.items)) }
+        ensures full { result ≡ Ok Played.TooMany → IsFull (staging self.new (map N.device boards.new.items)) }
+        ensures sends { OnOk result (SendsOnly (mote_of event) (staging self.old (map N.device boards.old.items))
+            (staging self.new (map N.device boards.new.items))) }
     {
+        let dt = dt_at(&event);
         self.reports.clear();
         match self
             .world
@@ -81,7 +95,7 @@ impl Stage {
         {
             Ok(()) => {
                 write_event(event, &mut self.script)?;
-                self.moment = self.moment.saturating_add(u64::from(dt));
+                self.moment = later(self.moment, dt);
                 Ok(Played::Done)
             }
             Err(fault) => told(fault),
@@ -91,16 +105,23 @@ impl Stage {
     /// Plays an event whose power is cut, and writes the lines of both.
     pub(crate) fn play_cut<N: Nor>(
         &mut self,
+        profile: &NetProfile,
+        plan: &Plan,
         cut: Cut,
         event: Event,
-        dt: u32,
         boards: &mut Vec<N>,
     ) -> Result<Played, Halt>
-        requires { (motes : ℕ) × FitsCut cut × IsRehearsed motes event
-            × IsUnderWay motes (staging self.old.world (map N.device boards.old.items) self.old.script.items) }
-        ensures { OnOk result (GoesOn (staging self.old.world (map N.device boards.old.items) self.old.script.items)
-            (staging self.new.world (map N.device boards.new.items) self.new.script.items)) }
+        requires under_way { IsUnderWay profile.now plan.now (staging self.old (map N.device boards.old.items)) }
+        requires cut { FitsCut cut }
+        requires fits { IsRehearsed profile.now.motes event }
+        requires along { GoesAlong profile.now event (staging self.old (map N.device boards.old.items)) }
+        ensures goes_on { OnOk result (GoesOn profile.now plan.now (staging self.old (map N.device boards.old.items))
+            (staging self.new (map N.device boards.new.items))) }
+        ensures events { result ≡ Ok Played.Done → MoreEvents (staging self.old (map N.device boards.old.items))
+            (staging self.new (map N.device boards.new.items)) }
+        ensures full { result ≡ Ok Played.TooMany → IsFull (staging self.new (map N.device boards.new.items)) }
     {
+        let dt = dt_at(&event);
         self.reports.clear();
         match self
             .world
@@ -109,12 +130,56 @@ impl Stage {
             Ok(()) => {
                 write_cut(cut, &mut self.script)?;
                 write_event(event, &mut self.script)?;
-                self.moment = self.moment.saturating_add(u64::from(dt));
+                self.moment = later(self.moment, dt);
                 Ok(Played::Done)
             }
             Err(fault) => told(fault),
         }
     }
+
+    /// Whether the chips and the motes tell that every mote has the image, or runs it, where it was ordered.
+    pub(crate) fn is_complete<N: Nor>(
+        &mut self,
+        profile: &NetProfile,
+        plan: &Plan,
+        boards: &mut Vec<N>,
+    ) -> Result<bool, Halt>
+        requires under_way { IsUnderWay profile.now plan.now (staging self.old (map N.device boards.old.items)) }
+        ensures goes_on { OnOk result (GoesOn profile.now plan.now (staging self.old (map N.device boards.old.items))
+            (staging self.new (map N.device boards.new.items))) }
+        ensures complete { result ≡ Ok true
+            → GoesOnBy (λ more w. Ends Ending.Complete profile.now plan.now self.new.script.items w) profile.now plan.now
+            (staging self.old (map N.device boards.old.items)) (staging self.new (map N.device boards.new.items)) }
+    {
+        self.reports.clear();
+        match self.world.finish(boards, &mut self.reports) {
+            Ok(()) => Ok(all_have(&self.reports, profile.motes, plan)),
+            Err(FinishFault::Memory) => Err(Halt::Memory),
+            Err(FinishFault::Flash { .. }) => Err(Halt::Flash),
+        }
+    }
+}
+
+/// How many milliseconds an event comes after the one before.
+fn dt_at(event: &Event) -> u32
+    ensures { result ≡ dt_of event.now }
+{
+    match event {
+        Event::Tick { dt, .. }
+        | Event::Hear { dt, .. }
+        | Event::Last { dt, .. }
+        | Event::Frame { dt, .. }
+        | Event::Reset { dt, .. }
+        | Event::Inject { dt, .. }
+        | Event::Order { dt, .. } => *dt,
+    }
+}
+
+/// So many milliseconds later.
+fn later(moment: u64, dt: u32) -> u64
+    ensures { result ≡ min (moment + dt) (2 ^ 64 - 1) }
+{
+    moment.saturating_add(u64::from(dt))
 }
 
 /// Writes the line of a cut.
@@ -137,7 +202,8 @@ fn write_event(event: Event, script: &mut Vec<u8>) -> Result<(), AllocError>
 
 /// What a fault of the world makes of a rehearsal.
 fn told(fault: WorldFault) -> Result<Played, Halt>
-    ensures { OnOk result (fault ≡ WorldFault.TooMany) }
+    ensures many { OnOk result (fault ≡ WorldFault.TooMany) }
+    ensures undone { result ≢ Ok Played.Done }
 {
     match fault {
         WorldFault::Memory => Err(Halt::Memory),

@@ -1,8 +1,10 @@
-use Rattle.std.proofs.Common.{map}
+use Rattle.std.proofs.Common.{◌≤◌, map}
 use Rattle.dg_rehearse.specs.Rehearsed.{GoesOn, staging}
 use Rattle.dg_rehearse.proofs.schedule.Schedule.play_turns.Given as goal
 
+-- each turn had an event at least
 abbrev pub invariant-loop : goal.invariant-loop
-invariant-loop g l =
-    GoesOn (staging l.initial.stage.world (map g.N.Nor.device l.initial.boards.items) l.initial.stage.script.items)
-    (staging l.stage.world (map g.N.Nor.device l.boards.items) l.stage.script.items)
+invariant-loop g l = record {
+  goes : GoesOn l.profile l.plan (staging l.initial.stage (map g.N.Nor.device l.initial.boards.items)) (staging l.stage (map g.N.Nor.device l.boards.items));
+  turns : l.counter ≤ l.stage.world.events;
+}

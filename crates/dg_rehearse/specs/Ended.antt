@@ -1,0 +1,111 @@
+-- How a rehearsal ended, and what that means (docs/COMMANDS.md, "Rehearsing by the clock").
+use Rattle.std.specs.Prelude.{◌≡◌, ◌≢◌, ℕ, ◌+◌, ◌*◌, ◌<◌, ◌≤◌, ◌==◌, ◌&&◌, Bool, true, false, List, length, Contains, Option, Some}
+use Rattle.std.specs.Prelude.{IsSomeAnd}
+use Rattle.std.specs.List.{AllByRecursion, list_any}
+use Rattle.dg_base.specs.declared.events.Event.TheVariants.{Inject, Order}
+use Rattle.dg_base.specs.declared.events.Step.{Step}
+use Rattle.dg_nor.specs.Device.{Device}
+use Rattle.dg_netcfg.specs.declared.profile.NetProfile.{NetProfile}
+use Rattle.dg_object.specs.Object.{pages_for}
+use Rattle.dg_volume.specs.Store.{Store, held, held_whole}
+use Rattle.dg_script.specs.Sizes.{most_used_bytes}
+use Rattle.dg_script.specs.declared.report.Report.{Report}
+use Rattle.dg_script.specs.declared.report.Report.TheVariants.{MoteOn, Kept}
+use Rattle.dg_rules.specs.Changes.{final_lines}
+use Rattle.dg_rules.specs.Sizes.{most_events}
+use Rattle.dg_rules.specs.World.{World, Running, site, store_at}
+use Rattle.dg_world.specs.Alone.{uncut}
+use Rattle.dg_rehearse.specs.Along.{IsAlong}
+use Rattle.dg_rehearse.specs.Rehearsed.{Rehearsed, Staging, planned_row}
+use Rattle.dg_rehearse.specs.declared.plan.Ending.{Ending}
+use Rattle.dg_rehearse.specs.declared.plan.Ending.TheVariants.{Complete, OutOfTime, TooMany, TooLong}
+use Rattle.dg_rehearse.specs.declared.plan.Plan.{Plan}
+use Rattle.dg_rehearse.specs.declared.plan.Rehearsal.{Rehearsal}
+
+-- ---- what is promised
+
+-- a chip keeps the image that was injected, whole
+abbrev pub KeepsImage : Plan → Store → Type 0
+KeepsImage p s = held s p.image ≡ Some (held_whole (planned_row p))
+
+-- a mote is on, and runs it
+abbrev pub RunsImage : Plan → Option Running → Type 0
+RunsImage p runs = IsSomeAnd runs (λ r. (r.image_version.image ≡ p.image) × (r.image_version.version ≡ p.version))
+
+-- Every mote keeps it, and where it was ordered, runs it.
+pub record IsComplete (n : NetProfile) (p : Plan) (w : World) : Type 0 where
+  pub keeps : (m : ℕ) → m < n.motes → KeepsImage p (store_at w m)
+  pub runs : p.ordered ≡ true → (m : ℕ) → m < n.motes → RunsImage p (site w m).runs
+
+-- the bytes that a script must have left for another turn
+abbrev pub turn_room : ℕ
+turn_room = 16 * 64
+
+-- What each ending means of the world at the end, and of the script: every mote has the image, the schedule went on for the
+-- minutes that were asked for, a script has no more events, or no more room for those of a turn.
+abbrev pub EndsAs : Ending → NetProfile → Plan → World → (script : List ℕ) → Type 0
+EndsAs Complete n p w script = IsComplete n p w
+EndsAs OutOfTime n p w script = p.minutes * 60000 ≤ w.moment
+EndsAs TooMany n p w script = w.events ≡ most_events
+EndsAs TooLong n p w script = most_used_bytes < length script + turn_room
+
+-- the image of the plan is injected into its mote
+abbrev pub IsInjected : Plan → List Step → Type 0
+IsInjected p steps = (word : ℕ) × Contains steps (uncut (Inject p.at p.image p.version 0 word))
+
+-- and ordered there, if it is to be
+abbrev pub IsOrdered : Plan → List Step → Type 0
+IsOrdered p steps = p.ordered ≡ true → (word : ℕ) × Contains steps (uncut (Order p.at 1 p.image p.version 0 word))
+
+-- what is injected and ordered
+abbrev pub IsBegun : Plan → List Step → Type 0
+IsBegun p steps = IsInjected p steps × IsOrdered p steps
+
+-- A rehearsal ended as it says, at its moment. Unless there were too many events, the image was injected, and ordered, if it
+-- was to be.
+pub record Ended (n : NetProfile) (p : Plan) (initial boards : List Device) (r : Rehearsal) : Type 0 where
+  pub told : Rehearsed n p initial boards r.script.items
+  pub ends : EndsAs r.ending n p told.world r.script.items
+  pub moment : r.moment ≡ told.world.moment
+  pub begun : r.ending ≢ TooMany → IsBegun p told.steps
+
+-- No frame is delivered but along a link of the profile.
+pub record DeliversAlong (n : NetProfile) (p : Plan) (initial boards : List Device) (script : List ℕ) : Type 0 where
+  pub told : Rehearsed n p initial boards script
+  pub along : AllByRecursion (IsAlong n) told.run.played
+
+-- ---- what last lines tell
+
+abbrev pub tells_kept : (m image version pages : ℕ) → Report → Bool
+tells_kept m image version pages (Kept mote i v k) = (mote == m) && ((i == image) && ((v == version) && (k == pages)))
+tells_kept m image version pages _ = false
+
+abbrev pub tells_on : (m image version : ℕ) → Report → Bool
+tells_on m image version (MoteOn mote i v) = (mote == m) && ((i == image) && (v == version))
+tells_on m image version _ = false
+
+-- lines tell that a mote keeps all pages of the image of a plan, and runs it, if it was ordered
+abbrev pub TellsOf : Plan → ℕ → List Report → Type 0
+TellsOf p m lines = (list_any (tells_kept m p.image p.version (pages_for (length p.content))) lines ≡ true)
+    × (p.ordered ≡ true → list_any (tells_on m p.image p.version) lines ≡ true)
+
+abbrev pub TellsEach : ℕ → Plan → List Report → Type 0
+TellsEach motes p lines = (m : ℕ) → m < motes → TellsOf p m lines
+
+-- what an ending means, as last lines tell it
+abbrev pub Ends : Ending → NetProfile → Plan → (script : List ℕ) → World → Type 0
+Ends Complete n p script w = TellsEach n.motes p (final_lines w)
+Ends OutOfTime n p script w = p.minutes * 60000 ≤ w.moment
+Ends TooMany n p script w = w.events ≡ most_events
+Ends TooLong n p script w = most_used_bytes < length script + turn_room
+
+-- and of what is staged, where nothing comes next
+abbrev pub EndsNow : Ending → Plan → Staging → Type 0
+EndsNow Complete p s = ⊥
+EndsNow OutOfTime p s = p.minutes * 60000 ≤ s.moment
+EndsNow TooMany p s = ⊥
+EndsNow TooLong p s = most_used_bytes < length s.script + turn_room
+
+-- it ends so, and unless there were too many events, it has begun
+abbrev pub EndsBegun : Ending → NetProfile → Plan → (script : List ℕ) → List Step → World → Type 0
+EndsBegun e n p script more w = Ends e n p script w × (e ≢ TooMany → IsBegun p more)

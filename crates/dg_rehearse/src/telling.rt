@@ -1,0 +1,80 @@
+//! Whether the last lines of a world tell that every mote has the image.
+ghost use Rattle.std.specs.Prelude.{◌≡◌, ◌≤◌, true, length};
+ghost use Rattle.std.specs.List.{list_any};
+ghost use Rattle.dg_object.specs.Sizes.{most_bytes};
+ghost use Rattle.dg_object.specs.Object.{pages_for};
+ghost use Rattle.dg_rehearse.specs.Ended.{TellsEach, TellsOf, tells_kept, tells_on};
+
+use crate::plan::Plan;
+use dg_object::pages_of;
+use dg_script::Report;
+
+/// Whether lines tell that each of so many motes keeps all pages of the image, and runs it, where it was ordered.
+pub(crate) fn all_have(reports: &[Report], motes: u8, plan: &Plan) -> bool
+    requires fits { length plan.now.content ≤ most_bytes }
+    ensures { result ≡ true → TellsEach motes plan.now reports.now }
+{
+    let pages = pages_of(plan.content.as_slice().len() as u32);
+    for mote in 0..motes {
+        if !has(reports, mote, plan, pages) {
+            return false;
+        }
+    }
+    true
+}
+
+/// The same of a mote, where the image has so many pages.
+fn has(reports: &[Report], mote: u8, plan: &Plan, pages: u8) -> bool
+    requires pages { pages ≡ pages_for (length plan.now.content) }
+    ensures { result ≡ true → TellsOf plan.now mote reports.now }
+{
+    keeps(reports, mote, plan.image, plan.version, pages)
+        && (!plan.ordered || runs(reports, mote, plan.image, plan.version))
+}
+
+/// Whether a line tells that a mote keeps so many pages of this version of an image.
+fn keeps(reports: &[Report], mote: u8, image: u8, version: u32, pages: u8) -> bool
+    ensures { result ≡ list_any (tells_kept mote image version pages) reports.now }
+{
+    reports
+        .iter()
+        .any(|report| tells_kept(report, mote, image, version, pages))
+}
+
+/// Whether a line tells that a mote runs this version of an image.
+fn runs(reports: &[Report], mote: u8, image: u8, version: u32) -> bool
+    ensures { result ≡ list_any (tells_on mote image version) reports.now }
+{
+    reports
+        .iter()
+        .any(|report| tells_on(report, mote, image, version))
+}
+
+/// Whether this line does.
+fn tells_kept(report: &Report, by: u8, of: u8, in_version: u32, count: u8) -> bool
+    ensures { result ≡ tells_kept by of in_version count report.now }
+{
+    match report {
+        Report::Kept {
+            mote,
+            image,
+            version,
+            pages,
+        } => *mote == by && (*image == of && (*version == in_version && *pages == count)),
+        _ => false,
+    }
+}
+
+/// Whether this line does.
+fn tells_on(report: &Report, by: u8, of: u8, in_version: u32) -> bool
+    ensures { result ≡ tells_on by of in_version report.now }
+{
+    match report {
+        Report::MoteOn {
+            mote,
+            image,
+            version,
+        } => *mote == by && (*image == of && *version == in_version),
+        _ => false,
+    }
+}
