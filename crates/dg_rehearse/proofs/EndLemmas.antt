@@ -29,7 +29,7 @@ use Rattle.dg_rules.specs.World.{World, store_at}
 use Rattle.dg_rules.proofs.TableLemmas.{same_some, find_here, has_own_image_version}
 use Rattle.dg_world.specs.Alone.{uncut}
 use Rattle.dg_world.specs.declared.world.World.{World as KeptWorld}
-use Rattle.dg_rehearse.specs.Ended.{Ended, DeliversAlong, EndsAs, Ends, EndsNow, EndsBegun, IsComplete, IsBegun, IsInjected, IsOrdered, TellsEach}
+use Rattle.dg_rehearse.specs.Ended.{RehearsalEnded, DeliversAlong, EndsAs, Ends, EndsNow, EndsBegun, IsComplete, HasBegun, InjectsImage, OrdersImage, TellsEach}
 use Rattle.dg_rehearse.specs.Rehearsed.{Rehearses, IsRehearsed, IsRehearsedStep, IsPlanned, IsStaged, IsUnderWay, GoesOnBy, GoesOn, Any, Makes, IsFull, OnlyDeclared, Staging, planned_row, played_item}
 use Rattle.dg_rehearse.specs.declared.plan.Ending.{Ending}
 use Rattle.dg_rehearse.specs.declared.plan.Ending.TheVariants.{Complete, OutOfTime, TooMany, TooLong}
@@ -131,7 +131,7 @@ ends_as law OutOfTime n p initial s allowed planned t h = h
 ends_as law TooMany n p initial s allowed planned t h = h
 ends_as law TooLong n p initial s allowed planned t h = h
 
-begun_later : (p : Plan) (before more : List Step) → IsBegun p more → IsBegun p (before ++ more)
+begun_later : (p : Plan) (before more : List Step) → HasBegun p more → HasBegun p (before ++ more)
 begun_later p before more b = (
   (b.0.0, Contains-append_right before more (uncut (Inject p.at p.image p.version 0 b.0.0)) b.0.1),
   λ ordered. let o = b.1 ordered in (o.0, Contains-append_right before more (uncut (Order p.at 1 p.image p.version 0 o.0)) o.1),
@@ -140,7 +140,7 @@ begun_later p before more b = (
 -- ---- the whole rehearsal
 
 pub ended : AgreesLaw → (n : NetProfile) (p : Plan) (initial boards : List Device) (s : Staging) (kept : KeptWorld) (r : Rehearsal) → IsAllowed n → IsPlanned n.motes p → IsStaged n p initial s
-    → GoesOnBy (EndsBegun r.ending n p r.script.items) n p s (record { kept = kept; boards = boards; script = r.script.items; moment = r.moment }) → Ended n p initial boards r
+    → GoesOnBy (EndsBegun r.ending n p r.script.items) n p s (record { kept = kept; boards = boards; script = r.script.items; moment = r.moment }) → RehearsalEnded n p initial boards r
 ended law n p initial boards s kept r allowed planned x goes =
     let u : Staging = record { kept = kept; boards = boards; script = r.script.items; moment = r.moment } in
     let o = goes.goes initial x in
@@ -149,7 +149,7 @@ ended law n p initial boards s kept r allowed planned x goes =
       told = rehearsed n p u initial allowed planned t;
       ends = ends_as law r.ending n p initial u allowed planned t o.1.0;
       moment = t.moment;
-      begun = λ enough. subst (λ (l : List Step). IsBegun p l) (sym o.0.steps) (begun_later p x.steps o.0.more (o.1.1 enough));
+      begun = λ enough. subst (λ (l : List Step). HasBegun p l) (sym o.0.steps) (begun_later p x.steps o.0.more (o.1.1 enough));
     }
 
 pub delivers : (n : NetProfile) (p : Plan) (initial : List Device) (s u : Staging) → IsAllowed n → IsPlanned n.motes p → IsStaged n p initial s → GoesOn n p s u → DeliversAlong n p initial u.boards u.script
@@ -176,21 +176,21 @@ option_same a b e = cc
 one_there : (x : Step) (xs : List Step) → xs ≡ x ∷ [] → Contains xs x
 one_there x xs e = subst (λ (l : List Step). Contains l x) (sym e) (Contains-push [] x)
 
-pub injected_by : (n : NetProfile) (p : Plan) (word : ℕ) (s t : Staging) → Makes (uncut (Inject p.at p.image p.version 0 word)) n p s t → GoesOnBy (λ more w. IsInjected p more) n p s t
-injected_by n p word s t m = weaker _ (λ more w. IsInjected p more) n p s t (λ more w e. (word, one_there (uncut (Inject p.at p.image p.version 0 word)) more e)) m.0
+pub injected_by : (n : NetProfile) (p : Plan) (word : ℕ) (s t : Staging) → Makes (uncut (Inject p.at p.image p.version 0 word)) n p s t → GoesOnBy (λ more w. InjectsImage p more) n p s t
+injected_by n p word s t m = weaker _ (λ more w. InjectsImage p more) n p s t (λ more w e. (word, one_there (uncut (Inject p.at p.image p.version 0 word)) more e)) m.0
 
-pub ordered_by : (n : NetProfile) (p : Plan) (word : ℕ) (s t : Staging) → Makes (uncut (Order p.at 1 p.image p.version 0 word)) n p s t → GoesOnBy (λ more w. IsOrdered p more) n p s t
-ordered_by n p word s t m = weaker _ (λ more w. IsOrdered p more) n p s t (λ more w e ordered. (word, one_there (uncut (Order p.at 1 p.image p.version 0 word)) more e)) m.0
+pub ordered_by : (n : NetProfile) (p : Plan) (word : ℕ) (s t : Staging) → Makes (uncut (Order p.at 1 p.image p.version 0 word)) n p s t → GoesOnBy (λ more w. OrdersImage p more) n p s t
+ordered_by n p word s t m = weaker _ (λ more w. OrdersImage p more) n p s t (λ more w e ordered. (word, one_there (uncut (Order p.at 1 p.image p.version 0 word)) more e)) m.0
 
-pub unordered : (n : NetProfile) (p : Plan) (s : Staging) → p.ordered ≡ false → GoesOnBy (λ more w. IsOrdered p more) n p s s
-unordered n p s not_so = goes_nowhere_by (λ more w. IsOrdered p more) n p s (λ initial t so. absurd (differ (sym so ∙ not_so)))
+pub unordered : (n : NetProfile) (p : Plan) (s : Staging) → p.ordered ≡ false → GoesOnBy (λ more w. OrdersImage p more) n p s s
+unordered n p s not_so = goes_nowhere_by (λ more w. OrdersImage p more) n p s (λ initial t so. absurd (differ (sym so ∙ not_so)))
   where
     differ : true ≡ false → ⊥
     differ e = cc
 
-pub begun_by : (n : NetProfile) (p : Plan) (s t u : Staging) → GoesOnBy (λ more w. IsInjected p more) n p s t → GoesOnBy (λ more w. IsOrdered p more) n p t u → GoesOnBy (λ more w. IsBegun p more) n p s u
+pub begun_by : (n : NetProfile) (p : Plan) (s t u : Staging) → GoesOnBy (λ more w. InjectsImage p more) n p s t → GoesOnBy (λ more w. OrdersImage p more) n p t u → GoesOnBy (λ more w. HasBegun p more) n p s u
 begun_by n p s t u a b =
-    then_by (λ more w. IsInjected p more) (λ more w. IsOrdered p more) (λ more w. IsBegun p more) n p s t u
+    then_by (λ more w. InjectsImage p more) (λ more w. OrdersImage p more) (λ more w. HasBegun p more) n p s t u
     (λ xs ys w v i o. (
       (i.0, Contains-append_left xs ys (uncut (Inject p.at p.image p.version 0 i.0)) i.1),
       λ ordered. let k = o ordered in (k.0, Contains-append_right xs ys (uncut (Order p.at 1 p.image p.version 0 k.0)) k.1),
@@ -198,17 +198,17 @@ begun_by n p s t u a b =
 
 -- ---- how it ends
 
-begun_first : (p : Plan) (xs ys : List Step) → IsBegun p xs → IsBegun p (xs ++ ys)
+begun_first : (p : Plan) (xs ys : List Step) → HasBegun p xs → HasBegun p (xs ++ ys)
 begun_first p xs ys b = (
   (b.0.0, Contains-append_left xs ys (uncut (Inject p.at p.image p.version 0 b.0.0)) b.0.1),
   λ ordered. let k = b.1 ordered in (k.0, Contains-append_left xs ys (uncut (Order p.at 1 p.image p.version 0 k.0)) k.1),
 )
 
-pub begun_ends : (e : Ending) (n : NetProfile) (p : Plan) (script : List ℕ) (s t u v : Staging) → GoesOn n p s t → GoesOnBy (λ more w. IsBegun p more) n p t u → GoesOnBy (λ more w. Ends e n p script w) n p u v → GoesOnBy (EndsBegun e n p script) n p s v
+pub begun_ends : (e : Ending) (n : NetProfile) (p : Plan) (script : List ℕ) (s t u v : Staging) → GoesOn n p s t → GoesOnBy (λ more w. HasBegun p more) n p t u → GoesOnBy (λ more w. Ends e n p script w) n p u v → GoesOnBy (EndsBegun e n p script) n p s v
 begun_ends e n p script s t u v a b c =
-    then_by (λ more w. IsBegun p more) (λ more w. Ends e n p script w) (EndsBegun e n p script) n p s u v
+    then_by (λ more w. HasBegun p more) (λ more w. Ends e n p script w) (EndsBegun e n p script) n p s u v
     (λ xs ys w z begun ends. (ends, λ enough. begun_first p xs ys begun))
-    (then_by Any (λ more w. IsBegun p more) (λ more w. IsBegun p more) n p s t u (λ xs ys w z _ h. begun_later p xs ys h) a b) c
+    (then_by Any (λ more w. HasBegun p more) (λ more w. HasBegun p more) n p s t u (λ xs ys w z _ h. begun_later p xs ys h) a b) c
 
 pub full_ends : (n : NetProfile) (p : Plan) (script : List ℕ) (s t : Staging) → GoesOn n p s t → IsFull t → GoesOnBy (λ more w. Ends TooMany n p script w) n p s t
 full_ends n p script s t g full =

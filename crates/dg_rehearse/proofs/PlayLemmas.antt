@@ -253,12 +253,6 @@ pub told_sends : {T E : Type 0} (result : Result T E) (fault : WorldFault) (m : 
 told_sends result fault m kept kept2 boards boards2 script moment same told =
     on_ok_weaker result (λ is. let e = same is in λ w v here there. inl (frames_same kept2 boards2 boards2 v w there (e.0 w here))) told
 
-pub told_full : (n : NetProfile) (p : Plan) (fault : WorldFault) (kept kept2 : KeptWorld) (boards boards2 : List Device) (script : List ℕ) (moment : ℕ)
-    → IsUnderWay n p (At kept boards script moment)
-    → ((w : World) → IsWorld kept boards w → w.events ≡ most_events) → ((w : World) → IsWorld kept boards w → IsWorld kept2 boards2 w)
-    → IsFull (At kept2 boards2 script moment)
-told_full n p fault kept kept2 boards boards2 script moment u full is = (is u.staged.world u.staged.is).events ∙ full u.staged.world u.staged.is
-
 -- ---- answers
 
 pub at_ok : {T E : Type 0} (r : Result T E) (x : T) (G : Type 0) → r ≡ Ok x → OnOk r G → G

@@ -1,5 +1,6 @@
 -- How a rehearsal ended, and what that means (docs/COMMANDS.md, "Rehearsing by the clock").
-use Rattle.std.specs.Prelude.{◌≡◌, ◌≢◌, ℕ, ◌+◌, ◌*◌, ◌<◌, ◌≤◌, ◌==◌, ◌&&◌, Bool, true, false, List, length, Contains, Option, Some}
+use Rattle.std.specs.Prelude.{◌≡◌, ◌≢◌, ℕ, ◌+◌, ◌*◌, ◌<◌, ◌≤◌, ◌==◌, ◌&&◌, Bool, true, false, List}
+use Rattle.std.specs.Prelude.{length, Contains, Option, Some}
 use Rattle.std.specs.Prelude.{IsSomeAnd}
 use Rattle.std.specs.List.{AllByRecursion, list_any}
 use Rattle.dg_base.specs.declared.events.Event.TheVariants.{Inject, Order}
@@ -25,8 +26,8 @@ use Rattle.dg_rehearse.specs.declared.plan.Rehearsal.{Rehearsal}
 -- ---- what is promised
 
 -- a chip keeps the image that was injected, whole
-abbrev pub KeepsImage : Plan → Store → Type 0
-KeepsImage p s = held s p.image ≡ Some (held_whole (planned_row p))
+abbrev pub KeepsPlanned : Plan → Store → Type 0
+KeepsPlanned p s = held s p.image ≡ Some (held_whole (planned_row p))
 
 -- a mote is on, and runs it
 abbrev pub RunsImage : Plan → Option Running → Type 0
@@ -34,7 +35,7 @@ RunsImage p runs = IsSomeAnd runs (λ r. (r.image_version.image ≡ p.image) × 
 
 -- Every mote keeps it, and where it was ordered, runs it.
 pub record IsComplete (n : NetProfile) (p : Plan) (w : World) : Type 0 where
-  pub keeps : (m : ℕ) → m < n.motes → KeepsImage p (store_at w m)
+  pub keeps : (m : ℕ) → m < n.motes → KeepsPlanned p (store_at w m)
   pub runs : p.ordered ≡ true → (m : ℕ) → m < n.motes → RunsImage p (site w m).runs
 
 -- the bytes that a script must have left for another turn
@@ -50,24 +51,24 @@ EndsAs TooMany n p w script = w.events ≡ most_events
 EndsAs TooLong n p w script = most_used_bytes < length script + turn_room
 
 -- the image of the plan is injected into its mote
-abbrev pub IsInjected : Plan → List Step → Type 0
-IsInjected p steps = (word : ℕ) × Contains steps (uncut (Inject p.at p.image p.version 0 word))
+abbrev pub InjectsImage : Plan → List Step → Type 0
+InjectsImage p steps = (word : ℕ) × Contains steps (uncut (Inject p.at p.image p.version 0 word))
 
 -- and ordered there, if it is to be
-abbrev pub IsOrdered : Plan → List Step → Type 0
-IsOrdered p steps = p.ordered ≡ true → (word : ℕ) × Contains steps (uncut (Order p.at 1 p.image p.version 0 word))
+abbrev pub OrdersImage : Plan → List Step → Type 0
+OrdersImage p steps = p.ordered ≡ true → (word : ℕ) × Contains steps (uncut (Order p.at 1 p.image p.version 0 word))
 
 -- what is injected and ordered
-abbrev pub IsBegun : Plan → List Step → Type 0
-IsBegun p steps = IsInjected p steps × IsOrdered p steps
+abbrev pub HasBegun : Plan → List Step → Type 0
+HasBegun p steps = InjectsImage p steps × OrdersImage p steps
 
 -- A rehearsal ended as it says, at its moment. Unless there were too many events, the image was injected, and ordered, if it
 -- was to be.
-pub record Ended (n : NetProfile) (p : Plan) (initial boards : List Device) (r : Rehearsal) : Type 0 where
+pub record RehearsalEnded (n : NetProfile) (p : Plan) (initial boards : List Device) (r : Rehearsal) : Type 0 where
   pub told : Rehearsed n p initial boards r.script.items
   pub ends : EndsAs r.ending n p told.world r.script.items
   pub moment : r.moment ≡ told.world.moment
-  pub begun : r.ending ≢ TooMany → IsBegun p told.steps
+  pub begun : r.ending ≢ TooMany → HasBegun p told.steps
 
 -- No frame is delivered but along a link of the profile.
 pub record DeliversAlong (n : NetProfile) (p : Plan) (initial boards : List Device) (script : List ℕ) : Type 0 where
@@ -108,4 +109,4 @@ EndsNow TooLong p s = most_used_bytes < length s.script + turn_room
 
 -- it ends so, and unless there were too many events, it has begun
 abbrev pub EndsBegun : Ending → NetProfile → Plan → (script : List ℕ) → List Step → World → Type 0
-EndsBegun e n p script more w = Ends e n p script w × (e ≢ TooMany → IsBegun p more)
+EndsBegun e n p script more w = Ends e n p script w × (e ≢ TooMany → HasBegun p more)

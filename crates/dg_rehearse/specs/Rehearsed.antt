@@ -144,7 +144,8 @@ staging stage boards = record { kept = stage.world; boards = boards; script = st
 
 -- the table of images has no rows but golden and those that were declared
 abbrev pub OnlyDeclared : World → Type 0
-OnlyDeclared w = (image version : ℕ) (row : Row) → 1 ≤ image → row_at w.table image version ≡ Some row → row_at w.declared image version ≡ Some row
+OnlyDeclared w = (image version : ℕ) (row : Row) → 1 ≤ image → row_at w.table image version ≡ Some row
+    → row_at w.declared image version ≡ Some row
 
 -- The script spells the steps that were played so far, and the boards, which were `initial` before they were formatted, stand
 -- for the world then.
@@ -170,8 +171,8 @@ pub record IsUnderWay (n : NetProfile) (p : Plan) (s : Staging) : Type 0 where
   pub staged : IsStaged n p initial s
 
 -- What was staged goes on: these steps were played more, and these frames were sent.
-pub record Onward (n : NetProfile) (p : Plan) (initial : List Device) (s : Staging) (x : IsStaged n p initial s) (t : Staging) : Type
-    0 where
+pub record Onward (n : NetProfile) (p : Plan) (initial : List Device) (s : Staging) (x : IsStaged n p initial s)
+    (t : Staging) : Type 0 where
   pub staged : IsStaged n p initial t
   pub more : List Step
   pub steps : staged.steps ≡ x.steps ++ more

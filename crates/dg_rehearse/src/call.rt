@@ -3,7 +3,7 @@ ghost use Rattle.std.specs.Prelude.{◌≡◌, ◌≢◌, ◌⊎◌, ◌<◌, �
 ghost use Rattle.dg_netcfg.specs.Readings.{IsAllowed};
 ghost use Rattle.dg_script.specs.Ranges.{IsDeclared};
 ghost use Rattle.dg_object.specs.Sizes.{most_bytes};
-ghost use Rattle.dg_rehearse.specs.Ended.{Ended, DeliversAlong};
+ghost use Rattle.dg_rehearse.specs.Ended.{RehearsalEnded, DeliversAlong};
 ghost use Rattle.dg_rehearse.specs.Rehearsed.{Rehearsed, IsPlanned, planned_row};
 ghost use Rattle.dg_rehearse.specs.declared.stop.Stop.{Stop};
 
@@ -29,7 +29,8 @@ pub fn rehearse<N: Nor>(
     ensures rehearsed { IfOk result (λ r. Rehearsed profile.now plan.now (map N.device boards.old.items)
         (map N.device boards.new.items) r.script.items) }
     // every mote has the image, or the minutes are over, or a script has no room for more
-    ensures ends { IfOk result (Ended profile.now plan.now (map N.device boards.old.items) (map N.device boards.new.items)) }
+    ensures ends { IfOk result (RehearsalEnded profile.now plan.now (map N.device boards.old.items)
+        (map N.device boards.new.items)) }
     ensures along { IfOk result (λ r. DeliversAlong profile.now plan.now (map N.device boards.old.items)
         (map N.device boards.new.items) r.script.items) }
     ensures no_mote { result ≡ Err Stop.NoMote → profile.now.motes ≤ plan.now.at }
@@ -59,7 +60,8 @@ fn play<N: Nor>(
     requires boards { profile.now.motes ≤ length boards.old.items }
     ensures rehearsed { IfOk result (λ r. Rehearsed profile.now plan.now (map N.device boards.old.items)
         (map N.device boards.new.items) r.script.items) }
-    ensures ends { IfOk result (Ended profile.now plan.now (map N.device boards.old.items) (map N.device boards.new.items)) }
+    ensures ends { IfOk result (RehearsalEnded profile.now plan.now (map N.device boards.old.items)
+        (map N.device boards.new.items)) }
     ensures along { IfOk result (λ r. DeliversAlong profile.now plan.now (map N.device boards.old.items)
         (map N.device boards.new.items) r.script.items) }
 {

@@ -4,9 +4,10 @@ ghost use Rattle.dg_script.specs.Fitting.{FitsCut};
 ghost use Rattle.dg_rehearse.specs.Rehearsed.{IsUnderWay, GoesOn, MoreEvents, IsFull, staging};
 
 use crate::plan::Plan;
-use crate::schedule::{Schedule, since};
+use crate::schedule::Schedule;
 use crate::stage::{Played, Stage};
 use crate::stop::Halt;
+use crate::turning::since;
 use dg_base::{Bytes, Cut, Event};
 use dg_netcfg::NetProfile;
 use dg_nor::Nor;

@@ -14,6 +14,7 @@ mod schedule;
 mod stage;
 mod stop;
 mod telling;
+mod turning;
 
 pub use call::rehearse;
 pub use plan::{Ending, Plan, Rehearsal};

@@ -1,6 +1,6 @@
 //! How a rehearsal begins: the power of each mote comes, and the image is injected.
 ghost use Rattle.std.specs.Prelude.{◌≡◌, ◌<◌, map, Ok, OnOk};
-ghost use Rattle.dg_rehearse.specs.Ended.{IsBegun, IsOrdered};
+ghost use Rattle.dg_rehearse.specs.Ended.{HasBegun, OrdersImage};
 ghost use Rattle.dg_rehearse.specs.Rehearsed.{IsUnderWay, GoesOn, GoesOnBy, IsFull, staging};
 
 use crate::plan::Plan;
@@ -60,7 +60,8 @@ impl Schedule {
         requires under_way { IsUnderWay profile.now plan.now (staging stage.old (map N.device boards.old.items)) }
         ensures goes_on { OnOk result (GoesOn profile.now plan.now (staging stage.old (map N.device boards.old.items))
             (staging stage.new (map N.device boards.new.items))) }
-        ensures begun { result ≡ Ok Played.Done → GoesOnBy (λ more w. IsBegun plan.now more) profile.now plan.now (staging stage.old (map N.device boards.old.items))
+        ensures begun { result ≡ Ok Played.Done → GoesOnBy (λ more w. HasBegun plan.now more) profile.now plan.now
+            (staging stage.old (map N.device boards.old.items))
             (staging stage.new (map N.device boards.new.items)) }
         ensures full { result ≡ Ok Played.TooMany → IsFull (staging stage.new (map N.device boards.new.items)) }
     {
@@ -90,7 +91,8 @@ impl Schedule {
         requires under_way { IsUnderWay profile.now plan.now (staging stage.old (map N.device boards.old.items)) }
         ensures goes_on { OnOk result (GoesOn profile.now plan.now (staging stage.old (map N.device boards.old.items))
             (staging stage.new (map N.device boards.new.items))) }
-        ensures ordered { result ≡ Ok Played.Done → GoesOnBy (λ more w. IsOrdered plan.now more) profile.now plan.now (staging stage.old (map N.device boards.old.items))
+        ensures ordered { result ≡ Ok Played.Done → GoesOnBy (λ more w. OrdersImage plan.now more) profile.now plan.now
+            (staging stage.old (map N.device boards.old.items))
             (staging stage.new (map N.device boards.new.items)) }
         ensures full { result ≡ Ok Played.TooMany → IsFull (staging stage.new (map N.device boards.new.items)) }
     {

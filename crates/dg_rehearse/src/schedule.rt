@@ -15,11 +15,11 @@ ghost use Rattle.dg_rehearse.specs.declared.schedule.Coming.{Coming};
 ghost use Rattle.dg_rehearse.specs.declared.schedule.Next.{Next};
 
 use crate::cutting::BETWEEN_CUTS;
-use crate::neighbours::are_linked;
 use crate::plan::{Ending, Plan};
 use crate::progress::Progress;
 use crate::stage::{Played, Stage};
 use crate::stop::Halt;
+use crate::turning::ending_of;
 use dg_base::{Event, MOST_MOTES};
 use dg_netcfg::NetProfile;
 use dg_nor::Nor;
@@ -50,9 +50,9 @@ pub(crate) struct Schedule {
 
 /// What comes next, and when.
 #[derive(Clone, Copy, Debug, PartialEq, Eq)]
-struct Next {
-    mote: u8,
-    moment: u64,
+pub(crate) struct Next {
+    pub(crate) mote: u8,
+    pub(crate) moment: u64,
 }
 
 /// What comes next: the end, a reset with a cut, or a mote's turn.
@@ -142,7 +142,8 @@ impl Schedule {
         ensures ends { (e : End) → result ≡ Ok (Some e)
             → GoesOnBy (λ more w. Ends e profile.now plan.now stage.new.script.items w) profile.now plan.now
             (staging stage.old (map N.device boards.old.items)) (staging stage.new (map N.device boards.new.items)) }
-        ensures events { result ≡ Ok None → MoreEvents (staging stage.old (map N.device boards.old.items)) (staging stage.new (map N.device boards.new.items)) }
+        ensures events { result ≡ Ok None → MoreEvents
+            (staging stage.old (map N.device boards.old.items)) (staging stage.new (map N.device boards.new.items)) }
     {
         if self.is_complete(profile, plan, stage, boards)? {
             return Ok(Some(Ending::Complete));
@@ -189,7 +190,8 @@ impl Schedule {
         ensures ends { (e : End) → result ≡ Ok (Some e)
             → GoesOnBy (λ more w. Ends e profile.now plan.now stage.new.script.items w) profile.now plan.now
             (staging stage.old (map N.device boards.old.items)) (staging stage.new (map N.device boards.new.items)) }
-        ensures events { result ≡ Ok None → MoreEvents (staging stage.old (map N.device boards.old.items)) (staging stage.new (map N.device boards.new.items)) }
+        ensures events { result ≡ Ok None → MoreEvents
+            (staging stage.old (map N.device boards.old.items)) (staging stage.new (map N.device boards.new.items)) }
     {
         match self.coming(profile.motes, plan, stage) {
             Coming::End(ending) => Ok(Some(ending)),
@@ -258,120 +260,6 @@ impl Schedule {
         }
     }
 
-    /// A mote has its turn: it ticks, or its power comes back.
-    fn turn<N: Nor>(
-        &mut self,
-        next: Next,
-        profile: &NetProfile,
-        plan: &Plan,
-        stage: &mut Stage,
-        boards: &mut Vec<N>,
-    ) -> Result<Played, Halt>
-        requires under_way { IsUnderWay profile.now plan.now (staging stage.old (map N.device boards.old.items)) }
-        requires known { next.mote < profile.now.motes }
-        ensures goes_on { OnOk result (GoesOn profile.now plan.now (staging stage.old (map N.device boards.old.items))
-            (staging stage.new (map N.device boards.new.items))) }
-        ensures events { result ≡ Ok Played.Done → MoreEvents (staging stage.old (map N.device boards.old.items))
-            (staging stage.new (map N.device boards.new.items)) }
-        ensures full { result ≡ Ok Played.TooMany → IsFull (staging stage.new (map N.device boards.new.items)) }
-    {
-        let dt = since(stage.moment, next.moment);
-        let word = self.draws.next();
-        let mote = next.mote;
-        let event = event_of_turn(stage.world.due(mote).is_some(), mote, dt, word);
-        let before = stage.world.frames_sent();
-        let played = self.event(event, mote, profile, plan, stage, boards)?;
-        // a mote ticks at most once in a millisecond
-        self.rest(mote, stage.moment.saturating_add(1));
-        match played {
-            Played::Done => self.deliver(mote, before, profile, plan, stage, boards),
-            Played::TooMany => Ok(Played::TooMany),
-        }
-    }
-
-    /// The frame that a mote sent, if there are more than before, is heard by each neighbour that it reaches.
-    #[tactic(auto, using(crate::proofs::PlayLemmas::goes_nowhere))]
-    fn deliver<N: Nor>(
-        &mut self,
-        from: u8,
-        before: usize,
-        profile: &NetProfile,
-        plan: &Plan,
-        stage: &mut Stage,
-        boards: &mut Vec<N>,
-    ) -> Result<Played, Halt>
-        requires under_way { IsUnderWay profile.now plan.now (staging stage.old (map N.device boards.old.items)) }
-        requires sent { LastSentBy from before (staging stage.old (map N.device boards.old.items)) }
-        ensures goes_on { OnOk result (GoesOn profile.now plan.now (staging stage.old (map N.device boards.old.items))
-            (staging stage.new (map N.device boards.new.items))) }
-        ensures full { result ≡ Ok Played.TooMany → IsFull (staging stage.new (map N.device boards.new.items)) }
-    {
-        let sent = stage.world.frames_sent();
-        if sent <= before {
-            return Ok(Played::Done);
-        }
-        let Ok(frame) = u32::try_from(sent) else {
-            return Ok(Played::Done);
-        };
-        for mote in 0..profile.motes {
-            match self.hear(from, mote, frame, profile, plan, stage, boards)? {
-                Played::Done => {}
-                Played::TooMany => return Ok(Played::TooMany),
-            }
-        }
-        Ok(Played::Done)
-    }
-
-    /// A frame is heard by a mote, if it reaches it.
-    #[tactic(auto, using(crate::proofs::PlayLemmas::goes_nowhere))]
-    fn hear<N: Nor>(
-        &mut self,
-        from: u8,
-        mote: u8,
-        frame: u32,
-        profile: &NetProfile,
-        plan: &Plan,
-        stage: &mut Stage,
-        boards: &mut Vec<N>,
-    ) -> Result<Played, Halt>
-        requires under_way { IsUnderWay profile.now plan.now (staging stage.old (map N.device boards.old.items)) }
-        requires known { mote < profile.now.motes }
-        requires numbered { 1 ≤ frame }
-        requires sent { SentBy from frame (staging stage.old (map N.device boards.old.items)) }
-        ensures goes_on { OnOk result (GoesOn profile.now plan.now (staging stage.old (map N.device boards.old.items))
-            (staging stage.new (map N.device boards.new.items))) }
-        ensures full { result ≡ Ok Played.TooMany → IsFull (staging stage.new (map N.device boards.new.items)) }
-    {
-        if !self.reaches(from, mote, profile, plan, stage) {
-            return Ok(Played::Done);
-        }
-        let word = self.draws.next();
-        let event = Event::Hear {
-            mote,
-            dt: 0,
-            word,
-            frame,
-        };
-        self.event(event, mote, profile, plan, stage, boards)
-    }
-
-    /// Whether a frame reaches a mote: they are neighbours, the mote is on, and the draw does not lose it.
-    fn reaches(
-        &mut self,
-        from: u8,
-        mote: u8,
-        profile: &NetProfile,
-        plan: &Plan,
-        stage: &Stage,
-    ) -> bool
-        ensures { result ≡ true → is_linked profile.now.links from mote ≡ true }
-    {
-        mote != from
-            && are_linked(profile.links.as_slice(), from, mote)
-            && stage.world.due(mote).is_some()
-            && self.draws.next() % 100 >= u32::from(plan.loss)
-    }
-
     /// Plays an event at a mote, and notes what came of it.
     pub(crate) fn event<N: Nor>(
         &mut self,
@@ -387,7 +275,8 @@ impl Schedule {
         requires along { GoesAlong profile.now event (staging stage.old (map N.device boards.old.items)) }
         ensures goes_on { OnOk result (GoesOn profile.now plan.now (staging stage.old (map N.device boards.old.items))
             (staging stage.new (map N.device boards.new.items))) }
-        ensures makes { result ≡ Ok Played.Done → Makes (uncut event) profile.now plan.now (staging stage.old (map N.device boards.old.items))
+        ensures makes { result ≡ Ok Played.Done → Makes (uncut event) profile.now plan.now
+            (staging stage.old (map N.device boards.old.items))
             (staging stage.new (map N.device boards.new.items)) }
         ensures full { result ≡ Ok Played.TooMany → IsFull (staging stage.new (map N.device boards.new.items)) }
         ensures sends { OnOk result (SendsOnly (mote_of event) (staging stage.old (map N.device boards.old.items))
@@ -412,24 +301,11 @@ impl Schedule {
     }
 
     /// Nothing of a mote is due before this moment.
-    fn rest(&mut self, mote: u8, moment: u64) {
+    pub(crate) fn rest(&mut self, mote: u8, moment: u64) {
         let mote = usize::from(mote);
         if mote < self.due.len() {
             self.due[mote] = self.due[mote].max(moment);
         }
-    }
-}
-
-/// The event of a mote's turn: a tick where it is on, else the reset by which its power comes back.
-fn event_of_turn(is_on: bool, mote: u8, dt: u32, word: u32) -> Event
-    ensures fits { (motes : ℕ) → mote < motes → IsRehearsed motes result }
-    ensures mote { mote_of result ≡ mote }
-    ensures along { (n : Profile) (s : Staging) → GoesAlong n result s }
-{
-    if is_on {
-        Event::Tick { mote, dt, word }
-    } else {
-        Event::Reset { mote, dt, word }
     }
 }
 
@@ -442,20 +318,4 @@ fn coming_at(is_cut: bool, moment: u64, next: Next) -> Coming
         return Coming::Cut { moment };
     }
     Coming::Turn(next)
-}
-
-/// What ends a rehearsal in which an event was played, or was one too many.
-fn ending_of(played: Played) -> Option<Ending>
-    ensures none { result ≡ None → played ≡ Played.Done }
-    ensures many { (e : End) → result ≡ Some e → (e ≡ End.TooMany) × (played ≡ Played.TooMany) }
-{
-    match played {
-        Played::Done => None,
-        Played::TooMany => Some(Ending::TooMany),
-    }
-}
-
-/// The milliseconds from one moment to another, which is not before it.
-pub(crate) fn since(from: u64, to: u64) -> u32 {
-    to.saturating_sub(from).min(u64::from(u32::MAX)) as u32
 }

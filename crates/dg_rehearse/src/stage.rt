@@ -8,7 +8,8 @@ ghost use Rattle.dg_rules.specs.Events.{mote_of, dt_of};
 ghost use Rattle.dg_world.specs.Alone.{uncut};
 ghost use Rattle.dg_world.specs.declared.world.WorldFault.{WorldFault};
 ghost use Rattle.dg_rehearse.specs.Ended.{Ends};
-ghost use Rattle.dg_rehearse.specs.Rehearsed.{IsPlanned, IsRehearsed, IsStaged, IsUnderWay, GoesOn, GoesOnBy, Makes, MoreEvents, IsFull};
+ghost use Rattle.dg_rehearse.specs.Rehearsed.{IsPlanned, IsRehearsed, IsStaged, IsUnderWay, GoesOn, GoesOnBy};
+ghost use Rattle.dg_rehearse.specs.Rehearsed.{Makes, MoreEvents, IsFull};
 ghost use Rattle.dg_rehearse.specs.Rehearsed.{SendsOnly, GoesAlong, staging, written};
 ghost use Rattle.dg_rehearse.specs.declared.plan.Ending.{Ending};
 

@@ -1,0 +1,162 @@
+//! A turn of a mote: its event, who hears its frame, and what that ends.
+ghost use Rattle.std.specs.Prelude.{◌≡◌, ◌≤◌, ◌<◌, ℕ, true, map, Ok, OnOk, Some, None};
+ghost use Rattle.dg_netcfg.specs.declared.profile.NetProfile.{NetProfile as Profile};
+ghost use Rattle.dg_rules.specs.Events.{mote_of};
+ghost use Rattle.dg_script.specs.Places.{is_linked};
+ghost use Rattle.dg_rehearse.specs.Rehearsed.{IsRehearsed, IsUnderWay, GoesOn, MoreEvents, IsFull, Staging, staging};
+ghost use Rattle.dg_rehearse.specs.Rehearsed.{SentBy, LastSentBy, GoesAlong};
+ghost use Rattle.dg_rehearse.specs.declared.plan.Ending.{Ending as End};
+
+use crate::neighbours::are_linked;
+use crate::plan::{Ending, Plan};
+use crate::schedule::{Next, Schedule};
+use crate::stage::{Played, Stage};
+use crate::stop::Halt;
+use dg_base::Event;
+use dg_netcfg::NetProfile;
+use dg_nor::Nor;
+
+impl Schedule {
+    /// A mote has its turn: it ticks, or its power comes back.
+    pub(crate) fn turn<N: Nor>(
+        &mut self,
+        next: Next,
+        profile: &NetProfile,
+        plan: &Plan,
+        stage: &mut Stage,
+        boards: &mut Vec<N>,
+    ) -> Result<Played, Halt>
+        requires under_way { IsUnderWay profile.now plan.now (staging stage.old (map N.device boards.old.items)) }
+        requires known { next.mote < profile.now.motes }
+        ensures goes_on { OnOk result (GoesOn profile.now plan.now (staging stage.old (map N.device boards.old.items))
+            (staging stage.new (map N.device boards.new.items))) }
+        ensures events { result ≡ Ok Played.Done → MoreEvents (staging stage.old (map N.device boards.old.items))
+            (staging stage.new (map N.device boards.new.items)) }
+        ensures full { result ≡ Ok Played.TooMany → IsFull (staging stage.new (map N.device boards.new.items)) }
+    {
+        let dt = since(stage.moment, next.moment);
+        let word = self.draws.next();
+        let mote = next.mote;
+        let event = event_of_turn(stage.world.due(mote).is_some(), mote, dt, word);
+        let before = stage.world.frames_sent();
+        let played = self.event(event, mote, profile, plan, stage, boards)?;
+        // a mote ticks at most once in a millisecond
+        self.rest(mote, stage.moment.saturating_add(1));
+        match played {
+            Played::Done => self.deliver(mote, before, profile, plan, stage, boards),
+            Played::TooMany => Ok(Played::TooMany),
+        }
+    }
+
+    /// The frame that a mote sent, if there are more than before, is heard by each neighbour that it reaches.
+    #[tactic(auto, using(crate::proofs::PlayLemmas::goes_nowhere))]
+    fn deliver<N: Nor>(
+        &mut self,
+        from: u8,
+        before: usize,
+        profile: &NetProfile,
+        plan: &Plan,
+        stage: &mut Stage,
+        boards: &mut Vec<N>,
+    ) -> Result<Played, Halt>
+        requires under_way { IsUnderWay profile.now plan.now (staging stage.old (map N.device boards.old.items)) }
+        requires sent { LastSentBy from before (staging stage.old (map N.device boards.old.items)) }
+        ensures goes_on { OnOk result (GoesOn profile.now plan.now (staging stage.old (map N.device boards.old.items))
+            (staging stage.new (map N.device boards.new.items))) }
+        ensures full { result ≡ Ok Played.TooMany → IsFull (staging stage.new (map N.device boards.new.items)) }
+    {
+        let sent = stage.world.frames_sent();
+        if sent <= before {
+            return Ok(Played::Done);
+        }
+        let Ok(frame) = u32::try_from(sent) else {
+            return Ok(Played::Done);
+        };
+        for mote in 0..profile.motes {
+            match self.hear(from, mote, frame, profile, plan, stage, boards)? {
+                Played::Done => {}
+                Played::TooMany => return Ok(Played::TooMany),
+            }
+        }
+        Ok(Played::Done)
+    }
+
+    /// A frame is heard by a mote, if it reaches it.
+    #[tactic(auto, using(crate::proofs::PlayLemmas::goes_nowhere))]
+    fn hear<N: Nor>(
+        &mut self,
+        from: u8,
+        mote: u8,
+        frame: u32,
+        profile: &NetProfile,
+        plan: &Plan,
+        stage: &mut Stage,
+        boards: &mut Vec<N>,
+    ) -> Result<Played, Halt>
+        requires under_way { IsUnderWay profile.now plan.now (staging stage.old (map N.device boards.old.items)) }
+        requires known { mote < profile.now.motes }
+        requires numbered { 1 ≤ frame }
+        requires sent { SentBy from frame (staging stage.old (map N.device boards.old.items)) }
+        ensures goes_on { OnOk result (GoesOn profile.now plan.now (staging stage.old (map N.device boards.old.items))
+            (staging stage.new (map N.device boards.new.items))) }
+        ensures full { result ≡ Ok Played.TooMany → IsFull (staging stage.new (map N.device boards.new.items)) }
+    {
+        if !self.reaches(from, mote, profile, plan, stage) {
+            return Ok(Played::Done);
+        }
+        let word = self.draws.next();
+        let event = Event::Hear {
+            mote,
+            dt: 0,
+            word,
+            frame,
+        };
+        self.event(event, mote, profile, plan, stage, boards)
+    }
+
+    /// Whether a frame reaches a mote: they are neighbours, the mote is on, and the draw does not lose it.
+    fn reaches(
+        &mut self,
+        from: u8,
+        mote: u8,
+        profile: &NetProfile,
+        plan: &Plan,
+        stage: &Stage,
+    ) -> bool
+        ensures { result ≡ true → is_linked profile.now.links from mote ≡ true }
+    {
+        mote != from
+            && are_linked(profile.links.as_slice(), from, mote)
+            && stage.world.due(mote).is_some()
+            && self.draws.next() % 100 >= u32::from(plan.loss)
+    }
+}
+
+/// The event of a mote's turn: a tick where it is on, else the reset by which its power comes back.
+pub(crate) fn event_of_turn(is_on: bool, mote: u8, dt: u32, word: u32) -> Event
+    ensures fits { (motes : ℕ) → mote < motes → IsRehearsed motes result }
+    ensures mote { mote_of result ≡ mote }
+    ensures along { (n : Profile) (s : Staging) → GoesAlong n result s }
+{
+    if is_on {
+        Event::Tick { mote, dt, word }
+    } else {
+        Event::Reset { mote, dt, word }
+    }
+}
+
+/// The milliseconds from one moment to another, which is not before it.
+pub(crate) fn since(from: u64, to: u64) -> u32 {
+    to.saturating_sub(from).min(u64::from(u32::MAX)) as u32
+}
+
+/// What ends a rehearsal in which an event was played, or was one too many.
+pub(crate) fn ending_of(played: Played) -> Option<Ending>
+    ensures none { result ≡ None → played ≡ Played.Done }
+    ensures many { (e : End) → result ≡ Some e → (e ≡ End.TooMany) × (played ≡ Played.TooMany) }
+{
+    match played {
+        Played::Done => None,
+        Played::TooMany => Some(Ending::TooMany),
+    }
+}
