@@ -14,7 +14,8 @@ deluge_picture: draws how an image spread
 
 Usage: deluge_picture <REPORT >PICTURE
 
-It reads the report of `deluge replay` from standard input, and writes an SVG to standard output.
+It reads a report from standard input, as `deluge replay` and `deluge_cost --timed` write it, and writes an
+SVG to standard output.
 
 Options:
   --help     writes this text

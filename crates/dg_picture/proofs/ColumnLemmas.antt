@@ -1,64 +1,74 @@
 -- What columns show.
-use Rattle.std.proofs.Common.{◌≡◌, ℕ, ◌+◌, ◌-◌, ◌*◌, ◌/◌, ◌≤◌, ◌<◌, min, List, take, drop, ap, sym, ◌∙◌, arith}
+use Rattle.std.proofs.Common.{◌≡◌, ℕ, suc, ◌+◌, ◌*◌, ◌≤◌, nat_lt, true, false, List, [], ◌∷◌, take, drop, inl, inr, refl, ap, sym, ◌∙◌, arith}
+use Rattle.std.proofs.lemmas.Bool.{cases_lt, lt-ltb, le-ltb}
 use Rattle.std.proofs.lemmas.List.{drop-drop}
 use Rattle.std.proofs.lemmas.Grind.{fold-append}
 use Rattle.std.proofs.Math.Seq.{take-add}
-use Rattle.std.proofs.Math.Nat.{mul-le-mul_left}
-use Rattle.std.specs.List.{fold}
-use Rattle.dg_script.specs.declared.report.Report.{Report}
-use Rattle.dg_picture.specs.Layout.{left_of, column, shown, lane_bottom, height_of}
-use Rattle.dg_picture.specs.Picture.{step_text, bar_text, mark_text, column_marks, lane_of}
-use Rattle.dg_picture.specs.declared.reports.Pages.{Pages}
-use Rattle.dg_picture.specs.declared.reports.Mark.{Mark}
-use Rattle.dg_picture.specs.declared.layout.Grid.{Grid}
+use Rattle.std.specs.List.{fold, prefix_len, take_while}
+use Rattle.dg_picture.specs.Layout.{is_before, count_before, column}
+use Rattle.dg_story.specs.declared.told.Told.{Told}
 
-none : (per : ℕ) → 0 * per ≡ 0
-none per = omega arith
+none_before : (place : ℕ) (cs : List Told) → place ≡ 0 → prefix_len (is_before place) cs ≡ 0
+none_before place [] h = refl
+none_before place (t ∷ ts) h = let p : nat_lt t.place place ≡ false = le-ltb _ _ (omega (arith, h)) in rw p refl
 
-pub next : (per k : ℕ) → k * per + per ≡ (k + 1) * per
-next per k = omega arith
+drop_more : (n : ℕ) (t : Told) (ts : List Told) → drop (1 + n) (t ∷ ts) ≡ drop n ts
+drop_more n t ts = let e : 1 + n ≡ suc n = omega arith in rw e refl
+
+-- those before a later place are those before an earlier one, and some of the others
+more : (a b : ℕ) (cs : List Told) → a ≤ b
+    → prefix_len (is_before b) cs ≡ prefix_len (is_before a) cs + prefix_len (is_before b) (drop (prefix_len (is_before a) cs) cs)
+more a b [] h = refl
+more a b (t ∷ ts) h = elim (cases_lt t.place a) [
+  | inl small ↦
+      let p : nat_lt t.place a ≡ true = lt-ltb _ _ small in
+      let q : nat_lt t.place b ≡ true = lt-ltb _ _ (omega (arith, small, h)) in
+      let rest = more a b ts h in
+      let same = drop_more (prefix_len (is_before a) ts) t ts in
+      rw (p, q, same) (omega (arith, rest))
+  | inr large ↦
+      let p : nat_lt t.place a ≡ false = le-ltb _ _ large in
+      rw p (omega arith)
+]
+
+later : (per k : ℕ) → k * per ≤ (k + 1) * per
+later per k = omega arith
+
+next_before : (per k : ℕ) (cs : List Told)
+    → count_before per (k + 1) cs ≡ count_before per k cs + prefix_len (is_before ((k + 1) * per)) (drop (count_before per k cs) cs)
+next_before per k cs = more (k * per) ((k + 1) * per) cs (later per k)
 
 -- before the first column
-pub first_rest : {A : Type 0} (per : ℕ) (cs : List A) → cs ≡ drop (0 * per) cs
-first_rest per cs = ap (λ n. drop n cs) (sym (none per))
+pub first_before : (per : ℕ) (cs : List Told) → count_before per 0 cs ≡ 0
+first_before per cs = none_before (0 * per) cs (omega arith)
 
-pub first_kept : {A B : Type 0} (h : B → A → B) (z : B) (per : ℕ) (cs : List A) → z ≡ fold h z (take (0 * per) cs)
-first_kept h z per cs = ap (λ n. fold h z (take n cs)) (sym (none per))
+pub first_rest : (per : ℕ) (cs : List Told) → cs ≡ drop (count_before per 0 cs) cs
+first_rest per cs = ap (λ n. drop n cs) (sym (first_before per cs))
+
+pub first_kept : {B : Type 0} (h : B → Told → B) (z : B) (per : ℕ) (cs : List Told) → z ≡ fold h z (take (count_before per 0 cs) cs)
+first_kept h z per cs = ap (λ n. fold h z (take n cs)) (sym (first_before per cs))
 
 -- behind a column
-pub next_rest : {A : Type 0} (per k : ℕ) (cs rest : List A) → rest ≡ drop (k * per) cs → drop per rest ≡ drop ((k + 1) * per) cs
-next_rest per k cs rest h = ap (λ xs. drop per xs) h ∙ drop-drop per (k * per) cs ∙ ap (λ n. drop n cs) (next per k)
+pub next_rest : (per k : ℕ) (cs rest behind : List Told) → rest ≡ drop (count_before per k cs) cs
+    → behind ≡ drop (prefix_len (is_before ((k + 1) * per)) rest) rest → behind ≡ drop (count_before per (k + 1) cs) cs
+next_rest per k cs rest behind h e =
+    e
+    ∙ ap (λ (xs : List Told). drop (prefix_len (is_before ((k + 1) * per)) xs) xs) h
+    ∙ drop-drop (prefix_len (is_before ((k + 1) * per)) (drop (count_before per k cs) cs)) (count_before per k cs) cs
+    ∙ ap (λ n. drop n cs) (sym (next_before per k cs))
 
-pub next_kept : {A B : Type 0} (h : B → A → B) (z : B) (per k : ℕ) (cs rest : List A) (kept : B)
-    → rest ≡ drop (k * per) cs → kept ≡ fold h z (take (k * per) cs) → fold h kept (take per rest) ≡ fold h z (take ((k + 1) * per) cs)
-next_kept h z per k cs rest kept p q =
-    ap (λ b. fold h b (take per rest)) q
-    ∙ ap (λ xs. fold h (fold h z (take (k * per) cs)) (take per xs)) p
-    ∙ sym (fold-append h z (take (k * per) cs) (take per (drop (k * per) cs)))
-    ∙ ap (λ xs. fold h z xs) (sym (take-add (k * per) per cs) ∙ ap (λ n. take n cs) (next per k))
+pub next_kept : {B : Type 0} (h : B → Told → B) (z : B) (per k : ℕ) (cs rest here : List Told) (kept next : B)
+    → rest ≡ drop (count_before per k cs) cs → here ≡ take_while (is_before ((k + 1) * per)) rest → kept ≡ fold h z (take (count_before per k cs) cs)
+    → next ≡ fold h kept here → next ≡ fold h z (take (count_before per (k + 1) cs) cs)
+next_kept h z per k cs rest here kept next p e q is =
+    let m = prefix_len (is_before ((k + 1) * per)) (drop (count_before per k cs) cs) in
+    is
+    ∙ ap (λ (xs : List Told). fold h kept xs) e
+    ∙ ap (λ b. fold h b (take_while (is_before ((k + 1) * per)) rest)) q
+    ∙ ap (λ (xs : List Told). fold h (fold h z (take (count_before per k cs) cs)) (take_while (is_before ((k + 1) * per)) xs)) p
+    ∙ sym (fold-append h z (take (count_before per k cs) cs) (take m (drop (count_before per k cs) cs)))
+    ∙ ap (λ (xs : List Told). fold h z xs) (sym (take-add (count_before per k cs) m cs) ∙ ap (λ n. take n cs) (sym (next_before per k cs)))
 
-pub bar_here : (most : ℕ → ℕ) (grid : Grid) (mote image : ℕ) (cs : List Report) (k base : ℕ) (kept : Pages) → base ≡ lane_bottom mote image → kept ≡ shown mote image grid.per k cs
-    → step_text (base - height_of kept.count (most kept.version)) grid.width ≡ bar_text most grid mote image cs k
-bar_here most grid mote image cs k base kept p q =
-    ap (λ b. step_text (b - height_of kept.count (most kept.version)) grid.width) p
-    ∙ ap (λ (pages : Pages). step_text (lane_bottom mote image - height_of pages.count (most pages.version)) grid.width) q
-
-pub mark_here : (mark : Mark) (grid : Grid) (cs here : List Report) (mote k left base : ℕ) → left ≡ left_of grid k → base ≡ lane_bottom mote (lane_of mark) → here ≡ column grid.per k cs
-    → mark_text mark here left base mote ≡ column_marks mark grid cs mote k
-mark_here mark grid cs here mote k left base p q r =
-    ap (λ n. mark_text mark here n base mote) p
-    ∙ ap (λ n. mark_text mark here (left_of grid k) n mote) q
-    ∙ ap (λ (xs : List Report). mark_text mark xs (left_of grid k) (lane_bottom mote (lane_of mark)) mote) r
-
--- columns end within 1,200 units
-pub next_left : (columns k width : ℕ) → k < columns → columns * width ≤ 1200 → k * width + width ≤ 1200
-next_left columns k width inside fits =
-    let more : k + 1 ≤ columns = omega (arith, inside) in
-    let wide = mul-le-mul_left width more in
-    omega (arith, wide, fits)
-
-pub grid_fits : (columns : ℕ) → 0 < columns → columns * min 40 (1200 / columns) ≤ 1200
-grid_fits columns some =
-    let low : min 40 (1200 / columns) ≤ 1200 / columns = omega arith in
-    let wide = mul-le-mul_left columns low in
-    omega (arith, wide, some)
+pub this_column : (per k : ℕ) (cs rest here : List Told) → rest ≡ drop (count_before per k cs) cs
+    → here ≡ take_while (is_before ((k + 1) * per)) rest → here ≡ column per k cs
+this_column per k cs rest here h e = e ∙ ap (λ (xs : List Told). take_while (is_before ((k + 1) * per)) xs) h

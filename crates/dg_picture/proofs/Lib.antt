@@ -1,5 +1,6 @@
 pub mod EachLemmas
 pub mod ColumnLemmas
-pub mod TextLemmas
-pub mod ReadLemmas
+pub mod DrawLemmas
+pub mod LayoutLemmas
 pub mod LawLemmas
+pub mod DrawnLemmas

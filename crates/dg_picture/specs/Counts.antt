@@ -3,7 +3,7 @@ use Rattle.std.specs.Prelude.{ℕ, ◌==◌, Option, Some, None, unwrap_or, if�
 use Rattle.std.specs.Ordering.{nat_cmp}
 use Rattle.std.specs.BTreeMap as tree
 use Rattle.std.specs.BTreeMap.{BTreeMap}
-use Rattle.dg_picture.specs.declared.reports.Pages.{Pages}
+use Rattle.dg_story.specs.declared.reports.Pages.{Pages}
 
 abbrev pub held : BTreeMap ℕ ℕ → (version : ℕ) → ℕ
 held counts version = unwrap_or (tree.get nat_cmp counts version) 0

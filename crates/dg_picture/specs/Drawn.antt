@@ -2,11 +2,11 @@
 use Rattle.std.specs.Prelude.{◌≡◌, ℕ, ◌<◌, List, length, Option, Result, Ok, Err, Vec}
 use Rattle.dg_base.specs.Outside.{Takes, Puts, PutsFront, AtEnd}
 use Rattle.dg_script.specs.Sizes.{most_used_bytes}
-use Rattle.dg_script.specs.declared.report.Report.{Report}
 use Rattle.dg_picture.specs.Picture.{picture_of}
-use Rattle.dg_picture.specs.Reading.{AreReports, FirstNoReport, HasMoreLines}
+use Rattle.dg_story.specs.Reading.{AreReports, FirstNoReport, HasMoreLines, begins_timed}
 use Rattle.dg_base.specs.declared.answers.Status.{Status}
 use Rattle.dg_base.specs.declared.answers.Status.TheVariants as status
+use Rattle.dg_story.specs.declared.lines.Line.{Line}
 use Rattle.dg_picture.specs.declared.call.PictureFault.{PictureFault}
 use Rattle.dg_picture.specs.declared.call.PictureFault.TheVariants as fault
 
@@ -21,19 +21,24 @@ RefusesInput fault.TooMany before after = (bytes : List ℕ) × TakesAll before 
 RefusesInput fault.TooLong before after = (bytes : List ℕ) × Takes before after bytes × (most_used_bytes < length bytes)
 RefusesInput _ before after = Unit {0}
 
--- the lines of a report were read
-abbrev pub ReadsReports : (before after : Option (List ℕ)) → List Report → Type 0
-ReadsReports before after reports = (bytes : List ℕ) × TakesAll before after bytes × AreReports bytes reports
+-- A text is the picture of a report, whose lines are these bytes.
+abbrev pub IsPicture : (bytes text : List ℕ) → Type 0
+IsPicture bytes text =
+    (lines : List Line) × (words : List ℕ) × AreReports bytes lines words × (text ≡ picture_of (begins_timed bytes) lines words)
 
-abbrev pub ReadOf : {Z : Type 0} → Result (Vec Report Z) PictureFault → (before after : Option (List ℕ)) → Type 0
-ReadOf (Ok reports) before after = ReadsReports before after reports.items
+-- a report was read, whose picture is this text
+abbrev pub DrawsAll : (before after : Option (List ℕ)) → (text : List ℕ) → Type 0
+DrawsAll before after text = (bytes : List ℕ) × TakesAll before after bytes × IsPicture bytes text
+
+abbrev pub ReadOf : {Z : Type 0} → Result (Vec ℕ Z) PictureFault → (before after : Option (List ℕ)) → Type 0
+ReadOf (Ok text) before after = DrawsAll before after text.items
 ReadOf (Err fault) before after = RefusesInput fault before after
 
 -- What is written is the picture of the lines that were read, or some front of it where a write failed; else nothing is written.
 abbrev pub Drawn : Result (Unit {0}) PictureFault → (left_before left_after : Option (List ℕ))
     → (written_before written_after : Option (List ℕ)) → Type 0
-Drawn (Ok done) a b v w = (reports : List Report) × ReadsReports a b reports × Puts v w (picture_of reports)
-Drawn (Err fault.WriteFault) a b v w = (reports : List Report) × ReadsReports a b reports × PutsFront v w (picture_of reports)
+Drawn (Ok done) a b v w = (text : List ℕ) × DrawsAll a b text × Puts v w text
+Drawn (Err fault.WriteFault) a b v w = (text : List ℕ) × DrawsAll a b text × PutsFront v w text
 Drawn (Err fault) a b v w = RefusesInput fault a b × (w ≡ v)
 
 -- the exit status of a fault

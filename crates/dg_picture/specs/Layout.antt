@@ -1,20 +1,33 @@
 -- Where what is told stands: a row for each mote, columns from left to right (docs/COMMANDS.md, "A picture of a report").
-use Rattle.std.specs.Prelude.{ℕ, ◌+◌, ◌*◌, ◌/◌, max, min, zero, suc, List, [], ◌++◌, take, drop}
-use Rattle.std.specs.List.{fold}
-use Rattle.dg_script.specs.declared.report.Report.{Report}
-use Rattle.dg_picture.specs.Reports.{nothing, reported}
-use Rattle.dg_picture.specs.declared.reports.Pages.{Pages}
+use Rattle.std.specs.Prelude.{ℕ, ◌+◌, ◌-◌, ◌*◌, ◌/◌, ◌==◌, max, min, nat_lt, zero, suc, Bool, List, [], ◌++◌, take, drop}
+use Rattle.std.specs.Prelude.{if◌then◌else◌, find, unwrap_or, take_while, false}
+use Rattle.std.specs.List.{fold, filter, prefix_len}
+use Rattle.dg_story.specs.Reports.{nothing, reported, powered, last_image, motes, is_change, first_of}
+use Rattle.dg_story.specs.declared.told.Told.{Told}
+use Rattle.dg_story.specs.declared.reports.Pages.{Pages}
 use Rattle.dg_picture.specs.declared.layout.Grid.{Grid}
+use Rattle.dg_picture.specs.declared.layout.Frame.{Frame}
+use Rattle.dg_picture.specs.declared.layout.TheConstants.{LINE_STEPS, MOMENT_STEPS}
 
--- the texts for all numbers below n, in their order
-unfoldable pub each : (ℕ → List ℕ) → ℕ → List ℕ
+-- what there is for all numbers below n, in their order
+unfoldable pub each : {A : Type 0} → (ℕ → List A) → ℕ → List A
 each f zero = []
 each f (suc n) = each f n ++ f n
 
--- at most 240 columns, each of as many changes, and at most 40 units wide; the last one takes what is left
-unfoldable pub grid_of : (changes : ℕ) → Grid
-grid_of n =
-    let per = n / 240 + 1 in
+-- ---- columns
+
+-- the first of some steps by which 240 columns reach the last place, or else the least number that does
+abbrev pub step_among : List ℕ → (last : ℕ) → ℕ
+step_among steps n = unwrap_or (find (λ step. nat_lt (n / 240) step) steps) (n / 240 + 1)
+
+-- how much of the axis a column has
+abbrev pub step_of : (timed : Bool) → (last : ℕ) → ℕ
+step_of timed n = step_among (if timed then MOMENT_STEPS else LINE_STEPS) n
+
+-- at most 240 columns, each at most 40 units wide
+unfoldable pub grid_of : (timed : Bool) → (last : ℕ) → Grid
+grid_of timed n =
+    let per = step_of timed n in
     let columns = n / per + 1 in
     record { per = per; columns = columns; width = min 40 (1200 / columns) }
 
@@ -22,22 +35,61 @@ grid_of n =
 abbrev pub left_of : Grid → (column : ℕ) → ℕ
 left_of grid k = 100 + k * grid.width
 
--- the changes of a column
-abbrev pub column : (per k : ℕ) → List Report → List Report
-column per k changes = take per (drop (k * per) changes)
+-- where the last column ends
+abbrev pub right_of : Grid → ℕ
+right_of grid = left_of grid grid.columns
 
--- what a column shows of an image at a mote: the last state that is told in it, or else before it
-abbrev pub shown : (mote image per k : ℕ) → List Report → Pages
-shown mote image per k changes = fold (reported mote image) nothing (take ((k + 1) * per) changes)
+abbrev pub is_before : (place : ℕ) → Told → Bool
+is_before place told = nat_lt told.place place
 
--- the lanes of a row: the row of a mote has one for golden, and one for each image
-abbrev pub lanes : ℕ
-lanes = 7
+-- how many of the changes come before a column
+abbrev pub count_before : (per k : ℕ) → List Told → ℕ
+count_before per k changes = prefix_len (is_before (k * per)) changes
+
+-- the changes of a column: those from its beginning on, up to its end
+abbrev pub column : (per k : ℕ) → List Told → List Told
+column per k changes = take_while (is_before ((k + 1) * per)) (drop (count_before per k changes) changes)
+
+-- what a mote keeps of an image before a column: the last state that is told before it
+abbrev pub shown : (mote image per k : ℕ) → List Told → Pages
+shown mote image per k changes =
+    fold (λ kept t. reported mote image kept t.report) nothing (take (count_before per k changes) changes)
+
+-- whether a mote is on before a column
+abbrev pub is_on : (mote per k : ℕ) → List Told → Bool
+is_on mote per k changes = fold (λ on t. powered mote on t.report) false (take (count_before per k changes) changes)
+
+-- ---- rows
+
+-- a row has a lane for golden, of 8 units, and one for each image up to the largest that is told
+abbrev pub lane_of : (images : ℕ) → ℕ
+lane_of images = min 16 (48 / max 1 images)
+
+unfoldable pub rows_of : List Told → Frame
+rows_of told =
+    let n = last_image told in
+    record { rows = motes told; images = n; lane = lane_of n; row = 10 + lane_of n * n }
 
 -- the bottom of a lane
-abbrev pub lane_bottom : (mote image : ℕ) → ℕ
-lane_bottom mote image = 68 + 58 * mote + 8 * image
+abbrev pub lane_bottom : Frame → (mote image : ℕ) → ℕ
+lane_bottom frame mote image = 56 + frame.row * mote + frame.lane * image
 
--- the height of pages, where so many fill a lane but for a gap above
-abbrev pub height_of : (count most : ℕ) → ℕ
-height_of count most = count * 7 / max 1 most
+-- the bottom of the name of a row
+abbrev pub middle : Frame → (mote : ℕ) → ℕ
+middle frame mote = 51 + frame.row * mote + frame.row / 2
+
+-- the bottom of all rows
+abbrev pub foot : Frame → ℕ
+foot frame = 48 + frame.row * frame.rows
+
+-- the height of pages, where so many fill a lane but for a gap above: at least 1 where there is one
+abbrev pub height_of : (lane count most : ℕ) → ℕ
+height_of lane count most = if count == 0 then 0 else max 1 (count * (lane - 1) / max 1 most)
+
+-- ---- changes
+
+-- what each chip kept from the start on, and the lines that tell a change at a mote
+unfoldable pub changes_of : Frame → List Told → List Told
+changes_of frame told =
+    each (λ mote. each (λ i. first_of told mote (i + 1)) frame.images) frame.rows
+    ++ filter (λ t. is_change t.report) told

@@ -1,19 +1,17 @@
 //! The call that draws the report of a replay.
-ghost use Rattle.std.specs.Prelude.{◌≡◌, ◌≢◌, ◌<◌, ◌≤◌, List, ℕ, length, Ok, Err};
+ghost use Rattle.std.specs.Prelude.{◌≡◌, ◌≢◌, ◌<◌, ◌≤◌, List, ℕ, length, IfOk, Err};
 ghost use Rattle.dg_words.specs.Counts.{Rose};
 ghost use Rattle.dg_base.specs.Outside.{Takes, Puts, PutsFront, AtEnd};
 ghost use Rattle.dg_script.specs.Sizes.{most_used_bytes};
-ghost use Rattle.dg_script.specs.declared.report.Report.{Report};
-ghost use Rattle.dg_picture.specs.Picture.{picture_of};
-ghost use Rattle.dg_picture.specs.Reading.{AreReports, FirstNoReport, HasMoreLines};
-ghost use Rattle.dg_picture.specs.Drawn.{Drawn, ReadOf};
+ghost use Rattle.dg_story.specs.Reading.{FirstNoReport, HasMoreLines};
+ghost use Rattle.dg_picture.specs.Drawn.{Drawn, IsPicture, ReadOf};
 
 use crate::drawing::drawn;
-use crate::reading::{LinesFault, read_lines};
 use dg_base::{Sink, Source, Status};
 use dg_input::{ReadStop, read_whole};
-use dg_script::{Report, USED};
-use std::alloc::{AllocError, Global};
+use dg_script::USED;
+use dg_story::{LinesFault, begins_timed, read_lines};
+use std::alloc::Global;
 
 /// Why no picture was drawn.
 #[derive(Clone, Copy, Debug, PartialEq, Eq)]
@@ -50,8 +48,23 @@ impl PictureFault {
     }
 }
 
-// Reads all lines of a report from an input.
-fn read<S: Source>(alloc: Global, source: &mut S) -> Result<Vec<Report>, PictureFault>
+// Draws the report whose lines these bytes are.
+#[tactic(auto, using(crate::proofs::DrawnLemmas::pictured))]
+fn draw(alloc: Global, bytes: &[u8]) -> Result<Vec<u8>, LinesFault>
+    ensures ok { IfOk result (λ text. IsPicture bytes.now text.items) }
+    ensures none { (line : ℕ) → result ≡ Err (LinesFault.NoReport line) → FirstNoReport bytes.now line }
+    ensures many { result ≡ Err LinesFault.TooMany → HasMoreLines bytes.now }
+{
+    let (story, words) = read_lines(alloc, bytes)?;
+    let timed = begins_timed(bytes);
+    let Ok(text) = drawn(alloc, timed, story.last, &story.told, words) else {
+        return Err(LinesFault::Memory);
+    };
+    Ok(text)
+}
+
+// Reads all of a report from an input, and draws it.
+fn read<S: Source>(alloc: Global, source: &mut S) -> Result<Vec<u8>, PictureFault>
     ensures read { ReadOf result (S.left source.old) (S.left source.new) }
     ensures counts { S.faults source.old ≤ S.faults source.new }
     ensures failed { result ≡ Err PictureFault.ReadFault → Rose (S.faults source.old) (S.faults source.new) }
@@ -66,16 +79,16 @@ fn read<S: Source>(alloc: Global, source: &mut S) -> Result<Vec<Report>, Picture
     if bytes.len() > USED {
         return Err(PictureFault::TooLong);
     }
-    match read_lines(alloc, &bytes) {
-        Ok(reports) => Ok(reports),
+    match draw(alloc, &bytes) {
+        Ok(text) => Ok(text),
         Err(LinesFault::Memory) => Err(PictureFault::Memory),
         Err(LinesFault::TooMany) => Err(PictureFault::TooMany),
         Err(LinesFault::NoReport { line }) => Err(PictureFault::NoReport { line }),
     }
 }
 
-/// Reads the report of a replay, with or without `sent` lines, to its end, and writes its picture, an SVG of at most
-/// 1,600 by 1,000 units.
+/// Reads the report of a replay to its end, plain or timed, with or without `sent` lines, and writes its picture, an SVG of
+/// at most 1,600 by 1,000 units. A report may end with the last line of a replay that did not end well.
 ///
 /// Where it answers another fault than [`PictureFault::WriteFault`], nothing is written.
 pub fn picture<S: Source, K: Sink>(
@@ -88,10 +101,7 @@ pub fn picture<S: Source, K: Sink>(
     ensures read_failed { result ≡ Err PictureFault.ReadFault → Rose (S.faults source.old) (S.faults source.new) }
     ensures write_failed { result ≡ Err PictureFault.WriteFault → Rose (K.faults sink.old) (K.faults sink.new) }
 {
-    let reports = read(alloc, source)?;
-    let Ok(text) = drawn(alloc, &reports) else {
-        return Err(PictureFault::Memory);
-    };
+    let text = read(alloc, source)?;
     if sink.write(&text).is_err() {
         return Err(PictureFault::WriteFault);
     }

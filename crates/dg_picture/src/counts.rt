@@ -1,15 +1,15 @@
 //! The largest count of pages that is told of each version of an image.
 ghost use Rattle.std.specs.Prelude.{◌≡◌, ◌==◌, ◌&&◌, ℕ, max, unwrap_or, if◌then◌else◌, IfOk, OnOk};
 ghost use Rattle.dg_picture.specs.Counts.{held, counted_of};
-ghost use Rattle.dg_picture.specs.Reports.{counted, largest};
+ghost use Rattle.dg_story.specs.Reports.{counted, largest};
 
-use crate::reports::Pages;
 use dg_script::Report;
+use dg_story::{Pages, Told};
 use std::alloc::{AllocError, Global};
 use std::collections::BTreeMap;
 
 // The pages that a line tells of an image.
-fn counted(image: u32, report: &Report) -> Option<Pages>
+fn counted(image: u8, report: &Report) -> Option<Pages>
     ensures { (version : ℕ) → counted_of version result ≡ counted image version report.now }
 {
     match *report {
@@ -29,10 +29,10 @@ fn counted(image: u32, report: &Report) -> Option<Pages>
     }
 }
 
-fn of_image(image: u32, of: u8, version: u32, count: u8) -> Option<Pages>
+fn of_image(image: u8, of: u8, version: u32, count: u8) -> Option<Pages>
     ensures { (v : ℕ) → counted_of v result ≡ (if of == image && version == v then count else 0) }
 {
-    if u32::from(of) != image {
+    if of != image {
         return None;
     }
     Some(Pages { version, count })
@@ -58,7 +58,7 @@ fn raise(counts: &mut BTreeMap<u32, u8>, pages: Pages) -> Result<(), AllocError>
 }
 
 // Keeps what a line tells of an image.
-fn keep(counts: &mut BTreeMap<u32, u8>, image: u32, report: &Report) -> Result<(), AllocError>
+fn keep(counts: &mut BTreeMap<u32, u8>, image: u8, report: &Report) -> Result<(), AllocError>
     ensures { OnOk result ((version : ℕ) → held counts.new version
         ≡ max (held counts.old version) (counted image version report.now)) }
 {
@@ -69,16 +69,12 @@ fn keep(counts: &mut BTreeMap<u32, u8>, image: u32, report: &Report) -> Result<(
 }
 
 /// The largest count of each version of an image.
-pub fn largest(
-    alloc: Global,
-    image: u32,
-    reports: &[Report],
-) -> Result<BTreeMap<u32, u8>, AllocError>
-    ensures { IfOk result (λ counts. (version : ℕ) → held counts version ≡ largest image version reports.now) }
+pub fn largest(alloc: Global, image: u8, told: &[Told]) -> Result<BTreeMap<u32, u8>, AllocError>
+    ensures { IfOk result (λ counts. (version : ℕ) → held counts version ≡ largest image version told.now) }
 {
     let mut counts = BTreeMap::new(alloc);
-    for report in reports {
-        keep(&mut counts, image, report)?;
+    for here in told {
+        keep(&mut counts, image, &here.report)?;
     }
     Ok(counts)
 }

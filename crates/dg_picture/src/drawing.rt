@@ -1,61 +1,33 @@
 //! Draws a picture.
-ghost use Rattle.std.specs.Prelude.{◌≡◌, ◌*◌, ◌-◌, ◌++◌, ◌≤◌, ◌<◌, codes, IfOk, OnOk};
-ghost use Rattle.dg_picture.specs.Layout.{each, lanes};
-ghost use Rattle.dg_picture.specs.Picture.{row_text, images_text, starts_text, orders_text, picture_with, picture_of};
+ghost use Rattle.std.specs.Prelude.{◌≡◌, ℕ, ◌*◌, ◌+◌, ◌^◌, ◌++◌, ◌≤◌, ◌<◌, IfOk, OnOk};
+ghost use Rattle.dg_picture.specs.Layout.{each};
+ghost use Rattle.dg_picture.specs.Picture.{images_text, starts_text, orders_text, ground_text, events_text};
+ghost use Rattle.dg_picture.specs.Picture.{picture_with, drawing_of};
 
+use crate::axis::{push_axis, push_ending};
 use crate::bars::push_image;
-use crate::layout::{Grid, LANES, base_of, grid_for};
+use crate::changes::changes;
+use crate::layout::{Frame, Grid, foot_of, frame_for, grid_for, right_of};
 use crate::marks::push_marks;
-use crate::pieces::{Piece, push_pieces};
-use crate::reports::{Mark, changes, motes};
+use crate::rows::{push_offs, push_rows, push_runs};
 use crate::texts::push_head;
-use dg_script::Report;
+use dg_story::{Mark, Told};
 use std::alloc::{AllocError, Global};
-
-// Appends the name and the ground of a row.
-fn push_row(out: &mut Vec<u8>, mote: u32) -> Result<(), AllocError>
-    requires { mote < 256 }
-    ensures { OnOk result (out.new.items ≡ out.old.items ++ row_text mote) }
-{
-    push_pieces(
-        out,
-        &[
-            Piece::Text(b"<text x=\"92\" y=\""),
-            Piece::Number(base_of(mote, 3)),
-            Piece::Text(b"\" class=\"m\">mote "),
-            Piece::Number(mote),
-            Piece::Text(b"</text><path class=\"r\" d=\"M100 "),
-            Piece::Number(base_of(mote, LANES - 1)),
-            Piece::Text(b"h1200\"/>\n"),
-        ],
-    )
-}
-
-// Appends the names and the grounds of all rows.
-fn push_rows(out: &mut Vec<u8>, rows: u32) -> Result<(), AllocError>
-    requires { rows ≤ 256 }
-    ensures { OnOk result (out.new.items ≡ out.old.items ++ each row_text rows) }
-{
-    for mote in 0..rows {
-        push_row(out, mote)?;
-    }
-    Ok(())
-}
 
 // Appends all images.
 fn push_images(
     alloc: Global,
     out: &mut Vec<u8>,
+    frame: Frame,
     grid: Grid,
-    reports: &[Report],
-    changes: &[Report],
-    rows: u32,
+    told: &[Told],
+    changes: &[Told],
 ) -> Result<(), AllocError>
-    requires { rows ≤ 256 }
-    ensures { OnOk result (out.new.items ≡ out.old.items ++ each (images_text grid reports.now changes.now rows) (lanes - 1)) }
+    requires rows { frame.rows ≤ 256 }
+    ensures { OnOk result (out.new.items ≡ out.old.items ++ each (images_text frame grid told.now changes.now) frame.images) }
 {
-    for before in 0..LANES - 1 {
-        push_image(alloc, out, grid, reports, changes, rows, before + 1)?;
+    for before in 0..frame.images {
+        push_image(alloc, out, frame, grid, told, changes, before + 1)?;
     }
     Ok(())
 }
@@ -63,16 +35,16 @@ fn push_images(
 // Appends the starts of all images.
 fn push_starts(
     out: &mut Vec<u8>,
+    frame: Frame,
     grid: Grid,
-    changes: &[Report],
-    rows: u32,
+    changes: &[Told],
 ) -> Result<(), AllocError>
-    requires rows { rows ≤ 256 }
-    requires grid { grid.columns * grid.width ≤ 1200 }
-    ensures { OnOk result (out.new.items ≡ out.old.items ++ each (starts_text grid changes.now rows) lanes) }
+    requires rows { frame.rows ≤ 256 }
+    ensures { OnOk result (out.new.items ≡ out.old.items ++ each (starts_text frame grid changes.now) frame.images) }
 {
-    for image in 0..LANES {
-        push_marks(out, grid, changes, rows, Mark::Started { image })?;
+    for before in 0..frame.images {
+        let image = before + 1;
+        push_marks(out, frame, grid, changes, Mark::Started { image })?;
     }
     Ok(())
 }
@@ -80,17 +52,57 @@ fn push_starts(
 // Appends the orders of all images.
 fn push_orders(
     out: &mut Vec<u8>,
+    frame: Frame,
     grid: Grid,
-    changes: &[Report],
-    rows: u32,
+    changes: &[Told],
 ) -> Result<(), AllocError>
-    requires rows { rows ≤ 256 }
-    requires grid { grid.columns * grid.width ≤ 1200 }
-    ensures { OnOk result (out.new.items ≡ out.old.items ++ each (orders_text grid changes.now rows) lanes) }
+    requires rows { frame.rows ≤ 256 }
+    ensures { OnOk result (out.new.items ≡ out.old.items ++ each (orders_text frame grid changes.now) frame.images) }
 {
-    for image in 0..LANES {
-        push_marks(out, grid, changes, rows, Mark::Ordered { image })?;
+    for before in 0..frame.images {
+        let image = before + 1;
+        push_marks(out, frame, grid, changes, Mark::Ordered { image })?;
     }
+    Ok(())
+}
+
+// Appends what stands behind the images.
+#[tactic(auto, unfolding(crate::specs::Picture::ground_text))]
+fn push_ground(
+    out: &mut Vec<u8>,
+    timed: bool,
+    frame: Frame,
+    grid: Grid,
+    changes: &[Told],
+) -> Result<(), AllocError>
+    requires rows { frame.rows ≤ 256 }
+    requires grid { (k : ℕ) → k < grid.columns → k * grid.per < 2 ^ 64 }
+    requires few { grid.columns ≤ 240 }
+    ensures { OnOk result (out.new.items ≡ out.old.items ++ ground_text timed frame grid changes.now) }
+{
+    push_head(out, foot_of(frame))?;
+    push_offs(out, frame, grid, changes)?;
+    push_axis(out, timed, frame, grid)?;
+    push_rows(out, frame, grid)?;
+    Ok(())
+}
+
+// Appends starts, orders and losses of power.
+#[tactic(auto, unfolding(crate::specs::Picture::events_text))]
+fn push_events(
+    out: &mut Vec<u8>,
+    frame: Frame,
+    grid: Grid,
+    changes: &[Told],
+) -> Result<(), AllocError>
+    requires rows { frame.rows ≤ 256 }
+    ensures { OnOk result (out.new.items ≡ out.old.items ++ events_text frame grid changes.now) }
+{
+    push_marks(out, frame, grid, changes, Mark::Started { image: 0 })?;
+    push_starts(out, frame, grid, changes)?;
+    push_marks(out, frame, grid, changes, Mark::Ordered { image: 0 })?;
+    push_orders(out, frame, grid, changes)?;
+    push_marks(out, frame, grid, changes, Mark::Lost)?;
     Ok(())
 }
 
@@ -99,39 +111,50 @@ fn push_orders(
 fn push_picture(
     alloc: Global,
     out: &mut Vec<u8>,
+    timed: bool,
+    frame: Frame,
     grid: Grid,
-    reports: &[Report],
-    changes: &[Report],
-    rows: u32,
+    told: &[Told],
+    changes: &[Told],
+    words: &[u8],
 ) -> Result<(), AllocError>
-    requires rows { rows ≤ 256 }
-    requires grid { grid.columns * grid.width ≤ 1200 }
-    ensures { OnOk result (out.new.items ≡ out.old.items ++ picture_with grid reports.now changes.now rows) }
+    requires rows { frame.rows ≤ 256 }
+    requires grid { (k : ℕ) → k < grid.columns → k * grid.per < 2 ^ 64 }
+    requires few { grid.columns ≤ 240 }
+    ensures { OnOk result (out.new.items ≡ out.old.items ++ picture_with timed frame grid told.now changes.now words.now) }
 {
-    push_head(out, rows)?;
-    push_rows(out, rows)?;
-    push_images(alloc, out, grid, reports, changes, rows)?;
-    push_starts(out, grid, changes, rows)?;
-    push_orders(out, grid, changes, rows)?;
-    push_marks(out, grid, changes, rows, Mark::Lost)?;
+    push_ground(out, timed, frame, grid, changes)?;
+    push_images(alloc, out, frame, grid, told, changes)?;
+    push_events(out, frame, grid, changes)?;
+    push_runs(out, frame, told)?;
+    push_ending(out, right_of(grid), foot_of(frame), words)?;
     out.extend_from_slice(b"</svg>\n")?;
     Ok(())
 }
 
-/// The picture of a report.
-#[tactic(auto, unfolding(crate::specs::Picture::picture_of))]
-pub fn drawn(alloc: Global, reports: &[Report]) -> Result<Vec<u8>, AllocError>
-    ensures { IfOk result (λ v. v.items ≡ picture_of reports.now) }
+/// The picture of what is told up to a place, where the report ends in these words.
+#[tactic(auto, unfolding(crate::specs::Picture::drawing_of))]
+pub fn drawn(
+    alloc: Global,
+    timed: bool,
+    last: u64,
+    told: &[Told],
+    words: &[u8],
+) -> Result<Vec<u8>, AllocError>
+    ensures { IfOk result (λ v. v.items ≡ drawing_of timed last told.now words.now) }
 {
-    let changes = changes(alloc, reports)?;
+    let frame = frame_for(told);
+    let changes = changes(alloc, told, frame)?;
     let mut out = Vec::new(alloc);
     push_picture(
         alloc,
         &mut out,
-        grid_for(changes.len()),
-        reports,
+        timed,
+        frame,
+        grid_for(timed, last),
+        told,
         &changes,
-        motes(reports),
+        words,
     )?;
     Ok(out)
 }

@@ -1,23 +1,29 @@
 //! What holds of the definitions alone. These functions do nothing: their contracts are the laws.
-ghost use Rattle.std.specs.Prelude.{◌≡◌, ℕ, ◌+◌, ◌≤◌, ◌<◌, List, length};
-ghost use Rattle.std.specs.List.{AllByRecursion};
-ghost use Rattle.dg_script.specs.declared.report.Report.{Report};
-ghost use Rattle.dg_picture.specs.Reports.{changes, last_reported, motes};
-ghost use Rattle.dg_picture.specs.Layout.{lanes, grid_of, left_of, shown, lane_bottom};
-ghost use Rattle.dg_picture.specs.Texts.{height_of_rows};
-ghost use Rattle.dg_picture.specs.Reading.{report_image, IsOfReplay};
+ghost use Rattle.std.specs.Prelude.{◌≡◌, ℕ, ◌≤◌, ◌<◌, Bool, true, List};
+ghost use Rattle.std.specs.List.{AllByRecursion, list_any};
+ghost use Rattle.dg_story.specs.Lines.{told_of, end_of};
+ghost use Rattle.dg_story.specs.Reports.{is_change_of, last_reported};
+ghost use Rattle.dg_picture.specs.Layout.{grid_of, left_of, shown, rows_of, lane_bottom, foot, changes_of};
+ghost use Rattle.dg_picture.specs.Texts.{height_to};
+ghost use Rattle.dg_story.specs.Reading.{IsLineOf};
+ghost use Rattle.dg_story.specs.declared.lines.Line.{Line};
+ghost use Rattle.dg_story.specs.declared.told.Told.{Told};
 
 /// The picture of a replay is at most 1,000 units high, however many lines there are, and its columns end within 1,300 units.
-/// Each image of its lines has a lane, and the lanes of all motes lie within the picture.
+/// The lanes of all images at all motes that are told lie within the rows.
 pub fn a_picture_fits()
-    ensures lanes { (report : Report) → IsOfReplay report → report_image report < lanes }
-    ensures low { (rows mote image : ℕ) → mote < rows → image < lanes → lane_bottom mote image ≤ height_of_rows rows }
-    ensures high { (reports : List Report) → AllByRecursion IsOfReplay reports → height_of_rows (motes reports) ≤ 1000 }
-    ensures wide { (n k : ℕ) → k ≤ (grid_of n).columns → left_of (grid_of n) k ≤ 1300 }
+    ensures low { (told : List Told) (mote image : ℕ) → mote < (rows_of told).rows → image ≤ (rows_of told).images
+        → lane_bottom (rows_of told) mote image ≤ foot (rows_of told) }
+    ensures high { (timed : Bool) (lines : List Line) → AllByRecursion (IsLineOf timed) lines
+        → height_to (foot (rows_of (told_of lines))) ≤ 1000 }
+    ensures wide { (timed : Bool) (n k : ℕ) → k ≤ (grid_of timed n).columns → left_of (grid_of timed n) k ≤ 1300 }
 {}
 
 /// The last column shows of each image at each mote the last state that any line of the report tells of it.
 pub fn the_last_column_shows_the_last_state()
-    ensures { (mote image k : ℕ) (reports : List Report) → k + 1 ≡ (grid_of (length (changes reports))).columns
-        → shown mote image (grid_of (length (changes reports))).per k (changes reports) ≡ last_reported mote image reports }
+    ensures { (timed : Bool) (mote image : ℕ) (lines : List Line)
+        → list_any (λ t. is_change_of mote image t.report) (told_of lines) ≡ true
+        → shown mote image (grid_of timed (end_of lines)).per (grid_of timed (end_of lines)).columns
+        (changes_of (rows_of (told_of lines)) (told_of lines))
+        ≡ last_reported mote image (told_of lines) }
 {}

@@ -1,17 +1,20 @@
 //! A picture of how an image spread, drawn of the report of a replay.
 #![tactic(auto)]
 
+mod axis;
 mod bars;
 mod call;
+mod changes;
 mod counts;
 mod drawing;
 mod laws;
 mod layout;
 mod marks;
 mod pieces;
-mod reading;
-mod reports;
+mod rows;
+mod steps;
 mod texts;
+mod versions;
 
 pub use call::{PictureFault, picture};
 pub use laws::{a_picture_fits, the_last_column_shows_the_last_state};

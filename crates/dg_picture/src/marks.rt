@@ -1,20 +1,19 @@
 //! Draws the marks of starts, orders and losses of power.
 ghost use Rattle.std.specs.Prelude.{◌≡◌, ◌+◌, ◌*◌, ◌++◌, ◌≤◌, ◌<◌, take, OnOk, if◌then◌else◌};
 ghost use Rattle.std.specs.List.{list_any};
-ghost use Rattle.dg_picture.specs.Reports.{is_marked};
-ghost use Rattle.dg_picture.specs.Layout.{each, lanes, lane_bottom};
-ghost use Rattle.dg_picture.specs.Picture.{point_text, mark_text, lane_of, row_marks, marks_text};
+ghost use Rattle.dg_story.specs.Reports.{is_marked};
+ghost use Rattle.dg_picture.specs.Layout.{each, lane_bottom};
+ghost use Rattle.dg_picture.specs.Picture.{point_text, mark_text, lane_image, row_marks, marks_text};
 
-use crate::layout::{Grid, base_of, next_column};
+use crate::layout::{Frame, Grid, base_of, left_of, next_column};
 use crate::pieces::{Piece, push_pieces};
-use crate::reports::{Mark, has_mark};
 use crate::texts::{form_of, push_class};
-use dg_script::Report;
+use dg_story::{Mark, Told, has_mark};
 use std::alloc::AllocError;
 
-// The lane of a mark.
-fn lane_of(mark: Mark) -> u32
-    ensures { result ≡ lane_of mark }
+// The image in whose lane a mark stands.
+fn lane_image(mark: Mark) -> u8
+    ensures { result ≡ lane_image mark }
 {
     match mark {
         Mark::Started { image } => image,
@@ -43,7 +42,7 @@ fn push_point(out: &mut Vec<u8>, mark: Mark, left: u32, base: u32) -> Result<(),
 fn push_mark(
     out: &mut Vec<u8>,
     mark: Mark,
-    column: &[Report],
+    column: &[Told],
     left: u32,
     base: u32,
     mote: u32,
@@ -57,26 +56,22 @@ fn push_mark(
 }
 
 // Appends the marks at a mote.
-#[tactic(auto, unfolding(crate::specs::Picture::row_marks))]
 fn push_row(
     out: &mut Vec<u8>,
     mark: Mark,
+    frame: Frame,
     grid: Grid,
-    changes: &[Report],
+    changes: &[Told],
     mote: u32,
 ) -> Result<(), AllocError>
     requires mote { mote < 256 }
-    requires lane { lane_of mark < lanes }
-    requires grid { grid.columns * grid.width ≤ 1200 }
-    ensures { OnOk result (out.new.items ≡ out.old.items ++ row_marks mark grid changes.now mote) }
+    ensures { OnOk result (out.new.items ≡ out.old.items ++ row_marks mark frame grid changes.now mote) }
 {
-    let base = base_of(mote, lane_of(mark));
-    let mut left = 100;
+    let base = base_of(frame, mote, lane_image(mark));
     let mut rest = changes;
     for k in 0..grid.columns {
-        let (column, behind) = next_column(rest, grid.per);
-        push_mark(out, mark, column, left, base, mote)?;
-        left += grid.width;
+        let (column, behind) = next_column(rest, grid.per, k);
+        push_mark(out, mark, column, left_of(grid, k), base, mote)?;
         rest = behind;
     }
     Ok(())
@@ -85,18 +80,16 @@ fn push_row(
 // Appends the marks at all motes.
 fn push_rows(
     out: &mut Vec<u8>,
+    frame: Frame,
     grid: Grid,
-    changes: &[Report],
-    rows: u32,
+    changes: &[Told],
     mark: Mark,
 ) -> Result<(), AllocError>
-    requires rows { rows ≤ 256 }
-    requires lane { lane_of mark < lanes }
-    requires grid { grid.columns * grid.width ≤ 1200 }
-    ensures { OnOk result (out.new.items ≡ out.old.items ++ each (row_marks mark grid changes.now) rows) }
+    requires rows { frame.rows ≤ 256 }
+    ensures { OnOk result (out.new.items ≡ out.old.items ++ each (row_marks mark frame grid changes.now) frame.rows) }
 {
-    for mote in 0..rows {
-        push_row(out, mark, grid, changes, mote)?;
+    for mote in 0..frame.rows {
+        push_row(out, mark, frame, grid, changes, mote)?;
     }
     Ok(())
 }
@@ -105,20 +98,18 @@ fn push_rows(
 #[tactic(auto, unfolding(crate::specs::Picture::marks_text))]
 pub fn push_marks(
     out: &mut Vec<u8>,
+    frame: Frame,
     grid: Grid,
-    changes: &[Report],
-    rows: u32,
+    changes: &[Told],
     mark: Mark,
 ) -> Result<(), AllocError>
-    requires rows { rows ≤ 256 }
-    requires lane { lane_of mark < lanes }
-    requires grid { grid.columns * grid.width ≤ 1200 }
-    ensures { OnOk result (out.new.items ≡ out.old.items ++ marks_text grid changes.now rows mark) }
+    requires rows { frame.rows ≤ 256 }
+    ensures { OnOk result (out.new.items ≡ out.old.items ++ marks_text frame grid changes.now mark) }
 {
     out.extend_from_slice(b"<path class=\"")?;
     push_class(out, mark)?;
     out.extend_from_slice(b"\" d=\"")?;
-    push_rows(out, grid, changes, rows, mark)?;
+    push_rows(out, frame, grid, changes, mark)?;
     out.extend_from_slice(b"\"/>\n")?;
     Ok(())
 }

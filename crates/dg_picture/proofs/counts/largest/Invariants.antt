@@ -1,8 +1,9 @@
-use Rattle.std.proofs.Common.{◌≡◌, ℕ, take}
+use Rattle.std.proofs.Common.{◌≡◌, take}
+use Rattle.std.proofs.Common.{ℕ}
 use Rattle.dg_picture.specs.Counts.{held}
-use Rattle.dg_picture.specs.Reports.{largest}
+use Rattle.dg_story.specs.Reports.{largest}
 use Rattle.dg_picture.proofs.counts.largest.Given as goal
 
--- the counts of the lines so far
-abbrev pub invariant-loop-report : goal.invariant-loop-report
-invariant-loop-report l = (version : ℕ) → held l.counts version ≡ largest l.image version (take l.report-index l.reports)
+-- what is so behind the lines so far
+abbrev pub invariant-loop-here : goal.invariant-loop-here
+invariant-loop-here l = (version : ℕ) → held l.counts version ≡ largest l.image version (take l.here-index l.told)

@@ -1,8 +1,8 @@
 use Rattle.dg_picture.proofs.EachLemmas.{begun, grown}
 use Rattle.dg_picture.proofs.drawing.push_starts.Goals as goal
 
-pub loop-image-init : goal.loop-image-init
-loop-image-init c = begun _ _
+pub loop-before-init : goal.loop-before-init
+loop-before-init c = begun _ _
 
-pub loop-image-preserved : goal.loop-image-preserved
-loop-image-preserved c = grown _ _ _ _ _ c.loop-image.invariant c.in_ok-push_marks.ensures
+pub loop-before-preserved : goal.loop-before-preserved
+loop-before-preserved c = grown _ _ _ _ _ c.loop-before.invariant c.in_ok-push_marks.ensures

@@ -3,5 +3,5 @@ use Rattle.dg_picture.specs.Layout.{each}
 use Rattle.dg_picture.specs.Picture.{starts_text}
 use Rattle.dg_picture.proofs.drawing.push_starts.Given as goal
 
-abbrev pub invariant-loop-image : goal.invariant-loop-image
-invariant-loop-image l = l.out.items ≡ l.initial.out.items ++ each (starts_text l.grid l.changes l.rows) l.image
+abbrev pub invariant-loop-before : goal.invariant-loop-before
+invariant-loop-before l = l.out.items ≡ l.initial.out.items ++ each (starts_text l.frame l.grid l.changes) l.before

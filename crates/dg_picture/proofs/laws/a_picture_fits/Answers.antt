@@ -1,8 +1,5 @@
-use Rattle.dg_picture.proofs.LawLemmas.{has_lane, low, high, wide}
+use Rattle.dg_picture.proofs.LawLemmas.{low, high, wide}
 use Rattle.dg_picture.proofs.laws.a_picture_fits.Goals as goal
-
-pub returns-clause-lanes : goal.returns-clause-lanes
-returns-clause-lanes c = has_lane
 
 pub returns-clause-low : goal.returns-clause-low
 returns-clause-low c = low

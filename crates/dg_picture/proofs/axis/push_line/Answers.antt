@@ -1,0 +1,4 @@
+use Rattle.dg_picture.proofs.axis.push_line.Goals as goal
+
+pub returns : goal.returns
+returns c = c.push_pieces.ensures

@@ -1,7 +1,0 @@
-use Rattle.std.proofs.Common.{◌≡◌, ◌++◌}
-use Rattle.dg_picture.specs.Layout.{each}
-use Rattle.dg_picture.specs.Picture.{row_text}
-use Rattle.dg_picture.proofs.drawing.push_rows.Given as goal
-
-abbrev pub invariant-loop-mote : goal.invariant-loop-mote
-invariant-loop-mote l = l.out.items ≡ l.initial.out.items ++ each row_text l.mote

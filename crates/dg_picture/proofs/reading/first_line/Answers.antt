@@ -1,6 +1,0 @@
-use Rattle.dg_base.proofs.LineLemmas.{first_at}
-use Rattle.dg_picture.proofs.ReadLemmas.{line_at}
-use Rattle.dg_picture.proofs.reading.first_line.Goals as goal
-
-pub returns-in-Some-clause-first : goal.returns-in-Some-clause-first
-returns-in-Some-clause-first c = line_at c.args.bytes.now c.in-Some.at (first_at _ _ c.in-Some.ensures)

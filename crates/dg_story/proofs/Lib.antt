@@ -1,0 +1,3 @@
+pub mod ToldLemmas
+pub mod ReadLemmas
+pub mod LineLemmas
