@@ -24,7 +24,7 @@ use std::process::ExitCode;
 #[cfg(test)]
 mod tests;
 
-/// What is handed on in place of words of which one is not UTF-8. It is no command.
+/// What is passed on in place of words of which one is not UTF-8. It is not a command.
 const NOT_TEXT: &str = "\u{fffd}";
 
 /// The words after the program's name. None where memory runs out.
@@ -45,7 +45,7 @@ fn after_name(rt: &HostRuntime, args: Args) -> Option<Vec<String>> {
     Some(words)
 }
 
-/// Words that are no command.
+/// An invalid command line.
 fn no_command(rt: &HostRuntime) -> Option<Vec<String>> {
     let mut words = Vec::new(rt.alloc());
     let word = String::from_str(rt.alloc(), NOT_TEXT).ok()?;

@@ -46,7 +46,7 @@ fn the_guard_has_a_file_for_each_stream(rt: HostRuntime) {
 /// The HEX file of the one byte `A`.
 const GOLDEN: &str = ":0100000041BE\n:00000001FF\n";
 
-/// The words of `format` behind which the name of a file stands.
+/// The words of `format` after which the name of a file stands.
 const FORMATTING: &str = "format --name base --used 0";
 
 /// The words of an injection.

@@ -17,10 +17,10 @@ use dg_serial::{ESCAPE, ESCAPED_ESCAPE, ESCAPED_FLAG, FLAG, Fed, Unstuff};
 /// The most bytes of a frame on the line: each escaped, and the flag.
 const LINE_BYTES: usize = 2 * LONGEST_FRAME + 1;
 
-/// A frame as it stands on the line.
+/// A frame as it is on the line.
 type Line = ArrayVec<u8, LINE_BYTES>;
 
-/// Writes a frame of 1 to 64 bytes as it stands on the line, with the flag behind it: at most 129 bytes.
+/// Writes a frame of 1 to 64 bytes as it is on the line, with the flag after it: at most 129 bytes.
 #[unsafe(no_mangle)]
 pub extern "C" fn deluge_stuff(frame: &[u8], into: &mut [u8], count: &mut usize) -> u32
     ensures answer { (result ≡ done) ↔ ((1 ≤ length frame.now) × (length frame.now ≤ longest_frame)

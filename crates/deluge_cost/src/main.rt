@@ -147,7 +147,7 @@ impl Reading {
         self.model.is_none()
     }
 
-    /// A file stands behind `--boards` or `--model`.
+    /// A file stands after `--boards` or `--model`.
     fn take_file(&mut self, next: Next, file: String) -> Result<bool, AllocError> {
         match next {
             Next::Option => Ok(false),
@@ -269,7 +269,7 @@ enum NoModel {
     Fault(ModelFault),
 }
 
-/// The bytes of a file, those behind the most that a model has aside.
+/// The bytes of a file, those after the most that a model has aside.
 fn read_file(rt: &HostRuntime, name: &str) -> Option<Vec<u8>> {
     let file = OpenOptions::new().read(true).open(rt, name).ok()?;
     let mut bytes = Vec::new(rt.alloc());

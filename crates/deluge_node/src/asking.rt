@@ -26,7 +26,7 @@ pub(crate) struct Asked {
     pub(crate) id: u8,
     pub(crate) seed: u32,
     pub(crate) turns: u64,
-    /// A millisecond of the clock counts as so many of the rules.
+    /// A millisecond of the clock counts as this many of the rules.
     pub(crate) scale: u64,
     /// The file of the chip.
     pub(crate) chip: String,

@@ -18,7 +18,7 @@ use std::fs::File;
 use std::io::ErrorKind;
 use std::process::ExitCode;
 
-/// What is handed on in place of words of which one is not UTF-8. It is no command.
+/// What is passed on in place of words of which one is not UTF-8. It is not a command.
 const NOT_TEXT: &str = "\u{fffd}";
 
 /// The words after the program's name. None where memory runs out.
@@ -39,7 +39,7 @@ fn after_name(rt: &HostRuntime, args: Args) -> Option<Vec<String>> {
     Some(words)
 }
 
-/// Words that are no command.
+/// An invalid command line.
 fn no_command(rt: &HostRuntime) -> Option<Vec<String>> {
     let mut words = Vec::new(rt.alloc());
     let word = String::from_str(rt.alloc(), NOT_TEXT).ok()?;

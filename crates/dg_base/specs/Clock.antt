@@ -6,16 +6,16 @@ pub record Answers : Type 0 where
   pub next : ℕ
   pub step : ℕ
 
--- the answers behind the next one: they rise up to the greatest u64, and stay there
+-- the answers after the next one: they rise up to the greatest u64, and stay there
 abbrev pub next_answers : Answers → Answers
 next_answers a = record { next = min (a.next + a.step) (2 ^ 64 - 1); step = a.step }
 
--- the answers behind the first n
+-- the answers after the first n
 unfoldable pub behind_all : ℕ → Answers → Answers
 behind_all zero a = a
 behind_all (suc n) a = next_answers (behind_all n a)
 
--- Where the answers are told, this one was next, and those behind it are told from then on. Where they are not, they
+-- Where the answers are told, this one was next, and those after it are told from then on. Where they are not, they
 -- are not told then either.
 abbrev pub Answered : Option Answers → Option Answers → ℕ → Type 0
 Answered None after answer = after ≡ None

@@ -22,7 +22,7 @@ hex_value c =
 abbrev pub is_hex_digit : ℕ → Bool
 is_hex_digit c = is_some (hex_value c)
 
--- the byte of two digits, in front of the bytes of those behind them
+-- the byte of two digits, in front of the bytes of those after them
 abbrev pub onto_bytes : Option ℕ → Option ℕ → Option (List ℕ) → Option (List ℕ)
 onto_bytes (Some high) (Some low) (Some bytes) = Some ((high * 16 + low) ∷ bytes)
 onto_bytes (Some high) (Some low) None = None

@@ -8,7 +8,7 @@ pub enum Status {
     Done,
     /// Memory ran out.
     Memory,
-    /// The words are no command.
+    /// The command line is invalid.
     Usage,
     /// The input is outside its grammar.
     BadInput,

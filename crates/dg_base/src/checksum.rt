@@ -13,7 +13,7 @@ pub fn crc16(bytes: &[u8]) -> u16
     crc16_more(0, bytes)
 }
 
-/// The checksum of bytes whose checksum is `before`, and `bytes` behind them.
+/// The checksum of bytes whose checksum is `before`, and `bytes` after them.
 #[inline(always)]
 pub fn crc16_more(before: u16, bytes: &[u8]) -> u16
     ensures { result ≡ crc_more before bytes.now }

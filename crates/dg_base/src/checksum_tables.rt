@@ -1,5 +1,5 @@
 //! The table of the checksum. Its entry at a byte is what the byte at the top of the register becomes once
-//! one byte is shifted out, the entry 256 behind that what it becomes once two are, and so on up to eight.
+//! one byte is shifted out, the entry 256 after that what it becomes once two are, and so on up to eight.
 //! It is one table, so that the code that goes by it keeps one address.
 
 pub static AFTER: [u16; 2048] = [

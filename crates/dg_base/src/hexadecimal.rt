@@ -98,7 +98,7 @@ fn digit_of(value: u8) -> u8
     DIGITS[value as usize]
 }
 
-// Writes the bytes of pairs of digits, and answers whether all of them are digits. It goes on behind a byte that is none.
+// Writes the bytes of pairs of digits, and answers whether all of them are digits. It goes on after a byte that is none.
 fn read_pairs(digits: &[u8], into: &mut [u8]) -> bool
     requires { length digits.now ≡ 2 * length into.old }
     ensures read { OnTrue result (hex_bytes digits.now ≡ Some into.new) }

@@ -23,7 +23,7 @@ pub fn parse_u32(bytes: &[u8]) -> Option<u32>
     Some(number)
 }
 
-// The number with one more digit behind it.
+// The number with one more digit after it.
 fn with_digit(number: u32, byte: u8) -> Option<u32>
     ensures { result ≡ with_digit number byte }
 {

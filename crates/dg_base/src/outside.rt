@@ -24,7 +24,7 @@ impl fmt::Display for ReadFailed {
 
 impl Error for ReadFailed {}
 
-/// A write failed. Some front of the piece, maybe none of it, was written.
+/// A write failed. A prefix of the piece, maybe an empty one, was written.
 #[derive(Clone, Copy, PartialEq, Eq, Debug)]
 pub struct WriteFailed;
 
@@ -46,7 +46,7 @@ pub trait Source {
     // How many reads failed.
     ghost faults: { Self → ℕ };
 
-    /// Reads the next bytes into the front of `into`, and answers how many. 0 comes only at the
+    /// Reads the next bytes into the beginning of `into`, and answers how many. 0 comes only at the
     /// end of the input.
     fn read(&mut self, into: &mut [u8]) -> Result<usize, ReadFailed>
         requires { 0 < length into.old }
@@ -67,7 +67,7 @@ pub trait Sink {
     // How many writes failed.
     ghost faults: { Self → ℕ };
 
-    /// Writes all of `bytes` behind what was written.
+    /// Writes all of `bytes` after what was written.
     fn write(&mut self, bytes: &[u8]) -> Result<(), WriteFailed>
         ensures ok { OnOk result (Puts (written self.old) (written self.new) bytes.now) }
         ensures err { OnErr result (PutsFront (written self.old) (written self.new) bytes.now) }

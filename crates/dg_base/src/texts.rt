@@ -18,7 +18,7 @@ pub fn next_line(bytes: &[u8], from: usize) -> (usize, usize)
     ensures within { result.1 ≤ length bytes.now }
     ensures goes_on { from < length bytes.now → from < result.1 }
 
-    // The text is the first line of what begins at `from`, and the others are those behind it.
+    // The text is the first line of what begins at `from`, and the others are those after it.
     ensures line { from < length bytes.now → lines (drop from bytes.now)
         ≡ slice_range bytes.now from result.0 ∷ lines (drop result.1 bytes.now) }
     ensures text { All (λ b. b ≢ 10) (slice_range bytes.now from result.0) }

@@ -25,7 +25,7 @@ byte_of s k =
     128 * bit_of s (8 * k) + 64 * bit_of s (8 * k + 1) + 32 * bit_of s (8 * k + 2) + 16 * bit_of s (8 * k + 3)
     + 8 * bit_of s (8 * k + 4) + 4 * bit_of s (8 * k + 5) + 2 * bit_of s (8 * k + 6) + bit_of s (8 * k + 7)
 
--- the set as so many bytes
+-- the set as this many bytes
 unfoldable pub byte_form : ℕ → Numbers → List ℕ
 byte_form width s = map (byte_of s) (range_with_len 0 width)
 

@@ -16,7 +16,7 @@ use crate::{COPY_PIECE, COPY_PIECES, SIZE_OF_COPY_PIECE};
 pub fn a_copy_has_these_sizes()
     ensures piece { COPY_PIECE ≡ copy_piece_size }
     ensures pieces { COPY_PIECES ≡ copy_pieces }
-    // the array has so many bytes by its type
+    // the array has that many bytes by its type
     ensures piece_array { SIZE_OF_COPY_PIECE ≡ copy_piece_size }
     ensures page { copy_pieces * copy_piece_size ≡ page_size }
 {}

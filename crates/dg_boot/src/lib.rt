@@ -69,7 +69,7 @@ pub enum BootFault {
 /// nothing to commit and nothing to copy writes nothing. No clause bounds what is read.
 ///
 /// Whatever frames made the store of a consistent chip: golden runs byte for byte, or pages that fit the descriptor before
-/// them, and the chip stays consistent, however the start ends, also where it stops. A chip that is no volume keeps its
+/// them, and the chip stays consistent, however the start ends, also where it stops. A chip that is not a volume keeps its
 /// bytes.
 ///
 /// `NoImage` may follow a commit that counted the start, and one that waived the order.

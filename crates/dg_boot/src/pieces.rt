@@ -26,7 +26,7 @@ pub const SIZE_OF_COPY_PIECE: usize = size_of::<CopyPiece>();
 /// The pieces of a page, each of which is one program.
 pub const COPY_PIECES: u32 = 8;
 
-/// Copies a piece of one sector into another, where it stands erased, and gives the checksum behind `before` of its
+/// Copies a piece of one sector into another, where it stands erased, and gives the checksum after `before` of its
 /// bytes that are among the first `count` of the sector. It is read into `piece`. 1 operation.
 fn copy_piece<N: Nor>(
     nor: &mut N,
@@ -55,7 +55,7 @@ fn copy_piece<N: Nor>(
     Ok(crc16_more(before, &piece[..summed as usize]))
 }
 
-/// Copies the page in one sector into another, which is erased first, and gives the checksum behind `before` of its
+/// Copies the page in one sector into another, which is erased first, and gives the checksum after `before` of its
 /// first `count` bytes. 9 operations.
 pub(crate) fn copy_page<N: Nor>(
     nor: &mut N,

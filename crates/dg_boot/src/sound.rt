@@ -13,7 +13,7 @@ use dg_object::HEAD_SIZE;
 use dg_slot::{page_sector, read_page_crc};
 use dg_volume::Kept;
 
-/// Where the descriptor keeps the CRCs, behind its head: two bytes for each page from page 1 on.
+/// Where the descriptor keeps the CRCs, after its head: two bytes for each page from page 1 on.
 const CRCS: u32 = HEAD_SIZE as u32;
 
 /// The CRC that page 0 of a slot keeps of a data page.

@@ -1,4 +1,4 @@
-//! The cases of a start, behind the count of short starts: each goes its way by the commits and copies in their order.
+//! The cases of a start, after the count of short starts: each goes its way by the commits and copies in their order.
 ghost use Rattle.std.specs.Prelude.{◌≡◌, ◌≢◌, ℕ, ◌==◌, ◌<◌, ◌≤◌, true, Bool, Some, IfOk, OnOk, OnErr};
 ghost use Rattle.dg_nor.specs.Reads.{ReadEnds};
 ghost use Rattle.dg_slot.specs.Layout.{program_sector, program_end};

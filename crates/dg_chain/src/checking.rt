@@ -85,7 +85,7 @@ fn pass_page<N: Nor>(
     Ok(field_of(&bytes))
 }
 
-// The digest that the last of so many data pages carries, where each has the one that is named before it.
+// The digest that the last of this many data pages carries, where each has the one that is named before it.
 fn walk<N: Nor>(
     nor: &mut N,
     image: u8,
@@ -105,7 +105,7 @@ fn walk<N: Nor>(
     Ok(kept)
 }
 
-// Whether so many pages, of which the last carries this digest, are those of a payload of that length.
+// Whether this many pages, of which the last carries this digest, are those of a payload of that length.
 fn is_shape(length: u32, count: u8, last: &[u8; DIGEST_SIZE]) -> bool
     ensures { result ≡ (nat_le 1 length && (nat_le length most_payload
         && ((count == pages_of_size length) && is_same last.now no_digest))) }
@@ -116,7 +116,7 @@ fn is_shape(length: u32, count: u8, last: &[u8; DIGEST_SIZE]) -> bool
     usize::from(count) == pages_of_size(length as usize) && *last == [0; DIGEST_SIZE]
 }
 
-// The length of the payload that so many data pages hold, where they are the pages that a root names.
+// The length of the payload that this many data pages hold, where they are the pages that a root names.
 fn check_pages<N: Nor>(
     nor: &mut N,
     image: u8,

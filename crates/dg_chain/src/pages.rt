@@ -11,7 +11,7 @@ use dg_nor::{Nor, Stopped, read_in};
 use dg_object::PAGE_SIZE;
 use dg_slot::page_sector;
 
-/// Reads a page as it stands in its slot. After `Stopped` nothing is said of what `into` holds.
+/// Reads a page as it is in its slot. After `Stopped` nothing is said of what `into` holds.
 pub(crate) fn read_page<N: Nor>(
     nor: &mut N,
     image: u8,

@@ -25,7 +25,7 @@ pub fn receive_page<N: Nor>(
         × (1 ≤ length h.complete) }
     ensures received { IfOk result (λ answer. (h : Held) → IsOpen (N.device nor.old).image slot h
         → Receives expected.now (outline_told slot).image h page.now (N.device nor.old) (N.device nor.new) answer) }
-    // the slot that is handed on is this one
+    // the slot that is returned is this one
     ensures same { IfOk result (λ answer. outline_told (chained_slot answer) ≡ outline_told slot) }
     ensures same_reference { (N.device nor.new).references ≡ (N.device nor.old).references }
     ensures touches { Touches (header_sector (outline_told slot).image) (slot_end (outline_told slot).image)

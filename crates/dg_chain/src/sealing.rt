@@ -47,7 +47,7 @@ pub fn seal_chained<N: Nor>(
     ensures sealed { IfOk result (λ answer. (h : Held) (ps : Packets) → IsJob (N.device nor.old).image job h ps
         → SealsChained expected.now (outline_told (slot_of job)).image h (page_from ps) (N.device nor.old) (N.device nor.new)
         answer) }
-    // the slot that is handed on is this one
+    // the slot that is returned is this one
     ensures same { IfOk result (λ answer. outline_told (chained_slot answer) ≡ outline_told (slot_of job)) }
     ensures same_reference { (N.device nor.new).references ≡ (N.device nor.old).references }
     ensures touches { let k = header_sector (outline_told (slot_of job)).image in Touches k (k + 1) (N.device nor.old).image

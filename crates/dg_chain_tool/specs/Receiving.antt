@@ -18,11 +18,11 @@ expected root pages n = if n == 1 then root else field_of (slice_index_or pages 
 abbrev pub foreign_from : (root : List ℕ) → List (List ℕ) → ℕ → Option Break
 foreign_from root pages n = first_break (expected root pages n) n (drop n pages)
 
--- the first page that is compared where so many are complete: page 0 has no digest that is expected of it
+-- the first page that is compared where this many are complete: page 0 has no digest that is expected of it
 abbrev pub compared_from : ℕ → ℕ
 compared_from done = if done == 0 then 1 else done
 
--- the first foreign one of the pages that are filled, where so many are complete
+-- the first foreign one of the pages that are filled, where this many are complete
 abbrev pub first_foreign : (root : List ℕ) → List (List ℕ) → (done : ℕ) → Option Break
 first_foreign root pages done = foreign_from root pages (compared_from done)
 

@@ -28,7 +28,7 @@ pub record BasedOn (b : Base) (status : Status) (before now : Outside) : Type 0 
   -- one that is none is left as it was
   pub refused : IsNoVolume before.chip.image → Refused status before now
   pub causes : Causes status before now
-  -- with honest frames a chip that agrees with a table of images agrees with it behind the line, however it ended
+  -- with honest frames a chip that agrees with a table of images agrees with it after the line, however it ended
   pub agrees : (s : Store) (table : List Row) (x : Based status b s before now) → IsTable table → StoreIsWell table s
       → HonestLine table x.input → ChipAgrees table now.chip.image
   -- whatever bytes came as frames, a consistent chip stays so, however the line ended; no start lacks an image,

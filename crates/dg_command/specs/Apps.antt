@@ -53,7 +53,7 @@ flash_word = record (new_rule (codes "FLASH")) { required = true; action = Some 
 abbrev pub flash_words : Rule
 flash_words = record (new_rule (codes "FLASH")) { action = Some Append }
 
--- what the words behind a verb may be
+-- what the words after a verb may be
 abbrev pub rules_of : Verb → List Rule
 rules_of Replay = flash_words ∷ []
 rules_of Serve = number_option (codes "turns") 1 most_turns ∷ seed_option ∷ flash_words ∷ []

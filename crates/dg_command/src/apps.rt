@@ -159,7 +159,7 @@ fn seed<'a>(alloc: Global) -> Arg<'a>
     )
 }
 
-/// What the words behind a verb may be.
+/// What the words after a verb may be.
 fn arguments<'a>(alloc: Global, verb: Verb) -> Result<Vec<Arg<'a>>, AllocError>
     ensures { IfOk result (λ v. map rule_of v.items ≡ rules_of verb) }
 {

@@ -8,7 +8,7 @@ pub enum Command {
     Replay {
         flashes: Vec<String>,
     },
-    /// Runs motes for so many turns.
+    /// Runs motes for this many turns.
     Serve {
         turns: u32,
         seed: u32,

@@ -43,7 +43,7 @@ pub fn chain_lines_are_commands()
         (codes "f")) }
 {}
 
-/// Options may stand in any order, and behind the file, and may have their value behind `=`. A number
+/// Options may stand in any order, and after the file, and may have their value after `=`. A number
 /// may have a plus and leading zeros.
 pub fn forms_of_a_command()
     ensures turned { asked_of (line (codes "order f --ver 1 --image 1 --number 1")) ≡ Asks (Order 1 1 1 (codes "f")) }

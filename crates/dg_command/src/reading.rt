@@ -34,7 +34,7 @@ pub fn asked(alloc: Global, words: &Vec<String>) -> Result<Asked, AllocError>
     }
 }
 
-/// The names of the flash files that words name, in their order. Words that are no command name none.
+/// The names of the flash files that words name, in their order. An invalid command line names none.
 pub fn flash_names(alloc: Global, words: &Vec<String>) -> Result<Vec<String>, AllocError>
     ensures { IfOk result (λ names. map string_bytes names.items ≡ flashes_of (asked_of (map string_bytes words.now.items))) }
 {

@@ -1,4 +1,4 @@
-//! What is wrong with words that are no command.
+//! What is wrong with an invalid command line.
 ghost use Rattle.std.specs.Prelude.{◌≡◌, None, IfOk, map, string_bytes};
 ghost use Rattle.dg_command.specs.Verbs.{verb_in};
 
@@ -15,7 +15,7 @@ use std::alloc::{AllocError, Global};
 /// The most bytes of a name.
 const LONGEST_NAME: usize = 16;
 
-/// What is wrong with words that begin with a verb and are no command: a text for an operator, which tells the option and its
+/// What is wrong with words that begin with a verb and are not a command: a text for an operator, which tells the option and its
 /// range, or the word. None where they begin with no verb, or nothing is wrong with them.
 pub fn misuse(alloc: Global, words: &Vec<String>) -> Result<Option<String>, AllocError>
     ensures { verb_in (map string_bytes words.now.items) ≡ None → IfOk result (λ text. text ≡ None) }

@@ -140,7 +140,7 @@ unfoldable pub IsEnoughOver : World → List ℕ → ℕ → Type 0
 IsEnoughOver w [] n = n ≡ 0
 IsEnoughOver w (i ∷ is) n = (x y : ℕ) × IsEnoughFor w (newest w.table i) x × IsEnoughOver w is y × (n ≡ x + y)
 
--- so many sweeps are enough: those for each image that wide motes hand on
+-- this many sweeps are enough: those for each image that wide motes hand on
 abbrev pub IsEnough : World → ℕ → Type 0
 IsEnough w n = IsEnoughOver w (shared true) n
 

@@ -69,7 +69,7 @@ PagesCome w t v = (i : ℕ) (row : Row) → DoneBelow w i → 1 ≤ i → i < im
     → (m j : ℕ) → m < length w.sites → 1 ≤ j → within w row j m ≡ true
     → min (page_count row) (t + 1 - j) ≤ pages_kept (store_at v m) row
 
--- So it is behind a rest, also of fewer sweeps than enough.
+-- So it is after a rest, also of fewer sweeps than enough.
 abbrev pub EndsPipelineLaw : Type 0
 EndsPipelineLaw =
     (u : World) (played : List Played) (w v : World) (t : ℕ) → PlaysFrom u played v → EndsInRest played w t v → PagesCome w t v

@@ -26,7 +26,7 @@ AppliesLaw = (w : World) (e : Event) → WorldAgrees w → IsFree e → (v : Wor
 abbrev pub most_commits : ℕ
 most_commits = 3
 
--- so many at its mote, and none elsewhere
+-- this many at its mote, and none elsewhere
 abbrev pub commits_at : ℕ → Event → ℕ
 commits_at m e = if mote_of e == m then most_commits else 0
 

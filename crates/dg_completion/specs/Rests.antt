@@ -20,7 +20,7 @@ disturbs (Frame mote dt word bytes) = true
 abbrev pub IsFree : Event → Type 0
 IsFree e = disturbs e ≡ false
 
--- the events are these rounds in their order, with ticks and heard frames between them, before them and behind them
+-- the events are these rounds in their order, with ticks and heard frames between them, before them and after them
 unfoldable pub HasRounds : List (ℕ × ℕ) → List Event → Type 0
 HasRounds [] es = AllByRecursion IsFree es
 HasRounds (r ∷ rs) es =

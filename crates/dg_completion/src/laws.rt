@@ -150,7 +150,7 @@ pub fn a_rest_can_be_applied()
 
 /// What was played from a world that agrees with its table, with true events, can go on with a rest: where every mote is on,
 /// all are of one width, and each has room for what it may commit, there is what is played of these items, and it ends with a
-/// rest of so many sweeps.
+/// rest of this many sweeps.
 pub fn a_script_goes_on_with_a_rest()
     ensures { GoesOnLaw }
 {

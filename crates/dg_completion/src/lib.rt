@@ -1,6 +1,6 @@
 //! Bounded completion: how many sweeps of rounds bring every page of the newest images to every mote of a world.
 //!
-//! As in Deluge (Hui and Culler, SenSys 2004), pages go over many hops as in a pipeline: a mote hands on the first pages
+//! As in Deluge (Hui and Culler, SenSys 2004), pages go over many hops as in a pipeline: a mote forwards the first pages
 //! of an image before it has the last.
 #![tactic(auto)]
 

@@ -25,7 +25,7 @@ pub enum Form {
     Csv,
     /// JSON, with the energy of each mote where there is a model.
     Json(Option<Model>),
-    /// The report, each line behind its event and its moment.
+    /// The report, each line after its event and its moment.
     Timed,
 }
 

@@ -65,7 +65,7 @@ fn push_motes(alloc: Global, text: &mut Vec<u8>, motes: &[Rows]) -> Result<(), A
     Ok(())
 }
 
-/// The text of the rows of motes, and of all: each whose value is not 0, behind the first line `mote,key,value`.
+/// The text of the rows of motes, and of all: each whose value is not 0, after the first line `mote,key,value`.
 pub fn csv_text(alloc: Global, counted: &Counted) -> Result<Vec<u8>, AllocError>
     ensures { IfOk result (λ text. text.items ≡ csv counted.now) }
 {

@@ -53,7 +53,7 @@ fn sectors_erased(rows: &Rows) -> u64 {
         .saturating_add(slots)
 }
 
-/// The picojoules of so many of something.
+/// The picojoules of this many of something.
 fn part(count: u64, each: u64) -> u128 {
     u128::from(count) * u128::from(each)
 }

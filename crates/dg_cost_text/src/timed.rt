@@ -7,13 +7,13 @@ use crate::csv::push_u64;
 use crate::moment::{Moment, Stamp};
 use std::alloc::{AllocError, Global};
 
-/// The stamp of the next line: that of its event, and behind the last of them that of the end.
+/// The stamp of the next line: that of its event, and after the last of them that of the end.
 #[derive(Drop)]
 struct Stamps<'a> {
     stamps: &'a [Stamp],
     place: usize,
     used: usize,
-    /// That of the line at hand.
+    /// That of the current line.
     at: Moment,
     end: Moment,
 }
@@ -49,7 +49,7 @@ fn push_stamp(text: &mut Vec<u8>, at: Moment) -> Result<(), AllocError>
     Ok(())
 }
 
-/// Appends a byte of a report, behind a stamp where it begins a line.
+/// Appends a byte of a report, after a stamp where it begins a line.
 fn push_byte(text: &mut Vec<u8>, begins: bool, at: Moment, byte: u8) -> Result<(), AllocError>
     ensures { OnOk result ((stamp : List ℕ) × IsStamp (stamped stamp byte)
         × (text.new.items ≡ text.old.items ++ stamped_text (stamped stamp byte))) }
@@ -61,7 +61,7 @@ fn push_byte(text: &mut Vec<u8>, begins: bool, at: Moment, byte: u8) -> Result<(
     Ok(())
 }
 
-/// The report, each line behind the event and the moment at which it was written.
+/// The report, each line after the event and the moment at which it was written.
 pub fn timed_text(
     alloc: Global,
     report: &[u8],

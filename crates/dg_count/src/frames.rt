@@ -261,7 +261,7 @@ pub struct SentBy {
 }
 
 impl Frames {
-    /// What became of the frames of each of so many motes.
+    /// What became of the frames of each of this many motes.
     pub fn sent_by_each(&self, alloc: Global, motes: usize) -> Result<Vec<SentBy>, AllocError> {
         let mut each = Vec::new(alloc);
         for _ in 0..motes {

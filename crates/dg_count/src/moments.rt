@@ -67,7 +67,7 @@ impl Moments {
         self.set(mote, image, None);
     }
 
-    /// A mote keeps this version of an image, with so many of its pages.
+    /// A mote keeps this version of an image, with this many of its pages.
     pub fn keep(
         &mut self,
         mote: u8,

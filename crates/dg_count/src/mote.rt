@@ -15,7 +15,7 @@ pub const FILL: usize = 48;
 pub struct Starts {
     pub power: u64,
     pub order: u64,
-    /// Those in which a cut blew.
+    /// Those in which a cut fired.
     pub cut_power: u64,
     pub cut_order: u64,
     /// Those that found no image.
@@ -74,7 +74,7 @@ pub struct MoteCost {
     pub copied: u64,
     pub takes: u64,
     pub commits: u64,
-    /// Commits in which a cut blew.
+    /// Commits in which a cut fired.
     pub torn: u64,
     pub handovers: u64,
     pub room_begin: u64,

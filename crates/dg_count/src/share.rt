@@ -2,7 +2,7 @@
 
 use dg_meter::Share;
 
-/// One more of the kind with this number, of so many bytes.
+/// One more of the kind with this number, of this many bytes.
 #[inline(always)]
 pub fn add_share(shares: &mut [Share], kind: usize, bytes: usize) {
     if kind < shares.len() {

@@ -74,7 +74,7 @@ impl Counter {
         Ok(())
     }
 
-    /// A tick of a mote was applied, after so many milliseconds. Of most nothing is reported, and they leave the chip as it was.
+    /// A tick of a mote was applied, after `dt` milliseconds. Of most nothing is reported, and they leave the chip as it was.
     #[inline(always)]
     fn note_tick<N: Nor>(
         &mut self,

@@ -190,7 +190,7 @@ impl MoteCost {
 }
 
 impl Counter {
-    /// How many pages became complete in an event, of which so many gates were finished and the last was interrupted.
+    /// How many pages became complete in an event, of which this many gates were finished and the last was interrupted.
     fn sealed(
         &self,
         mote: u8,

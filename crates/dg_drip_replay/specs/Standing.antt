@@ -24,7 +24,7 @@ pub record Stands (d : DripNetwork) (w : Network) : Type 0 where
   pub ids : (m : ℕ) → m < length d.nodes.items → (node_at d.nodes.items m).id ≡ m
   pub cells : (m k : ℕ) → m < length d.nodes.items → k < key_count → cell_of (node_at d.nodes.items m) k ≡ w.cells m k
 
--- an event is at some of so many nodes, and of a key
+-- an event is at some of this many nodes, and of a key
 abbrev pub FitsDripEvent : (nodes : ℕ) → DripEvent → Type 0
 FitsDripEvent nodes (Set node key value dt word) = (node < nodes) × (key < key_count)
 FitsDripEvent nodes (Tick node key dt word) = (node < nodes) × (key < key_count)

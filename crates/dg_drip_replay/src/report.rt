@@ -22,7 +22,7 @@ pub enum DripReport {
     Sent { node: u8, key: u8, entry: Entry },
     /// A node now keeps this entry.
     Got { node: u8, key: u8, entry: Entry },
-    /// The script ended after so many events, refused ones included.
+    /// The script ended after this many events, refused ones included.
     End { events: u32 },
     /// A node keeps this entry at the end.
     Value { node: u8, key: u8, entry: Entry },

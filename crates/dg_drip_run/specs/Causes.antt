@@ -16,7 +16,7 @@ use Rattle.dg_drip_script.specs.declared.line.DripFault.TheVariants as fault
 use Rattle.dg_drip_run.specs.AroundDrip.{AroundDrip}
 use Rattle.dg_drip_run.specs.Dripped.{Ending, Ends, BadLine, TooManyEvents, Over, status_of, Dripped}
 
--- the texts of the lines that end in LF, of the parts between the LFs: what stands behind the last LF is none
+-- the texts of the lines that end in LF, of the parts between the LFs: what stands after the last LF is none
 abbrev pub ended_parts : List (List ℕ) → List (List ℕ)
 ended_parts [] = []
 ended_parts (x ∷ []) = []
@@ -25,12 +25,12 @@ ended_parts (x ∷ y ∷ more) = strip_carriage_return x ∷ ended_parts (y ∷ 
 abbrev pub ended_lines : List ℕ → List (List ℕ)
 ended_lines bytes = ended_parts (slice_split (λ b. b == 10) bytes)
 
--- the texts of the lines that are used: all, or where there are more bytes than so many those that end within the first so many
+-- the texts of the lines that are used: all, or, of an input that is too long, those that end within its limit
 unfoldable pub lines_within : (most : ℕ) → (over : Bool) → List ℕ → List (List ℕ)
 lines_within most true input = ended_lines (take most input)
 lines_within most false input = lines input
 
--- how a script ends behind all lines that are used
+-- how a script ends after all lines that are used
 abbrev pub ending_behind : (over : Bool) → DripScript → (number : ℕ) → Ending
 ending_behind true s number = Over
 ending_behind false s number = if s.nodes == 0 then BadLine number fault.Place else Ends
@@ -71,7 +71,7 @@ pub record InDripLimits (input : List ℕ) : Type 0 where
 
 -- Each status comes where the rules say.
 pub record DripEnds (status : Status) (a b : AroundDrip) : Type 0 where
-  -- whatever comes behind the bytes that were taken, where the input is not at its end
+  -- whatever comes after the bytes that were taken, where the input is not at its end
   pub caused : (x : Dripped status a b) (more : List ℕ) → (AtEnd b.left → more ≡ [])
       → IsDripCaused status (drip_ending_of (x.input ++ more)) (Rose a.reads b.reads) (Rose a.writes b.writes)
   -- so where the source tells its bytes, it is the ending of all of them

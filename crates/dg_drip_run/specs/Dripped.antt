@@ -24,7 +24,7 @@ AreLines (text ∷ texts) bytes ended =
     (line rest : List ℕ) × (bytes ≡ line ++ rest)
     × (IsLine text line ⊎ (IsLastLine text line × (rest ≡ []) × (texts ≡ []) × ended)) × AreLines texts rest ended
 
--- how a script ends by the rules, behind the lines that were played
+-- how a script ends by the rules, after the lines that were played
 pub data Ending : Type 0 where
   Ends : Ending
   BadLine : (line : ℕ) (fault : DripFault) → Ending
@@ -41,14 +41,14 @@ status_of Over = statuses.TooLong
 abbrev pub played : DripScript → DripScript
 played s = record s { items = take most_events s.items }
 
--- what stands behind the lines of the events
+-- what stands after the lines of the events
 abbrev pub closing : DripScript → Ending → List ℕ
 closing s Ends = final_text (network_of s) s.nodes (length s.items)
 closing s (BadLine line fault) = bad_line line fault
 closing s TooManyEvents = codes "toomany" ++ 10 ∷ []
 closing s Over = codes "toolong" ++ 10 ∷ []
 
--- Why a script ends there: these lines, of so many bytes, said the script,
+-- Why a script ends there: these lines, of this many bytes, said the script,
 -- and what is left of the bytes that were taken comes next. A million events at most came before a line with a fault and before
 -- the end of the bytes that are used, and such a line ends within these bytes.
 abbrev pub EndsBy : Ending → DripScript → (lines passed : ℕ) → (ahead : List ℕ) → (at_end : Type 0) → Type 0
@@ -71,7 +71,7 @@ Closed status wanted report closing before after failed =
     ⊎ (((status ≡ statuses.WriteFault) × failed × PutsFront before after (report ++ closing))
     ⊎ ((status ≡ statuses.Memory) × Puts before after report))
 
--- What was written of the report of a script. Its lines were played, which are so many, of so many bytes, and what is left of the
+-- What was written of the report of a script. Its lines were played, this many, of this many bytes, and what is left of the
 -- bytes that were taken comes next.
 abbrev pub Wrote : (status : Status) → DripScript → (lines passed : ℕ) → (ahead : List ℕ) → (a b : AroundDrip) → Type 0
 Wrote status s lines passed ahead a b =
@@ -100,7 +100,7 @@ pub record AreTold (texts : List (List ℕ)) (before after : Option (List ℕ)) 
 abbrev pub IsOneLine : List ℕ → Type 0
 IsOneLine bytes = (before : List ℕ) × HasNoEnd before × ((bytes ≡ before) ⊎ (bytes ≡ before ++ 10 ∷ []))
 
--- No more than one line and 300,002 bytes stand behind the lines that were played.
+-- No more than one line and 300,002 bytes stand after the lines that were played.
 pub record FewAhead (ahead : List ℕ) : Type 0 where
   pub next : List ℕ
   pub rest : List ℕ
@@ -124,13 +124,13 @@ pub record Dripped (status : Status) (a b : AroundDrip) : Type 0 where
   pub script : DripScript
   pub says : script_of texts ≡ Some script
   pub wrote : Wrote status script (length texts) (length given) ahead a b
-  -- what is reported of a line was written before more than the next line and a reader's rest behind it were taken
+  -- what is reported of a line was written before more than the next line and a reader's rest after it were taken
   pub told : AreTold texts a.written b.written
   pub near : FewAhead ahead
 
 -- ---- a line
 
--- these bytes are reported of a line behind a script
+-- these bytes are reported of a line after a script
 abbrev pub TellsMore : (s t : DripScript) → (more : List ℕ) → Type 0
 TellsMore s t more = report_of s ++ more ≡ report_of (played t)
 
@@ -163,7 +163,7 @@ TextAnswer r s read q before after failed =
 
 -- ---- lines that are read
 
--- a text was read behind so many bytes, and ends the replay
+-- a text was read after this many bytes, and ends the replay
 pub record BadText (passed : ℕ) (bytes : List ℕ) (s : DripScript) (f : DripFault) (at_end : Type 0) : Type 0 where
   pub text : List ℕ
   pub rest : List ℕ

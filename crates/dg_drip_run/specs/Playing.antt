@@ -8,12 +8,12 @@ use Rattle.dg_drip_run.specs.declared.player.Player.{Player}
 use Rattle.dg_drip_run.specs.declared.player.PlayStop.{PlayStop}
 use Rattle.dg_drip_run.specs.declared.player.PlayStop.TheVariants.{TooMany, Memory}
 
--- links are between nodes of which there are so many
+-- links are between nodes of which there are this many
 abbrev pub AreBelow : (nodes : ℕ) → List (ℕ × ℕ) → Type 0
 AreBelow nodes [] = Unit {0}
 AreBelow nodes (l ∷ links) = (l.0 < nodes) × (l.1 < nodes) × AreBelow nodes links
 
--- A player stands behind a script, of whose report these bytes came before those that it keeps.
+-- A player stands after a script, of whose report these bytes came before those that it keeps.
 pub record Plays (p : Player) (s : DripScript) (before : List ℕ) : Type 0 where
   pub standing : p.standing ≡ standing_of s
   pub stands : Stands p.network (network_of s)
@@ -28,7 +28,7 @@ pub record Plays (p : Player) (s : DripScript) (before : List ℕ) : Type 0 wher
   pub early : s.begun ≡ false → s.items ≡ []
   pub below : AreBelow s.nodes s.links
 
--- a player stands behind some script
+-- a player stands after some script
 abbrev pub IsPlaying : Player → Type 0
 IsPlaying p = (s : DripScript) × (before : List ℕ) × Plays p s before
 

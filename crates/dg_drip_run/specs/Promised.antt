@@ -27,7 +27,7 @@ abbrev pub SetsMakeAll : DripScript → Type 0
 SetsMakeAll s = (node key : ℕ) → (entry_at (network_of s) node key ≡ none)
     ⊎ IsAmong (entry_at (network_of s) node key) (made_in (start s.links) (events_of s.items) key)
 
--- behind a round the second node keeps no less than the first one kept
+-- after a round the second node keeps no less than the first one kept
 abbrev pub RoundsRaise : DripScript → Type 0
 RoundsRaise s =
     (front back : List DripEvent) (a b key : ℕ) → key < key_count → events_of s.items ≡ front ++ (drip_round a b ++ back)
@@ -49,7 +49,7 @@ pub record ValuesSpread (status : Status) (a b : AroundDrip) : Type 0 where
   pub rises : (x : Dripped status a b) → NothingFalls (played x.script)
   -- it was set at some node of this run
   pub made : (x : Dripped status a b) → SetsMakeAll (played x.script)
-  -- behind a round the second node keeps no less than the first one kept
+  -- after a round the second node keeps no less than the first one kept
   pub rounds : (x : Dripped status a b) → RoundsRaise (played x.script)
   -- where each two nodes are within h links, h sweeps with no set between them bring all to the greatest entry, wherever they end
   pub sweeps : (x : Dripped status a b) → SweepsBringTheGreatest (played x.script)

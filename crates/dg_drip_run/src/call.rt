@@ -103,7 +103,7 @@ fn read_and_play<S: Source, K: Sink>(alloc: Global, input: &mut S, out: &mut K) 
 /// other than [`Status::Done`] writes its line last, where it has one.
 ///
 /// The input is read line by line, and what is reported of a line is written before the next one is asked for: no more than a
-/// line and 300,002 bytes are taken behind the lines that were played, and a read that fails finds all whole lines told. No more
+/// line and 300,002 bytes are taken after the lines that were played, and a read that fails finds all whole lines told. No more
 /// than a million events are played, no more than 16,777,216 bytes of the input are used, and no more than one byte past them is
 /// taken.
 pub fn drip<S: Source, K: Sink>(alloc: Global, input: &mut S, out: &mut K) -> Status

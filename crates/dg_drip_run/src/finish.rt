@@ -38,7 +38,7 @@ fn push_node(text: &mut Vec<u8>, network: &DripNetwork, node: u8) -> Result<(), 
     Ok(())
 }
 
-// Appends what so many nodes keep, by node and key.
+// Appends what this many nodes keep, by node and key.
 fn push_nodes(text: &mut Vec<u8>, network: &DripNetwork, nodes: u8) -> Result<(), AllocError>
     requires { nodes ≤ length network.now.nodes.items }
     ensures { (w : Network) → Stands network.now w

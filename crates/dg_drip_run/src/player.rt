@@ -170,7 +170,7 @@ impl Player {
         Ok(())
     }
 
-    /// There are so many nodes, which keep nothing.
+    /// There are this many nodes, which keep nothing.
     fn play_nodes(&mut self, alloc: Global, count: u8) -> Result<(), PlayStop>
         requires { self.old.standing.nodes ≡ 0 }
         ensures { LinePlayed result self.old self.new (DripLine.Nodes count) }

@@ -97,11 +97,11 @@ abbrev pub drip_said : Standing → List (List ℕ) → Result DripLine DripFaul
 drip_said at [] = Ok Nothing
 drip_said at (word ∷ fields) = if is_comment word then Ok Nothing else verb_line at word (numbers_of_words fields)
 
--- the line that a text spells behind others, or its fault
+-- the line that a text spells after others, or its fault
 unfoldable pub drip_line_of : Standing → List ℕ → Result DripLine DripFault
 drip_line_of at text = if nat_lt most_line (length text) then Err Long else drip_said at (words_of text)
 
--- the numbers of a line are nodes of which there are so many, keys, and in their ranges
+-- the numbers of a line are nodes of which there are this many, keys, and in their ranges
 abbrev pub FitsDripLine : (nodes : ℕ) → DripLine → Type 0
 FitsDripLine nodes Nothing = Unit {0}
 FitsDripLine nodes (Nodes count) = (1 ≤ count) × (count ≤ most_nodes)

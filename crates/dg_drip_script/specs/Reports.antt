@@ -12,7 +12,7 @@ use Rattle.dg_drip_script.specs.Sizes.{key_count}
 use Rattle.dg_drip_script.specs.declared.line.DripFault.{DripFault}
 use Rattle.dg_drip_script.specs.declared.line.DripFault.TheVariants as fault
 
--- numbers, each behind a space
+-- numbers, each after a space
 abbrev pub numbers_text : List ℕ → List ℕ
 numbers_text numbers = flat_map (λ n. 32 ∷ decimal n) numbers
 

@@ -59,7 +59,7 @@ with_drip_line s (EventLine event) = with_items (begun_script s) (record { event
 with_drip_line s (Round a b) = with_items (begun_script s) (unreported_items (drip_round a b))
 with_drip_line s (Sweeps count) = with_items (begun_script s) (rounds_items (sweeps count s.links))
 
--- the script that the texts of lines spell behind a script, where none of them has a fault
+-- the script that the texts of lines spell after a script, where none of them has a fault
 abbrev pub then_line : Result DripLine DripFault → (DripLine → Option DripScript) → Option DripScript
 then_line (Ok line) go = go line
 then_line (Err fault) go = None
@@ -77,7 +77,7 @@ script_of texts = spelled_behind first_script texts
 abbrev pub events_of : List DripItem → List DripEvent
 events_of items = map (λ i. i.event) items
 
--- the network behind the events of a script, from nodes that keep nothing
+-- the network after the events of a script, from nodes that keep nothing
 abbrev pub network_of : DripScript → Network
 network_of s = run (start s.links) (events_of s.items)
 

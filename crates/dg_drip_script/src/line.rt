@@ -7,7 +7,7 @@ use dg_drip::DripEvent;
 pub enum DripLine {
     /// Nothing: the line is blank, or a comment.
     Nothing,
-    /// There are so many nodes.
+    /// There are this many nodes.
     Nodes { count: u8 },
     /// Two nodes are neighbours.
     Link { a: u8, b: u8 },

@@ -11,7 +11,7 @@ use dg_drip::Entry;
 use dg_drip_replay::{DripCause, DripReport};
 use std::alloc::AllocError;
 
-// Appends a number behind a space.
+// Appends a number after a space.
 fn push_number(out: &mut Vec<u8>, number: u32) -> Result<(), AllocError>
     ensures { OnOk result (out.new.items ≡ out.old.items ++ 32 ∷ decimal number) }
 {
@@ -19,7 +19,7 @@ fn push_number(out: &mut Vec<u8>, number: u32) -> Result<(), AllocError>
     push_u32(out, number)
 }
 
-// Appends numbers, each behind a space.
+// Appends numbers, each after a space.
 fn push_numbers(out: &mut Vec<u8>, numbers: &[u32]) -> Result<(), AllocError>
     ensures { OnOk result (out.new.items ≡ out.old.items ++ numbers_text numbers.now) }
 {

@@ -47,7 +47,7 @@ end_of_order order.Stopped = ends.FlashFault
 end_of_order (order.Worn room) = ends.Refused (refusals.Worn room)
 end_of_order (order.OldOrder kept) = ends.Refused (refusals.OldOrder kept)
 
--- of an image of so many bytes
+-- of an image of this many bytes
 abbrev pub end_of_injection : (size : ℕ) → InjectFault → End
 end_of_injection size inject.Stopped = ends.FlashFault
 end_of_injection size inject.Empty = ends.Refused refusals.Empty

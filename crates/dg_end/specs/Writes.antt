@@ -8,7 +8,7 @@ use Rattle.dg_outside.specs.Outside.{Outside, OutputState, SameLink, CountsRise}
 use Rattle.dg_end.specs.Lines.{Outcome, outcome_status, outcome_line, finish_line}
 use Rattle.dg_end.specs.declared.ends.End.{End}
 
--- A line was written whole, and the status is this one; or the write failed behind a front of it; or memory ran out before it.
+-- A line was written whole, and the status is this one; or the write failed after a front of it; or memory ran out before it.
 -- Where there is no line nothing was written.
 abbrev pub WritesLast : (status wanted : Status) → Option (List ℕ) → OutputState → OutputState → Type 0
 WritesLast status wanted None a b = (status ≡ wanted) × (b ≡ a)

@@ -17,7 +17,7 @@ pub enum End {
     FlashFault,
     /// A call of the link failed.
     LinkFault,
-    /// A board that is used is no volume.
+    /// A board that is used is not a volume.
     NotAVolume,
     /// A start found no image that it may run.
     NoImage,

@@ -5,7 +5,7 @@
 pub enum Refusal {
     /// The image has no byte.
     Empty,
-    /// The image has so many bytes, more than 70,656.
+    /// The image has this many bytes, more than 70,656.
     TooLarge {
         length: usize,
     },

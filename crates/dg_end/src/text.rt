@@ -5,7 +5,7 @@ ghost use Rattle.dg_end.specs.Texts.{numbers, line};
 use dg_base::push_u32;
 use std::alloc::{AllocError, Global};
 
-/// Appends numbers, each behind a space.
+/// Appends numbers, each after a space.
 pub fn push_numbers(text: &mut Vec<u8>, values: &[u32]) -> Result<(), AllocError>
     ensures { OnOk result (text.new.items ≡ text.old.items ++ numbers values.now) }
 {
@@ -16,7 +16,7 @@ pub fn push_numbers(text: &mut Vec<u8>, values: &[u32]) -> Result<(), AllocError
     Ok(())
 }
 
-/// Appends a word, and numbers behind it.
+/// Appends a word, and numbers after it.
 pub fn push_words(text: &mut Vec<u8>, word: &[u8], values: &[u32]) -> Result<(), AllocError>
     ensures { OnOk result (text.new.items ≡ text.old.items ++ (word.now ++ numbers values.now)) }
 {
@@ -34,7 +34,7 @@ pub fn push_line(text: &mut Vec<u8>, word: &[u8], values: &[u32]) -> Result<(), 
     Ok(())
 }
 
-/// A line of a word and numbers, each behind a space.
+/// A line of a word and numbers, each after a space.
 pub fn line_of(alloc: Global, word: &[u8], values: &[u32]) -> Result<Vec<u8>, AllocError>
     ensures { IfOk result (λ text. text.items ≡ line (word.now ++ numbers values.now)) }
 {

@@ -38,7 +38,7 @@ entry_in_frame b at = record {
 abbrev pub order_at : List ℕ → ℕ → Order
 order_at b at = record { number = word_at b at; image = slice_index b (at + 4); version = word_at b (at + 5) }
 
--- so many entries
+-- this many entries
 unfoldable pub entries_in : (count : ℕ) → List ℕ → List Entry
 entries_in n b = map (entry_in_frame b) (entry_places first_entry n)
 
@@ -63,12 +63,12 @@ entry_fits e =
     ((e.version == 0) && (e.pages == 0) && (e.have == 0) && (e.crc == 0))
     || (nat_le 1 e.version && nat_le fewest_pages e.pages && nat_le e.pages most_pages && nat_le e.have e.pages)
 
--- an order in an advert of so many images: all is 0, or it names one of them, or golden
+-- an order in an advert of this many images: all is 0, or it names one of them, or golden
 abbrev pub order_in_frame : (images : ℕ) → Order → Bool
 order_in_frame images o =
     ((o.number == 0) && (o.image == 0) && (o.version == 0)) || (nat_le 1 o.number && nat_le o.image images && nat_le 1 o.version)
 
--- a page of one of so many images
+-- a page of one of this many images
 abbrev pub page_fits : (images image version page : ℕ) → Bool
 page_fits images image version page = nat_le 1 image && nat_le image images && nat_le 1 version && nat_le page last_page
 

@@ -25,7 +25,7 @@ EntryInRange e = (e ≡ unused) ⊎ TellsVersion e
 abbrev pub no_order : Order
 no_order = record { number = 0; image = 0; version = 0 }
 
--- an order of one of so many images, or of golden
+-- an order of one of this many images, or of golden
 pub record NamesImage (images : ℕ) (o : Order) : Type 0 where
   pub number : 1 ≤ o.number
   pub image : o.image ≤ images
@@ -34,7 +34,7 @@ pub record NamesImage (images : ℕ) (o : Order) : Type 0 where
 abbrev pub OrderInRange : (images : ℕ) → Order → Type 0
 OrderInRange images o = (o ≡ no_order) ⊎ NamesImage images o
 
--- a page of a version of one of so many images
+-- a page of a version of one of this many images
 pub record PageInRange (images image version page : ℕ) : Type 0 where
   pub first : 1 ≤ image
   pub last : image ≤ images

@@ -21,7 +21,7 @@ packet_kind = 3
 abbrev pub wide_kind : ℕ
 wide_kind = 4
 
--- kind, source and CRC take so many bytes, and no frame is shorter
+-- kind, source and CRC take this many bytes, and no frame is shorter
 abbrev pub shortest : ℕ
 shortest = 5
 
@@ -54,12 +54,12 @@ entry_size = 8
 abbrev pub order_size : ℕ
 order_size = 9
 
--- where so many entries begin, one behind the other, the first at this offset
+-- where this many entries begin, one after another, the first at this offset
 abbrev pub entry_places : (at count : ℕ) → List ℕ
 entry_places at zero = []
 entry_places at (suc n) = at ∷ entry_places (at + entry_size) n
 
--- the entries of an advert begin behind its kind and its source, and its order behind so many entries
+-- the entries of an advert begin after its kind and its source, and its order after this many entries
 abbrev pub first_entry : ℕ
 first_entry = 3
 

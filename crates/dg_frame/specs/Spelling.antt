@@ -41,7 +41,7 @@ pub record EntryFitsTypes (e : Entry) : Type 0 where
   pub version : e.version < 2 ^ 32
   pub crc : e.crc < 2 ^ 16
 
--- so many entries, and the order behind them
+-- this many entries, and the order after them
 abbrev pub AdvertFits : (count source : ℕ) → List Entry → Order → Type 0
 AdvertFits count source entries order =
     (source < 2 ^ 16) × (length entries ≡ count) × AllByRecursion EntryFitsTypes entries × (order.number < 2 ^ 32)

@@ -1,4 +1,4 @@
-//! Fields that several kinds of frames have, each read at its offset and written behind the ones before it.
+//! Fields that several kinds of frames have, each read at its offset and written after the ones before it.
 ghost use Rattle.std.specs.Prelude.{◌≡◌, ℕ, ◌+◌, ◌-◌, ◌*◌, ◌^◌, ◌<◌, ◌≤◌, ◌++◌, ◌∷◌, length, take, drop};
 ghost use Rattle.std.specs.Int.{to_be_bytes, w16, w32};
 ghost use Rattle.std.specs.List.{AllByRecursion, flat_map};

@@ -36,7 +36,7 @@ pub fn in_range(message: &Message, wide: bool) -> bool
     }
 }
 
-/// Whether an advert of so many images tells what a chip may keep.
+/// Whether an advert of this many images tells what a chip may keep.
 fn advert_fits(entries: &[Entry], order: &Order, images: usize) -> bool
     ensures { result ≡ (list_all entry_fits entries.now && order_in_frame images order.now) }
 {
@@ -60,7 +60,7 @@ fn entry_fits(entry: &Entry) -> bool
     }
 }
 
-/// An order is all 0, or it names one of so many images, or golden.
+/// An order is all 0, or it names one of this many images, or golden.
 fn order_fits(order: &Order, images: usize) -> bool
     ensures { result ≡ order_in_frame images order.now }
 {

@@ -7,7 +7,7 @@ use Rattle.std.specs.Option.{option_or}
 use Rattle.dg_words.specs.Lists.{tabulate}
 use Rattle.dg_ihex.specs.Sizes.{gap_byte}
 
--- bytes, one behind the other from an address on
+-- bytes, one after another from an address on
 pub record Block : Type 0 where
   pub address : ℕ
   pub bytes : List ℕ
@@ -33,7 +33,7 @@ unfoldable pub lowest_of : List Block → ℕ
 lowest_of [] = 2 ^ 32
 lowest_of (block ∷ blocks) = min block.address (lowest_of blocks)
 
--- the address behind the highest, 0 where there is none
+-- the address after the highest, 0 where there is none
 unfoldable pub past_of : List Block → ℕ
 past_of [] = 0
 past_of (block ∷ blocks) = max (block.address + length block.bytes) (past_of blocks)

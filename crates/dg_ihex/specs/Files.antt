@@ -15,7 +15,7 @@ use Rattle.dg_ihex.specs.Blocks.{Block, overlaps, span_of, image_of}
 
 -- ---- what records say together
 
--- the base behind a record, where another stood before it
+-- the base after a record, where another stood before it
 abbrev pub base_behind : ℕ → Record → ℕ
 base_behind base (records.Data offset bytes) = base
 base_behind base records.End = base
@@ -23,7 +23,7 @@ base_behind base (records.Segment units) = units * paragraph
 base_behind base (records.Linear units) = units * segment
 base_behind base records.Start = base
 
--- the base behind records, which is 0 at first
+-- the base after records, which is 0 at first
 abbrev pub base_of : List Record → ℕ
 base_of before = fold base_behind 0 before
 
@@ -40,7 +40,7 @@ abbrev pub blocks_over : ℕ → List Record → List Block
 blocks_over base [] = []
 blocks_over base (first ∷ others) = block_of base first ++ blocks_over (base_behind base first) others
 
--- the blocks of records, each over the base that stands behind those before it
+-- the blocks of records, each over the base that stands after those before it
 unfoldable pub blocks_of : List Record → List Block
 blocks_of all = blocks_over 0 all
 
@@ -60,12 +60,12 @@ has_end all = list_any is_end all
 abbrev pub first_cause : Bool → Bool → Bool → Option HexCause
 first_cause overlap span end = if overlap then Some Overlap else if span then Some Span else if end then Some End else None
 
--- What is wrong with blocks behind those that are given: an address was given before; the highest address less the lowest,
+-- What is wrong with blocks after those that are given: an address was given before; the highest address less the lowest,
 -- and 1, is more than an image has bytes; or the end came before.
 abbrev pub cause_of_blocks : List Block → List Block → Bool → Option HexCause
 cause_of_blocks given own end = first_cause (list_any (overlaps given) own) (nat_lt longest_image (span_of (given ++ own))) end
 
--- what is wrong with a record behind others
+-- what is wrong with a record after others
 unfoldable pub cause_behind : List Record → Record → Option HexCause
 cause_behind before next = cause_of_blocks (blocks_of before) (block_of (base_of before) next) (has_end before)
 
@@ -86,7 +86,7 @@ abbrev pub judged : List Record → Result Record HexCause → Option HexCause
 judged before (Ok found) = cause_behind before found
 judged before (Err cause) = Some cause
 
--- what is wrong with a line behind others
+-- what is wrong with a line after others
 abbrev pub cause_of : List (List ℕ) → List ℕ → Option HexCause
 cause_of before [] = None
 cause_of before (c ∷ text) = judged (records_of before) (record_of (c ∷ text))

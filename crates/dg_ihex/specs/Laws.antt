@@ -6,14 +6,14 @@ use Rattle.dg_ihex.specs.declared.faults.HexCause.TheVariants.{End}
 use Rattle.dg_ihex.specs.declared.faults.HexFileFault.{HexFileFault}
 use Rattle.dg_ihex.specs.Files.{cause_of, has_end, records_of}
 
--- what is wrong behind n lines: with the line there, or, behind the last line, with a file that has no end
+-- what is wrong after n lines: with the line there, or, after the last line, with a file that has no end
 unfoldable pub fault_behind_lines : List (List ℕ) → ℕ → Option HexCause
 fault_behind_lines texts n =
     if nat_lt n (length texts) then cause_of (take n texts) (slice_index_or texts n [])
     else if has_end (records_of texts) then None
     else Some End
 
--- a fault is there, in a line or behind the last one, and none is before it
+-- a fault is there, in a line or after the last one, and none is before it
 pub record IsFirstFault (texts : List (List ℕ)) (fault : HexFileFault) : Type 0 where
   pub behind : ℕ
   pub line : fault.line ≡ behind + 1

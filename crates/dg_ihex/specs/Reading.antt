@@ -25,7 +25,7 @@ abbrev pub RefusesLine : HexCause → Option HexCause → Type 0
 RefusesLine Memory defined = Unit {0}
 RefusesLine cause defined = defined ≡ Some cause
 
--- what a step answered: nothing is wrong, and a fact holds behind it; or what is wrong
+-- what a step answered: nothing is wrong, and a fact holds after it; or what is wrong
 abbrev pub ReaderSteps : {A : Type 0} → Result A HexCause → Option HexCause → Type 0 → Type 0
 ReaderSteps (Ok done) defined After = (defined ≡ None) × After
 ReaderSteps (Err cause) defined After = RefusesLine cause defined

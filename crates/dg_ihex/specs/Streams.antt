@@ -11,7 +11,7 @@ use Rattle.dg_ihex.specs.Readers.{Behind}
 
 -- ---- the open line
 
--- lines that give the same record, whatever comes behind these fronts of them
+-- lines that give the same record, whatever comes after these fronts of them
 pub record ReadsAlike (short front : List ℕ) : Type 0 where
   pub some : 0 < length short
   pub alike : (more : List ℕ) → record_of (short ++ more) ≡ record_of (front ++ more)
@@ -21,7 +21,7 @@ pub record SaysAlike (x y : List ℕ) : Type 0 where
   pub causes : (before : List (List ℕ)) → cause_of before x ≡ cause_of before y
   pub records : record_in x ≡ record_in y
 
--- What is kept of an open line says the same, whatever comes behind, also less a CR at its end.
+-- What is kept of an open line says the same, whatever comes after, also less a CR at its end.
 pub record Stays (kept line : List ℕ) : Type 0 where
   pub some : 0 < length line → 0 < length kept
   pub only : 0 < length kept → 0 < length line
@@ -30,8 +30,8 @@ pub record Stays (kept line : List ℕ) : Type 0 where
 
 -- ---- what came
 
--- A stream of an input in which nothing is wrong so far: with whatever comes behind,
--- the file has these lines and then those of what comes behind the open line.
+-- A stream of an input in which nothing is wrong so far: with whatever comes after,
+-- the file has these lines and then those of what comes after the open line.
 pub record Going (stream : Stream) (input : List ℕ) : Type 0 where
   pub before : List (List ℕ)
   pub line : List ℕ
@@ -54,7 +54,7 @@ abbrev pub Advances : {A : Type 0} → Result A HexFileFault → List ℕ → (A
 Advances (Ok x) input After = After
 Advances (Err fault) input After = TellsFault fault input
 
--- the same of a piece behind an input, up to an offset in it
+-- the same of a piece after an input, up to an offset in it
 abbrev pub AdvancesTo : Result ℕ HexFileFault → (input piece : List ℕ) → (ℕ → Type 0) → Type 0
 AdvancesTo (Ok next) input piece After = After next
 AdvancesTo (Err fault) input piece After = TellsFault fault (input ++ piece)

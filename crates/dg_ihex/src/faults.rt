@@ -11,7 +11,7 @@ use std::fmt;
 pub enum HexCause {
     /// The line does not begin with `:`.
     Start,
-    /// A byte behind the `:` is no hex digit, or their number is odd.
+    /// A byte after the `:` is no hex digit, or their number is odd.
     Hex,
     /// The record has fewer than 5 bytes, or not 5 more than its first byte says.
     Count,
@@ -25,7 +25,7 @@ pub enum HexCause {
     Overlap,
     /// With it, the lowest and the highest address are too far apart for an image.
     Span,
-    /// It comes behind the end record, or the file has none.
+    /// It comes after the end record, or the file has none.
     End,
     /// Memory ran out.
     Memory,
@@ -70,7 +70,7 @@ impl From<AllocError> for HexCause {
 #[derive(Clone, Copy, PartialEq, Eq, Debug)]
 pub struct HexFileFault {
     /// The number of the line, counted from 1. A missing end is told at the line after the last, and
-    /// want of memory at line 0.
+    /// running out of memory at line 0.
     pub line: u32,
     pub cause: HexCause,
 }

@@ -82,7 +82,7 @@ impl Reader {
         Ok(())
     }
 
-    // What is wrong with any record behind the end.
+    // What is wrong with any record after the end.
     fn check_open(&self) -> Result<(), HexCause>
         ensures { ReaderSteps result (first_cause false false self.now.has_ended) ⊤ }
     {
@@ -174,7 +174,7 @@ impl Numbered {
         Ok(())
     }
 
-    /// The next line as it stands before its LF.
+    /// The next line as it is before its LF.
     pub fn take_ended(&mut self, alloc: Global, line: &[u8]) -> Result<(), HexFileFault>
         ensures { (before : List (List ℕ)) → Behind self.old before → length before ≤ most_text
             → Judges result before (strip_carriage_return line.now)
@@ -183,7 +183,7 @@ impl Numbered {
         self.take_line(alloc, &line[..text_end(line)])
     }
 
-    /// The image behind the last line.
+    /// The image after the last line.
     pub fn image(&self, alloc: Global) -> Result<Vec<u8>, HexFileFault>
         ensures read { (before : List (List ℕ)) → Behind self.now before
             → ReadsFile (λ image. image.items) result (ended before) }

@@ -22,9 +22,9 @@ pub enum Record {
     Data { offset: u16, bytes: Bytes },
     /// Type 01: the file ends.
     End,
-    /// Type 02: the base of the addresses behind it, in units of 16 bytes.
+    /// Type 02: the base of the addresses after it, in units of 16 bytes.
     Segment(u16),
-    /// Type 04: the base of the addresses behind it, in units of 65,536 bytes.
+    /// Type 04: the base of the addresses after it, in units of 65,536 bytes.
     Linear(u16),
     /// Types 03 and 05: where a processor starts, which an image does not keep.
     Start,

@@ -17,7 +17,7 @@ use std::mem;
 /// The bytes of the longest line of a record: `:`, and two digits for each of 260 bytes.
 pub(crate) const LONGEST_RECORD: usize = 521;
 
-// The open line is shortened once it has so many bytes.
+// The open line is shortened once it has that many bytes.
 const LONG_LINE: usize = 1024;
 
 /// The lines of a file so far, and the line that has not ended.
@@ -25,7 +25,7 @@ const LONG_LINE: usize = 1024;
 pub struct Stream {
     numbered: Numbered,
     // What is kept of the open line. Of one that is too long for a record a shorter one is kept that is refused for the same
-    // cause, whatever comes behind.
+    // cause, whatever comes after.
     kept: Vec<u8>,
 }
 
@@ -42,7 +42,7 @@ impl Stream {
         }
     }
 
-    // The next bytes, behind which stands an LF.
+    // The next bytes, after which stands an LF.
     fn end_line(&mut self, alloc: Global, bytes: &[u8]) -> Result<(), HexFileFault>
         ensures { (input : List ℕ) → Going self.old input → length input ≤ most_text → All (λ b. (b == 10) ≡ false) bytes.now
             → Advances result (input ++ bytes.now ++ 10 ∷ []) (Going self.new (input ++ bytes.now ++ 10 ∷ [])) }
@@ -122,7 +122,7 @@ fn shortened(alloc: Global, line: &[u8]) -> Result<Vec<u8>, AllocError>
     Ok(short)
 }
 
-// A shorter front of a line that is too long for a record.
+// A shorter prefix of a line that is too long for a record.
 fn short_front(alloc: Global, front: &[u8]) -> Result<Vec<u8>, AllocError>
     requires long { longest_record + 1 < length front.now }
     requires pairs { length front.now % 2 ≡ 1 }

@@ -25,7 +25,7 @@ pub struct Window {
     cells: Vec<Option<u8>>,
     // What is added to an address, so that the first that was given has the first cell.
     shift: usize,
-    // The lowest address, and the one behind the highest.
+    // The lowest address, and the one after the highest.
     lowest: usize,
     past: usize,
 
@@ -112,7 +112,7 @@ impl Window {
         }
     }
 
-    // Has a cell for each of so many addresses.
+    // Has a cell for each of this many addresses.
     fn reach(&mut self, address: usize, count: usize) -> Result<(), AllocError>
         requires { address < addresses }
         ensures holds { (blocks : List Block) → Holds self.old blocks → OnOk result (Holds self.new blocks) }

@@ -26,7 +26,7 @@ pub enum ReadStop {
     ReadFault,
 }
 
-// Gives a reader the next piece, of at most so many bytes, and answers how many came.
+// Gives a reader the next piece, of at most this many bytes, and answers how many came.
 fn feed_piece<S: Source>(
     alloc: Global,
     source: &mut S,

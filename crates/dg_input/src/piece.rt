@@ -5,7 +5,7 @@ ghost use Rattle.dg_base.specs.Outside.{Takes, AtEnd};
 
 use dg_base::{ReadFailed, Source};
 
-/// Reads the next bytes of an input into the front of `piece`, at most so many, and answers how many came: none at the end.
+/// Reads the next bytes of an input into the beginning of `piece`, at most this many, and answers how many came: none at the end.
 ///
 /// All that read an input by bytes read it so: commands that keep it or give it to a reader, and a base mote, which plays
 /// what came before it asks for more.

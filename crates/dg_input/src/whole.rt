@@ -8,7 +8,7 @@ use crate::{PIECE, ReadStop, read_piece};
 use dg_base::{MOST_INPUT, ReadFailed, Source};
 use std::alloc::{AllocError, Global};
 
-// Reads a piece behind the bytes, up to one byte past those that are used, and answers how many
+// Reads a piece after the bytes, up to one byte past those that are used, and answers how many
 // bytes came.
 fn keep_piece<S: Source>(
     source: &mut S,

@@ -15,7 +15,7 @@ inbox_of boxes mote = slice_index_or boxes.frames mote []
 abbrev pub latest : {A : Type 0} → ℕ → List A → List A
 latest n xs = drop (length xs - n) xs
 
--- so many motes, with empty inboxes
+-- this many motes, with empty inboxes
 abbrev pub emptied : ℕ → Inboxes → Inboxes
 emptied motes boxes = record { capacity = boxes.capacity; frames = replicate motes [] }
 
@@ -38,12 +38,12 @@ TakesFrame mote frame None after = after ≡ None
 TakesFrame mote frame (Some boxes) after = (rest : List (List ℕ)) × (inbox_of boxes mote ≡ frame ∷ rest)
     × (after ≡ Some (with_inbox mote rest boxes))
 
--- A frame of n bytes was taken, which stands at the front of `into`; or there was none.
+-- A frame of n bytes was taken, which stands at the beginning of `into`; or there was none.
 abbrev pub Receives : ℕ → List ℕ → Option ℕ → Option Inboxes → Option Inboxes → Type 0
 Receives mote into (Some n) before after = TakesFrame mote (take n into) before after
 Receives mote into None before after = IsEmptyAt mote before × (after ≡ before)
 
--- Each of so many motes has an inbox; nothing is claimed where the inboxes are not told.
+-- Each of this many motes has an inbox; nothing is claimed where the inboxes are not told.
 abbrev pub HasInboxes : Option Inboxes → ℕ → Type 0
 HasInboxes None motes = Unit {0}
 HasInboxes (Some boxes) motes = length boxes.frames ≡ motes

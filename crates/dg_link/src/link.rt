@@ -76,7 +76,7 @@ pub trait Link {
     // The port of its first mote, where the link tells it.
     ghost first_port: { Self → Option ℕ };
 
-    /// Begins with so many motes, from 1 to 16, at which no frame waits. Where the link goes over ports, the first
+    /// Begins with this many motes, from 1 to 16, at which no frame waits. Where the link goes over ports, the first
     /// mote has `port`, at most 65,500, and the others have those that follow. After a refusal the link has no motes, and
     /// the port that it tells is the one that it was to have.
     fn open(&mut self, alloc: Global, port: u16, motes: u16) -> Result<(), OpenFault>
@@ -111,7 +111,7 @@ pub trait Link {
         ensures failed { OnErr result (Rose (faults self.old) (faults self.new)) }
         ensures unfailed { OnOk result (faults self.new ≡ faults self.old) };
 
-    /// Receives a frame at a mote into the front of `into`, and answers how many bytes it has; or none, only
+    /// Receives a frame at a mote into the beginning of `into`, and answers how many bytes it has; or none, only
     /// where none waited there when the call looked.
     fn receive(
         &mut self,

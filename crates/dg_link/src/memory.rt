@@ -105,7 +105,7 @@ impl Link for MemLink {
     ghost has_inboxes = { λ _. refl };
 }
 
-// Rings without frames, one for each of so many motes.
+// Rings without frames, one for each of this many motes.
 fn empty_rings(
     alloc: Global,
     capacity: usize,
@@ -120,7 +120,7 @@ fn empty_rings(
     Ok(rings)
 }
 
-// Copies a frame, if there is one, to the front of `into`, and answers how many bytes it has.
+// Copies a frame, if there is one, to the beginning of `into`, and answers how many bytes it has.
 fn hand_over(frame: Option<FrameBytes>, into: &mut [u8; LONGEST_FRAME]) -> Option<usize>
     ensures fits { IfSome result (λ n. n ≤ longest_frame) }
     ensures front { option_map (λ n. take n into.new) result ≡ frame }
@@ -131,7 +131,7 @@ fn hand_over(frame: Option<FrameBytes>, into: &mut [u8; LONGEST_FRAME]) -> Optio
     }
 }
 
-// Copies a frame to the front of `into`, and answers how many bytes it has.
+// Copies a frame to the beginning of `into`, and answers how many bytes it has.
 fn copy_front(frame: &[u8], into: &mut [u8; LONGEST_FRAME]) -> usize
     requires { length frame.now ≤ longest_frame }
     ensures fits { result ≤ longest_frame }

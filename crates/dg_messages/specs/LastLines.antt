@@ -26,7 +26,7 @@ use Rattle.dg_messages.specs.declared.causes.Told.TheVariants as told
 
 -- ---- from words to causes
 
--- the first word, empty where there is none, and the words behind it
+-- the first word, empty where there is none, and the words after it
 abbrev pub first_of : List (List ℕ) → List ℕ
 first_of [] = []
 first_of (w ∷ ws) = w
@@ -162,7 +162,7 @@ abbrev pub refused_by : Option Refused → Told
 refused_by None = told.Other statuses.Refused
 refused_by (Some cause) = told.Refused cause
 
--- the words are `refused`, the cause, and the values behind it
+-- the words are `refused`, the cause, and the values after it
 abbrev pub refused_told : List (List ℕ) → Told
 refused_told ws =
     refused_by (refusal_of (first_of (words_behind ws)) (first_number (words_behind (words_behind ws)))

@@ -1,5 +1,5 @@
 -- The sentence of each cause that an operator is told (docs/COMMANDS.md, "How a command ends"): what happened, with the value
--- that it goes by, and behind a semicolon what to do.
+-- that it goes by, and after a semicolon what to do.
 use Rattle.std.specs.Prelude.{ℕ, ◌-◌, ◌^◌, ◌==◌, if◌then◌else◌, List, [], ◌∷◌, ◌++◌, codes}
 use Rattle.std.specs.Fmt.{decimal}
 use Rattle.dg_base.specs.Status.{code_of}

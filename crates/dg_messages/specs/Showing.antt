@@ -1,5 +1,5 @@
 -- A word as it is shown at a terminal: a control character stands as `\x` and two hex digits. A control character is a byte below
--- 32, 127, or, in UTF-8, 194 with a byte below 160 behind it (ECMA-48, 5.2 and 5.3).
+-- 32, 127, or, in UTF-8, 194 with a byte below 160 after it (ECMA-48, 5.2 and 5.3).
 use Rattle.std.specs.Prelude.{ℕ, ◌==◌, ◌||◌, nat_lt, Bool, if◌then◌else◌, List, [], ◌∷◌, ◌++◌}
 use Rattle.dg_base.specs.Hexadecimal.{hex_text}
 
@@ -9,7 +9,7 @@ is_control c = nat_lt c 32 || c == 127
 abbrev pub escaped : ℕ → List ℕ
 escaped c = 92 ∷ 120 ∷ hex_text (c ∷ [])
 
--- a byte behind another one; 194 is shown with the byte behind it
+-- a byte after another one; 194 is shown with the byte after it
 abbrev pub shown_byte : (before c : ℕ) → List ℕ
 shown_byte before c =
     if before == 194 then (if nat_lt c 160 then escaped c else 194 ∷ c ∷ [])

@@ -7,12 +7,12 @@ use dg_netcfg::ProfileFault;
 use dg_nor::FileFault;
 use dg_script::LineFault;
 
-/// What is wrong with words that are no command.
+/// What is wrong with an invalid command line.
 #[derive(Clone, Copy, Debug, PartialEq, Eq)]
 pub enum Misuse<'a> {
     /// There is none.
     NoWord,
-    /// The first one is no command.
+    /// The first one is not a command.
     NoCommand { word: &'a str },
     /// One is not UTF-8.
     NotText,
@@ -45,7 +45,7 @@ pub enum OutputFault {
 pub enum Refused {
     /// The image has no byte.
     Empty,
-    /// It has so many.
+    /// It has this many.
     TooLarge { length: u32 },
     /// It is golden.
     Reserved,
@@ -84,7 +84,7 @@ pub enum Reads {
 #[derive(Clone, Copy, Debug, PartialEq, Eq)]
 pub enum Told<'a> {
     Memory,
-    /// The words are no command.
+    /// The command line is invalid.
     Misused(Misuse<'a>),
     /// A line is no record of a HEX file.
     Hex { cause: HexCause, line: u32 },
@@ -104,9 +104,9 @@ pub enum Told<'a> {
     NamedTwice,
     /// A chip stopped.
     Stopped,
-    /// A chip is no volume.
+    /// A chip is not a volume.
     NotAVolume,
-    /// A chip that is kept in memory is no volume.
+    /// A chip that is kept in memory is not a volume.
     InMemory,
     Refused(Refused),
     Link(LinkCause),

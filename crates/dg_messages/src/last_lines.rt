@@ -21,7 +21,7 @@ fn is_same(word: &[u8], other: &[u8]) -> bool
     word == other
 }
 
-/// The first word of a text, which is empty where there is none, and the text behind it.
+/// The first word of a text, which is empty where there is none, and the text after it.
 fn first_word(text: &[u8]) -> (&[u8], &[u8])
     ensures word { result.0.now ≡ first_of (words_of text.now) }
     ensures rest { words_of result.1.now ≡ words_behind (words_of text.now) }
@@ -32,7 +32,7 @@ fn first_word(text: &[u8]) -> (&[u8], &[u8])
     }
 }
 
-/// The number that the first word of a text is, which is 0 where it is none, and the text behind it.
+/// The number that the first word of a text is, which is 0 where it is none, and the text after it.
 fn first_number(text: &[u8]) -> (u32, &[u8])
     ensures number { result.0 ≡ first_number (words_of text.now) }
     ensures rest { words_of result.1.now ≡ words_behind (words_of text.now) }
@@ -270,7 +270,7 @@ pub(crate) fn refused<'a>(last: &[u8]) -> Told<'a>
     }
 }
 
-/// The refusal that a word tells, and the values behind it.
+/// The refusal that a word tells, and the values after it.
 fn refusal(word: &[u8], first: u32, second: u32) -> Option<Refused>
     ensures { result ≡ refusal_of word.now first second }
 {

@@ -1,4 +1,4 @@
-//! The sentences: what happened, with the value that it goes by, and behind a semicolon what to do.
+//! The sentences: what happened, with the value that it goes by, and after a semicolon what to do.
 ghost use Rattle.std.specs.Prelude.{◌≡◌, ◌++◌, OnOk};
 ghost use Rattle.dg_messages.specs.Sentences.{sentence_of, hex_sentence, script_sentence, profile_sentence, file_sentence};
 ghost use Rattle.dg_messages.specs.Sentences.{refusal_sentence, link_sentence, input_sentence, output_sentence};
@@ -152,7 +152,7 @@ fn push_link(alloc: Global, text: &mut Vec<u8>, cause: LinkCause) -> Result<(), 
     push(text, link_after(cause))
 }
 
-/// Appends the sentence of words that are no command.
+/// Appends the sentence of an invalid command line.
 fn push_misuse(text: &mut Vec<u8>, cause: Misuse<'_>) -> Result<(), AllocError>
     ensures { OnOk result (text.new.items ≡ text.old.items ++ misuse_sentence cause.entry) }
 {

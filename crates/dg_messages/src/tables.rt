@@ -36,7 +36,7 @@ pub(crate) fn hex_before<'a>(cause: HexCause) -> &'a str
     }
 }
 
-/// What stands behind it.
+/// What stands after it.
 pub(crate) fn hex_after<'a>(cause: HexCause) -> &'a str
     ensures { result.now ≡ hex_after cause }
 {
@@ -77,7 +77,7 @@ pub(crate) fn script_before<'a>(cause: LineFault) -> &'a str
     }
 }
 
-/// What stands behind it.
+/// What stands after it.
 pub(crate) fn script_after<'a>(cause: LineFault) -> &'a str
     ensures { result.now ≡ script_after cause }
 {
@@ -115,7 +115,7 @@ pub(crate) fn nodes_before<'a>(cause: DripFault) -> &'a str
     }
 }
 
-/// What stands behind it.
+/// What stands after it.
 pub(crate) fn nodes_after<'a>(cause: DripFault) -> &'a str
     ensures { result.now ≡ nodes_after cause }
 {
@@ -147,7 +147,7 @@ pub(crate) fn file_before<'a>(cause: FileFault) -> &'a str
     }
 }
 
-/// What stands behind it.
+/// What stands after it.
 pub(crate) fn file_after<'a>(cause: FileFault) -> &'a str
     ensures { result.now ≡ file_after cause }
 {
@@ -188,7 +188,7 @@ pub(crate) fn refusal_before<'a>(cause: Refused) -> &'a str
     }
 }
 
-/// What stands behind it.
+/// What stands after it.
 pub(crate) fn refusal_after<'a>(cause: Refused) -> &'a str
     ensures { result.now ≡ refusal_after cause }
 {
@@ -230,7 +230,7 @@ pub(crate) fn link_before<'a>(cause: LinkCause) -> &'a str
     }
 }
 
-/// What stands behind it.
+/// What stands after it.
 pub(crate) fn link_after<'a>(cause: LinkCause) -> &'a str
     ensures { result.now ≡ link_after cause }
 {

@@ -7,7 +7,7 @@ use Rattle.dg_meter.specs.declared.region.Region.TheVariants.{Ledger, Control, P
 abbrev pub slot_part : ℕ → Region
 slot_part k = if k % 66 == 0 then Head else Page
 
--- the ledger, the control sectors, program memory, and slots behind it
+-- the ledger, the control sectors, program memory, and slots after it
 abbrev pub region_of : ℕ → Region
 region_of k =
     if k == 0 then Ledger else (if nat_lt k 3 then Control else (if nat_lt k 68 then Program else slot_part (k - 68)))

@@ -31,7 +31,7 @@ share_at s Program = s.program
 share_at s Head = s.head
 share_at s Page = s.page
 
--- one more in a part, of so many bytes
+-- one more in a part, of this many bytes
 abbrev pub noted : Shares → Region → ℕ → Shares
 noted s Ledger bytes = record s { ledger = one_more s.ledger bytes }
 noted s Control bytes = record s { control = one_more s.control bytes }

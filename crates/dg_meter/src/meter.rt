@@ -36,7 +36,7 @@ impl<N: Nor> Metered<N> {
         &self.tally
     }
 
-    /// A slot that stands already has so many pages.
+    /// A slot that stands already has this many pages.
     pub fn know_pages(&mut self, slot: usize, pages: u8)
         ensures inner { chip_of self.new ≡ chip_of self.old }
     {

@@ -17,7 +17,7 @@ impl Share {
         Share { count: 0, bytes: 0 }
     }
 
-    /// One more, of so many bytes.
+    /// One more, of this many bytes.
     pub fn and(self, bytes: usize) -> Share
         ensures { result ≡ one_more self bytes }
     {

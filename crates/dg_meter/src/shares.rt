@@ -43,7 +43,7 @@ impl Shares {
         }
     }
 
-    /// One more in a part, of so many bytes.
+    /// One more in a part, of this many bytes.
     pub fn note(&mut self, region: Region, bytes: usize)
         ensures { self.new ≡ noted self.old region bytes }
     {

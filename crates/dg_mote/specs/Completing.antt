@@ -32,7 +32,7 @@ pub record IsDrained (table : List Row) (x : Spot) (now : ℕ) : Type 0 where
   pub id : (after_ticks drain_ticks x now).mote.id ≡ x.mote.id
   pub wide : (after_ticks drain_ticks x now).mote.wide ≡ x.mote.wide
 
--- A well mote, whatever it was doing, is drained in so many ticks, where it has room at their end.
+-- A well mote, whatever it was doing, is drained in this many ticks, where it has room at their end.
 abbrev pub DrainLaw : Type 0
 DrainLaw = (table : List Row) (x : Spot) (now : ℕ) → IsTable table → SpotIsWell table x now
     → HasRoom (after_ticks drain_ticks x now) → IsDrained table x now
@@ -59,7 +59,7 @@ pub record StaysDrained (table : List Row) (x : Spot) (now n : ℕ) : Type 0 whe
 abbrev pub RestLaw : Type 0
 RestLaw = (table : List Row) (x : Spot) (now n : ℕ) → SpotIsWell table x now → Drained x now → StaysDrained table x now n
 
--- a mote that has just started, over a chip that was formatted with so many commits told as spent
+-- a mote that has just started, over a chip that was formatted with this many commits told as spent
 abbrev pub fresh_spot : (name bytes : List ℕ) → (used id : ℕ) → (wide : Bool) → (now word : ℕ) → Spot
 fresh_spot name bytes used id wide now word = record { store = fresh name bytes used; mote = begun_mote id wide now word }
 
@@ -74,7 +74,7 @@ pub record Advertises (table : List Row) (x : Spot) (now : ℕ) : Type 0 where
   pub wide : (after_ticks advert_ticks x now).mote.wide ≡ x.mote.wide
   pub sent : (before : Option Message) → last_sent advert_ticks x now before ≡ Some (advert_of x.mote.id x.mote.wide x.store)
 
--- A well and drained mote tells what it keeps in so many ticks.
+-- A well and drained mote tells what it keeps in this many ticks.
 abbrev pub AdvertLaw : Type 0
 AdvertLaw = (table : List Row) (x : Spot) (now : ℕ) → SpotIsWell table x now → Drained x now → Advertises table x now
 
@@ -153,7 +153,7 @@ packet_message id image version page bytes q = Packet id image version page q (p
 abbrev pub page_messages : (id image version page : ℕ) → List ℕ → List Message
 page_messages id image version page bytes = map (packet_message id image version page bytes) (range_with_len 0 packets)
 
--- each of so many ticks sends one of the messages
+-- each of this many ticks sends one of the messages
 unfoldable pub SendsEach : List Message → Spot → (now : ℕ) → Type 0
 SendsEach [] x now = Unit {0}
 SendsEach (m ∷ ms) x now = ((tick_at x (now + pace)).sent ≡ Some m) × SendsEach ms (ticked x (now + pace)) (now + pace)

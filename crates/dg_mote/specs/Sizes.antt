@@ -60,7 +60,7 @@ abbrev pub most_buffered : ℕ
 most_buffered = 256
 
 -- The arrays that are alive at once, by their types, with the outbox and the sets: in no call they have more. The outbox, the
--- sets and the largest array have exactly so many bytes.
+-- sets and the largest array have exactly this many bytes.
 pub record BuffersFit : Type 0 where
   pub counted : buffered_size ≡ 220
   pub largest : buffered_size ≤ most_buffered
@@ -74,7 +74,7 @@ pub record BuffersFit : Type 0 where
   pub taking : kept_size + SIZE_OF_PACKET + SIZE_OF_PACKET ≤ most_buffered
   -- it was the last one of its page: with it the piece in which the page is read for its CRC
   pub comparing : kept_size + SIZE_OF_PACKET + SIZE_OF_CRC_PIECE ≤ most_buffered
-  -- of page 0: with it the head of the descriptor, the name in it, and the piece in which the bytes behind it are tested
+  -- of page 0: with it the head of the descriptor, the name in it, and the piece in which the bytes after it are tested
   pub testing : kept_size + SIZE_OF_PACKET + SIZE_OF_HEAD + SIZE_OF_NAME + SIZE_OF_DESCRIPTOR_PIECE ≤ most_buffered
   -- a start: the name in a descriptor, and the piece in which a page is read for its CRC, or copied
   pub measuring : kept_size + SIZE_OF_NAME + SIZE_OF_CRC_PIECE ≤ most_buffered

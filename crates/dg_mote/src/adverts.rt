@@ -274,7 +274,7 @@ fn is_same_object(kept: Kept, entry: Entry) -> bool
     entry.version == kept.version && entry.pages == kept.pages && entry.crc == kept.crc
 }
 
-/// The number behind that of the last image that an advert names.
+/// The number after that of the last image that an advert names.
 fn past_last(entries: &[Entry]) -> u8
     requires { length entries.now < images }
     ensures { result ≡ length entries.now + 1 }

@@ -109,7 +109,7 @@ pub fn requests_are_sets()
         } }
 {}
 
-/// A mote hands on an image of which it has some pages: its adverts tell how many, and it serves a request to itself
+/// A mote forwards an image of which it has some pages: its adverts tell how many, and it serves a request to itself
 /// exactly where it keeps that version and the page is complete, whether the image is whole or not (pipelining over
 /// hops, Hui and Culler, SenSys 2004).
 pub fn pages_are_handed_on_before_the_image_is_whole()

@@ -231,7 +231,7 @@ fn request_message(
     }
 }
 
-/// The message of a packet as it stands in its slot.
+/// The message of a packet as it is in its slot.
 fn packet_message<N: Nor>(
     nor: &mut N,
     id: u16,

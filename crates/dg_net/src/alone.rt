@@ -26,7 +26,7 @@ pub struct MoteLink<'r, R> {
     net: &'r R,
     /// The mote that has its socket here.
     mote: u16,
-    /// A millisecond of the system counts as so many of the rules.
+    /// A millisecond of the system counts as this many of the rules.
     scale: u64,
     port: u16,
     /// How many motes there are, here and elsewhere.

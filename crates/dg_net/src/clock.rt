@@ -6,7 +6,7 @@ use dg_base::Clock;
 use std::time::{Clock as Timer, Instant};
 
 /// The clock of the system, in whole milliseconds since it was made. Where the system's clock can't be read, it answers
-/// its last answer again. One that is scaled goes so many times as fast.
+/// its last answer again. One that is scaled goes this many times as fast.
 #[derive(Drop)]
 pub struct SystemClock<'r, R> {
     timer: &'r R,

@@ -14,7 +14,7 @@ const QUIET: u64 = 1_000;
 /// The shortest turn, in milliseconds of the system: so no processor is busy with turns in which nothing comes.
 const LEAST_TURN: u64 = 1;
 
-/// What is known of the turn that is played. In a turn each mote looks once whether a frame came, in rising number: so a
+/// What is known of the turn that is played. In a turn each mote looks once whether a frame came, in ascending order: so a
 /// mote that looks behind one of its own or of a higher number begins the next turn. Only then is anything waited for,
 /// once for all motes.
 #[derive(Drop)]
@@ -27,7 +27,7 @@ pub(crate) struct Pace {
     next: u16,
     /// Whether a frame came in this turn.
     came: bool,
-    /// A millisecond of the system counts as so many of the rules.
+    /// A millisecond of the system counts as this many of the rules.
     scale: u64,
 }
 

@@ -138,7 +138,7 @@ enum Unopened {
     Port(LinkCause),
 }
 
-// Sockets at so many ports, from `port` on.
+// Sockets at this many ports, from `port` on.
 fn open_sockets<R: Net>(
     net: &R,
     alloc: Global,

@@ -29,7 +29,7 @@ use Rattle.dg_node.specs.declared.acts.Injected.TheVariants as injected
 
 -- ---- effects, at a node that is on or off
 
--- a mote that is on maintains anew behind an act on its volume
+-- a mote that is on maintains anew after an act on its volume
 abbrev pub acts_effect : Option MoteState → Trail Store → (now word : ℕ) → Effect
 acts_effect o t now word = record { mote = option_map (λ m. maintains m now word) o; trail = t; started = None; sent = None }
 
@@ -61,7 +61,7 @@ abbrev pub trail_unless : {R : Type 0} → Option R → Trail Store → Store �
 trail_unless None t s = t
 trail_unless (Some why) t s = resting s 0
 
--- The chip stopped. Where a fuse blew in the act, this was reported of the chip before.
+-- The chip stopped. Where a fuse fired in the act, this was reported of the chip before.
 pub record StoppedInAct {R : Type 0} (before : Option ChipReport) (refusal : Option R) (e : Effect) (s : Store)
     (old new : Device) : Type 0 where
   pub stops : Stops (trail_unless refusal e.trail s) old new

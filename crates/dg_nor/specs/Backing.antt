@@ -1,4 +1,4 @@
--- What stands behind a board besides memory (docs/FLASH.md, "The device").
+-- What backs a board besides memory (docs/FLASH.md, "The device").
 use Rattle.std.specs.Prelude.{◌≡◌, ℕ, true, false, Bool, List, Option, Some, None, IfSome}
 use Rattle.std.proofs.Props.{props}
 use Rattle.dg_nor.specs.Sparse.{sparse}

@@ -1,6 +1,6 @@
 -- A chip of which only the pieces that were programmed are stored, in the order in which that was done first (docs/FLASH.md,
 -- "The device"). `places` has a number for each piece: 0 where it is not stored, and else its place among those that are,
--- counted from 1. `stored` has their cells, one piece behind the other.
+-- counted from 1. `stored` has their cells, one piece after the other.
 use Rattle.std.specs.Prelude.{◌≡◌, ℕ, zero, suc, ◌+◌, ◌*◌, ◌/◌, ◌%◌, ◌<◌, ◌≤◌, List, [], ◌∷◌, length, slice_index}
 use Rattle.dg_words.specs.Lists.{tabulate}
 use Rattle.dg_nor.specs.Sizes.{chip_size}

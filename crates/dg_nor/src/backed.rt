@@ -20,7 +20,7 @@ pub(crate) struct BackedCells {
 }
 
 impl BackedCells {
-    /// These cells. A file behind them has their bytes.
+    /// These cells. A file that backs them has their bytes.
     pub(crate) fn of(cells: Cells, backing: Backing) -> BackedCells
         requires { IfSome (mirrored_bytes backing) (λ bytes. bytes ≡ cells_image cells) }
         ensures cells { result.cells ≡ cells }

@@ -33,7 +33,7 @@ pub record IsRow (row : Row) : Type 0 where
 abbrev pub pages_for : ℕ → ℕ
 pages_for len = 1 + (len + (page_size - 1)) / page_size
 
--- page p, from 1 on, holds the bytes behind those of p − 1 pages, the last page filled with 0xFF
+-- page p, from 1 on, holds the bytes after those of p − 1 pages, the last page filled with 0xFF
 abbrev pub data_page : List ℕ → ℕ → List ℕ
 data_page bytes p = padded page_size 255 (take page_size (drop ((p - 1) * page_size) bytes))
 

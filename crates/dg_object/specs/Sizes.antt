@@ -30,7 +30,7 @@ most_bytes = 70656
 abbrev pub slots : ℕ
 slots = 7
 
--- the bytes of a descriptor in front of the CRCs
+-- the bytes of a descriptor before the CRCs
 abbrev pub head_size : ℕ
 head_size = 28
 
@@ -38,6 +38,6 @@ head_size = 28
 abbrev pub name_size : ℕ
 name_size = 16
 
--- the bytes of a descriptor behind its head that are read from a chip, and looked at, at once
+-- the bytes of a descriptor after its head that are read from a chip, and looked at, at once
 abbrev pub descriptor_piece_size : ℕ
 descriptor_piece_size = 96

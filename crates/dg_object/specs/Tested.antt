@@ -8,7 +8,7 @@ use Rattle.dg_object.specs.Sizes.{most_bytes, slots, head_size, name_size}
 use Rattle.dg_object.specs.Object.{head_of, pages_for}
 use Rattle.dg_object.specs.Descriptor.{Details, crcs_end}
 
--- the bytes in front of the first 0
+-- the bytes before the first 0
 unfoldable pub up_to_zero : List ℕ → List ℕ
 up_to_zero [] = []
 up_to_zero (c ∷ cs) = if c == 0 then [] else c ∷ up_to_zero cs
@@ -29,7 +29,7 @@ fields_fit d =
     nat_lt d.image slots && nat_le 1 d.version && nat_le 1 d.length && nat_le d.length most_bytes
     && (d.pages == pages_for d.length) && spells_name d.name
 
--- the fields are in their ranges, the head spells them, and all behind the CRCs is 0xFF
+-- the fields are in their ranges, the head spells them, and all after the CRCs is 0xFF
 unfoldable pub is_descriptor : List ℕ → Bool
 is_descriptor page =
     let d = fields_in page in

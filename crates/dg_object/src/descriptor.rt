@@ -17,7 +17,7 @@ use dg_base::is_name;
 use std::error::Error;
 use std::fmt;
 
-/// A piece of what stands behind the CRCs.
+/// A piece of what stands after the CRCs.
 const FILLED: DescriptorPiece = [0xFF; DESCRIPTOR_PIECE];
 
 /// Why bytes are no descriptor.
@@ -45,7 +45,7 @@ impl fmt::Display for DescriptorFault {
 
 impl Error for DescriptorFault {}
 
-/// What a descriptor says of the image in the pages behind it.
+/// What a descriptor says of the image in the pages after it.
 #[derive(Debug, PartialEq, Eq, Drop)]
 pub struct Descriptor {
     pub image: u8,
@@ -91,7 +91,7 @@ impl Descriptor {
         }
     }
 
-    /// Whether the bytes of a page from `at` on are 0xFF wherever they stand behind the CRC of the last page.
+    /// Whether the bytes of a page from `at` on are 0xFF wherever they stand after the CRC of the last page.
     pub fn rest_fits(&self, at: u16, piece: &[u8]) -> bool
         ensures { IsTrue result ↔ RestFits self.now.pages at piece.now }
     {
@@ -164,7 +164,7 @@ fn name_in(field: &[u8]) -> Option<Name>
     Some(Name::new(name))
 }
 
-/// How many bytes stand in front of the first 0.
+/// How many bytes stand before the first 0.
 fn name_len(field: &[u8]) -> usize
     ensures within { result ≤ length field.now }
     ensures before { (k : ℕ) → k < result → slice_index field.now k ≢ 0 }

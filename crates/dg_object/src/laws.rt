@@ -26,14 +26,14 @@ pub fn an_object_has_these_sizes()
     ensures head { HEAD_SIZE ≡ head_size }
     ensures name { NAME_SIZE ≡ name_size }
     ensures descriptor_piece { DESCRIPTOR_PIECE ≡ descriptor_piece_size }
-    // the arrays have so many bytes by their types, and a name keeps its count beside its array
+    // the arrays have that many bytes by their types, and a name keeps its count beside its array
     ensures packet_array { SIZE_OF_PACKET ≡ packet_size }
     ensures head_array { SIZE_OF_HEAD ≡ head_size }
     ensures piece_array { SIZE_OF_DESCRIPTOR_PIECE ≡ descriptor_piece_size }
     ensures name_array { SIZE_OF_NAME ≤ name_size + 8 }
 {}
 
-/// An object of 2 to 65 pages holds the image, and nothing but the filling behind it.
+/// An object of 2 to 65 pages holds the image, and nothing but the filling after it.
 pub fn a_row_is_its_pages()
     ensures some { (row : Row) → IsRow row → fewest_pages ≤ pages_for (length row.bytes) }
     ensures most { (row : Row) → IsRow row → pages_for (length row.bytes) ≤ most_pages }
@@ -58,7 +58,7 @@ pub fn a_head_is_read_in_one_way()
     ensures { (head : List ℕ) (d e : Details) → IsHead head d → IsHead head e → d ≡ e }
 {}
 
-/// A page is a descriptor exactly where its first bytes are its head and all that stands behind them fits, in one
+/// A page is a descriptor exactly where its first bytes are its head and all that stands after them fits, in one
 /// piece or in several.
 pub fn a_descriptor_is_read_in_pieces()
     ensures parts { (page : List ℕ) (d : Details) → length page ≡ page_size → IsHead (part page 0 head_size) d

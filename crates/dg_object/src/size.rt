@@ -28,19 +28,19 @@ pub const MOST_BYTES: usize = 70_656;
 /// The slots of a chip, each for one image. Image numbers are below this.
 pub const SLOTS: u8 = 7;
 
-/// The bytes of a descriptor in front of the CRCs.
+/// The bytes of a descriptor before the CRCs.
 pub const HEAD_SIZE: usize = 28;
 
-/// What stands behind them is read from a chip, and looked at, in pieces of at most this many bytes.
+/// What stands after them is read from a chip, and looked at, in pieces of at most this many bytes.
 pub const DESCRIPTOR_PIECE: usize = 96;
 
 /// A packet, as it is read from a chip and carried in a message.
 pub type PacketBytes = [u8; PACKET_SIZE];
 
-/// The bytes of a descriptor in front of the CRCs, as they are read from a chip.
+/// The bytes of a descriptor before the CRCs, as they are read from a chip.
 pub type Head = [u8; HEAD_SIZE];
 
-/// A piece of what stands behind them.
+/// A piece of what stands after them.
 pub type DescriptorPiece = [u8; DESCRIPTOR_PIECE];
 
 /// The bytes that the array of a packet takes, by its type.

@@ -42,7 +42,7 @@ pub record CommandFits (chip : List ℕ) (used : ℕ) (c : Command) (image : Lis
   pub copies : (c.kind == erase_kind) ≡ false → (c.kind == program_kind) ≡ false → (c.from + c.count ≤ chip_size)
       × (part image c.from c.count ≡ part chip c.from c.count)
 
--- behind the last command
+-- after the last command
 abbrev pub no_command : Command
 no_command = record { kind = 0; at = 0; from = 0; count = 0 }
 

@@ -126,7 +126,7 @@ impl Plan<'_> {
         piece.as_slice() == bytes && handed.as_slice() == bytes
     }
 
-    /// Puts a command behind the others.
+    /// Puts a command after the others.
     fn record(&mut self, command: Command)
         requires room { self.old.count < length self.old.commands.now }
         requires fits { CommandFits (chip_of self.old) self.old.used command (planned self.old) }
@@ -141,7 +141,7 @@ impl Plan<'_> {
         self.count += 1;
     }
 
-    /// Keeps bytes behind those that are used, and tells where.
+    /// Keeps bytes after those that are used, and tells where.
     fn keep(&mut self, bytes: &[u8]) -> u32
         requires room { self.old.used + length bytes.now ≤ length self.old.bytes.now }
         requires most { self.old.used + length bytes.now ≤ 1048576 }

@@ -18,7 +18,7 @@ reception_begun moment word = record { got = set.empty; tries = 0; due = moment 
 abbrev pub missing : Reception → Numbers
 missing r = set.difference (below packets) r.got
 
--- it waits until the request is due, and gives up after so many requests
+-- it waits until the request is due, and gives up after this many requests
 abbrev pub ask_of : Reception → ℕ → Ask
 ask_of r moment = if nat_lt moment r.due then Wait else (if nat_le most_requests r.tries then GiveUp else Request (missing r))
 

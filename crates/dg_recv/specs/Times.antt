@@ -2,11 +2,11 @@
 -- this profile.
 use Rattle.std.specs.Prelude.{ℕ}
 
--- the first request waits for 1 to so many milliseconds
+-- the first request waits for 1 to this many milliseconds
 abbrev pub first_wait : ℕ
 first_wait = 512
 
--- after a request, and after a new packet, the next request waits for so many milliseconds
+-- after a request, and after a new packet, the next request waits for this many milliseconds
 abbrev pub next_wait : ℕ
 next_wait = 1024
 

@@ -56,7 +56,7 @@ rehearsed_world n = first_world (base_row ∷ []) n.links none_narrow (replicate
 abbrev pub declared_world : World → Plan → World
 declared_world w p = record w { declared = planned_row p ∷ [] }
 
--- The chips of so many motes were formatted with golden, and did not come stopped. All others are as before, and no count rose.
+-- The chips of this many motes were formatted with golden, and did not come stopped. All others are as before, and no count rose.
 pub record AreFormatted (motes : ℕ) (old new : List Device) : Type 0 where
   pub stands : (m : ℕ) (d : Device) → m < motes → slice_get new m ≡ Some d → Stands d.image base_chip
   pub awake : (m : ℕ) (d : Device) → m < motes → slice_get old m ≡ Some d → d.stopped ≡ false
@@ -95,7 +95,7 @@ SpellsScript bytes ls = script_from true first_place 1 (lines bytes) ≡ record 
 
 -- ---- what is played
 
--- An event of a rehearsal at one of so many motes: no frame comes from outside.
+-- An event of a rehearsal at one of this many motes: no frame comes from outside.
 abbrev pub IsRehearsed : ℕ → Event → Type 0
 IsRehearsed motes (Tick m dt word) = FitsEvent motes (Tick m dt word)
 IsRehearsed motes (Hear m dt word frame) = FitsEvent motes (Hear m dt word frame)
@@ -123,7 +123,7 @@ pub record Rehearses (n : NetProfile) (p : Plan) (steps : List Step) (w : World)
   pub items : map played_item played ≡ rehearsed_items p steps
   pub plays : Plays (rehearsed_world n) played w
 
--- What is planned for so many motes: an image that may be declared and injected, at one of them.
+-- What is planned for this many motes: an image that may be declared and injected, at one of them.
 pub record IsPlanned (motes : ℕ) (p : Plan) : Type 0 where
   pub declared : IsDeclared (planned_row p)
   pub some : 1 ≤ length p.content
@@ -218,7 +218,7 @@ IsSentBy m number w = IsSomeAnd (frame_at w number) (λ f. f.by ≡ m)
 abbrev pub SentBy : ℕ → ℕ → Staging → Type 0
 SentBy m number s = (w : World) → IsWorld s.kept s.boards w → IsSentBy m number w
 
--- so was the last one, if there are more than so many
+-- so was the last one, if there are more than this many
 abbrev pub LastSentBy : ℕ → (before : ℕ) → Staging → Type 0
 LastSentBy m before s = (w : World) → IsWorld s.kept s.boards w → before < length w.sent → IsSentBy m (length w.sent) w
 

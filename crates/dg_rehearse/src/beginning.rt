@@ -18,7 +18,7 @@ use dg_script::{Line, write_line};
 use dg_world::{DeclareFault, FormatStopped, World, format_boards};
 use std::alloc::{AllocError, Global};
 
-/// Formats the chips of so many motes with golden.
+/// Formats the chips of this many motes with golden.
 pub(crate) fn format_chips<N: Nor>(boards: &mut Vec<N>, motes: u8) -> Result<(), Halt>
     requires { motes ≤ length boards.old.items }
     ensures { OnOk result (AreFormatted motes (map N.device boards.old.items) (map N.device boards.new.items)) }

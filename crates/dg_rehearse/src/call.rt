@@ -78,7 +78,7 @@ fn play<N: Nor>(
     })
 }
 
-/// Whether what is planned can be rehearsed by so many motes.
+/// Whether what is planned can be rehearsed by this many motes.
 fn check_plan(motes: u8, plan: &Plan) -> Result<(), Stop>
     requires { IsDeclared (planned_row plan.now) }
     ensures ok { OnOk result (IsPlanned motes plan.now) }

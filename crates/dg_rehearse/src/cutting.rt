@@ -16,7 +16,7 @@ use std::alloc::{AllocError, Global};
 /// A reset with a cut comes at most so long after the one before, in milliseconds.
 pub(crate) const BETWEEN_CUTS: u32 = 60_000;
 
-/// A cut is in one of so many operations of a start.
+/// A cut is in one of this many operations of a start.
 const CUT_OPERATIONS: u32 = 3;
 
 impl Schedule {

@@ -47,7 +47,7 @@ impl Plan {
     }
 }
 
-/// Whether a script may declare so many bytes.
+/// Whether a script may declare this many bytes.
 fn is_content(bytes: &[u8]) -> bool
     ensures bytes { AreBytes bytes.now }
     ensures few { result ≡ true → length bytes.now ≤ most_content }

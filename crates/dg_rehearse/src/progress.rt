@@ -12,7 +12,7 @@ pub(crate) struct Progress {
 }
 
 impl Progress {
-    /// Nothing is kept. The image has so many pages.
+    /// Nothing is kept. The image has this many pages.
     pub(crate) fn none(pages: u8) -> Progress {
         Progress {
             pages,

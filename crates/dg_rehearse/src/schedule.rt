@@ -64,7 +64,7 @@ enum Coming {
 }
 
 impl Schedule {
-    /// The schedule of a plan for so many motes and an image of so many pages.
+    /// The schedule of a plan for this many motes and an image of this many pages.
     pub(crate) fn of(plan: &Plan, pages: u8) -> Schedule {
         let mut draws = Draws::of_seed(plan.seed);
         let next_cut = u64::from(draws.next() % BETWEEN_CUTS);

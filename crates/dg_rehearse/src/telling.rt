@@ -9,7 +9,7 @@ use crate::plan::Plan;
 use dg_object::pages_of;
 use dg_script::Report;
 
-/// Whether lines tell that each of so many motes keeps all pages of the image, and runs it, where it was ordered.
+/// Whether lines tell that each of this many motes keeps all pages of the image, and runs it, where it was ordered.
 pub(crate) fn all_have(reports: &[Report], motes: u8, plan: &Plan) -> bool
     requires fits { length plan.now.content ≤ most_bytes }
     ensures { result ≡ true → TellsEach motes plan.now reports.now }
@@ -23,7 +23,7 @@ pub(crate) fn all_have(reports: &[Report], motes: u8, plan: &Plan) -> bool
     true
 }
 
-/// The same of a mote, where the image has so many pages.
+/// The same of a mote, where the image has this many pages.
 fn has(reports: &[Report], mote: u8, plan: &Plan, pages: u8) -> bool
     requires pages { pages ≡ pages_for (length plan.now.content) }
     ensures { result ≡ true → TellsOf plan.now mote reports.now }
@@ -32,7 +32,7 @@ fn has(reports: &[Report], mote: u8, plan: &Plan, pages: u8) -> bool
         && (!plan.ordered || runs(reports, mote, plan.image, plan.version))
 }
 
-/// Whether a line tells that a mote keeps so many pages of this version of an image.
+/// Whether a line tells that a mote keeps this many pages of this version of an image.
 fn keeps(reports: &[Report], mote: u8, image: u8, version: u32, pages: u8) -> bool
     ensures { result ≡ list_any (tells_kept mote image version pages) reports.now }
 {

@@ -33,14 +33,14 @@ pub record OthersStand (w : World) (board : ℕ) (old new : List Device) : Type 
   pub came : (m : ℕ) (d : Device) → m < length w.sites → slice_get old m ≡ Some d → d.stopped ≡ false
   pub others : (m : ℕ) → length w.sites ≤ m → slice_get new m ≡ slice_get old m
 
--- The boards before this one stand for the store, and did not come stopped. Those behind it are as before.
+-- The boards before this one stand for the store, and did not come stopped. Those after it are as before.
 pub record OthersFormatted (chip : Store) (board : ℕ) (old new : List Device) : Type 0 where
   pub all : BoardsEndure old new
   pub stands : (m : ℕ) (d : Device) → m < board → slice_get new m ≡ Some d → Stands d.image chip
   pub came : (m : ℕ) (d : Device) → m < board → slice_get old m ≡ Some d → d.stopped ≡ false
   pub others : (m : ℕ) → board < m → slice_get new m ≡ slice_get old m
 
--- A board that goes through these stores stopped where so many operations were done. A cut did not come before.
+-- A board that goes through these stores stopped where this many operations were done. A cut did not come before.
 pub record StopsOn (trail : Trail Store) (cut : Option CutOfPower) (image : List ℕ) : Type 0 where
   pub made : ℕ
   pub within : made ≤ operations trail
@@ -48,7 +48,7 @@ pub record StopsOn (trail : Trail Store) (cut : Option CutOfPower) (image : List
   pub leaves : MayLeave Stands IsNear trail made image
 
 -- The boards were only read up to this one, which stopped. Those before it are volumes, and did not come stopped.
--- Those behind it are as before.
+-- Those after it are as before.
 pub record OthersMounted (board : ℕ) (old new : List Device) : Type 0 where
   pub mounted : MountedTo board old new
   pub read : SameBoards old new
@@ -80,13 +80,13 @@ pub record ReadingStops (w : World) (board : ℕ) (image : List ℕ) (old new : 
   pub stood : WorldStands w old unread
   pub read : SameBoards unread new
 
--- where it stopped, in one of these lines or in the reading behind them
+-- where it stopped, in one of these lines or in the reading after them
 abbrev pub BoardStops : List Line → List Item → Option World → (board : ℕ) → List ℕ → (old new : List Device) → Type 0
 BoardStops [] left None board image old new = ⊥
 BoardStops [] left (Some w) board image old new = ReadingStops w board image old new
 BoardStops (line ∷ rest) left last board image old new = LineStops line left last board image old new
 
--- A board of so many motes is stopped where a replay had come to this world, with these lines to do,
+-- A board of this many motes is stopped where a replay had come to this world, with these lines to do,
 -- and these items of the first of them.
 pub record StoppedIn (motes : ℕ) (rest : List Line) (left : List Item) (last : Option World) (old new : List Device) : Type
     0 where
@@ -95,8 +95,8 @@ pub record StoppedIn (motes : ℕ) (rest : List Line) (left : List Item) (last :
 
 -- ---- a script that ends before its end
 
--- One of the boards of so many motes, which are used as they are, is no volume. Those before it are volumes, and did not come
--- stopped. All were only read, those behind it are as before, and no board's count rose.
+-- One of the boards of the motes, which are used as they are, is not a volume. Those before it are volumes, and did not come
+-- stopped. All were only read, those after it are as before, and no board's count rose.
 pub record NoVolumeIn (motes : ℕ) (old new : List Device) : Type 0 where
   pub board : ℕ
   pub at : NoVolumeAt board motes old new

@@ -15,7 +15,7 @@ use Rattle.dg_rules.specs.Sizes.{most_events}
 use Rattle.dg_script.specs.Items.{Item, items_of}
 use Rattle.dg_replay.specs.Items.{lacking, events_among}
 
--- the byte, and the bytes up to the last LF behind it, and nothing where there is no LF
+-- the byte, and the bytes up to the last LF after it, and nothing where there is no LF
 abbrev pub up_to : ℕ → List ℕ → List ℕ
 up_to c [] = if c == 10 then c ∷ [] else []
 up_to c (d ∷ ds) = c ∷ d ∷ ds

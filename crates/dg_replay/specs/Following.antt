@@ -12,7 +12,7 @@ use Rattle.dg_replay.specs.declared.halt.Halt.TheVariants.{ReadFault, TooLong, S
 use Rattle.dg_replay.specs.declared.stop.Stop.{Stop}
 use Rattle.dg_replay.specs.declared.stop.Stop.TheVariants.{BadInput}
 
--- The next line was taken, of which this is the text, and these bytes behind it.
+-- The next line was taken, of which this is the text, and these bytes after it.
 pub record LineTaken (bytes : List ℕ) (old : Reading) (at_end : Type 0) (text rest : List ℕ) : Type 0 where
   pub first : FirstLine bytes at_end text rest
   pub used : old.passed + length bytes ≤ most_used_bytes

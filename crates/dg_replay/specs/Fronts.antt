@@ -1,4 +1,4 @@
--- What the first lines of a script settle, whatever comes behind them (docs/PROMISES.md, "How it ends").
+-- What the first lines of a script settle, whatever comes after them (docs/PROMISES.md, "How it ends").
 use Rattle.std.specs.Prelude.{◌≡◌, ◌⊎◌, ℕ, Bool, List, [], ◌∷◌, ◌++◌, Some}
 use Rattle.dg_script.specs.Places.{first_place}
 use Rattle.dg_script.specs.Script.{Script, script_from}
@@ -16,7 +16,7 @@ pub record BeginsAs (first script : Script) : Type 0 where
   pub lines : script.lines ≡ first.lines ++ rest
   pub fault : (at : ℕ × LineFault) → first.fault ≡ Some at → script ≡ first
 
--- These texts spell these lines, and the next one has this number and stands at this place, whatever comes behind them.
+-- These texts spell these lines, and the next one has this number and stands at this place, whatever comes after them.
 pub record ReadsTo (texts : List (List ℕ)) (done : List Line) (place : Place) (number : ℕ) : Type 0 where
   pub reads : (ends : Bool) (more : List (List ℕ)) → script_from ends first_place 1 (texts ++ more)
       ≡ record { lines = done ++ (script_from ends place number more).lines; fault = (script_from ends place number more).fault }

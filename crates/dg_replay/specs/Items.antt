@@ -26,7 +26,7 @@ pub record Beginning : Type 0 where
   pub motes : ℕ
   pub world : Option World
 
--- the world in which so many motes begin, whose boards are formatted with golden
+-- the world in which this many motes begin, whose boards are formatted with golden
 abbrev pub golden_world : (motes : ℕ) → (name : List ℕ) → (used : ℕ) → (content : List ℕ) → World
 golden_world motes name used content =
     first_world (golden_row name content ∷ []) [] none_narrow (replicate motes (fresh name content used))
@@ -130,7 +130,7 @@ IsNoFrame (EventLine event) = BringsNone event
 IsNoFrame (Round a b) = Unit {0}
 IsNoFrame (Sweeps n) = Unit {0}
 
--- what the first of these lines does, behind others
+-- what the first of these lines does, after others
 abbrev pub next_items : (done rest : List Line) → List Item
 next_items done [] = []
 next_items done (line ∷ rest) = item_by (place_behind first_place done) line

@@ -104,7 +104,7 @@ KeepsMotes result before after old new =
 
 -- ---- the player
 
--- there are so many motes, and so many boards
+-- there are this many motes, and this many boards
 abbrev pub Counted : ℕ → ℕ → Type 0
 Counted motes boards = (1 ≤ motes) × (motes ≤ most_motes) × (motes ≤ boards)
 
@@ -127,7 +127,7 @@ abbrev pub IsDeclaration : Item → Type 0
 IsDeclaration (Declares row) = Unit {0}
 IsDeclaration (Applies step reported) = ⊥
 
--- The player and the boards, which were `initial` when the replay began, stand for this world, behind these lines.
+-- The player and the boards, which were `initial` when the replay began, stand for this world, after these lines.
 pub record Stood (p : Player) (done : List Line) (w : Option World) (initial now : List Device) : Type 0 where
   pub seats : Seated p.place (length now)
   pub place : p.place ≡ place_behind first_place done
@@ -154,7 +154,7 @@ pub record MayPlay (line : Line) (p : Player) (boards : List Device) : Type 0 wh
   pub fits : FitsLine p.place.motes line
   pub played : IsPlayed line
 
--- the player whose place went on behind a line
+-- the player whose place went on after a line
 abbrev pub gone_on : Player → Line → Player
 gone_on p line = record p { place = place_after p.place line }
 
@@ -164,7 +164,7 @@ gone_on p line = record p { place = place_after p.place line }
 abbrev pub Grounded : (table : List Row) → (initial : List Device) → Ground → List Line → Type 0
 Grounded table initial g done = UsesBoards done → IsGround g table (motes_in done) × StandFor (motes_in done) g.stores initial
 
--- The run behind a line: its items are those of the lines up to this one, and it reports this text behind what was reported
+-- The run after a line: its items are those of the lines up to this one, and it reports this text after what was reported
 -- before.
 pub record RunsOn (table : List Row) (initial : List Device) (done : List Line) (line : Line) (v : Option World)
     (text : List ℕ) (played : List Played) : Type 0 where
@@ -174,10 +174,10 @@ pub record RunsOn (table : List Row) (initial : List Device) (done : List Line) 
   pub grounded : Grounded table initial ground (done ++ line ∷ [])
   pub run : RunsTo (beginning_of ground (done ++ line ∷ [])).world now v
   pub reported : played_text now ≡ played_text played ++ text
-  -- where something is reported, it goes on behind what was played before
+  -- where something is reported, it goes on after what was played before
   pub on : (text ≡ []) ⊎ ((more : List Played) × (now ≡ played ++ more))
 
--- What a line behind others makes of a run that leads to a world. Behind a link or a narrow mote it is the run of the same
+-- What a line after others makes of a run that leads to a world. Behind a link or a narrow mote it is the run of the same
 -- items from a world that has it.
 abbrev pub LineRuns : (table : List Row) → (initial : List Device) → (done : List Line) → (line : Line)
     → (w v : Option World) → (text : List ℕ) → Type 0
@@ -185,7 +185,7 @@ LineRuns table initial done line w v text = (g : Ground) (played : List Played) 
     → map item_played played ≡ items_of done → RunsTo (beginning_of g done).world played w
     → RunsOn table initial done line v text played
 
--- A line was played behind others, and this is reported of it.
+-- A line was played after others, and this is reported of it.
 pub record PlayedLine (basis : Basis) (q : Player) (behind : DoneSoFar) (line : Line) (report_before : List ℕ)
     (b : BoardsReported) : Type 0 where
   pub world : Option World
@@ -200,7 +200,7 @@ abbrev pub RunsFrom : Option World → List Item → Option World → List ℕ �
 RunsFrom None items v text = (items ≡ []) × (v ≡ None) × (text ≡ [])
 RunsFrom (Some w) items v text = (u : World) × (v ≡ Some u) × ItemsRun w items u text
 
--- A line behind others was begun: of its items the first were played, and P holds of the world then, of those that are left,
+-- A line after others was begun: of its items the first were played, and P holds of the world then, of those that are left,
 -- and of what is reported of those that were played.
 pub record LineBegun (done : List Line) (line : Line) (w : Option World) (P : Option World → (left : List Item)
     → (text : List ℕ) → Type 0) : Type 0 where
@@ -219,7 +219,7 @@ pub record LacksBoards (line : Line) (motes boards : ℕ) (initial old new : Lis
   pub missing : boards < motes
   pub same : new ≡ old
 
--- What playing a line answers, from a player and boards that stand for the world behind other lines. The boards and what is
+-- What playing a line answers, from a player and boards that stand for the world after other lines. The boards and what is
 -- reported were a before it, and are b then.
 abbrev pub PlayedAs : Basis → Result (Unit {0}) Stop → Player → (behind : DoneSoFar) → Line → (a b : BoardsReported) → Type 0
 PlayedAs basis (Ok u) q behind line a b = PlayedLine basis q behind line a.reported b
@@ -242,7 +242,7 @@ PlayedAs basis (Err WriteFault) q behind line a b = ⊥
 
 -- ---- the parts of a line
 
--- what formatting the boards of so many motes answers
+-- what formatting the boards of this many motes answers
 pub record FormattedAs (result : Result (Unit {0}) FormatStopped) (motes : ℕ) (chip : Store) (old new : List Device) : Type
     0 where
   pub formatted : OnOk result ((m : ℕ) (d : Device) → m < motes → slice_get new m ≡ Some d → Stands d.image chip)
@@ -256,7 +256,7 @@ abbrev pub mount_stop : MountStopped → Stop
 mount_stop (Flash board) = FlashFault
 mount_stop (NoVolume board) = NotAVolume
 
--- what mounting the boards of so many motes answers
+-- what mounting the boards of this many motes answers
 pub record MountedAs (result : Result (Unit {0}) MountStopped) (motes : ℕ) (old new : List Device) : Type 0 where
   pub stands : OnOk result ((stores : List Store) × StandFor motes stores new
       × ((m : ℕ) → m < motes → IsShaped (store_of stores m)))

@@ -40,13 +40,13 @@ abbrev pub HonestWithoutFrames : {table : List Row} {script : Script} → Progre
 HonestWithoutFrames c = AllByRecursion IsNoFrame c.done → (UsesBoards c.done → ⊥) → (f : PlayedFirst c) → FramesAreHonest f
 
 -- Where the next event is honest too, each store that the chip may stand for, wherever a stop comes in it,
--- agrees with the table behind it.
+-- agrees with the table after it.
 abbrev pub HalvesAgree : {table : List Row} {script : Script} {c : Progress table script} → PlayedFirst c → Type 0
 HalvesAgree {c = c} f = (w : World) (step : Step) (reported : Bool) (more : List Item) → f.last ≡ Some w
     → map item_played f.rest ++ c.left ≡ Applies step reported ∷ more → HonestEvent w.table step.event
     → (UsesBoards c.done → HoldsTo c.ground.table w step.event) → StopsAgree w step.event
 
--- where it ends with a rest, pages came along the links as in a pipeline, by so many sweeps as the rest has
+-- where it ends with a rest, pages came along the links as in a pipeline, by this many sweeps as the rest has
 abbrev pub RestsFillThePipeline : {table : List Row} {script : Script} {c : Progress table script} → PlayedFirst c → Type 0
 RestsFillThePipeline f = (w v : World) (t : ℕ) → f.last ≡ Some v → EndsInRest f.played w t v → PagesCome w t v
 
@@ -64,7 +64,7 @@ pub record HonestRun {table : List Row} {script : Script} {c : Progress table sc
   -- what starts is a row of the table of images, byte for byte
   pub starts : AllByRecursion StartsRow f.played
   -- Every chip, also one that a cut left half done, every mote that is on and every frame that was sent agrees with the table:
-  -- behind each item, and in the last world.
+  -- after each item, and in the last world.
   pub agrees : AllByRecursion LeavesAgreement f.played × IfSome f.last WorldAgrees
   -- so does the store of each half-done chip, wherever a stop comes in the next event
   pub halves : HalvesAgree f
@@ -100,6 +100,6 @@ pub record Headline {table : List Row} {script : Script} (c : Progress table scr
   pub honest : (f : PlayedFirst c) → FramesAreHonest f → HonestRun f
   -- lines that bring no frame from outside meet that premise
   pub frames : HonestWithoutFrames c
-  -- Whatever bytes its frames carry, every store is consistent: behind each item, in the last world, and wherever a stop comes in
+  -- Whatever bytes its frames carry, every store is consistent: after each item, in the last world, and wherever a stop comes in
   -- the next event. What starts is golden byte for byte, or an object that fits its own descriptor.
   pub consistent : StoresStayConsistent c

@@ -48,7 +48,7 @@ abbrev pub RunsTo : Option World → List Played → Option World → Type 0
 RunsTo None played last = (played ≡ []) × (last ≡ None)
 RunsTo (Some w) played last = (v : World) × (last ≡ Some v) × Plays w played v
 
--- what the boards of so many motes stand for where they are used as they are, held against this table: a store for each,
+-- what the boards of this many motes stand for where they are used as they are, held against this table: a store for each,
 -- in its shape
 pub record IsGround (g : Ground) (table : List Row) (motes : ℕ) : Type 0 where
   pub held : g.table ≡ table
@@ -59,7 +59,7 @@ pub record IsGround (g : Ground) (table : List Row) (motes : ℕ) : Type 0 where
 pub record Progress (table : List Row) (script : Script) : Type 0 where
   -- what the script does not say, which counts where the boards are used as they are
   pub ground : Ground
-  -- the lines that were done, and those behind them
+  -- the lines that were done, and those after them
   pub done : List Line
   pub rest : List Line
   -- of the items of the next line those that were played, where the replay stopped within it, and the others
@@ -118,7 +118,7 @@ abbrev pub no_image_line : List ℕ
 no_image_line = codes "noimage" ++ 10 ∷ []
 
 -- Boards that are used as they are end the replay there with this line: the next line uses them,
--- or the next item is an event behind such a line.
+-- or the next item is an event after such a line.
 abbrev pub BoardsEndIt : {table : List Row} {script : Script} → Progress table script → List ℕ → Type 0
 BoardsEndIt c line = ((more : List Line) × (c.rest ≡ Boards ∷ more) × (line ≡ no_volume_line))
     ⊎ (UsesBoards c.done × EventNext c.left × (line ≡ no_image_line))
@@ -155,7 +155,7 @@ Wrote _ ending c text = ⊥
 abbrev pub BoardStoppedThere : {table : List Row} {script : Script} → Progress table script → (old new : List Device) → Type 0
 BoardStoppedThere c old new = StoppedIn (motes_in c.done) c.rest c.left c.last old new
 
--- The next line uses the boards as they are, and one of them is no volume.
+-- The next line uses the boards as they are, and one of them is not a volume.
 pub record NoVolumeThere {table : List Row} {script : Script} (c : Progress table script) (old new : List Device) : Type 0 where
   pub more : List Line
   pub next : c.rest ≡ Boards ∷ more
@@ -196,7 +196,7 @@ IsCaused status ending r w b n i = status ≡ status_of ending
 abbrev pub IsComplete : (uses : Type 0) → Status → Type 0
 IsComplete uses status = (status ≡ Done) ⊎ ((status ≡ Memory) ⊎ ((status ≡ NoImage) × uses))
 
--- the boards of so many motes are volumes
+-- the boards of this many motes are volumes
 abbrev pub AreVolumes : ℕ → List Device → Type 0
 AreVolumes motes boards = (m : ℕ) (d : Device) → m < motes → slice_get boards m ≡ Some d → IsVolume d.image
 
@@ -243,11 +243,11 @@ RestsOnTaken NotAVolume boards taken c text = taken.at_end ⊎ NextIsWhole taken
 RestsOnTaken NoImage boards taken c text = taken.at_end ⊎ NextIsWhole taken.bytes c.done c.rest
 RestsOnTaken status boards taken c text = taken.at_end ⊎ IsSettled boards taken.bytes
 
--- what is reported of so many lines, the first of those that were done
+-- what is reported of this many lines, the first of those that were done
 abbrev pub report_of_lines : {table : List Row} {script : Script} → ℕ → Progress table script → List ℕ
 report_of_lines n c = played_text (take (length (items_of (take n c.done))) c.played)
 
--- All that is reported of some first lines was written, and what was taken of the input ends near the line behind them.
+-- All that is reported of some first lines was written, and what was taken of the input ends near the line after them.
 pub record ReportedAndNear {table : List Row} {script : Script} (input : List ℕ) (c : Progress table script)
     (text : List ℕ) : Type 0 where
   pub lines : ℕ
@@ -269,8 +269,8 @@ pub record EndBegun {table : List Row} {script : Script} (ending : Ending) (inpu
   pub reported : text ≡ played_text c.played ++ more
   pub near : EndsNear ending input
 
--- Not much more was taken than the lines that were needed: no more than 300,002 bytes behind a line with a fault,
--- and behind the first line whose report was not wholly written.
+-- Not much more was taken than the lines that were needed: no more than 300,002 bytes after a line with a fault,
+-- and after the first line whose report was not wholly written.
 abbrev pub ReadsNear : {table : List Row} {script : Script} → Status → Ending → (input : List ℕ) → Progress table script
     → (text : List ℕ) → Type 0
 ReadsNear BadInput (FaultAt line fault) input c text = FewBytesBehind line input
@@ -292,7 +292,7 @@ pub record Replayed (table : List Row) (status : Status) (a b : Around) : Type 0
   pub report : Wrote status (ending_of (length a.boards) input) came text
   pub read : RestsOnTaken status (length a.boards) (bytes_taken input (AtEnd b.left)) came text
   pub near : ReadsNear status (ending_of (length a.boards) input) input came text
-  -- nothing behind the ending was done
+  -- nothing after the ending was done
   pub limits : InBounds (length a.boards) came.done (map item_played came.played)
   -- where the boards were used as they are, they stood for the stores from which the run begins
   pub stood : UsesBoards came.done → StandFor (motes_in came.done) came.ground.stores a.boards
@@ -300,7 +300,7 @@ pub record Replayed (table : List Row) (status : Status) (a b : Around) : Type 0
   pub boards : BoardsLeft status came a.boards b.boards
   -- boards at which nothing happens keep their very bytes, also at a `boards` line and in the reading at the end
   pub untouched : Untouched came a.boards b.boards
-  -- the status is the one that the rules give to the input, but for want of memory and faults of the outside
+  -- the status is the one that the rules give to the input, but for running out of memory and faults of the outside
   pub caused : IsCaused status (ending_of (length a.boards) input) (Rose a.reads b.reads) (Rose a.writes b.writes)
       (BoardStopped (motes_in came.done) a.boards b.boards) (NoVolumeThere came a.boards b.boards) (UsesBoards came.done
       × NoImageThere came a.boards b.boards)

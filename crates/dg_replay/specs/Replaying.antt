@@ -45,7 +45,7 @@ use Rattle.dg_replay.specs.declared.stop.Stop.{Stop}
 use Rattle.dg_replay.specs.declared.stop.Stop.TheVariants.{Memory, BadInput, WriteFault, FlashFault, TooMany, NoBoard, NoImage}
 use Rattle.dg_replay.specs.declared.stop.Stop.TheVariants.{NotAVolume}
 
--- The line that a text spells was played, from a player and boards that stand for the world behind some lines.
+-- The line that a text spells was played, from a player and boards that stand for the world after some lines.
 pub record TextPlayed (basis : Basis) (text : List ℕ) (so_far : DoneSoFar) (p q : Player) (now : List Device) : Type 0 where
   pub line : Line
   pub spelled : line_of p.place text ≡ Ok line
@@ -119,14 +119,14 @@ BegunWritten FlashFault result text before after failed = BegunWrittenOr FlashFa
 BegunWritten NoImage result text before after failed = BegunWrittenOr NoImage result text before after failed
 BegunWritten stop result text before after failed = (result ≡ stop) × (after ≡ before)
 
--- items of a line behind others were played, and what is reported of them was not all written, since a write failed
+-- items of a line after others were played, and what is reported of them was not all written, since a write failed
 abbrev pub BegunAndCut : (initial : List Device) → (behind : DoneSoFar) → (a b : ReplayState) → Line → Type 0
 BegunAndCut initial behind a b line = LineBegun behind.lines line behind.world
     (λ v left t. CutAtStop behind.lines line v left t (span initial b.boards a.written b.written)
     ⊎ (CutAtTooMany v left t (span initial b.boards a.written b.written)
     ⊎ CutAtImage v left t (span initial b.boards a.written b.written)))
 
--- What playing the text of a line answers behind some lines. The player, the boards and what was written were a before it,
+-- What playing the text of a line answers after some lines. The player, the boards and what was written were a before it,
 -- and are b then.
 abbrev pub TextAnswer : Basis → Result (Unit {0}) Stop → LineRead → (behind : DoneSoFar) → (a b : ReplayState)
     → (write_failed : Type 0) → Type 0

@@ -2,7 +2,7 @@
 use Rattle.std.specs.Prelude.{◌≡◌, ◌≢◌, ◌⊎◌, ℕ, List, [], ◌∷◌, ◌++◌}
 use Rattle.std.specs.List.{AllByRecursion}
 
--- The longest front of the bytes that is empty or ends in LF: no LF stands behind it.
+-- The longest front of the bytes that is empty or ends in LF: no LF stands after it.
 pub record AreWholeLines (bytes front : List ℕ) : Type 0 where
   pub behind : List ℕ
   pub parts : bytes ≡ front ++ behind

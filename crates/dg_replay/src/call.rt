@@ -20,7 +20,7 @@ use std::alloc::Global;
 /// [`Status::Done`] writes its line last, where it has one.
 ///
 /// The input is read line by line, and what a line reports is written before the next one is asked for: no more than
-/// 300,002 bytes are taken behind the line that is played.
+/// 300,002 bytes are taken after the line that is played.
 ///
 /// From the `golden` or `boards` line on the boards of the script's motes are used, and no others. No more than a million events
 /// are played, and no more than 16,777,216 bytes of the input are used.

@@ -206,7 +206,7 @@ fn play_sweep<N: Nor, W: Watcher<N>>(
     Ok(())
 }
 
-/// Plays the events of so many sweeps over links.
+/// Plays the events of this many sweeps over links.
 #[inline(never)]
 pub fn play_sweeps<N: Nor, W: Watcher<N>>(
     world: &mut World,

@@ -17,7 +17,7 @@ use dg_rules::{
     scripts_with_golden,
 };
 
-/// The whole lines of bytes are their longest front that is empty or ends in LF.
+/// The whole lines of bytes are their longest prefix that is empty or ends in LF.
 pub fn whole_lines_are_longest()
     ensures { (bytes : List ℕ) → AreWholeLines bytes (whole_lines bytes) }
 {}

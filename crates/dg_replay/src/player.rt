@@ -38,7 +38,7 @@ impl Player {
     }
 }
 
-/// There are so many motes, for which boards are needed.
+/// There are this many motes, for which boards are needed.
 fn play_motes<N: Nor>(motes: u8, boards: &Vec<N>) -> Result<(), Stop>
     ensures counted { OnOk result (motes ≤ length boards.now.items) }
     ensures missing { (stop : Stop) → result ≡ Err stop → (stop ≡ Stop.NoBoard motes (length boards.now.items))
@@ -179,7 +179,7 @@ fn take_bytes(alloc: Global, bytes: &mut Bytes) -> Bytes
     mem::replace(bytes, Bytes::new(Vec::new(alloc)))
 }
 
-/// Plays a line where the player stands, whose place does not go on behind it yet. The bytes of an image are taken out of the
+/// Plays a line where the player stands, whose place does not go on after it yet. The bytes of an image are taken out of the
 /// line, which its place does not go on by. A cut waits for its event. What is reported of the line is appended.
 pub fn play_line<N: Nor, W: Watcher<N>>(
     alloc: Global,

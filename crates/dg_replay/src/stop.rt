@@ -15,6 +15,6 @@ pub enum Stop {
     NoBoard { motes: u8, boards: u32 },
     /// A start found no image.
     NoImage,
-    /// A board that is used as it is is no volume.
+    /// A board that is used as it is is not a volume.
     NotAVolume,
 }

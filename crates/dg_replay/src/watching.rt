@@ -4,13 +4,13 @@ use dg_rules::Event;
 use dg_script::{Line, Report};
 use dg_world::World;
 
-/// Watches a replay: it is shown each event behind the boards, and changes nothing of the replay. A method that does nothing
+/// Watches a replay: it is shown each event after the boards, and changes nothing of the replay. A method that does nothing
 /// costs nothing.
 pub trait Watcher<N> {
-    /// The script has so many motes.
+    /// The script has this many motes.
     fn begun(&mut self, motes: u8);
 
-    /// The boards of so many motes are used from now on: they were formatted with so many commits told as spent, or mounted as
+    /// The boards of the motes are used from now on: they were formatted with this many commits told as spent, or mounted as
     /// they are.
     fn placed(&mut self, motes: u8, used: Option<u32>, boards: &[N]);
 
@@ -60,7 +60,7 @@ impl<N> Watcher<N> for Unwatched {
     fn ended(&mut self, _event: &Event, _boards: &[N]) {}
 }
 
-/// Shows a line that was played and that is about the boards, in a script of so many motes before it.
+/// Shows a line that was played and that is about the boards, in a script of this many motes before it.
 #[inline(always)]
 pub fn show_line<N, W: Watcher<N>>(line: &Line, motes: u8, boards: &Vec<N>, watcher: &mut W) {
     match line {

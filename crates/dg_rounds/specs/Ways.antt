@@ -5,7 +5,7 @@ use Rattle.std.specs.Prelude.{◌⊎◌, ℕ, zero, suc, ◌≤◌, List, Contai
 abbrev pub IsLinked : List (ℕ × ℕ) → ℕ → ℕ → Type 0
 IsLinked links a b = Contains links (a, b) ⊎ Contains links (b, a)
 
--- a way of so many links
+-- a way of this many links
 pub data Way (links : List (ℕ × ℕ)) (from : ℕ) : ℕ → ℕ → Type 0 where
   here : Way links from zero from
   more : (n mid to : ℕ) → Way links from n mid → IsLinked links mid to → Way links from (suc n) to

@@ -6,7 +6,7 @@ ghost use Rattle.dg_rounds.specs.Marks.{Marks, Spreads, unmarked};
 
 use std::alloc::{AllocError, Global};
 
-/// For each of so many motes the least number of links between it and `from`, or none where there is no way.
+/// For each of this many motes the least number of links between it and `from`, or none where there is no way.
 pub fn levels(
     alloc: Global,
     motes: u8,
@@ -58,7 +58,7 @@ fn mark(levels: &mut [Option<u8>], near: usize, far: usize, level: u8) -> bool
     false
 }
 
-/// How many sweeps bring an image of so many pages to the motes that are so many links away.
+/// How many sweeps bring an image of this many pages to the motes that are that many links away.
 pub fn enough(pages: u8, hops: u8) -> u32
     requires { 1 ≤ hops }
     ensures { result ≡ pages + hops - 1 }

@@ -84,7 +84,7 @@ impl Outside {
         Ok(Pieces { input, most })
     }
 
-    /// An output that takes so many bytes, unless its room is known.
+    /// An output that takes this many bytes, unless its room is known.
     pub(crate) fn output(&self, alloc: Global, ample: usize) -> Result<MemSink, AllocError> {
         let room = match self.room {
             Some(room) => room as usize,

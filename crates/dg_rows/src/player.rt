@@ -275,7 +275,7 @@ impl<'a, R: Runner> Player<'a, R> {
         Ok(true)
     }
 
-    /// Stops a run over a chip, of which so many commits are spent, at each operation and behind the last, as rows.
+    /// Stops a run over a chip, of which this many commits are spent, at each operation and after the last, as rows.
     fn stops(&mut self, name: &str, used: &str) -> Result<bool, AllocError> {
         let Some(board) = copy_of(self.alloc, &self.chips, name)? else {
             return Ok(false);

@@ -263,7 +263,7 @@ impl Row {
 }
 
 impl Wanted {
-    /// Whether what came of a turn is what must come of it, where the command before it read so many bytes of its chips.
+    /// Whether what came of a turn is what must come of it, where the command before it read this many bytes of its chips.
     pub(crate) fn is_met(&self, turn: &Turn, came: &Came, before: u64) -> bool {
         let more = came.taken.saturating_sub(before);
         let most = match self.most_taken {

@@ -138,7 +138,7 @@ struct Left {
     stand: Stand,
 }
 
-/// What stands after an operation that is interrupted, with so many behind it in its step. A program of one bit is done
+/// What stands after an operation that is interrupted, with this many after it in its step. A program of one bit is done
 /// where the mask has it cleared. A commit that is interrupted takes its place, unless the mask leaves that blank.
 fn left_in(before: Stand, next: Stand, end: End, behind: u32, mask: &[u8; MASK_SIZE]) -> Stand {
     let mut torn = before;
@@ -156,7 +156,7 @@ fn operations(used: u32) -> u32 {
     if used == SPENT { 156 } else { 154 }
 }
 
-/// What a run leaves that is stopped at operation `after`, on a chip of which so many commits are spent.
+/// What a run leaves that is stopped at operation `after`, on a chip of which this many commits are spent.
 fn left_at(used: u32, after: u32, mask: &[u8; MASK_SIZE]) -> Left {
     let mut steps = STEPS;
     if used == SPENT {
@@ -262,7 +262,7 @@ fn play<R: Runner>(
     row.play(alloc, runner, outside, chips)
 }
 
-/// The operations that an injection needs where so many pages are complete, or where its slot was not taken.
+/// The operations that an injection needs where this many pages are complete, or where its slot was not taken.
 fn rest(done: Option<u8>) -> u32 {
     match done {
         None => 104,
@@ -332,7 +332,7 @@ fn stops_well<R: Runner>(
     )
 }
 
-/// Stops the run at each of its operations and behind the last. It answers, for each, whether that leaves what it must.
+/// Stops the run at each of its operations and after the last. It answers, for each, whether that leaves what it must.
 pub(crate) fn stop_at_each<R: Runner>(
     alloc: Global,
     runner: &R,

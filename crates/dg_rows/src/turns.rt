@@ -17,7 +17,7 @@ pub(crate) enum Sweep {
     Reads,
     /// Each write fails in turn, and then none.
     Writes,
-    /// The output ends at each of its bytes in turn, and then behind them.
+    /// The output ends at each of its bytes in turn, and then after them.
     Bytes,
 }
 
@@ -75,7 +75,7 @@ impl Row {
         Ok(turns)
     }
 
-    /// What is reported of the lines that are whole within so many bytes.
+    /// What is reported of the lines that are whole within this many bytes.
     fn reported(&self, taken: u64) -> usize {
         let mut written: usize = 0;
         for part in &self.parts {
@@ -115,7 +115,7 @@ impl Row {
         Ok(turns)
     }
 
-    /// The chip stops at each of the operations that are listed, so that nothing is written, and then behind the last.
+    /// The chip stops at each of the operations that are listed, so that nothing is written, and then after the last.
     pub(crate) fn stops(&self, alloc: Global) -> Result<Vec<Turn>, AllocError> {
         let mut turns = Vec::new(alloc);
         for (before, _) in self.operations.iter().enumerate() {

@@ -71,7 +71,7 @@ dt_of (Frame mote dt word bytes) = dt
 abbrev pub image_version_of : Runs → ImageVersion
 image_version_of r = record { image = r.image; version = r.version }
 
--- what runs behind an effect: what was started, or what ran before
+-- what runs after an effect: what was started, or what ran before
 abbrev pub runs_by : Option Runs → Option ImageVersion → MoteState → Option Running
 runs_by (Some r) old m = Some (record { image_version = image_version_of r; mote = m })
 runs_by None (Some image_version) m = Some (record { image_version = image_version; mote = m })

@@ -47,7 +47,7 @@ abbrev pub MayInject : Option Holding → Row → Type 0
 MayInject None row = Unit {0}
 MayInject (Some h) row = (h.version < row.version) ⊎ ((h.version ≡ row.version) × (h.pages ≤ (whole row).pages))
 
--- where a cut blew: what was kept stays; or so many pages of the new version are kept, no fewer than before; or nothing,
+-- where a cut fired: what was kept stays; or this many pages of the new version are kept, no fewer than before; or nothing,
 -- where an older version was kept
 abbrev pub CutHolding : Option Holding → Row → Option Holding → Type 0
 CutHolding old row None = (old ≡ None) ⊎ ((h : Holding) × (old ≡ Some h) × (h.version < row.version))
@@ -100,7 +100,7 @@ pub record LegalStart (table : List Row) (old new : SmallMote) : Type 0 where
   pub memory : (app ≡ Some image_version) ⊎ ((app ≡ None) × IsGoldenImageVersion image_version)
   pub change : new ≡ record old { app = app; runs = Some image_version }
 
--- one whose cut blew: program memory stays, is blank, or is what was chosen
+-- one whose cut fired: program memory stays, is blank, or is what was chosen
 pub record CutStart (may : ImageVersion → Type 0) (old new : SmallMote) : Type 0 where
   pub app : Option ImageVersion
   pub how : (app ≡ old.app) ⊎ ((app ≡ None) ⊎ ((image_version : ImageVersion) × (app ≡ Some image_version) × may image_version))
@@ -162,7 +162,7 @@ abbrev pub LegalFrame : Past → (blew : Bool) → ℕ → (wide : Bool) → Opt
 LegalFrame past blew m wide None old new = ⊥
 LegalFrame past blew m wide (Some bytes) old new = LegalMessage (Came m bytes past) blew m wide (message_of bytes wide) old new
 
--- What is known of a step beside the small state: the past, what is declared, whether its cut blew, whether its mote is wide,
+-- What is known of a step beside the small state: the past, what is declared, whether its cut fired, whether its mote is wide,
 -- and the frame that it brings.
 pub record StepFacts : Type 0 where
   pub past : Past
@@ -175,7 +175,7 @@ abbrev pub step_facts : Past → (declared : List Row) → (blew wide : Bool) �
 step_facts past declared blew wide frame =
     record { past = past; declared = declared; blew = blew; wide = wide; frame = frame }
 
--- What an event that is not refused may change at its mote, from one table to another. A cut that blew makes the mote off.
+-- What an event that is not refused may change at its mote, from one table to another. A cut that fired makes the mote off.
 abbrev pub LegalAt : StepFacts → List Row → Event → SmallMote → SmallMote → List Row → Type 0
 LegalAt f table (Tick m dt word) old new after = SmallIsOn old × LegalTick table f.blew old new × (after ≡ table)
 LegalAt f table (Reset m dt word) old new after = LegalReset table f.blew old new × (after ≡ table)

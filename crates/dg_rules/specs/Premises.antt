@@ -86,7 +86,7 @@ ItemFits (Applies step reported) w = StepInRange (length w.sites) step × TrueEv
 abbrev pub PlayedFits : Played → Type 0
 PlayedFits p = ItemFits p.item p.before
 
--- the same where nothing is said of the world: of a script with so many motes
+-- the same where nothing is said of the world: of a script with this many motes
 abbrev pub ItemInRange : ℕ → Item → Type 0
 ItemInRange motes (Declares row) = IsDeclared row
 ItemInRange motes (Applies step reported) = StepInRange motes step

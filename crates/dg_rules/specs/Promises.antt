@@ -67,7 +67,7 @@ Replaces w (Tick m dt word) i h = ⊥
 Replaces w (Reset m dt word) i h = ⊥
 Replaces w (OrderEvent m number image version dt word) i h = ⊥
 
--- the cut of the step blew
+-- the cut of the step fired
 abbrev pub IsBlown : Does → Step → Type 0
 IsBlown (Refuses why) x = ⊥
 IsBlown (Goes d) x = blows x.cut d.trail ≡ true
@@ -117,7 +117,7 @@ StartsRow p = StartsItem p.item p.before
 
 -- ---- where an event is stopped
 
--- the table of images behind an event, also where it was stopped: an injection that is not refused has its row there
+-- the table of images after an event, also where it was stopped: an injection that is not refused has its row there
 abbrev pub table_of : Does → List Row → List Row
 table_of (Refuses why) table = table
 table_of (Goes d) table = d.table

@@ -14,7 +14,7 @@ use Rattle.dg_base.specs.declared.events.Step.{Step}
 use Rattle.dg_script.specs.declared.report.Report.{Report}
 use Rattle.dg_script.specs.declared.report.Report.TheVariants.{Off, Refused}
 
--- A cut blows in the operation with its number, where the event makes so many.
+-- A cut blows in the operation with its number, where the event makes this many.
 abbrev pub blows : Option Cut → Trail Store → Bool
 blows None t = false
 blows (Some cut) t = nat_le cut.after (operations t)
@@ -46,7 +46,7 @@ abbrev pub IsDone : World → (m dt : ℕ) → Deed → World → List Report �
 IsDone w m dt d v reports =
     (runs : Option Running) × (d.runs ≡ Some runs) × (v ≡ done_world w m dt d runs) × (reports ≡ done_reports w m d)
 
--- the cut blew: the chip stands for one of the stores that the trail leaves there
+-- the cut fired: the chip stands for one of the stores that the trail leaves there
 pub record IsCut (w : World) (m dt : ℕ) (d : Deed) (k : ℕ) (v : World) (reports : List Report) : Type 0 where
   pub store : Store
   pub allowed : Leaves IsNear d.trail k store

@@ -59,7 +59,7 @@ pub fn what_a_cut_leaves_agrees()
 /// A world that agrees with its table still does after a step, also a cut one, where a frame from outside is honest and
 /// what is injected, where the rules take it, is the table's row if the table has its image version, and after a
 /// declaration. Wherever a stop comes in such an event, each store that the chip may then stand for agrees with the table
-/// behind the event. And no moment of a mote that is on is later than the world's, whatever frames come.
+/// after the event. And no moment of a mote that is on is later than the world's, whatever frames come.
 pub fn agreement_is_kept()
     ensures stepped { (w v : World) (x : Step) (reports : List Report) → WorldAgrees w → StepInRange (length w.sites) x
         → TrueEvent w x.event → WorldStep w x v reports → WorldAgrees v }
@@ -106,7 +106,7 @@ pub fn golden_is_found()
 /// In a run from a world that agrees with its table and in which no mote is on, where every event is true, each step is
 /// legal after those before it, each item leaves agreement and starts only rows of the table, and no version falls. Where
 /// the next event is true too, then wherever a stop comes in it, each store that the chip may then stand for agrees with
-/// the table behind it.
+/// the table after it.
 pub fn every_step_is_legal()
     ensures legal { (w v : World) (played : List Played) → PlaysFrom w played v → EachAfter IsLegal [] played }
     ensures agrees { (w v : World) (played : List Played) → PlaysFrom w played v → AllByRecursion LeavesAgreement played
@@ -170,7 +170,7 @@ pub fn any_frames_leave_stores_consistent()
 /// Where each frame from outside is honest by the table of its moment, each step is legal, versions do not fall, what
 /// starts is a row of the table, and the chips, the motes that are on and the frames that were sent agree with the table;
 /// and where the next event is honest too, then wherever a stop comes in it, each store that the chip may then stand for
-/// agrees with the table behind it.
+/// agrees with the table after it.
 pub fn scripts_with_golden()
     ensures legal { (g : GoldenNetwork) (played : List Played) (v : World) → PlaysGolden g played v
         → AllByRecursion IsHonestThen played → EachAfter IsLegal [] played }
@@ -201,7 +201,7 @@ pub fn scripts_with_golden()
 /// outside is honest and no image version of the table is injected with another content, unless the rules refuse it, each
 /// step is legal, versions do not fall, what starts is a row of the table, and the chips, the motes that are on and the
 /// frames that were sent agree with the table; and where the next event holds to it too, then wherever a stop comes in it,
-/// each store that the chip may then stand for agrees with the table behind it.
+/// each store that the chip may then stand for agrees with the table after it.
 pub fn scripts_with_boards()
     ensures legal { (table : List Row) (stores : List Store) (links : List (ℕ × ℕ)) (narrow : List Bool)
         (played : List Played) (v : World) → PlaysBoards table stores links narrow played v

@@ -18,11 +18,11 @@ ranged_in fault least most word = number_in word >>= λ n. guarded (nat_le least
 abbrev pub mote_count_in : List ℕ → Result ℕ LineFault
 mote_count_in = ranged_in Mote 1 most_motes
 
--- one of so many motes
+-- one of this many motes
 unfoldable pub mote_in : (motes : ℕ) → List ℕ → Result ℕ LineFault
 mote_in motes word = number_in word >>= λ n. guarded (nat_lt n motes) Mote n
 
--- one of so many motes, but not this one
+-- one of this many motes, but not this one
 unfoldable pub other_in : (motes : ℕ) → (mote : ℕ) → List ℕ → Result ℕ LineFault
 other_in motes mote word = mote_in motes word >>= λ n. guarded (not (n == mote)) Mote n
 

@@ -48,7 +48,7 @@ AreNumbers (Inject mote image version dt word) = IsTimed dt word × (version < 2
 AreNumbers (Order mote number image version dt word) = IsTimed dt word
 AreNumbers (Frame mote dt word bytes) = IsTimed dt word
 
--- an event at one of so many motes is in its range, and its numbers are of 32 bits
+-- an event at one of this many motes is in its range, and its numbers are of 32 bits
 abbrev pub FitsEvent : ℕ → Event → Type 0
 FitsEvent motes event = EventInRange motes event × AreNumbers event
 
@@ -56,7 +56,7 @@ FitsEvent motes event = EventInRange motes event × AreNumbers event
 abbrev pub declared_row : (image version : ℕ) (name content : List ℕ) → Row
 declared_row image version name content = row_of image version name content
 
--- the fields of a line are in their ranges, where there are so many motes
+-- the fields of a line are in their ranges, where there are this many motes
 abbrev pub FitsLine : ℕ → Line → Type 0
 FitsLine motes Nothing = Unit {0}
 FitsLine motes (Motes n) = (1 ≤ n) × (n ≤ most_motes)

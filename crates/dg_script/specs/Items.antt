@@ -34,7 +34,7 @@ item_by place (EventLine event) = Applies (record { event = event; cut = place.c
 item_by place (Round a b) = unreported (round a b)
 item_by place (Sweeps n) = unreported (times n (sweep place.links))
 
--- the place behind lines
+-- the place after lines
 unfoldable pub place_behind : Place → List Line → Place
 place_behind place [] = place
 place_behind place (line ∷ lines) = place_behind (place_after place line) lines

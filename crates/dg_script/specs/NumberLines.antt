@@ -10,11 +10,11 @@ use Rattle.dg_script.specs.declared.line.Line.TheVariants.{Happens as EventLine}
 use Rattle.dg_script.specs.declared.place.Place.{Place}
 use Rattle.dg_script.specs.declared.verbs.Verb.TheVariants.{Tick, Last}
 
--- the mote with a number, one of so many
+-- the mote with a number, one of this many
 abbrev pub mote_with : (motes n : ℕ) → Result ℕ LineFault
 mote_with motes n = guarded (nat_lt n motes) Mote n
 
--- one of so many motes, but not this one
+-- one of this many motes, but not this one
 abbrev pub other_with : (motes mote n : ℕ) → Result ℕ LineFault
 other_with motes mote n = mote_with motes n >>= λ other. guarded (not (other == mote)) Mote other
 

@@ -13,7 +13,7 @@ HasNoSpace text = AllByRecursion (λ c. c ≢ 32) text
 abbrev pub GoesOnSpaced : List ℕ → Type 0
 GoesOnSpaced text = (text ≡ []) ⊎ ((behind : List ℕ) × (text ≡ 32 ∷ behind))
 
--- The text is spaces, the first word, and what is behind it. The word is not empty, has no space,
+-- The text is spaces, the first word, and what is after it. The word is not empty, has no space,
 -- and is ended by a space or by the end of the text.
 pub record BeginsWith (text gap word behind : List ℕ) : Type 0 where
   pub parts : text ≡ gap ++ (word ++ behind)
@@ -22,7 +22,7 @@ pub record BeginsWith (text gap word behind : List ℕ) : Type 0 where
   pub whole : HasNoSpace word
   pub ended : GoesOnSpaced behind
 
--- The words of a text, in their order: between them, before them and behind them it has nothing but spaces.
+-- The words of a text, in their order: between them, before them and after them it has nothing but spaces.
 unfoldable pub AreWords : List ℕ → List (List ℕ) → Type 0
 AreWords text [] = AreSpaces text
 AreWords text (word ∷ words) = (gap behind : List ℕ) × BeginsWith text gap word behind × AreWords behind words

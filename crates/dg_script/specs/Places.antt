@@ -1,4 +1,4 @@
--- Where a line stands, and how that changes behind it (docs/SCRIPTS.md, "The script").
+-- Where a line stands, and how that changes after it (docs/SCRIPTS.md, "The script").
 use Rattle.std.specs.Prelude.{ℕ, ◌==◌, ◌&&◌, ◌||◌, not, Bool, true, false, if◌then◌else◌, List, [], ◌∷◌, ◌++◌, replicate}
 use Rattle.std.specs.Prelude.{slice_index_or, slice_set, Option, Some, None, is_some}
 use Rattle.std.specs.List.{list_any}
@@ -19,7 +19,7 @@ none_narrow = replicate most_motes false
 abbrev pub first_place : Place
 first_place = record { motes = 0; ready = false; events = false; cut = None; links = []; narrow = none_narrow }
 
--- the place behind a line
+-- the place after a line
 abbrev pub place_after : Place → Line → Place
 place_after place Nothing = place
 place_after place (Motes motes) = record place { motes = motes }
@@ -44,6 +44,6 @@ is_linked links a b = list_any (joins a b) links
 abbrev pub is_narrow : List Bool → ℕ → Bool
 is_narrow narrow mote = slice_index_or narrow mote false
 
--- the fault of an input that ends here, if it may not: its second line is missing, or the event behind a cut
+-- the fault of an input that ends here, if it may not: its second line is missing, or the event after a cut
 abbrev pub fault_at_end : Place → Option LineFault
 fault_at_end place = if not place.ready then Some fault.Place else if is_some place.cut then Some fault.Cut else None

@@ -21,7 +21,7 @@ pub record IsDeclared (row : Row) : Type 0 where
   pub fits : length row.bytes ≤ most_content
   pub bytes : AreBytes row.bytes
 
--- two different ones of so many motes
+-- two different ones of this many motes
 pub record AreTwo (motes a b : ℕ) : Type 0 where
   pub first : a < motes
   pub second : b < motes
@@ -37,7 +37,7 @@ pub record IsFrame (content : List ℕ) : Type 0 where
   pub few : length content ≤ longest_frame
   pub bytes : AreBytes content
 
--- an event is at one of so many motes, and what it names, brings or orders is in its range
+-- an event is at one of this many motes, and what it names, brings or orders is in its range
 abbrev pub EventInRange : ℕ → Event → Type 0
 EventInRange motes (Tick mote dt word) = mote < motes
 EventInRange motes (Hear mote dt word frame) = (mote < motes) × (1 ≤ frame)

@@ -11,7 +11,7 @@ None >>? f = None
 abbrev pub kept_if : {A : Type 0} → Bool → A → Option A
 kept_if test x = if test then Some x else None
 
--- What comes behind a part that is spelled. The fault of an earlier part is told first.
+-- What comes after a part that is spelled. The fault of an earlier part is told first.
 infixl 10 ◌>>=◌
 abbrev pub ◌>>=◌ : {A B : Type 0} → Result A LineFault → (A → Result B LineFault) → Result B LineFault
 (Ok x) >>= f = f x

@@ -16,7 +16,7 @@ abbrev pub numbered : ℕ → Option LineFault → Option (ℕ × LineFault)
 numbered n None = None
 numbered n (Some fault) = Some (n, fault)
 
--- A script that ends before its second line, or behind a cut that waits for its event, has its fault in the line after its last.
+-- A script that ends before its second line, or after a cut that waits for its event, has its fault in the line after its last.
 -- Whether it ends is not known where its input is cut off.
 abbrev pub end_fault : Bool → Place → ℕ → Option (ℕ × LineFault)
 end_fault false place n = None

@@ -34,7 +34,7 @@ most_written = 149000
 abbrev pub most_line : ℕ
 most_line = 300000
 
--- the bytes that are kept at once: those of the longest line, with CR and LF behind them
+-- the bytes that are kept at once: those of the longest line, with CR and LF after them
 abbrev pub most_kept : ℕ
 most_kept = most_line + 2
 

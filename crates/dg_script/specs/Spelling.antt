@@ -28,7 +28,7 @@ field_text (field.Crc crc) = hex_text (to_be_bytes w16 crc)
 field_text (field.Digits bytes) = hex_text bytes.now
 field_text (field.Content bytes) = content_text bytes.now
 
--- fields, each behind a space
+-- fields, each after a space
 abbrev pub fields_text : List Field → List ℕ
 fields_text fields = flat_map (λ f. 32 ∷ field_text f) fields
 
@@ -62,7 +62,7 @@ line_words (Sweeps n) = codes "sweeps" ∷ decimal n ∷ []
 unfoldable pub line_text : Line → List ℕ
 line_text line = spaced (line_words line)
 
--- a line's content has at most so many bytes that the line can be read again: that of any line but `image` has
+-- a line's content has at most this many bytes that the line can be read again: that of any line but `image` has
 abbrev pub IsShort : Line → Type 0
 IsShort Nothing = Unit {0}
 IsShort (Motes n) = Unit {0}

@@ -6,12 +6,12 @@ use Rattle.dg_script.specs.Results.{each_as}
 use Rattle.dg_script.specs.declared.fault.LineFault.{LineFault}
 use Rattle.dg_script.specs.declared.fault.LineFault.TheVariants.{Few, Many}
 
--- the bytes up to the first space, and the words behind it
+-- the bytes up to the first space, and the words after it
 pub record Split : Type 0 where
   pub front : List ℕ
   pub behind : List (List ℕ)
 
--- a word, unless it is empty, and the words behind it
+-- a word, unless it is empty, and the words after it
 abbrev pub with_word : List ℕ → List (List ℕ) → List (List ℕ)
 with_word [] ws = ws
 with_word (c ∷ cs) ws = (c ∷ cs) ∷ ws
@@ -31,7 +31,7 @@ words_of text = with_word (split_of text).front (split_of text).behind
 abbrev pub same : List ℕ → List ℕ → Bool
 same = pointwise nat_eq
 
--- the bytes up to the first colon, and those behind it
+-- the bytes up to the first colon, and those after it
 abbrev pub onto_half : ℕ → Option (List ℕ × List ℕ) → Option (List ℕ × List ℕ)
 onto_half c None = None
 onto_half c (Some h) = Some (c ∷ h.0, h.1)
@@ -40,7 +40,7 @@ unfoldable pub halves_of : List ℕ → Option (List ℕ × List ℕ)
 halves_of [] = None
 halves_of (c ∷ cs) = if c == 58 then Some ([], cs) else onto_half c (halves_of cs)
 
--- words, each behind a space
+-- words, each after a space
 abbrev pub behind_spaces : List (List ℕ) → List ℕ
 behind_spaces ws = flat_map (λ w. 32 ∷ w) ws
 

@@ -46,7 +46,7 @@ pub fn motes(word: &[u8]) -> Result<u8, LineFault>
     Ok(motes as u8)
 }
 
-/// The mote with this number, one of so many.
+/// The mote with this number, one of this many.
 #[inline(always)]
 pub fn mote_with(number: u32, motes: u8) -> Result<u8, LineFault>
     ensures { result ≡ mote_with motes number }
@@ -57,7 +57,7 @@ pub fn mote_with(number: u32, motes: u8) -> Result<u8, LineFault>
     Ok(number as u8)
 }
 
-/// One of so many motes.
+/// One of this many motes.
 #[tactic(auto, unfolding(crate::specs::Fields::mote_in))]
 pub fn mote(word: &[u8], motes: u8) -> Result<u8, LineFault>
     ensures { result ≡ mote_in motes word.now }
@@ -66,7 +66,7 @@ pub fn mote(word: &[u8], motes: u8) -> Result<u8, LineFault>
     mote_with(number, motes)
 }
 
-/// The mote with this number, one of so many, but not `first`.
+/// The mote with this number, one of this many, but not `first`.
 #[inline(always)]
 pub fn other_with(number: u32, motes: u8, first: u8) -> Result<u8, LineFault>
     ensures { result ≡ other_with motes first number }
@@ -78,7 +78,7 @@ pub fn other_with(number: u32, motes: u8, first: u8) -> Result<u8, LineFault>
     Ok(other)
 }
 
-/// One of so many motes, but not `first`.
+/// One of this many motes, but not `first`.
 #[tactic(auto, unfolding(crate::specs::Fields::other_in))]
 pub fn other_mote(word: &[u8], motes: u8, first: u8) -> Result<u8, LineFault>
     ensures { result ≡ other_in motes first word.now }

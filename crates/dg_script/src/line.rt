@@ -7,7 +7,7 @@ use dg_base::{Bytes, Cut, Event};
 pub enum Line {
     /// The line is empty, or a comment.
     Nothing,
-    /// There are so many motes, 1 to 16.
+    /// There are this many motes, 1 to 16.
     Motes(u8),
     /// The boards are formatted with a golden image.
     Golden {

@@ -10,7 +10,7 @@ ghost use Rattle.dg_script.specs.Words.{words_of};
 /// The most digits of a number that is read without a look at whether it is too large.
 const SHORT_NUMBER: usize = 9;
 
-// The number that the digits at the front of a short text write, and how many they are. A leading 0 is the only one.
+// The number that the digits at the beginning of a short text write, and how many they are. A leading 0 is the only one.
 #[inline(always)]
 fn leading_number(text: &[u8]) -> (u32, usize)
     requires { length text.now ≤ 9 }
@@ -46,7 +46,7 @@ fn ends_a_word(text: &[u8]) -> bool
     text[0] == b' '
 }
 
-// The number that stands behind one space, and the text behind it.
+// The number that stands after one space, and the text after it.
 #[inline(always)]
 fn next_number(text: &[u8]) -> Option<(u32, &[u8])>
     ensures { IfSome result (λ p. map number_of (words_of text.now) ≡ Some p.0 ∷ map number_of (words_of p.1.now)) }
@@ -70,7 +70,7 @@ fn next_number(text: &[u8]) -> Option<(u32, &[u8])>
     Some((number, rest))
 }
 
-/// The numbers of a text that has three, each behind one space.
+/// The numbers of a text that has three, each after one space.
 #[inline(always)]
 pub fn three_numbers(text: &[u8]) -> Option<(u32, u32, u32)>
     ensures { IfSome result (λ t. map number_of (words_of text.now) ≡ Some t.0 ∷ Some t.1 ∷ Some t.2 ∷ []) }
@@ -84,7 +84,7 @@ pub fn three_numbers(text: &[u8]) -> Option<(u32, u32, u32)>
     Some((first, second, third))
 }
 
-/// The numbers of a text that has four, each behind one space.
+/// The numbers of a text that has four, each after one space.
 #[inline(always)]
 pub fn four_numbers(text: &[u8]) -> Option<(u32, u32, u32, u32)>
     ensures { IfSome result (λ t. map number_of (words_of text.now) ≡ Some t.0 ∷ Some t.1 ∷ Some t.2 ∷ Some t.3 ∷ []) }

@@ -39,7 +39,7 @@ impl Place {
         }
     }
 
-    /// Goes on to the place behind a line. Without memory, for which a link alone asks, nothing changes.
+    /// Goes on to the place after a line. Without memory, for which a link alone asks, nothing changes.
     pub fn pass(&mut self, line: Line) -> Result<(), AllocError>
         ensures ok { OnOk result (self.new ≡ place_after self.old line) }
         ensures err { OnErr result (self.new ≡ self.old) }
@@ -77,7 +77,7 @@ impl Place {
         }
     }
 
-    /// The fault of an input that ends here: its second line is missing, or the event behind a cut.
+    /// The fault of an input that ends here: its second line is missing, or the event after a cut.
     pub fn end_fault(&self) -> Option<LineFault>
         ensures { result ≡ fault_at_end self.now }
     {

@@ -34,7 +34,7 @@ fn played_verb(word: &[u8]) -> Result<Verb, LineFault>
     Ok(verb)
 }
 
-// The line of a verb and the text behind it.
+// The line of a verb and the text after it.
 fn verb_line(alloc: Global, verb: Verb, fields: &[u8], place: &Place) -> Result<Line, LineFault>
     ensures { Reads result (fields_of verb place.now (words_of fields.now)) }
 {
@@ -60,7 +60,7 @@ fn verb_line(alloc: Global, verb: Verb, fields: &[u8], place: &Place) -> Result<
 
 /// Reads the text of a line that stands at `place`. The text is without its line end.
 ///
-/// The answer is what the text says, or the first fault that it has. Only want of memory comes in place of these.
+/// The answer is what the text says, or the first fault that it has. Only running out of memory comes in place of these.
 #[tactic(auto, unfolding(crate::specs::Lines::line_of))]
 pub fn read_line(alloc: Global, text: &[u8], place: &Place) -> Result<Line, LineFault>
     ensures read { Reads result (line_of place.now text.now) }

@@ -42,7 +42,7 @@ pub enum Report {
         mote: u8,
         image: u8,
     },
-    /// A mote now keeps this version of an image, with so many complete pages.
+    /// A mote now keeps this version of an image, with this many complete pages.
     Have {
         mote: u8,
         image: u8,
@@ -65,7 +65,7 @@ pub enum Report {
     SentAdvert {
         mote: u8,
     },
-    /// A mote asked another for so many packets of a page.
+    /// A mote asked another for this many packets of a page.
     SentRequest {
         mote: u8,
         /// The mote that is asked.
@@ -94,7 +94,7 @@ pub enum Report {
         image: u8,
         version: u32,
     },
-    /// The script ended, after so many events.
+    /// The script ended, after this many events.
     End {
         events: u32,
     },
@@ -107,7 +107,7 @@ pub enum Report {
     MoteOff {
         mote: u8,
     },
-    /// An image that a mote keeps at the end, with so many complete pages.
+    /// An image that a mote keeps at the end, with this many complete pages.
     Kept {
         mote: u8,
         image: u8,

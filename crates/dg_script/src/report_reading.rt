@@ -28,7 +28,7 @@ fn is_same(word: &[u8], other: &[u8]) -> bool
     word == other
 }
 
-// The word with this number, from 0 on. It is empty where there are not so many.
+// The word with this number, from 0 on. It is empty where there are not that many.
 fn word(text: &[u8], at: usize) -> &[u8]
     ensures { result.now ≡ word_at (words_of text.now) at }
 {

@@ -18,7 +18,7 @@ pub const MOST_SWEEPS: u32 = 1_000;
 /// The most bytes of a line's text.
 pub const LONGEST: usize = 300_000;
 
-/// The bytes that are kept at once: those of the longest line, with CR and LF behind them.
+/// The bytes that are kept at once: those of the longest line, with CR and LF after them.
 pub const KEPT: usize = LONGEST + 2;
 
 /// The most bytes of a content that is written, which then fits into a line.

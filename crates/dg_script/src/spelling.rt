@@ -71,7 +71,7 @@ fn push_field(out: &mut Vec<u8>, field: Field) -> Result<(), AllocError>
     }
 }
 
-// Appends a field behind a space.
+// Appends a field after a space.
 fn push_behind(out: &mut Vec<u8>, field: Field) -> Result<(), AllocError>
     ensures ok { OnOk result (out.new.items ≡ out.old.items ++ 32 ∷ field_text field.entry) }
     ensures err { OnErr result (IsFrontOf out.new.items (out.old.items ++ (32 ∷ field_text field.entry))) }
@@ -81,7 +81,7 @@ fn push_behind(out: &mut Vec<u8>, field: Field) -> Result<(), AllocError>
     push_field(out, field)
 }
 
-// Appends fields, each behind a space.
+// Appends fields, each after a space.
 fn push_fields(out: &mut Vec<u8>, fields: &[Field]) -> Result<(), AllocError>
     ensures ok { OnOk result (out.new.items ≡ out.old.items ++ fields_text fields.now) }
     ensures err { OnErr result (IsFrontOf out.new.items (out.old.items ++ (fields_text fields.now))) }
@@ -93,7 +93,7 @@ fn push_fields(out: &mut Vec<u8>, fields: &[Field]) -> Result<(), AllocError>
     Ok(())
 }
 
-/// Appends a word, the fields behind it, and LF. Without memory some front of them was appended.
+/// Appends a word, the fields after it, and LF. Where memory runs out, a prefix of them was appended.
 pub fn push_line(out: &mut Vec<u8>, word: &[u8], fields: &[Field]) -> Result<(), AllocError>
     ensures ok { OnOk result (out.new.items ≡ out.old.items ++ (word.now ++ fields_text fields.now ++ 10 ∷ [])) }
     ensures err { OnErr result (IsFrontOf out.new.items (out.old.items ++ (word.now ++ fields_text fields.now ++ 10 ∷ []))) }
@@ -105,7 +105,7 @@ pub fn push_line(out: &mut Vec<u8>, word: &[u8], fields: &[Field]) -> Result<(),
     Ok(())
 }
 
-/// Appends the line that a table has for a value: its pattern, the word of the line, and at most seven fields behind that.
+/// Appends the line that a table has for a value: its pattern, the word of the line, and at most seven fields after that.
 macro_rules! push_line_of {
     ($out:expr, $value:expr; $($said:pat => $word:expr $(, $field:expr)*;)+) => {{
         let mut fields = [Small(0); 7];

@@ -171,7 +171,7 @@ impl Verb {
     }
 
     /// Whether a line of the verb may stand at a place. It may not at another one, and not in place of the
-    /// event behind a cut.
+    /// event after a cut.
     #[tactic(auto, unfolding(crate::specs::Verbs::standing))]
     pub fn stand(self, place: &Place) -> Result<(), LineFault>
         ensures { result ≡ standing self place.now }

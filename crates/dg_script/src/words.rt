@@ -54,7 +54,7 @@ fn far_before(text: &[u8], stop: u8) -> usize
     }
 }
 
-/// The bytes up to the first colon, and those behind it. None where there is no colon.
+/// The bytes up to the first colon, and those after it. None where there is no colon.
 pub fn halves(text: &[u8]) -> Option<(&[u8], &[u8])>
     ensures { option_map (λ h. (h.0.now, h.1.now)) result ≡ halves_of text.now }
 {
@@ -65,7 +65,7 @@ pub fn halves(text: &[u8]) -> Option<(&[u8], &[u8])>
     Some((&text[..length], &text[length + 1..]))
 }
 
-/// The first word of a text, and the text behind it. None where there is no word.
+/// The first word of a text, and the text after it. None where there is no word.
 #[tactic(auto, using(crate::proofs::WordLemmas::first_word))]
 pub fn next_word(text: &[u8]) -> Option<(&[u8], &[u8])>
     ensures none { IfNone result (words_of text.now ≡ []) }

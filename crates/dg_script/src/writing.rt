@@ -12,7 +12,7 @@ use crate::spelling::{push_line, push_line_of};
 use dg_base::Event;
 use std::alloc::AllocError;
 
-/// Appends a line and LF, with its contents as hex digits. Without memory some front of these was appended.
+/// Appends a line and LF, with its contents as hex digits. Where memory runs out, a prefix of these was appended.
 ///
 /// The fields of the line are in the ranges of some script, and its content has at most 149,000 bytes.
 /// Then the text is read as the same line, wherever such a line may stand and is played.

@@ -12,7 +12,7 @@ generator_of w = w.generator
 abbrev pub first_generator : ℕ → Lcg
 first_generator seed = pcg32_of_seed (pcg32_seed 16 seed)
 
--- the generator behind n draws
+-- the generator after n draws
 unfoldable pub generator_after : (seed n : ℕ) → Lcg
 generator_after seed zero = first_generator seed
 generator_after seed (suc n) = (pcg32 (generator_after seed n)).1

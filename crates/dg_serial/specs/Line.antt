@@ -7,7 +7,7 @@ use Rattle.dg_serial.specs.Sizes.{flag_byte, escape_byte, escaped_flag, escaped_
 
 -- ---- stuffing
 
--- a byte as it stands on the line
+-- a byte as it is on the line
 abbrev pub stuffed_byte : ℕ → List ℕ
 stuffed_byte b =
     if b == flag_byte then escape_byte ∷ escaped_flag ∷ []
@@ -17,11 +17,11 @@ stuffed_byte b =
 abbrev pub escaped : List ℕ → List ℕ
 escaped bytes = flat_map stuffed_byte bytes
 
--- a frame as it stands on the line: a flag ends it
+-- a frame as it is on the line: a flag ends it
 unfoldable pub stuffed : List ℕ → List ℕ
 stuffed bytes = escaped bytes ++ flag_byte ∷ []
 
--- frames one behind the other
+-- frames one after another
 abbrev pub line_of : List (List ℕ) → List ℕ
 line_of frames = flat_map stuffed frames
 
@@ -99,7 +99,7 @@ pub record HasLoneEscape (piece : List ℕ) : Type 0 where
   pub stands : piece ≡ front ++ escape_byte ∷ back
   pub alone : BeginsWithSecond back → ⊥
 
--- the byte for which this one stands behind an escape
+-- the byte for which this one stands after an escape
 abbrev pub plain : ℕ → ℕ
 plain b = if b == escaped_flag then flag_byte else (if b == escaped_escape then escape_byte else b)
 

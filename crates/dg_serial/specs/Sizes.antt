@@ -9,10 +9,10 @@ flag_byte = 0x7E
 abbrev pub escape_byte : ℕ
 escape_byte = 0x7D
 
--- what stands behind an escape for the flag
+-- what stands after an escape for the flag
 abbrev pub escaped_flag : ℕ
 escaped_flag = 0x5E
 
--- what stands behind an escape for the escape itself
+-- what stands after an escape for the escape itself
 abbrev pub escaped_escape : ℕ
 escaped_escape = 0x5D

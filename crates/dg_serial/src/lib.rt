@@ -22,10 +22,10 @@ pub const FLAG: u8 = 0x7E;
 /// The byte that escapes the next: the control escape.
 pub const ESCAPE: u8 = 0x7D;
 
-/// What stands behind an escape for the flag.
+/// What stands after an escape for the flag.
 pub const ESCAPED_FLAG: u8 = 0x5E;
 
-/// What stands behind an escape for the escape itself.
+/// What stands after an escape for the escape itself.
 pub const ESCAPED_ESCAPE: u8 = 0x5D;
 
 #[cfg(test)]

@@ -4,7 +4,7 @@ ghost use Rattle.dg_serial.specs.Sizes.{flag_byte, escape_byte, escaped_flag, es
 
 use crate::{ESCAPE, ESCAPED_ESCAPE, ESCAPED_FLAG, FLAG};
 
-/// The flag and the escape are those of RFC 1662, section 4.2, and behind an escape each stands with its sixth bit turned.
+/// The flag and the escape are those of RFC 1662, section 4.2, and after an escape each stands with its sixth bit turned.
 pub fn the_bytes_of_a_line_are_these()
     ensures flag { FLAG ≡ flag_byte }
     ensures escape { ESCAPE ≡ escape_byte }

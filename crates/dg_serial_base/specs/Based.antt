@@ -13,7 +13,7 @@ use Rattle.dg_volume.specs.Acts.{Stops}
 use Rattle.dg_mote.specs.Model.{MoteState}
 use Rattle.dg_serial_base.specs.Deeds.{Base, At, Deed, deeds_of, powered, power_effect, effect_of, DeedsRun, said, FramesComeBack}
 
--- What is outside of a base mote, before it or behind it: the bytes that are left to be read, what was written, the counts of
+-- What is outside of a base mote, before it or after it: the bytes that are left to be read, what was written, the counts of
 -- failed reads and writes, and the chip.
 pub record Outside : Type 0 where
   pub left : Option (List ℕ)
@@ -98,14 +98,14 @@ pub record Based (answer : Status) (b : Base) (s : Store) (before now : Outside)
   pub put : Puts before.written now.written text
   pub ends : EndsBy answer b s input text before now
 
--- what it answers where the chip is no volume
+-- what it answers where the chip is not a volume
 abbrev pub RefusedBy : Status → (text : List ℕ) → (old new : Device) → Type 0
 RefusedBy status.NotAVolume text old new = (text ≡ closing status.NotAVolume) × Looked old new
 RefusedBy status.WriteFault text old new = IsFront text (closing status.NotAVolume) × Looked old new
 RefusedBy status.FlashFault text old new = (text ≡ []) × ReadStopped old new
 RefusedBy answer text old new = ⊥
 
--- The chip is no volume: nothing is read.
+-- The chip is not a volume: nothing is read.
 pub record Refused (answer : Status) (before now : Outside) : Type 0 where
   pub unread : now.left ≡ before.left
   pub text : List ℕ

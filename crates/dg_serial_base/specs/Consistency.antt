@@ -16,7 +16,7 @@ use Rattle.dg_serial_base.specs.Deeds.{Base, At, Deed, deeds_of, powered, power_
 abbrev pub StartsSound : Row → Effect → Type 0
 StartsSound golden e = IfSome e.started (λ r. IsSoundApp golden (app_of r))
 
--- so does each of these deeds, one behind the other
+-- so does each of these deeds, one after another
 unfoldable pub AllStartSound : Row → Base → At → List Deed → Type 0
 AllStartSound golden b a [] = Unit {0}
 AllStartSound golden b a (d ∷ ds) =

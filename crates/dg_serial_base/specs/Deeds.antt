@@ -34,14 +34,14 @@ pub record Base : Type 0 where
   pub step : ℕ
   pub seed : ℕ
 
--- where a mote stands behind so many events: its state, None where a start had no image; the store of its chip; what it sent
+-- where a mote stands after this many events: its state, None where a start had no image; the store of its chip; what it sent
 pub record At : Type 0 where
   pub mote : Option MoteState
   pub store : Store
   pub events : ℕ
   pub sent : List Message
 
--- the moment and the word of the event behind so many
+-- the moment and the word of the event after this many
 abbrev pub moment_at : Base → ℕ → ℕ
 moment_at b events = b.step * suc events
 
@@ -52,7 +52,7 @@ abbrev pub sent_too : List Message → Option Message → List Message
 sent_too sent None = sent
 sent_too sent (Some message) = sent ++ message ∷ []
 
--- behind an event of this effect
+-- after an event of this effect
 abbrev pub behind_event : Effect → (events : ℕ) → (sent : List Message) → At
 behind_event e events sent = record { mote = e.mote; store = last e.trail; events = suc events; sent = sent_too sent e.sent }
 
@@ -71,7 +71,7 @@ effect_of b m a Ticks = tick_effect m a.store (moment_at b a.events) (draw_at b 
 abbrev pub after_deed : Base → MoteState → At → Deed → At
 after_deed b m a d = behind_event (effect_of b m a d) a.events a.sent
 
--- these happen, one behind the other, and the mote is on before each
+-- these happen, one after another, and the mote is on before each
 unfoldable pub DeedsRun : Base → At → List Deed → At → Type 0
 DeedsRun b a [] z = z ≡ a
 DeedsRun b a (d ∷ ds) z = (m : MoteState) × (a.mote ≡ Some m) × DeedsRun b (after_deed b m a d) ds z

@@ -97,15 +97,15 @@ fn play_line<S: Source, K: Sink, N: Nor>(
     }
 }
 
-/// Starts a chip by power, and plays the items of the input at its mote: a frame is heard, and behind each item the mote
-/// ticks. What the mote sends is written to `out` as it stands on the line.
+/// Starts a chip by power, and plays the items of the input at its mote: a frame is heard, and after each item the mote
+/// ticks. What the mote sends is written to `out` as it is on the line.
 ///
-/// The start is the first event. Each event comes `step` milliseconds behind the one before it, with the next word of the
+/// The start is the first event. Each event comes `step` milliseconds after the one before it, with the next word of the
 /// generator that `seed` begins. The input is read piece by piece, and what a piece tells is played before the next one is
 /// asked for. No more than 16,777,216 bytes of it are used. A status other than [`Status::Done`] writes its line last, where
 /// it has one.
 ///
-/// With honest frames a chip that agrees with a table of images agrees with it behind the line, however it ended. Whatever
+/// With honest frames a chip that agrees with a table of images agrees with it after the line, however it ended. Whatever
 /// bytes come as frames, a consistent chip stays so, however the line ended: golden is whole. No start lacks an image, and
 /// what starts is golden byte for byte, or pages that fit the descriptor before them.
 pub fn base<S: Source, K: Sink, N: Nor>(
@@ -124,7 +124,7 @@ pub fn base<S: Source, K: Sink, N: Nor>(
         → Based result (record { id = id; step = step; seed = seed }) s
         (outside_base (S.left input.old) (S.faults input.old) (K.written out.old) (K.faults out.old) (N.device nor.old))
         (outside_base (S.left input.new) (S.faults input.new) (K.written out.new) (K.faults out.new) (N.device nor.new)) }
-    // A chip that is no volume is left as it was.
+    // A chip that is not a volume is left as it was.
     ensures refused { IsNoVolume (N.device nor.old).image → Refused result
         (outside_base (S.left input.old) (S.faults input.old) (K.written out.old) (K.faults out.old) (N.device nor.old))
         (outside_base (S.left input.new) (S.faults input.new) (K.written out.new) (K.faults out.new) (N.device nor.new)) }

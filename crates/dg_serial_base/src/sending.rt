@@ -10,7 +10,7 @@ use dg_base::{Sink, WriteFailed};
 use dg_mote::Outbox;
 use dg_serial::stuff;
 
-/// Writes a frame as it stands on the line. `text` is used for it.
+/// Writes a frame as it is on the line. `text` is used for it.
 fn write_frame<K: Sink>(frame: &[u8], text: &mut Vec<u8>, out: &mut K) -> Result<(), Stop>
     requires some { 1 ≤ length frame.now }
     requires most { length frame.now ≤ longest_frame }
@@ -25,7 +25,7 @@ fn write_frame<K: Sink>(frame: &[u8], text: &mut Vec<u8>, out: &mut K) -> Result
     }
 }
 
-/// Writes the frame of an outbox as it stands on the line, if there is one. `text` is used for it.
+/// Writes the frame of an outbox as it is on the line, if there is one. `text` is used for it.
 pub(crate) fn send<K: Sink>(outbox: &Outbox, text: &mut Vec<u8>, out: &mut K) -> Result<(), Stop>
     requires { IfSome (sent_in outbox.now) (λ frame. 1 ≤ length frame) }
     ensures sends { SendEnds result (line_of (one_if (sent_in outbox.now))) (K.written out.old) (K.written out.new) }

@@ -14,7 +14,7 @@ pub(crate) enum Stop {
     Write,
     /// The chip is stopped.
     Flash,
-    /// The chip is no volume.
+    /// The chip is not a volume.
     NotAVolume,
     /// The mote was to start, and there was no image.
     NoImage,

@@ -24,7 +24,7 @@ use Rattle.dg_serve.specs.declared.stop.Stop.TheVariants.{Memory, Write, Link, F
 
 -- ---- where a service begins
 
--- What the boards stand for, one for each mote. A board that is no volume stands for any store.
+-- What the boards stand for, one for each mote. A board that is not a volume stands for any store.
 pub record StoresOf (motes : ℕ) (boards : List Device) (stores : List Store) : Type 0 where
   pub count : length stores ≡ motes
   pub stands : (m : ℕ) (d : Device) → m < motes → slice_get boards m ≡ Some d
@@ -55,7 +55,7 @@ BoardsStandBut P w old new = (m : ℕ) (a b : Device) → m < length w.sites →
 abbrev pub BoardsStand : World → (old new : List Device) → Type 0
 BoardsStand w old new = BoardsStandBut (λ m. ⊥) w old new
 
--- A board stopped in an event, and stands for a store that its trail leaves where so many operations were done. One that is no
+-- A board stopped in an event, and stands for a store that its trail leaves where this many operations were done. One that is no
 -- volume has its bytes as before.
 pub record StopsInEvent (w : World) (event : Event) (old new : List Device) : Type 0 where
   pub before : Device
@@ -68,7 +68,7 @@ pub record StopsInEvent (w : World) (event : Event) (old new : List Device) : Ty
   pub same : IsNoVolume before.image → after.image ≡ before.image
   pub others : BoardsStandBut (λ m. m ≡ mote_of event) w old new
 
--- A mote was to begin whose board is no volume.
+-- A mote was to begin whose board is not a volume.
 pub record FindsNoVolume (w : World) (event : Event) (old new : List Device) : Type 0 where
   pub reset : IsReset event
   pub board : Device

@@ -62,9 +62,9 @@ StoresConsistent golden stores = (m : ℕ) → m < length stores → StoreIsCons
 abbrev pub StoresKeepGolden : List Store → Type 0
 StoresKeepGolden stores = (m : ℕ) → m < length stores → KeepsGoldenRow (store_of stores m)
 
--- What was played of so many motes from such boards, up to this world.
+-- What was played of this many motes from such boards, up to this world.
 pub record StaysConsistent (golden : Row) (motes : ℕ) (played : List Played) (v : World) : Type 0 where
-  -- every store is consistent, behind each event and in the last world
+  -- every store is consistent, after each event and in the last world
   pub stores : AllByRecursion (LeavesConsistent golden) played
   pub ends : WorldConsistent golden v
   -- what starts is golden byte for byte, or an object that fits its own descriptor
@@ -76,7 +76,7 @@ abbrev pub LeavesGolden : Played → Type 0
 LeavesGolden p = WorldKeepsGolden p.after
 
 pub record ServiceKeepsGolden (motes : ℕ) (played : List Played) (v : World) : Type 0 where
-  -- every mote keeps golden whole and asks for other images, behind each event and in the last world
+  -- every mote keeps golden whole and asks for other images, after each event and in the last world
   pub kept : AllByRecursion LeavesGolden played
   pub ends : WorldKeepsGolden v
   -- the next event finds an image to start, golden if no other
@@ -103,7 +103,7 @@ pub record KeepsRules (told : Option Inboxes) (table : List Row) (stores : List 
   -- there what starts is a row of the table
   pub starts : (f : ServedFirst (first_world table links none_narrow stores) run.played) → FramesAreHonest table stores f.first
       → AllByRecursion StartsRow f.first
-  -- there the world behind each event agrees with its table, and so does the one that it leads to
+  -- there the world after each event agrees with its table, and so does the one that it leads to
   pub agrees : (f : ServedFirst (first_world table links none_narrow stores) run.played) → FramesAreHonest table stores f.first
       → AllByRecursion LeavesAgreement f.first × WorldAgrees f.last
   -- there each store that the chip may stand for, wherever a stop comes in the next event, agrees with the table,
@@ -123,7 +123,7 @@ abbrev pub world_by : List Line → List Row → List Store → World
 world_by lines table stores =
     first_world table (place_behind first_place lines).links (place_behind first_place lines).narrow stores
 
--- The bytes are a script over so many boards as they are. Where these stand for these stores, a run of the rules over its items
+-- The bytes are a script over this many boards as they are. Where these stand for these stores, a run of the rules over its items
 -- leads to this world, and no run over them to another.
 pub record ReplaysTo (bytes : List ℕ) (motes : ℕ) (table : List Row) (stores : List Store) (v : World) : Type 0 where
   pub lines : List Line

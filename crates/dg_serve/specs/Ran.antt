@@ -145,7 +145,7 @@ told_by net = record {
   port = net.0.first_port net.1;
 }
 
--- it has so many motes, at the profile's port
+-- it has this many motes, at the profile's port
 abbrev pub LinkIsOpen : (motes : ℕ) → NetProfile → (old new : LinkTold) → Type 0
 LinkIsOpen motes profile old new =
     (new.inboxes ≡ option_map (emptied motes) old.inboxes) × (new.port ≡ option_map (λ port. profile.port) old.port)

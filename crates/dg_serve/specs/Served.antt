@@ -22,7 +22,7 @@ use Rattle.dg_serve.specs.Traces.{UnwrittenLast, trace, lines_text, head_lines, 
 use Rattle.dg_serve.specs.declared.stop.Stop.{Stop}
 use Rattle.dg_serve.specs.declared.stop.Stop.TheVariants as stop
 
--- What is outside of a service, before it or behind it: the bytes that were written and the count of the sink, the answers of
+-- What is outside of a service, before it or after it: the bytes that were written and the count of the sink, the answers of
 -- the clock, the inboxes, the count and the port of the link, and the boards.
 pub record Outside : Type 0 where
   pub written : Option (List ℕ)
@@ -118,7 +118,7 @@ pub record Began (answer : Status) (profile : NetProfile) (seed turns : ℕ) (be
       → Came why profile.motes (begins table profile.links stores origin clock seed
       (option_map (emptied profile.motes) before.inboxes))
       (course done events left) before.boards after
-  -- none of the events was at a board that is no volume
+  -- none of the events was at a board that is not a volume
   pub volumes : AllByRecursion (IsAtVolume before.boards) events
   pub text : List ℕ
   pub put : Puts before.written after.written text

@@ -32,7 +32,7 @@ beginning motes = each motes (λ mote. Begins mote ∷ [])
 abbrev pub turn_of_all : ℕ → List Part
 turn_of_all motes = each motes (λ mote. Looks mote ∷ Ticks mote ∷ [])
 
--- each mote begins, and then each has its part in each turn, in rising number
+-- each mote begins, and then each has its part in each turn, in ascending order
 abbrev pub plan : (motes turns : ℕ) → List Part
 plan motes turns = beginning motes ++ each turns (λ turn. turn_of_all motes)
 
@@ -68,7 +68,7 @@ pub record ReadsClock (s : Moment) (dt word : ℕ) (t : Moment) : Type 0 where
 
 -- ---- frames over the link
 
--- the neighbours of a mote, in rising number
+-- the neighbours of a mote, in ascending order
 abbrev pub neighbours_by : List (ℕ × ℕ) → (motes mote : ℕ) → List ℕ
 neighbours_by links motes mote = each motes (λ other. if is_linked links mote other then other ∷ [] else [])
 
@@ -84,7 +84,7 @@ handed_to (m ∷ ms) bytes boxes = handed_to ms bytes (delivered m bytes boxes)
 abbrev pub new_frames : (before after : World) → List Sent
 new_frames before after = drop (length before.sent) after.sent
 
--- to whom they are handed: each to all neighbours of its mote, in rising number
+-- to whom they are handed: each to all neighbours of its mote, in ascending order
 abbrev pub handed : World → ℕ → List Sent → Inboxes → Inboxes
 handed w motes [] boxes = boxes
 handed w motes (f ∷ fs) boxes = handed w motes fs (handed_to (neighbours w motes f.by) f.bytes boxes)

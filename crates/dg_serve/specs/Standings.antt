@@ -191,7 +191,7 @@ pub record PartsHalted (why : Stop) (motes begun : ℕ) (links : List (ℕ × �
   pub calm : why ≢ stop.Flash → BoardsAreCalm p.boards q.boards
   pub counts : CountsBy why p q
 
--- parts that are to be done: before them the power of the first `begun` motes came, and behind them that of the first `on`
+-- parts that are to be done: before them the power of the first `begun` motes came, and after them that of the first `on`
 pub record Stretch : Type 0 where
   pub begun : ℕ
   pub on : ℕ
@@ -217,7 +217,7 @@ pub record IsUnderWay (motes : ℕ) (links : List (ℕ × ℕ)) (limit : ℕ) (p
 
 -- ---- one event
 
--- how many motes' power came before an event and behind it, where it is a reset; else all motes' power came
+-- how many motes' power came before an event and after it, where it is a reset; else all motes' power came
 abbrev pub begun_before : ℕ → Event → ℕ
 begun_before motes (Tick mote dt word) = motes
 begun_before motes (Hear mote dt word frame) = motes
@@ -261,7 +261,7 @@ pub record AtMote : Type 0 where
 abbrev pub at_mote : (runs : Option Node) (boards : List Device) → AtMote
 at_mote runs boards = record { runs = runs; boards = boards }
 
--- An event at the board of a mote, which ran this before and behind it.
+-- An event at the board of a mote, which ran this before and after it.
 pub record PlayedAt (r : Result Outbox Fault) (event : Event) (mote now : ℕ) (x y : AtMote) : Type 0 where
   pub before : Device
   pub after : Device

@@ -42,7 +42,7 @@ fn keep(alloc: Global, frame: &[u8]) -> Result<Bytes, Stop>
     }
 }
 
-/// Hands what a mote sent, if anything, to each of its neighbours in rising number.
+/// Hands what a mote sent, if anything, to each of its neighbours in ascending order.
 pub fn hand_on<L: Link>(
     profile: &NetProfile,
     mote: u8,
@@ -66,7 +66,7 @@ pub fn hand_on<L: Link>(
     }
 }
 
-/// Hands a frame to each neighbour of a mote in rising number.
+/// Hands a frame to each neighbour of a mote in ascending order.
 fn hand_to_neighbours<L: Link>(
     profile: &NetProfile,
     mote: u8,

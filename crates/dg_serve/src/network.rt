@@ -31,7 +31,7 @@ pub enum NoProfile {
     Fault(ProfileFault),
 }
 
-/// Reads a network profile from `input`, a document of TOML 1.1 of at most 16,777,216 bytes, and runs its motes for so many
+/// Reads a network profile from `input`, a document of TOML 1.1 of at most 16,777,216 bytes, and runs its motes for this many
 /// turns, as [`serve`] does. Where the input spells no profile, the last line tells why, and nothing else is done. `turns`
 /// is at most 1,000,000.
 pub fn serve_network<S: Source, K: Sink, N: Nor, L: Link, C: Clock>(

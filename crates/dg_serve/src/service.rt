@@ -31,7 +31,7 @@ pub struct Service {
 }
 
 impl Service {
-    /// An event is applied: its line is written, and then what it sent is handed on. Where there is no memory for the line,
+    /// An event is applied: its line is written, and then what it sent is forwarded. Where there is no memory for the line,
     /// the event is not applied.
     fn apply_event<K: Sink, N: Nor, L: Link>(
         &mut self,
@@ -175,7 +175,7 @@ impl Service {
         Ok(())
     }
 
-    /// The power of each mote comes, in rising number.
+    /// The power of each mote comes, in ascending order.
     fn begin_all<K: Sink, N: Nor, L: Link, C: Clock>(
         &mut self,
         profile: &NetProfile,
@@ -199,7 +199,7 @@ impl Service {
         Ok(())
     }
 
-    /// Each mote has its part, in rising number.
+    /// Each mote has its part, in ascending order.
     fn play_turn<K: Sink, N: Nor, L: Link, C: Clock>(
         &mut self,
         profile: &NetProfile,
@@ -222,7 +222,7 @@ impl Service {
         Ok(())
     }
 
-    /// The power of each mote comes, and then so many turns are played.
+    /// The power of each mote comes, and then this many turns are played.
     pub(crate) fn run<K: Sink, N: Nor, L: Link, C: Clock>(
         &mut self,
         turns: u32,

@@ -20,7 +20,7 @@ use dg_node::Node;
 use dg_nor::Nor;
 use std::alloc::{AllocError, Global};
 
-/// Runs the motes of a profile, all of them wide, for so many turns, over the boards, the link and the clock, and writes
+/// Runs the motes of a profile, all of them wide, for this many turns, over the boards, the link and the clock, and writes
 /// what happens to `out` as a script. `turns` is at most 1,000,000.
 pub fn serve<K: Sink, N: Nor, L: Link, C: Clock>(
     alloc: Global,

@@ -12,7 +12,7 @@ pub enum Stop {
     Link,
     /// A board is stopped.
     Flash,
-    /// A board is no volume.
+    /// A board is not a volume.
     NotAVolume,
     /// A mote was to start, and there was no image.
     NoImage,

@@ -81,7 +81,7 @@ key_info = 48 ∷ 86 ∷ 48 ∷ 11 ∷ 6 ∷ 9 ∷ 4 ∷ 0 ∷ 127 ∷ 0 ∷ 15 
 abbrev pub info_size : ℕ
 info_size = 20
 
--- the key of these bytes of DER, or the first byte that no key has, or why what stands behind is none
+-- the key of these bytes of DER, or the first byte that no key has, or why what stands after is none
 abbrev pub ReadsDer : List ℕ → Result PublicKey KeyTextFault → Type 0
 ReadsDer der (Err (fault.Der at)) = (at ≡ agreeing key_info der) × (at ≢ info_size)
 ReadsDer der result = (bytes : List ℕ) × (der ≡ key_info ++ bytes) × ReadsKeyBytes bytes result

@@ -20,7 +20,7 @@ IsBase64Text text bytes = (length text ≢ signature_size) × (without_newline t
 abbrev pub IsSignatureText : List ℕ → List ℕ → Type 0
 IsSignatureText text signature = (length signature ≡ signature_size) × ((text ≡ signature) ⊎ IsBase64Text text signature)
 
--- the base64 of so many bytes, and not of 2,500
+-- the base64 of this many bytes, and not of 2,500
 abbrev pub IsOfLength : List ℕ → ℕ → Type 0
 IsOfLength text n = (bytes : List ℕ) × IsBase64Text text bytes × (n ≡ length bytes) × (n ≢ signature_size)
 

@@ -44,7 +44,7 @@ const KEY_DIGITS: usize = 136;
 /// The bytes of the PEM of a key, without the LF at its end.
 const PEM_SIZE: usize = 173;
 
-/// Where the two lines of base64 begin in it, and the LF behind each.
+/// Where the two lines of base64 begin in it, and the LF after each.
 const FIRST_LINE: usize = 27;
 
 const FIRST_END: usize = 91;
@@ -62,7 +62,7 @@ const PEM: [u8; PEM_SIZE] = *b"-----BEGIN PUBLIC KEY-----\n\
 ????????????????????????????????????????????????????????\n\
 -----END PUBLIC KEY-----";
 
-/// The bytes of a SubjectPublicKeyInfo in front of a key.
+/// The bytes of a SubjectPublicKeyInfo before a key.
 const INFO_SIZE: usize = 20;
 
 /// What stands there: the lengths of its parts, and the OBJECT IDENTIFIER 0.4.0.127.0.15.1.1.13.0.

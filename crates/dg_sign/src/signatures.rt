@@ -15,7 +15,7 @@ pub enum SignatureTextFault {
     Memory,
     /// They are not 2,500, and no base64: its places count from the first of them, from 0.
     Base64(DecodeError),
-    /// They are the base64 of so many bytes, and not of 2,500.
+    /// They are the base64 of this many bytes, and not of 2,500.
     Length { length: usize },
 }
 

@@ -40,7 +40,7 @@ fn refuse<K: Sink>(out: &mut K, cause: Unsigned) -> Status
     }
 }
 
-/// Ends a run whose words are no command: writes `usage`.
+/// Ends a run whose command line is invalid: writes `usage`.
 pub fn misuse<K: Sink>(out: &mut K) -> Status
     ensures ends { WritesLast result Status.Usage (Some (line (codes "usage"))) (output_of (K.Sink, out.old))
         (output_of (K.Sink, out.new)) }

@@ -57,7 +57,7 @@ fn add_files<'a>(alloc: Global, arguments: &mut Vec<Arg<'a>>) -> Result<(), Allo
     Ok(())
 }
 
-/// What the words behind a verb may be.
+/// What the words after a verb may be.
 fn arguments<'a>(alloc: Global, verb: Verb) -> Result<Vec<Arg<'a>>, AllocError> {
     match verb {
         Verb::Text => release(alloc, 0, "The image, 0 to 6; 0 is golden"),

@@ -36,7 +36,7 @@ impl Verb {
     }
 }
 
-// Why words that `clap` takes are no command.
+// Why words that `clap` takes are not a command.
 #[derive(Debug, Drop)]
 enum Misuse {
     Memory,

@@ -56,7 +56,7 @@ latest_moment = 2 ^ 58
 abbrev pub ReadyOver : Seat → (begun : ℕ) → (own : Device) → Standing → Type 0
 ReadyOver x begun own p = (boards : List Device) → Owns x.motes x.mote own boards → Ready x.motes begun (over p boards)
 
--- Some of so many turns were played. All were, where none stopped, unless it is late.
+-- Some of this many turns were played. All were, where none stopped, unless it is late.
 abbrev pub AllPlayed : Result (Unit {0}) Stop → (ticks : List Bool) → (turns moment : ℕ) → Type 0
 AllPlayed (Ok u) ticks turns moment = (length ticks ≡ turns) ⊎ (latest_moment ≤ moment)
 AllPlayed (Err why) ticks turns moment = Unit {0}
@@ -67,7 +67,7 @@ pub record TurnsGo (r : Result (Unit {0}) Stop) (x : Seat) (turns : ℕ) (p q : 
   pub goes : GoesOn r x.motes x.links (stretch x.motes x.motes (turns_of x.mote ticks)) p q
   pub all : AllPlayed r ticks turns q.service.timeline.moment
 
--- The power of the mote came, and then so many turns were played.
+-- The power of the mote came, and then this many turns were played.
 pub record BeganAndGoes (r : Result (Unit {0}) Stop) (x : Seat) (turns : ℕ) (p q : Standing) : Type 0 where
   pub between : Standing
   pub begins : Went x.motes x.mote (x.mote + 1) x.links (Begins x.mote ∷ []) p between

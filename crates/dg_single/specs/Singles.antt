@@ -51,7 +51,7 @@ pub record MoteRun (why : Option Stop) (profile : NetProfile) (mote seed turns :
       → MoteCame why profile.motes (begins table profile.links stores origin clock seed
       (option_map (emptied profile.motes) before.inboxes))
       (course done events left) before.boards after (length ticks ≡ turns)
-  -- each event was at the mote, and none where its board is no volume
+  -- each event was at the mote, and none where its board is not a volume
   pub own : AllByRecursion (IsEventAt mote) events
   pub volumes : AllByRecursion (IsAtVolume before.boards) events
   pub boards : BoardsEndure before.boards after.boards

@@ -17,7 +17,7 @@ use dg_rules::agreement_is_kept;
 use dg_script::Line;
 use dg_serve::{Service, Stop, hand_on, line_event, put, receive, write_event};
 
-/// An event is applied at a mote: its line is written, and then what it sent is handed on. Where there is no memory for the
+/// An event is applied at a mote: its line is written, and then what it sent is forwarded. Where there is no memory for the
 /// line, the event is not applied.
 pub(crate) fn apply_event<K: Sink, N: Nor, L: Link>(
     service: &mut Service,

@@ -85,7 +85,7 @@ fn play_turns<K: Sink, N: Nor, L: Link, C: Clock, W: Clock>(
     Ok(())
 }
 
-/// The power of a mote comes, and then so many turns are played.
+/// The power of a mote comes, and then this many turns are played.
 pub(crate) fn run<K: Sink, N: Nor, L: Link, C: Clock, W: Clock>(
     service: &mut Service,
     turns: u64,

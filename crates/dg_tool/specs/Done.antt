@@ -35,7 +35,7 @@ abbrev pub CompletedOn : (Store → Trail Store) → Option Store → Device →
 CompletedOn trail None a b = ⊥
 CompletedOn trail (Some s) a b = Completed (trail s) a b
 
--- It was stopped, and which stores that may leave. A board that is no volume keeps its bytes.
+-- It was stopped, and which stores that may leave. A board that is not a volume keeps its bytes.
 abbrev pub StopsOn : (Store → Trail Store) → Option Store → Device → Device → Type 0
 StopsOn trail None a b = ReadStopped a b
 StopsOn trail (Some s) a b = Stops (trail s) a b
@@ -124,7 +124,7 @@ IsOfVerb outcome = Unit {0}
 
 -- ---- the rule of a verb
 
--- What the rules say of a verb. `chips` are the stores that the board may stand for, None where it is no volume; by these go how
+-- What the rules say of a verb. `chips` are the stores that the board may stand for, None where it is none; by these go how
 -- it ends, what it does to the board, and what it may leave of it where it is stopped.
 pub record VerbRule : Type 1 where
   pub chips : Option Store → Type 0

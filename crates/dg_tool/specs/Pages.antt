@@ -5,7 +5,7 @@ use Rattle.dg_object.specs.Sizes.{name_size}
 use Rattle.dg_slot.specs.Kept.{Held}
 use Rattle.dg_volume.specs.Start.{length_in}
 
--- the name that a descriptor tells, from byte 12 on, without the zeros behind it
+-- the name that a descriptor tells, from byte 12 on, without the zeros after it
 unfoldable pub name_in : List ℕ → List ℕ
 name_in page = take_while (λ c. not (c == 0)) (take name_size (drop 12 page))
 

@@ -126,7 +126,7 @@ commits_text s =
     program_line s.app ++ order_line s.order s.waived ++ line (codes "gesture" ++ numbers (s.gesture ∷ []))
     ++ line (codes "room" ++ numbers (s.room ∷ []))
 
--- the images behind golden
+-- the images after golden
 abbrev pub kept_lines : Store → List ℕ
 kept_lines s = flat_map (λ i. kept_line i (held s i)) (range_with_len 1 (images - 1))
 

@@ -149,7 +149,7 @@ fn push_image<N: Nor>(
     }
 }
 
-/// Appends the lines of the images behind golden.
+/// Appends the lines of the images after golden.
 fn push_images<N: Nor>(text: &mut Vec<u8>, nor: &mut N, volume: &Volume) -> Result<(), PageFault>
     requires mounted { IsMounted (N.device nor.old).image volume.now }
     ensures told { OnOk result ((s : Store) → Mounted (N.device nor.old).image volume.now s

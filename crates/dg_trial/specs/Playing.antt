@@ -25,7 +25,7 @@ use Rattle.dg_trial.specs.declared.playing.Stop.TheVariants.{Memory, Flash}
 
 -- ---- runs
 
--- from world w, so many parts may lead to world v
+-- from world w, this many parts may lead to world v
 unfoldable pub LeadsTo : World → List Part → World → Type 0
 LeadsTo w [] v = w ≡ v
 LeadsTo w (p ∷ ps) v = (u : World) × (reports : List Report) × WorldStep w (p (length w.sent)) u reports × LeadsTo u ps v
@@ -43,7 +43,7 @@ first motes row = record (first_world (golden ∷ []) (line motes) none_narrow (
 
 -- ---- the boards
 
--- A board stopped in a step: it stands for a store that the event's trail leaves where so many operations were done,
+-- A board stopped in a step: it stands for a store that the event's trail leaves where this many operations were done,
 -- and a cut did not come before. All other boards are as they were before the step.
 pub record StopsInStep (w : World) (x : Step) (old new : List Device) : Type 0 where
   pub stopped : BoardStopped (length w.sites) old new
@@ -93,11 +93,11 @@ PartsPlay result parts first kept old now = (w : World) (initial : List Device) 
 
 -- ---- what may be played
 
--- the numbers of a part are in their ranges, for so many motes
+-- the numbers of a part are in their ranges, for this many motes
 abbrev pub PartFits : ℕ → Part → Type 0
 PartFits motes p = (sent : ℕ) → StepInRange motes (p sent)
 
--- These parts may be played from world w, which has so many motes: golden is found, and the events are few enough.
+-- These parts may be played from world w, which has this many motes: golden is found, and the events are few enough.
 pub record MayPlay (motes : ℕ) (w : World) (parts : List Part) : Type 0 where
   pub keeps : WorldKeepsGolden w
   pub count : length w.sites ≡ motes

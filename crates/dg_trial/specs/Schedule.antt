@@ -17,7 +17,7 @@ use Rattle.dg_script.specs.Contents.{generated}
 use Rattle.dg_seed.specs.Draws.{first_generator}
 use Rattle.dg_world.specs.Alone.{uncut}
 
--- a step, where so many frames were sent before it
+-- a step, where this many frames were sent before it
 abbrev pub Part : Type 0
 Part = ℕ → Step
 
@@ -82,7 +82,7 @@ disturbed_at motes mote kind w2 w3 sent =
 abbrev pub disturbance : (motes w1 w2 w3 : ℕ) → Part
 disturbance motes w1 w2 w3 = λ sent. disturbed_at motes (w1 % motes) (w1 / 65536 % 8) w2 w3 sent
 
--- so many disturbances, each by the next three draws of a generator
+-- this many disturbances, each by the next three draws of a generator
 unfoldable pub disturbances : (motes n : ℕ) → Lcg → List Part
 disturbances motes zero g = []
 disturbances motes (suc n) g =
@@ -91,7 +91,7 @@ disturbances motes (suc n) g =
     let c = pcg32 b.1 in
     disturbance motes a.0 b.0 c.0 ∷ disturbances motes n c.1
 
--- the generator behind the draws of so many disturbances
+-- the generator after the draws of this many disturbances
 unfoldable pub drawn : ℕ → Lcg → Lcg
 drawn zero g = g
 drawn (suc n) g = drawn n (pcg32 (pcg32 (pcg32 g).1).1).1

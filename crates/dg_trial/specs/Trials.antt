@@ -48,7 +48,7 @@ wholes row w = count_by (keeps_all row) w.sites
 abbrev pub AllKeep : ℕ → Row → World → Type 0
 AllKeep motes row w = (m : ℕ) → m < motes → held (store_at w m) row.image ≡ Some (held_whole row)
 
--- Where a trial leads, every mote keeps the image whole, and so many are counted.
+-- Where a trial leads, every mote keeps the image whole, and this many are counted.
 abbrev pub WholeLaw : Type 0
 WholeLaw = (motes pages seed : ℕ) (v : World) → 2 ≤ motes → motes ≤ most_motes → 2 ≤ pages → pages ≤ most_pages
     → TrialRun motes pages seed v

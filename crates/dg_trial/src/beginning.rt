@@ -20,7 +20,7 @@ use dg_script::generate;
 use dg_world::{DeclareFault, FormatStopped, World, format_boards};
 use std::alloc::{AllocError, Global};
 
-/// The links of so many motes in a line, the last one first.
+/// The links of this many motes in a line, the last one first.
 pub fn line(alloc: Global, motes: u8) -> Result<Vec<(u8, u8)>, AllocError>
     requires { 1 ≤ motes }
     ensures { IfOk result (λ links. links.items ≡ line motes) }
@@ -34,7 +34,7 @@ pub fn line(alloc: Global, motes: u8) -> Result<Vec<(u8, u8)>, AllocError>
     Ok(links)
 }
 
-/// A world of so many motes that are off, with these links.
+/// A world of this many motes that are off, with these links.
 pub fn linked(alloc: Global, motes: u8, links: &[(u8, u8)]) -> Result<World, AllocError>
     requires some { 1 ≤ motes }
     requires few { motes ≤ most_motes }
@@ -49,7 +49,7 @@ pub fn linked(alloc: Global, motes: u8, links: &[(u8, u8)]) -> Result<World, All
     Ok(world)
 }
 
-/// How many bytes an image of so many pages has, where a word makes its last page shorter.
+/// How many bytes an image of this many pages has, where a word makes its last page shorter.
 fn size(pages: u8, word: u32) -> u32
     requires some { 2 ≤ pages }
     requires few { pages ≤ 65 }

@@ -160,7 +160,7 @@ fn end_without_boards<K: Sink>(alloc: Global, out: &mut K, motes: u8, boards: u3
     }
 }
 
-/// Plays the schedule that a seed makes over the boards of so many motes, with an image of so many pages, and writes one
+/// Plays the schedule that a seed makes over the boards of this many motes, with an image of this many pages, and writes one
 /// line.
 pub fn trial<K: Sink, N: Nor>(
     alloc: Global,

@@ -12,7 +12,7 @@ const CUTS: u32 = 64;
 /// The milliseconds that a disturbance may take.
 const DELAYS: u32 = 1_024;
 
-/// The mote beside another on a line of so many: the next one, or the one before the last.
+/// The mote beside another on a line of this many: the next one, or the one before the last.
 fn beside(motes: u8, mote: u8) -> u8
     requires some { 2 ≤ motes }
     requires known { mote < motes }
@@ -46,7 +46,7 @@ fn chosen_cut(alloc: Global, second: u32, third: u32) -> Result<Cut, AllocError>
     })
 }
 
-/// What happens at a mote that three draws choose, where so many frames were sent before.
+/// What happens at a mote that three draws choose, where this many frames were sent before.
 pub fn disturbance(
     alloc: Global,
     motes: u8,

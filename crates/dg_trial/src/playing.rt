@@ -37,7 +37,7 @@ fn play_step<N: Nor>(
     reports: &mut Vec<Report>,
 ) -> Result<(), Stop>
     requires { (motes : ℕ) × MayPlayOver motes world.old (map N.device boards.old.items) (only step.now) }
-    // it may be the step of any part that is this one after so many frames
+    // it may be the step of any part that is this one after this many frames
     ensures { (part : Part)
         → ((w : RuleWorld) → IsWorld world.old (map N.device boards.old.items) w
         → part (length w.sent) ≡ step.now)
@@ -180,7 +180,7 @@ fn play_sweep<N: Nor>(
     Ok(())
 }
 
-/// Plays so many sweeps.
+/// Plays this many sweeps.
 fn play_sweeps<N: Nor>(
     world: &mut World,
     links: &[(u8, u8)],

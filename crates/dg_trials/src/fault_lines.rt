@@ -308,7 +308,7 @@ pub(crate) const ROUND_LINES: [(&str, &str); 17] = [
     ("boards", "place"),
 ];
 
-/// Lines behind a round or a sweep.
+/// Lines after a round or a sweep.
 pub(crate) const BEHIND_ROUND_LINES: [(&str, &str); 4] = [
     ("link 0 1", "place"),
     ("tick 0 1 2", "tick 0 1 2"),
@@ -328,7 +328,7 @@ pub(crate) const ENDS: [(&str, &str); 8] = [
     ("\rmotes 4\n", "verb"),
 ];
 
-/// Long lines: the lines before, a front, a byte and how often it follows, and what the line says where that is not the
+/// Long lines: the lines before, a prefix, a byte and how often it follows, and what the line says where that is not the
 /// line itself.
 pub(crate) const LONG_LINES: [(&[&str], &str, u8, usize, Option<&str>); 10] = [
     (&FIRST, "#", b'x', 299_999, Some("")),

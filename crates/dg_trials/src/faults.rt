@@ -43,7 +43,7 @@ fn said_at(alloc: Global, place: &Place, text: &[u8]) -> Result<Vec<u8>, Fail>
     Ok(said)
 }
 
-/// The place behind some lines.
+/// The place after some lines.
 fn place_behind(alloc: Global, lines: &[&str]) -> Result<Place, Fail>
     ensures { IfOk result (λ place. place.motes ≤ most_motes) }
 {

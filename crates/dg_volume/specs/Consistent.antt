@@ -7,7 +7,7 @@ use Rattle.dg_slot.specs.Kept.{Held, HasDescriptor}
 use Rattle.dg_volume.specs.Sizes.{golden_version}
 use Rattle.dg_volume.specs.Store.{Store, App, held, held_whole}
 
--- each page behind page 0 has the CRC that page 0 keeps of it
+-- each page after page 0 has the CRC that page 0 keeps of it
 abbrev pub FitFirst : List (List ℕ) → Type 0
 FitFirst pages = (p : ℕ) → 1 ≤ p → p < length pages → crc_of (slice_index_or pages p []) ≡ crc_in (slice_index_or pages 0 []) p
 

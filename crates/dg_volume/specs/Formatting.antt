@@ -7,7 +7,7 @@ use Rattle.dg_slot.specs.Kept.{KeepsImage}
 use Rattle.dg_volume.specs.Sizes.{places}
 use Rattle.dg_volume.specs.Store.{held_whole}
 
--- the header of golden, its pages, and the control sectors with so many places spent
+-- the header of golden, its pages, and the control sectors with this many places spent
 abbrev pub format_operations : (length used : ℕ) → ℕ
 format_operations length used = 2 + page_operations * pages_for length + (5 + used / places + used % places)
 

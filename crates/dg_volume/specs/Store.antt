@@ -47,7 +47,7 @@ held_whole row = record { version = row.version; pages = (profile row).pages; cr
 abbrev pub golden_row : List ℕ → List ℕ → Row
 golden_row name bytes = record { image = 0; version = golden_version; name = name; bytes = bytes }
 
--- a chip that was formatted with so many commits told as spent: golden is whole, and all else is empty
+-- a chip that was formatted with this many commits told as spent: golden is whole, and all else is empty
 abbrev pub fresh : List ℕ → List ℕ → ℕ → Store
 fresh name bytes used =
     record {

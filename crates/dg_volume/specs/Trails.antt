@@ -25,7 +25,7 @@ clear_trail s = committing s (gesture_cleared s)
 abbrev pub advance_trail : Store → Option App → ℕ → Bool → Trail Store
 advance_trail s app gesture waived = committing s (advanced s app gesture waived)
 
--- a chip of the older form is committed again as it stands, which writes today's form
+-- a chip of the older form is committed again as it is, which writes today's form
 abbrev pub migrate_trail : ℕ → Store → Trail Store
 migrate_trail form s = if form == old_form then committing s (spent s) else resting s 0
 

@@ -38,7 +38,7 @@ use crate::TAKE_COMMITS;
 use dg_control::a_chip_has_one_form;
 use dg_object::a_descriptor_is_tested;
 
-/// The constant of this crate is the number of its definitions, and program memory stands behind the control sectors.
+/// The constant of this crate is the number of its definitions, and program memory stands after the control sectors.
 pub fn a_volume_has_these_sizes()
     ensures take { TAKE_COMMITS ≡ most_take_commits }
     ensures program { program_sector 0 ≡ control_sectors }
@@ -222,7 +222,7 @@ pub fn an_agreeing_store_keeps_rows()
         → Agrees table s → Agrees table (paged row.image (slice_index_or (object row) (length h.complete) []) s) }
 {}
 
-/// An image that is kept whole is sound, and its pages hold its bytes behind their descriptor.
+/// An image that is kept whole is sound, and its pages hold its bytes after their descriptor.
 pub fn a_whole_image_is_sound()
     ensures { (row : Row) → IsRow row → RowLaws row }
 {}

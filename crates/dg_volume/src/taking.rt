@@ -170,7 +170,7 @@ impl Volume {
         Ok(slot)
     }
 
-    /// Commits that this is kept of an image, as it stands in its slot.
+    /// Commits that this is kept of an image, as it is in its slot.
     fn commit_kept<N: Nor>(
         &mut self,
         nor: &mut N,

@@ -6,7 +6,7 @@ use Rattle.std.specs.List.{range_with_len, flat_map}
 abbrev pub tabulate : {A : Type 0} → ℕ → (ℕ → A) → List A
 tabulate n f = map f (range_with_len 0 n)
 
--- the list, and as many x behind it as make n of them
+-- the list, and as many x after it as make n of them
 unfoldable pub padded : ℕ → ℕ → List ℕ → List ℕ
 padded n x xs = xs ++ replicate (n - length xs) x
 

@@ -32,7 +32,7 @@ pub record OneBoard (board : ℕ) (old new : List Device) : Type 0 where
       → Endures (beneath_of a) (beneath_of b)
 
 -- A step was applied to a, which is b then: what the rules allow, reported as it should be. No board's count rose, also where a
--- cut blew. Where something was started, its pages stand in program memory.
+-- cut fired. Where something was started, its pages stand in program memory.
 pub record Applied (w : RuleWorld) (x : Step) (reported : Bool) (a b : Deployment) : Type 0 where
   pub world : RuleWorld
   pub reports : List Report
@@ -44,7 +44,7 @@ pub record Applied (w : RuleWorld) (x : Step) (reported : Bool) (a b : Deploymen
   pub memory : (d : Deed) (r : Runs) (c : Device) → does w x.event ≡ Goes d → blows x.cut d.trail ≡ false → d.started ≡ Some r
       → slice_get b.boards (mote_of x.event) ≡ Some c → program c.image (length r.pages) ≡ r.pages
 
--- A board stopped: it is that of the event's mote, and stands for a store that the event's trail leaves where so many operations
+-- A board stopped: it is that of the event's mote, and stands for a store that the event's trail leaves where `done` operations
 -- were done. A cut that the step has did not come before.
 pub record FlashAt (w : RuleWorld) (x : Step) (board : ℕ) (old new : List Device) : Type 0 where
   pub at : board ≡ mote_of x.event

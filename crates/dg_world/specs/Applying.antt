@@ -40,7 +40,7 @@ pub record ApplyDone (r : Result (Unit {0}) WorldFault) (x : Step) (reported : B
   -- after it exactly those boards are known that are orderly then and were known, or were made known by it
   pub known : OnOk r ((w : RuleWorld) → IsOf a w → KnowsThen w x.event a.world b.world b.boards)
   -- an order and an injection that is refused mount a known board again by halving: an order, whatever is answered, once more
-  -- where a cut blew
+  -- where a cut fired
   pub order_reads : (w : RuleWorld) (m : ℕ) (old new : Device) → IsOf a w → m ≡ mote_of x.event → known_of a.world m ≡ true
       → slice_get a.boards m ≡ Some old → slice_get b.boards m ≡ Some new → OrderTakes x.event old new
   pub inject_reads : OnOk r ((w : RuleWorld) (m : ℕ) (old new : Device) → IsOf a w → m ≡ mote_of x.event

@@ -1,4 +1,4 @@
--- The boards behind many steps: how they stand, and one that stopped (docs/ARCHITECTURE.md, "The way of a script line").
+-- The boards after many steps: how they stand, and one that stopped (docs/ARCHITECTURE.md, "The way of a script line").
 use Rattle.std.specs.Prelude.{◌≡◌, ◌⊎◌, ℕ, ◌<◌, ◌≤◌, true, false, List, length, slice_get, Some}
 use Rattle.dg_words.specs.Counts.{Rose}
 use Rattle.dg_nor.specs.Device.{Device, Endures}
@@ -22,7 +22,7 @@ pub record WorldStands (w : World) (old new : List Device) : Type 0 where
   pub came : (m : ℕ) (d : Device) → m < length w.sites → slice_get old m ≡ Some d → d.stopped ≡ false
   pub others : (m : ℕ) → length w.sites ≤ m → slice_get new m ≡ slice_get old m
 
--- The board of one of so many motes is stopped: its count rose, or it came stopped.
+-- The board of one of this many motes is stopped: its count rose, or it came stopped.
 pub record BoardStopped (motes : ℕ) (old new : List Device) : Type 0 where
   pub board : ℕ
   pub known : board < motes

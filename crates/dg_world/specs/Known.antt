@@ -65,7 +65,7 @@ IsOrder (Inject mote image version dt word) = ⊥
 IsOrder (OrderEvent mote number image version dt word) = Unit {0}
 
 -- What an event reads of a known board, which is mounted again by n bytes: an order as many twice and 64 more,
--- since a cut that blew mounts once more; an injection that is refused once.
+-- since a cut that fired mounts once more; an injection that is refused once.
 pub record OrderTakes (event : Event) (a b : Device) : Type 0 where
   pub took : IsOrder event → (n : ℕ) → RemountBytes a.image n → Took (2 * n + place_size) a b
 

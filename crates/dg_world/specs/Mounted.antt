@@ -11,7 +11,7 @@ pub record StandFor (motes : ℕ) (stores : List Store) (boards : List Device) :
   pub count : length stores ≡ motes
   pub each : (m : ℕ) (d : Device) → m < motes → slice_get boards m ≡ Some d → Stands d.image (store_of stores m)
 
--- The boards before this one are volumes, and did not come stopped. No board behind it was used.
+-- The boards before this one are volumes, and did not come stopped. No board after it was used.
 pub record MountedTo (board : ℕ) (old new : List Device) : Type 0 where
   pub volumes : (m : ℕ) (d : Device) → m < board → slice_get new m ≡ Some d → IsVolume d.image
   pub awake : (m : ℕ) (d : Device) → m < board → slice_get old m ≡ Some d → d.stopped ≡ false
@@ -28,7 +28,7 @@ pub record MountStops (board motes : ℕ) (old new : List Device) : Type 0 where
   pub cause : (before.stopped ≡ true) ⊎ Rose before.faults after.faults
   pub mounted : MountedTo board old new
 
--- The board of one of the first motes is no volume.
+-- The board of one of the first motes is not a volume.
 pub record NoVolumeAt (board motes : ℕ) (old new : List Device) : Type 0 where
   pub known : board < motes
   pub before : Device

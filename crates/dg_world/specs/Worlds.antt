@@ -47,7 +47,7 @@ pub record IsWorld (v : World) (boards : List Device) (w : RuleWorld) : Type 0 w
   pub few_motes : length w.sites ≤ most_motes
   pub boards_enough : length w.sites ≤ length boards
   pub few_events : w.events ≤ most_events
-  -- each event brings at most so many milliseconds, so that every moment is below 2 ^ 62
+  -- each event brings at most this many milliseconds, so that every moment is below 2 ^ 62
   pub early : w.moment ≤ w.events * (2 ^ 32 - 1)
   -- no moment of a mote is later than the world's
   pub timely : WorldTimely w

@@ -26,7 +26,7 @@ pub(crate) fn note_ordered(ordered: Ordered, outcome: &mut Outcome)
     }
 }
 
-/// What an injection of so many bytes did is its outcome.
+/// What an injection of this many bytes did is its outcome.
 pub(crate) fn note_injected(injected: Injected, bytes: usize, outcome: &mut Outcome)
     requires few { bytes < 2 ^ 32 }
     requires nothing { IsNothing outcome.old }
@@ -79,7 +79,7 @@ fn order_cause(why: OrderFault) -> Cause
     }
 }
 
-/// The cause that is reported of a refused injection of so many bytes. No refusal is `Stopped`.
+/// The cause that is reported of a refused injection of this many bytes. No refusal is `Stopped`.
 fn inject_cause(why: InjectFault, bytes: usize) -> Cause
     requires { bytes < 2 ^ 32 }
     ensures { (row : Row) → length row.bytes ≡ bytes → result ≡ inject_cause row why }

@@ -1,10 +1,10 @@
-//! What an event has at hand.
+//! The context of an event.
 ghost use Rattle.std.specs.Prelude.{◌^◌, ◌<◌};
 ghost use Rattle.dg_rules.specs.Sizes.{most_motes};
 
 use crate::shared::Shared;
 
-/// Where and when an event is applied: what it has at hand beside its board and what the mote there runs.
+/// Where and when an event is applied: what it has beside its board and what the mote there runs.
 #[derive(Clone, Copy)]
 pub(crate) struct EventContext<'a> {
     /// What the motes of the world share.

@@ -17,11 +17,11 @@ use dg_volume::{MountFault, Volume};
 pub enum MountStopped {
     /// This board stopped.
     Flash { board: u8 },
-    /// This board is no volume.
+    /// This board is not a volume.
     NotAVolume { board: u8 },
 }
 
-/// Mounts the boards of the first motes as they stand, in their order, up to the first that stops or is no volume. They
+/// Mounts the boards of the first motes as they are, in their order, up to the first that stops or is not a volume. They
 /// are only read.
 pub fn mount_boards<N: Nor>(boards: &mut [N], motes: u8) -> Result<(), MountStopped>
     requires boards { motes ≤ length boards.old }
@@ -48,7 +48,7 @@ pub fn mount_boards<N: Nor>(boards: &mut [N], motes: u8) -> Result<(), MountStop
     Ok(())
 }
 
-/// Mounts one board as it stands.
+/// Mounts one board as it is.
 fn mount_board<N: Nor>(nor: &mut N) -> Result<(), MountFault>
     ensures volume { OnOk result (IsVolume (N.device nor.new).image) }
     ensures awake { OnOk result ((N.device nor.old).stopped ≡ false) }

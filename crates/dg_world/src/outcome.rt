@@ -1,4 +1,4 @@
-//! What comes of an event at a mote.
+//! The outcome of an event at a mote.
 ghost use Rattle.std.specs.Prelude.{◌≡◌, None};
 ghost use Rattle.dg_mote.specs.Motes.{sent_in};
 ghost use Rattle.dg_world.specs.inner.Outcomes.{IsNothing};
@@ -10,7 +10,7 @@ use dg_nor::Stopped;
 use dg_rules::Cause;
 use dg_volume::MountFault;
 
-/// What comes of an event. It is filled in as the event goes on, where it stands: of most events little comes, and all of
+/// The outcome of an event. It is filled in as the event goes on, where it stands: of most events little comes, and all of
 /// this is large.
 #[derive(Drop)]
 pub struct Outcome {
@@ -79,7 +79,7 @@ fn clear_outbox(outbox: &mut Outbox)
 pub enum Fault {
     /// The board is stopped.
     Stopped,
-    /// The board is no volume.
+    /// The board is not a volume.
     NotAVolume,
     /// The mote was to start, and there was no image.
     NoImage,
@@ -143,6 +143,6 @@ impl From<Stopped> for Fault {
 #[derive(Clone, Copy, Debug, PartialEq, Eq)]
 pub(crate) enum Power {
     Stays,
-    /// The cut blew.
+    /// The cut fired.
     Cut,
 }

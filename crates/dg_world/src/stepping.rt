@@ -236,7 +236,7 @@ fn look_after_cut<N: Nor>(
     Ok(Some(orderly))
 }
 
-/// A step with this cut at the board of its mote, which is off after it where it blew. There is capacity for what is
+/// A step with this cut at the board of its mote, which is off after it where it fired. There is capacity for what is
 /// reported.
 #[inline(never)]
 fn step_cut<N: Nor>(

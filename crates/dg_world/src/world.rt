@@ -16,7 +16,7 @@ pub struct World {
     pub(crate) motes: Vec<Option<Node>>,
     /// The motes whose boards are known: they may be mounted again by halving.
     pub(crate) known: [bool; MOST_MOTES],
-    /// What comes of an event. It is kept for its memory alone: to fill so many bytes anew takes long beside most events.
+    /// The outcome of an event. It is kept for its memory alone: to fill this many bytes anew takes long beside most events.
     pub(crate) outcome: Outcome,
 }
 
@@ -37,7 +37,7 @@ pub enum WorldFault {
     Flash { board: u8 },
     /// A million events were applied. Nothing has changed.
     TooMany,
-    /// The mote's board is no volume.
+    /// The mote's board is not a volume.
     NotAVolume,
     /// The mote was to start, and there was no image.
     NoImage,

@@ -33,7 +33,7 @@ chain_end_of leaf i = chain_end leaf.prf.now.seed.now leaf.index leaf.digest.now
 abbrev pub nodes_of : Leaf → ℕ → List (List ℕ)
 nodes_of leaf height = ltree_nodes leaf.prf.now.seed.now leaf.index (leaf_key leaf) height
 
--- The nodes that wait at so many heights from one on, where so many have come at that height, the highest first:
+-- The nodes that wait at this many heights from one on, where this many have come at that height, the highest first:
 -- one where the count is odd.
 unfoldable pub waiting_nodes : (nodes : ℕ → List (List ℕ)) (heights height count : ℕ) → List (List ℕ)
 waiting_nodes nodes zero height count = []

@@ -14,7 +14,7 @@ const MESSAGE_DIGITS: usize = 64;
 /// The greatest digit, and the last value of a chain.
 const LAST_DIGIT: u8 = 15;
 
-/// Where the values of the chains begin in a signature: behind its index and r.
+/// Where the values of the chains begin in a signature: after its index and r.
 const CHAINS_AT: usize = 36;
 
 // What the two digits of a byte lack.

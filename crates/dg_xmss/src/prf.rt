@@ -11,7 +11,7 @@ use crate::address::Address;
 use crate::hashing::{begun, f, lay_over};
 use sha2::{Digest, Sha256};
 
-/// PRF under a SEED: the state behind the first block, which is the same at each address.
+/// PRF under a SEED: the state after the first block, which is the same at each address.
 #[derive(Drop)]
 pub struct Prf<'a> {
     pub seed: &'a [u8; NODE_SIZE],

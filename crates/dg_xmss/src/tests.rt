@@ -1,4 +1,4 @@
-//! Signatures that `botan` made, and two that no honest maker makes: one by a leaf behind the last, and one whose root differs
+//! Signatures that `botan` made, and two that no honest maker makes: one by a leaf after the last, and one whose root differs
 //! from that of the key in one bit.
 use crate::{KeyFault, PublicKey, SignatureFault, verify};
 use std::test::Fail;

@@ -18,13 +18,13 @@ const LAST_CHAIN: u8 = 66;
 /// The height of an L-tree.
 const LTREE_HEIGHT: u8 = 7;
 
-/// Where the path begins in a signature: behind the values of the chains.
+/// Where the path begins in a signature: after the values of the chains.
 const PATH_AT: usize = 2_180;
 
 /// The most nodes of an L-tree that wait, with the newest one.
 pub const MOST_NODES: usize = 7;
 
-/// The nodes of an L-tree that wait for the one beside them, and the newest one behind them.
+/// The nodes of an L-tree that wait for the one beside them, and the newest one after them.
 pub type Nodes = [[u8; NODE_SIZE]; MOST_NODES];
 
 // The node above two that stand side by side is put in place of the left one.

@@ -1,4 +1,4 @@
-//! A message as a frame, as it stands on a serial line, and read back from there.
+//! A message as a frame, as it is on a serial line, and read back from there.
 #![tactic(auto)]
 
 use anyhow::Result;

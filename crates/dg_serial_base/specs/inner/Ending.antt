@@ -59,7 +59,7 @@ abbrev pub LineEnds : Result (Unit {0}) Stop → (b : Base) (s : Store) (before 
 LineEnds (Ok x) b s before now = GoesOver (Ok x) b s before now
 LineEnds (Err why) b s before now = FailsAtPower why b s before now ⊎ GoesOver (Err why) b s before now
 
--- the chip is no volume
+-- the chip is not a volume
 abbrev pub LineRefused : Result (Unit {0}) Stop → (before now : Outside) → Type 0
 LineRefused (Ok x) before now = ⊥
 LineRefused (Err why) before now = NoneBy why before.chip now.chip × (now.left ≡ before.left) × (now.written ≡ before.written)

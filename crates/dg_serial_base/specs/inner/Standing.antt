@@ -102,7 +102,7 @@ pub record LeavesNone (e : Effect) (c : List ℕ) : Type 0 where
   pub silent : e.sent ≡ None
   pub stands : Stands c (last e.trail)
 
--- the chip stopped on the way of an effect, perhaps behind some reading
+-- the chip stopped on the way of an effect, perhaps after some reading
 pub record StopsOn (s : Store) (e : Effect) (new : Device) : Type 0 where
   pub between : Device
   pub stands : Stands between.image s
@@ -122,7 +122,7 @@ abbrev pub EffectEnds : {T : Type 0} → Result T Stop → (s : Store) → Effec
 EffectEnds (Ok x) s e now new v = IsLeft e new.image v now
 EffectEnds (Err why) s e now new v = FailedBy why s e new
 
--- what a start answers where the chip is no volume
+-- what a start answers where the chip is not a volume
 abbrev pub NoneBy : Stop → (old new : Device) → Type 0
 NoneBy stop.Flash old new = ReadStopped old new
 NoneBy stop.NotAVolume old new = Looked old new
@@ -138,7 +138,7 @@ NoneEnds (Err why) old new = NoneBy why old new
 
 -- ---- the mote behind its deeds
 
--- the time and the draws of so many events
+-- the time and the draws of this many events
 pub record IsTime (t : Timeline) (b : Base) (events : ℕ) : Type 0 where
   pub step : t.step ≡ b.step
   pub moment : t.moment ≡ b.step * events
@@ -296,7 +296,7 @@ StreamEnds (Err why) a stream now = DeedsHalted why a (deeds_of stream) now.code
 
 -- ---- the input
 
--- A piece was read and played behind a stream.
+-- A piece was read and played after a stream.
 pub record PieceRead (a : Outset) (stream : List ℕ) (most count : ℕ)
     (left_old left_now : Option (List ℕ)) (now : LineAt) : Type 0 where
   pub more : List ℕ
@@ -323,14 +323,14 @@ abbrev pub PieceEnds : Result ℕ Stop → Outset → (stream : List ℕ) (most 
 PieceEnds (Ok count) a stream most left_old left_now now = PieceRead a stream most count left_old left_now now
 PieceEnds (Err why) a stream most left_old left_now now = PieceFails why a stream most left_old left_now now
 
--- so many bytes were taken and played
+-- this many bytes were taken and played
 pub record Consumed (a : Outset) (used : ℕ) (left_old left_now : Option (List ℕ)) (now : LineAt) : Type 0 where
   pub stream : List ℕ
   pub counted : length stream ≡ used
   pub taken : Takes left_old left_now stream
   pub played : StreamPlayed a stream now
 
--- The bytes behind those that are used were looked for.
+-- The bytes after those that are used were looked for.
 abbrev pub LastEnds : Result (Unit {0}) Stop → (left_old left_now : Option (List ℕ)) → Type 0
 LastEnds (Ok x) left_old left_now = Takes left_old left_now [] × AtEnd left_now
 LastEnds (Err stop.TooLong) left_old left_now = (byte : ℕ) × Takes left_old left_now (byte ∷ [])

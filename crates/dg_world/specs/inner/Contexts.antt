@@ -1,4 +1,4 @@
--- What an event has at hand (docs/ARCHITECTURE.md, "The way of a script line").
+-- The context of an event (docs/ARCHITECTURE.md, "The way of a script line").
 use Rattle.std.specs.Prelude.{◌≡◌, ◌+◌, IsTrue, Option}
 use Rattle.dg_nor.specs.Device.{Device}
 use Rattle.dg_rules.specs.World.{World as RuleWorld, site}

@@ -18,7 +18,7 @@ use Rattle.dg_node.specs.declared.node.Node.{Node}
 use Rattle.dg_world.specs.inner.EventOutcomes.{EventOutcome, EventEnded, Refused, Unreported, Sends, Changes, Starts, Halt}
 use Rattle.dg_world.specs.inner.EventOutcomes.{Stopped, NotAVolume, NoImage, Whole, Cut}
 
--- how an event ended that answered this, where a cut blew over a board that is not stopped itself, or not
+-- how an event ended that answered this, where a cut fired over a board that is not stopped itself, or not
 abbrev pub ended : Bool → Result EventOutcome Halt → Result EventEnded Halt
 ended blown (Ok outcome) = Ok (Whole outcome)
 ended true (Err (Stopped before)) = Ok (Cut before)
@@ -26,7 +26,7 @@ ended false (Err (Stopped before)) = Err (Stopped before)
 ended blown (Err NotAVolume) = Err NotAVolume
 ended blown (Err NoImage) = Err NoImage
 
--- the whole event was done, and no cut blew
+-- the whole event was done, and no cut fired
 pub record EventIsWhole (w : RuleWorld) (m : ℕ) (does : Does) (cut : Option PowerCut) (u : Option Node)
     (image : List ℕ) (outcome : EventOutcome) : Type 0 where
   pub deed : Deed
@@ -34,7 +34,7 @@ pub record EventIsWhole (w : RuleWorld) (m : ℕ) (does : Does) (cut : Option Po
   pub whole : blows cut deed.trail ≡ false
   pub tells : ReportsEffect w m deed outcome u image
 
--- the cut blew in the operation with its number
+-- the cut fired in the operation with its number
 pub record EventIsCut (w : RuleWorld) (m : ℕ) (does : Does) (cut : Option PowerCut) (image : List ℕ)
     (before : Option ChipReport) : Type 0 where
   pub deed : Deed
@@ -56,7 +56,7 @@ PlayEnds (Err NoImage) w m does cut a b = StepFoundNoImage does cut b.board.imag
 PlayEnds (Err NotAVolume) w m does cut a b = ⊥
 
 -- The event ended so, and the board's count did not fall: it is stopped only where it was, or where its count rose. The count
--- stays unless the board stopped, also where a cut blew.
+-- stays unless the board stopped, also where a cut fired.
 pub record EventPlayed (r : Result EventEnded Halt) (w : RuleWorld) (m : ℕ) (does : Does) (cut : Option PowerCut)
     (a b : Host) : Type 0 where
   pub ends : PlayEnds r w m does cut a b

@@ -24,5 +24,5 @@ pub data Halt : Type 0 where
 -- how an event ended whose power may have been cut
 pub data EventEnded : Type 0 where
   Whole : (outcome : EventOutcome) → EventEnded
-  -- The cut blew. What is reported of the chip was this before, and is the same after it where this is None.
+  -- The cut fired. What is reported of the chip was this before, and is the same after it where this is None.
   Cut : (before : Option ChipReport) → EventEnded

@@ -15,6 +15,6 @@ abbrev pub kept_report : ℕ → ℕ → Option Kept → Option Report
 kept_report m i None = None
 kept_report m i (Some k) = Some (KeptLine m i k.version k.done)
 
--- of n images behind golden
+-- of n images after golden
 abbrev pub kept_reports : ℕ → ChipReport → ℕ → List Report
 kept_reports m x n = filter_map (λ i. kept_report m i (slice_index_or x.kept i None)) (range_with_len 1 n)

@@ -66,7 +66,7 @@ abbrev pub StepSees : RuleWorld → Event → Bool → Option Bool → Option No
 StepSees w event known (Some orderly) u c d = SeesOrder orderly d
 StepSees w event known None u c d = u ≡ None → (known ≡ true → d ≡ c) × (MakesKnown w event → ⊥)
 
--- what was seen behind a cut that blew, of a board that was known or not
+-- what was seen after a cut that fired, of a board that was known or not
 abbrev pub SeesCut : RuleWorld → Event → Bool → Option Bool → List ℕ → Type 0
 SeesCut w event known (Some orderly) c = SeesOrder orderly c
 SeesCut w event known None c = (known ≡ true → ⊥) × (MakesKnown w event → ⊥)
