@@ -7,7 +7,7 @@ use Rattle.std.proofs.Math.Nat.{mul-le-mul_left, lt-div-mul-add}
 use Rattle.std.specs.List.{fold, filter, list_any, find, prefix_len, AllByRecursion}
 use Rattle.std.specs.Option.{unwrap_or}
 use Rattle.dg_story.specs.Lines.{is_told, placed_from, told_of, end_of}
-use Rattle.dg_story.specs.Reports.{is_change, is_change_of, nothing, reported, last_reported, motes, last_image, report_motes, first_of, kept_first, total}
+use Rattle.dg_story.specs.Reports.{is_change, is_change_of, nothing, reported, last_reported, motes, last_image, report_motes, report_image, first_of, kept_first, total}
 use Rattle.dg_picture.specs.Layout.{each, grid_of, step_of, left_of, is_before, count_before, shown, lane_of, rows_of, lane_bottom, foot, changes_of}
 use Rattle.dg_picture.specs.Texts.{height_to}
 use Rattle.dg_story.specs.Reading.{IsLineOf}
@@ -20,7 +20,25 @@ use Rattle.dg_picture.specs.declared.layout.TheConstants.{LINE_STEPS, MOMENT_STE
 use Rattle.dg_script.specs.declared.report.Report.{Report}
 use Rattle.dg_script.specs.declared.report.Report.TheVariants.{Have, Lost}
 
+-- ---- largest numbers
+
+grows : (f : Told → ℕ) (n : ℕ) (ts : List Told) → n ≤ fold (λ k (t : Told). max k (f t)) n ts
+grows f n [] = omega arith
+grows f n (t ∷ ts) = let h = grows f (max n (f t)) ts in omega (arith, h)
+
+all_within : (f : Told → ℕ) (n : ℕ) (ts : List Told) → AllByRecursion (λ (t : Told). f t ≤ fold (λ k (t : Told). max k (f t)) n ts) ts
+all_within f n [] = tt
+all_within f n (t ∷ ts) = (let h = grows f (max n (f t)) ts in omega (arith, h), all_within f (max n (f t)) ts)
+
 -- ---- sizes
+
+pub lanes : (told : List Told) → AllByRecursion (λ (t : Told). report_image t.report ≤ (rows_of told).images) told
+unfolding rows_of
+lanes told = all_within (λ t. report_image t.report) 0 told
+
+pub rows : (told : List Told) → AllByRecursion (λ (t : Told). report_motes t.report ≤ (rows_of told).rows) told
+unfolding rows_of
+rows told = all_within (λ t. report_motes t.report) 0 told
 
 low_by : (mote rows image most lane row : ℕ) → mote < rows → image ≤ most → row ≡ 10 + lane * most → 56 + row * mote + lane * image ≤ 48 + row * rows
 low_by mote rows image most lane row inside within is =
@@ -94,14 +112,6 @@ all_before n p (t ∷ ts) h a =
     let q : nat_lt t.place p ≡ true = lt-ltb _ _ (let b = a.0 in omega (arith, h, b)) in
     let rest = all_before n p ts h a.1 in
     rw q (omega (arith, rest))
-
-grows : (n : ℕ) (ts : List Told) → n ≤ fold (λ k (t : Told). max k t.place) n ts
-grows n [] = omega arith
-grows n (t ∷ ts) = let h = grows (max n t.place) ts in omega (arith, h)
-
-all_within : (n : ℕ) (ts : List Told) → Within (fold (λ k (t : Told). max k t.place) n ts) ts
-all_within n [] = tt
-all_within n (t ∷ ts) = (let h = grows (max n t.place) ts in omega (arith, h), all_within (max n t.place) ts)
 
 within_filter : (n : ℕ) (f : Told → Bool) (ts : List Told) → Within n ts → Within n (filter f ts)
 within_filter n f [] a = tt
@@ -200,7 +210,7 @@ last timed mote image lines holds =
     let grid = grid_of timed (end_of lines) in
     let cs = changes_of (rows_of (told_of lines)) (told_of lines) in
     let inside = within_changes (end_of lines) (rows_of (told_of lines)) (told_of lines)
-    (within_filter (end_of lines) (λ t. is_told t.report) (placed_from 1 lines) (all_within 0 (placed_from 1 lines))) in
+    (within_filter (end_of lines) (λ t. is_told t.report) (placed_from 1 lines) (all_within (λ t. t.place) 0 (placed_from 1 lines))) in
     let all : count_before grid.per grid.columns cs ≡ length cs = all_before (end_of lines) (grid.columns * grid.per) cs (spans timed (end_of lines)) inside in
     ap (λ (xs : List Told). fold (λ k (t : Told). reported mote image k t.report) nothing xs) (ap (λ n. take n cs) all ∙ take_all (length cs) cs (omega arith))
     ∙ told_changes (rows_of (told_of lines)) mote image (told_of lines) holds

@@ -2,7 +2,7 @@
 ghost use Rattle.std.specs.Prelude.{◌≡◌, ℕ, ◌≤◌, ◌<◌, Bool, true, List};
 ghost use Rattle.std.specs.List.{AllByRecursion, list_any};
 ghost use Rattle.dg_story.specs.Lines.{told_of, end_of};
-ghost use Rattle.dg_story.specs.Reports.{is_change_of, last_reported};
+ghost use Rattle.dg_story.specs.Reports.{is_change_of, last_reported, report_motes, report_image};
 ghost use Rattle.dg_picture.specs.Layout.{grid_of, left_of, shown, rows_of, lane_bottom, foot, changes_of};
 ghost use Rattle.dg_picture.specs.Texts.{height_to};
 ghost use Rattle.dg_story.specs.Reading.{IsLineOf};
@@ -10,8 +10,10 @@ ghost use Rattle.dg_story.specs.declared.lines.Line.{Line};
 ghost use Rattle.dg_story.specs.declared.told.Told.{Told};
 
 /// The picture of a replay is at most 1,000 units high, however many lines there are, and its columns end within 1,300 units.
-/// The lanes of all images at all motes that are told lie within the rows.
+/// Each mote and each image that is told has a row and a lane, and the lanes lie within the rows.
 pub fn a_picture_fits()
+    ensures rows { (told : List Told) → AllByRecursion (λ (t : Told). report_motes t.report ≤ (rows_of told).rows) told }
+    ensures lanes { (told : List Told) → AllByRecursion (λ (t : Told). report_image t.report ≤ (rows_of told).images) told }
     ensures low { (told : List Told) (mote image : ℕ) → mote < (rows_of told).rows → image ≤ (rows_of told).images
         → lane_bottom (rows_of told) mote image ≤ foot (rows_of told) }
     ensures high { (timed : Bool) (lines : List Line) → AllByRecursion (IsLineOf timed) lines

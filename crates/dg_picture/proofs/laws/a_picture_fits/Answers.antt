@@ -1,5 +1,11 @@
-use Rattle.dg_picture.proofs.LawLemmas.{low, high, wide}
+use Rattle.dg_picture.proofs.LawLemmas.{rows, lanes, low, high, wide}
 use Rattle.dg_picture.proofs.laws.a_picture_fits.Goals as goal
+
+pub returns-clause-rows : goal.returns-clause-rows
+returns-clause-rows c = rows
+
+pub returns-clause-lanes : goal.returns-clause-lanes
+returns-clause-lanes c = lanes
 
 pub returns-clause-low : goal.returns-clause-low
 returns-clause-low c = low
