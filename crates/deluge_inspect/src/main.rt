@@ -2,24 +2,21 @@
 //! lengthens none.
 #![tactic(auto)]
 
-ghost use Rattle.std.specs.Prelude.{ℕ, List, IfOk};
+ghost use Rattle.std.specs.Prelude.{◌≡◌, ◌⊎◌, ◌↔◌, ℕ, List, IfOk, IfErr, IsTrue};
 ghost use Rattle.dg_inspect.specs.Files.{ShowsFile};
+ghost use Rattle.deluge_inspect.specs.Status.{status_of, IsSoundVerdict, Verifies, Contrasts};
 
+mod reading;
+
+use crate::reading::{MOST_READS, read_settled, words};
 use dg_compare::{Compared, Comparison, Rooted, Side, Verdict, compare, verify};
 use dg_inspect::{ChipSeen, FileSeen, LookFault, inspect, next_numbers};
 use dg_inspect_text::{
-    Asked, Moment, Report, Request, comparison_data, comparison_lines, file_line, next_data,
-    next_lines, read_words, report_lines, reports_data, verdict_data, verdict_line,
+    Asked, Moment, Report, Request, comparison_json, comparison_lines, file_line, next_json,
+    next_lines, read_words, report_lines, reports_json, verdict_json, verdict_line,
 };
-use dg_nor::CHIP_SIZE;
-use serde_json::Value;
 use std::alloc::AllocError;
-use std::env::Args;
-use std::fs::{Metadata, OpenOptions};
-use std::io::{ErrorKind, Read};
 use std::process::ExitCode;
-use std::time::UNIX_EPOCH;
-use std::{env, io};
 
 const HELP: &str = "\
 deluge_inspect: looks into the files of chips, and changes none
@@ -44,20 +41,13 @@ Options:
 
 const VERSION: &str = "deluge_inspect 0.9\n";
 
-/// The most often that a file is read.
-const MOST_READS: u8 = 10;
-
-/// One byte more than a chip has: what stands behind them in a file is not read.
-const MOST_BYTES: u64 = CHIP_SIZE as u64 + 1;
-
-/// Words of which one is not UTF-8 stand for this one, which is no command.
-const NOT_TEXT: &str = "\u{fffd}";
-
 /// Why the program ends before its work is done.
 #[derive(Clone, Copy, Debug, PartialEq, Eq)]
 enum Stop {
     /// Memory ran out.
     Memory,
+    /// The words are no command.
+    Usage,
     /// The output could not be written.
     Write,
     /// A file could not be read. Standard error tells which one, and why.
@@ -67,9 +57,10 @@ enum Stop {
 }
 
 impl From<AllocError> for Stop {
-    ghost use Rattle.std.specs.Prelude.{⊤};
+    ghost use Rattle.std.specs.Prelude.{◌≡◌};
+    ghost use Rattle.deluge_inspect.specs.declared.Stop.{Stop};
 
-    ghost from_gives = { λ _ _. ⊤ };
+    ghost from_gives = { λ _ stop. stop ≡ Stop.Memory };
 
     fn from(_error: AllocError) -> Stop {
         Stop::Memory
@@ -88,98 +79,24 @@ const WRITE_FAULT: u8 = 5;
 
 const FILE_FAULT: u8 = 6;
 
-impl Stop {
-    /// The status of the program.
-    fn status(self) -> u8 {
-        match self {
-            Stop::Memory | Stop::NotSo => NOT_SO,
-            Stop::Write => WRITE_FAULT,
-            Stop::File => FILE_FAULT,
-        }
+/// The status that an end gives.
+fn status_of(end: Result<(), Stop>) -> u8
+    ensures { result ≡ status_of end }
+{
+    match end {
+        Ok(()) => DONE,
+        Err(Stop::NotSo) => NOT_SO,
+        Err(Stop::Memory) => NOT_SO,
+        Err(Stop::Usage) => USAGE,
+        Err(Stop::Write) => WRITE_FAULT,
+        Err(Stop::File) => FILE_FAULT,
     }
-}
-
-/// The words after the program's name. None where memory runs out.
-fn words(rt: &HostRuntime) -> Option<Vec<String>> {
-    match env::args(rt) {
-        Ok(args) => after_name(rt, args),
-        Err(error) if error.kind() == ErrorKind::InvalidData => no_command(rt),
-        Err(_) => None,
-    }
-}
-
-/// All words but the first.
-fn after_name(rt: &HostRuntime, args: Args) -> Option<Vec<String>> {
-    let mut words = Vec::new(rt.alloc());
-    for word in args.skip(1) {
-        words.push(word).ok()?;
-    }
-    Some(words)
-}
-
-/// Words that are no command.
-fn no_command(rt: &HostRuntime) -> Option<Vec<String>> {
-    let mut words = Vec::new(rt.alloc());
-    let word = String::from_str(rt.alloc(), NOT_TEXT).ok()?;
-    words.push(word).ok()?;
-    Some(words)
-}
-
-/// What one read of a file gave: its bytes, and what the system tells of it.
-#[derive(Drop)]
-struct Copied {
-    bytes: Vec<u8>,
-    length: u64,
-    modified: Option<u64>,
-}
-
-/// When a file was changed last, in seconds since the beginning of 1970, where the system tells it.
-fn changed_at(metadata: &Metadata) -> Option<u64> {
-    let modified = metadata.modified().ok()?;
-    let since = modified.duration_since(UNIX_EPOCH).ok()?;
-    Some(since.as_secs())
-}
-
-/// The bytes of a file as they stand now, those behind a chip's aside.
-fn read_once(rt: &HostRuntime, name: &str) -> io::Result<Copied> {
-    let file = OpenOptions::new().read(true).open(rt, name)?;
-    let metadata = file.metadata()?;
-    let mut bytes = Vec::new(rt.alloc());
-    file.take(MOST_BYTES).read_to_end(&mut bytes)?;
-    Ok(Copied {
-        bytes,
-        length: metadata.len(),
-        modified: changed_at(&metadata),
-    })
-}
-
-/// The moment of a file that was read so often.
-fn moment_of(copied: &Copied, reads: u8, settled: bool) -> Moment {
-    Moment {
-        length: copied.length,
-        modified: copied.modified,
-        reads,
-        settled,
-    }
-}
-
-/// The bytes of a file, and the moment that was seen: it is read until two reads in a row give the same, or ten times.
-fn read_settled(rt: &HostRuntime, name: &str) -> io::Result<(Vec<u8>, Moment)> {
-    let mut last = read_once(rt, name)?;
-    for reads in 2..MOST_READS + 1 {
-        let again = read_once(rt, name)?;
-        if again.bytes == last.bytes {
-            let seen = moment_of(&again, reads, true);
-            return Ok((again.bytes, seen));
-        }
-        last = again;
-    }
-    let seen = moment_of(&last, MOST_READS, false);
-    Ok((last.bytes, seen))
 }
 
 /// The bytes of a file, and the moment that was seen. Where it cannot be read, standard error tells why.
-fn read(rt: &HostRuntime, name: &str) -> Result<(Vec<u8>, Moment), Stop> {
+fn read(rt: &HostRuntime, name: &str) -> Result<(Vec<u8>, Moment), Stop>
+    ensures { IfErr result (λ stop. stop ≡ Stop.File) }
+{
     match read_settled(rt, name) {
         Ok((bytes, moment)) => {
             if !moment.settled {
@@ -212,7 +129,9 @@ fn see(rt: &HostRuntime, name: &str) -> Result<Report, Stop>
 }
 
 /// Why a file was not seen, where its bytes were read.
-fn not_seen(rt: &HostRuntime, name: &str, fault: LookFault) -> Stop {
+fn not_seen(rt: &HostRuntime, name: &str, fault: LookFault) -> Stop
+    ensures { (result ≡ Stop.Memory) ⊎ (result ≡ Stop.File) }
+{
     match fault {
         LookFault::Memory => Stop::Memory,
         LookFault::Stopped => {
@@ -223,30 +142,27 @@ fn not_seen(rt: &HostRuntime, name: &str, fault: LookFault) -> Stop {
 }
 
 /// Tells that a file holds no volume.
-fn no_volume(rt: &HostRuntime, name: &str) -> Stop {
+fn no_volume(rt: &HostRuntime, name: &str) -> Stop
+    ensures { result ≡ Stop.NotSo }
+{
     let _ = eprintln!(rt; "deluge_inspect: {name}: it holds no volume");
     Stop::NotSo
 }
 
 /// Writes a text to standard output.
-fn write(rt: &HostRuntime, text: &str) -> Result<(), Stop> {
+fn write(rt: &HostRuntime, text: &str) -> Result<(), Stop>
+    ensures { IfErr result (λ stop. stop ≡ Stop.Write) }
+{
     match rt.print(text) {
         Ok(()) => Ok(()),
         Err(_) => Err(Stop::Write),
     }
 }
 
-/// Writes JSON, as a line.
-fn write_data(rt: &HostRuntime, data: &Value) -> Result<(), Stop> {
-    let text = data.to_string(rt.alloc())?;
-    write(rt, text.as_str())?;
-    write(rt, "\n")
-}
-
 /// Writes what is seen of files.
 fn write_reports(rt: &HostRuntime, reports: &[Report], json: bool) -> Result<(), Stop> {
     if json {
-        return write_data(rt, &reports_data(rt.alloc(), reports)?);
+        return write(rt, reports_json(rt.alloc(), reports)?.as_str());
     }
     for report in reports {
         let lines = report_lines(rt.alloc(), report)?;
@@ -285,10 +201,41 @@ fn next(rt: &HostRuntime, name: &str, json: bool) -> Result<(), Stop> {
     };
     let numbers = next_numbers(volume);
     if json {
-        return write_data(rt, &next_data(rt.alloc(), &numbers)?);
+        return write(rt, next_json(rt.alloc(), &numbers)?.as_str());
     }
     let lines = next_lines(rt.alloc(), &numbers)?;
     write(rt, lines.as_str())
+}
+
+/// Writes a verdict on the chip in a file.
+fn write_verdict(
+    rt: &HostRuntime,
+    name: &str,
+    moment: &Moment,
+    verdict: Verdict,
+    json: bool,
+) -> Result<(), Stop>
+    ensures { IfErr result (λ stop. (stop ≡ Stop.Memory) ⊎ (stop ≡ Stop.Write)) }
+{
+    if json {
+        return write(
+            rt,
+            verdict_json(rt.alloc(), name, moment, verdict)?.as_str(),
+        );
+    }
+    write(rt, file_line(rt.alloc(), name, moment)?.as_str())?;
+    write(rt, verdict_line(rt.alloc(), verdict)?.as_str())
+}
+
+/// Whether a verdict is sound.
+fn is_sound(verdict: Verdict) -> bool
+    ensures { IsTrue result ↔ IsSoundVerdict verdict }
+{
+    match verdict {
+        Verdict::Sound => true,
+        Verdict::Flawed(_) => false,
+        Verdict::NoVolume => false,
+    }
 }
 
 /// Tells whether the chip in a file is sound.
@@ -297,51 +244,75 @@ fn verify_file(
     name: &str,
     rooted: &Option<Rooted>,
     json: bool,
-) -> Result<(), Stop> {
+) -> Result<(), Stop>
+    ensures { Verifies rooted.now result }
+{
     let (bytes, moment) = read(rt, name)?;
     let verdict = match verify(rt.alloc(), &bytes, rooted) {
         Ok(verdict) => verdict,
         Err(fault) => return Err(not_seen(rt, name, fault)),
     };
-    if json {
-        write_data(rt, &verdict_data(rt.alloc(), name, &moment, verdict)?)?;
-    } else {
-        write(rt, file_line(rt.alloc(), name, &moment)?.as_str())?;
-        write(rt, verdict_line(rt.alloc(), verdict)?.as_str())?;
-    }
-    match verdict {
-        Verdict::Sound => Ok(()),
-        _ => Err(Stop::NotSo),
-    }
-}
-
-/// Writes how the chips in two files stand to each other.
-fn write_comparison(rt: &HostRuntime, found: &Comparison, json: bool) -> Result<(), Stop> {
-    if json {
-        write_data(rt, &comparison_data(rt.alloc(), found)?)?;
-    } else {
-        write(rt, comparison_lines(rt.alloc(), found)?.as_str())?;
-    }
-    if found.alike {
+    write_verdict(rt, name, &moment, verdict, json)?;
+    if is_sound(verdict) {
         Ok(())
     } else {
         Err(Stop::NotSo)
     }
 }
 
+/// Writes the moments of two files.
+fn write_moments(
+    rt: &HostRuntime,
+    first: &str,
+    moment: &Moment,
+    second: &str,
+    other: &Moment,
+) -> Result<(), Stop>
+    ensures { IfErr result (λ stop. (stop ≡ Stop.Memory) ⊎ (stop ≡ Stop.Write)) }
+{
+    write(rt, file_line(rt.alloc(), first, moment)?.as_str())?;
+    write(rt, file_line(rt.alloc(), second, other)?.as_str())
+}
+
+/// Writes JSON of how the chips in two files stand to each other.
+fn write_comparison(
+    rt: &HostRuntime,
+    first: &str,
+    moment: &Moment,
+    second: &str,
+    other: &Moment,
+    found: &Comparison,
+) -> Result<(), Stop>
+    ensures { IfErr result (λ stop. (stop ≡ Stop.Memory) ⊎ (stop ≡ Stop.Write)) }
+{
+    let line = comparison_json(rt.alloc(), first, moment, second, other, found)?;
+    write(rt, line.as_str())
+}
+
 /// Tells how the chips in two files stand to each other.
-fn compare_files(rt: &HostRuntime, first: &str, second: &str, json: bool) -> Result<(), Stop> {
+fn compare_files(rt: &HostRuntime, first: &str, second: &str, json: bool) -> Result<(), Stop>
+    ensures { Contrasts result }
+{
     let (bytes, moment) = read(rt, first)?;
     let (other_bytes, other_moment) = read(rt, second)?;
     if !json {
-        write(rt, file_line(rt.alloc(), first, &moment)?.as_str())?;
-        write(rt, file_line(rt.alloc(), second, &other_moment)?.as_str())?;
+        write_moments(rt, first, &moment, second, &other_moment)?;
     }
-    match compare(rt.alloc(), &bytes, &other_bytes) {
-        Ok(Compared::Volumes(found)) => write_comparison(rt, &found, json),
-        Ok(Compared::NoVolume(Side::First)) => Err(no_volume(rt, first)),
-        Ok(Compared::NoVolume(Side::Second)) => Err(no_volume(rt, second)),
-        Err(fault) => Err(not_seen(rt, first, fault)),
+    let found = match compare(rt.alloc(), &bytes, &other_bytes) {
+        Ok(Compared::Volumes(found)) => found,
+        Ok(Compared::NoVolume(Side::First)) => return Err(no_volume(rt, first)),
+        Ok(Compared::NoVolume(Side::Second)) => return Err(no_volume(rt, second)),
+        Err(fault) => return Err(not_seen(rt, first, fault)),
+    };
+    if json {
+        write_comparison(rt, first, &moment, second, &other_moment, &found)?;
+    } else {
+        write(rt, comparison_lines(rt.alloc(), &found)?.as_str())?;
+    }
+    if found.alike {
+        Ok(())
+    } else {
+        Err(Stop::NotSo)
     }
 }
 
@@ -355,40 +326,29 @@ fn answer(rt: &HostRuntime, request: &Request<'_>, json: bool) -> Result<(), Sto
     }
 }
 
-/// The status that an end gives.
-fn status_of(end: Result<(), Stop>) -> u8 {
-    match end {
-        Ok(()) => DONE,
-        Err(stop) => stop.status(),
-    }
-}
-
-/// How the program ends with these words.
-fn run(rt: &HostRuntime, words: &[String]) -> u8 {
-    let Ok(asked) = read_words(rt.alloc(), words) else {
-        return NOT_SO;
-    };
-    match asked {
-        Asked::Request { request, json } => status_of(answer(rt, &request, json)),
-        Asked::Help => status_of(write(rt, HELP)),
-        Asked::Version => status_of(write(rt, VERSION)),
+/// Does what words ask for.
+fn run(rt: &HostRuntime, words: &[String]) -> Result<(), Stop> {
+    match read_words(rt.alloc(), words)? {
+        Asked::Request { request, json } => answer(rt, &request, json),
+        Asked::Help => write(rt, HELP),
+        Asked::Version => write(rt, VERSION),
         Asked::Wrong(word) => {
             let _ = eprintln!(rt; "deluge_inspect: {word} is wrong: try deluge_inspect --help");
-            USAGE
+            Err(Stop::Usage)
         }
         Asked::Count => {
             let _ = rt.eprintln(
                 "deluge_inspect: a word is missing, or one is too many: try --help",
             );
-            USAGE
+            Err(Stop::Usage)
         }
     }
 }
 
 fn main(rt: HostRuntime) -> ExitCode {
-    let status = match words(&rt) {
-        None => NOT_SO,
+    let end = match words(&rt) {
+        None => Err(Stop::Memory),
         Some(words) => run(&rt, &words),
     };
-    ExitCode::from(status)
+    ExitCode::from(status_of(end))
 }

@@ -1,9 +1,14 @@
 //! Words for what is seen.
-use dg_compare::Side;
-use dg_inspect::{Condition, OrderState, StartReason};
+ghost use Rattle.std.specs.Prelude.{◌≡◌};
+ghost use Rattle.dg_inspect_text.specs.Json.{condition_word, order_word, reason_word, side_word, kind_word, verdict_word};
+
+use dg_compare::{Side, Verdict};
+use dg_inspect::{Condition, FileSeen, OrderState, StartReason};
 
 /// The condition of a volume that a chip does not meet.
-pub fn condition_text(condition: Condition) -> &'static str {
+pub fn condition_text(condition: Condition) -> &'static str
+    ensures { result.now ≡ condition_word condition }
+{
     match condition {
         Condition::Ledger => "ledger",
         Condition::Snapshot => "snapshot",
@@ -15,7 +20,9 @@ pub fn condition_text(condition: Condition) -> &'static str {
 }
 
 /// What becomes of an order.
-pub fn order_text(state: OrderState) -> &'static str {
+pub fn order_text(state: OrderState) -> &'static str
+    ensures { result.now ≡ order_word state }
+{
     match state {
         OrderState::Absent => "none",
         OrderState::Waived => "waived",
@@ -27,7 +34,9 @@ pub fn order_text(state: OrderState) -> &'static str {
 }
 
 /// Why a start runs what it runs.
-pub fn reason_text(reason: StartReason) -> &'static str {
+pub fn reason_text(reason: StartReason) -> &'static str
+    ensures { result.now ≡ reason_word reason }
+{
     match reason {
         StartReason::ShortStarts => "short starts",
         StartReason::Order => "order",
@@ -37,9 +46,34 @@ pub fn reason_text(reason: StartReason) -> &'static str {
 }
 
 /// Which of two chips.
-pub fn side_text(side: Side) -> &'static str {
+pub fn side_text(side: Side) -> &'static str
+    ensures { result.now ≡ side_word side }
+{
     match side {
         Side::First => "first",
         Side::Second => "second",
+    }
+}
+
+/// What a file is.
+pub(crate) fn kind_text(seen: &FileSeen) -> &'static str
+    ensures { result.now ≡ kind_word seen.now }
+{
+    match seen {
+        FileSeen::Other => "other",
+        FileSeen::Blank => "blank",
+        FileSeen::Chip { older: true, .. } => "older chip",
+        FileSeen::Chip { older: false, .. } => "chip",
+    }
+}
+
+/// The word of a verdict.
+pub(crate) fn verdict_text(verdict: Verdict) -> &'static str
+    ensures { result.now ≡ verdict_word verdict }
+{
+    match verdict {
+        Verdict::Sound => "sound",
+        Verdict::Flawed(_) => "not sound",
+        Verdict::NoVolume => "no volume",
     }
 }
