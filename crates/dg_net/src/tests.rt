@@ -228,12 +228,12 @@ fn a_scaled_turn_is_as_much_shorter(rt: HostRuntime) -> Result<(), Fail> {
     let alloc = rt.alloc();
     let mut clock = SystemClock::scaled(&rt, 8);
     let port = free_port(&rt, alloc, process::id(rt.process()));
-    let mut link = MoteLink::new(&rt, 2, 8);
+    let mut link = MoteLink::new(&rt, 0, 8);
     let mut into = [0; LONGEST_FRAME];
-    link.open(alloc, port, 4)?;
+    link.open(alloc, port, 1)?;
     let before = clock.read();
     for _ in 0..50 {
-        assert_eq!(rt; link.receive(2, &mut into)?, None);
+        assert_eq!(rt; link.receive(0, &mut into)?, None);
     }
     let passed = clock.read().saturating_sub(before);
     // 49 turns of 2 ms, each of which the clock tells as 8; a machine under load makes them longer
