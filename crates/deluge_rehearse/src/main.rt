@@ -12,7 +12,8 @@ mod words;
 use dg_base::{Bytes, MOST_INPUT, MOST_MOTES, Status, StdSource};
 use dg_ihex::read_ihex;
 use dg_input::{ReadStop, read_whole};
-use dg_netcfg::{NetProfile, read_profile};
+use dg_messages::{Told, push_sentence};
+use dg_netcfg::{NetProfile, ProfileFault, read_profile};
 use dg_nor::Board;
 use dg_rehearse::{Ending, Plan, Rehearsal, Stop, rehearse};
 use std::alloc::AllocError;
@@ -45,13 +46,21 @@ Options:
   --help        writes this text
   --version     writes the version
 
-Statuses: 0 every mote has it, 8 the time was over before, 2 usage, 3 bad input, 4 read, 5 write, 6 the profile's file.
+Statuses: 0 every mote has it, 8 the time was over before, 1 out of memory, 2 usage, 3 bad input, 4 a read failed, 5 a
+write failed, 6 the profile's file or a chip failed, 10 the input or the script is too long, 11 too many events.
 ";
 
 const VERSION: &str = "deluge_rehearse 0.9\n";
 
 /// What is told of an image that cannot be injected.
-const SIZE: &str = "the image is empty, or has more than 70,656 bytes";
+const SIZE: &str =
+    "standard input: the image is empty, or has more than 70,656 bytes; make one of 1 to 70,656";
+
+/// What is told where memory ran out.
+const MEMORY: &str = "memory ran out; give the program more of it";
+
+/// What standard input is called.
+const INPUT: &str = "standard input";
 
 /// The longest profile that is read, in bytes.
 const MOST_PROFILE: u64 = 16_777_217;
@@ -60,6 +69,21 @@ const MOST_PROFILE: u64 = 16_777_217;
 fn fail(rt: &HostRuntime, cause: &str, status: Status) -> Status {
     let _ = eprintln!(rt; "deluge_rehearse: {cause}");
     status
+}
+
+/// Tells on standard error what is wrong with an input, and what to do, and answers the status.
+fn bad_input(rt: &HostRuntime, place: &str, told: &Told<'_>) -> Status {
+    let mut text = Vec::new(rt.alloc());
+    let Ok(()) = push_sentence(rt.alloc(), &mut text, told) else {
+        return fail(rt, MEMORY, Status::Memory);
+    };
+    match str::from_utf8(text.as_slice()) {
+        Ok(sentence) => {
+            let _ = eprintln!(rt; "deluge_rehearse: {place}: {sentence}");
+            Status::BadInput
+        }
+        Err(_) => fail(rt, place, Status::BadInput),
+    }
 }
 
 /// The bytes of a file.
@@ -83,10 +107,8 @@ fn profile(rt: &HostRuntime, name: &str) -> Result<NetProfile, Status>
     };
     match read_profile(rt.alloc(), bytes.as_slice()) {
         Ok(profile) => Ok(profile),
-        Err(fault) => {
-            let _ = eprintln!(rt; "deluge_rehearse: {name}: profile {fault}");
-            Err(Status::BadInput)
-        }
+        Err(ProfileFault::Memory) => Err(fail(rt, MEMORY, Status::Memory)),
+        Err(fault) => Err(bad_input(rt, name, &Told::Profile(fault))),
     }
 }
 
@@ -95,7 +117,7 @@ fn image(rt: &HostRuntime) -> Result<Vec<u8>, Status> {
     let mut input = StdSource::new(rt.stdin());
     let text = match read_whole(rt.alloc(), &mut input) {
         Ok(text) => text,
-        Err(ReadStop::Memory) => return Err(fail(rt, "out of memory", Status::Memory)),
+        Err(ReadStop::Memory) => return Err(fail(rt, MEMORY, Status::Memory)),
         Err(ReadStop::ReadFault) => {
             return Err(fail(rt, "standard input: a read failed", Status::ReadFault));
         }
@@ -112,8 +134,7 @@ fn image(rt: &HostRuntime) -> Result<Vec<u8>, Status> {
         Err(fault) => {
             let line = fault.line;
             let cause = fault.cause;
-            let _ = eprintln!(rt; "deluge_rehearse: standard input: line {line} {cause}");
-            Err(Status::BadInput)
+            Err(bad_input(rt, INPUT, &Told::Hex { cause, line }))
         }
     }
 }
@@ -185,14 +206,18 @@ fn play(rt: &HostRuntime, profile: &NetProfile, plan: &Plan) -> Status
     requires declared { IsDeclared (planned_row plan.now) }
 {
     let Ok(mut boards) = boards(rt) else {
-        return fail(rt, "out of memory", Status::Memory);
+        return fail(rt, MEMORY, Status::Memory);
     };
     match rehearse(rt.alloc(), profile, plan, &mut boards) {
         Ok(rehearsal) => told(rt, &rehearsal),
-        Err(Stop::Memory) => fail(rt, "out of memory", Status::Memory),
+        Err(Stop::Memory) => fail(rt, MEMORY, Status::Memory),
         Err(Stop::Flash) => fail(rt, "a chip stopped", Status::FlashFault),
         Err(Stop::NoBoard) => fail(rt, "fewer chips than motes", Status::NoBoard),
-        Err(Stop::NoMote) => fail(rt, "--at is no mote of the profile", Status::BadInput),
+        Err(Stop::NoMote) => fail(
+            rt,
+            "--at: no mote of the profile has this number; the first is 0",
+            Status::BadInput,
+        ),
         Err(Stop::Size) => fail(rt, SIZE, Status::BadInput),
     }
 }
@@ -217,7 +242,7 @@ fn done(rt: &HostRuntime) -> Status {
         Ok(Asked::Help) => write(rt, HELP),
         Ok(Asked::Version) => write(rt, VERSION),
         Ok(Asked::Other) => fail(rt, "try deluge_rehearse --help", Status::Usage),
-        Err(AllocError) => fail(rt, "out of memory", Status::Memory),
+        Err(AllocError) => fail(rt, MEMORY, Status::Memory),
     }
 }
 
