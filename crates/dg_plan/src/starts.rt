@@ -4,7 +4,8 @@ ghost use Rattle.dg_volume.specs.Store.{Store};
 ghost use Rattle.dg_volume.specs.Stands.{Stands, IsNoVolume};
 ghost use Rattle.dg_volume.specs.Start.{boot};
 ghost use Rattle.dg_volume.specs.Acts.{Stops};
-ghost use Rattle.dg_boot.specs.Started.{Starts};
+ghost use Rattle.dg_nor.specs.Reads.{ActStopped};
+ghost use Rattle.dg_boot.specs.Started.{Starts, Lacks};
 ghost use Rattle.dg_plan.specs.Plans.{planned, lists_of, plan_device};
 ghost use Rattle.dg_plan.specs.Acts.{IsPlanOf};
 
@@ -18,6 +19,9 @@ pub fn start(plan: &mut Plan<'_>, kind: Kind) -> Result<Started, BootFault>
         × IsPlanOf (boot kind s).trail plan.old plan.new) }
     ensures same_lists { lists_of plan.new ≡ lists_of plan.old }
     ensures no_volume { result ≡ Err BootFault.NotAVolume → IsNoVolume (planned plan.old) }
+    ensures no_image { result ≡ Err BootFault.NoImage → (s : Store) → Stands (planned plan.old) s
+        → Lacks (boot kind s) (plan_device plan.old) (plan_device plan.new) }
+    ensures cause { result ≡ Err BootFault.Stopped → ActStopped (plan_device plan.old) (plan_device plan.new) }
     ensures stopped { result ≡ Err BootFault.Stopped → (s : Store) → Stands (planned plan.old) s
         → Stops (boot kind s).trail (plan_device plan.old) (plan_device plan.new) }
 {
