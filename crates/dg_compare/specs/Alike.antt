@@ -1,4 +1,4 @@
--- How two chips stand to each other (docs/COMMANDS.md, "Looking into chips").
+-- How two chips compare (docs/COMMANDS.md, "Looking into chips").
 use Rattle.std.specs.Prelude.{◌≡◌, ◌≢◌, ◌↔◌, ℕ, ◌<◌, ◌==◌, ◌&&◌, ◌||◌, nat_le, nat_lt, not, Bool, false, if◌then◌else◌, IsTrue}
 use Rattle.std.specs.Prelude.{List, [], length, slice_index_or, Option, Some, None, IsSomeAnd}
 use Rattle.dg_slot.specs.Kept.{Held}
@@ -36,7 +36,7 @@ two_profiles None b = false
 two_profiles (Some h) None = false
 two_profiles (Some h) (Some g) = (h.version == g.version) && not ((h.pages == g.pages) && (h.crc == g.crc))
 
--- the one that is ahead, of two that have so many commits left
+-- the one that is ahead, of two that have this many commits left
 abbrev pub leads : Option Held → Option Held → (room other : ℕ) → Option Ahead
 leads a b room other =
     if keeps_more a b
@@ -47,7 +47,7 @@ leads a b room other =
 
 -- ---- what both have
 
--- the pages that stand in both lists are equal, or the first that differs is this one
+-- the pages that are in both lists are equal, or the first that differs is this one
 abbrev pub PagesShared : List (List ℕ) → List (List ℕ) → SharedPages → Type 0
 PagesShared xs ys Nothing = ⊥
 PagesShared xs ys Equal =

@@ -18,7 +18,7 @@ use dg_control::IMAGES;
 use dg_inspect::{LookFault, StillChip, VolumeSeen};
 use std::alloc::{AllocError, Global};
 
-/// How two chips stand to each other in an image.
+/// How two chips compare in an image.
 fn compare_image(
     one: &StillChip,
     seen: &VolumeSeen,
@@ -42,7 +42,7 @@ fn compare_image(
     }
 }
 
-/// How two chips stand to each other in each image.
+/// How two chips compare in each image.
 fn compare_images(
     alloc: Global,
     one: &StillChip,
@@ -78,7 +78,7 @@ fn all_three(images: bool, program: bool, order: bool) -> bool
     images && program && order
 }
 
-/// How two volumes stand to each other.
+/// How two volumes compare.
 fn compare_volumes(
     alloc: Global,
     one: &StillChip,
@@ -105,7 +105,7 @@ fn compare_volumes(
     })
 }
 
-/// How the chips in two files stand to each other: for each image which of them is ahead, as completion counts, and whether the
+/// How the chips in two files compare: for each image which of them is ahead, as completion counts, and whether the
 /// pages that both keep of one version are equal, byte for byte; likewise program memory and the order.
 pub fn compare(alloc: Global, first: &[u8], second: &[u8]) -> Result<Compared, LookFault>
     ensures compares { IfOk result (ComparesFiles first.now second.now) }

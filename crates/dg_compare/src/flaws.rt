@@ -1,4 +1,4 @@
-//! What is not sound of what is seen.
+//! What is not sound in a chip.
 ghost use Rattle.std.specs.Prelude.{◌≡◌, ◌↔◌, ℕ, ◌<◌, List, length, drop, None, Option, IfSome, IsSomeAnd, IsTrue, MatchOption};
 ghost use Rattle.std.specs.Prelude.{slice_index_or};
 ghost use Rattle.dg_slot.specs.Kept.{Held, KeepsImage};

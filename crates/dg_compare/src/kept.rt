@@ -41,14 +41,14 @@ fn has_two_profiles(one: &Option<ImageSeen>, other: &Option<ImageSeen>) -> bool
     one.version == other.version && !(one.pages == other.pages && one.crc == other.crc)
 }
 
-/// Whether so many commits are enough to begin another version.
+/// Whether this many commits are enough to begin another version.
 fn has_room(room: u32) -> bool
     ensures { result ≡ nat_le most_take_commits room }
 {
     TAKE_COMMITS <= room
 }
 
-/// Which chip is ahead, of two that have so many commits left.
+/// Which chip is ahead, of two that have this many commits left.
 pub(crate) fn ahead(
     one: &Option<ImageSeen>,
     other: &Option<ImageSeen>,

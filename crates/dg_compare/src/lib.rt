@@ -1,4 +1,4 @@
-//! Whether what a chip keeps is sound, and how two chips stand to each other. Both are only read.
+//! Whether what a chip keeps is sound, and how two chips compare. Both are only read.
 #![tactic(auto)]
 
 mod comparing;

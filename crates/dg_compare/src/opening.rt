@@ -12,7 +12,7 @@ pub(crate) struct Opened {
     pub(crate) volume: VolumeSeen,
 }
 
-/// The volume that the bytes of a file are. None where they are none.
+/// The volume that the bytes of a file are. None where they are not one.
 pub(crate) fn open(alloc: Global, bytes: &[u8]) -> Result<Option<Opened>, LookFault>
     ensures opens { IfOk result (λ found. IfSome found (ShowsVolume bytes.now)) }
     ensures none { IfOk result (λ found. IsNone found → IsVolumeFile bytes.now → ⊥) }

@@ -42,7 +42,7 @@ fn is_waived_alike(waived: bool, other: bool) -> bool
     if waived { other } else { !other }
 }
 
-/// How the orders of two chips stand to each other.
+/// How the orders of two chips compare.
 pub(crate) fn compare_orders(one: &VolumeSeen, other: &VolumeSeen) -> OrderCompared
     ensures { (s t : Store) → ShowsStore s one.now → ShowsStore t other.now → ComparesOrder s t result }
 {

@@ -60,7 +60,7 @@ fn is_set_alike(one: &Option<ProgramSeen>, other: &Option<ProgramSeen>, shared: 
     is_equal(shared) && one.pages.descriptor.pages == other.pages.descriptor.pages
 }
 
-/// How the program memories of two chips stand to each other.
+/// How the program memories of two chips compare.
 pub(crate) fn compare_programs(
     one: &StillChip,
     other: &StillChip,

@@ -25,7 +25,7 @@ pub enum Verdict {
     Sound,
     /// The first that is not sound: images by their number, then program memory, then the root.
     Flawed(Flaw),
-    /// They are no chip, or one that is no volume.
+    /// They are not a chip, or one that is not a volume.
     NoVolume,
 }
 
@@ -58,7 +58,7 @@ pub enum SharedPages {
     Differ { page: u8 },
 }
 
-/// How two chips stand to each other in an image.
+/// How two chips compare in an image.
 #[derive(Clone, Copy)]
 pub struct ImageCompared {
     /// None where neither is ahead.
@@ -68,7 +68,7 @@ pub struct ImageCompared {
     pub alike: bool,
 }
 
-/// How the program memories of two chips stand to each other.
+/// How the program memories of two chips compare.
 #[derive(Clone, Copy)]
 pub struct ProgramCompared {
     pub shared: SharedPages,
@@ -76,7 +76,7 @@ pub struct ProgramCompared {
     pub alike: bool,
 }
 
-/// How the orders of two chips stand to each other.
+/// How the orders of two chips compare.
 #[derive(Clone, Copy)]
 pub struct OrderCompared {
     /// The chip with the larger number. None where they are equal.
@@ -85,7 +85,7 @@ pub struct OrderCompared {
     pub alike: bool,
 }
 
-/// How two chips stand to each other.
+/// How two chips compare.
 #[derive(Drop)]
 pub struct Comparison {
     /// Of each image, by its number.
@@ -100,6 +100,6 @@ pub struct Comparison {
 #[derive(Drop)]
 pub enum Compared {
     Volumes(Comparison),
-    /// The first of the files that holds no volume.
+    /// The first of the files that is not a volume.
     NoVolume(Side),
 }

@@ -1,4 +1,4 @@
--- What is told of chips as JSON (docs/COMMANDS.md, "Looking into chips"). Members stand in the order of their names.
+-- Reports on chips as JSON (docs/COMMANDS.md, "Looking into chips"). Members are in the order of their names.
 use Rattle.std.specs.Prelude.{ℕ, ◌+◌, ◌==◌, Bool, true, false, if◌then◌else◌, List, [], ◌∷◌, ◌++◌, map, drop}
 use Rattle.std.specs.Prelude.{Option, Some, None, codes, string_bytes}
 use Rattle.std.specs.List.{filter, range_with_len}
@@ -312,7 +312,7 @@ order_compared_json x = object
     (member (codes "ahead") (or_null side_json x.ahead)
     (member (codes "alike") (boolean x.alike) no_members))
 
--- a file, and the moment of it that was seen
+-- a file, and the moment at which it was read
 abbrev pub source_json : (name : List ℕ) → Moment → Data
 source_json name moment = object
     (member (codes "file") (string name)
@@ -321,7 +321,7 @@ source_json name moment = object
 abbrev pub sources_json : (name : List ℕ) → (moment : Moment) → (other : List ℕ) → (seen : Moment) → Data
 sources_json name moment other seen = array_of (source_json name moment ∷ source_json other seen ∷ [])
 
--- of what is seen in two files
+-- of what two files show
 abbrev pub comparison_json : (files : Data) → Comparison → Data
 comparison_json files x = object
     (member (codes "alike") (boolean x.alike)

@@ -1,4 +1,4 @@
-//! What is found of chips, whether they are sound and how two stand to each other, as lines of at most 100 columns but for the
+//! Findings on chips, whether they are sound and how two compare, as lines of at most 100 columns but for the
 //! names of files.
 use crate::lines::push_line;
 use crate::texts::side_text;
@@ -38,7 +38,7 @@ fn shared_text(alloc: Global, shared: SharedPages) -> Result<String, AllocError>
     }
 }
 
-/// What keeps the chip that is behind from what the other has.
+/// What keeps the chip that is behind from taking what the other has.
 fn behind_text(ahead: Ahead) -> &'static str {
     if ahead.other_profile {
         "; the other keeps another profile of it"
@@ -49,7 +49,7 @@ fn behind_text(ahead: Ahead) -> &'static str {
     }
 }
 
-/// How two chips stand to each other in an image.
+/// How two chips compare in an image.
 fn image_text(alloc: Global, image: &ImageCompared) -> Result<String, AllocError> {
     if image.alike {
         return match image.shared {
@@ -70,7 +70,7 @@ fn image_text(alloc: Global, image: &ImageCompared) -> Result<String, AllocError
     }
 }
 
-/// How two program memories stand to each other.
+/// How two program memories compare.
 fn program_text(alloc: Global, program: &ProgramCompared) -> Result<String, AllocError> {
     if program.alike {
         return String::from_str(alloc, "alike");
@@ -79,7 +79,7 @@ fn program_text(alloc: Global, program: &ProgramCompared) -> Result<String, Allo
     format!(in alloc; "not alike, {shared}")
 }
 
-/// How two orders stand to each other.
+/// How two orders compare.
 fn order_text(order: &OrderCompared) -> &'static str {
     match order.ahead {
         Some(dg_compare::Side::First) => "first is ahead",
@@ -89,7 +89,7 @@ fn order_text(order: &OrderCompared) -> &'static str {
     }
 }
 
-/// How two chips stand to each other, as lines.
+/// How two chips compare, as lines.
 pub fn comparison_lines(alloc: Global, found: &Comparison) -> Result<String, AllocError> {
     let mut text = String::new(alloc);
     for number in 0..found.images.len() {

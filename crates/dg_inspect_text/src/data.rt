@@ -1,4 +1,4 @@
-//! What is seen of chips as JSON.
+//! What chips show as JSON.
 ghost use Rattle.std.specs.Prelude.{◌≡◌, string_bytes, IfOk};
 ghost use Rattle.serde_json.specs.View.{view};
 ghost use Rattle.dg_inspect_text.specs.Json.{or_null, program_json, version_json, start_json, order_json, volume_json};
@@ -134,7 +134,7 @@ fn volume_value(alloc: Global, volume: &VolumeSeen) -> Result<Value, AllocError>
     Ok(Value::Object(members))
 }
 
-/// Why a chip is no volume.
+/// Why a chip is not a volume.
 fn break_value(alloc: Global, broken: &Break) -> Result<Value, AllocError>
     ensures { IfOk result (λ v. view v ≡ break_json broken.now) }
 {
@@ -173,7 +173,7 @@ fn chip_volume(alloc: Global, chip: &ChipSeen) -> Result<Value, AllocError>
     }
 }
 
-/// Why a chip is no volume, or null.
+/// Why a chip is not a volume, or null.
 fn chip_break(alloc: Global, chip: &ChipSeen) -> Result<Value, AllocError>
     ensures { IfOk result (λ v. view v ≡ chip_break chip.now) }
 {
@@ -194,7 +194,7 @@ fn file_volume(alloc: Global, seen: &FileSeen) -> Result<Value, AllocError>
     }
 }
 
-/// Why the chip of a file is no volume, or null.
+/// Why the chip of a file is not a volume, or null.
 fn file_break(alloc: Global, seen: &FileSeen) -> Result<Value, AllocError>
     ensures { IfOk result (λ v. view v ≡ file_break seen.now) }
 {
@@ -205,7 +205,7 @@ fn file_break(alloc: Global, seen: &FileSeen) -> Result<Value, AllocError>
     }
 }
 
-/// What is seen of a file.
+/// What a file shows.
 fn report_value(alloc: Global, report: &Report) -> Result<Value, AllocError>
     ensures { IfOk result (λ v. view v ≡ report_json report.now) }
 {
@@ -243,7 +243,7 @@ fn report_value(alloc: Global, report: &Report) -> Result<Value, AllocError>
     Ok(Value::Object(members))
 }
 
-/// What is seen of files.
+/// What files show.
 fn reports_value(alloc: Global, reports: &[Report]) -> Result<Value, AllocError>
     ensures { IfOk result (λ v. view v ≡ reports_json reports.now) }
 {
@@ -254,7 +254,7 @@ fn reports_value(alloc: Global, reports: &[Report]) -> Result<Value, AllocError>
     Ok(Value::Array(values))
 }
 
-/// What is seen of files, as a line of JSON: an array with a value for each.
+/// What files show, as a line of JSON: an array with a value for each.
 pub fn reports_json(alloc: Global, reports: &[Report]) -> Result<String, AllocError>
     ensures { IfOk result (λ line. string_bytes line ≡ line_of (reports_json reports.now)) }
 {

@@ -1,4 +1,4 @@
-//! What is found of chips, whether they are sound and how two stand to each other, as JSON.
+//! Findings on chips, whether they are sound and how two compare, as JSON.
 ghost use Rattle.std.specs.Prelude.{◌≡◌, string_bytes, IfOk};
 ghost use Rattle.serde_json.specs.View.{view};
 ghost use Rattle.dg_inspect_text.specs.Json.{or_null, parts_json, equal_json, flaw_json, verdict_flaw, verdict_json};
@@ -142,7 +142,7 @@ fn ahead_value(alloc: Global, ahead: Option<Ahead>) -> Result<Value, AllocError>
     Ok(Value::Object(members))
 }
 
-/// How two chips stand to each other in an image.
+/// How two chips compare in an image.
 fn image_value(alloc: Global, number: usize, image: &ImageCompared) -> Result<Value, AllocError>
     ensures { IfOk result (λ v. view v ≡ image_compared_json number image.now) }
 {
@@ -164,7 +164,7 @@ fn image_value(alloc: Global, number: usize, image: &ImageCompared) -> Result<Va
     Ok(Value::Object(members))
 }
 
-/// How two chips stand to each other in each image.
+/// How two chips compare in each image.
 fn images_value(alloc: Global, images: &[ImageCompared]) -> Result<Value, AllocError>
     ensures { IfOk result (λ v. view v ≡ images_compared_json images.now) }
 {
@@ -175,7 +175,7 @@ fn images_value(alloc: Global, images: &[ImageCompared]) -> Result<Value, AllocE
     Ok(Value::Array(values))
 }
 
-/// How two program memories stand to each other.
+/// How two program memories compare.
 fn program_value(alloc: Global, program: &ProgramCompared) -> Result<Value, AllocError>
     ensures { IfOk result (λ v. view v ≡ program_compared_json program.now) }
 {
@@ -190,7 +190,7 @@ fn program_value(alloc: Global, program: &ProgramCompared) -> Result<Value, Allo
     Ok(Value::Object(members))
 }
 
-/// How two orders stand to each other.
+/// How two orders compare.
 fn order_value(alloc: Global, order: &OrderCompared) -> Result<Value, AllocError>
     ensures { IfOk result (λ v. view v ≡ order_compared_json order.now) }
 {
@@ -205,7 +205,7 @@ fn order_value(alloc: Global, order: &OrderCompared) -> Result<Value, AllocError
     Ok(Value::Object(members))
 }
 
-/// A file, and the moment of it that was seen.
+/// A file, and the moment at which it was read.
 fn source_value(alloc: Global, name: &str, moment: &Moment) -> Result<Value, AllocError>
     ensures { IfOk result (λ v. view v ≡ source_json name.now moment.now) }
 {
@@ -215,7 +215,7 @@ fn source_value(alloc: Global, name: &str, moment: &Moment) -> Result<Value, All
     Ok(Value::Object(members))
 }
 
-/// Two files, and the moments of them that were seen.
+/// Two files, and the moments at which they were read.
 fn sources_value(
     alloc: Global,
     name: &str,
@@ -231,7 +231,7 @@ fn sources_value(
     Ok(Value::Array(values))
 }
 
-/// How the chips in two files stand to each other.
+/// How the chips in two files compare.
 fn comparison_value(alloc: Global, files: Value, found: &Comparison) -> Result<Value, AllocError>
     ensures { IfOk result (λ v. view v ≡ comparison_json (view files) found.now) }
 {
@@ -259,7 +259,7 @@ fn comparison_value(alloc: Global, files: Value, found: &Comparison) -> Result<V
     Ok(Value::Object(members))
 }
 
-/// How the chips in two files stand to each other, as a line of JSON, with the moments of these files that were seen.
+/// How the chips in two files compare, as a line of JSON, with the moments at which these files were read.
 pub fn comparison_json(
     alloc: Global,
     name: &str,

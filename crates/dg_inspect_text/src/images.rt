@@ -1,4 +1,4 @@
-//! What is seen of images as JSON.
+//! What is shown of images as JSON.
 ghost use Rattle.std.specs.Prelude.{◌≡◌, IfOk};
 ghost use Rattle.serde_json.specs.View.{view};
 ghost use Rattle.dg_inspect_text.specs.Json.{or_null, pages_json, bytes_json, complete_json, chain_json};

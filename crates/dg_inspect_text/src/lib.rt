@@ -1,4 +1,4 @@
-//! What is seen of chips as texts: lines for a terminal, and JSON. And the words of the program that looks into them.
+//! What chips show as texts: lines for a terminal, and JSON. And the command line of the program that inspects them.
 #![tactic(auto)]
 
 mod compared;

@@ -1,4 +1,4 @@
-//! What is seen as lines for a terminal, of at most 100 columns each but for the name of a file.
+//! What chips show, as lines for a terminal, of at most 100 columns each but for the name of a file.
 use crate::report::{Moment, Report};
 use crate::texts::{condition_text, order_text, reason_text};
 use dg_bits::PageBits;
@@ -44,7 +44,7 @@ fn chip_line(alloc: Global, older: bool, chip: &ChipSeen) -> Result<String, Allo
     }
 }
 
-/// Why a chip is no volume.
+/// Why a chip is not a volume.
 fn broken_line(alloc: Global, kind: &str, broken: &Break) -> Result<String, AllocError> {
     format!(in alloc;
         "{kind}, no volume: {}, sector {}, byte {}",
@@ -211,7 +211,7 @@ fn push_volume(alloc: Global, text: &mut String, volume: &VolumeSeen) -> Result<
     Ok(())
 }
 
-/// What is seen of a file, as lines.
+/// What a file shows, as lines.
 pub fn report_lines(alloc: Global, report: &Report) -> Result<String, AllocError> {
     let mut text = String::new(alloc);
     let kind = kind_line(alloc, &report.seen)?;
@@ -253,7 +253,7 @@ pub fn next_lines(alloc: Global, next: &NextNumbers) -> Result<String, AllocErro
     Ok(text)
 }
 
-/// The name of a file, and the moment of it that was seen.
+/// The name of a file, and the moment at which it was read.
 pub fn file_line(alloc: Global, name: &str, moment: &Moment) -> Result<String, AllocError> {
     let seen = moment_line(alloc, moment)?;
     format!(in alloc; "{name}: {seen}\n")

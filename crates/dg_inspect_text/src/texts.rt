@@ -1,4 +1,4 @@
-//! Words for what is seen.
+//! Words of reports.
 ghost use Rattle.std.specs.Prelude.{◌≡◌};
 ghost use Rattle.dg_inspect_text.specs.Json.{condition_word, order_word, reason_word, side_word, kind_word, verdict_word};
 

@@ -32,7 +32,7 @@ pub(crate) fn crc_value(alloc: Global, crc: u16) -> Result<Value, AllocError>
     hex_value(alloc, &crc.to_be_bytes())
 }
 
-/// A name of an image, or no text where its bytes are none.
+/// A name of an image, or no text where its bytes are not one.
 pub(crate) fn name_value(alloc: Global, name: &[u8]) -> Result<Value, AllocError>
     ensures { IfOk result (λ v. view v ≡ name_json name.now) }
 {

@@ -1,4 +1,4 @@
-//! What the words behind the name of the program ask for.
+//! What a command line asks for.
 use dg_chain::DIGEST_SIZE;
 use dg_compare::Rooted;
 use dg_control::IMAGES;
@@ -20,7 +20,7 @@ pub enum Request<'a> {
         file: &'a str,
         rooted: Option<Rooted>,
     },
-    /// How the chips in two files stand to each other.
+    /// How the chips in two files compare.
     Compare {
         first: &'a str,
         second: &'a str,
@@ -33,9 +33,9 @@ pub enum Asked<'a> {
     Request { request: Request<'a>, json: bool },
     Help,
     Version,
-    /// They are no command: this word is the first that is wrong.
+    /// They are not a command: this word is the first that is wrong.
     Wrong(&'a str),
-    /// They are no command: a word is missing, or one too many is there.
+    /// They are not a command: a word is missing, or one too many is there.
     Count,
 }
 
@@ -56,7 +56,7 @@ enum Expected {
     Image,
 }
 
-/// The words behind a verb.
+/// The words after a verb.
 #[derive(Drop)]
 struct Behind<'a> {
     json: bool,
@@ -99,7 +99,7 @@ fn image_of(word: &str) -> Option<u8> {
 }
 
 impl<'a> Behind<'a> {
-    /// Takes a word, and tells what the next one is.
+    /// Takes a word, and answers what the next one is.
     fn take(
         &mut self,
         verb: Verb,
@@ -157,7 +157,7 @@ impl<'a> Behind<'a> {
     }
 }
 
-/// The image and its root, where both are told. None where one of them is missing.
+/// The image and its root, where both are given. None where one of them is missing.
 fn rooted_of(root: Option<[u8; DIGEST_SIZE]>, image: Option<u8>) -> Option<Option<Rooted>> {
     match (root, image) {
         (None, None) => Some(None),
@@ -166,7 +166,7 @@ fn rooted_of(root: Option<[u8; DIGEST_SIZE]>, image: Option<u8>) -> Option<Optio
     }
 }
 
-/// What a verb and the words behind it ask for. None where a word is missing, or one too many is there.
+/// What a verb and the words after it ask for. None where a word is missing, or one too many is there.
 fn request_of<'a>(verb: Verb, behind: Behind<'a>) -> Option<Request<'a>> {
     let files = behind.files;
     match verb {
@@ -204,7 +204,7 @@ fn request_of<'a>(verb: Verb, behind: Behind<'a>) -> Option<Request<'a>> {
     }
 }
 
-/// What the words behind a verb ask for.
+/// What the words after a verb ask for.
 fn read_behind<'a>(
     alloc: Global,
     verb: Verb,

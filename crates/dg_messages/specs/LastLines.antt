@@ -1,4 +1,4 @@
--- Which cause a last line tells, by its words (docs/COMMANDS.md, "How a command ends"), and which it is to tell.
+-- The cause in a last line, by its words (docs/COMMANDS.md, "How a command ends"), and the one that it has to give.
 use Rattle.std.specs.Prelude.{⊤, ℕ, ◌==◌, ◌≡◌, ◌<◌, ◌^◌, Bool, true, false, if◌then◌else◌, List, [], ◌∷◌, codes, length}
 use Rattle.std.specs.Prelude.{Option, Some, None}
 use Rattle.dg_base.specs.Numbers.{number_of}
@@ -197,7 +197,7 @@ words_told status what in_memory ws = told.Other status
 abbrev pub last_line_told : Status → Reads → (in_memory : Bool) → (last : List ℕ) → Told
 last_line_told status what in_memory last = words_told status what in_memory (words_of last)
 
--- ---- which cause the last line of an end is to tell
+-- ---- which cause the last line of an end has to give
 
 abbrev pub refusal_end : Refusal → Refused
 refusal_end refusals.Empty = refused.Empty

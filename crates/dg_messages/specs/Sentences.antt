@@ -1,4 +1,4 @@
--- The sentence of each cause that an operator is told (docs/COMMANDS.md, "How a command ends"): what happened, with the value
+-- The sentence of each cause for an operator (docs/COMMANDS.md, "How a command ends"): what happened, with the value
 -- that it goes by, and after a semicolon what to do.
 use Rattle.std.specs.Prelude.{ℕ, ◌-◌, ◌^◌, ◌==◌, if◌then◌else◌, List, [], ◌∷◌, ◌++◌, codes}
 use Rattle.std.specs.Fmt.{decimal}
@@ -253,7 +253,7 @@ output_sentence output.Full = codes "the disk is full, so standard output was no
 output_sentence output.NoReader = codes "nobody reads standard output any more; see that the reader of the pipe goes on"
 output_sentence output.Failed = codes "standard output is closed, or a write of it failed; see where it goes"
 
--- ---- of words that are no command
+-- ---- of invalid command lines
 
 abbrev pub misuse_sentence : Misuse → List ℕ
 misuse_sentence misuse.NoWord = codes "no command is given; deluge --help tells which there are"
@@ -293,12 +293,12 @@ sentence_of told.NoImage = codes "golden is damaged, and nothing else can start;
 sentence_of (told.Other status) =
     codes "the command ended with status " ++ decimal (code_of status) ++ codes "; docs/COMMANDS.md tells what it means"
 
--- a word in front, which is left out where there is none
+-- a word before it, which is left out where there is none
 abbrev pub front : List ℕ → List ℕ
 front [] = []
 front (c ∷ cs) = shown (c ∷ cs) ++ codes ": "
 
--- the line that is told: the program, its command, what it is about, and the sentence
+-- the line of a message: the program, its command, what it is about, and the sentence
 abbrev pub message_line : (program verb place : List ℕ) → Told → List ℕ
 message_line program verb place cause =
     front program ++ front verb ++ front place ++ sentence_of cause ++ 10 ∷ []

@@ -1,4 +1,4 @@
--- A word as it is shown at a terminal: a control character stands as `\x` and two hex digits. A control character is a byte below
+-- A word as it is shown at a terminal: a control character as `\x` and two hex digits. A control character is a byte below
 -- 32, 127, or, in UTF-8, 194 with a byte below 160 after it (ECMA-48, 5.2 and 5.3).
 use Rattle.std.specs.Prelude.{ℕ, ◌==◌, ◌||◌, nat_lt, Bool, if◌then◌else◌, List, [], ◌∷◌, ◌++◌}
 use Rattle.dg_base.specs.Hexadecimal.{hex_text}

@@ -1,4 +1,4 @@
--- Which cause a sentence tells: each begins in its own way (docs/COMMANDS.md, "How a command ends").
+-- The cause of a sentence: each begins in its own way (docs/COMMANDS.md, "How a command ends").
 use Rattle.std.specs.Prelude.{ℕ, ◌+◌, ◌==◌, Bool, true, false, if◌then◌else◌, List, [], ◌∷◌, codes}
 use Rattle.dg_drip_script.specs.declared.line.DripFault.{DripFault}
 use Rattle.dg_drip_script.specs.declared.line.DripFault.TheVariants as nodes
@@ -171,6 +171,6 @@ openings =
     codes "the first line" ∷ codes "a line of nodes has" ∷ codes "no line" ∷ codes "a line of nodes may" ∷ codes "a number" ∷
     codes "no file" ∷ []
 
--- the number of the cause that a sentence tells, 0 where it tells none
+-- the number of the cause of a sentence, 0 where it has none
 abbrev pub told_number : List ℕ → ℕ
 told_number text = found 1 openings text

@@ -1,4 +1,4 @@
-//! What an operator is told.
+//! Causes, for an operator.
 use dg_base::Status;
 use dg_drip_script::DripFault;
 use dg_ihex::HexCause;
@@ -65,7 +65,7 @@ pub enum Refused {
     Broken { page: u32 },
     /// The pages are not those of their length.
     Shape,
-    /// The page is none of the root.
+    /// The page is not one of the root.
     Foreign { page: u32 },
 }
 
@@ -90,9 +90,9 @@ pub enum Told<'a> {
     Hex { cause: HexCause, line: u32 },
     /// The first line of a HEX file that `wrap` made is no record.
     RootLine,
-    /// A line is none of a script.
+    /// A line is not one of a script.
     Script { cause: LineFault, line: u32 },
-    /// A line is none of a script of nodes.
+    /// A line is not one of a script of nodes.
     Nodes { cause: DripFault, line: u32 },
     /// The input is no profile of a network.
     Profile(ProfileFault),

@@ -1,4 +1,4 @@
-//! Which cause a last line tells (docs/COMMANDS.md, "How a command ends").
+//! The cause in a last line (docs/COMMANDS.md, "How a command ends").
 ghost use Rattle.std.specs.Prelude.{◌≡◌};
 ghost use Rattle.dg_base.specs.declared.answers.Status.TheVariants as statuses;
 ghost use Rattle.dg_script.specs.Words.{same, words_of};
@@ -32,7 +32,7 @@ fn first_word(text: &[u8]) -> (&[u8], &[u8])
     }
 }
 
-/// The number that the first word of a text is, which is 0 where it is none, and the text after it.
+/// The number that the first word of a text is, which is 0 where it is not one, and the text after it.
 fn first_number(text: &[u8]) -> (u32, &[u8])
     ensures number { result.0 ≡ first_number (words_of text.now) }
     ensures rest { words_of result.1.now ≡ words_behind (words_of text.now) }
@@ -41,7 +41,7 @@ fn first_number(text: &[u8]) -> (u32, &[u8])
     (parse_u32(word).unwrap_or(0), rest)
 }
 
-/// The cause that tells how many chips are lacking.
+/// The cause that says how many chips are missing.
 pub(crate) fn no_board<'a>(last: &[u8]) -> Told<'a>
     ensures read { result ≡ no_board_told (words_of last.now) }
     ensures status { status_told result ≡ statuses.NoBoard }
@@ -52,7 +52,7 @@ pub(crate) fn no_board<'a>(last: &[u8]) -> Told<'a>
     Told::NoBoard { need, have }
 }
 
-/// The cause of an input that is none.
+/// The cause of an invalid input.
 pub(crate) fn bad_input<'a>(reads: Reads, last: &[u8]) -> Told<'a>
     ensures read { result ≡ bad_input_told reads (words_of last.now) }
     ensures status { status_told result ≡ statuses.BadInput }
@@ -270,7 +270,7 @@ pub(crate) fn refused<'a>(last: &[u8]) -> Told<'a>
     }
 }
 
-/// The refusal that a word tells, and the values after it.
+/// The refusal that a word names, and the values after it.
 fn refusal(word: &[u8], first: u32, second: u32) -> Option<Refused>
     ensures { result ≡ refusal_of word.now first second }
 {
@@ -301,7 +301,7 @@ fn refusal(word: &[u8], first: u32, second: u32) -> Option<Refused>
     plain_refusal(word)
 }
 
-/// The refusal that a word tells by itself.
+/// The refusal that a word names by itself.
 fn plain_refusal(word: &[u8]) -> Option<Refused>
     ensures { result ≡ plain_refusal_of word.now }
 {

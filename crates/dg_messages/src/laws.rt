@@ -25,7 +25,7 @@ pub fn no_two_sentences_are_alike()
     ensures some { (cause : Told) → sentence_of cause ≢ [] }
 {}
 
-/// Of the last line of an end just that end is read, with its values. So it is of a line that is none of a script of nodes.
+/// Of the last line of an end just that end is read, with its values. So it is of a bad line of a script of nodes.
 pub fn each_last_line_is_read()
     ensures status { (end : End) (text : List ℕ) → last_line end ≡ Some text → has_last_line (status_of end) ≡ true }
     // an output keeps it

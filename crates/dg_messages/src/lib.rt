@@ -1,4 +1,4 @@
-//! What an operator is told on standard error where a command does not do what it was asked: a line for each cause, with its
+//! Messages on standard error where a command does not do what it was asked: a line for each cause, with its
 //! value and what to do (docs/COMMANDS.md, "How a command ends").
 #![tactic(auto)]
 

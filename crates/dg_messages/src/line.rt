@@ -1,4 +1,4 @@
-//! The line that an operator is told.
+//! The line of a message.
 ghost use Rattle.std.specs.Prelude.{◌≡◌, ◌++◌, IfOk, OnOk};
 ghost use Rattle.dg_messages.specs.Sentences.{front, message_line};
 
@@ -19,7 +19,7 @@ fn push_front(text: &mut Vec<u8>, word: &str) -> Result<(), AllocError>
     push(text, ": ")
 }
 
-/// The line that tells why a command of a program did not do what it was asked, and what to do. It names the command, and the
+/// The line that says why a command of a program did not do what it was asked, and what to do. It names the command, and the
 /// file that it is about, where there are such.
 pub fn message(
     alloc: Global,

@@ -1,4 +1,4 @@
-//! What an operator is told of a command that ended.
+//! The message for a command that ended.
 ghost use Rattle.std.specs.Prelude.{◌≡◌, true, None, Some, IfSome};
 ghost use Rattle.dg_base.specs.declared.answers.Status.TheVariants as statuses;
 ghost use Rattle.dg_messages.specs.LastLines.{has_last_line, last_line_told};
@@ -28,13 +28,13 @@ pub struct Causes<'a> {
     pub link: Option<LinkCause>,
 }
 
-/// What an operator is told of a command with this status and this last line, without its LF. None where the command did
+/// The cause for an operator of a command with this status and this last line, without its LF. None where the command did
 /// what it was asked.
 pub fn told<'a>(status: Status, last: &[u8], causes: &Causes<'a>) -> Option<Told<'a>>
     // it is a cause of that status
     ensures status { IfSome result (λ cause. status_told cause ≡ status) }
     ensures none { result ≡ None → status ≡ statuses.Done }
-    // where the last line tells the cause, it is what is read of that
+    // where the last line has the cause, it is what is read of that
     ensures read { has_last_line status ≡ true
         → result ≡ Some (last_line_told status causes.now.reads causes.now.in_memory last.now) }
 {

@@ -33,7 +33,7 @@ fn push_shown_bytes(text: &mut Vec<u8>, bytes: &[u8]) -> Result<(), AllocError>
     Ok(())
 }
 
-/// Appends a byte that stands after another one.
+/// Appends a byte that follows another one.
 fn push_shown_byte(text: &mut Vec<u8>, before: u8, byte: u8) -> Result<(), AllocError>
     ensures { OnOk result (text.new.items ≡ text.old.items ++ shown_byte before byte) }
 {

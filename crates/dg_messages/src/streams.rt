@@ -9,7 +9,7 @@ use arrayvec::ArrayVec;
 use dg_base::{ReadFailed, Sink, Source, WriteFailed};
 use std::io::{ErrorKind, Read, Write};
 
-/// A reader as a source that tells no bytes. It keeps why its last read failed.
+/// A reader as a source that does not expose its bytes. It keeps why its last read failed.
 #[derive(Drop)]
 pub struct Input<R> {
     reader: R,
@@ -64,9 +64,9 @@ fn input_fault(kind: ErrorKind) -> InputFault {
 /// More bytes than a last line has.
 const MOST: usize = 192;
 
-/// A writer as a sink that tells no bytes. It keeps why its last write failed, and the line that it wrote last. Each last line of
-/// a command is written by itself, is shorter than 192 bytes, and does not begin with `s`, as most lines of a report do: those
-/// are not kept.
+/// A writer as a sink that does not expose its bytes. It keeps why its last write failed, and the line that it wrote last.
+/// Each last line of a command is written by itself, is shorter than 192 bytes, and does not begin with `s`, as most lines
+/// of a report do: those are not kept.
 #[derive(Drop)]
 pub struct Output<W> {
     writer: W,

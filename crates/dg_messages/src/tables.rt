@@ -17,7 +17,7 @@ use dg_script::LineFault;
 /// The last version, and the last number of an order.
 const LAST_NUMBER: u32 = u32::MAX;
 
-/// What stands before the value of a cause of a HEX file.
+/// The text before the value of a cause of a HEX file.
 pub(crate) fn hex_before<'a>(cause: HexCause) -> &'a str
     ensures { result.now ≡ hex_before cause }
 {
@@ -36,7 +36,7 @@ pub(crate) fn hex_before<'a>(cause: HexCause) -> &'a str
     }
 }
 
-/// What stands after it.
+/// The text after it.
 pub(crate) fn hex_after<'a>(cause: HexCause) -> &'a str
     ensures { result.now ≡ hex_after cause }
 {
@@ -54,7 +54,7 @@ pub(crate) fn hex_after<'a>(cause: HexCause) -> &'a str
     }
 }
 
-/// What stands before the value of a cause of a script.
+/// The text before the value of a cause of a script.
 pub(crate) fn script_before<'a>(cause: LineFault) -> &'a str
     ensures { result.now ≡ script_before cause }
 {
@@ -77,7 +77,7 @@ pub(crate) fn script_before<'a>(cause: LineFault) -> &'a str
     }
 }
 
-/// What stands after it.
+/// The text after it.
 pub(crate) fn script_after<'a>(cause: LineFault) -> &'a str
     ensures { result.now ≡ script_after cause }
 {
@@ -100,7 +100,7 @@ pub(crate) fn script_after<'a>(cause: LineFault) -> &'a str
     }
 }
 
-/// What stands before the value of a cause of a script of nodes.
+/// The text before the value of a cause of a script of nodes.
 pub(crate) fn nodes_before<'a>(cause: DripFault) -> &'a str
     ensures { result.now ≡ nodes_before cause }
 {
@@ -115,7 +115,7 @@ pub(crate) fn nodes_before<'a>(cause: DripFault) -> &'a str
     }
 }
 
-/// What stands after it.
+/// The text after it.
 pub(crate) fn nodes_after<'a>(cause: DripFault) -> &'a str
     ensures { result.now ≡ nodes_after cause }
 {
@@ -127,7 +127,7 @@ pub(crate) fn nodes_after<'a>(cause: DripFault) -> &'a str
     }
 }
 
-/// What stands before the value of a cause of the file of a chip.
+/// The text before the value of a cause of the file of a chip.
 pub(crate) fn file_before<'a>(cause: FileFault) -> &'a str
     ensures { result.now ≡ file_before cause }
 {
@@ -147,7 +147,7 @@ pub(crate) fn file_before<'a>(cause: FileFault) -> &'a str
     }
 }
 
-/// What stands after it.
+/// The text after it.
 pub(crate) fn file_after<'a>(cause: FileFault) -> &'a str
     ensures { result.now ≡ file_after cause }
 {
@@ -165,7 +165,7 @@ pub(crate) fn file_after<'a>(cause: FileFault) -> &'a str
     }
 }
 
-/// What stands before the value of a cause of a command that is refused.
+/// The text before the value of a cause of a command that is refused.
 pub(crate) fn refusal_before<'a>(cause: Refused) -> &'a str
     ensures { result.now ≡ refusal_before cause }
 {
@@ -188,7 +188,7 @@ pub(crate) fn refusal_before<'a>(cause: Refused) -> &'a str
     }
 }
 
-/// What stands after it.
+/// The text after it.
 pub(crate) fn refusal_after<'a>(cause: Refused) -> &'a str
     ensures { result.now ≡ refusal_after cause }
 {
@@ -217,7 +217,7 @@ pub(crate) fn refusal_after<'a>(cause: Refused) -> &'a str
     }
 }
 
-/// What stands before the value of a cause of a link between motes.
+/// The text before the value of a cause of a link between motes.
 pub(crate) fn link_before<'a>(cause: LinkCause) -> &'a str
     ensures { result.now ≡ link_before cause }
 {
@@ -230,7 +230,7 @@ pub(crate) fn link_before<'a>(cause: LinkCause) -> &'a str
     }
 }
 
-/// What stands after it.
+/// The text after it.
 pub(crate) fn link_after<'a>(cause: LinkCause) -> &'a str
     ensures { result.now ≡ link_after cause }
 {
@@ -261,7 +261,7 @@ pub(crate) fn profile_sentence<'a>(cause: ProfileFault) -> &'a str
     }
 }
 
-/// The sentence of a HEX file that `wrap` made and whose first line is no record.
+/// The sentence of a HEX file that `wrap` made and whose first line is not a record.
 pub(crate) fn root_line_sentence<'a>() -> &'a str
     ensures { result.now ≡ sentence_of told.RootLine }
 {

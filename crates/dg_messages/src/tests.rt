@@ -1,4 +1,4 @@
-//! The line of some causes. Which cause a last line tells, and the sentence of each cause, are clauses.
+//! The line of some causes. The cause in a last line, and the sentence of each cause, are clauses.
 
 use crate::{Causes, InputFault, Misuse, OutputFault, Reads, Refused, Told, message, shown, told};
 use dg_base::Status;

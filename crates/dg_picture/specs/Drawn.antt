@@ -34,7 +34,7 @@ abbrev pub ReadOf : {Z : Type 0} → Result (Vec ℕ Z) PictureFault → (before
 ReadOf (Ok text) before after = DrawsAll before after text.items
 ReadOf (Err fault) before after = RefusesInput fault before after
 
--- What is written is the picture of the lines that were read, or some front of it where a write failed; else nothing is written.
+-- What is written is the picture of the lines that were read, or a prefix of it where a write failed; else nothing is written.
 abbrev pub Drawn : Result (Unit {0}) PictureFault → (left_before left_after : Option (List ℕ))
     → (written_before written_after : Option (List ℕ)) → Type 0
 Drawn (Ok done) a b v w = (text : List ℕ) × DrawsAll a b text × Puts v w text

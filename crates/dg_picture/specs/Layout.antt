@@ -1,4 +1,4 @@
--- Where what is told stands: a row for each mote, columns from left to right (docs/COMMANDS.md, "A picture of a report").
+-- The layout: a row for each mote, columns from left to right (docs/COMMANDS.md, "A picture of a report").
 use Rattle.std.specs.Prelude.{ℕ, ◌+◌, ◌-◌, ◌*◌, ◌/◌, ◌==◌, max, min, nat_lt, zero, suc, Bool, List, [], ◌++◌, take, drop}
 use Rattle.std.specs.Prelude.{if◌then◌else◌, find, unwrap_or, take_while, false}
 use Rattle.std.specs.List.{fold, filter, prefix_len}
@@ -50,7 +50,7 @@ count_before per k changes = prefix_len (is_before (k * per)) changes
 abbrev pub column : (per k : ℕ) → List Told → List Told
 column per k changes = take_while (is_before ((k + 1) * per)) (drop (count_before per k changes) changes)
 
--- what a mote keeps of an image before a column: the last state that is told before it
+-- what a mote keeps of an image before a column: the last state that is reported before it
 abbrev pub shown : (mote image per k : ℕ) → List Told → Pages
 shown mote image per k changes =
     fold (λ kept t. reported mote image kept t.report) nothing (take (count_before per k changes) changes)
@@ -61,7 +61,7 @@ is_on mote per k changes = fold (λ on t. powered mote on t.report) false (take 
 
 -- ---- rows
 
--- a row has a lane for golden, of 8 units, and one for each image up to the largest that is told
+-- a row has a lane for golden, of 8 units, and one for each image up to the largest that is reported
 abbrev pub lane_of : (images : ℕ) → ℕ
 lane_of images = min 16 (48 / max 1 images)
 
@@ -82,13 +82,13 @@ middle frame mote = 51 + frame.row * mote + frame.row / 2
 abbrev pub foot : Frame → ℕ
 foot frame = 48 + frame.row * frame.rows
 
--- the height of pages, where so many fill a lane but for a gap above: at least 1 where there is one
+-- the height of pages, where this many fill a lane but for a gap above: at least 1 where there is one
 abbrev pub height_of : (lane count most : ℕ) → ℕ
 height_of lane count most = if count == 0 then 0 else max 1 (count * (lane - 1) / max 1 most)
 
 -- ---- changes
 
--- what each chip kept from the start on, and the lines that tell a change at a mote
+-- what each chip kept from the start on, and the lines that report a change at a mote
 unfoldable pub changes_of : Frame → List Told → List Told
 changes_of frame told =
     each (λ mote. each (λ i. first_of told mote (i + 1)) frame.images) frame.rows

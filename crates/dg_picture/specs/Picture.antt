@@ -20,7 +20,7 @@ use Rattle.dg_picture.specs.declared.layout.Grid.{Grid}
 use Rattle.dg_picture.specs.declared.layout.Frame.{Frame}
 use Rattle.dg_words.specs.Lists.{concatenated}
 
--- ---- steps: a line that is as high at each column as this is told, from the left end of the columns to their right end
+-- ---- steps: a line as high at each column as was reported last, from the left end of the columns to their right end
 
 abbrev pub open_text : (base : ℕ) → List ℕ
 open_text base = concatenated (codes "M100 " ∷ decimal base ∷ [])
@@ -104,7 +104,7 @@ abbrev pub mark_text : (mark : Mark) → List Told → (left base mote : ℕ) �
 mark_text mark lines left base mote =
     if list_any (λ t. is_marked mark mote t.report) lines then point_text mark left base else []
 
--- the image in whose lane a mark stands
+-- the image in whose lane a mark is
 abbrev pub lane_image : Mark → ℕ
 lane_image (Started image) = image
 lane_image (Ordered image) = image
@@ -197,7 +197,7 @@ starts_text frame grid changes i = marks_text frame grid changes (Started (i + 1
 abbrev pub orders_text : Frame → Grid → (changes : List Told) → (i : ℕ) → List ℕ
 orders_text frame grid changes i = marks_text frame grid changes (Ordered (i + 1))
 
--- what stands behind the images
+-- what comes after the images
 unfoldable pub ground_text : (timed : Bool) → Frame → Grid → (changes : List Told) → List ℕ
 ground_text timed frame grid changes =
     head_text (foot frame)
@@ -223,7 +223,7 @@ picture_with timed frame grid told changes words =
     ++ (ending_text (right_of grid) (foot frame) words
     ++ codes "</svg>\n"))))
 
--- the picture of what is told up to a place, where the report ends in these words
+-- the picture of what is reported up to a place, where the report ends in these words
 unfoldable pub drawing_of : (timed : Bool) → (last : ℕ) → List Told → (words : List ℕ) → List ℕ
 drawing_of timed last told words =
     picture_with timed (rows_of told) (grid_of timed last) told (changes_of (rows_of told) told) words

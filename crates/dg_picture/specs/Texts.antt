@@ -25,7 +25,7 @@ class_of mark.Lost = codes "x"
 unfoldable pub legend : List ℕ
 legend = LEGEND.now
 
--- so high is a picture whose rows end here
+-- the height of a picture whose rows end here
 abbrev pub height_to : (foot : ℕ) → ℕ
 height_to foot = foot + 24
 
@@ -52,7 +52,7 @@ minutes_text ms =
     if nat_lt ms 3600000 then decimal (ms / 60000)
     else concatenated (decimal (ms / 3600000) ∷ codes ":" ∷ two_text (ms / 60000 % 60) ∷ [])
 
--- the milliseconds behind a second, where there are any
+-- the milliseconds after a full second, where there are any
 abbrev pub rest_text : (ms : ℕ) → List ℕ
 rest_text ms = if ms % 1000 == 0 then [] else concatenated (codes "." ∷ three_text (ms % 1000) ∷ [])
 

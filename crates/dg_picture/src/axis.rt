@@ -27,7 +27,7 @@ fn push_minutes(out: &mut Vec<u8>, ms: u64) -> Result<(), AllocError>
     )
 }
 
-// Appends the milliseconds behind a second, where there are any.
+// Appends the milliseconds after a full second, where there are any.
 fn push_rest(out: &mut Vec<u8>, ms: u64) -> Result<(), AllocError>
     ensures { OnOk result (out.new.items ≡ out.old.items ++ rest_text ms) }
 {
@@ -113,7 +113,7 @@ fn push_ticks(out: &mut Vec<u8>, timed: bool, frame: Frame, grid: Grid) -> Resul
     Ok(())
 }
 
-// What the axis tells.
+// The caption of the axis.
 fn axis_name(timed: bool) -> &'static [u8]
     ensures { result.now ≡ axis_name timed }
 {
@@ -123,7 +123,7 @@ fn axis_name(timed: bool) -> &'static [u8]
     b"line"
 }
 
-// Appends what the axis tells.
+// Appends the caption of the axis.
 fn push_name(out: &mut Vec<u8>, timed: bool, foot: u32) -> Result<(), AllocError>
     requires { foot < 200000 }
     ensures { OnOk result (out.new.items ≡ out.old.items ++ name_text timed foot) }

@@ -26,7 +26,7 @@ pub enum PictureFault {
     TooLong,
     /// The input has more than 1,000,000 lines.
     TooMany,
-    /// The line with this number, from 1 on, is none of a report.
+    /// The line with this number, from 1 on, is not one of a report.
     NoReport { line: u32 },
 }
 
@@ -48,7 +48,7 @@ impl PictureFault {
     }
 }
 
-// Draws the report whose lines these bytes are.
+// Draws the report that these bytes are the lines of.
 #[tactic(auto, using(crate::proofs::DrawnLemmas::pictured))]
 fn draw(alloc: Global, bytes: &[u8]) -> Result<Vec<u8>, LinesFault>
     ensures ok { IfOk result (λ text. IsPicture bytes.now text.items) }

@@ -1,4 +1,4 @@
-//! What changes at motes, behind what their chips kept from the start.
+//! What changes at motes, after what their chips kept from the start.
 ghost use Rattle.std.specs.Prelude.{◌≡◌, ◌++◌, ◌∷◌, [], ◌+◌, ◌<◌, ◌≤◌, if◌then◌else◌, OnOk, IfOk};
 ghost use Rattle.std.specs.List.{filter};
 ghost use Rattle.dg_story.specs.Reports.{is_change, first_of, kept_first};
@@ -66,7 +66,7 @@ fn keep_firsts(changes: &mut Vec<Told>, told: &[Told], frame: Frame) -> Result<(
     Ok(())
 }
 
-// Keeps a line that tells a change.
+// Keeps a line that reports a change.
 fn keep_change(changes: &mut Vec<Told>, here: &Told) -> Result<(), AllocError>
     ensures { OnOk result (changes.new.items ≡ changes.old.items ++ (if is_change here.now.report then here.now ∷ [] else [])) }
 {
@@ -77,7 +77,7 @@ fn keep_change(changes: &mut Vec<Told>, here: &Told) -> Result<(), AllocError>
     Ok(())
 }
 
-// Keeps all lines that tell a change.
+// Keeps all lines that report a change.
 fn keep_changes(changes: &mut Vec<Told>, told: &[Told]) -> Result<(), AllocError>
     ensures { OnOk result (changes.new.items ≡ changes.old.items ++ filter (λ t. is_change t.report) told.now) }
 {
@@ -87,7 +87,7 @@ fn keep_changes(changes: &mut Vec<Told>, told: &[Told]) -> Result<(), AllocError
     Ok(())
 }
 
-/// What each chip kept from the start on, and the lines that tell a change at a mote, in their order.
+/// What each chip kept from the start on, and the lines that report a change at a mote, in their order.
 #[tactic(auto, unfolding(crate::specs::Layout::changes_of))]
 pub fn changes(alloc: Global, told: &[Told], frame: Frame) -> Result<Vec<Told>, AllocError>
     requires rows { frame.rows ≤ 256 }

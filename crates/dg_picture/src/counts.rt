@@ -1,4 +1,4 @@
-//! The largest count of pages that is told of each version of an image.
+//! The largest count of pages that is reported of each version of an image.
 ghost use Rattle.std.specs.Prelude.{◌≡◌, ◌==◌, ◌&&◌, ℕ, max, unwrap_or, if◌then◌else◌, IfOk, OnOk};
 ghost use Rattle.dg_picture.specs.Counts.{held, counted_of};
 ghost use Rattle.dg_story.specs.Reports.{counted, largest};
@@ -8,7 +8,7 @@ use dg_story::{Pages, Told};
 use std::alloc::{AllocError, Global};
 use std::collections::BTreeMap;
 
-// The pages that a line tells of an image.
+// The pages that a line reports of an image.
 fn counted(image: u8, report: &Report) -> Option<Pages>
     ensures { (version : ℕ) → counted_of version result ≡ counted image version report.now }
 {
@@ -57,7 +57,7 @@ fn raise(counts: &mut BTreeMap<u32, u8>, pages: Pages) -> Result<(), AllocError>
     Ok(())
 }
 
-// Keeps what a line tells of an image.
+// Keeps what a line reports of an image.
 fn keep(counts: &mut BTreeMap<u32, u8>, image: u8, report: &Report) -> Result<(), AllocError>
     ensures { OnOk result ((version : ℕ) → held counts.new version
         ≡ max (held counts.old version) (counted image version report.now)) }

@@ -66,7 +66,7 @@ fn push_orders(
     Ok(())
 }
 
-// Appends what stands behind the images.
+// Appends what comes after the images.
 #[tactic(auto, unfolding(crate::specs::Picture::ground_text))]
 fn push_ground(
     out: &mut Vec<u8>,
@@ -132,7 +132,7 @@ fn push_picture(
     Ok(())
 }
 
-/// The picture of what is told up to a place, where the report ends in these words.
+/// The picture of what is reported up to a place, where the report ends in these words.
 #[tactic(auto, unfolding(crate::specs::Picture::drawing_of))]
 pub fn drawn(
     alloc: Global,

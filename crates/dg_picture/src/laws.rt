@@ -10,7 +10,7 @@ ghost use Rattle.dg_story.specs.declared.lines.Line.{Line};
 ghost use Rattle.dg_story.specs.declared.told.Told.{Told};
 
 /// The picture of a replay is at most 1,000 units high, however many lines there are, and its columns end within 1,300 units.
-/// Each mote and each image that is told has a row and a lane, and the lanes lie within the rows.
+/// Each mote and each image that is reported has a row and a lane, and the lanes lie within the rows.
 pub fn a_picture_fits()
     ensures rows { (told : List Told) → AllByRecursion (λ (t : Told). report_motes t.report ≤ (rows_of told).rows) told }
     ensures lanes { (told : List Told) → AllByRecursion (λ (t : Told). report_image t.report ≤ (rows_of told).images) told }
@@ -21,7 +21,7 @@ pub fn a_picture_fits()
     ensures wide { (timed : Bool) (n k : ℕ) → k ≤ (grid_of timed n).columns → left_of (grid_of timed n) k ≤ 1300 }
 {}
 
-/// The last column shows of each image at each mote the last state that any line of the report tells of it.
+/// The last column shows of each image at each mote the last state that any line of the report has of it.
 pub fn the_last_column_shows_the_last_state()
     ensures { (timed : Bool) (mote image : ℕ) (lines : List Line)
         → list_any (λ t. is_change_of mote image t.report) (told_of lines) ≡ true

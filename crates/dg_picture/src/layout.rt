@@ -1,4 +1,4 @@
-//! Where what is told stands.
+//! The layout of a picture.
 ghost use Rattle.std.specs.Prelude.{◌≡◌, ℕ, ◌+◌, ◌*◌, ◌/◌, ◌^◌, ◌≤◌, ◌<◌, drop, take_while};
 ghost use Rattle.std.specs.List.{prefix_len};
 ghost use Rattle.dg_picture.specs.Layout.{step_among, step_of, grid_of, left_of, right_of, is_before, rows_of, lane_bottom};
@@ -131,7 +131,7 @@ pub fn place_at(grid: Grid, column: u8) -> u64
     u64::from(column) * grid.per
 }
 
-// The place behind so many columns.
+// The place after this many columns.
 fn place_behind(per: u64, columns: u8) -> u128
     ensures { result ≡ columns * per }
 {
@@ -150,7 +150,7 @@ fn leading(changes: &[Told], place: u128) -> usize
     changes.len()
 }
 
-/// The changes of a column, of those from its beginning on, and the changes behind it.
+/// The changes of a column, of those from its beginning on, and the changes after it.
 pub fn next_column(changes: &[Told], per: u64, column: u8) -> (&[Told], &[Told])
     requires { column < 255 }
     ensures column { result.0.now ≡ take_while (is_before ((column + 1) * per)) changes.now }
@@ -159,7 +159,7 @@ pub fn next_column(changes: &[Told], per: u64, column: u8) -> (&[Told], &[Told])
     changes.split_at(leading(changes, place_behind(per, column + 1)).min(changes.len()))
 }
 
-/// The rows for what is told.
+/// The rows for what is reported.
 #[tactic(auto, using(crate::proofs::LayoutLemmas::lanes_fit), unfolding(crate::specs::Layout::rows_of))]
 pub fn frame_for(told: &[Told]) -> Frame
     ensures value { result ≡ rows_of told.now }
@@ -218,7 +218,7 @@ pub fn foot_of(frame: Frame) -> u32
     48 + down
 }
 
-/// The height of pages, in units, where so many fill a lane but for a gap above.
+/// The height of pages, in units, where this many fill a lane but for a gap above.
 #[tactic(auto, using(crate::proofs::LayoutLemmas::small_product))]
 pub fn height_of(lane: u8, count: u8, most: u8) -> u32
     ensures { result ≡ height_of lane count most }

@@ -11,7 +11,7 @@ use crate::texts::{form_of, push_class};
 use dg_story::{Mark, Told, has_mark};
 use std::alloc::AllocError;
 
-// The image in whose lane a mark stands.
+// The image in whose lane a mark is.
 fn lane_image(mark: Mark) -> u8
     ensures { result ≡ lane_image mark }
 {

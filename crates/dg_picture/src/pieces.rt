@@ -1,4 +1,4 @@
-//! Writes texts and numbers, one behind the other.
+//! Writes texts and numbers, one after the other.
 ghost use Rattle.std.specs.Prelude.{◌≡◌, ◌++◌, decimal, OnOk};
 ghost use Rattle.dg_picture.specs.Texts.{two_text, three_text, piece_text, pieces_text};
 

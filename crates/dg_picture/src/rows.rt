@@ -162,7 +162,7 @@ fn push_ended_on(out: &mut Vec<u8>, base: u32, image: u8, version: u32) -> Resul
     )
 }
 
-// Appends how a mote ended, where it is told.
+// Appends how a mote ended, where a line says it.
 fn push_run(out: &mut Vec<u8>, base: u32, how: Ended) -> Result<(), AllocError>
     ensures { OnOk result (out.new.items ≡ out.old.items ++ run_text base how) }
 {

@@ -6,7 +6,7 @@ use crate::pieces::{Piece, push_pieces};
 use dg_story::Mark;
 use std::alloc::AllocError;
 
-/// Title, colours and legend. The colours of the images are told apart also by who is colour-blind.
+/// Title, colours and legend. The colours of the images can be distinguished with colour blindness.
 pub const LEGEND: &[u8] = b"<title>How an image spread</title>
 <desc>A row for each mote. From left to right: the time, or the lines of a report. A bar is as high as the pages that a mote
 keeps of an image; a line with a number begins a version of it. A triangle is a start, a diamond an order, a cross a loss of
@@ -95,7 +95,7 @@ fn push_first(out: &mut Vec<u8>, foot: u32) -> Result<(), AllocError>
     )
 }
 
-/// Appends what stands before the rows.
+/// Appends what comes before the rows.
 #[tactic(auto, unfolding(crate::specs::Texts::head_text))]
 pub fn push_head(out: &mut Vec<u8>, foot: u32) -> Result<(), AllocError>
     requires { foot < 200000 }

@@ -1,4 +1,4 @@
--- A service of one mote of the network that an input spells (docs/COMMANDS.md, "One mote a process").
+-- A service of one mote of the network in an input (docs/COMMANDS.md, "One mote a process").
 use Rattle.std.specs.Prelude.{◌≡◌, ◌⊎◌, ℕ, ◌+◌, ◌<◌, ◌≤◌, nat_lt, if◌then◌else◌, List, length, Result, Ok, Err}
 use Rattle.dg_base.specs.Outside.{Takes, AtEnd}
 use Rattle.dg_base.specs.declared.answers.Status.{Status}
@@ -28,7 +28,7 @@ abbrev pub mote_by_profile : ℕ → Result NetProfile ProfileFault → MoteOpen
 mote_by_profile mote (Ok profile) = by_mote mote profile
 mote_by_profile mote (Err fault) = FaultAt fault
 
--- a longer input than is used is refused whatever it spells
+-- a longer input than is used is refused whatever it has
 abbrev pub mote_opening_of : (mote : ℕ) → (input : List ℕ) → MoteOpening
 mote_opening_of mote input = if nat_lt most_used_bytes (length input) then Over else mote_by_profile mote (netprofile input)
 

@@ -11,6 +11,6 @@ turn_of mote false = Looks mote ∷ []
 abbrev pub turns_of : ℕ → List Bool → List Part
 turns_of mote ticks = flat_map (turn_of mote) ticks
 
--- its power comes, and then it has these turns, in some of which it ticks
+-- it powers on, and then it has these turns, in some of which it ticks
 abbrev pub plan_of : ℕ → List Bool → List Part
 plan_of mote ticks = Begins mote ∷ turns_of mote ticks

@@ -1,4 +1,4 @@
-//! A service of one mote of the network that an input spells.
+//! A service of one mote of the network in an input.
 ghost use Rattle.std.specs.Prelude.{◌≡◌, ◌<◌, ◌≤◌, List, slice_set};
 ghost use Rattle.dg_base.specs.Sizes.{most_motes};
 ghost use Rattle.dg_mote.specs.Sizes.{BuffersFit, ValuesAreSmall};
@@ -19,7 +19,7 @@ use dg_serve::{NoProfile, read_network, tell_none};
 use std::alloc::Global;
 
 /// Reads a network profile from `input`, a document of TOML 1.1 of at most 16,777,216 bytes, and runs a mote of it for so
-/// many turns, as [`serve_mote`] does. Where the input spells no profile, or one without that mote, the last line tells why,
+/// many turns, as [`serve_mote`] does. Where the input is not a profile, or one without that mote, the last line says why,
 /// and nothing else is done.
 pub fn serve_mote_of_network<S: Source, K: Sink, N: Nor, L: Link, C: Clock, W: Clock>(
     alloc: Global,

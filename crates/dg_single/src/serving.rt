@@ -18,7 +18,7 @@ use dg_serve::{Stop, open_service, tell_stop};
 use std::alloc::Global;
 
 /// Runs a mote of a profile, which is wide, for this many turns, over its board, the link and the clock, and writes what
-/// happens to `out` as a script. In a turn the mote looks whether a frame came, and ticks where one did, where `watch` tells
+/// happens to `out` as a script. In a turn the mote looks whether a frame came, and ticks where one did, where `watch` says
 /// that something of it is due, or where it did not tick for a second of the watch.
 ///
 /// It does what a service of all motes does at this one, whatever the boards of the others are.

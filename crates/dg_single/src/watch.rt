@@ -5,7 +5,7 @@ use dg_node::Node;
 /// nothing happens in.
 const LONGEST_REST: u64 = 1_000;
 
-/// What another clock than that of the events tells of the time since the last tick. No event has its answers.
+/// The time since the last tick by another clock than that of the events. No event has its answers.
 #[derive(Drop)]
 pub(crate) struct Rest {
     /// Its answer at the last tick, in milliseconds.

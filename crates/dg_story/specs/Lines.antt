@@ -1,4 +1,4 @@
--- The lines of a report, plain or with stamps, and where they stand on the axis (docs/COMMANDS.md, "A picture of a report").
+-- The lines of a report, plain or with stamps, and their places on the axis (docs/COMMANDS.md, "A picture of a report").
 use Rattle.std.specs.Prelude.{◌≡◌, ℕ, ◌+◌, max, length, Bool, true, false, List, [], ◌∷◌, ◌++◌, Option, Some, None, is_some}
 use Rattle.std.specs.List.{fold, filter, flat_map}
 use Rattle.std.specs.Fmt.{decimal}
@@ -11,7 +11,7 @@ use Rattle.dg_story.specs.declared.told.Told.{Told}
 
 -- ---- as they are written
 
--- a text behind the number of an event and its moment in milliseconds, where a line has them
+-- a text after the number of an event and its moment in milliseconds, where a line has them
 abbrev pub behind_stamp : Option Stamp → List ℕ → List ℕ
 behind_stamp None text = text
 behind_stamp (Some stamp) text = 64 ∷ (decimal stamp.event ++ 32 ∷ (decimal stamp.ms ++ 32 ∷ text))
@@ -38,7 +38,7 @@ placed_from number [] = []
 placed_from number (line ∷ lines) =
     record { place = place_by number line.stamp; report = line.report } ∷ placed_from (number + 1) lines
 
--- a line that tells what is drawn: a change at a mote, or how it ended
+-- a line that says something that is drawn: a change at a mote, or how it ended
 abbrev pub is_told : Report → Bool
 is_told (Order mote number image version) = true
 is_told (Lost mote image) = true
@@ -50,7 +50,7 @@ is_told (MoteOff mote) = true
 is_told (Kept mote image version count) = true
 is_told _ = false
 
--- what lines tell, in their order
+-- what lines say that is drawn, in their order
 abbrev pub told_of : List Line → List Told
 told_of lines = filter (λ t. is_told t.report) (placed_from 1 lines)
 
@@ -58,7 +58,7 @@ told_of lines = filter (λ t. is_told t.report) (placed_from 1 lines)
 abbrev pub end_of : List Line → ℕ
 end_of lines = fold (λ n t. max n t.place) 0 (placed_from 1 lines)
 
--- what was kept of so many lines, and their last place
+-- what was kept of this many lines, and their last place
 pub record Tells (told : List Told) (last count : ℕ) (lines : List Line) : Type 0 where
   pub told_is : told ≡ told_of lines
   pub last_is : last ≡ end_of lines

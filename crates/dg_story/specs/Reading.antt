@@ -45,7 +45,7 @@ IsFirstLine line rest =
     ((text : List ℕ) × (line ≡ text ++ 10 ∷ []) × HasNoEnd text)
     ⊎ ((rest ≡ []) × HasNoEnd line)
 
--- no report of a replay has this line
+-- this line is not one of a report
 abbrev pub IsNoReport : (line : List ℕ) → Type 0
 IsNoReport line = (report : Report) → FitsReport report → IsOfReplay report → report_line report ≢ line
 
@@ -86,7 +86,7 @@ pub record AreReports (bytes : List ℕ) (lines : List Line) (words : List ℕ) 
   pub few : length lines ≤ most_lines
   pub ended : IsEnding (begins_timed bytes) ending words
 
--- the first line that is none of a report has this number
+-- the first line that is not one of a report has this number
 pub record FirstNoReport (bytes : List ℕ) (number : ℕ) : Type 0 where
   pub lines : List Line
   pub line : List ℕ

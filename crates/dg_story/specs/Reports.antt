@@ -1,4 +1,4 @@
--- What a report tells of motes (docs/COMMANDS.md, "A picture of a report").
+-- What a report says of motes (docs/COMMANDS.md, "A picture of a report").
 use Rattle.std.specs.Prelude.{ℕ, ◌+◌, ◌==◌, ◌&&◌, max, Bool, true, false, List, [], ◌∷◌, Option, Some, None, if◌then◌else◌}
 use Rattle.std.specs.List.{fold, list_any}
 use Rattle.dg_script.specs.declared.report.Report.{Report}
@@ -28,7 +28,7 @@ reported mote image kept _ = kept
 abbrev pub last_reported : (mote image : ℕ) → List Told → Pages
 last_reported mote image told = fold (λ kept t. reported mote image kept t.report) nothing told
 
--- what a mote kept of an image at the end, where a line tells it
+-- what a mote kept of an image at the end, where a line says it
 abbrev pub kept_at_end : (mote image : ℕ) → Option Pages → Report → Option Pages
 kept_at_end mote image kept (Kept m i version count) =
     if m == mote && i == image then Some (record { version = version; count = count }) else kept
@@ -39,7 +39,7 @@ total mote image told = fold (λ kept t. kept_at_end mote image kept t.report) N
 
 -- ---- changes, and what was there before them
 
--- a line that tells a change at a mote
+-- a line that reports a change at a mote
 abbrev pub is_change : Report → Bool
 is_change (Order mote number image version) = true
 is_change (Lost mote image) = true
@@ -48,7 +48,7 @@ is_change (Start mote image version length crc) = true
 is_change (Off mote) = true
 is_change _ = false
 
--- a line that tells a change of an image at a mote
+-- a line that reports a change of an image at a mote
 abbrev pub is_change_of : (mote image : ℕ) → Report → Bool
 is_change_of mote image (Have m i version count) = m == mote && i == image
 is_change_of mote image (Lost m i) = m == mote && i == image
@@ -58,7 +58,7 @@ abbrev pub kept_first : (mote image : ℕ) → Option Pages → List Told
 kept_first mote image None = []
 kept_first mote image (Some pages) = record { place = 0; report = Have mote image pages.version pages.count } ∷ []
 
--- What a chip kept of an image from the start on: what it kept at the end, where no line tells a change of it.
+-- What a chip kept of an image from the start on: what it kept at the end, where no line reports a change of it.
 abbrev pub first_of : List Told → (mote image : ℕ) → List Told
 first_of told mote image =
     if list_any (λ t. is_change_of mote image t.report) told then [] else kept_first mote image (total mote image told)
@@ -71,7 +71,7 @@ powered mote on (Start m image version length crc) = if m == mote then true else
 powered mote on (Off m) = if m == mote then false else on
 powered mote on _ = on
 
--- how a mote ended, as far as it is told
+-- how a mote ended, as far as the report says
 abbrev pub ended_by : (mote : ℕ) → Ended → Report → Ended
 ended_by mote how (MoteOn m image version) = if m == mote then ended.On image version else how
 ended_by mote how (MoteOff m) = if m == mote then ended.Off else how
@@ -89,13 +89,13 @@ is_marked _ mote _ = false
 
 -- ---- sizes
 
--- the pages that a line tells of a version of an image
+-- the pages that a line reports of a version of an image
 abbrev pub counted : (image version : ℕ) → Report → ℕ
 counted image version (Have m i v count) = if i == image && v == version then count else 0
 counted image version (Kept m i v count) = if i == image && v == version then count else 0
 counted image version _ = 0
 
--- the largest count that is told of a version of an image
+-- the largest count that is reported of a version of an image
 abbrev pub largest : (image version : ℕ) → List Told → ℕ
 largest image version told = fold (λ n t. max n (counted image version t.report)) 0 told
 
@@ -112,7 +112,7 @@ report_image (MoteOn mote image version) = image
 report_image (Kept mote image version count) = image
 report_image _ = 0
 
--- the largest image that is told
+-- the largest image that is reported
 abbrev pub last_image : List Told → ℕ
 last_image told = fold (λ n t. max n (report_image t.report)) 0 told
 
@@ -133,6 +133,6 @@ report_motes (MoteOn mote image version) = mote + 1
 report_motes (MoteOff mote) = mote + 1
 report_motes (Kept mote image version count) = mote + 1
 
--- how many motes there are, as far as it is told
+-- how many motes there are, as far as the report says
 abbrev pub motes : List Told → ℕ
 motes told = fold (λ n t. max n (report_motes t.report)) 0 told

@@ -1,4 +1,4 @@
-//! What the report of a replay tells: its lines, plain or timed, each at its place, and what they say of motes.
+//! What the report of a replay says: its lines, plain or timed, each at its place, and what they say of motes.
 #![tactic(auto)]
 
 mod endings;

@@ -14,7 +14,7 @@ use itoa::Buffer;
 use memchr::memchr;
 use std::str;
 
-/// What stands before a line of a timed report.
+/// The stamp before a line of a timed report.
 #[derive(Clone, Copy, Debug, PartialEq, Eq)]
 pub struct Stamp {
     /// The number of the event in which the line was written.
@@ -28,7 +28,7 @@ pub struct Stamp {
 pub struct Line {
     /// Its stamp, where the report is timed.
     pub stamp: Option<Stamp>,
-    /// What it tells.
+    /// What it says.
     pub report: Report,
 }
 
@@ -61,7 +61,7 @@ fn printed(bytes: &[u8]) -> Option<u64>
     Some(found)
 }
 
-// The number before the first space, and the bytes behind it.
+// The number before the first space, and the bytes after it.
 #[tactic(auto, using(crate::proofs::LineLemmas::numbers_taken))]
 fn take_number(bytes: &[u8]) -> Option<(u64, &[u8])>
     ensures { MatchOption result ((n : ℕ) (rest : List ℕ) → n < 2 ^ 64 → bytes.now ≢ decimal n ++ 32 ∷ rest)
@@ -74,7 +74,7 @@ fn take_number(bytes: &[u8]) -> Option<(u64, &[u8])>
     Some((found, &bytes[at + 1..]))
 }
 
-/// The stamp of a line, and the bytes behind it.
+/// The stamp of a line, and the bytes after it.
 #[tactic(auto, using(crate::proofs::LineLemmas::stamps_taken))]
 pub fn take_stamp(line: &[u8]) -> Option<(Stamp, &[u8])>
     ensures { MatchOption result ((stamp : Stamp) (rest : List ℕ) → FitsStamp (Some stamp)

@@ -1,4 +1,4 @@
-//! What a report tells of motes.
+//! What a report says of motes.
 ghost use Rattle.std.specs.Prelude.{◌≡◌, ◌≤◌, ◌==◌, ◌&&◌, IfOk, OnOk, if◌then◌else◌};
 ghost use Rattle.std.specs.List.{fold, list_any};
 ghost use Rattle.dg_story.specs.Reports.{is_change, is_change_of, reported, kept_at_end, total, report_motes, motes};
@@ -30,7 +30,7 @@ pub enum Mark {
 /// How a mote ended.
 #[derive(Clone, Copy, Debug, PartialEq, Eq)]
 pub enum Ended {
-    /// No line tells it.
+    /// No line says it.
     Untold,
     /// It was off.
     Off,
@@ -38,7 +38,7 @@ pub enum Ended {
     On { image: u8, version: u32 },
 }
 
-/// Whether a line tells a change at a mote.
+/// Whether a line reports a change at a mote.
 pub fn is_change(report: &Report) -> bool
     ensures { result ≡ is_change report.now }
 {
@@ -59,7 +59,7 @@ fn is_at(at: u8, of: u8, mote: u32, image: u8) -> bool
     u32::from(at) == mote && of == image
 }
 
-// Whether a line tells a change of an image at a mote.
+// Whether a line reports a change of an image at a mote.
 fn is_change_of(mote: u32, image: u8, report: &Report) -> bool
     ensures { result ≡ is_change_of mote image report.now }
 {
@@ -77,7 +77,7 @@ fn is_change_of(mote: u32, image: u8, report: &Report) -> bool
     }
 }
 
-/// Whether some line tells a change of an image at a mote.
+/// Whether some line reports a change of an image at a mote.
 pub fn changes_image(mote: u32, image: u8, told: &[Told]) -> bool
     ensures { result ≡ list_any (λ t. is_change_of mote image t.report) told.now }
 {
@@ -85,7 +85,7 @@ pub fn changes_image(mote: u32, image: u8, told: &[Told]) -> bool
         .any(|here| is_change_of(mote, image, &here.report))
 }
 
-// What a mote keeps of an image behind a line, where this was kept before it.
+// What a mote keeps of an image after a line, where this was kept before it.
 fn reported(kept: Pages, mote: u32, image: u8, report: &Report) -> Pages
     ensures { result ≡ reported mote image kept report.now }
 {
@@ -120,7 +120,7 @@ fn reported(kept: Pages, mote: u32, image: u8, report: &Report) -> Pages
     }
 }
 
-/// What a mote keeps of an image behind lines, where this was kept before them.
+/// What a mote keeps of an image after lines, where this was kept before them.
 pub fn last_reported(first: Pages, mote: u32, image: u8, told: &[Told]) -> Pages
     ensures { result ≡ fold (λ kept t. reported mote image kept t.report) first told.now }
 {
@@ -131,7 +131,7 @@ pub fn last_reported(first: Pages, mote: u32, image: u8, told: &[Told]) -> Pages
     kept
 }
 
-// What a mote kept of an image at the end, as far as it is told behind a line.
+// What a mote kept of an image at the end, as far as it is known after a line.
 fn kept_at_end(kept: Option<Pages>, mote: u32, image: u8, report: &Report) -> Option<Pages>
     ensures { result ≡ kept_at_end mote image kept report.now }
 {
@@ -154,7 +154,7 @@ fn kept_at_end(kept: Option<Pages>, mote: u32, image: u8, report: &Report) -> Op
     }
 }
 
-/// What a mote kept of an image at the end, where it is told.
+/// What a mote kept of an image at the end, where a line says it.
 pub fn total(mote: u32, image: u8, told: &[Told]) -> Option<Pages>
     ensures { result ≡ total mote image told.now }
 {
@@ -165,7 +165,7 @@ pub fn total(mote: u32, image: u8, told: &[Told]) -> Option<Pages>
     kept
 }
 
-// Whether a mote is on behind a line, where it was so before.
+// Whether a mote is on after a line, where it was so before.
 fn powered(on: bool, mote: u32, report: &Report) -> bool
     ensures { result ≡ powered mote on report.now }
 {
@@ -176,7 +176,7 @@ fn powered(on: bool, mote: u32, report: &Report) -> bool
     }
 }
 
-/// Whether a mote is on behind lines, where it was so before them.
+/// Whether a mote is on after lines, where it was so before them.
 pub fn last_powered(first: bool, mote: u32, told: &[Told]) -> bool
     ensures { result ≡ fold (λ on t. powered mote on t.report) first told.now }
 {
@@ -187,7 +187,7 @@ pub fn last_powered(first: bool, mote: u32, told: &[Told]) -> bool
     on
 }
 
-// How a mote ended, as far as it is told behind a line.
+// How a mote ended, as far as it is known after a line.
 fn ended_by(how: Ended, mote: u32, report: &Report) -> Ended
     ensures { result ≡ ended_by mote how report.now }
 {
@@ -212,7 +212,7 @@ fn ended_by(how: Ended, mote: u32, report: &Report) -> Ended
     }
 }
 
-/// How a mote ended, as far as it is told.
+/// How a mote ended, as far as the report says.
 pub fn how_ended(mote: u32, told: &[Told]) -> Ended
     ensures { result ≡ ended_of mote told.now }
 {
@@ -247,7 +247,7 @@ pub fn motes_of(report: &Report) -> u32
     u32::from(mote) + 1
 }
 
-/// How many motes there are, as far as it is told.
+/// How many motes there are, as far as the report says.
 pub fn motes(told: &[Told]) -> u32
     ensures value { result ≡ motes told.now }
     ensures bound { result ≤ 256 }
@@ -277,7 +277,7 @@ pub fn image_of(report: &Report) -> u8
     }
 }
 
-/// The largest image that is told.
+/// The largest image that is reported.
 pub fn images(told: &[Told]) -> u8
     ensures { result ≡ last_image told.now }
 {

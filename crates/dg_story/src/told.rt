@@ -1,4 +1,4 @@
-//! What lines tell that is drawn, each at its place on the axis.
+//! What lines say that is drawn, each at its place on the axis.
 ghost use Rattle.std.specs.Prelude.{◌≡◌, ◌++◌, ◌∷◌, [], if◌then◌else◌, OnOk};
 ghost use Rattle.dg_story.specs.Lines.{is_told, place_by};
 
@@ -6,19 +6,19 @@ use crate::lines::{Line, Stamp};
 use dg_script::Report;
 use std::alloc::{AllocError, Global};
 
-/// What is told at a place of the axis.
+/// What is reported at a place of the axis.
 #[derive(Clone, Copy, Debug, PartialEq, Eq)]
 pub struct Told {
     /// A moment in milliseconds, or else the number of a line, from 1 on.
     pub place: u64,
-    /// What is told.
+    /// What is reported.
     pub report: Report,
 }
 
-/// What the lines of a report tell that is drawn.
+/// What the lines of a report say that is drawn.
 #[derive(Drop)]
 pub struct Story {
-    /// What they tell, in their order.
+    /// What they say, in their order.
     pub told: Vec<Told>,
     /// The last place of all lines.
     pub last: u64,
@@ -42,7 +42,7 @@ impl Story {
         }
     }
 
-    /// Keeps what the next line tells.
+    /// Keeps what the next line says.
     pub fn tell(&mut self, line: Line) -> Result<(), AllocError>
         requires { self.old.count < 1000000 }
         ensures { OnOk result ((lines : List Line) → Tells self.old.told.items self.old.last self.old.count lines
@@ -57,7 +57,7 @@ impl Story {
     }
 }
 
-// Whether a line tells what is drawn.
+// Whether a line says something that is drawn.
 fn is_told(report: &Report) -> bool
     ensures { result ≡ is_told report.now }
 {
@@ -84,7 +84,7 @@ fn place_of(number: u64, stamp: Option<Stamp>) -> u64
     }
 }
 
-// Keeps what is told, where it is drawn.
+// Keeps what is reported, if it is drawn.
 fn keep_told(told: &mut Vec<Told>, here: Told) -> Result<(), AllocError>
     ensures { OnOk result (told.new.items ≡ told.old.items ++ (if is_told here.report then here ∷ [] else [])) }
 {
