@@ -18,7 +18,7 @@ use Rattle.dg_slot.proofs.SlotLemmas.{same_tables, image_stays}
 use Rattle.dg_volume.specs.Sizes.{images, golden_version, control_sectors}
 use Rattle.dg_volume.specs.Store.{App, Store, held}
 use Rattle.dg_volume.specs.Told.{Says, told, slot_told}
-use Rattle.dg_volume.specs.Stands.{HoldsApp, Contains, MountedBut, Mounted, kept_at}
+use Rattle.dg_volume.specs.Stands.{HoldsApp, Contains, Stands, MountedBut, Mounted, kept_at}
 use Rattle.dg_volume.specs.Changes.{keeping}
 use Rattle.dg_volume.specs.declared.volume.Volume.{Volume}
 
@@ -143,3 +143,24 @@ slot_free c d v s i known none keeps m =
       app = memory_stays c d s.app (memory_before (slot_end i) c d i keeps) contains.app;
     })
     m.tells.kept
+
+-- ---- without a volume
+
+-- a slot is written, in which what is kept of its image stays
+pub slot_alone : (c d : List ℕ) (s : Store) (i : ℕ) → i < images → Touches (header_sector i) (slot_end i) c d → IfSome (held s i) (KeepsImage d i) → Stands c s → Stands d s
+slot_alone c d s i known keeps image stands =
+    let contains = stands.contains in
+    record {
+      snapshot = stands.snapshot;
+      controls = controls_kept c d stands.snapshot s.room (control_before (header_sector i) (slot_end i) c d (omega arith) keeps) stands.controls;
+      says = stands.says;
+      contains = record {
+        count = contains.count;
+        kept = λ j k. ⊎_elim
+            (λ e. subst (λ (n : ℕ). IfSome (held s n) (KeepsImage d n)) (sym e) image)
+            (λ other. held_stays c d j (held s j) (slot_beside c d i j k other keeps) (contains.kept j k))
+            (cases_eq j i);
+        golden = contains.golden;
+        app = memory_stays c d s.app (memory_before (slot_end i) c d i keeps) contains.app;
+      };
+    }

@@ -1,5 +1,5 @@
 -- What is told of an image that is kept.
-use Rattle.std.proofs.Common.{◌≡◌, ℕ, ◌<◌, ◌≤◌, List, Option, Some, None, IfSome, IsTrue, refl, sym, subst, ◌∙◌, arith}
+use Rattle.std.proofs.Common.{◌≡◌, ℕ, ◌^◌, ◌<◌, ◌≤◌, List, Option, Some, None, IfSome, IsTrue, refl, sym, subst, ◌∙◌, arith}
 use Rattle.std.proofs.lemmas.Bool.Decides.{nat_tests}
 use Rattle.dg_control.specs.Ranges.{slot_fits}
 use Rattle.dg_control.specs.declared.snapshot.SlotState.{SlotState}
@@ -9,7 +9,7 @@ use Rattle.dg_slot.specs.Kept.{Held, KeepsImage}
 use Rattle.dg_volume.specs.Sizes.{images}
 use Rattle.dg_volume.specs.Store.{Store, held}
 use Rattle.dg_volume.specs.Told.{told, told_held, slot_told}
-use Rattle.dg_volume.specs.Stands.{Mounted, IsMounted, kept_at, snapshot_of}
+use Rattle.dg_volume.specs.Stands.{Stands, Mounted, IsMounted, kept_at, snapshot_of}
 use Rattle.dg_volume.specs.declared.volume.Kept.{Kept}
 use Rattle.dg_volume.specs.declared.volume.Volume.{Volume}
 
@@ -44,3 +44,16 @@ kept_fits_by c s i k keeps =
 
 pub kept_fits : (c : List ℕ) (v : Volume) (i : ℕ) (k : Kept) → i < images → IsMounted c v → kept_at v i ≡ Some k → KeptFits k
 kept_fits c v i k known m is = kept_fits_by c m.0 i k (keeps_told c v m.0 i k known m.1 is)
+
+-- ---- the version of what is kept
+
+abbrev pub IsVersion : ℕ → Type 0
+IsVersion v = (1 ≤ v) × (v < 2 ^ 32)
+
+version_by : (h : Held) → IsTrue (slot_fits (slot_told (Some h))) → IsVersion h.version
+version_by h fits = (grind (arith, nat_tests), grind (arith, nat_tests))
+
+pub version_kept : (c : List ℕ) (s : Store) (i : ℕ) (h : Held) → Stands c s → held s i ≡ Some h → i < images → IsVersion h.version
+version_kept c s i h stands here known =
+    let fits : IsTrue (slot_fits (slot_told (held s i))) = subst (λ (x : SlotState). IsTrue (slot_fits x)) (stands.says.slots i known) ((in_range stands.snapshot).slots i) in
+    version_by h (subst (λ (o : Option Held). IsTrue (slot_fits (slot_told o))) here fits)

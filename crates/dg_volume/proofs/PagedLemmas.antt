@@ -113,6 +113,13 @@ fill_stops n done a b v s i h not_golden known here touches keeps m halts =
     subst (λ (k : ℕ). Halted k To a b) (sym (operations-resting s n))
     (record { done = done; halts = halts; leaves = record { store = s; stands_for = stands; allowed = (Leaves-resting IsNear s n done s).1 (near_same s) } })
 
+-- the same without a volume
+pub rest_stops : (n done : ℕ) (a b : Device) (s : Store) → Stands b.image s → Halts n done a b → Stops (resting s n) a b
+rest_stops n done a b s stands halts =
+    let To : ℕ → List ℕ → Type 0 = MayLeave Stands IsNear (resting s n) in
+    subst (λ (k : ℕ). Halted k To a b) (sym (operations-resting s n))
+    (record { done = done; halts = halts; leaves = record { store = s; stands_for = stands; allowed = (Leaves-resting IsNear s n done s).1 (near_same s) } })
+
 unfit_stops : (a b : Device) (v : Volume) (s : Store) (i : ℕ) (h : Held) → 1 ≤ i → i < images → held s i ≡ Some h → Touches (header_sector i) (slot_end i) a.image b.image → MountedBut (λ j. j ≡ i) a.image v s → SlotStops i (resting h 0) a b → Stops (resting s 0) a b
 unfit_stops a b v s i h not_golden known here touches m stops =
     let still : stops.leaves.store ≡ h = (Leaves-resting Itself h 0 stops.done stops.leaves.store).0 stops.leaves.allowed in

@@ -1,6 +1,6 @@
 //! What holds of volumes. These functions do nothing: their contracts are the laws.
-ghost use Rattle.std.specs.Prelude.{◌≡◌, ◌↔◌, ◌⊎◌, ℕ, ◌+◌, ◌<◌, ◌≤◌, ◌==◌, if◌then◌else◌, Bool, true, false, List, [], Option};
-ghost use Rattle.std.specs.Prelude.{Some, None, IfSome, length, drop, slice_index_or};
+ghost use Rattle.std.specs.Prelude.{◌≡◌, ◌↔◌, ◌⊎◌, ℕ, ◌+◌, ◌^◌, ◌<◌, ◌≤◌, ◌==◌, if◌then◌else◌, Bool, true, false, List, []};
+ghost use Rattle.std.specs.Prelude.{Option, Some, None, IfSome, length, drop, slice_index_or};
 ghost use Rattle.dg_nor.specs.Chip.{Touches};
 ghost use Rattle.dg_nor.specs.Device.{Device, Ran, Halts};
 ghost use Rattle.dg_nor.specs.Trail.{Trail, operations, last, joined, resting, stepping, EachWorks, Leaves};
@@ -138,6 +138,17 @@ pub fn a_lent_slot_is_filled()
         → held s i ≡ Some h
         → Touches (header_sector i) (slot_end i) a.image b.image → MountedBut (λ j. j ≡ i) a.image v s
         → SlotStops i (seal_trail i h page) a b → Stops (sealing_trail s i h page) a b }
+{}
+
+/// A slot is written without a volume. Where what is kept of its image stays, the chip stands for what it stood for, also after a
+/// stop. Where nothing is kept of it, that holds whatever is written.
+pub fn a_slot_is_written_alone()
+    ensures same { (c d : List ℕ) (s : Store) (i : ℕ) → i < images → Touches (header_sector i) (slot_end i) c d
+        → IfSome (held s i) (KeepsImage d i) → Stands c s → Stands d s }
+    ensures stopped { (n done : ℕ) (a b : Device) (s : Store) → Stands b.image s → Halts n done a b
+        → Stops (resting s n) a b }
+    ensures version { (c : List ℕ) (s : Store) (i : ℕ) (h : Held) → Stands c s → held s i ≡ Some h → i < images
+        → (1 ≤ h.version) × (h.version < 2 ^ 32) }
 {}
 
 /// Each act's trail begins at the store before it, and may follow another.

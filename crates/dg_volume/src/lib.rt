@@ -24,7 +24,7 @@ pub use dg_control::{FORM, OLD_FORM, Order, Program, SlotState, Snapshot};
 pub use injecting::{injection_fault, is_other};
 pub use laws::{
     a_chip_stands_for_a_shaped_store, a_chip_stands_for_one_store, a_lent_slot_is_filled,
-    a_row_is_filled_page_by_page, a_start_ends, a_table_holds_sound_rows,
+    a_row_is_filled_page_by_page, a_slot_is_written_alone, a_start_ends, a_table_holds_sound_rows,
     a_volume_bounds_a_remount, a_volume_has_one_form, a_volume_has_these_sizes,
     a_volume_is_mounted_in_one_way, a_whole_image_is_sound, acts_end, an_agreeing_store_keeps_rows,
     program_memory_holds_the_app, starts_end, trails_begin, trails_join, trails_keep_agreement,
