@@ -1,11 +1,17 @@
 -- The images that an advert names, one after the other.
-use Rattle.std.proofs.Common.{◌≡◌, ℕ, zero, suc, ◌+◌, ◌<◌, ◌≤◌, Bool, true, false, ◌&&◌, List, length, Some, None, refl, ap, ◌∙◌, inl, inr, arith}
+use Rattle.std.proofs.Common.{◌≡◌, ℕ, zero, suc, ◌+◌, ◌<◌, ◌≤◌, Bool, true, false, ◌&&◌, ◌||◌, cond, List, length, Option, Some, None, refl, sym, ap, ◌∙◌, inl, inr, arith}
+use Rattle.std.specs.Prelude.{◌==◌, nat_lt, nat_le}
 use Rattle.std.specs.List.{find, list_all, range_with_len}
-use Rattle.std.proofs.lemmas.Bool.{cases_eq, cases_lt, and_from}
+use Rattle.std.proofs.lemmas.Bool.{cases_eq, cases_lt, and_from, and_parts}
+use Rattle.std.proofs.lemmas.Bool.Decides.{nat_tests}
+use Rattle.dg_nor.specs.Trail.{last, last_of, resting}
+use Rattle.dg_slot.specs.Kept.{Held}
 use Rattle.dg_frame.specs.declared.Entry.{Entry}
 use Rattle.dg_control.specs.declared.snapshot.Order.{Order}
 use Rattle.dg_volume.specs.Store.{Store, held}
-use Rattle.dg_mote.specs.Summary.{entry_for, entry_by, same_entry, same_order, own_order, is_own, advertiser_ahead, ahead_in}
+use Rattle.dg_volume.specs.Trails.{order_trail}
+use Rattle.dg_mote.specs.Summary.{entry_for, entry_by, same_entry, same_order, own_order, named, is_own, advertiser_ahead, ahead_in}
+use Rattle.dg_mote.specs.Adverts.{better_trail}
 use Rattle.dg_mote.proofs.ServeLemmas.{chosen, passed}
 
 -- what is found of so many numbers from a on
@@ -59,3 +65,42 @@ own_entries entries order wide s hold = ap (λ b. b && same_order order (own_ord
 pub other_entries : (entries : List Entry) (order : Order) (wide : Bool) (s : Store) (k : ℕ) → 1 ≤ k → k ≤ length entries → same_entry (entry_for entries k) (entry_by (held s k)) ≡ false → is_own entries order wide s ≡ false
 unfolding is_own
 other_entries entries order wide s k low high out = ap (λ b. b && same_order order (own_order wide s)) (not_all_from (is_said entries s) (length entries) 1 k low (omega (arith, high)) out)
+
+-- ---- an advertiser that says the same is ahead in nothing
+
+-- each of so many numbers passes, where all do
+each_from : (p : ℕ → Bool) (n a k : ℕ) → list_all p (range_with_len a n) ≡ true → a ≤ k → k < a + n → p k ≡ true
+each_from p zero a k hold low high = absurd (omega (arith, low, high))
+each_from p (suc n) a k hold low high =
+    let both = and_parts (p a) (list_all p (range_with_len (a + 1) n)) hold in
+    elim (cases_eq a k) [
+      | inl e ↦ ap p (sym e) ∙ both.0
+      | inr other ↦ each_from p n (a + 1) k both.1 (omega (arith, low, other)) (omega (arith, high))
+    ]
+
+level : (e : Entry) (o : Option Held) → same_entry e (entry_by o) ≡ true → advertiser_ahead e o ≡ false
+level e None same = none e.version e.pages e.have e.crc same
+  where
+    none : (v p h c : ℕ) → (v == 0) && (p == 0) && (h == 0) && (c == 0) ≡ true → nat_le 1 h ≡ false
+    none v p h c t = grind (arith, nat_tests)
+level e (Some h) same = alike h.version e.version h.pages e.pages h.crc e.crc (length h.complete) e.have same
+  where
+    alike : (a b x y u v n k : ℕ) → (b == a) && (y == x) && (k == n) && (v == u) ≡ true → nat_le 1 k && (nat_lt a b || ((b == a) && (y == x) && (v == u) && nat_lt n k)) ≡ false
+    alike a b x y u v n k t = grind (arith, nat_tests)
+
+-- a better order changes nothing of what is kept of images
+better_keeps : (s : Store) (order : Order) (i : ℕ) → held (last (better_trail s order)) i ≡ held s i
+unfolding better_trail last_of
+better_keeps s order i = by_test (nat_lt s.order.number order.number && nat_le 1 s.room)
+  where
+    by_test : (b : Bool) → held (last (cond b (order_trail s order) (resting s 0))) i ≡ held s i
+    by_test true = refl
+    by_test false = refl
+
+pub own_is_level : (entries : List Entry) (order : Order) (wide : Bool) (s : Store) → is_own entries order wide s ≡ true → ahead_in entries (last (better_trail s order)) ≡ None
+unfolding is_own
+own_is_level entries order wide s own =
+    let says : list_all (is_said entries s) (named entries) ≡ true = (and_parts (list_all (is_said entries s) (named entries)) _ own).0 in
+    ahead_none entries (last (better_trail s order)) (λ j low high.
+    ap (advertiser_ahead (entry_for entries j)) (better_keeps s order j)
+    ∙ level (entry_for entries j) (held s j) (each_from (is_said entries s) (length entries) 1 j says low (omega (arith, high))))

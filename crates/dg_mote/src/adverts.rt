@@ -89,10 +89,16 @@ impl Mote {
         trails_begin();
         let same = would_say(self.wide, &self.volume, entries, order);
         keep_better(nor, &mut self.volume, order)?;
-        self.follow(nor, now, word, source, entries, same)
+        // an advertiser that says the same is ahead in no image
+        if same {
+            return Ok(self.note_advert(true, now, word));
+        }
+        self.follow(nor, now, word, source, entries)
     }
 
-    /// Asks for the least image in which the advertiser is ahead, where that may be asked for. Else the advert is noted.
+    /// Asks for the least image in which the advertiser of something other is ahead, where that may be asked for. Else the
+    /// advert is noted.
+    #[inline(never)]
     fn follow<N: Nor>(
         &mut self,
         nor: &mut N,
@@ -100,7 +106,6 @@ impl Mote {
         word: u32,
         source: u16,
         entries: &[Entry],
-        same: bool,
     ) -> Result<Heard, Stopped>
         requires mote { (m : MoteState) × (s : Store) × (timer : Timer) × IsMote (N.device nor.old).image self.old m s
             × (m.mode ≡ Maintain timer) }
@@ -109,22 +114,22 @@ impl Mote {
         requires known { length entries.now ≤ known_images self.old.wide }
         ensures done { IfOk result (λ heard. (m : MoteState) (s : Store) (timer : Timer)
             → IsMote (N.device nor.old).image self.old m s → m.mode ≡ Maintain timer
-            → Done (by_ahead (ahead_in entries.now s) m s now word (offer source entries.now) (noting m timer s now word same))
+            → Done (by_ahead (ahead_in entries.now s) m s now word (offer source entries.now) (noting m timer s now word false))
             (N.device nor.old) (N.device nor.new) self.new heard) }
         ensures not_dropped { IfOk result (λ heard. StaysIf heard ⊥) }
         ensures same_reference { (N.device nor.new).references ≡ (N.device nor.old).references }
         ensures stopped { OnErr result ((m : MoteState) (s : Store) (timer : Timer)
             → IsMote (N.device nor.old).image self.old m s → m.mode ≡ Maintain timer
             → Stops (by_ahead (ahead_in entries.now s) m s now word (offer source entries.now)
-            (noting m timer s now word same)).trail
+            (noting m timer s now word false)).trail
             (N.device nor.old) (N.device nor.new)) }
     {
         let Some(image) = first_ahead(&self.volume, entries) else {
-            return Ok(self.note_advert(same, now, word));
+            return Ok(self.note_advert(false, now, word));
         };
         let entry = entry_for(entries, image);
         if !self.may_ask(now, image, entry) {
-            return Ok(self.note_advert(same, now, word));
+            return Ok(self.note_advert(false, now, word));
         }
         self.ask(nor, now, word, source, image, entry)
     }
@@ -147,9 +152,9 @@ impl Mote {
             → ChipStays (noting m timer s now word same) c s self.new result }
         ensures not_dropped { StaysIf result ⊥ }
     {
-        // `hear_advert` matched this mode, but the type of a mote that is lent cannot say so
+        // no other mote compares adverts
         let Mode::Maintain(trickle) = &mut self.mode else {
-            unreachable!();
+            return Heard::Dropped;
         };
         if same {
             trickle.heard_same();

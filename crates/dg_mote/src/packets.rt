@@ -107,9 +107,9 @@ impl Mote {
             → Stops (page_ends m r h s now word (page_from ps)).trail (N.device nor.old) (N.device nor.new)) }
     {
         let maintain = Mode::Maintain(Trickle::new(now, word));
-        // `hear_packet` matched this mode, but the type of a mote that is lent cannot say so
+        // no other mote fills a page
         let Mode::Receive { job, .. } = mem::replace(&mut self.mode, maintain) else {
-            unreachable!();
+            return Ok(Heard::Dropped);
         };
         let image = job.image();
         let page = job.page();

@@ -1,16 +1,19 @@
 //! What a mote does as time passes.
-ghost use Rattle.std.specs.Prelude.{◌≡◌, ℕ, ◌<◌, ◌^◌, None, IfOk, IfSome, OnOk, OnErr, List, Option, option_map};
+ghost use Rattle.std.specs.Prelude.{◌≡◌, ℕ, ◌<◌, ◌≤◌, ◌^◌, None, Some, IfOk, IfSome, OnOk, OnErr, List, Option, option_map};
 ghost use Rattle.dg_nor.specs.Reads.{ReadEnds};
 ghost use Rattle.dg_frame.specs.Spelling.{frame_of};
 ghost use Rattle.dg_frame.specs.declared.Message.TheVariants as message;
 ghost use Rattle.dg_slot.specs.Layout.{slots, most_pages, packets, page_sector};
 ghost use Rattle.dg_slot.specs.Pages.{packet_in};
-ghost use Rattle.dg_slot.specs.Jobs.{outline_told, done_told, slot_of};
+ghost use Rattle.dg_slot.specs.Kept.{Held};
+ghost use Rattle.dg_slot.specs.Jobs.{IsJob, Packets, outline_told, done_told, slot_of};
 ghost use Rattle.dg_object.specs.Object.{Row};
 ghost use Rattle.dg_volume.specs.Store.{Store};
-ghost use Rattle.dg_volume.specs.Stands.{Tells, IsMounted};
-ghost use Rattle.dg_volume.specs.Acts.{Stops};
+ghost use Rattle.dg_volume.specs.Stands.{Tells, Mounted, IsMounted, is_lent, room_of};
+ghost use Rattle.dg_volume.specs.Acts.{Acted, Stops};
+ghost use Rattle.dg_volume.specs.Trails.{clear_trail};
 ghost use Rattle.dg_mote.specs.Model.{MoteState, Maintain};
+ghost use Rattle.dg_mote.specs.Summary.{advert_of};
 ghost use Rattle.dg_mote.specs.Ticks.{clears, maintain_tick, mode_tick, tick_of};
 ghost use Rattle.dg_mote.specs.Timely.{Timely};
 ghost use Rattle.dg_mote.specs.Motes.{IsMote, Done, sent_in, IsRead};
@@ -70,7 +73,7 @@ impl Mote {
     {
         a_mote_keeps_consistency();
         if self.clears(now) {
-            self.volume.clear_gesture(nor)?;
+            clear_gesture(&mut self.volume, nor)?;
             return Ok(Did::Idle);
         }
         self.tick_mode(nor, now, word, out)
@@ -181,8 +184,26 @@ impl Mote {
     }
 }
 
+/// Counts short starts from 0 again. It is not inlined: at most one tick of a start does it.
+#[inline(never)]
+fn clear_gesture<N: Nor>(volume: &mut Volume, nor: &mut N) -> Result<(), Stopped>
+    requires mounted { IsMounted (N.device nor.old).image volume.old }
+    requires room { 1 ≤ room_of volume.old }
+    ensures acted { OnOk result ((s : Store) → Mounted (N.device nor.old).image volume.old s
+        → Acted (clear_trail s) (N.device nor.old) (N.device nor.new) volume.new) }
+    ensures same_reference { (N.device nor.new).references ≡ (N.device nor.old).references }
+    ensures lent { (i : ℕ) → is_lent volume.new i ≡ is_lent volume.old i }
+    ensures job { (j : PageJob) (h : Held) (ps : Packets) → IsJob (N.device nor.old).image j h ps
+        → IsJob (N.device nor.new).image j h ps }
+    ensures stopped { OnErr result ((s : Store) → Mounted (N.device nor.old).image volume.old s
+        → Stops (clear_trail s) (N.device nor.old) (N.device nor.new)) }
+{
+    volume.clear_gesture(nor)
+}
+
 /// What it does as it maintains: it asks for a restart where an order waits, and else it ticks its timer, and advertises
 /// where that says so.
+#[inline(always)]
 fn maintain(
     id: u16,
     wide: bool,
@@ -203,11 +224,21 @@ fn maintain(
     }
     match trickle.tick(now, word) {
         Act::Send => {
-            out.put(&advert_message(id, wide, volume));
+            put_advert(id, wide, volume, out);
             Did::Sent
         }
         Act::Quiet | Act::Expired | Act::Nothing => Did::Idle,
     }
+}
+
+/// Puts the advert of what a volume keeps in. It is not inlined: most ticks send none.
+#[inline(never)]
+fn put_advert(id: u16, wide: bool, volume: &Volume, out: &mut Outbox)
+    requires { (c : List ℕ) × IsMounted c volume.now }
+    ensures sent { (s : Store) → Tells volume.now s → sent_in out.new ≡ Some (frame_of (advert_of id wide s)) }
+    ensures read { (s : Store) → Tells volume.now s → IsRead wide (advert_of id wide s) }
+{
+    out.put(&advert_message(id, wide, volume));
 }
 
 /// A request for packets of the page that is being filled.

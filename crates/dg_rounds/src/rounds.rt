@@ -161,6 +161,10 @@ impl RoundTurns {
         requires { position < ROUND_EVENTS }
         ensures { (a b : ℕ) (d : Event) → AreTurns self.now a b → slice_index_or (round a b) position d ≡ result.now }
     {
+        // Most events of a round are its packets: their positions are checked first.
+        if position > ASKED {
+            return self.sending_at(position);
+        }
         if position < REST {
             return &self.first;
         }
@@ -170,9 +174,15 @@ impl RoundTurns {
         if position < 2 * REST + ADVERT {
             return &self.first;
         }
-        if position <= ASKED {
-            return self.asking_at(position - (2 * REST + ADVERT));
-        }
+        self.asking_at(position - (2 * REST + ADVERT))
+    }
+
+    /// The event at a position after the request: the first mote sends a packet, or the second hears it.
+    fn sending_at(&self, position: u8) -> &Event
+        requires asked { ASKED < position }
+        requires inside { position < ROUND_EVENTS }
+        ensures { (a b : ℕ) (d : Event) → AreTurns self.now a b → slice_index_or (round a b) position d ≡ result.now }
+    {
         if position % 2 == 0 {
             &self.first
         } else {

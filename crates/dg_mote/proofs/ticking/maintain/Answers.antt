@@ -12,10 +12,10 @@ returns-then-order_waits c m s id alike is tells =
 
 pub returns-in-Send : goal.returns-in-Send
 returns-in-Send c m s id alike is tells =
-    let said = c.advert_message.ensures.says s tells ∙ ap (λ n. advert_of n c.args.wide s) (sym id) ∙ ap (λ w. advert_of m.id w s) (sym alike) in
-    advert_shows m s c.args.trickle.now c.tick.new.self c.args.now c.args.word c.put.new.self (sym (c.order_waits.ensures s tells) ∙ c.if-order_waits.false) c.in-Send.ensures.act c.tick.ensures.value
-    (c.put.ensures.sent ∙ ap (λ (x : Message). Some (frame_of x)) said)
-    (subst (λ (w : Bool). IsRead w (advert_of m.id m.wide s)) (sym alike) (subst (IsRead c.args.wide) said (c.put.ensures.read c.args.wide c.advert_message.ensures.fits)))
+    let said = ap (λ n. advert_of n c.args.wide s) (sym id) ∙ ap (λ w. advert_of m.id w s) (sym alike) in
+    advert_shows m s c.args.trickle.now c.tick.new.self c.args.now c.args.word c.put_advert.new.out (sym (c.order_waits.ensures s tells) ∙ c.if-order_waits.false) c.in-Send.ensures.act c.tick.ensures.value
+    (c.put_advert.ensures.sent s tells ∙ ap (λ (x : Message). Some (frame_of x)) said)
+    (subst (λ (w : Bool). IsRead w (advert_of m.id m.wide s)) (sym alike) (subst (IsRead c.args.wide) said (c.put_advert.ensures.read s tells)))
 
 pub returns-in-Quiet : goal.returns-in-Quiet
 returns-in-Quiet c m s id alike is tells =

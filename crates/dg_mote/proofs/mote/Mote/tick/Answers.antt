@@ -27,7 +27,7 @@ returns-then-clears-clause-done g c m s h =
     let a = g.N.Nor.device c.args.nor.now in
     let b = g.N.Nor.device c.clear_gesture.new.nor in
     let v = c.args.self.now in
-    let w = c.clear_gesture.new.self in
+    let w = c.clear_gesture.new.volume in
     let turn = tick_clears m s c.args.now c.args.word (sym (c.clears.ensures m s h.since h.mounted.tells) ∙ c.if-clears.true) in
     subst (λ (t : MoteStep Did). Done t a b (record v { volume = w }) Idle) (sym turn)
     (cleared a b v w m s h (c.in_ok-clear_gesture.ensures.acted s h.mounted) c.in_ok-clear_gesture.ensures.lent c.in_ok-clear_gesture.ensures.job)
@@ -64,7 +64,7 @@ returns-then-clears-clause-consistent g c = λ golden.
     let b = g.N.Nor.device c.clear_gesture.new.nor in
     let v = c.args.self.now in
     let r : Result Did Stopped = Ok Idle in
-    turn_consistent golden (λ m s. tick_of m s c.args.now c.args.word) (λ m s. c.a_mote_keeps_consistency.ensures.ticked golden m s c.args.now c.args.word) r a b v (record v { volume = c.clear_gesture.new.self }) (returns-then-clears-clause-done g c)
+    turn_consistent golden (λ m s. tick_of m s c.args.now c.args.word) (λ m s. c.a_mote_keeps_consistency.ensures.ticked golden m s c.args.now c.args.word) r a b v (record v { volume = c.clear_gesture.new.volume }) (returns-then-clears-clause-done g c)
 
 pub returns-clause-consistent : goal.returns-clause-consistent
 returns-clause-consistent g c = on_each _ c.tick_mode.result (λ golden.

@@ -1,6 +1,6 @@
 use Rattle.std.proofs.Common.{◌≡◌, get_or, [], ◌∷◌, ◌-◌, arith, sym, ◌∙◌}
 use Rattle.dg_rounds.specs.Rounds.{round, paced, passed}
-use Rattle.dg_rounds.proofs.RoundLemmas.{first_rest, second_rest, advert_rest, asking_rest, sending_rest, hearing_rest}
+use Rattle.dg_rounds.proofs.RoundLemmas.{first_rest, second_rest, advert_rest, asking_rest}
 use Rattle.dg_rounds.proofs.rounds.RoundTurns.at.Goals as goal
 
 pub returns-then-position-lt-REST : goal.returns-then-position-lt-REST
@@ -12,14 +12,8 @@ returns-then-position c a b d are = second_rest a b c.args.position d (omega ari
 pub returns-then-position-2 : goal.returns-then-position-2
 returns-then-position-2 c a b d are = advert_rest a b c.args.position d (omega arith) (omega arith) ∙ sym are.first
 
-pub returns-then-position-le-ASKED : goal.returns-then-position-le-ASKED
-returns-then-position-le-ASKED c a b d are =
+pub returns : goal.returns
+returns c a b d are =
     let at : get_or (round a b) c.args.position d ≡ get_or (passed a b ∷ paced b ∷ []) (c.args.position - 103) (passed b a) = asking_rest a b c.args.position d (omega arith) (omega arith) in
     let asks = c.asking_at.ensures a b are in
     cc
-
-pub returns-then-position-eq0 : goal.returns-then-position-eq0
-returns-then-position-eq0 c a b d are = sending_rest a b c.args.position d (omega arith) (omega arith) (omega arith) ∙ sym are.first
-
-pub returns-else-position-eq0 : goal.returns-else-position-eq0
-returns-else-position-eq0 c a b d are = hearing_rest a b c.args.position d (omega arith) (omega arith) (omega arith) ∙ sym are.there
