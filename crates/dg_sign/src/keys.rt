@@ -129,10 +129,9 @@ fn read_digits(alloc: Global, digits: &[u8]) -> Result<PublicKey, KeyTextFault>
     match parse_hex(alloc, digits) {
         Ok(bytes) => key_of(&bytes),
         Err(HexFault::Memory) => Err(KeyTextFault::Memory),
-        Err(HexFault::Digit) => Err(KeyTextFault::Digit {
+        Err(HexFault::Odd | HexFault::Digit) => Err(KeyTextFault::Digit {
             at: first_other(digits),
         }),
-        Err(HexFault::Odd) => unreachable!(),
     }
 }
 
