@@ -1,2 +1,3 @@
+pub mod TableLemmas
 mod TimedLemmas
 mod CsvLemmas

@@ -1,4 +1,6 @@
 //! What was counted, as rows of a key and a value.
+ghost use Rattle.std.specs.Prelude.{◌≡◌, ◌∷◌, ◌++◌, [], map, min, length, OnOk, IfOk};
+ghost use Rattle.dg_cost_text.specs.Table.{part_text, key_of, table_of, named_rows, Begins};
 
 use crate::moment::{Moment, What};
 use dg_base::push_u32;
@@ -43,7 +45,9 @@ pub enum Part<'a> {
 
 impl Rows {
     /// There are none yet.
-    pub fn new(alloc: Global) -> Rows {
+    pub fn new(alloc: Global) -> Rows
+        ensures { table_of result ≡ [] }
+    {
         Rows {
             alloc,
             rows: Vec::new(alloc),
@@ -52,7 +56,9 @@ impl Rows {
     }
 
     /// A row with a key of these parts.
-    pub fn push(&mut self, parts: &[Part<'_>], value: u64, summed: bool) -> Result<(), AllocError> {
+    pub fn push(&mut self, parts: &[Part<'_>], value: u64, summed: bool) -> Result<(), AllocError>
+        ensures { OnOk result (table_of self.new ≡ table_of self.old ++ (key_of parts.now [], value) ∷ []) }
+    {
         self.push_ended(parts, "", value, summed)
     }
 
@@ -63,21 +69,18 @@ impl Rows {
         end: &str,
         value: u64,
         summed: bool,
-    ) -> Result<(), AllocError> {
-        let mut key = Vec::new(self.alloc);
-        for part in parts {
-            match part {
-                Part::Text(text) => key.extend_from_slice(text.as_bytes())?,
-                Part::Number(number) => push_u32(&mut key, *number)?,
-            }
-        }
-        key.extend_from_slice(end.as_bytes())?;
+    ) -> Result<(), AllocError>
+        ensures { OnOk result (table_of self.new ≡ table_of self.old ++ (key_of parts.now end.now, value) ∷ []) }
+    {
+        let key = key_text(self.alloc, parts, end)?;
         self.rows.push(Row { key, value, summed })?;
         Ok(())
     }
 
     /// A row with the key of another one.
-    pub fn push_as(&mut self, row: &Row, value: u64) -> Result<(), AllocError> {
+    pub fn push_as(&mut self, row: &Row, value: u64) -> Result<(), AllocError>
+        ensures { OnOk result (table_of self.new ≡ table_of self.old ++ (row.now.key.items, value) ∷ []) }
+    {
         let mut key = Vec::new(self.alloc);
         key.extend_from_slice(&row.key)?;
         self.rows.push(Row {
@@ -89,12 +92,16 @@ impl Rows {
     }
 
     /// A row whose sum over the motes is told too.
-    pub fn sum(&mut self, key: &str, value: u64) -> Result<(), AllocError> {
+    pub fn sum(&mut self, key: &str, value: u64) -> Result<(), AllocError>
+        ensures { OnOk result (table_of self.new ≡ table_of self.old ++ (key.now, value) ∷ []) }
+    {
         self.push(&[Part::Text(key)], value, true)
     }
 
     /// A row of a mote alone, or of all motes alone.
-    pub fn own(&mut self, key: &str, value: u64) -> Result<(), AllocError> {
+    pub fn own(&mut self, key: &str, value: u64) -> Result<(), AllocError>
+        ensures { OnOk result (table_of self.new ≡ table_of self.old ++ (key.now, value) ∷ []) }
+    {
         self.push(&[Part::Text(key)], value, false)
     }
 
@@ -105,22 +112,29 @@ impl Rows {
         names: &[&str],
         values: &[u64],
         after: &str,
-    ) -> Result<(), AllocError> {
-        for index in 0..names.len() {
-            if index < values.len() {
-                let parts = [
-                    Part::Text(before),
-                    Part::Text(names[index]),
-                    Part::Text(after),
-                ];
-                self.push(&parts, values[index], true)?;
-            }
+    ) -> Result<(), AllocError>
+        ensures { OnOk result (table_of self.new ≡ table_of self.old
+            ++ named_rows before.now after.now (map (λ n. n.now) names.now) values.now) }
+    {
+        let count = names.len().min(values.len());
+        for index in 0..count {
+            self.named(before, names[index], values[index], after)?;
         }
         Ok(())
     }
 
+    /// A row for this name, between two pieces of the key.
+    fn named(&mut self, before: &str, name: &str, value: u64, after: &str) -> Result<(), AllocError>
+        ensures { OnOk result (table_of self.new ≡ table_of self.old ++ (before.now ++ (name.now ++ after.now), value) ∷ []) }
+    {
+        let parts = [Part::Text(before), Part::Text(name)];
+        self.push_ended(&parts, after, value, true)
+    }
+
     /// Two rows for a share.
-    pub fn share(&mut self, before: &str, name: &str, share: Share) -> Result<(), AllocError> {
+    pub fn share(&mut self, before: &str, name: &str, share: Share) -> Result<(), AllocError>
+        ensures { OnOk result (Begins (table_of self.old) (table_of self.new)) }
+    {
         let parts = [Part::Text(before), Part::Text(name)];
         self.push_ended(&parts, ".count", share.count, true)?;
         self.push_ended(&parts, ".bytes", share.bytes, true)
@@ -132,23 +146,34 @@ impl Rows {
         before: &str,
         names: &[&str],
         shares: &[Share],
-    ) -> Result<(), AllocError> {
-        for index in 0..names.len() {
-            if index < shares.len() {
-                self.share(before, names[index], shares[index])?;
-            }
+    ) -> Result<(), AllocError>
+        ensures { OnOk result (Begins (table_of self.old) (table_of self.new)) }
+    {
+        let count = names.len().min(shares.len());
+        for index in 0..count {
+            self.share(before, names[index], shares[index])?;
         }
         Ok(())
     }
 
     /// The two rows of a moment.
-    pub fn moment(&mut self, what: What, at: Moment) -> Result<(), AllocError> {
+    pub fn moment(&mut self, what: What, at: Moment) -> Result<(), AllocError>
+        ensures { OnOk result (Begins (table_of self.old) (table_of self.new)) }
+    {
+        self.what_rows(what, at)?;
+        self.moments.push((what, at))?;
+        Ok(())
+    }
+
+    fn what_rows(&mut self, what: What, at: Moment) -> Result<(), AllocError>
+        ensures { OnOk result (Begins (table_of self.old) (table_of self.new)) }
+    {
         match what {
             What::Whole {
                 image,
                 version,
                 times,
-            } => self.whole(image, version, times, at)?,
+            } => self.whole(image, version, times, at),
             What::All { image, version } => {
                 let parts = [
                     Part::Text("all."),
@@ -156,18 +181,18 @@ impl Rows {
                     Part::Text("."),
                     Part::Number(version),
                 ];
-                self.moment_rows(&parts, at)?;
+                self.moment_rows(&parts, at)
             }
             What::Newest { image } => {
                 let parts = [Part::Text("newest."), Part::Number(u32::from(image))];
-                self.moment_rows(&parts, at)?;
+                self.moment_rows(&parts, at)
             }
         }
-        self.moments.push((what, at))?;
-        Ok(())
     }
 
-    fn whole(&mut self, image: u8, version: u32, times: u32, at: Moment) -> Result<(), AllocError> {
+    fn whole(&mut self, image: u8, version: u32, times: u32, at: Moment) -> Result<(), AllocError>
+        ensures { OnOk result (Begins (table_of self.old) (table_of self.new)) }
+    {
         let again = 1 < times;
         let parts = [
             Part::Text("whole."),
@@ -184,7 +209,9 @@ impl Rows {
         self.moment_rows(&parts, at)
     }
 
-    fn moment_rows(&mut self, parts: &[Part<'_>], at: Moment) -> Result<(), AllocError> {
+    fn moment_rows(&mut self, parts: &[Part<'_>], at: Moment) -> Result<(), AllocError>
+        ensures { OnOk result (Begins (table_of self.old) (table_of self.new)) }
+    {
         self.push_ended(parts, ".event", at.event, false)?;
         self.push_ended(parts, ".ms", at.ms, false)
     }
@@ -214,6 +241,28 @@ impl Rows {
         }
         sum
     }
+}
+
+/// Appends a part of a key.
+fn push_part(key: &mut Vec<u8>, part: Part<'_>) -> Result<(), AllocError>
+    ensures { OnOk result (key.new.items ≡ key.old.items ++ part_text part.entry) }
+{
+    match part {
+        Part::Text(text) => key.extend_from_slice(text.as_bytes()),
+        Part::Number(number) => push_u32(key, number),
+    }
+}
+
+/// The key of these parts and this end.
+fn key_text(alloc: Global, parts: &[Part<'_>], end: &str) -> Result<Vec<u8>, AllocError>
+    ensures { IfOk result (λ key. key.items ≡ key_of parts.now end.now) }
+{
+    let mut key = Vec::new(alloc);
+    for part in parts {
+        push_part(&mut key, *part)?;
+    }
+    key.extend_from_slice(end.as_bytes())?;
+    Ok(key)
 }
 
 /// Whether a key has a name between this beginning and this end.

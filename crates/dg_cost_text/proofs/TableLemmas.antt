@@ -1,0 +1,54 @@
+-- Rows that are appended to a table.
+use Rattle.std.proofs.Common.{◌≡◌, ℕ, zero, suc, ◌<◌, ◌≤◌, ◌+◌, ◌∷◌, ◌++◌, [], List, map, min, length, take, get_or, refl, ap, sym, ◌∙◌, append_assoc, append-nil, arith, Result, Ok, Err, OnOk}
+use Rattle.std.proofs.lemmas.List.{take_all}
+use Rattle.dg_cost_text.specs.Table.{named_rows, Begins}
+
+-- the key of two parts and an end
+pub two_parts : (a b c : List ℕ) → (a ++ (b ++ [])) ++ c ≡ a ++ (b ++ c)
+two_parts a b c = ap (λ (t : List ℕ). (a ++ t) ++ c) (append-nil b) ∙ append_assoc a b c
+
+-- ---- one name more
+
+named_suc : (before after : List ℕ) (names : List (List ℕ)) (values : List ℕ) (i : ℕ) (n : List ℕ) (v : ℕ) → i < length names → i < length values
+    → n ≡ get_or names i n → v ≡ get_or values i v → named_rows before after (take (suc i) names) (take (suc i) values)
+    ≡ named_rows before after (take i names) (take i values) ++ (before ++ (n ++ after), v) ∷ []
+named_suc before after [] values i n v a b is at = absurd (omega arith)
+named_suc before after (x ∷ names) [] i n v a b is at = absurd (omega arith)
+named_suc before after (x ∷ names) (y ∷ values) zero n v a b is at =
+    ap (λ (t : List ℕ). (before ++ (t ++ after), y) ∷ []) (sym is) ∙ ap (λ (k : ℕ). (before ++ (n ++ after), k) ∷ []) (sym at)
+named_suc before after (x ∷ names) (y ∷ values) (suc i) n v a b is at =
+    ap (λ (rows : List (List ℕ × ℕ)). (before ++ (x ++ after), y) ∷ rows) (named_suc before after names values i n v (omega arith) (omega arith) is at)
+
+pub named_more : (before after : List ℕ) (names : List (List ℕ)) (values : List ℕ) (i : ℕ) (n : List ℕ) (v : ℕ) → i < length names → i < length values
+    → n ≡ get_or names i n → v ≡ get_or values i v → named_rows before after (take (i + 1) names) (take (i + 1) values)
+    ≡ named_rows before after (take i names) (take i values) ++ (before ++ (n ++ after), v) ∷ []
+named_more before after names values i n v a b is at =
+    let next : i + 1 ≡ suc i = omega arith in
+    ap (λ (k : ℕ). named_rows before after (take k names) (take k values)) next ∙ named_suc before after names values i n v a b is at
+
+-- all names, or all values
+pub named_all : (before after : List ℕ) (names : List (List ℕ)) (values : List ℕ) (i : ℕ) → min (length names) (length values) ≤ i
+    → named_rows before after (take i names) (take i values) ≡ named_rows before after names values
+named_all before after [] values zero all = refl
+named_all before after [] values (suc i) all = refl
+named_all before after (x ∷ names) [] zero all = refl
+named_all before after (x ∷ names) [] (suc i) all = refl
+named_all before after (x ∷ names) (y ∷ values) zero all = absurd (omega arith)
+named_all before after (x ∷ names) (y ∷ values) (suc i) all =
+    ap (λ (rows : List (List ℕ × ℕ)). (before ++ (x ++ after), y) ∷ rows) (named_all before after names values i (omega arith))
+
+-- ---- tables that begin with others
+
+pub begins_same : (rows : List (List ℕ × ℕ)) → Begins rows rows
+begins_same rows = record { more = []; is = sym (append-nil rows) }
+
+pub begins_more : {a b c : List (List ℕ × ℕ)} → Begins a b → Begins b c → Begins a c
+begins_more {a} {b} {c} x y = record { more = x.more ++ y.more; is = y.is ∙ ap (λ (rows : List (List ℕ × ℕ)). rows ++ y.more) x.is ∙ append_assoc a x.more y.more }
+
+pub begins_rows : {a b : List (List ℕ × ℕ)} (rows : List (List ℕ × ℕ)) → b ≡ a ++ rows → Begins a b
+begins_rows rows is = record { more = rows; is = is }
+
+-- what follows where a call was done
+pub then_on : {T E P Q : Type 0} (r : Result T E) → (P → Q) → OnOk r P → OnOk r Q
+then_on (Ok x) f p = f p
+then_on (Err e) f p = tt

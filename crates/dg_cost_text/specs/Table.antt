@@ -1,0 +1,36 @@
+-- Rows as keys and values (docs/COMMANDS.md, "What a script costs").
+use Rattle.std.specs.Prelude.{◌≡◌, ℕ, List, [], ◌∷◌, ◌++◌, map}
+use Rattle.std.specs.List.{flat_map}
+use Rattle.std.specs.Fmt.{decimal}
+use Rattle.dg_cost_text.specs.declared.rows.Part.{Part}
+use Rattle.dg_cost_text.specs.declared.rows.Part.TheVariants as part
+use Rattle.dg_cost_text.specs.declared.rows.Row.{Row}
+use Rattle.dg_cost_text.specs.declared.rows.Rows.{Rows}
+
+abbrev pub part_text : Part → List ℕ
+part_text (part.Text text) = text.now
+part_text (part.Number n) = decimal n
+
+-- the key of these parts and an end
+abbrev pub key_of : (parts : List Part) → (ending : List ℕ) → List ℕ
+key_of parts ending = flat_map part_text parts ++ ending
+
+-- the key of a row, and its value
+abbrev pub entry_of : Row → List ℕ × ℕ
+entry_of row = (row.key.items, row.value)
+
+-- those of rows, in their order
+abbrev pub table_of : Rows → List (List ℕ × ℕ)
+table_of rows = map entry_of rows.rows.items
+
+-- the rows of these names, whose keys begin and end so, with these values
+abbrev pub named_rows : (before after : List ℕ) → (names : List (List ℕ)) → (values : List ℕ) → List (List ℕ × ℕ)
+named_rows before after [] values = []
+named_rows before after (name ∷ names) [] = []
+named_rows before after (name ∷ names) (value ∷ values) =
+    (before ++ (name ++ after), value) ∷ named_rows before after names values
+
+-- The table begins with these rows.
+pub record Begins (rows table : List (List ℕ × ℕ)) : Type 0 where
+  pub more : List (List ℕ × ℕ)
+  pub is : table ≡ rows ++ more
