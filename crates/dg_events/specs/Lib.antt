@@ -1,0 +1,5 @@
+pub mod Kinds
+pub mod Told
+pub mod Counts
+pub mod Counters
+pub mod Noted

@@ -1,0 +1,14 @@
+//! What becomes of the events of a run, and how many there are of each kind at each mote.
+#![tactic(auto)]
+
+mod counting;
+mod event_counter;
+mod event_counts;
+mod kinds;
+mod told;
+
+pub use counting::add_one;
+pub use event_counter::EventCounter;
+pub use event_counts::EventCounts;
+pub use kinds::{CAUSES, EVENTS, cause_kind, event_kind};
+pub use told::{NOTHING_TOLD, Told, told_by};

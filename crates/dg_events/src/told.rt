@@ -1,0 +1,59 @@
+//! What the lines that are reported of an event tell.
+ghost use Rattle.std.specs.Prelude.{◌≡◌};
+ghost use Rattle.dg_events.specs.Told.{and_line, told_by};
+
+use dg_rules::Cause;
+use dg_script::Report;
+
+/// What the lines that are reported of an event tell.
+#[derive(Clone, Copy)]
+pub struct Told {
+    /// It was refused.
+    pub refused: Option<Cause>,
+    /// A cut blew in it.
+    pub off: bool,
+    /// It started this image.
+    pub started: Option<u8>,
+}
+
+/// Nothing is reported.
+pub const NOTHING_TOLD: Told = Told {
+    refused: None,
+    off: false,
+    started: None,
+};
+
+impl Told {
+    /// What a line tells beside the lines before it.
+    fn note(&mut self, report: &Report)
+        ensures { self.new ≡ and_line self.old report.now }
+    {
+        match report {
+            Report::Refused { cause, .. } => self.refused = Some(*cause),
+            Report::Off { .. } => self.off = true,
+            Report::Start { image, .. } => self.started = Some(*image),
+            Report::Order { .. }
+            | Report::Lost { .. }
+            | Report::Have { .. }
+            | Report::SentAdvert { .. }
+            | Report::SentRequest { .. }
+            | Report::SentData { .. }
+            | Report::Taken { .. }
+            | Report::End { .. }
+            | Report::MoteOn { .. }
+            | Report::MoteOff { .. }
+            | Report::Kept { .. } => {}
+        }
+    }
+}
+
+/// What these lines tell.
+pub fn told_by(reports: &[Report]) -> Told
+    ensures { result ≡ told_by reports.now }
+{
+    let mut told = NOTHING_TOLD;
+    for report in reports {
+        told.note(report);
+    }
+    told
+}
