@@ -8,7 +8,7 @@ use Rattle.std.proofs.lemmas.Str.Parse.{digit_from_value}
 use Rattle.std.specs.Str.{IsUtf8}
 use Rattle.std.specs.Str.Parse.{AllDigits, ParsesUnsigned}
 use Rattle.memchr.specs.Find.{NoneBefore, Nowhere, Passes, is_byte}
-use Rattle.dg_story.specs.Lines.{behind_stamp, report_line_text}
+use Rattle.dg_story.specs.Lines.{with_stamp, report_line_text}
 use Rattle.dg_script.specs.Report.{report_line}
 use Rattle.dg_story.specs.Reading.{FitsStamp, IsNoReport, IsNoLine}
 use Rattle.dg_story.specs.declared.lines.Stamp.{Stamp}
@@ -80,26 +80,26 @@ number_before bytes at n h e =
     at_space bytes at h.0.high (eqb-true _ _ h.1) ∙ ap (λ (xs : List ℕ). xs ++ 32 ∷ drop (at + 1) bytes) e
 
 -- stamps
-stamp_tail : (line rest : List ℕ) (stamp : Stamp) → line ≡ behind_stamp (Some stamp) rest → drop 1 line ≡ decimal stamp.event ++ 32 ∷ (decimal stamp.ms ++ 32 ∷ rest)
+stamp_tail : (line rest : List ℕ) (stamp : Stamp) → line ≡ with_stamp (Some stamp) rest → drop 1 line ≡ decimal stamp.event ++ 32 ∷ (decimal stamp.ms ++ 32 ∷ rest)
 stamp_tail line rest stamp e = ap (λ (zs : List ℕ). drop 1 zs) e
 
-stamp_head : (line rest : List ℕ) (stamp : Stamp) → line ≡ behind_stamp (Some stamp) rest → get_or line 0 0 ≡ 64
+stamp_head : (line rest : List ℕ) (stamp : Stamp) → line ≡ with_stamp (Some stamp) rest → get_or line 0 0 ≡ 64
 stamp_head line rest stamp e = ap (λ (zs : List ℕ). get_or zs 0 0) e
 
-pub other_head : (line : List ℕ) → get_or line 0 0 ≢ 64 → (stamp : Stamp) (rest : List ℕ) → FitsStamp (Some stamp) → line ≢ behind_stamp (Some stamp) rest
+pub other_head : (line : List ℕ) → get_or line 0 0 ≢ 64 → (stamp : Stamp) (rest : List ℕ) → FitsStamp (Some stamp) → line ≢ with_stamp (Some stamp) rest
 other_head line h stamp rest fits e = h (stamp_head line rest stamp e)
 
-pub no_bytes : (line : List ℕ) → length line ≡ 0 → (stamp : Stamp) (rest : List ℕ) → FitsStamp (Some stamp) → line ≢ behind_stamp (Some stamp) rest
+pub no_bytes : (line : List ℕ) → length line ≡ 0 → (stamp : Stamp) (rest : List ℕ) → FitsStamp (Some stamp) → line ≢ with_stamp (Some stamp) rest
 no_bytes [] h stamp rest fits e = absurd (let f : 0 ≡ 64 = stamp_head [] rest stamp e in omega (arith, f))
 no_bytes (x ∷ xs) h stamp rest fits e = absurd (omega (arith, h))
 
 pub no_event : (line : List ℕ) → ((n : ℕ) (rest : List ℕ) → n < 2 ^ 64 → drop 1 line ≢ decimal n ++ 32 ∷ rest)
-    → (stamp : Stamp) (rest : List ℕ) → FitsStamp (Some stamp) → line ≢ behind_stamp (Some stamp) rest
+    → (stamp : Stamp) (rest : List ℕ) → FitsStamp (Some stamp) → line ≢ with_stamp (Some stamp) rest
 no_event line h stamp rest fits e = h stamp.event (decimal stamp.ms ++ 32 ∷ rest) fits.0 (stamp_tail line rest stamp e)
 
 pub no_ms : (line behind : List ℕ) (event : ℕ) → event < 2 ^ 64 → drop 1 line ≡ decimal event ++ 32 ∷ behind
     → ((n : ℕ) (rest : List ℕ) → n < 2 ^ 64 → behind ≢ decimal n ++ 32 ∷ rest)
-    → (stamp : Stamp) (rest : List ℕ) → FitsStamp (Some stamp) → line ≢ behind_stamp (Some stamp) rest
+    → (stamp : Stamp) (rest : List ℕ) → FitsStamp (Some stamp) → line ≢ with_stamp (Some stamp) rest
 no_ms line behind event small is h stamp rest fits e =
     let same = split_once (decimal event) (decimal stamp.event) behind (decimal stamp.ms ++ 32 ∷ rest) (decimal_no_space event small)
     (decimal_no_space stamp.event fits.0) (sym is ∙ stamp_tail line rest stamp e) in
@@ -110,37 +110,37 @@ head_is [] h = absurd (omega (arith, h))
 head_is (x ∷ xs) h = ap (λ n. n ∷ xs) h
 
 pub stamp_is : (line behind rest : List ℕ) (event ms : ℕ) → get_or line 0 0 ≡ 64 → drop 1 line ≡ decimal event ++ 32 ∷ behind → behind ≡ decimal ms ++ 32 ∷ rest
-    → line ≡ behind_stamp (Some (record { event = event; ms = ms })) rest
+    → line ≡ with_stamp (Some (record { event = event; ms = ms })) rest
 stamp_is line behind rest event ms h p q =
     head_is line h ∙ ap (λ (zs : List ℕ). 64 ∷ zs) (p ∙ ap (λ (zs : List ℕ). decimal event ++ 32 ∷ zs) q)
 
-stamps_same : (a b : Stamp) (p q : List ℕ) → FitsStamp (Some a) → FitsStamp (Some b) → behind_stamp (Some a) p ≡ behind_stamp (Some b) q → p ≡ q
+stamps_same : (a b : Stamp) (p q : List ℕ) → FitsStamp (Some a) → FitsStamp (Some b) → with_stamp (Some a) p ≡ with_stamp (Some b) q → p ≡ q
 stamps_same a b p q f g e =
     let first = split_once (decimal a.event) (decimal b.event) (decimal a.ms ++ 32 ∷ p) (decimal b.ms ++ 32 ∷ q) (decimal_no_space a.event f.0)
     (decimal_no_space b.event g.0) (ap (λ (zs : List ℕ). drop 1 zs) e) in
     (split_once (decimal a.ms) (decimal b.ms) p q (decimal_no_space a.ms f.1) (decimal_no_space b.ms g.1) first.1).1
 
 -- no line
-no_stamp_by : (o : Option Stamp) (text line : List ℕ) → ((stamp : Stamp) (rest : List ℕ) → FitsStamp (Some stamp) → line ≢ behind_stamp (Some stamp) rest)
-    → FitsStamp o → is_some o ≡ true → behind_stamp o text ≢ line
+no_stamp_by : (o : Option Stamp) (text line : List ℕ) → ((stamp : Stamp) (rest : List ℕ) → FitsStamp (Some stamp) → line ≢ with_stamp (Some stamp) rest)
+    → FitsStamp o → is_some o ≡ true → with_stamp o text ≢ line
 no_stamp_by None text line h fits timed e = absurd (let f : false ≡ true = timed in cc)
 no_stamp_by (Some stamp) text line h fits timed e = h stamp text fits (sym e)
 
-pub no_stamp_no_line : (line : List ℕ) → ((stamp : Stamp) (rest : List ℕ) → FitsStamp (Some stamp) → line ≢ behind_stamp (Some stamp) rest) → IsNoLine true line
+pub no_stamp_no_line : (line : List ℕ) → ((stamp : Stamp) (rest : List ℕ) → FitsStamp (Some stamp) → line ≢ with_stamp (Some stamp) rest) → IsNoLine true line
 unfolding report_line_text
 no_stamp_no_line line h l fits of e = no_stamp_by l.stamp (report_line l.report) line h fits.0 of.0 e
 
-other_by : (o : Option Stamp) (stamp : Stamp) (text rest line : List ℕ) → FitsStamp (Some stamp) → line ≡ behind_stamp (Some stamp) rest → FitsStamp o → is_some o ≡ true
-    → behind_stamp o text ≡ line → text ≡ rest
+other_by : (o : Option Stamp) (stamp : Stamp) (text rest line : List ℕ) → FitsStamp (Some stamp) → line ≡ with_stamp (Some stamp) rest → FitsStamp o → is_some o ≡ true
+    → with_stamp o text ≡ line → text ≡ rest
 other_by None stamp text rest line g is fits timed e = absurd (let f : false ≡ true = timed in cc)
 other_by (Some s) stamp text rest line g is fits timed e = stamps_same s stamp text rest fits g (e ∙ is)
 
-pub rest_no_line : (line rest : List ℕ) (stamp : Stamp) → FitsStamp (Some stamp) → line ≡ behind_stamp (Some stamp) rest → IsNoReport rest → IsNoLine true line
+pub rest_no_line : (line rest : List ℕ) (stamp : Stamp) → FitsStamp (Some stamp) → line ≡ with_stamp (Some stamp) rest → IsNoReport rest → IsNoLine true line
 unfolding report_line_text
 rest_no_line line rest stamp g is h l fits of e =
     h l.report fits.1 of.1 (other_by l.stamp stamp (report_line l.report) rest line g is fits.0 of.0 e)
 
-plain_by : (o : Option Stamp) (text line : List ℕ) → is_some o ≡ false → behind_stamp o text ≡ line → text ≡ line
+plain_by : (o : Option Stamp) (text line : List ℕ) → is_some o ≡ false → with_stamp o text ≡ line → text ≡ line
 plain_by None text line plain e = e
 plain_by (Some s) text line plain e = absurd (let f : true ≡ false = plain in cc)
 
@@ -149,9 +149,9 @@ unfolding report_line_text
 plain_no_line line h l fits of e = h l.report fits.1 of.1 (plain_by l.stamp (report_line l.report) line of.0 e)
 
 -- the words of a last line
-pub stamped_ending : (line rest words : List ℕ) (stamp : Stamp) → line ≡ behind_stamp (Some stamp) rest → rest ≡ words ++ 10 ∷ []
-    → line ≡ behind_stamp (Some stamp) (words ++ 10 ∷ [])
-stamped_ending line rest words stamp e p = e ∙ ap (λ (zs : List ℕ). behind_stamp (Some stamp) zs) p
+pub stamped_ending : (line rest words : List ℕ) (stamp : Stamp) → line ≡ with_stamp (Some stamp) rest → rest ≡ words ++ 10 ∷ []
+    → line ≡ with_stamp (Some stamp) (words ++ 10 ∷ [])
+stamped_ending line rest words stamp e p = e ∙ ap (λ (zs : List ℕ). with_stamp (Some stamp) zs) p
 
 pub ruleset numbers_read = (is_text, parsed)
 

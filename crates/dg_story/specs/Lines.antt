@@ -12,12 +12,12 @@ use Rattle.dg_story.specs.declared.told.Told.{Told}
 -- ---- as they are written
 
 -- a text after the number of an event and its moment in milliseconds, where a line has them
-abbrev pub behind_stamp : Option Stamp → List ℕ → List ℕ
-behind_stamp None text = text
-behind_stamp (Some stamp) text = 64 ∷ (decimal stamp.event ++ 32 ∷ (decimal stamp.ms ++ 32 ∷ text))
+abbrev pub with_stamp : Option Stamp → List ℕ → List ℕ
+with_stamp None text = text
+with_stamp (Some stamp) text = 64 ∷ (decimal stamp.event ++ 32 ∷ (decimal stamp.ms ++ 32 ∷ text))
 
 unfoldable pub report_line_text : Line → List ℕ
-report_line_text line = behind_stamp line.stamp (report_line line.report)
+report_line_text line = with_stamp line.stamp (report_line line.report)
 
 abbrev pub lines_text : List Line → List ℕ
 lines_text lines = flat_map report_line_text lines

@@ -9,7 +9,7 @@ use Rattle.dg_script.specs.LineReading.{HasNoEnd}
 use Rattle.dg_script.specs.Report.{report_line}
 use Rattle.dg_script.specs.ReportReading.{FitsReport}
 use Rattle.dg_script.specs.declared.report.Report.{Report}
-use Rattle.dg_story.specs.Lines.{behind_stamp, report_line_text, lines_text, is_stamped, Tells}
+use Rattle.dg_story.specs.Lines.{with_stamp, report_line_text, lines_text, is_stamped, Tells}
 use Rattle.dg_story.specs.Reports.{report_motes, report_image}
 use Rattle.dg_story.specs.declared.lines.Stamp.{Stamp}
 use Rattle.dg_story.specs.declared.lines.Line.{Line}
@@ -72,7 +72,7 @@ is_last words = begins_as_last words && list_all is_plain words
 -- the last line of a replay that did not end well
 abbrev pub IsEndLine : (timed : Bool) → (line words : List ℕ) → Type 0
 IsEndLine timed line words =
-    (stamp : Option Stamp) × (is_some stamp ≡ timed) × (line ≡ behind_stamp stamp (words ++ 10 ∷ [])) × (is_last words ≡ true)
+    (stamp : Option Stamp) × (is_some stamp ≡ timed) × (line ≡ with_stamp stamp (words ++ 10 ∷ [])) × (is_last words ≡ true)
 
 -- nothing, or the last line of a replay that did not end well
 abbrev pub IsEnding : (timed : Bool) → (text words : List ℕ) → Type 0

@@ -5,7 +5,7 @@ ghost use Rattle.std.specs.Fmt.{decimal};
 ghost use Rattle.dg_script.specs.Report.{report_line};
 ghost use Rattle.dg_script.specs.ReportReading.{FitsReport};
 ghost use Rattle.dg_script.specs.declared.report.Report.{Report};
-ghost use Rattle.dg_story.specs.Lines.{behind_stamp, report_line_text};
+ghost use Rattle.dg_story.specs.Lines.{with_stamp, report_line_text};
 ghost use Rattle.dg_story.specs.Reading.{IsOfReplay, IsLineOf, IsNoLine, IsNoReport, FitsStamp};
 
 use crate::reports::{image_of, motes_of};
@@ -78,7 +78,7 @@ fn take_number(bytes: &[u8]) -> Option<(u64, &[u8])>
 #[tactic(auto, using(crate::proofs::LineLemmas::stamps_taken))]
 pub fn take_stamp(line: &[u8]) -> Option<(Stamp, &[u8])>
     ensures { MatchOption result ((stamp : Stamp) (rest : List ℕ) → FitsStamp (Some stamp)
-        → line.now ≢ behind_stamp (Some stamp) rest) (λ r. line.now ≡ behind_stamp (Some r.0) r.1.now) }
+        → line.now ≢ with_stamp (Some stamp) rest) (λ r. line.now ≡ with_stamp (Some r.0) r.1.now) }
 {
     if line.is_empty() || line[0] != b'@' {
         return None;
