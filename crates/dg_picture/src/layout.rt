@@ -132,7 +132,7 @@ pub fn place_at(grid: Grid, column: u8) -> u64
 }
 
 // The place after this many columns.
-fn place_behind(per: u64, columns: u8) -> u128
+fn place_after(per: u64, columns: u8) -> u128
     ensures { result ≡ columns * per }
 {
     u128::from(columns) * u128::from(per)
@@ -156,7 +156,7 @@ pub fn next_column(changes: &[Told], per: u64, column: u8) -> (&[Told], &[Told])
     ensures column { result.0.now ≡ take_while (is_before ((column + 1) * per)) changes.now }
     ensures behind { result.1.now ≡ drop (prefix_len (is_before ((column + 1) * per)) changes.now) changes.now }
 {
-    changes.split_at(leading(changes, place_behind(per, column + 1)).min(changes.len()))
+    changes.split_at(leading(changes, place_after(per, column + 1)).min(changes.len()))
 }
 
 /// The rows for what is reported.
