@@ -39,7 +39,7 @@ fn shared_text(alloc: Global, shared: SharedPages) -> Result<String, AllocError>
 }
 
 /// What keeps the chip that is behind from taking what the other has.
-fn behind_text(ahead: Ahead) -> &'static str {
+fn lag_text(ahead: Ahead) -> &'static str {
     if ahead.other_profile {
         "; the other keeps another profile of it"
     } else if ahead.has_room {
@@ -64,7 +64,7 @@ fn image_text(alloc: Global, image: &ImageCompared) -> Result<String, AllocError
             format!(in alloc;
                 "{} is ahead, {shared}{}",
                 side_text(ahead.side),
-                behind_text(ahead)
+                lag_text(ahead)
             )
         }
     }

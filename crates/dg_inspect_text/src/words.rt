@@ -58,7 +58,7 @@ enum Expected {
 
 /// The words after a verb.
 #[derive(Drop)]
-struct Behind<'a> {
+struct Arguments<'a> {
     json: bool,
     root: Option<[u8; DIGEST_SIZE]>,
     image: Option<u8>,
@@ -98,7 +98,7 @@ fn image_of(word: &str) -> Option<u8> {
     }
 }
 
-impl<'a> Behind<'a> {
+impl<'a> Arguments<'a> {
     /// Takes a word, and answers what the next one is.
     fn take(
         &mut self,
@@ -167,8 +167,8 @@ fn rooted_of(root: Option<[u8; DIGEST_SIZE]>, image: Option<u8>) -> Option<Optio
 }
 
 /// What a verb and the words after it ask for. None where a word is missing, or one too many is there.
-fn request_of<'a>(verb: Verb, behind: Behind<'a>) -> Option<Request<'a>> {
-    let files = behind.files;
+fn request_of<'a>(verb: Verb, arguments: Arguments<'a>) -> Option<Request<'a>> {
+    let files = arguments.files;
     match verb {
         Verb::Show => {
             if files.is_empty() {
@@ -183,7 +183,7 @@ fn request_of<'a>(verb: Verb, behind: Behind<'a>) -> Option<Request<'a>> {
             Some(Request::Next { file: *file })
         }
         Verb::Verify => {
-            let rooted = rooted_of(behind.root, behind.image)?;
+            let rooted = rooted_of(arguments.root, arguments.image)?;
             let [file] = files.as_slice() else {
                 return None;
             };
@@ -205,12 +205,12 @@ fn request_of<'a>(verb: Verb, behind: Behind<'a>) -> Option<Request<'a>> {
 }
 
 /// What the words after a verb ask for.
-fn read_behind<'a>(
+fn read_arguments<'a>(
     alloc: Global,
     verb: Verb,
     words: &'a [String],
 ) -> Result<Asked<'a>, AllocError> {
-    let mut behind = Behind {
+    let mut arguments = Arguments {
         json: false,
         root: None,
         image: None,
@@ -219,16 +219,16 @@ fn read_behind<'a>(
     };
     let mut expected = Expected::Any;
     for word in words {
-        expected = behind.take(verb, expected, word.as_str())?;
+        expected = arguments.take(verb, expected, word.as_str())?;
     }
-    if let Some(word) = behind.wrong {
+    if let Some(word) = arguments.wrong {
         return Ok(Asked::Wrong(word));
     }
     if !matches!(expected, Expected::Any) {
         return Ok(Asked::Count);
     }
-    let json = behind.json;
-    match request_of(verb, behind) {
+    let json = arguments.json;
+    match request_of(verb, arguments) {
         Some(request) => Ok(Asked::Request { request, json }),
         None => Ok(Asked::Count),
     }
@@ -243,7 +243,7 @@ pub fn read_words<'a>(alloc: Global, words: &'a [String]) -> Result<Asked<'a>, A
         "--help" => Ok(Asked::Help),
         "--version" => Ok(Asked::Version),
         word => match verb_of(word) {
-            Some(verb) => read_behind(alloc, verb, &words[1..]),
+            Some(verb) => read_arguments(alloc, verb, &words[1..]),
             None => Ok(Asked::Wrong(word)),
         },
     }
