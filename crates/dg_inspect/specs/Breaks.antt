@@ -1,4 +1,4 @@
--- Why a chip is no volume: the first of the conditions of a volume that it does not meet (docs/IMAGES.md, "Stores").
+-- Why a chip is not a volume: the first of the conditions of a volume that it does not meet (docs/IMAGES.md, "Stores").
 use Rattle.std.specs.Prelude.{◌≡◌, ℕ, ◌<◌, ⊤, List, slice_index_or}
 use Rattle.dg_nor.specs.Chip.{sector}
 use Rattle.dg_ledger.specs.Sizes.{ledger_sector}
@@ -20,12 +20,12 @@ use Rattle.dg_inspect.specs.declared.seen.Condition.{Condition}
 use Rattle.dg_inspect.specs.declared.seen.Condition.TheVariants as condition
 use Rattle.dg_inspect.specs.declared.seen.Break.{Break}
 
--- ---- the conditions behind the snapshot, each of a slot or of program memory
+-- ---- the conditions after the snapshot, each of a slot or of program memory
 
 abbrev pub slot_state : Snapshot → ℕ → SlotState
 slot_state p i = slice_index_or p.slots i Dirty
 
--- a header of this version stands there
+-- the slot has a header of this version
 abbrev pub HasHeader : List ℕ → (image version : ℕ) → Type 0
 HasHeader c i v = (pages : ℕ) × (crc : ℕ) × (done : ℕ) × IsHeader (sector c (header_sector i)) i v pages crc done
 
@@ -110,7 +110,7 @@ pub record BreaksAt (c : List ℕ) (b : Break) : Type 0 where
   pub sector : IsSectorOf c b.condition b.sector
   pub byte : IsByteOf c b.condition b.byte
 
--- all conditions behind the snapshot are met
+-- all conditions after the snapshot are met
 pub record HoldsBehind (c : List ℕ) (p : Snapshot) : Type 0 where
   pub golden : HoldsGolden c (slot_state p 0)
   pub headers : HeadersTo c p images

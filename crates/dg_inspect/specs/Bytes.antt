@@ -24,7 +24,7 @@ use Rattle.dg_slot.specs.Header.{header_bytes, gates_of, IsHeader}
 use Rattle.dg_slot.specs.Pages.{page_in}
 use Rattle.dg_volume.specs.Sizes.{golden_version}
 
--- `Fits` says of each byte whether what is to stand there does. Of so many bytes these first ones fit, and the next does not
+-- `Fits` says of each byte whether it is the one that has to be there. Of n bytes these first ones fit, and the next does not
 pub record FitTo (size : ℕ) (Fits : ℕ → Type 0) (n : ℕ) : Type 0 where
   pub within : n ≤ size
   pub before : (a : ℕ) → a < n → Fits a
@@ -43,7 +43,7 @@ AreEqual xs ys k = slice_index xs k ≡ slice_index ys k
 abbrev pub AreFilled : List ℕ → (from k : ℕ) → Type 0
 AreFilled page from k = from ≤ k → slice_index page k ≡ 255
 
--- in the first n bytes at most so many bits are cleared, the first of them first
+-- in the first n bytes at most this many bits are cleared, the first of them first
 abbrev pub AreCleared : List ℕ → (most n : ℕ) → Type 0
 AreCleared bits most n = (m : ℕ) × (m ≤ most) × (take n bits ≡ cleared_bits n m)
 
@@ -66,7 +66,7 @@ abbrev pub BreaksPlace : List ℕ → ℕ → Type 0
 BreaksPlace cells b = ((k : ℕ) × IsLastCommitted cells k × (b ≡ place_size * k))
     ⊎ (((j : ℕ) → j < places → IsCommitted (place_in cells j) → ⊥) × (b ≡ 0))
 
--- ---- headers: what they spell, and gates that are cleared one after the other, at most one for each page
+-- ---- headers: their bytes, and gates that are cleared one after the other, at most one for each page
 
 abbrev pub said_pages : List ℕ → ℕ
 said_pages first = slice_index first 3
@@ -100,7 +100,7 @@ BreaksHeader c i Dirty b = ⊥
 BreaksHeader c i (Live v) b = IsFirstBreak sector_size (HeaderFits (part (sector c (header_sector i)) 0 header_size)
     (part (sector c (header_sector i)) gates_at gates_size) i v) b
 
--- ---- descriptors: image, pages and version, then a length with so many pages, a name, and 0xFF behind the CRCs
+-- ---- descriptors: image, pages and version, then a length with this many pages, a name, and 0xFF after the CRCs
 
 -- the first bytes of the descriptor of that image and version, of these pages, or of any
 abbrev pub front_of : (image version pages : ℕ) → List ℕ

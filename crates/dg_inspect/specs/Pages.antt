@@ -1,4 +1,4 @@
--- What is seen of the pages of an image, page 0 first (docs/COMMANDS.md, "Looking into chips").
+-- What a chip shows of the pages of an image, page 0 first (docs/COMMANDS.md, "Looking into chips").
 use Rattle.std.specs.Prelude.{◌≡◌, ℕ, ◌+◌, ◌<◌, ◌==◌, ◌&&◌, nat_le, nat_lt, not, Bool}
 use Rattle.std.specs.Prelude.{if◌then◌else◌, List, [], length, slice_index_or, drop}
 use Rattle.std.specs.Prelude.{Option, Some, None}

@@ -1,4 +1,4 @@
--- What is seen of a volume, and of a chip (docs/COMMANDS.md, "Looking into chips").
+-- What a volume shows, and a chip (docs/COMMANDS.md, "Looking into chips").
 use Rattle.std.specs.Prelude.{◌≡◌, ℕ, ◌<◌, List, length, slice_index_or, Option, Some, None, Result, Ok, Err}
 use Rattle.dg_nor.specs.Device.{Device}
 use Rattle.dg_nor.specs.Reads.{Looked, ReadStopped}
@@ -26,7 +26,7 @@ ShowsProgram None x = x ≡ None
 ShowsProgram (Some app) None = ⊥
 ShowsProgram (Some app) (Some x) = ShowsApp app x
 
--- all that is seen of the volume is what its store says
+-- all that the volume shows is what its store says
 pub record ShowsStore (s : Store) (x : VolumeSeen) : Type 0 where
   pub room : x.room ≡ s.room
   pub order : x.order ≡ s.order

@@ -1,4 +1,4 @@
-//! Why a chip is no volume.
+//! Why a chip is not a volume.
 ghost use Rattle.std.specs.Prelude.{◌≡◌, ◌↔◌, ℕ, ◌<◌, IfOk, IfSome, IsNone, IsTrue, slice_index_or};
 ghost use Rattle.dg_nor.specs.Reads.{ReadEnds};
 ghost use Rattle.dg_ledger.specs.Ledger.{HasCount};
@@ -42,7 +42,7 @@ fn ledger_count<N: Nor>(nor: &mut N) -> Result<Option<u16>, Stopped>
     }
 }
 
-/// The snapshot of a chip. None where its control sectors tell none.
+/// The snapshot of a chip. None where its control sectors have none.
 fn chip_snapshot<N: Nor>(nor: &mut N) -> Result<Option<Snapshot>, Stopped>
     ensures snapshot { IfOk result (λ found. IfSome found (λ p. (room : ℕ) × Controls (N.device nor.old).image p room)) }
     ensures none { IfOk result (λ found. IsNone found
@@ -175,7 +175,7 @@ fn holds_set<N: Nor>(nor: &mut N, program: Program) -> Result<bool, Stopped>
     Ok(descriptor.image == image && descriptor.version == version)
 }
 
-/// The first condition behind the control sectors that a chip with this snapshot does not meet.
+/// The first condition after the control sectors that a chip with this snapshot does not meet.
 fn break_behind<N: Nor>(nor: &mut N, snapshot: &Snapshot) -> Result<Option<Break>, Stopped>
     ensures fails { IfOk result (λ found. IfSome found (λ b.
         FailsBehind (N.device nor.old).image snapshot.now b.condition)) }
@@ -217,7 +217,7 @@ fn break_behind<N: Nor>(nor: &mut N, snapshot: &Snapshot) -> Result<Option<Break
     Ok(None)
 }
 
-/// Why the control sectors of a chip with this count tell no snapshot.
+/// Why the control sectors of a chip with this count have no snapshot.
 fn snapshot_break<N: Nor>(nor: &mut N, count: u16) -> Result<Break, Stopped>
     requires count { HasCount (N.device nor.old).image count }
     requires none { (p : Snapshot) (room : ℕ) → Controls (N.device nor.old).image p room → ⊥ }

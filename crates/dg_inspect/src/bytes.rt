@@ -93,7 +93,7 @@ pub(crate) fn header_byte<N: Nor>(nor: &mut N, image: u8, slot: SlotState) -> Re
     }
 }
 
-/// The byte at which page 0 of an image breaks, of a version with so many pages. It is 0 where the CRC alone is another one.
+/// The byte at which page 0 of an image breaks, of a version with this many pages. It is 0 where the CRC alone is another one.
 fn page_byte<N: Nor>(nor: &mut N, image: u8, version: u32, pages: u8) -> Result<u32, Stopped>
     requires { image < images }
     ensures breaks { IfOk result (BreaksPage (page_in (N.device nor.old).image (page_sector image 0)) image version pages) }

@@ -38,7 +38,7 @@ impl StillChip {
         })
     }
 
-    /// The page that stands in a sector.
+    /// The page in a sector.
     pub fn page(&self, index: u32) -> &[u8]
         requires { index < sectors }
         ensures { result.now ≡ page_in (still_device self.now).image index }

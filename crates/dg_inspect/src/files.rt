@@ -15,14 +15,14 @@ fn is_blank(bytes: &[u8]) -> bool
     bytes.iter().all(|byte| *byte == 0xFF)
 }
 
-/// Whether a file of so many bytes may be a chip's.
+/// Whether a file of this many bytes may be a chip's.
 pub fn is_chip_length(length: usize) -> bool
     ensures { IsTrue result ↔ IsChipLength length }
 {
     OLD_CHIP_SIZE as usize <= length && length <= CHIP_SIZE as usize
 }
 
-/// What the bytes of a file are, and all that is seen of them where they are a chip.
+/// What the bytes of a file are, and all that they show if they are a chip.
 pub fn inspect(alloc: Global, bytes: &[u8]) -> Result<FileSeen, LookFault>
     ensures shows { IfOk result (ShowsFile bytes.now) }
 {

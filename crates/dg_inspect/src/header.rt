@@ -31,7 +31,7 @@ pub(crate) struct HeaderSeen {
     pub(crate) done: u8,
 }
 
-/// The bytes that a header spells.
+/// The bytes of a header, without its gates.
 pub(crate) fn header_bytes(image: u8, version: u32, seen: &HeaderSeen) -> Header
     ensures { result ≡ header_bytes image version seen.now.pages seen.now.crc }
 {
@@ -95,7 +95,7 @@ pub(crate) struct HeaderCells {
     pub(crate) gates: Gates,
 }
 
-/// The bytes that stand where the header of a slot does.
+/// The bytes at the place of the header of a slot.
 pub(crate) fn read_header<N: Nor>(nor: &mut N, image: u8) -> Result<HeaderCells, Stopped>
     requires { image < slots }
     ensures first { IfOk result (λ cells. cells.first

@@ -70,7 +70,7 @@ fn see_complete<N: Nor>(nor: &mut N, image: u8, kept: &Kept) -> Result<Option<Pa
     Ok(Some(pages))
 }
 
-/// What is seen of an image of which this is kept.
+/// What an image shows of which this is kept.
 fn see_kept<N: Nor>(nor: &mut N, image: u8, kept: &Kept) -> Result<ImageSeen, Stopped>
     requires known_image { image < images }
     requires keeps { (h : Held) × KeepsImage (N.device nor.old).image image h × (kept.now ≡ told_held h) }
@@ -90,7 +90,7 @@ fn see_kept<N: Nor>(nor: &mut N, image: u8, kept: &Kept) -> Result<ImageSeen, St
     })
 }
 
-/// What is seen of an image.
+/// What an image shows.
 pub(crate) fn see_image<N: Nor>(
     nor: &mut N,
     volume: &Volume,

@@ -1,4 +1,4 @@
-//! All that is seen of a chip.
+//! All that a chip shows.
 ghost use Rattle.std.specs.Prelude.{◌≡◌, ℕ, ◌<◌, None, Option, IfOk, IfSome, OnOk, length, slice_index_or};
 ghost use Rattle.dg_nor.specs.Reads.{ReadEnds};
 ghost use Rattle.dg_control.specs.Store.{HasForm};
@@ -21,7 +21,7 @@ use dg_slot::PROGRAM_SECTOR;
 use dg_volume::{MountFault, Volume};
 use std::alloc::Global;
 
-/// What is seen of program memory.
+/// What program memory shows.
 fn see_program<N: Nor>(nor: &mut N, program: Program) -> Result<Option<ProgramSeen>, Stopped>
     requires holds { (app : Option App) × (program ≡ program_told app) × IfSome app (HoldsApp (N.device nor.old).image) }
     ensures shows { IfOk result (λ seen. (app : Option App) → program ≡ program_told app
@@ -40,7 +40,7 @@ fn see_program<N: Nor>(nor: &mut N, program: Program) -> Result<Option<ProgramSe
     }
 }
 
-/// What is seen of each image.
+/// What each image shows.
 fn see_images<N: Nor>(
     alloc: Global,
     nor: &mut N,
@@ -63,7 +63,7 @@ fn see_images<N: Nor>(
     Ok(seen)
 }
 
-/// What is seen of a volume.
+/// What a volume shows.
 fn see_volume<N: Nor>(alloc: Global, nor: &mut N, volume: &Volume) -> Result<VolumeSeen, LookFault>
     requires mounted { IsMounted (N.device nor.old).image volume.now }
     ensures shows { IfOk result (λ seen. (s : Store) → Mounted (N.device nor.old).image volume.now s → ShowsStore s seen) }
@@ -85,7 +85,7 @@ fn see_volume<N: Nor>(alloc: Global, nor: &mut N, volume: &Volume) -> Result<Vol
     })
 }
 
-/// Why a chip is no volume.
+/// Why a chip is not a volume.
 fn see_broken<N: Nor>(nor: &mut N) -> Result<ChipSeen, Stopped>
     requires { IsNoVolume (N.device nor.old).image }
     ensures shows { IfOk result (ShowsChip (N.device nor.old).image) }
@@ -97,7 +97,7 @@ fn see_broken<N: Nor>(nor: &mut N) -> Result<ChipSeen, Stopped>
     }
 }
 
-/// What is seen of a chip, whatever its bytes are.
+/// What a chip shows, whatever its bytes are.
 pub fn look<N: Nor>(alloc: Global, nor: &mut N) -> Result<ChipSeen, LookFault>
     ensures shows { IfOk result (ShowsChip (N.device nor.old).image) }
     ensures unchanged { (N.device nor.new).image ≡ (N.device nor.old).image }

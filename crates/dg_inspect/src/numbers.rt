@@ -28,7 +28,7 @@ fn version_above(seen: &Option<ImageSeen>) -> Option<u32>
     }
 }
 
-/// The least version of an image that may be injected next, where so many commits are left.
+/// The least version of an image that may be injected next, where this many commits are left.
 fn next_version(room: u32, seen: &Option<ImageSeen>) -> Option<u32>
     ensures { (h : Option Held) → ShowsKept h seen.now → result ≡ next_version room h }
 {
@@ -39,7 +39,7 @@ fn next_version(room: u32, seen: &Option<ImageSeen>) -> Option<u32>
     }
 }
 
-/// The least version of an image that may be injected next, where this is seen of each.
+/// The least version of an image that may be injected next, where each shows this.
 fn next_version_at(seen: &[Option<ImageSeen>], room: u32, image: usize) -> Option<u32>
     requires { image < length seen.now }
     ensures { (h : Option Held) → ShowsKept h (slice_index_or seen.now image None) → result ≡ next_version room h }
@@ -47,7 +47,7 @@ fn next_version_at(seen: &[Option<ImageSeen>], room: u32, image: usize) -> Optio
     next_version(room, &seen[image])
 }
 
-/// The order number that may be used next, where so many commits are left.
+/// The order number that may be used next, where this many commits are left.
 fn next_number(room: u32, kept: u32) -> Option<u32>
     ensures { result ≡ next_number room kept }
 {

@@ -23,7 +23,7 @@ use dg_object::{Descriptor, HEAD_SIZE, PAGE_SIZE};
 use dg_slot::{find_descriptor, front_crc};
 use sha2::{Digest, Sha256};
 
-/// Where the descriptor keeps the CRCs, behind its head: two bytes for each page from page 1 on.
+/// Where the descriptor keeps the CRCs, after its head: two bytes for each page from page 1 on.
 const CRCS: u32 = HEAD_SIZE as u32;
 
 /// The bytes of a page.
@@ -83,7 +83,7 @@ fn unsound_pages<N: Nor>(nor: &mut N, first: u32, done: u8) -> Result<PageBits<{
     Ok(unsound)
 }
 
-/// Adds the first `count` bytes of a sector to a digest, and gives their checksum behind `before`.
+/// Adds the first `count` bytes of a sector to a digest, and gives their checksum after `before`.
 fn add_page<N: Nor>(
     nor: &mut N,
     index: u32,
@@ -105,7 +105,7 @@ fn add_page<N: Nor>(
     Ok(crc16_more(before, piece))
 }
 
-/// The bytes of an image of that length, whose pages stand there.
+/// The bytes of an image of that length, whose pages are there.
 fn see_bytes<N: Nor>(nor: &mut N, first: u32, length: u32) -> Result<BytesSeen, Stopped>
     requires in_chip { first + most_pages ≤ sectors }
     requires fits { length ≤ most_bytes }
@@ -127,7 +127,7 @@ fn see_bytes<N: Nor>(nor: &mut N, first: u32, length: u32) -> Result<BytesSeen, 
     })
 }
 
-/// The bytes of an image of which so many pages are complete, where it is whole.
+/// The bytes of an image of which this many pages are complete, where it is whole.
 fn see_bytes_if_whole<N: Nor>(
     nor: &mut N,
     first: u32,
@@ -168,7 +168,7 @@ pub(crate) fn see_pages<N: Nor>(nor: &mut N, first: u32, done: u8) -> Result<Pag
     })
 }
 
-/// The pages of the image that stands there whole, and begins with its descriptor.
+/// The pages of the image that is there whole, and begins with its descriptor.
 pub(crate) fn see_whole<N: Nor>(nor: &mut N, first: u32) -> Result<PagesSeen, Stopped>
     requires in_chip { first + most_pages ≤ sectors }
     requires described { (d : Details) × IsDescriptor (page_in (N.device nor.old).image first) d }

@@ -1,4 +1,4 @@
-//! What is seen of a chip, as values.
+//! What a chip shows, as values.
 use dg_bits::PageBits;
 use dg_chain::DIGEST_SIZE;
 use dg_control::IMAGES;
@@ -15,7 +15,7 @@ pub struct ImageVersion {
     pub version: u32,
 }
 
-/// The bytes of an image that stands whole in its pages: their CRC, as a start tells it, and their SHA-256.
+/// The bytes of an image that is whole in its pages: their CRC, as a start reports it, and their SHA-256.
 #[derive(Clone, Copy, Debug, PartialEq, Eq)]
 pub struct BytesSeen {
     pub crc: u16,
@@ -137,7 +137,7 @@ pub enum Condition {
     Program,
 }
 
-/// The first condition of a volume that a chip does not meet, in the order in which they stand, and where it breaks: a
+/// The first condition of a volume that a chip does not meet, in their order, and where it breaks: a
 /// sector, and the first byte of it that is not as the condition needs it.
 #[derive(Clone, Copy, Debug, PartialEq, Eq)]
 pub struct Break {
@@ -171,7 +171,7 @@ pub enum FileSeen {
     Chip { older: bool, chip: ChipSeen },
 }
 
-/// Why a chip was not seen.
+/// Why a chip was not looked at.
 #[derive(Clone, Copy, Debug, PartialEq, Eq)]
 pub enum LookFault {
     /// Memory ran out.

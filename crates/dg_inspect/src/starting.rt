@@ -169,7 +169,7 @@ fn is_blank_or_golden(program: Program) -> bool
     }
 }
 
-/// Whether so many short starts choose golden, where so many commits are left.
+/// Whether this many short starts choose golden, where this many commits are left.
 fn starts_golden(gesture: u8, room: u32, program: Program) -> bool
     ensures { (app : Option App) → program ≡ program_told app
         → result ≡ ((gesture == short_starts) && (nat_lt 0 room || blank_or_golden app)) }
@@ -177,7 +177,7 @@ fn starts_golden(gesture: u8, room: u32, program: Program) -> bool
     gesture == SHORT_STARTS && (room > 0 || is_blank_or_golden(program))
 }
 
-/// Whether an order is started, where its image is kept whole or not, and so many commits are left.
+/// Whether an order is started, where its image is kept whole or not, and this many commits are left.
 fn orders_start(now: &Snapshot, whole: bool, room: u32) -> bool
     ensures { (s : Store) → now.now.program ≡ program_told s.app → now.now.order ≡ s.order → now.now.waived ≡ s.waived
         → result ≡ orders_start s whole room }

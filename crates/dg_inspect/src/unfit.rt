@@ -28,10 +28,10 @@ use dg_slot::{Gates, Header, SIZE_OF_HEADER};
 /// What a ledger begins with.
 const LEDGER_TEXT: LedgerText = *b"DELUGE-NOR-PROF1";
 
-/// The bytes of bits behind it.
+/// The bytes of bits after it.
 pub(crate) const LEDGER_BITS: usize = 2_032;
 
-/// Where the count of pages stands in a header.
+/// Where the count of pages is in a header.
 const PAGES_AT: usize = 3;
 
 /// Where the length of an image and its name begin in a descriptor.
@@ -53,8 +53,8 @@ fn equal_bytes(one: &[u8], other: &[u8]) -> usize
     one.len()
 }
 
-/// How many bits are cleared where `byte` stands behind `at` bytes with `count` cleared bits, if all of them come first, and
-/// they are at most so many.
+/// How many bits are cleared where `byte` comes after `at` bytes with `count` cleared bits, if all of them come first, and
+/// they are at most this many.
 fn count_byte(byte: u8, at: u32, count: u32, most: u32) -> Option<u32>
     requires within { count ≤ 8 * at }
     requires few { count ≤ most }
@@ -79,7 +79,7 @@ fn count_byte(byte: u8, at: u32, count: u32, most: u32) -> Option<u32>
     Some(count + cleared)
 }
 
-/// How many of the first bytes are those of bits of which at most so many are cleared, the first of them first.
+/// How many of the first bytes are those of bits of which at most this many are cleared, the first of them first.
 fn clear_bytes(bits: &[u8], most: u32) -> usize
     requires { length bits.now ≤ sector_size }
     ensures within { result ≤ length bits.now }
@@ -108,7 +108,7 @@ pub(crate) fn ledger_break(text: &LedgerText, bits: &[u8; LEDGER_BITS]) -> u32
     TEXT_SIZE + clear_bytes(bits, u32::from(MOST_COUNT)) as u32
 }
 
-/// Whether an image may have so many pages.
+/// Whether an image may have this many pages.
 fn is_page_count(pages: u8) -> bool
     ensures { IsTrue result ↔ ((fewest_pages ≤ pages) × (pages ≤ most_pages)) }
 {
@@ -136,7 +136,7 @@ fn spelled_bytes(first: &Header, image: u8, version: u32) -> usize
     equal
 }
 
-/// The first byte at which a header is none of that image and version.
+/// The first byte at which a header is not one of that image and version.
 pub(crate) fn header_break(first: &Header, gates: &Gates, image: u8, version: u32) -> u32
     requires known_image { image < slots }
     requires none { (pages crc done : ℕ) → Heads first.now gates.now image version pages crc done → ⊥ }
@@ -149,7 +149,7 @@ pub(crate) fn header_break(first: &Header, gates: &Gates, image: u8, version: u3
     GATES_AT + clear_bytes(gates, u32::from(first[PAGES_AT])) as u32
 }
 
-/// The first byte at which the header of golden is none of a slot that keeps it whole.
+/// The first byte at which the header of golden is not one of a slot that keeps it whole.
 pub(crate) fn golden_break(slot: SlotState, first: &Header, gates: &Gates) -> u32
     requires { (pages crc : ℕ) → slot ≡ SlotState.Live golden_version
         → Heads first.now gates.now 0 golden_version pages crc pages → ⊥ }
@@ -186,14 +186,14 @@ fn said_length(head: &Head) -> u32
     u32::from_be_bytes([head[8], head[9], head[10], head[11]])
 }
 
-/// Whether an image of that length has so many pages.
+/// Whether an image of that length has this many pages.
 fn is_length_of(length: u32, pages: u8) -> bool
     ensures { IsTrue result ↔ ((1 ≤ length) × (length ≤ most_bytes) × (pages ≡ pages_for length)) }
 {
     check_size(length as usize).is_ok() && pages == pages_of(length)
 }
 
-/// How many of the first bytes of a head are those of that image and version, and of these pages where they are told.
+/// How many of the first bytes of a head are those of that image and version, and of these pages where they are given.
 fn head_bytes(head: &Head, image: u8, version: u32, pages: Option<u8>) -> usize
     ensures fit { FitTo head_size (HeadFits head.now image version pages) result }
     ensures whole { result ≡ head_size → (d : Details) × IsHead head.now d × (d.image ≡ image) × (d.version ≡ version)
@@ -228,7 +228,7 @@ fn filled_bytes(page: &[u8], from: usize) -> usize
 }
 
 /// How many of the first bytes of a page are those of a descriptor of that image and version, and of these pages where they
-/// are told.
+/// are given.
 pub(crate) fn descriptor_bytes(
     page: &[u8; PAGE_SIZE],
     image: u8,
