@@ -73,7 +73,7 @@ IsFramed line = (agreeing pem_pattern line ≡ pem_size) × (length line ≡ pem
 abbrev pub LeavesFrame : List ℕ → ℕ → Type 0
 LeavesFrame line at = (at ≡ agreeing pem_pattern line) × ((at ≢ pem_size) ⊎ (length line ≢ pem_size))
 
--- a SubjectPublicKeyInfo of 88 bytes, in front of the key itself: SEQUENCE of 86 bytes, SEQUENCE of 11 bytes with OBJECT
+-- a SubjectPublicKeyInfo of 88 bytes, before the key itself: SEQUENCE of 86 bytes, SEQUENCE of 11 bytes with OBJECT
 -- IDENTIFIER 0.4.0.127.0.15.1.1.13.0, BIT STRING of 71 bytes without unused bits, OCTET STRING of 68 bytes
 abbrev pub key_info : List ℕ
 key_info = 48 ∷ 86 ∷ 48 ∷ 11 ∷ 6 ∷ 9 ∷ 4 ∷ 0 ∷ 127 ∷ 0 ∷ 15 ∷ 1 ∷ 1 ∷ 13 ∷ 0 ∷ 3 ∷ 71 ∷ 0 ∷ 4 ∷ 68 ∷ []
@@ -95,7 +95,7 @@ ReadsPem line result =
 
 -- ---- any of them
 
--- the key of a text, or the first cause, by the form that its length tells; memory alone is free
+-- the key of a text, or the first cause, by the form that its length gives; or Memory
 pub record ReadsKeyText (text : List ℕ) (result : Result PublicKey KeyTextFault) : Type 0 where
   pub raw : length text ≡ key_size → ReadsKeyBytes text result
   pub digits : length text ≢ key_size → length (without_newline text) ≡ key_digits → ReadsDigits (without_newline text) result
