@@ -19,7 +19,7 @@ use Rattle.dg_end.specs.Lines.{Outcome}
 use Rattle.dg_end.specs.Writes.{WritesLast, WritesAnswer}
 use Rattle.dg_end.proofs.AnswerLemmas.{answered_done}
 use Rattle.dg_end.specs.declared.ends.End.TheVariants as ends
-use Rattle.dg_tool.specs.Endings.{Ending, Reading, Acting, no_board, outcome_of, by_boards}
+use Rattle.dg_tool.specs.Endings.{VerbEnding, Reading, Acting, no_board, outcome_of, by_boards}
 use Rattle.dg_tool.specs.Done.{NeedsBoard, EndsAs}
 use Rattle.dg_tool.specs.inner.OneBoard.{OnStore}
 use Rattle.dg_tool.proofs.BoardLemmas.{by_some, written_back}
@@ -36,7 +36,7 @@ answered_needs Misshapen = tt
 
 -- ---- an image that is kept
 
-abbrev by_whole : Bool → (root : List ℕ) → Held → Ending
+abbrev by_whole : Bool → (root : List ℕ) → Held → VerbEnding
 by_whole b root h = cond b (answered (answer_of root (drop 1 h.complete))) (Reading (ends.Refused (refusals.NotWhole (length h.complete) h.pages)))
 
 same_test : (m n : ℕ) → m ≡ n → (m == n) ≡ true
@@ -63,7 +63,7 @@ abbrev chain_err : ChainFault → Result ℕ ChainFault
 chain_err e = Err e
 
 module _ (a b : Device) where
-  abbrev pub Checked : Outcome → Ending → Type 0
+  abbrev pub Checked : Outcome → VerbEnding → Type 0
   Checked outcome ending = OnStore outcome ending Looked ReadStopped a b
 
   pub check_passes : (text : List ℕ) (n : ℕ) (answer : Answer) → answer ≡ Fine n → text ≡ chain_text n → Looked a b → Checked (Ok text) (answered answer)
@@ -103,7 +103,7 @@ whole_by : (b : Bool) (root : List ℕ) (h : Held) (text : List ℕ) → Ok text
 whole_by true root h text e = fine_by text (answer_of root (drop 1 h.complete)) e
 whole_by false root h text e = absurd cc
 
-boards_by : (b : Bool) (ending : Ending) (text : List ℕ) → Ok text ≡ outcome_of (cond b ending no_board) → Ok text ≡ outcome_of ending
+boards_by : (b : Bool) (ending : VerbEnding) (text : List ℕ) → Ok text ≡ outcome_of (cond b ending no_board) → Ok text ≡ outcome_of ending
 boards_by true ending text e = e
 boards_by false ending text e = absurd cc
 
@@ -126,7 +126,7 @@ own_rule : (status : Status) (outcome : Outcome) (n : ℕ) (a b : OutputState) �
 own_rule status outcome n a b is h = own_text status n a b (subst (λ (x : Outcome). WritesAnswer status x a b) is h)
 
 -- and tells it
-pub told_by : (status : Status) (outcome : Outcome) (ending : Ending) (n : ℕ) (a b : OutputState) (same looked acted halted : Type 0) → ending ≡ Acting (Ok (chain_text n)) → EndsAs outcome ending same looked acted halted → (outcome ≡ Err ends.ReadFault → ⊥) → WritesAnswer status outcome a b → TellsLength status n a b
+pub told_by : (status : Status) (outcome : Outcome) (ending : VerbEnding) (n : ℕ) (a b : OutputState) (same looked acted halted : Type 0) → ending ≡ Acting (Ok (chain_text n)) → EndsAs outcome ending same looked acted halted → (outcome ≡ Err ends.ReadFault → ⊥) → WritesAnswer status outcome a b → TellsLength status n a b
 told_by status (Ok text) ending n a b same looked acted halted is h read w = own_rule status (Ok text) n a b (h.0 ∙ ap outcome_of is) w
 told_by status (Err ends.Memory) ending n a b same looked acted halted is h read w = subst (λ (st : Status). TellsLength st n a b) (sym w.0) tt
 told_by status (Err ends.FlashFault) ending n a b same looked acted halted is h read w = subst (λ (st : Status). TellsLength st n a b) (sym w.0) tt
@@ -144,7 +144,7 @@ told_by status (Err (ends.BadProfile fault)) ending n a b same looked acted halt
 told_by status (Err (ends.Refused cause)) ending n a b same looked acted halted is h read w = own_rule status (Err (ends.Refused cause)) n a b (h.0 ∙ ap outcome_of is) w
 
 -- a check that ends well came to its answer
-pub done_rule : (status : Status) (outcome : Outcome) (ending : Ending) (a b : OutputState) (same looked acted halted : Type 0) → status ≡ statuses.Done → WritesAnswer status outcome a b → EndsAs outcome ending same looked acted halted → (text : List ℕ) × (Ok text ≡ outcome_of ending)
+pub done_rule : (status : Status) (outcome : Outcome) (ending : VerbEnding) (a b : OutputState) (same looked acted halted : Type 0) → status ≡ statuses.Done → WritesAnswer status outcome a b → EndsAs outcome ending same looked acted halted → (text : List ℕ) × (Ok text ≡ outcome_of ending)
 done_rule status outcome ending a b same looked acted halted done w h =
     let x = answered_done outcome a b (subst (λ (st : Status). WritesAnswer st outcome a b) done w) in
     (x.0, (subst (λ (o : Outcome). EndsAs o ending same looked acted halted) x.1 h).0)

@@ -21,8 +21,9 @@ use Rattle.dg_volume.proofs.HeldLemmas.{held_paged}
 use Rattle.dg_volume.proofs.FillLemmas.{fill_first, fill_works, fill_more, fit_rest, fit_next}
 use Rattle.dg_chain.specs.Checking.{Break, field_of, first_break}
 use Rattle.dg_chain.specs.Receiving.{fill_operations}
-use Rattle.dg_chain_tool.specs.declared.filling.FillFault.{FillFault}
-use Rattle.dg_chain_tool.specs.declared.filling.FillFault.TheVariants as fill_fault
+use Rattle.dg_end.specs.declared.refusal.Refusal.TheVariants as refusals
+use Rattle.dg_end.specs.declared.ends.End.{End}
+use Rattle.dg_end.specs.declared.ends.End.TheVariants as ends
 use Rattle.dg_tool.proofs.BoardLemmas.{same_some}
 use Rattle.dg_chain_tool.specs.Receiving.{expected, with_foreign}
 use Rattle.dg_chain_tool.specs.inner.Filling.{FitsData, fits_root, next_trail, NextEnds, fill_to, FillEnds}
@@ -182,11 +183,12 @@ going_all goal n image a b v g =
     subst (λ (u : Trail Store). Acted u a b v) same (acted_then g.gone (resting x 0) a b b v v refl g.acted (acted_none x b v g.acted.mounted))
 
 -- a page that was not made complete ends it
-pub next_fails : (T U : Type 0) (stop : FillFault) (goal : Trail Store) (found : Option Break) (e : List ℕ) (n image : ℕ) (page : List ℕ) (rest : List (List ℕ)) (a b c : Device) (v w : Volume) → found ≡ first_break e n (page ∷ rest)
+pub next_fails : (T U : Type 0) (stop : End) (goal : Trail Store) (found : Option Break) (e : List ℕ) (n image : ℕ) (page : List ℕ) (rest : List (List ℕ)) (a b c : Device) (v w : Volume) → found ≡ first_break e n (page ∷ rest)
     → (g : Going goal (first_break e n (page ∷ rest)) n image (page ∷ rest) a b v) → NextEnds {T = T} (Err stop) (record { image = image; number = n; page = page; digest = e }) (last g.gone) b c w → FillEnds {T = U} (Err stop) found goal a c w
-next_fails T U (fill_fault.Foreign k) goal found e n image page rest a b c v w same g h =
+next_fails T U (ends.Refused (refusals.Foreign k)) goal found e n image page rest a b c v w same g h =
     ((record { page = n; kept = e; found = sha256 page }, same ∙ break_here e n page rest h.1, sym h.0), going_foreign goal e n image page rest a b c v w h.1 g h.2)
-next_fails T U fill_fault.Stopped goal found e n image page rest a b c v w same g h = going_stops goal e n image page rest a b c v g h
+next_fails T U ends.FlashFault goal found e n image page rest a b c v w same g h = going_stops goal e n image page rest a b c v g h
+next_fails T U end goal found e n image page rest a b c v w same g h = absurd h
 
 -- the next page fits, and it is a data page
 pub going_fits : (goal : Trail Store) (found : Option Break) (n image : ℕ) (page : List ℕ) (rest : List (List ℕ)) (a b : Device) (v : Volume) → (g : Going goal found n image (page ∷ rest) a b v) → FitsData image page (last g.gone)

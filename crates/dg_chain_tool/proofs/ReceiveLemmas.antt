@@ -32,9 +32,7 @@ use Rattle.dg_end.specs.Lines.{Outcome}
 use Rattle.dg_end.specs.Conversions.{end_of_injection, end_of_take}
 use Rattle.dg_end.specs.declared.ends.End.{End}
 use Rattle.dg_end.specs.declared.ends.End.TheVariants as ends
-use Rattle.dg_chain_tool.specs.declared.filling.FillFault.{FillFault}
-use Rattle.dg_chain_tool.specs.declared.filling.FillFault.TheVariants as fill_fault
-use Rattle.dg_tool.specs.Endings.{Ending, Reading}
+use Rattle.dg_tool.specs.Endings.{VerbEnding, Reading}
 use Rattle.dg_tool.specs.Verbs.{have_text}
 use Rattle.dg_tool.specs.Done.{Completed, NeedsBoard, NeedsInput}
 use Rattle.dg_tool.specs.inner.OneBoard.{OnStore}
@@ -44,7 +42,7 @@ use Rattle.dg_tool.proofs.TrailLemmas.{looked_same}
 use Rattle.dg_words.specs.Counts.{Rose}
 use Rattle.dg_outside.specs.Outside.{InputState}
 use Rattle.dg_tool.specs.Endings.{FirstAs}
-use Rattle.dg_tool.specs.Done.{CompletedOn, StopsOn, OnBoards, FedBoards}
+use Rattle.dg_tool.specs.Done.{CompletedOn, VerbStopsOn, OnBoards, FedBoards}
 use Rattle.dg_tool.specs.Rules.{trail_rule}
 use Rattle.dg_tool.specs.Input.{ImageRead, end_of_image}
 use Rattle.dg_tool.specs.declared.input.ImageFault.{ImageFault}
@@ -52,8 +50,8 @@ use Rattle.dg_tool.proofs.BoardLemmas.{some_mapped}
 use Rattle.dg_tool.proofs.InputLemmas.{fed, fed_none}
 use Rattle.dg_chain_tool.specs.Done.{receive_rule}
 use Rattle.dg_chain_tool.specs.Receiving.{expected, compared_from, first_foreign, done_in, foreign_in, keep_trail, with_foreign, trail_by, receive_trail}
-use Rattle.dg_chain_tool.specs.Verbs.{receive_by, receive_to, receive_into}
-use Rattle.dg_chain_tool.specs.inner.Filling.{end_of_fill, fill_to, FillEnds}
+use Rattle.dg_chain_tool.specs.Verbs.{receive_ending, receive_to, receive_into}
+use Rattle.dg_chain_tool.specs.inner.Filling.{fill_to, FillEnds}
 use Rattle.dg_chain_tool.proofs.FillLemmas.{break_above, to_first, to_works, to_more}
 
 -- ---- the trail begins where the chip is
@@ -81,7 +79,7 @@ trail_is root s row found none same = ap (λ (o : Option InjectFault). trail_by 
 
 -- ---- the ending looks at the board
 
-by_needs : (row : Row) (refusal : Option InjectFault) (found : Option Break) → NeedsBoard (receive_by row refusal found)
+by_needs : (row : Row) (refusal : Option InjectFault) (found : Option Break) → NeedsBoard (receive_ending row refusal found)
 by_needs row (Some fault) found = tt
 by_needs row None None = tt
 by_needs row None (Some at) = tt
@@ -89,7 +87,7 @@ by_needs row None (Some at) = tt
 pub receive_needs : (root : List ℕ) (row : Row) (s : Store) → NeedsBoard (receive_to root row s)
 receive_needs root row s = by_needs row (inject_refusal s row) (foreign_in root s row)
 
-by_input_needs : (row : Row) (refusal : Option InjectFault) (found : Option Break) → NeedsInput (receive_by row refusal found)
+by_input_needs : (row : Row) (refusal : Option InjectFault) (found : Option Break) → NeedsInput (receive_ending row refusal found)
 by_input_needs row (Some fault) found = tt
 by_input_needs row None None = tt
 by_input_needs row None (Some at) = tt
@@ -108,7 +106,7 @@ module _ (root : List ℕ) (s : Store) (row : Row) (a b : Device) where
   Received outcome = OnStore outcome (receive_to root row s) (Completed (receive_trail root s row)) (Stops (receive_trail root s row)) a b
 
   abbrev By : Outcome → Option InjectFault → Option Break → Type 0
-  By outcome refusal found = OnStore outcome (receive_by row refusal found) (Completed (receive_trail root s row)) (Stops (receive_trail root s row)) a b
+  By outcome refusal found = OnStore outcome (receive_ending row refusal found) (Completed (receive_trail root s row)) (Stops (receive_trail root s row)) a b
 
   ends_by : (outcome : Outcome) (refusal : Option InjectFault) (found : Option Break) → inject_refusal s row ≡ refusal → foreign_in root s row ≡ found → By outcome refusal found → Received outcome
   ends_by outcome refusal found e f h = subst (λ (o : Option InjectFault). By outcome o (foreign_in root s row)) (sym e) (subst (λ (o : Option Break). By outcome refusal o) (sym f) h)
@@ -133,25 +131,28 @@ module _ (root : List ℕ) (s : Store) (row : Row) (a b : Device) where
       ends_by (Ok (have_text row)) None None none (sym same ∙ h.0)
       (made_store (Completed (receive_trail root s row)) (Stops (receive_trail root s row)) a b (have_text row) (have_text row) refl (went (receive_trail root s row) a b v (subst (λ (u : Trail Store). Acted u a b v) is h.1)))
 
-  abbrev filling : (T : Type 0) → FillFault → Result T FillFault
+  abbrev filling : (T : Type 0) → End → Result T End
   filling T e = Err e
 
   -- or it is not
-  pub received_part : (T : Type 0) (fault : FillFault) (found : Option Break) (t : Trail Store) (v : Volume) → inject_refusal s row ≡ None → found ≡ foreign_in root s row → t ≡ receive_trail root s row → FillEnds (filling T fault) found t a b v → Received (Err (end_of_fill fault))
-  received_part T (fill_fault.Foreign k) found t v none same is h = filled_foreign k h.0.0 v none (sym same ∙ h.0.1) h.0.2 (subst (λ (u : Trail Store). Acted u a b v) is h.1)
-  received_part T fill_fault.Stopped found t v none same is h = received_stops (subst (λ (u : Trail Store). Stops u a b) is h)
+  pub received_part : (T : Type 0) (fault : End) (found : Option Break) (t : Trail Store) (v : Volume) → inject_refusal s row ≡ None → found ≡ foreign_in root s row → t ≡ receive_trail root s row → FillEnds (filling T fault) found t a b v → Received (Err fault)
+  received_part T (ends.Refused (refusals.Foreign k)) found t v none same is h = filled_foreign k h.0.0 v none (sym same ∙ h.0.1) h.0.2 (subst (λ (u : Trail Store). Acted u a b v) is h.1)
+  received_part T ends.FlashFault found t v none same is h = received_stops (subst (λ (u : Trail Store). Stops u a b) is h)
+  received_part T end found t v none same is h = absurd h
 
 -- ---- acts before the pages
 
-pub ends_looked : {T : Type 0} (r : Result T FillFault) (found : Option Break) (t : Trail Store) (a b c : Device) (w : Volume) → Looked a b → FillEnds r found t b c w → FillEnds r found t a c w
+pub ends_looked : {T : Type 0} (r : Result T End) (found : Option Break) (t : Trail Store) (a b c : Device) (w : Volume) → Looked a b → FillEnds r found t b c w → FillEnds r found t a c w
 ends_looked (Ok x) found t a b c w looked h = (h.0, looked_acted t a b c w looked h.1)
-ends_looked (Err (fill_fault.Foreign k)) found t a b c w looked h = (h.0, looked_acted t a b c w looked h.1)
-ends_looked (Err fill_fault.Stopped) found t a b c w looked h = looked_stops t a b c looked h
+ends_looked (Err (ends.Refused (refusals.Foreign k))) found t a b c w looked h = (h.0, looked_acted t a b c w looked h.1)
+ends_looked (Err ends.FlashFault) found t a b c w looked h = looked_stops t a b c looked h
+ends_looked (Err end) found t a b c w looked h = absurd h
 
-pub ends_then : {T : Type 0} (r : Result T FillFault) (found : Option Break) (t u : Trail Store) (a b c : Device) (v w : Volume) → last t ≡ u.first → Acted t a b v → FillEnds r found u b c w → FillEnds r found (joined t u) a c w
+pub ends_then : {T : Type 0} (r : Result T End) (found : Option Break) (t u : Trail Store) (a b c : Device) (v w : Volume) → last t ≡ u.first → Acted t a b v → FillEnds r found u b c w → FillEnds r found (joined t u) a c w
 ends_then (Ok x) found t u a b c v w same acted h = (h.0, acted_then t u a b c v w same acted h.1)
-ends_then (Err (fill_fault.Foreign k)) found t u a b c v w same acted h = (h.0, acted_then t u a b c v w same acted h.1)
-ends_then (Err fill_fault.Stopped) found t u a b c v w same acted h = stops_then t u a b c v same acted h
+ends_then (Err (ends.Refused (refusals.Foreign k))) found t u a b c v w same acted h = (h.0, acted_then t u a b c v w same acted h.1)
+ends_then (Err ends.FlashFault) found t u a b c v w same acted h = stops_then t u a b c v same acted h
+ends_then (Err end) found t u a b c v w same acted h = absurd h
 
 -- ---- a version that is kept
 
@@ -277,10 +278,10 @@ not_reserved s row some older e = reserved_by (nat_lt s.room 2) s.room (sym (tak
 
 -- ---- what is told of it
 
-pub told_made : (text told : List ℕ) (ending : Ending) (acted halted : Device → Device → Type 0) (a b : Device) → OnStore (Ok told) ending acted halted a b → text ≡ told → OnStore (Ok text) ending acted halted a b
+pub told_made : (text told : List ℕ) (ending : VerbEnding) (acted halted : Device → Device → Type 0) (a b : Device) → OnStore (Ok told) ending acted halted a b → text ≡ told → OnStore (Ok text) ending acted halted a b
 told_made text told ending acted halted a b h is = subst (λ (t : List ℕ). OnStore (Ok t) ending acted halted a b) (sym is) h
 
-pub told_wants : (told : List ℕ) (ending : Ending) (acted halted : Device → Device → Type 0) (a b : Device) → OnStore (Ok told) ending acted halted a b → OnStore (Err ends.Memory) ending acted halted a b
+pub told_wants : (told : List ℕ) (ending : VerbEnding) (acted halted : Device → Device → Type 0) (a b : Device) → OnStore (Ok told) ending acted halted a b → OnStore (Err ends.Memory) ending acted halted a b
 told_wants told ending acted halted a b h = record { rules = inr h.rules.1; stops = λ e. cc; of_verb = tt; on_board = λ x. x }
 
 -- ---- page 0, and the data pages behind it
@@ -294,7 +295,7 @@ module _ (found : Option Break) (s : Store) (image : ℕ) (page : List ℕ) (res
       ap (λ (z : Store). joined One (fill_to found 1 z image rest)) (sym e ∙ last-stepping s page_operations (paged image page s))
       ∙ to_more found 0 s image page rest above ∙ ap (fill_to found 0 s image) (sym whole)
 
-  pub whole_ends : {T : Type 0} (r : Result T FillFault) (a b d : Device) (v w : Volume) → Acted One a b v → FillEnds r found (fill_to found 1 (last One) image rest) b d w → FillEnds r found (fill_to found 0 s image pages) a d w
+  pub whole_ends : {T : Type 0} (r : Result T End) (a b d : Device) (v w : Volume) → Acted One a b v → FillEnds r found (fill_to found 1 (last One) image rest) b d w → FillEnds r found (fill_to found 0 s image pages) a d w
   whole_ends r a b d v w acted h =
       subst (λ (t : Trail Store). FillEnds r found t a d w) (one_more (last One) refl) (ends_then r found One (fill_to found 1 (last One) image rest) a b d v w (sym (to_first found 1 (last One) image rest)) acted h)
 
@@ -336,8 +337,8 @@ refused_at root s row a fault end e other same =
 pub fed_receive : {N T : Type 0} (f : N → Device) (items : List N) (root : List ℕ) (row : List ℕ → Row) (view : T → List ℕ) (image : T) (outcome : Outcome) (a b : InputState) (new : List Device) → 0 < length items → ImageRead view (Ok image) a b
     → OnBoards outcome (trail_rule (map f items) (receive_into root (row (view image))) (λ s. receive_trail root s (row (view image)))) (Rose a.reads b.reads) (map f items) new → FedBoards outcome (receive_rule (map f items) root row) a b (map f items) new
 fed_receive f items root row view image outcome a b new some read did =
-    fed (FirstAs (map f items)) (λ bytes chip. receive_into root (row bytes) chip) (λ bytes. CompletedOn (λ s. receive_trail root s (row bytes))) (λ bytes. StopsOn (λ s. receive_trail root s (row bytes))) (λ bytes chip. receive_into_needs root (row bytes) chip) view image outcome a b (map f items) new (some_mapped f items some) read did
+    fed (FirstAs (map f items)) (λ bytes chip. receive_into root (row bytes) chip) (λ bytes. CompletedOn (λ s. receive_trail root s (row bytes))) (λ bytes. VerbStopsOn (λ s. receive_trail root s (row bytes))) (λ bytes chip. receive_into_needs root (row bytes) chip) view image outcome a b (map f items) new (some_mapped f items some) read did
 
 pub unfed_receive : {N T : Type 0} (f : N → Device) (items : List N) (root : List ℕ) (row : List ℕ → Row) (view : T → List ℕ) (fault : ImageFault) (a b : InputState) → 0 < length items → ImageRead view (Err fault) a b → FedBoards (Err (end_of_image fault)) (receive_rule (map f items) root row) a b (map f items) (map f items)
 unfed_receive f items root row view fault a b some read =
-    fed_none (FirstAs (map f items)) (λ bytes chip. receive_into root (row bytes) chip) (λ bytes. CompletedOn (λ s. receive_trail root s (row bytes))) (λ bytes. StopsOn (λ s. receive_trail root s (row bytes))) (λ bytes chip. receive_into_needs root (row bytes) chip) view fault a b (map f items) (some_mapped f items some) read
+    fed_none (FirstAs (map f items)) (λ bytes chip. receive_into root (row bytes) chip) (λ bytes. CompletedOn (λ s. receive_trail root s (row bytes))) (λ bytes. VerbStopsOn (λ s. receive_trail root s (row bytes))) (λ bytes chip. receive_into_needs root (row bytes) chip) view fault a b (map f items) (some_mapped f items some) read

@@ -14,7 +14,7 @@ use Rattle.dg_end.specs.Lines.{Outcome, text_outcome}
 use Rattle.dg_end.specs.declared.ends.End.{End}
 use Rattle.dg_end.specs.declared.ends.End.TheVariants as ends
 use Rattle.dg_end.specs.declared.refusal.Refusal.TheVariants as refusals
-use Rattle.dg_tool.specs.Endings.{Ending, Before, Acting, outcome_of, by_input}
+use Rattle.dg_tool.specs.Endings.{VerbEnding, Before, Acting, outcome_of, by_input}
 use Rattle.dg_tool.specs.Input.{ReadsImage, ImageRead, end_of_image}
 use Rattle.dg_tool.specs.declared.input.ImageFault.{ImageFault}
 use Rattle.dg_tool.specs.declared.input.ImageFault.TheVariants as image_fault
@@ -35,7 +35,7 @@ large_test most n h = grind (arith, nat_tests)
 fits_test : (most n : ℕ) → n ≤ most → nat_lt most n ≡ false
 fits_test most n h = grind (arith, nat_tests)
 
-by_tests : (b d : Bool) → List ℕ → Ending
+by_tests : (b d : Bool) → List ℕ → VerbEnding
 by_tests b d x = cond b (Before (ends.Refused refusals.Empty)) (cond d (Before (ends.Refused (refusals.TooLarge (length x)))) (Acting (Ok (wrapped_text x))))
 
 pub wrap_empty : (x : List ℕ) → length x ≡ 0 → wrap_by x ≡ Before (ends.Refused refusals.Empty)
@@ -57,13 +57,13 @@ wrap_fits x is =
 
 -- ---- no image came of the input
 
-text_none : (next : List ℕ → Ending) (bytes : List ℕ) (fault : ImageFault) (at_end failed : Type 0) → ReadsImage {T = ℕ} (λ n. []) (Err fault) bytes at_end failed → TextComes (Err (end_of_image fault)) (by_input bytes next) failed
+text_none : (next : List ℕ → VerbEnding) (bytes : List ℕ) (fault : ImageFault) (at_end failed : Type 0) → ReadsImage {T = ℕ} (λ n. []) (Err fault) bytes at_end failed → TextComes (Err (end_of_image fault)) (by_input bytes next) failed
 text_none next bytes image_fault.Memory at_end failed h = tt
 text_none next bytes image_fault.ReadFault at_end failed h = h
 text_none next bytes image_fault.TooLong at_end failed h = ap outcome_of (sym (by_over most_input bytes next h.0))
 text_none next bytes (image_fault.BadHex fault) at_end failed h = ap outcome_of (sym (input_fault bytes fault next h.0 h.1))
 
-pub fed_none : {T : Type 0} (view : T → List ℕ) (next : List ℕ → Ending) (fault : ImageFault) (a b : InputState) → ImageRead {T = T} view (Err fault) a b → FedText (Err (end_of_image fault)) next a b
+pub fed_none : {T : Type 0} (view : T → List ℕ) (next : List ℕ → VerbEnding) (fault : ImageFault) (a b : InputState) → ImageRead {T = T} view (Err fault) a b → FedText (Err (end_of_image fault)) next a b
 fed_none view next fault a b h = record {
   bytes = h.bytes;
   read = part_read view fault 1 a b (omega arith) h;
@@ -72,14 +72,14 @@ fed_none view next fault a b h = record {
 
 -- ---- or one did
 
-fed_text : {T : Type 0} (view : T → List ℕ) (next : List ℕ → Ending) (image : T) (outcome : Outcome) (a b : InputState) → (h : ImageRead view (Ok image) a b) → TextComes outcome (next (view image)) (Rose a.reads b.reads) → FedText outcome next a b
+fed_text : {T : Type 0} (view : T → List ℕ) (next : List ℕ → VerbEnding) (image : T) (outcome : Outcome) (a b : InputState) → (h : ImageRead view (Ok image) a b) → TextComes outcome (next (view image)) (Rose a.reads b.reads) → FedText outcome next a b
 fed_text view next image outcome a b h comes = record {
   bytes = h.bytes;
   read = whole_read view image outcome 1 a b (omega arith) h;
-  comes = subst (λ (e : Ending). TextComes outcome e (Rose a.reads b.reads)) (sym (input_image h.bytes (view image) next h.reads.0 h.reads.1)) comes;
+  comes = subst (λ (e : VerbEnding). TextComes outcome e (Rose a.reads b.reads)) (sym (input_image h.bytes (view image) next h.reads.0 h.reads.1)) comes;
 }
 
-pub fed_wants : {T : Type 0} (view : T → List ℕ) (next : List ℕ → Ending) (image : T) (a b : InputState) → ImageRead view (Ok image) a b → FedText (Err ends.Memory) next a b
+pub fed_wants : {T : Type 0} (view : T → List ℕ) (next : List ℕ → VerbEnding) (image : T) (a b : InputState) → ImageRead view (Ok image) a b → FedText (Err ends.Memory) next a b
 fed_wants view next image a b h = fed_text view next image (Err ends.Memory) a b h tt
 
 pub fed_made : {T : Type 0} (view : T → List ℕ) (image : T) (text : List ℕ) (a b : InputState) → ImageRead view (Ok image) a b → IsPayload (view image) → text ≡ wrapped_text (view image) → FedText (Ok text) wrap_by a b
@@ -96,5 +96,5 @@ fed_fault view image fault a b h none over = fed_text view wrap_by image (Err (e
 
 -- ---- the exit of a `?`
 
-pub at_text : {T : Type 0} (view : T → List ℕ) (r : Result T End) (e : End) (next : List ℕ → Ending) (a b : InputState) → IsErrAnd r (λ x. x ≡ e) → FedText (Err e) next a b → FedText (text_outcome view r) next a b
+pub at_text : {T : Type 0} (view : T → List ℕ) (r : Result T End) (e : End) (next : List ℕ → VerbEnding) (a b : InputState) → IsErrAnd r (λ x. x ≡ e) → FedText (Err e) next a b → FedText (text_outcome view r) next a b
 at_text view r e next a b is h = at_end view (λ outcome. FedText outcome next a b) r e is h

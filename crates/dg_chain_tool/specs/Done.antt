@@ -10,7 +10,7 @@ use Rattle.dg_outside.specs.Outside.{Outside, InputState, OutputState}
 use Rattle.dg_end.specs.Lines.{Outcome}
 use Rattle.dg_end.specs.Writes.{CommandEnds}
 use Rattle.dg_end.specs.declared.ends.End.TheVariants as ends
-use Rattle.dg_tool.specs.Endings.{Ending, outcome_of, by_input, content_in}
+use Rattle.dg_tool.specs.Endings.{VerbEnding, outcome_of, by_input, content_in}
 use Rattle.dg_tool.specs.Done.{VerbRule, InputRead, FirstDone, InputDone}
 use Rattle.dg_tool.specs.Agreement.{HasNewRow, KeepsAgreement}
 use Rattle.dg_tool.specs.Rules.{trail_rule, reading_rule}
@@ -18,13 +18,13 @@ use Rattle.dg_chain_tool.specs.Receiving.{receive_trail}
 use Rattle.dg_chain_tool.specs.Verbs.{wrap_by, check_on, receive_into, chain_text}
 
 -- a verb that uses no board comes to its ending; memory alone is free
-abbrev pub TextComes : Outcome → Ending → (read_failed : Type 0) → Type 0
+abbrev pub TextComes : Outcome → VerbEnding → (read_failed : Type 0) → Type 0
 TextComes (Err ends.Memory) ending read_failed = Unit {0}
 TextComes (Err ends.ReadFault) ending read_failed = read_failed
 TextComes outcome ending read_failed = outcome ≡ outcome_of ending
 
 -- the same of one that goes by the bytes of its input
-pub record FedText (outcome : Outcome) (next : List ℕ → Ending) (a b : InputState) : Type 0 where
+pub record FedText (outcome : Outcome) (next : List ℕ → VerbEnding) (a b : InputState) : Type 0 where
   pub bytes : List ℕ
   pub read : InputRead outcome 1 bytes a b
   pub comes : TextComes outcome (by_input bytes next) (Rose a.reads b.reads)

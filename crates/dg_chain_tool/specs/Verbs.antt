@@ -15,7 +15,7 @@ use Rattle.dg_end.specs.declared.refusal.Refusal.TheVariants as refusals
 use Rattle.dg_end.specs.Conversions.{end_of_injection}
 use Rattle.dg_end.specs.declared.ends.End.TheVariants as ends
 use Rattle.dg_end.specs.Texts.{numbers, line}
-use Rattle.dg_tool.specs.Endings.{Ending, Before, Reading, Acting, by_store}
+use Rattle.dg_tool.specs.Endings.{VerbEnding, Before, Reading, Acting, by_store}
 use Rattle.dg_tool.specs.Verbs.{have_text}
 use Rattle.dg_chain_tool.specs.Receiving.{foreign_in}
 
@@ -25,7 +25,7 @@ use Rattle.dg_chain_tool.specs.Receiving.{foreign_in}
 abbrev pub wrapped_text : List ℕ → List ℕ
 wrapped_text x = line (codes "root " ++ hex_text (root_of x)) ++ written_file (image_of x)
 
-abbrev pub wrap_by : List ℕ → Ending
+abbrev pub wrap_by : List ℕ → VerbEnding
 wrap_by x =
     if length x == 0 then Before (ends.Refused refusals.Empty)
     else if nat_lt most_payload (length x) then Before (ends.Refused (refusals.TooLarge (length x)))
@@ -37,29 +37,29 @@ abbrev pub chain_text : ℕ → List ℕ
 chain_text n = line (codes "chain" ++ numbers (n ∷ []))
 
 -- what is found of the data pages
-abbrev pub answered : Answer → Ending
+abbrev pub answered : Answer → VerbEnding
 answered (Fine n) = Acting (Ok (chain_text n))
 answered (Broken at) = Reading (ends.Refused (refusals.Broken at.page at.kept at.found))
 answered Misshapen = Reading (ends.Refused refusals.Shape)
 
-abbrev pub check_by : (root : List ℕ) → Option Held → Ending
+abbrev pub check_by : (root : List ℕ) → Option Held → VerbEnding
 check_by root None = Reading (ends.Refused refusals.Absent)
 check_by root (Some h) =
     if length h.complete == h.pages then answered (answer_of root (drop 1 h.complete))
     else Reading (ends.Refused (refusals.NotWhole (length h.complete) h.pages))
 
-abbrev pub check_on : (image : ℕ) → (root : List ℕ) → Option Store → Ending
+abbrev pub check_on : (image : ℕ) → (root : List ℕ) → Option Store → VerbEnding
 check_on image root chip = by_store chip (λ s. check_by root (held s image))
 
 -- ---- receive
 
-abbrev pub receive_by : Row → Option InjectFault → Option Break → Ending
-receive_by row (Some fault) found = Reading (end_of_injection (length row.bytes) fault)
-receive_by row None None = Acting (Ok (have_text row))
-receive_by row None (Some at) = Acting (Err (ends.Refused (refusals.Foreign at.page)))
+abbrev pub receive_ending : Row → Option InjectFault → Option Break → VerbEnding
+receive_ending row (Some fault) found = Reading (end_of_injection (length row.bytes) fault)
+receive_ending row None None = Acting (Ok (have_text row))
+receive_ending row None (Some at) = Acting (Err (ends.Refused (refusals.Foreign at.page)))
 
-abbrev pub receive_to : (root : List ℕ) → Row → Store → Ending
-receive_to root row s = receive_by row (inject_refusal s row) (foreign_in root s row)
+abbrev pub receive_to : (root : List ℕ) → Row → Store → VerbEnding
+receive_to root row s = receive_ending row (inject_refusal s row) (foreign_in root s row)
 
-abbrev pub receive_into : (root : List ℕ) → Row → Option Store → Ending
+abbrev pub receive_into : (root : List ℕ) → Row → Option Store → VerbEnding
 receive_into root row chip = by_store chip (receive_to root row)

@@ -17,29 +17,6 @@ use dg_nor::{Nor, Stopped};
 use dg_object::PAGE_SIZE;
 use dg_volume::{NewImage, Volume};
 
-/// Why pages are not filled.
-#[derive(Clone, Copy, Debug, PartialEq, Eq)]
-pub(crate) enum FillFault {
-    /// The board is stopped.
-    Stopped,
-    /// The digest of this data page is not the expected one.
-    Foreign { page: u8 },
-}
-
-impl From<FillFault> for End {
-    ghost use Rattle.std.specs.Prelude.{◌≡◌};
-    ghost use Rattle.dg_chain_tool.specs.inner.Filling.{end_of_fill};
-
-    ghost from_gives = { λ fault e. e ≡ end_of_fill fault };
-
-    fn from(fault: FillFault) -> End {
-        match fault {
-            FillFault::Stopped => End::FlashFault,
-            FillFault::Foreign { page } => End::Refused(Refusal::Foreign { page }),
-        }
-    }
-}
-
 /// Fills the next page of an image, a data page with this number, and makes it complete where it is the expected one. 50
 /// operations, and 49 where it is foreign.
 fn receive_next<N: Nor>(
@@ -49,7 +26,7 @@ fn receive_next<N: Nor>(
     number: u8,
     page: &[u8; PAGE_SIZE],
     expected: &[u8; DIGEST_SIZE],
-) -> Result<(), FillFault>
+) -> Result<(), End>
     requires mounted { IsMounted (N.device nor.old).image volume.old }
     requires not_golden { 1 ≤ image }
     requires known_image { image < images }
@@ -73,12 +50,21 @@ fn receive_next<N: Nor>(
                 },
             ) => {
                 volume.put_back(slot);
-                Err(FillFault::Foreign { page: number })
+                Err(End::Refused(Refusal::Foreign { page: number }))
             }
-            Ok(ChainSealing::Bad { .. }) => unreachable!(),
-            Err(Stopped) => Err(FillFault::Stopped),
+            Ok(
+                ChainSealing::Bad {
+                    kept: _kept,
+                    found: _found,
+                    slot,
+                },
+            ) => {
+                volume.put_back(slot);
+                Err(End::Refused(Refusal::Foreign { page: number }))
+            }
+            Err(Stopped) => Err(End::FlashFault),
         },
-        None => unreachable!(),
+        None => Err(End::Refused(Refusal::Absent)),
     }
 }
 
@@ -99,7 +85,7 @@ fn receive_data<N: Nor>(
     new: &NewImage<'_>,
     done: u8,
     first: &[u8; DIGEST_SIZE],
-) -> Result<(), FillFault>
+) -> Result<(), End>
     requires mounted { IsMounted (N.device nor.old).image volume.old }
     requires not_golden { 1 ≤ new.now.image }
     requires known_image { new.now.image < images }
@@ -146,7 +132,7 @@ fn receive_whole<N: Nor>(
     nor: &mut N,
     new: &NewImage<'_>,
     root: &[u8; DIGEST_SIZE],
-) -> Result<(), FillFault>
+) -> Result<(), End>
     requires mounted { IsMounted (N.device nor.old).image volume.old }
     requires not_golden { 1 ≤ new.now.image }
     requires known_image { new.now.image < images }
@@ -164,7 +150,7 @@ fn receive_whole<N: Nor>(
     new.page(0, &mut page);
     match volume.fill_page(nor, new.image, &page) {
         Ok(()) => receive_data(volume, nor, new, 1, root),
-        Err(Stopped) => Err(FillFault::Stopped),
+        Err(Stopped) => Err(End::FlashFault),
     }
 }
 
@@ -175,7 +161,7 @@ pub(crate) fn receive_rest<N: Nor>(
     new: &NewImage<'_>,
     done: u8,
     root: &[u8; DIGEST_SIZE],
-) -> Result<(), FillFault>
+) -> Result<(), End>
     requires mounted { IsMounted (N.device nor.old).image volume.old }
     requires not_golden { 1 ≤ new.now.image }
     requires known_image { new.now.image < images }

@@ -17,7 +17,7 @@ use Rattle.dg_end.specs.Writes.{WritesAnswer}
 use Rattle.dg_end.specs.declared.ends.End.TheVariants as ends
 use Rattle.dg_end.proofs.AnswerLemmas.{answered_status, link_came}
 use Rattle.dg_chain.specs.Chain.{most_payload}
-use Rattle.dg_tool.specs.Endings.{Ending, outcome_of, by_file, by_input, FirstInForm}
+use Rattle.dg_tool.specs.Endings.{VerbEnding, outcome_of, by_file, by_input, FirstInForm}
 use Rattle.dg_tool.specs.Done.{IsOfVerb, VerbRule, FirstDone, InputDone}
 use Rattle.dg_tool.specs.Rules.{MigrateDone}
 use Rattle.dg_chain_tool.specs.Verbs.{wrap_by}
@@ -41,7 +41,7 @@ no_link_input status rule a b h e = no_link status h.outcome a.output b.output h
 
 -- ---- wrap
 
-of_either : (t : Bool) (x y : Ending) → IsOfVerb (outcome_of x) → IsOfVerb (outcome_of y) → IsOfVerb (outcome_of (if t then x else y))
+of_either : (t : Bool) (x y : VerbEnding) → IsOfVerb (outcome_of x) → IsOfVerb (outcome_of y) → IsOfVerb (outcome_of (if t then x else y))
 of_either true x y h k = h
 of_either false x y h k = k
 
@@ -55,7 +55,7 @@ file_of_verb (Err fault) = tt
 input_of_verb : (input : List ℕ) → IsOfVerb (outcome_of (by_input input wrap_by))
 input_of_verb input = of_either (nat_lt most_input (length input)) _ _ tt (file_of_verb (hex_file input))
 
-no_link_text : (outcome : Outcome) (ending : Ending) (read_failed : Type 0) → IsOfVerb (outcome_of ending) → TextComes outcome ending read_failed → outcome ≡ Err ends.LinkFault → ⊥
+no_link_text : (outcome : Outcome) (ending : VerbEnding) (read_failed : Type 0) → IsOfVerb (outcome_of ending) → TextComes outcome ending read_failed → outcome ≡ Err ends.LinkFault → ⊥
 no_link_text outcome ending read_failed verb h e =
     let is : Err ends.LinkFault ≡ outcome_of ending = subst (λ (c : Outcome). TextComes c ending read_failed) e h in
     subst IsOfVerb (sym is) verb

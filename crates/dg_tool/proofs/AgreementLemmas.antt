@@ -24,9 +24,9 @@ use Rattle.dg_outside.specs.Outside.{Outside}
 use Rattle.dg_end.specs.Lines.{Outcome}
 use Rattle.dg_end.specs.Writes.{CommandEnds}
 use Rattle.dg_end.specs.declared.ends.End.TheVariants as ends
-use Rattle.dg_tool.specs.Endings.{Ending, Before, Reading, Acting, by_boards, FirstAs, FirstInForm, content_in}
+use Rattle.dg_tool.specs.Endings.{VerbEnding, Before, Reading, Acting, by_boards, FirstAs, FirstInForm, content_in}
 use Rattle.dg_tool.specs.Verbs.{order_on, power_boot}
-use Rattle.dg_tool.specs.Done.{verb_rule, Completed, CompletedOn, StopsOn, BootedOn, MigratedOn, ActsAs, EndsAs, AtFirst, OnBoards, FirstDone, InputDone}
+use Rattle.dg_tool.specs.Done.{verb_rule, Completed, CompletedOn, VerbStopsOn, BootedOn, MigratedOn, ActsAs, EndsAs, AtFirst, OnBoards, FirstDone, InputDone}
 use Rattle.dg_tool.specs.Agreement.{BoardAgrees, HasNewRow, KeepsAgreement}
 use Rattle.dg_tool.specs.Rules.{AnyTable, trail_rule, inject_rule, boot_rule, migrate_rule, InjectDone, OrderDone, BootDone, MigrateDone}
 use Rattle.dg_tool.proofs.BoardLemmas.{same_some}
@@ -42,12 +42,12 @@ near_agrees table a s agrees near = subst (Agrees table) (sym near.same) (agrees
 
 -- ---- however a verb ends
 
-acts_some : (ending : Ending) (G : Type 0) → ActsAs ending G G G → G
+acts_some : (ending : VerbEnding) (G : Type 0) → ActsAs ending G G G → G
 acts_some (Before end) G h = h
 acts_some (Reading end) G h = h
 acts_some (Acting outcome) G h = h
 
-ends_some : (outcome : Outcome) (ending : Ending) (G : Type 0) → EndsAs outcome ending G G G G → G
+ends_some : (outcome : Outcome) (ending : VerbEnding) (G : Type 0) → EndsAs outcome ending G G G G → G
 ends_some (Ok text) ending G h = acts_some ending G h.1
 ends_some (Err ends.Memory) ending G h = ⊎_elim (λ x. x) (λ x. acts_some ending G x) h
 ends_some (Err ends.ReadFault) ending G h = h.1
@@ -91,7 +91,7 @@ module _ (table : List Row) (t : Trail Store) (acted halted : Device → Device 
         agrees = Leaves-through IsNear (Agrees table) (near_agrees table) t h.done h.leaves.store through h.leaves.allowed;
       }
 
-  pub first_kept : (outcome : Outcome) (ending : Ending) → EndsAs outcome ending (new ≡ old) (AtFirst Looked old new) (AtFirst acted old new) (AtFirst halted old new) → BoardAgrees table b.image
+  pub first_kept : (outcome : Outcome) (ending : VerbEnding) → EndsAs outcome ending (new ≡ old) (AtFirst Looked old new) (AtFirst acted old new) (AtFirst halted old new) → BoardAgrees table b.image
   first_kept outcome ending h =
       let G = BoardAgrees table b.image in
       ends_some outcome ending G
@@ -107,7 +107,7 @@ abbrev pub ShapedLaw : Type 0
 ShapedLaw = (c : List ℕ) (s : Store) → Stands c s → IsShaped s
 
 -- the trail of whatever store the board stands for goes through stores that agree
-pub boards_kept : (trail : Store → Trail Store) (outcome : Outcome) (ending : Option Store → Ending) (acted halted : Option Store → Device → Device → Type 0) (failed : Type 0) (suits : List Row → Store → Type 0) (old new : List Device) → ShapedLaw
+pub boards_kept : (trail : Store → Trail Store) (outcome : Outcome) (ending : Option Store → VerbEnding) (acted halted : Option Store → Device → Device → Type 0) (failed : Type 0) (suits : List Row → Store → Type 0) (old new : List Device) → ShapedLaw
     → ((s : Store) (a b : Device) → acted (Some s) a b → Completed (trail s) a b) → ((s : Store) (a b : Device) → halted (Some s) a b → Stops (trail s) a b)
     → ((table : List Row) (s : Store) → IsShaped s → Agrees table s → suits table s → Through (Agrees table) (trail s))
     → OnBoards outcome (verb_rule (FirstAs old) ending acted halted) failed old new → KeepsAgreement suits old new
@@ -116,11 +116,11 @@ boards_kept trail outcome ending acted halted failed suits old new shaped comple
     (h.rules (Some s) (first_as old a s was stands))
 
 -- the same of a rule that is a trail
-pub trail_kept : (trail : Store → Trail Store) (outcome : Outcome) (ending : Option Store → Ending) (failed : Type 0) (suits : List Row → Store → Type 0) (old new : List Device) → ShapedLaw
+pub trail_kept : (trail : Store → Trail Store) (outcome : Outcome) (ending : Option Store → VerbEnding) (failed : Type 0) (suits : List Row → Store → Type 0) (old new : List Device) → ShapedLaw
     → ((table : List Row) (s : Store) → IsShaped s → Agrees table s → suits table s → Through (Agrees table) (trail s))
     → OnBoards outcome (trail_rule old ending trail) failed old new → KeepsAgreement suits old new
 trail_kept trail outcome ending failed suits old new shaped through h =
-    boards_kept trail outcome ending (λ chip. CompletedOn trail chip) (λ chip. StopsOn trail chip) failed suits old new shaped (λ s a b x. x) (λ s a b x. x) through h
+    boards_kept trail outcome ending (λ chip. CompletedOn trail chip) (λ chip. VerbStopsOn trail chip) failed suits old new shaped (λ s a b x. x) (λ s a b x. x) through h
 
 -- ---- injections
 
@@ -158,7 +158,7 @@ order_agrees law shaped o status a b done = record {
 pub boot_agrees : ((table : List Row) (s : Store) → Agrees table s → Through (Agrees table) (power_boot s).trail) → ShapedLaw → (status : Status) (a b : Outside) → FirstDone status (boot_rule a.boards) a b → BootDone status a b
 boot_agrees law shaped status a b done = record {
   done = done;
-  agrees = boards_kept (λ s. (power_boot s).trail) done.outcome _ (λ chip. BootedOn power_boot chip) (λ chip. StopsOn (λ s. (power_boot s).trail) chip) _ AnyTable a.boards b.boards shaped (λ s c d x. x.went) (λ s c d x. x) (λ table s is agrees fits. law table s agrees) done.allowed.0;
+  agrees = boards_kept (λ s. (power_boot s).trail) done.outcome _ (λ chip. BootedOn power_boot chip) (λ chip. VerbStopsOn (λ s. (power_boot s).trail) chip) _ AnyTable a.boards b.boards shaped (λ s c d x. x.went) (λ s c d x. x) (λ table s is agrees fits. law table s agrees) done.allowed.0;
 }
 
 abbrev pub FormLaw : Type 0
@@ -171,7 +171,7 @@ first_in_form form (board ∷ boards) a was h = λ v. subst (λ (d : Device). Ha
 module _ (law : (table : List Row) (form : ℕ) (s : Store) → Agrees table s → Through (Agrees table) (migrate_trail form s)) (shaped : ShapedLaw) (old new : List Device) (outcome : Outcome) where
   by_form : (form : ℕ) → OnBoards outcome (migrate_rule old form) ⊥ old new → KeepsAgreement AnyTable old new
   by_form form h =
-      boards_kept (λ s. migrate_trail form s) outcome _ (λ chip. MigratedOn form chip) (λ chip. StopsOn (migrate_trail form) chip) _ AnyTable old new shaped (λ s x y k. k.went) (λ s x y k. k) (λ table s is agrees fits. law table form s agrees) h
+      boards_kept (λ s. migrate_trail form s) outcome _ (λ chip. MigratedOn form chip) (λ chip. VerbStopsOn (migrate_trail form) chip) _ AnyTable old new shaped (λ s x y k. k.went) (λ s x y k. k) (λ table s is agrees fits. law table form s agrees) h
 
   pub any_form : FormLaw → ((form : ℕ) → FirstInForm form old → OnBoards outcome (migrate_rule old form) ⊥ old new) → KeepsAgreement AnyTable old new
   any_form forms h = λ a b was is table s stands agrees fits.

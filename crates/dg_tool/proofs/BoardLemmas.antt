@@ -10,7 +10,7 @@ use Rattle.dg_volume.specs.Store.{Store}
 use Rattle.dg_end.specs.Lines.{Outcome, text_outcome}
 use Rattle.dg_end.specs.declared.ends.End.{End}
 use Rattle.dg_end.specs.declared.ends.End.TheVariants as ends
-use Rattle.dg_tool.specs.Endings.{Ending, no_board, outcome_of, by_boards, StandsAs, FirstAs}
+use Rattle.dg_tool.specs.Endings.{VerbEnding, no_board, outcome_of, by_boards, StandsAs, FirstAs}
 use Rattle.dg_tool.specs.Done.{VerbRule, verb_rule, ActsAs, EndsAs, IsBefore, AtFirst, OnBoards}
 use Rattle.dg_tool.specs.inner.OneBoard.{OnBoard}
 use Rattle.dg_tool.proofs.OutcomeLemmas.{at_end, acts_as, ends_as}
@@ -21,10 +21,10 @@ lt_true k n h = grind (arith, nat_tests)
 lt_false : (k n : ℕ) → n ≡ k → nat_lt k n ≡ false
 lt_false k n h = grind (arith, nat_tests)
 
-pub by_some : (n : ℕ) (e : Ending) → 0 < n → by_boards n e ≡ e
+pub by_some : (n : ℕ) (e : VerbEnding) → 0 < n → by_boards n e ≡ e
 by_some n e some = ap (λ (b : Bool). cond b e no_board) (lt_true 0 n some)
 
-pub by_none : (n : ℕ) (e : Ending) → n ≡ 0 → by_boards n e ≡ no_board
+pub by_none : (n : ℕ) (e : VerbEnding) → n ≡ 0 → by_boards n e ≡ no_board
 by_none n e none = ap (λ (b : Bool). cond b e no_board) (lt_false 0 n none)
 
 pub same_some : {A : Type 0} (x y : A) → Some x ≡ Some y → x ≡ y
@@ -46,16 +46,16 @@ none_mapped f (x ∷ xs) none = absurd (omega (arith, none))
 at_first : (P : Device → Device → Type 0) (d e : Device) (ds : List Device) → P d e → AtFirst P (d ∷ ds) (e ∷ ds)
 at_first P d e ds h a b was is = subst (λ (x : Device). P x b) (same_some d a was) (subst (λ (y : Device). P d y) (same_some e b is) h)
 
-ends_first : (outcome : Outcome) (ending : Ending) (acted halted : Device → Device → Type 0) (d e : Device) (ds : List Device) → EndsAs outcome ending (e ≡ d) (Looked d e) (acted d e) (halted d e) → EndsAs outcome ending (e ∷ ds ≡ d ∷ ds) (AtFirst Looked (d ∷ ds) (e ∷ ds)) (AtFirst acted (d ∷ ds) (e ∷ ds)) (AtFirst halted (d ∷ ds) (e ∷ ds))
+ends_first : (outcome : Outcome) (ending : VerbEnding) (acted halted : Device → Device → Type 0) (d e : Device) (ds : List Device) → EndsAs outcome ending (e ≡ d) (Looked d e) (acted d e) (halted d e) → EndsAs outcome ending (e ∷ ds ≡ d ∷ ds) (AtFirst Looked (d ∷ ds) (e ∷ ds)) (AtFirst acted (d ∷ ds) (e ∷ ds)) (AtFirst halted (d ∷ ds) (e ∷ ds))
 ends_first outcome ending acted halted d e ds h =
     ends_as ending (e ≡ d) (Looked d e) (acted d e) (halted d e) (e ∷ ds ≡ d ∷ ds) (AtFirst Looked (d ∷ ds) (e ∷ ds)) (AtFirst acted (d ∷ ds) (e ∷ ds)) (AtFirst halted (d ∷ ds) (e ∷ ds))
     (acts_as ending (e ≡ d) (Looked d e) (acted d e) (e ∷ ds ≡ d ∷ ds) (AtFirst Looked (d ∷ ds) (e ∷ ds)) (AtFirst acted (d ∷ ds) (e ∷ ds)) (inr (λ s. ap (λ (x : Device). x ∷ ds) s)) (at_first Looked d e ds) (at_first acted d e ds))
     (at_first Looked d e ds) (at_first halted d e ds) outcome (λ _ s. ap (λ (x : Device). x ∷ ds) s) h
 
-on_one : (failed : Type 0) (outcome : Outcome) (chips : Option Store → Type 0) (ending : Option Store → Ending) (acted halted : Option Store → Device → Device → Type 0) (d e : Device) (ds : List Device) → OnBoard outcome (verb_rule chips ending acted halted) d e → OnBoards outcome (verb_rule chips ending acted halted) failed (d ∷ ds) (e ∷ ds)
+on_one : (failed : Type 0) (outcome : Outcome) (chips : Option Store → Type 0) (ending : Option Store → VerbEnding) (acted halted : Option Store → Device → Device → Type 0) (d e : Device) (ds : List Device) → OnBoard outcome (verb_rule chips ending acted halted) d e → OnBoards outcome (verb_rule chips ending acted halted) failed (d ∷ ds) (e ∷ ds)
 on_one failed outcome chips ending acted halted d e ds h = record {
   rules = λ chip stands.
-      subst (λ (x : Ending). EndsAs outcome x (e ∷ ds ≡ d ∷ ds) (AtFirst Looked (d ∷ ds) (e ∷ ds)) (AtFirst (acted chip) (d ∷ ds) (e ∷ ds)) (AtFirst (halted chip) (d ∷ ds) (e ∷ ds))) (sym (by_some (length (d ∷ ds)) (ending chip) (omega arith)))
+      subst (λ (x : VerbEnding). EndsAs outcome x (e ∷ ds ≡ d ∷ ds) (AtFirst Looked (d ∷ ds) (e ∷ ds)) (AtFirst (acted chip) (d ∷ ds) (e ∷ ds)) (AtFirst (halted chip) (d ∷ ds) (e ∷ ds))) (sym (by_some (length (d ∷ ds)) (ending chip) (omega arith)))
       (ends_first outcome (ending chip) (acted chip) (halted chip) d e ds (h.rules chip stands));
   found = h.found;
   stops = λ s. record { before = d; after = e; was = refl; is = refl; stopped = h.stops s };
@@ -65,13 +65,13 @@ on_one failed outcome chips ending acted halted d e ds h = record {
   untouched = λ before. absurd (h.on_board before);
 }
 
-pub on_first : {N : Type 0} (failed : Type 0) (f : N → Device) (items : List N) (x y : N) (outcome : Outcome) (ending : Option Store → Ending) (acted halted : Option Store → Device → Device → Type 0) → 0 < length items
+pub on_first : {N : Type 0} (failed : Type 0) (f : N → Device) (items : List N) (x y : N) (outcome : Outcome) (ending : Option Store → VerbEnding) (acted halted : Option Store → Device → Device → Type 0) → 0 < length items
     → OnBoard outcome (verb_rule (StandsAs (f (get_or items 0 x)).image) ending acted halted) (f (get_or items 0 x)) (f y) → OnBoards outcome (verb_rule (FirstAs (map f items)) ending acted halted) failed (map f items) (map f (set items 0 y))
 on_first failed f [] x y outcome ending acted halted some h = absurd (omega (arith, some))
 on_first failed f (z ∷ zs) x y outcome ending acted halted some h = on_one failed outcome (StandsAs (f z).image) ending acted halted (f z) (f y) (map f zs) h
 
 -- the same, where nothing is asked of the board
-pub on_any : {N : Type 0} (failed : Type 0) (f : N → Device) (items : List N) (x y : N) (outcome : Outcome) (ending : Option Store → Ending) (acted halted : Option Store → Device → Device → Type 0) → 0 < length items
+pub on_any : {N : Type 0} (failed : Type 0) (f : N → Device) (items : List N) (x y : N) (outcome : Outcome) (ending : Option Store → VerbEnding) (acted halted : Option Store → Device → Device → Type 0) → 0 < length items
     → OnBoard outcome (verb_rule (λ chip. Unit {0}) ending acted halted) (f (get_or items 0 x)) (f y) → OnBoards outcome (verb_rule (λ chip. Unit {0}) ending acted halted) failed (map f items) (map f (set items 0 y))
 on_any failed f [] x y outcome ending acted halted some h = absurd (omega (arith, some))
 on_any failed f (z ∷ zs) x y outcome ending acted halted some h = on_one failed outcome (λ chip. Unit {0}) ending acted halted (f z) (f y) (map f zs) h
@@ -79,9 +79,9 @@ on_any failed f (z ∷ zs) x y outcome ending acted halted some h = on_one faile
 -- ---- the boards as they were
 
 -- there is none
-pub no_boards : {N : Type 0} (f : N → Device) (items : List N) (failed : Type 0) (chips : Option Store → Type 0) (ending : Option Store → Ending) (acted halted : Option Store → Device → Device → Type 0) → length items ≡ 0 → OnBoards (Err (ends.NoBoard 1 0)) (verb_rule chips ending acted halted) failed (map f items) (map f items)
+pub no_boards : {N : Type 0} (f : N → Device) (items : List N) (failed : Type 0) (chips : Option Store → Type 0) (ending : Option Store → VerbEnding) (acted halted : Option Store → Device → Device → Type 0) → length items ≡ 0 → OnBoards (Err (ends.NoBoard 1 0)) (verb_rule chips ending acted halted) failed (map f items) (map f items)
 no_boards f [] failed chips ending acted halted none = record {
-  rules = λ chip _. let none : List Device = [] in (ap outcome_of (sym (by_none 0 (ending chip) refl)), subst (λ (x : Ending). ActsAs x (none ≡ none) (AtFirst Looked none none) (AtFirst (acted chip) none none)) (sym (by_none 0 (ending chip) refl)) refl);
+  rules = λ chip _. let none : List Device = [] in (ap outcome_of (sym (by_none 0 (ending chip) refl)), subst (λ (x : VerbEnding). ActsAs x (none ≡ none) (AtFirst Looked none none) (AtFirst (acted chip) none none)) (sym (by_none 0 (ending chip) refl)) refl);
   found = λ h. absurd h;
   stops = λ s. cc;
   read = λ s. cc;

@@ -23,7 +23,7 @@ use Rattle.dg_tool.specs.Input.{ImageRead, end_of_image}
 use Rattle.dg_tool.specs.Rules.{trail_rule, inject_rule}
 use Rattle.dg_tool.specs.Endings.{FirstAs}
 use Rattle.dg_tool.specs.Verbs.{have_text, inject_ending_by, inject_into}
-use Rattle.dg_tool.specs.Done.{Completed, CompletedOn, StopsOn, NeedsBoard, NeedsInput, OnBoards, FedBoards}
+use Rattle.dg_tool.specs.Done.{Completed, CompletedOn, VerbStopsOn, NeedsBoard, NeedsInput, OnBoards, FedBoards}
 use Rattle.dg_tool.specs.inner.OneBoard.{OnStore}
 use Rattle.dg_tool.proofs.OutcomeLemmas.{made_store, memory_store, refused_store, stopped_store, halts_stopped}
 use Rattle.dg_tool.proofs.BoardLemmas.{some_mapped}
@@ -81,11 +81,11 @@ module _ (s : Store) (row : Row) (a b : Device) where
 pub fed_inject : {N T : Type 0} (f : N → Device) (items : List N) (row : List ℕ → Row) (view : T → List ℕ) (image : T) (outcome : Outcome) (a b : InputState) (new : List Device) → 0 < length items → ImageRead view (Ok image) a b
     → OnBoards outcome (trail_rule (map f items) (inject_into (row (view image))) (λ s. inject_trail s (row (view image)))) (Rose a.reads b.reads) (map f items) new → FedBoards outcome (inject_rule (map f items) row) a b (map f items) new
 fed_inject f items row view image outcome a b new some read did =
-    fed (FirstAs (map f items)) (λ bytes chip. inject_into (row bytes) chip) (λ bytes. CompletedOn (λ s. inject_trail s (row bytes))) (λ bytes. StopsOn (λ s. inject_trail s (row bytes))) (λ bytes chip. into_needs (row bytes) chip) view image outcome a b (map f items) new (some_mapped f items some) read did
+    fed (FirstAs (map f items)) (λ bytes chip. inject_into (row bytes) chip) (λ bytes. CompletedOn (λ s. inject_trail s (row bytes))) (λ bytes. VerbStopsOn (λ s. inject_trail s (row bytes))) (λ bytes chip. into_needs (row bytes) chip) view image outcome a b (map f items) new (some_mapped f items some) read did
 
 pub unfed_inject : {N T : Type 0} (f : N → Device) (items : List N) (row : List ℕ → Row) (view : T → List ℕ) (fault : ImageFault) (a b : InputState) → 0 < length items → ImageRead view (Err fault) a b → FedBoards (Err (end_of_image fault)) (inject_rule (map f items) row) a b (map f items) (map f items)
 unfed_inject f items row view fault a b some read =
-    fed_none (FirstAs (map f items)) (λ bytes chip. inject_into (row bytes) chip) (λ bytes. CompletedOn (λ s. inject_trail s (row bytes))) (λ bytes. StopsOn (λ s. inject_trail s (row bytes))) (λ bytes chip. into_needs (row bytes) chip) view fault a b (map f items) (some_mapped f items some) read
+    fed_none (FirstAs (map f items)) (λ bytes chip. inject_into (row bytes) chip) (λ bytes. CompletedOn (λ s. inject_trail s (row bytes))) (λ bytes. VerbStopsOn (λ s. inject_trail s (row bytes))) (λ bytes chip. into_needs (row bytes) chip) view fault a b (map f items) (some_mapped f items some) read
 
 -- it was refused with the cause of an image of so many bytes
 pub inject_sized : (size m : ℕ) (end : End) (fault : InjectFault) (P : Outcome → Type 0) → size ≡ m → end ≡ end_of_injection size fault → P (Err (end_of_injection m fault)) → P (Err end)

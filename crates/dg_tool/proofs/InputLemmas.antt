@@ -15,7 +15,7 @@ use Rattle.dg_outside.specs.Outside.{InputState}
 use Rattle.dg_end.specs.Lines.{Outcome, text_outcome}
 use Rattle.dg_end.specs.declared.ends.End.{End}
 use Rattle.dg_end.specs.declared.ends.End.TheVariants as ends
-use Rattle.dg_tool.specs.Endings.{Ending, Before, outcome_of, by_boards, by_file, by_input, content_by, content_in}
+use Rattle.dg_tool.specs.Endings.{VerbEnding, Before, outcome_of, by_boards, by_file, by_input, content_by, content_in}
 use Rattle.dg_tool.specs.Done.{VerbRule, verb_rule, ActsAs, NeedsInput, EndsAs, AtFirst, OnBoards, InputRead, FedBoards}
 use Rattle.dg_tool.specs.Input.{ReadsImage, ImageRead, end_of_image}
 use Rattle.dg_tool.specs.declared.input.ImageFault.{ImageFault}
@@ -29,25 +29,25 @@ lt_true k n h = grind (arith, nat_tests)
 lt_false : (k n : ℕ) → n ≤ k → nat_lt k n ≡ false
 lt_false k n h = grind (arith, nat_tests)
 
-pub by_over : (most : ℕ) (input : List ℕ) (next : List ℕ → Ending) → most < length input → cond (nat_lt most (length input)) (Before ends.TooLong) (by_file (hex_file input) next) ≡ Before ends.TooLong
+pub by_over : (most : ℕ) (input : List ℕ) (next : List ℕ → VerbEnding) → most < length input → cond (nat_lt most (length input)) (Before ends.TooLong) (by_file (hex_file input) next) ≡ Before ends.TooLong
 by_over most input next h = ap (λ (b : Bool). cond b (Before ends.TooLong) (by_file (hex_file input) next)) (lt_true most (length input) h)
 
-by_lines : (most : ℕ) (input : List ℕ) (next : List ℕ → Ending) → length input ≤ most → cond (nat_lt most (length input)) (Before ends.TooLong) (by_file (hex_file input) next) ≡ by_file (hex_file input) next
+by_lines : (most : ℕ) (input : List ℕ) (next : List ℕ → VerbEnding) → length input ≤ most → cond (nat_lt most (length input)) (Before ends.TooLong) (by_file (hex_file input) next) ≡ by_file (hex_file input) next
 by_lines most input next h = ap (λ (b : Bool). cond b (Before ends.TooLong) (by_file (hex_file input) next)) (lt_false most (length input) h)
 
-pub input_image : (input image : List ℕ) (next : List ℕ → Ending) → length input ≤ most_input → hex_file input ≡ Ok image → by_input input next ≡ next image
+pub input_image : (input image : List ℕ) (next : List ℕ → VerbEnding) → length input ≤ most_input → hex_file input ≡ Ok image → by_input input next ≡ next image
 input_image input image next few e = by_lines most_input input next few ∙ ap (λ (r : Result (List ℕ) HexFileFault). by_file r next) e
 
-pub input_fault : (input : List ℕ) (fault : HexFileFault) (next : List ℕ → Ending) → length input ≤ most_input → hex_file input ≡ Err fault → by_input input next ≡ Before (ends.BadHex fault)
+pub input_fault : (input : List ℕ) (fault : HexFileFault) (next : List ℕ → VerbEnding) → length input ≤ most_input → hex_file input ≡ Err fault → by_input input next ≡ Before (ends.BadHex fault)
 input_fault input fault next few e = by_lines most_input input next few ∙ ap (λ (r : Result (List ℕ) HexFileFault). by_file r next) e
 
 -- ---- an ending behind the input is not for want of a board
 
-by_file_needs : (r : Result (List ℕ) HexFileFault) (next : List ℕ → Ending) → ((image : List ℕ) → NeedsInput (next image)) → NeedsInput (by_file r next)
+by_file_needs : (r : Result (List ℕ) HexFileFault) (next : List ℕ → VerbEnding) → ((image : List ℕ) → NeedsInput (next image)) → NeedsInput (by_file r next)
 by_file_needs (Ok image) next h = h image
 by_file_needs (Err fault) next h = tt
 
-by_needs : (b : Bool) (r : Result (List ℕ) HexFileFault) (next : List ℕ → Ending) → ((image : List ℕ) → NeedsInput (next image)) → NeedsInput (cond b (Before ends.TooLong) (by_file r next))
+by_needs : (b : Bool) (r : Result (List ℕ) HexFileFault) (next : List ℕ → VerbEnding) → ((image : List ℕ) → NeedsInput (next image)) → NeedsInput (cond b (Before ends.TooLong) (by_file r next))
 by_needs true r next h = tt
 by_needs false r next h = by_file_needs r next h
 
@@ -107,7 +107,7 @@ whole_read view image outcome n a b some h = record {
 
 -- ---- an input that ends a verb
 
-module _ (chips : Option Store → Type 0) (next : List ℕ → Option Store → Ending) (acted halted : List ℕ → Option Store → Device → Device → Type 0) (needs : (image : List ℕ) (chip : Option Store) → NeedsInput (next image chip)) where
+module _ (chips : Option Store → Type 0) (next : List ℕ → Option Store → VerbEnding) (acted halted : List ℕ → Option Store → Device → Device → Type 0) (needs : (image : List ℕ) (chip : Option Store) → NeedsInput (next image chip)) where
   -- what the rules of a verb make of the bytes of an input
   abbrev pub fed_rule : List ℕ → VerbRule
   fed_rule bytes = verb_rule chips (λ chip. by_input bytes (λ image. next image chip)) (acted (content_in bytes)) (halted (content_in bytes))
@@ -123,7 +123,7 @@ module _ (chips : Option Store → Type 0) (next : List ℕ → Option Store →
     before : (failed : Type 0) (end : End) → ((chip : Option Store) → by_input bytes (λ image. next image chip) ≡ Before end) → (chip : Option Store) → (Err end ≡ outcome_of (by_boards (length old) (by_input bytes (λ image. next image chip)))) × ActsAs (by_boards (length old) (by_input bytes (λ image. next image chip))) (old ≡ old) (AtFirst Looked old old) (AtFirst (acted (content_in bytes) chip) old old)
     before failed end is chip =
         let e = found_board chip ∙ is chip in
-        (ap outcome_of (sym e), subst (λ (x : Ending). ActsAs x (old ≡ old) (AtFirst Looked old old) (AtFirst (acted (content_in bytes) chip) old old)) (sym e) refl)
+        (ap outcome_of (sym e), subst (λ (x : VerbEnding). ActsAs x (old ≡ old) (AtFirst Looked old old) (AtFirst (acted (content_in bytes) chip) old old)) (sym e) refl)
 
     pub input_stays : (fault : ImageFault) (at_end failed : Type 0) → ReadsImage {T = ℕ} (λ n. []) (Err fault) bytes at_end failed → OnBoards (Err (end_of_image fault)) (fed_rule bytes) failed old old
     input_stays image_fault.Memory at_end failed h = record {
@@ -168,7 +168,7 @@ module _ (chips : Option Store → Type 0) (next : List ℕ → Option Store →
     spelled outcome failed new image few is h =
         subst (λ (x : List ℕ). OnBoards outcome (verb_rule chips (λ chip. by_input bytes (λ i. next i chip)) (acted x) (halted x)) failed old new) (sym (ap content_by is))
         (record {
-          rules = λ chip stands. subst (λ (x : Ending). EndsAs outcome (by_boards (length old) x) (new ≡ old) (AtFirst Looked old new) (AtFirst (acted image chip) old new) (AtFirst (halted image chip) old new)) (sym (input_image bytes image (λ i. next i chip) few is)) (h.rules chip stands);
+          rules = λ chip stands. subst (λ (x : VerbEnding). EndsAs outcome (by_boards (length old) x) (new ≡ old) (AtFirst Looked old new) (AtFirst (acted image chip) old new) (AtFirst (halted image chip) old new)) (sym (input_image bytes image (λ i. next i chip) few is)) (h.rules chip stands);
           found = h.found;
           stops = h.stops;
           read = h.read;
@@ -200,7 +200,7 @@ takes_none : (left : Option (List ℕ)) → Takes left left []
 takes_none None = refl
 takes_none (Some bytes) = refl
 
-pub fed_nothing : {N : Type 0} (f : N → Device) (items : List N) (chips : Option Store → Type 0) (ending : List ℕ → Option Store → Ending) (acted halted : List ℕ → Option Store → Device → Device → Type 0) (a : InputState) → length items ≡ 0
+pub fed_nothing : {N : Type 0} (f : N → Device) (items : List N) (chips : Option Store → Type 0) (ending : List ℕ → Option Store → VerbEnding) (acted halted : List ℕ → Option Store → Device → Device → Type 0) (a : InputState) → length items ≡ 0
     → FedBoards (Err (ends.NoBoard 1 0)) (λ bytes. verb_rule chips (ending bytes) (acted bytes) (halted bytes)) a a (map f items) (map f items)
 fed_nothing f items chips ending acted halted a none = record {
   bytes = [];

@@ -17,9 +17,9 @@ use Rattle.dg_end.specs.declared.ends.End.TheVariants as ends
 use Rattle.dg_end.specs.Lines.{Outcome}
 use Rattle.dg_volume.specs.Start.{length_in}
 use Rattle.dg_end.specs.Texts.{numbers, line}
-use Rattle.dg_tool.specs.Pages.{name_in, first_page, kept_bytes}
-use Rattle.dg_tool.specs.Endings.{Ending, Reading, Acting}
-use Rattle.dg_tool.specs.Verbs.{dump_by, name_by, kept_line, golden_text}
+use Rattle.dg_tool.specs.Pages.{name_in, first_page, image_bytes}
+use Rattle.dg_tool.specs.Endings.{VerbEnding, Reading, Acting}
+use Rattle.dg_tool.specs.Verbs.{dump_by, name_by, ping_line, golden_text}
 use Rattle.dg_tool.specs.Done.{NeedsBoard}
 use Rattle.dg_tool.specs.inner.OneBoard.{OnStore}
 
@@ -75,10 +75,10 @@ golden_here c v s m =
 
 -- ---- dump
 
-dump_whole_is : (h : Held) → length h.complete ≡ h.pages → dump_by (Some h) ≡ Acting (Ok (written_file (kept_bytes h)))
+dump_whole_is : (h : Held) → length h.complete ≡ h.pages → dump_by (Some h) ≡ Acting (Ok (written_file (image_bytes h)))
 dump_whole_is h e =
     let test : (length h.complete == h.pages) ≡ true = same_test (length h.complete) h.pages e in
-    ap (λ (b : Bool). cond b (Acting (Ok (written_file (kept_bytes h)))) (Reading (ends.Refused (refusals.NotWhole (length h.complete) h.pages)))) test
+    ap (λ (b : Bool). cond b (Acting (Ok (written_file (image_bytes h)))) (Reading (ends.Refused (refusals.NotWhole (length h.complete) h.pages)))) test
   where
     same_test : (m n : ℕ) → m ≡ n → (m == n) ≡ true
     same_test m n same = grind (arith, nat_tests)
@@ -86,24 +86,24 @@ dump_whole_is h e =
 dump_part_is : (h : Held) → length h.complete ≢ h.pages → dump_by (Some h) ≡ Reading (ends.Refused (refusals.NotWhole (length h.complete) h.pages))
 dump_part_is h e =
     let test : (length h.complete == h.pages) ≡ false = other_test (length h.complete) h.pages e in
-    ap (λ (b : Bool). cond b (Acting (Ok (written_file (kept_bytes h)))) (Reading (ends.Refused (refusals.NotWhole (length h.complete) h.pages)))) test
+    ap (λ (b : Bool). cond b (Acting (Ok (written_file (image_bytes h)))) (Reading (ends.Refused (refusals.NotWhole (length h.complete) h.pages)))) test
   where
     other_test : (m n : ℕ) → (m ≡ n → ⊥) → (m == n) ≡ false
     other_test m n other = grind (arith, nat_tests)
 
-test_needs : (b : Bool) (x y : Ending) → NeedsBoard x → NeedsBoard y → NeedsBoard (cond b x y)
+test_needs : (b : Bool) (x y : VerbEnding) → NeedsBoard x → NeedsBoard y → NeedsBoard (cond b x y)
 test_needs true x y p q = p
 test_needs false x y p q = q
 
 pub dump_needs : (o : Option Held) → NeedsBoard (dump_by o)
 dump_needs None = tt
-dump_needs (Some h) = test_needs (length h.complete == h.pages) (Acting (Ok (written_file (kept_bytes h)))) (Reading (ends.Refused (refusals.NotWhole (length h.complete) h.pages))) tt tt
+dump_needs (Some h) = test_needs (length h.complete == h.pages) (Acting (Ok (written_file (image_bytes h)))) (Reading (ends.Refused (refusals.NotWhole (length h.complete) h.pages))) tt tt
 
 module _ (outcome : Outcome) (a b : Device) where
-  abbrev pub Dumped : Ending → Type 0
+  abbrev pub Dumped : VerbEnding → Type 0
   Dumped ending = OnStore outcome ending Looked ReadStopped a b
 
-  pub dumped_whole : (h : Held) → length h.complete ≡ h.pages → Dumped (Acting (Ok (written_file (kept_bytes h)))) → Dumped (dump_by (Some h))
+  pub dumped_whole : (h : Held) → length h.complete ≡ h.pages → Dumped (Acting (Ok (written_file (image_bytes h)))) → Dumped (dump_by (Some h))
   dumped_whole h e p = subst Dumped (sym (dump_whole_is h e)) p
 
   pub dumped_part : (h : Held) → length h.complete ≢ h.pages → Dumped (Reading (ends.Refused (refusals.NotWhole (length h.complete) h.pages))) → Dumped (dump_by (Some h))
@@ -114,7 +114,7 @@ module _ (outcome : Outcome) (a b : Device) where
 
 -- ---- ping
 
-pub kept_line_is : (i : ℕ) (k : Kept) (h : Held) (name : List ℕ) → k ≡ told_held h → name ≡ name_by h.complete → line (codes "kept" ++ numbers (i ∷ k.version ∷ k.done ∷ k.pages ∷ []) ++ 32 ∷ name) ≡ kept_line i (Some h)
+pub kept_line_is : (i : ℕ) (k : Kept) (h : Held) (name : List ℕ) → k ≡ told_held h → name ≡ name_by h.complete → line (codes "kept" ++ numbers (i ∷ k.version ∷ k.done ∷ k.pages ∷ []) ++ 32 ∷ name) ≡ ping_line i (Some h)
 kept_line_is i k h name e f =
     ap (λ (x : Kept). line (codes "kept" ++ numbers (i ∷ x.version ∷ x.done ∷ x.pages ∷ []) ++ 32 ∷ name)) e ∙ ap (λ (x : List ℕ). line (codes "kept" ++ numbers (i ∷ h.version ∷ length h.complete ∷ h.pages ∷ []) ++ 32 ∷ x)) f
 
@@ -126,8 +126,8 @@ pub name_some : (ps : List (List ℕ)) → 0 < length ps → name_in (slice_inde
 name_some [] e = absurd (omega (arith, e))
 name_some (p ∷ ps) e = refl
 
-pub line_at : (i : ℕ) (o p : Option Held) (before now : List ℕ) → o ≡ p → now ≡ before ++ kept_line i p → now ≡ before ++ kept_line i o
-line_at i o p before now e h = h ∙ ap (λ (x : Option Held). before ++ kept_line i x) (sym e)
+pub line_at : (i : ℕ) (o p : Option Held) (before now : List ℕ) → o ≡ p → now ≡ before ++ ping_line i p → now ≡ before ++ ping_line i o
+line_at i o p before now e h = h ∙ ap (λ (x : Option Held). before ++ ping_line i x) (sym e)
 
 pub golden_line : (o : Option Held) (h : Held) (name : List ℕ) (size : ℕ) → o ≡ Some h → name ≡ name_in (first_page h) → size ≡ length_in (first_page h) → line (codes "golden " ++ name ++ numbers (size ∷ [])) ≡ golden_text o
 golden_line o h name size e f g =

@@ -13,8 +13,8 @@ use Rattle.dg_end.specs.Conversions.{end_of_mount}
 use Rattle.dg_end.specs.declared.ends.End.{End}
 use Rattle.dg_end.specs.declared.ends.End.TheVariants as ends
 use Rattle.dg_end.specs.declared.refusal.Refusal.{Refusal}
-use Rattle.dg_tool.specs.Endings.{Ending, Before, Reading, Acting, outcome_of, by_store, StandsAs}
-use Rattle.dg_tool.specs.Done.{verb_rule, ActsAs, NeedsBoard, EndsAs, IsBefore, IsStopped}
+use Rattle.dg_tool.specs.Endings.{VerbEnding, Before, Reading, Acting, outcome_of, by_store, StandsAs}
+use Rattle.dg_tool.specs.Done.{verb_rule, ActsAs, NeedsBoard, EndsAs, IsBefore, IsBoardStopped}
 use Rattle.dg_tool.specs.inner.OneBoard.{OnStore, OnBoard}
 
 -- ---- the exit of a `?`
@@ -26,12 +26,12 @@ at_end view P (Err x) e is h = subst (λ (y : End). P (Err y)) (sym is) h
 
 -- ---- the same on something else
 
-pub acts_as : (ending : Ending) (same l ac same2 l2 ac2 : Type 0) → (NeedsBoard ending ⊎ (same → same2)) → (l → l2) → (ac → ac2) → ActsAs ending same l ac → ActsAs ending same2 l2 ac2
+pub acts_as : (ending : VerbEnding) (same l ac same2 l2 ac2 : Type 0) → (NeedsBoard ending ⊎ (same → same2)) → (l → l2) → (ac → ac2) → ActsAs ending same l ac → ActsAs ending same2 l2 ac2
 acts_as (Before end) same l ac same2 l2 ac2 stays f g h = ⊎_elim (λ needs. absurd needs) (λ s. s h) stays
 acts_as (Reading end) same l ac same2 l2 ac2 stays f g h = f h
 acts_as (Acting outcome) same l ac same2 l2 ac2 stays f g h = g h
 
-module _ (ending : Ending) (same l ac halts same2 l2 ac2 halts2 : Type 0) (acts : ActsAs ending same l ac → ActsAs ending same2 l2 ac2) (f : l → l2) (g : halts → halts2) where
+module _ (ending : VerbEnding) (same l ac halts same2 l2 ac2 halts2 : Type 0) (acts : ActsAs ending same l ac → ActsAs ending same2 l2 ac2) (f : l → l2) (g : halts → halts2) where
   rule_by : (outcome : Outcome) → (outcome ≡ outcome_of ending) × ActsAs ending same l ac → (outcome ≡ outcome_of ending) × ActsAs ending same2 l2 ac2
   rule_by outcome h = (h.0, acts h.1)
 
@@ -54,7 +54,7 @@ module _ (ending : Ending) (same l ac halts same2 l2 ac2 halts2 : Type 0) (acts 
 
 -- ---- on a board that stands for a store
 
-pub halts_stopped : {n done : ℕ} {a b : Device} → Halts n done a b → IsStopped a b
+pub halts_stopped : {n done : ℕ} {a b : Device} → Halts n done a b → IsBoardStopped a b
 halts_stopped h = record { stopped = h.stopped; cause = h.cause }
 
 module _ (acted halted : Device → Device → Type 0) (a b : Device) where
@@ -62,17 +62,17 @@ module _ (acted halted : Device → Device → Type 0) (a b : Device) where
   made_store text told is did = record { rules = (ap (λ t. Ok t) is, did); stops = λ e. cc; of_verb = tt; on_board = λ h. h }
 
   -- memory ran out behind the act
-  pub memory_store : (ending : Ending) → ActsAs ending (b ≡ a) (Looked a b) (acted a b) → OnStore (Err ends.Memory) ending acted halted a b
+  pub memory_store : (ending : VerbEnding) → ActsAs ending (b ≡ a) (Looked a b) (acted a b) → OnStore (Err ends.Memory) ending acted halted a b
   memory_store ending h = record { rules = inr h; stops = λ e. cc; of_verb = tt; on_board = λ h. h }
 
   -- memory ran out where the board was read
-  pub memory_read : (ending : Ending) → Looked a b → OnStore (Err ends.Memory) ending acted halted a b
+  pub memory_read : (ending : VerbEnding) → Looked a b → OnStore (Err ends.Memory) ending acted halted a b
   memory_read ending h = record { rules = inl h; stops = λ e. cc; of_verb = tt; on_board = λ h. h }
 
   pub refused_store : (cause : Refusal) → Looked a b → OnStore (Err (ends.Refused cause)) (Reading (ends.Refused cause)) acted halted a b
   refused_store cause h = record { rules = (refl, h); stops = λ e. cc; of_verb = tt; on_board = λ h. h }
 
-  pub stopped_store : (ending : Ending) → NeedsBoard ending → halted a b → IsStopped a b → OnStore (Err ends.FlashFault) ending acted halted a b
+  pub stopped_store : (ending : VerbEnding) → NeedsBoard ending → halted a b → IsBoardStopped a b → OnStore (Err ends.FlashFault) ending acted halted a b
   stopped_store ending needs held stopped = record { rules = (needs, held); stops = λ _. stopped; of_verb = tt; on_board = λ h. h }
 
   pub image_store : acted a b → OnStore (Err ends.NoImage) (Acting (Err ends.NoImage)) acted halted a b
@@ -80,13 +80,13 @@ module _ (acted halted : Device → Device → Type 0) (a b : Device) where
 
 -- ---- a read before it
 
-pub stopped_looked : (a m b : Device) → Looked a m → IsStopped m b → IsStopped a b
+pub stopped_looked : (a m b : Device) → Looked a m → IsBoardStopped m b → IsBoardStopped a b
 stopped_looked a m b l s = record {
   stopped = s.stopped;
   cause = ⊎_elim (λ e. inl (sym l.ran.stopped ∙ e)) (λ r. inr (subst (λ (n : ℕ). Rose n b.faults) l.ran.faults r)) s.cause;
 }
 
-pub looked_store : (outcome : Outcome) (ending : Ending) (acted acted2 halted halted2 : Device → Device → Type 0) (a m b : Device)
+pub looked_store : (outcome : Outcome) (ending : VerbEnding) (acted acted2 halted halted2 : Device → Device → Type 0) (a m b : Device)
     → NeedsBoard ending → Looked a m → (acted m b → acted2 a b) → (halted m b → halted2 a b) → OnStore outcome ending acted halted m b → OnStore outcome ending acted2 halted2 a b
 looked_store outcome ending acted acted2 halted halted2 a m b needs l f g h = record {
   rules = ends_as ending (b ≡ m) (Looked m b) (acted m b) (halted m b) (b ≡ a) (Looked a b) (acted2 a b) (halted2 a b)
@@ -98,7 +98,7 @@ looked_store outcome ending acted acted2 halted halted2 a m b needs l f g h = re
 
 -- ---- on a board, whatever it stands for
 
-module _ (by : Store → Ending) (acted halted : Option Store → Device → Device → Type 0) (a b : Device) where
+module _ (by : Store → VerbEnding) (acted halted : Option Store → Device → Device → Type 0) (a b : Device) where
   pub on_volume : (outcome : Outcome) → ((s : Store) → Stands a.image s → OnStore outcome (by s) (acted (Some s)) (halted (Some s)) a b) → IsVolume a.image → OnBoard outcome (verb_rule (StandsAs a.image) (λ chip. by_store chip by) acted halted) a b
   on_volume outcome h v = record {
     rules = rules;
@@ -117,7 +117,7 @@ module _ (by : Store → Ending) (acted halted : Option Store → Device → Dev
   needs_chip needs (Some s) = needs s
 
   -- it stopped, whatever it stands for
-  pub stopped_board : ((s : Store) → NeedsBoard (by s)) → ((chip : Option Store) → StandsAs a.image chip → halted chip a b) → IsStopped a b → OnBoard (Err ends.FlashFault) (verb_rule (StandsAs a.image) (λ chip. by_store chip by) acted halted) a b
+  pub stopped_board : ((s : Store) → NeedsBoard (by s)) → ((chip : Option Store) → StandsAs a.image chip → halted chip a b) → IsBoardStopped a b → OnBoard (Err ends.FlashFault) (verb_rule (StandsAs a.image) (λ chip. by_store chip by) acted halted) a b
   stopped_board needs held stopped = record {
     rules = λ chip stands. (needs_chip needs chip, held chip stands);
     found = λ h. absurd h;

@@ -24,7 +24,7 @@ use Rattle.dg_slot.specs.Pages.{page_in}
 use Rattle.dg_volume.specs.Start.{length_in}
 use Rattle.dg_volume.specs.Store.{held_whole}
 use Rattle.dg_boot.proofs.DescriptorLemmas.{length_in-descriptor, first_of}
-use Rattle.dg_tool.specs.Pages.{name_in, first_page, kept_bytes}
+use Rattle.dg_tool.specs.Pages.{name_in, first_page, image_bytes}
 
 -- ---- names
 
@@ -139,7 +139,7 @@ name_whole row is = ap name_in (first_whole row is) ∙ name_in-descriptor (desc
 pub length_whole : (row : Row) → IsRow row → length_in (first_page (held_whole row)) ≡ length row.bytes
 length_whole row is = ap length_in (first_whole row is) ∙ length_in-descriptor (descriptor_page row) (details row) (descriptor_of_row row is)
 
-pub bytes_whole : (row : Row) → IsRow row → kept_bytes (held_whole row) ≡ row.bytes
+pub bytes_whole : (row : Row) → IsRow row → image_bytes (held_whole row) ≡ row.bytes
 bytes_whole row is = ap (λ (n : ℕ). content n (object row)) (length_whole row is) ∙ content-object row
 
 -- the bytes that are left of the data pages

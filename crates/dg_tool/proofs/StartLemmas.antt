@@ -34,10 +34,10 @@ use Rattle.dg_end.specs.declared.refusal.Refusal.TheVariants as refusals
 use Rattle.dg_tool.specs.declared.input.ImageFault.{ImageFault}
 use Rattle.dg_tool.specs.Input.{ImageRead, end_of_image}
 use Rattle.dg_tool.specs.Rules.{boot_rule, format_rule}
-use Rattle.dg_tool.specs.Endings.{Ending, Before, Reading, Acting, by_store, StandsAs, FirstInForm}
-use Rattle.dg_tool.specs.Verbs.{room_text, format_sized, start_text, power_boot, boot_by, form_text, migrate_by}
+use Rattle.dg_tool.specs.Endings.{VerbEnding, Before, Reading, Acting, by_store, StandsAs, FirstInForm}
+use Rattle.dg_tool.specs.Verbs.{room_text, format_sized, start_text, power_boot, start_by, form_text, migrate_by}
 use Rattle.dg_tool.specs.inner.Started.{TellsStarted}
-use Rattle.dg_tool.specs.Done.{verb_rule, NeedsInput, NeedsBoard, StopsOn, Booted, BootedOn, Migrated, IsFormatted, FormatStops, IsStopped, OnBoards, FedBoards}
+use Rattle.dg_tool.specs.Done.{verb_rule, NeedsInput, NeedsBoard, VerbStopsOn, Booted, BootedOn, Migrated, IsFormatted, FormattingStops, IsBoardStopped, OnBoards, FedBoards}
 use Rattle.dg_tool.specs.inner.OneBoard.{OnStore, OnBoard}
 use Rattle.dg_tool.proofs.OutcomeLemmas.{made_store, memory_store, refused_store, stopped_store, image_store, halts_stopped, on_volume, stopped_board, no_volume}
 use Rattle.dg_tool.proofs.BoardLemmas.{some_mapped, on_first, on_any}
@@ -52,16 +52,16 @@ booted t a b told h = record {
   memory = subst (λ (x : Option Runs). IfSome x (λ r. program b.image (length r.pages) ≡ r.pages)) (sym h.chosen) (subst (λ (n : ℕ). program b.image n ≡ h.runs.pages) h.pages h.memory);
 }
 
-boot_needs : (x : Option Runs) → NeedsBoard (boot_by x)
+boot_needs : (x : Option Runs) → NeedsBoard (start_by x)
 boot_needs None = tt
 boot_needs (Some r) = tt
 
 module _ (s : Store) (a b : Device) where
   abbrev pub StartDone : Outcome → Type 0
-  StartDone outcome = OnStore outcome (boot_by (power_boot s).runs) (Booted (power_boot s)) (Stops (power_boot s).trail) a b
+  StartDone outcome = OnStore outcome (start_by (power_boot s).runs) (Booted (power_boot s)) (Stops (power_boot s).trail) a b
 
-  by_runs : (outcome : Outcome) (runs : Option Runs) → (power_boot s).runs ≡ runs → OnStore outcome (boot_by runs) (Booted (power_boot s)) (Stops (power_boot s).trail) a b → StartDone outcome
-  by_runs outcome runs e h = subst (λ (x : Option Runs). OnStore outcome (boot_by x) (Booted (power_boot s)) (Stops (power_boot s).trail) a b) (sym e) h
+  by_runs : (outcome : Outcome) (runs : Option Runs) → (power_boot s).runs ≡ runs → OnStore outcome (start_by runs) (Booted (power_boot s)) (Stops (power_boot s).trail) a b → StartDone outcome
+  by_runs outcome runs e h = subst (λ (x : Option Runs). OnStore outcome (start_by x) (Booted (power_boot s)) (Stops (power_boot s).trail) a b) (sym e) h
 
   pub boot_started : (told : Started) (text : List ℕ) → ((x : Runs) → TellsStarted told x → text ≡ start_text x) → Starts (power_boot s) a b told → StartDone (Ok text)
   boot_started told text is h =
@@ -69,7 +69,7 @@ module _ (s : Store) (a b : Device) where
       (made_store (Booted (power_boot s)) (Stops (power_boot s).trail) a b text (start_text h.runs) (is h.runs (record { image = h.image; version = h.version; length = h.length; crc = h.crc })) (booted (power_boot s) a b told h))
 
   pub boot_wants : (told : Started) → Starts (power_boot s) a b told → StartDone (Err ends.Memory)
-  boot_wants told h = by_runs (Err ends.Memory) (Some h.runs) h.chosen (memory_store (Booted (power_boot s)) (Stops (power_boot s).trail) a b (boot_by (Some h.runs)) (booted (power_boot s) a b told h))
+  boot_wants told h = by_runs (Err ends.Memory) (Some h.runs) h.chosen (memory_store (Booted (power_boot s)) (Stops (power_boot s).trail) a b (start_by (Some h.runs)) (booted (power_boot s) a b told h))
 
   boot_lacks : Lacks (power_boot s) a b → StartDone (Err ends.NoImage)
   boot_lacks h = by_runs (Err ends.NoImage) None h.none (image_store (Booted (power_boot s)) (Stops (power_boot s).trail) a b (record {
@@ -84,22 +84,22 @@ module _ {N : Type 0} (f : N → Device) (items : List N) (x y : N) (some : 0 < 
   abbrev pub BootComes : Outcome → Type 0
   BootComes outcome = OnBoards outcome (boot_rule (map f items)) ⊥ (map f items) (map f (set items 0 y))
 
-  boot_board : (outcome : Outcome) → OnBoard outcome (verb_rule (StandsAs was.image) (λ chip. by_store chip (λ s. boot_by (power_boot s).runs)) (BootedOn power_boot) (StopsOn (λ s. (power_boot s).trail))) was (f y) → BootComes outcome
-  boot_board outcome h = on_first ⊥ f items x y outcome (λ chip. by_store chip (λ s. boot_by (power_boot s).runs)) (BootedOn power_boot) (StopsOn (λ s. (power_boot s).trail)) some h
+  boot_board : (outcome : Outcome) → OnBoard outcome (verb_rule (StandsAs was.image) (λ chip. by_store chip (λ s. start_by (power_boot s).runs)) (BootedOn power_boot) (VerbStopsOn (λ s. (power_boot s).trail))) was (f y) → BootComes outcome
+  boot_board outcome h = on_first ⊥ f items x y outcome (λ chip. by_store chip (λ s. start_by (power_boot s).runs)) (BootedOn power_boot) (VerbStopsOn (λ s. (power_boot s).trail)) some h
 
   pub boot_done : (outcome : Outcome) → ((s : Store) → Stands was.image s → StartDone s was (f y) outcome) → IsVolume was.image → BootComes outcome
-  boot_done outcome h v = boot_board outcome (on_volume (λ s. boot_by (power_boot s).runs) (BootedOn power_boot) (StopsOn (λ s. (power_boot s).trail)) was (f y) outcome h v)
+  boot_done outcome h v = boot_board outcome (on_volume (λ s. start_by (power_boot s).runs) (BootedOn power_boot) (VerbStopsOn (λ s. (power_boot s).trail)) was (f y) outcome h v)
 
-  stops_chip : ((s : Store) → Stands was.image s → Stops (power_boot s).trail was (f y)) → (IsNoVolume was.image → ReadStopped was (f y)) → (chip : Option Store) → StandsAs was.image chip → StopsOn (λ s. (power_boot s).trail) chip was (f y)
+  stops_chip : ((s : Store) → Stands was.image s → Stops (power_boot s).trail was (f y)) → (IsNoVolume was.image → ReadStopped was (f y)) → (chip : Option Store) → StandsAs was.image chip → VerbStopsOn (λ s. (power_boot s).trail) chip was (f y)
   stops_chip volume none None is = none is
   stops_chip volume none (Some s) is = volume s is
 
   pub boot_fails : (fault : BootFault) → (fault ≡ boot_fault.Stopped → (s : Store) → Stands was.image s → Stops (power_boot s).trail was (f y)) → (fault ≡ boot_fault.Stopped → IsNoVolume was.image → ReadStopped was (f y)) → (fault ≡ boot_fault.Stopped → ActStopped was (f y))
       → (fault ≡ boot_fault.NotAVolume → IsNoVolume was.image × Looked was (f y)) → (fault ≡ boot_fault.NoImage → (s : Store) → Stands was.image s → Lacks (power_boot s) was (f y)) → (fault ≡ boot_fault.NoImage → IsVolume was.image) → BootComes (Err (end_of_boot fault))
   boot_fails boot_fault.Stopped volume none cause other lacks found =
-      boot_board (Err ends.FlashFault) (stopped_board (λ s. boot_by (power_boot s).runs) (BootedOn power_boot) (StopsOn (λ s. (power_boot s).trail)) was (f y) (λ s. boot_needs (power_boot s).runs) (stops_chip (volume refl) (none refl)) (record { stopped = (cause refl).stopped; cause = (cause refl).cause }))
+      boot_board (Err ends.FlashFault) (stopped_board (λ s. start_by (power_boot s).runs) (BootedOn power_boot) (VerbStopsOn (λ s. (power_boot s).trail)) was (f y) (λ s. boot_needs (power_boot s).runs) (stops_chip (volume refl) (none refl)) (record { stopped = (cause refl).stopped; cause = (cause refl).cause }))
   boot_fails boot_fault.NotAVolume volume none cause other lacks found =
-      boot_board (Err ends.NotAVolume) (no_volume (λ s. boot_by (power_boot s).runs) (BootedOn power_boot) (StopsOn (λ s. (power_boot s).trail)) was (f y) (other refl).0 (other refl).1)
+      boot_board (Err ends.NotAVolume) (no_volume (λ s. start_by (power_boot s).runs) (BootedOn power_boot) (VerbStopsOn (λ s. (power_boot s).trail)) was (f y) (other refl).0 (other refl).1)
   boot_fails boot_fault.NoImage volume none cause other lacks found = boot_done (Err ends.NoImage) (λ s stands. boot_lacks s was (f y) (lacks refl s stands)) (found refl)
 
 -- ---- format
@@ -133,7 +133,7 @@ sized_fits : (used : ℕ) (golden : List ℕ) → (length golden ≡ 0 → ⊥) 
 sized_fits used golden some fits =
     sized_some used golden some ∙ ap (λ (b : Bool). cond b (Before (ends.Refused (refusals.TooLarge (length golden)))) (Acting (Ok (room_text (most_room - used))))) (fits_test most_bytes (length golden) fits)
 
-two_needs : (b d : Bool) (x y z : Ending) → NeedsInput x → NeedsInput y → NeedsInput z → NeedsInput (cond b x (cond d y z))
+two_needs : (b d : Bool) (x y z : VerbEnding) → NeedsInput x → NeedsInput y → NeedsInput z → NeedsInput (cond b x (cond d y z))
 two_needs true d x y z p q r = p
 two_needs false true x y z p q r = q
 two_needs false false x y z p q r = r
@@ -145,8 +145,8 @@ module _ (used : ℕ) (golden : List ℕ) (acted halted : Device → Device → 
   abbrev pub Formatted : Outcome → Type 0
   Formatted outcome = OnStore outcome (format_sized used golden) acted halted a b
 
-  by_size : (outcome : Outcome) (ending : Ending) → format_sized used golden ≡ ending → OnStore outcome ending acted halted a b → Formatted outcome
-  by_size outcome ending e h = subst (λ (x : Ending). OnStore outcome x acted halted a b) (sym e) h
+  by_size : (outcome : Outcome) (ending : VerbEnding) → format_sized used golden ≡ ending → OnStore outcome ending acted halted a b → Formatted outcome
+  by_size outcome ending e h = subst (λ (x : VerbEnding). OnStore outcome x acted halted a b) (sym e) h
 
   pub format_made : (text : List ℕ) → (length golden ≡ 0 → ⊥) → (most_bytes < length golden → ⊥) → text ≡ room_text (most_room - used) → acted a b → Formatted (Ok text)
   format_made text some fits is did = by_size (Ok text) (Acting (Ok (room_text (most_room - used)))) (sized_fits used golden some fits) (made_store acted halted a b text (room_text (most_room - used)) is did)
@@ -155,7 +155,7 @@ module _ (used : ℕ) (golden : List ℕ) (acted halted : Device → Device → 
   format_wants some fits did = by_size (Err ends.Memory) (Acting (Ok (room_text (most_room - used)))) (sized_fits used golden some fits) (memory_store acted halted a b (Acting (Ok (room_text (most_room - used)))) did)
 
   pub format_fails : (fault : FormatFault) → (fault ≡ format.Empty → length golden ≡ 0) → (length golden ≡ 0 → fault ≡ format.Empty) → (fault ≡ format.TooLarge → most_bytes < length golden) → (most_bytes < length golden → fault ≡ format.TooLarge) → ((fault ≡ format.Empty) ⊎ (fault ≡ format.TooLarge) → b ≡ a)
-      → (fault ≡ format.Stopped → halted a b) → (fault ≡ format.Stopped → IsStopped a b) → Formatted (Err (end_of_format (length golden) fault))
+      → (fault ≡ format.Stopped → halted a b) → (fault ≡ format.Stopped → IsBoardStopped a b) → Formatted (Err (end_of_format (length golden) fault))
   format_fails format.Stopped empty none large fits same held stopped =
       let some : length golden ≡ 0 → ⊥ = λ e. let f : format.Stopped ≡ format.Empty = none e in cc in
       let less : most_bytes < length golden → ⊥ = λ e. let f : format.Stopped ≡ format.TooLarge = fits e in cc in
@@ -168,20 +168,20 @@ module _ (used : ℕ) (golden : List ℕ) (acted halted : Device → Device → 
 pub format_sizes : (size m : ℕ) (end : End) (fault : FormatFault) (P : Outcome → Type 0) → size ≡ m → end ≡ end_of_format size fault → P (Err (end_of_format m fault)) → P (Err end)
 format_sizes size m end fault P same is h = subst (λ (e : End). P (Err e)) (sym is) (subst (λ (n : ℕ). P (Err (end_of_format n fault))) (sym same) h)
 
-any_board : (outcome : Outcome) (ending : Ending) (acted halted : Device → Device → Type 0) (a b : Device) → OnStore outcome ending acted halted a b → OnBoard outcome (verb_rule (λ chip. Unit {0}) (λ chip. ending) (λ chip. acted) (λ chip. halted)) a b
+any_board : (outcome : Outcome) (ending : VerbEnding) (acted halted : Device → Device → Type 0) (a b : Device) → OnStore outcome ending acted halted a b → OnBoard outcome (verb_rule (λ chip. Unit {0}) (λ chip. ending) (λ chip. acted) (λ chip. halted)) a b
 any_board outcome ending acted halted a b h = record { rules = λ chip _. h.rules; found = λ _. (None, tt); stops = h.stops; of_verb = h.of_verb; on_board = h.on_board }
 
 -- formatting with the image that the input spells
 pub fed_format : {N T : Type 0} (f : N → Device) (items : List N) (x y : N) (name : List ℕ) (used form : ℕ) (view : T → List ℕ) (image : T) (outcome : Outcome) (a b : InputState) → 0 < length items → ImageRead view (Ok image) a b
-    → Formatted used (view image) (IsFormatted name (view image) used form) (FormatStops name (view image) used) (f (get_or items 0 x)) (f y) outcome → FedBoards outcome (format_rule name used form) a b (map f items) (map f (set items 0 y))
+    → Formatted used (view image) (IsFormatted name (view image) used form) (FormattingStops name (view image) used) (f (get_or items 0 x)) (f y) outcome → FedBoards outcome (format_rule name used form) a b (map f items) (map f (set items 0 y))
 fed_format f items x y name used form view image outcome a b some read did =
-    fed (λ chip. Unit {0}) (λ bytes chip. format_sized used bytes) (λ bytes chip. IsFormatted name bytes used form) (λ bytes chip. FormatStops name bytes used) (λ bytes chip. sized_needs used bytes) view image outcome a b (map f items) (map f (set items 0 y)) (some_mapped f items some) read
-    (on_any (Rose a.reads b.reads) f items x y outcome (λ chip. format_sized used (view image)) (λ chip. IsFormatted name (view image) used form) (λ chip. FormatStops name (view image) used) some
-    (any_board outcome (format_sized used (view image)) (IsFormatted name (view image) used form) (FormatStops name (view image) used) (f (get_or items 0 x)) (f y) did))
+    fed (λ chip. Unit {0}) (λ bytes chip. format_sized used bytes) (λ bytes chip. IsFormatted name bytes used form) (λ bytes chip. FormattingStops name bytes used) (λ bytes chip. sized_needs used bytes) view image outcome a b (map f items) (map f (set items 0 y)) (some_mapped f items some) read
+    (on_any (Rose a.reads b.reads) f items x y outcome (λ chip. format_sized used (view image)) (λ chip. IsFormatted name (view image) used form) (λ chip. FormattingStops name (view image) used) some
+    (any_board outcome (format_sized used (view image)) (IsFormatted name (view image) used form) (FormattingStops name (view image) used) (f (get_or items 0 x)) (f y) did))
 
 pub unfed_format : {N T : Type 0} (f : N → Device) (items : List N) (name : List ℕ) (used form : ℕ) (view : T → List ℕ) (fault : ImageFault) (a b : InputState) → 0 < length items → ImageRead view (Err fault) a b → FedBoards (Err (end_of_image fault)) (format_rule name used form) a b (map f items) (map f items)
 unfed_format f items name used form view fault a b some read =
-    fed_none (λ chip. Unit {0}) (λ bytes chip. format_sized used bytes) (λ bytes chip. IsFormatted name bytes used form) (λ bytes chip. FormatStops name bytes used) (λ bytes chip. sized_needs used bytes) view fault a b (map f items) (some_mapped f items some) read
+    fed_none (λ chip. Unit {0}) (λ bytes chip. format_sized used bytes) (λ bytes chip. IsFormatted name bytes used form) (λ bytes chip. FormattingStops name bytes used) (λ bytes chip. sized_needs used bytes) view fault a b (map f items) (some_mapped f items some) read
 
 -- ---- migrate
 
@@ -206,8 +206,8 @@ module _ (form : ℕ) (s : Store) (a b : Device) where
   abbrev pub MigrationDone : Outcome → Type 0
   MigrationDone outcome = OnStore outcome (migrate_by form s) (Migrated form s) (Stops (migrate_trail form s)) a b
 
-  by_room : (outcome : Outcome) (ending : Ending) → migrate_by form s ≡ ending → OnStore outcome ending (Migrated form s) (Stops (migrate_trail form s)) a b → MigrationDone outcome
-  by_room outcome ending e h = subst (λ (x : Ending). OnStore outcome x (Migrated form s) (Stops (migrate_trail form s)) a b) (sym e) h
+  by_room : (outcome : Outcome) (ending : VerbEnding) → migrate_by form s ≡ ending → OnStore outcome ending (Migrated form s) (Stops (migrate_trail form s)) a b → MigrationDone outcome
+  by_room outcome ending e h = subst (λ (x : VerbEnding). OnStore outcome x (Migrated form s) (Stops (migrate_trail form s)) a b) (sym e) h
 
   pub migrate_made : (v : Volume) (text : List ℕ) → (form ≡ old_form → s.room ≡ 0 → ⊥) → text ≡ form_text → Acted (migrate_trail form s) a b v → HasForm b.image new_form → MigrationDone (Ok text)
   migrate_made v text fine is acted written = by_room (Ok text) (Acting (Ok form_text)) (migrate_fine form s fine) (made_store (Migrated form s) (Stops (migrate_trail form s)) a b text form_text is (record { went = went (migrate_trail form s) a b v acted; written = written }))

@@ -21,9 +21,9 @@ use Rattle.dg_end.specs.Lines.{Outcome}
 use Rattle.dg_end.specs.Conversions.{end_of_mount, end_of_order}
 use Rattle.dg_end.specs.declared.ends.End.TheVariants as ends
 use Rattle.dg_end.specs.declared.refusal.Refusal.TheVariants as refusals
-use Rattle.dg_tool.specs.Endings.{Ending, by_store, StandsAs, FirstAs}
+use Rattle.dg_tool.specs.Endings.{VerbEnding, by_store, StandsAs, FirstAs}
 use Rattle.dg_tool.specs.Verbs.{order_text, order_by}
-use Rattle.dg_tool.specs.Done.{verb_rule, Completed, CompletedOn, StopsOn, NeedsBoard, OnBoards}
+use Rattle.dg_tool.specs.Done.{verb_rule, Completed, CompletedOn, VerbStopsOn, NeedsBoard, OnBoards}
 use Rattle.dg_tool.specs.inner.OneBoard.{OnStore}
 use Rattle.dg_tool.proofs.OutcomeLemmas.{on_volume, unmounted, made_store, memory_store, refused_store, stopped_store, looked_store, halts_stopped}
 use Rattle.dg_tool.proofs.BoardLemmas.{on_first}
@@ -38,7 +38,7 @@ pub went_looked : (t : Trail Store) (a m b : Device) → Looked a m → Complete
 went_looked t a m b looked h = record { ran = ran_after looked.ran h.ran; stands = h.stands }
 
 -- a board that is not mounted, and was to go a trail
-pub stops_before : (trail : Store → Trail Store) (a b : Device) → ((s : Store) → BeginsAt s (trail s)) → (chip : Option Store) → StandsAs a.image chip → ReadStopped a b → StopsOn trail chip a b
+pub stops_before : (trail : Store → Trail Store) (a b : Device) → ((s : Store) → BeginsAt s (trail s)) → (chip : Option Store) → StandsAs a.image chip → ReadStopped a b → VerbStopsOn trail chip a b
 stops_before trail a b begins None none h = h
 stops_before trail a b begins (Some s) stands h = read_stops s (trail s) a b (begins s) stands h
 
@@ -48,7 +48,7 @@ volume_of c v h = (h.0, h.1.stands)
 
 -- ---- the first of the boards
 
-module _ {N : Type 0} (f : N → Device) (items : List N) (x y : N) (failed : Type 0) (by : Store → Ending) (acted halted : Option Store → Device → Device → Type 0) (some : 0 < length items) (needs : (s : Store) → NeedsBoard (by s)) where
+module _ {N : Type 0} (f : N → Device) (items : List N) (x y : N) (failed : Type 0) (by : Store → VerbEnding) (acted halted : Option Store → Device → Device → Type 0) (some : 0 < length items) (needs : (s : Store) → NeedsBoard (by s)) where
   abbrev pub was : Device
   was = f (get_or items 0 x)
 
@@ -70,15 +70,15 @@ module _ {N : Type 0} (f : N → Device) (items : List N) (x y : N) (failed : Ty
       on_first failed f items x y (Err (end_of_mount fault)) (λ chip. by_store chip by) acted halted some (unmounted by acted halted was (f y) fault needs held stopped none looked)
 
 -- the same of an act that makes a trail
-module _ {N : Type 0} (f : N → Device) (items : List N) (x y : N) (failed : Type 0) (by : Store → Ending) (trail : Store → Trail Store) (some : 0 < length items) (needs : (s : Store) → NeedsBoard (by s)) where
+module _ {N : Type 0} (f : N → Device) (items : List N) (x y : N) (failed : Type 0) (by : Store → VerbEnding) (trail : Store → Trail Store) (some : 0 < length items) (needs : (s : Store) → NeedsBoard (by s)) where
   pub trail_first : (outcome : Outcome) (m : Device) (v : Volume) → Looked (f (get_or items 0 x)) m → m.image ≡ (f (get_or items 0 x)).image → IsMounted (f (get_or items 0 x)).image v → ((s : Store) → Stands (f (get_or items 0 x)).image s → Mounted (f (get_or items 0 x)).image v s)
-      → ((s : Store) → Mounted m.image v s → OnStore outcome (by s) (Completed (trail s)) (Stops (trail s)) m (f y)) → FirstComes f items x y failed by (CompletedOn trail) (StopsOn trail) some needs outcome
+      → ((s : Store) → Mounted m.image v s → OnStore outcome (by s) (Completed (trail s)) (Stops (trail s)) m (f y)) → FirstComes f items x y failed by (CompletedOn trail) (VerbStopsOn trail) some needs outcome
   trail_first outcome m v looked same volume mounted did =
-      acted_first f items x y failed by (CompletedOn trail) (StopsOn trail) some needs outcome m v looked same volume mounted (λ s. went_looked (trail s) (f (get_or items 0 x)) m (f y) looked) (λ s. stops_looked (trail s) (f (get_or items 0 x)) m (f y) looked) did
+      acted_first f items x y failed by (CompletedOn trail) (VerbStopsOn trail) some needs outcome m v looked same volume mounted (λ s. went_looked (trail s) (f (get_or items 0 x)) m (f y) looked) (λ s. stops_looked (trail s) (f (get_or items 0 x)) m (f y) looked) did
 
   pub trail_unmounted : ((s : Store) → BeginsAt s (trail s)) → (fault : MountFault) → (fault ≡ mount.Stopped → ReadStopped (f (get_or items 0 x)) (f y)) → (fault ≡ mount.NotAVolume → IsNoVolume (f (get_or items 0 x)).image) → (fault ≡ mount.NotAVolume → Looked (f (get_or items 0 x)) (f y))
-      → FirstComes f items x y failed by (CompletedOn trail) (StopsOn trail) some needs (Err (end_of_mount fault))
-  trail_unmounted begins fault stopped none looked = unmounted_first f items x y failed by (CompletedOn trail) (StopsOn trail) some needs fault (stops_before trail (f (get_or items 0 x)) (f y) begins) stopped none looked
+      → FirstComes f items x y failed by (CompletedOn trail) (VerbStopsOn trail) some needs (Err (end_of_mount fault))
+  trail_unmounted begins fault stopped none looked = unmounted_first f items x y failed by (CompletedOn trail) (VerbStopsOn trail) some needs fault (stops_before trail (f (get_or items 0 x)) (f y) begins) stopped none looked
 
 -- ---- order
 

@@ -21,7 +21,7 @@ use Rattle.dg_outside.specs.Outside.{Outside, InputState}
 use Rattle.dg_end.specs.Lines.{Outcome}
 use Rattle.dg_end.specs.Writes.{CommandEnds}
 use Rattle.dg_end.specs.declared.ends.End.TheVariants as ends
-use Rattle.dg_tool.specs.Endings.{Ending, Before, Reading, Acting, outcome_of, by_boards}
+use Rattle.dg_tool.specs.Endings.{VerbEnding, Before, Reading, Acting, outcome_of, by_boards}
 
 -- ---- acts on the first board
 
@@ -36,9 +36,9 @@ CompletedOn trail None a b = ⊥
 CompletedOn trail (Some s) a b = Completed (trail s) a b
 
 -- It was stopped, and which stores that may leave. A board that is not a volume keeps its bytes.
-abbrev pub StopsOn : (Store → Trail Store) → Option Store → Device → Device → Type 0
-StopsOn trail None a b = ReadStopped a b
-StopsOn trail (Some s) a b = Stops (trail s) a b
+abbrev pub VerbStopsOn : (Store → Trail Store) → Option Store → Device → Device → Type 0
+VerbStopsOn trail None a b = ReadStopped a b
+VerbStopsOn trail (Some s) a b = Stops (trail s) a b
 
 -- the board was migrated, and its last commit is written in today's form
 pub record Migrated (form : ℕ) (s : Store) (a b : Device) : Type 0 where
@@ -56,7 +56,7 @@ pub record IsFormatted (name golden : List ℕ) (used form : ℕ) (a b : Device)
   pub written : HasForm b.image form
 
 -- Formatting was stopped. Golden stands whole in its slot, or nothing but that slot was touched.
-pub record FormatStops (name golden : List ℕ) (used : ℕ) (a b : Device) : Type 0 where
+pub record FormattingStops (name golden : List ℕ) (used : ℕ) (a b : Device) : Type 0 where
   pub halted : Halted (format_operations (length golden) used) (λ _ _. Unit {0}) a b
   pub golden_first : GoldenFirst (golden_row name golden) a.image b.image
 
@@ -72,24 +72,24 @@ BootedOn boot (Some s) a b = Booted (boot s) a b
 -- ---- what a verb comes to, and how it leaves the board, or the boards
 
 -- As the rules say: what ends a verb before it comes to the board leaves that the same, and a refusal only looks at it.
-abbrev pub ActsAs : Ending → (same looked acted : Type 0) → Type 0
+abbrev pub ActsAs : VerbEnding → (same looked acted : Type 0) → Type 0
 ActsAs (Before end) same looked acted = same
 ActsAs (Reading end) same looked acted = looked
 ActsAs (Acting outcome) same looked acted = acted
 
 -- the ending is found after the boards were counted
-abbrev pub NeedsInput : Ending → Type 0
+abbrev pub NeedsInput : VerbEnding → Type 0
 NeedsInput (Before (ends.NoBoard need have)) = ⊥
 NeedsInput ending = Unit {0}
 
 -- the ending is found after the board was looked at
-abbrev pub NeedsBoard : Ending → Type 0
+abbrev pub NeedsBoard : VerbEnding → Type 0
 NeedsBoard (Before end) = ⊥
 NeedsBoard ending = Unit {0}
 
 -- A verb ends as the rules say. Memory alone is free, and a fault of the outside comes only where the verb has come to it. Where
 -- the board stopped, `halted` says what it holds.
-abbrev pub EndsAs : Outcome → Ending → (same looked acted halted : Type 0) → Type 0
+abbrev pub EndsAs : Outcome → VerbEnding → (same looked acted halted : Type 0) → Type 0
 EndsAs (Err ends.Memory) ending same looked acted halted = looked ⊎ ActsAs ending same looked acted
 EndsAs (Err ends.ReadFault) ending same looked acted halted = NeedsInput ending × same
 EndsAs (Err ends.FlashFault) ending same looked acted halted = NeedsBoard ending × halted
@@ -128,11 +128,11 @@ IsOfVerb outcome = Unit {0}
 -- it ends, what it does to the board, and what it may leave of it where it is stopped.
 pub record VerbRule : Type 1 where
   pub chips : Option Store → Type 0
-  pub ending : Option Store → Ending
+  pub ending : Option Store → VerbEnding
   pub acted : Option Store → Device → Device → Type 0
   pub halted : Option Store → Device → Device → Type 0
 
-abbrev pub verb_rule : (chips : Option Store → Type 0) (ending : Option Store → Ending)
+abbrev pub verb_rule : (chips : Option Store → Type 0) (ending : Option Store → VerbEnding)
     (acted halted : Option Store → Device → Device → Type 0) → VerbRule
 verb_rule chips ending acted halted = record { chips = chips; ending = ending; acted = acted; halted = halted }
 
@@ -147,7 +147,7 @@ pub record OnlyFirst (old new : List Device) : Type 0 where
   pub others : drop 1 new ≡ drop 1 old
 
 -- the board is stopped, and why
-pub record IsStopped (a b : Device) : Type 0 where
+pub record IsBoardStopped (a b : Device) : Type 0 where
   pub stopped : b.stopped ≡ true
   pub cause : (a.stopped ≡ true) ⊎ Rose a.faults b.faults
 
@@ -157,7 +157,7 @@ pub record FirstStopped (old new : List Device) : Type 0 where
   pub after : Device
   pub was : slice_get old 0 ≡ Some before
   pub is : slice_get new 0 ≡ Some after
-  pub stopped : IsStopped before after
+  pub stopped : IsBoardStopped before after
 
 -- What a verb that goes by this rule did over boards. A read of the input that failed is told by `read_failed`.
 pub record OnBoards (outcome : Outcome) (rule : VerbRule) (read_failed : Type 0) (old new : List Device) : Type 0 where

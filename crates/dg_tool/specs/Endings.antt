@@ -12,36 +12,36 @@ use Rattle.dg_end.specs.declared.ends.End.{End}
 use Rattle.dg_end.specs.declared.ends.End.TheVariants as ends
 
 -- how a verb ends, by when that is found
-pub data Ending : Type 0 where
+pub data VerbEnding : Type 0 where
   -- before the board is used
-  Before : (end : End) → Ending
+  Before : (end : End) → VerbEnding
   -- once the board was read
-  Reading : (end : End) → Ending
+  Reading : (end : End) → VerbEnding
   -- once what was asked for was done, as far as it could be
-  Acting : (outcome : Outcome) → Ending
+  Acting : (outcome : Outcome) → VerbEnding
 
-abbrev pub outcome_of : Ending → Outcome
+abbrev pub outcome_of : VerbEnding → Outcome
 outcome_of (Before end) = Err end
 outcome_of (Reading end) = Err end
 outcome_of (Acting outcome) = outcome
 
 -- ---- the order of causes: the board that is there, the input, and then what the board holds
 
-abbrev pub no_board : Ending
+abbrev pub no_board : VerbEnding
 no_board = Before (ends.NoBoard 1 0)
 
-abbrev pub by_boards : ℕ → Ending → Ending
+abbrev pub by_boards : ℕ → VerbEnding → VerbEnding
 by_boards boards next = if nat_lt 0 boards then next else no_board
 
-abbrev pub by_file : Result (List ℕ) HexFileFault → (List ℕ → Ending) → Ending
+abbrev pub by_file : Result (List ℕ) HexFileFault → (List ℕ → VerbEnding) → VerbEnding
 by_file (Ok image) next = next image
 by_file (Err fault) next = Before (ends.BadHex fault)
 
 -- Of an input at most 16,777,216 bytes are used. A longer one ends a verb whatever its lines are.
-abbrev pub by_input : List ℕ → (List ℕ → Ending) → Ending
+abbrev pub by_input : List ℕ → (List ℕ → VerbEnding) → VerbEnding
 by_input input next = if nat_lt most_input (length input) then Before ends.TooLong else by_file (hex_file input) next
 
-abbrev pub by_store : Option Store → (Store → Ending) → Ending
+abbrev pub by_store : Option Store → (Store → VerbEnding) → VerbEnding
 by_store None next = Reading ends.NotAVolume
 by_store (Some s) next = next s
 

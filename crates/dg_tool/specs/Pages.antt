@@ -14,5 +14,5 @@ abbrev pub first_page : Held → List ℕ
 first_page h = slice_index_or h.complete 0 []
 
 -- the bytes of an image that is kept whole: those of its data pages, as many as its descriptor counts
-abbrev pub kept_bytes : Held → List ℕ
-kept_bytes h = content (length_in (first_page h)) h.complete
+abbrev pub image_bytes : Held → List ℕ
+image_bytes h = content (length_in (first_page h)) h.complete

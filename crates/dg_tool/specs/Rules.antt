@@ -9,26 +9,26 @@ use Rattle.dg_control.specs.declared.snapshot.Order.{Order}
 use Rattle.dg_volume.specs.Store.{Store}
 use Rattle.dg_volume.specs.Trails.{inject_trail, order_trail, migrate_trail}
 use Rattle.dg_outside.specs.Outside.{Outside}
-use Rattle.dg_tool.specs.Endings.{Ending, FirstAs, FirstInForm, by_input, content_in}
+use Rattle.dg_tool.specs.Endings.{VerbEnding, FirstAs, FirstInForm, by_input, content_in}
 use Rattle.dg_tool.specs.Verbs.{format_sized, inject_into, order_on, boot_on, power_boot, ping_on, dump_on, migrate_on}
-use Rattle.dg_tool.specs.Done.{VerbRule, verb_rule, CompletedOn, StopsOn, IsFormatted, FormatStops, BootedOn, MigratedOn}
+use Rattle.dg_tool.specs.Done.{VerbRule, verb_rule, CompletedOn, VerbStopsOn, IsFormatted, FormattingStops, BootedOn, MigratedOn}
 use Rattle.dg_end.specs.Writes.{CommandEnds}
 use Rattle.dg_tool.specs.Done.{OnBoards, FirstDone, InputDone}
 use Rattle.dg_tool.specs.Agreement.{HasNewRow, KeepsAgreement}
 
 -- a volume goes a trail of stores
-abbrev pub trail_rule : List Device → (Option Store → Ending) → (Store → Trail Store) → VerbRule
-trail_rule boards ending trail = verb_rule (FirstAs boards) ending (CompletedOn trail) (StopsOn trail)
+abbrev pub trail_rule : List Device → (Option Store → VerbEnding) → (Store → Trail Store) → VerbRule
+trail_rule boards ending trail = verb_rule (FirstAs boards) ending (CompletedOn trail) (VerbStopsOn trail)
 
 -- a volume is only read
-abbrev pub reading_rule : List Device → (Option Store → Ending) → VerbRule
+abbrev pub reading_rule : List Device → (Option Store → VerbEnding) → VerbRule
 reading_rule boards ending = verb_rule (FirstAs boards) ending (λ chip. Looked) (λ chip. ReadStopped)
 
 -- any board is formatted in this form, whatever it stands for
 abbrev pub format_rule : (name : List ℕ) → (used form : ℕ) → (input : List ℕ) → VerbRule
 format_rule name used form input =
     verb_rule (λ chip. Unit {0}) (λ chip. by_input input (format_sized used))
-    (λ chip. IsFormatted name (content_in input) used form) (λ chip. FormatStops name (content_in input) used)
+    (λ chip. IsFormatted name (content_in input) used form) (λ chip. FormattingStops name (content_in input) used)
 
 -- `row` is the image with its bytes
 abbrev pub inject_rule : List Device → (row : List ℕ → Row) → (input : List ℕ) → VerbRule
@@ -37,10 +37,10 @@ inject_rule boards row input =
     (λ s. inject_trail s (row (content_in input)))
 
 abbrev pub boot_rule : List Device → VerbRule
-boot_rule boards = verb_rule (FirstAs boards) boot_on (BootedOn power_boot) (StopsOn (λ s. (power_boot s).trail))
+boot_rule boards = verb_rule (FirstAs boards) boot_on (BootedOn power_boot) (VerbStopsOn (λ s. (power_boot s).trail))
 
 abbrev pub migrate_rule : List Device → (form : ℕ) → VerbRule
-migrate_rule boards form = verb_rule (FirstAs boards) (migrate_on form) (MigratedOn form) (StopsOn (migrate_trail form))
+migrate_rule boards form = verb_rule (FirstAs boards) (migrate_on form) (MigratedOn form) (VerbStopsOn (migrate_trail form))
 
 -- ---- what each did
 

@@ -18,17 +18,17 @@ use Rattle.dg_volume.specs.declared.volume.OrderFault.{OrderFault}
 use Rattle.dg_ihex.specs.Written.{written_file}
 use Rattle.dg_end.specs.declared.refusal.Refusal.TheVariants as refusals
 use Rattle.dg_end.specs.Texts.{numbers, line}
-use Rattle.dg_tool.specs.Pages.{name_in, first_page, kept_bytes}
+use Rattle.dg_tool.specs.Pages.{name_in, first_page, image_bytes}
 use Rattle.dg_end.specs.declared.ends.End.TheVariants as ends
 use Rattle.dg_end.specs.Conversions.{end_of_order, end_of_injection}
-use Rattle.dg_tool.specs.Endings.{Ending, Before, Reading, Acting, by_store}
+use Rattle.dg_tool.specs.Endings.{VerbEnding, Before, Reading, Acting, by_store}
 
 -- ---- format
 
 abbrev pub room_text : ℕ → List ℕ
 room_text room = line (codes "room" ++ numbers (room ∷ []))
 
-abbrev pub format_sized : (used : ℕ) → (golden : List ℕ) → Ending
+abbrev pub format_sized : (used : ℕ) → (golden : List ℕ) → VerbEnding
 format_sized used golden =
     if length golden == 0 then Before (ends.Refused refusals.Empty)
     else if nat_lt most_bytes (length golden) then Before (ends.Refused (refusals.TooLarge (length golden)))
@@ -40,11 +40,11 @@ format_sized used golden =
 abbrev pub have_text : Row → List ℕ
 have_text row = line (codes "have" ++ numbers (0 ∷ row.image ∷ row.version ∷ pages_for (length row.bytes) ∷ []))
 
-abbrev pub inject_ending_by : Row → Option InjectFault → Ending
+abbrev pub inject_ending_by : Row → Option InjectFault → VerbEnding
 inject_ending_by row None = Acting (Ok (have_text row))
 inject_ending_by row (Some fault) = Reading (end_of_injection (length row.bytes) fault)
 
-abbrev pub inject_into : Row → Option Store → Ending
+abbrev pub inject_into : Row → Option Store → VerbEnding
 inject_into row chip = by_store chip (λ s. inject_ending_by row (inject_refusal s row))
 
 -- ---- order
@@ -52,11 +52,11 @@ inject_into row chip = by_store chip (λ s. inject_ending_by row (inject_refusal
 abbrev pub order_text : Order → List ℕ
 order_text o = line (codes "order" ++ numbers (0 ∷ o.number ∷ o.image ∷ o.version ∷ []))
 
-abbrev pub order_by : Order → Option OrderFault → Ending
+abbrev pub order_by : Order → Option OrderFault → VerbEnding
 order_by o None = Acting (Ok (order_text o))
 order_by o (Some fault) = Reading (end_of_order fault)
 
-abbrev pub order_on : Order → Option Store → Ending
+abbrev pub order_on : Order → Option Store → VerbEnding
 order_on o chip = by_store chip (λ s. order_by o (order_refusal s o))
 
 -- ---- boot
@@ -72,12 +72,12 @@ two_bytes n = hex_text (n / 256 ∷ n % 256 ∷ [])
 abbrev pub start_text : Runs → List ℕ
 start_text r = line (codes "start" ++ numbers (0 ∷ r.image ∷ r.version ∷ runs_length r ∷ []) ++ 32 ∷ two_bytes (runs_crc r))
 
-abbrev pub boot_by : Option Runs → Ending
-boot_by None = Acting (Err ends.NoImage)
-boot_by (Some r) = Acting (Ok (start_text r))
+abbrev pub start_by : Option Runs → VerbEnding
+start_by None = Acting (Err ends.NoImage)
+start_by (Some r) = Acting (Ok (start_text r))
 
-abbrev pub boot_on : Option Store → Ending
-boot_on chip = by_store chip (λ s. boot_by (power_boot s).runs)
+abbrev pub boot_on : Option Store → VerbEnding
+boot_on chip = by_store chip (λ s. start_by (power_boot s).runs)
 
 -- ---- migrate
 
@@ -85,11 +85,11 @@ abbrev pub form_text : List ℕ
 form_text = line (codes "form" ++ numbers (new_form ∷ []))
 
 -- a chip of the older form takes one commit
-abbrev pub migrate_by : (form : ℕ) → Store → Ending
+abbrev pub migrate_by : (form : ℕ) → Store → VerbEnding
 migrate_by form s =
     if (form == old_form) && (s.room == 0) then Reading (ends.Refused (refusals.Worn s.room)) else Acting (Ok form_text)
 
-abbrev pub migrate_on : (form : ℕ) → Option Store → Ending
+abbrev pub migrate_on : (form : ℕ) → Option Store → VerbEnding
 migrate_on form chip = by_store chip (migrate_by form)
 
 -- ---- ping
@@ -116,9 +116,9 @@ abbrev pub name_by : List (List ℕ) → List ℕ
 name_by [] = 45 ∷ []
 name_by (first ∷ rest) = name_in first
 
-abbrev pub kept_line : ℕ → Option Held → List ℕ
-kept_line i None = []
-kept_line i (Some h) =
+abbrev pub ping_line : ℕ → Option Held → List ℕ
+ping_line i None = []
+ping_line i (Some h) =
     line (codes "kept" ++ numbers (i ∷ h.version ∷ length h.complete ∷ h.pages ∷ []) ++ 32 ∷ name_by h.complete)
 
 abbrev pub commits_text : Store → List ℕ
@@ -128,20 +128,20 @@ commits_text s =
 
 -- the images after golden
 abbrev pub kept_lines : Store → List ℕ
-kept_lines s = flat_map (λ i. kept_line i (held s i)) (range_with_len 1 (images - 1))
+kept_lines s = flat_map (λ i. ping_line i (held s i)) (range_with_len 1 (images - 1))
 
 abbrev pub ping_text : Store → List ℕ
 ping_text s = golden_text (held s 0) ++ commits_text s ++ kept_lines s
 
-abbrev pub ping_on : Option Store → Ending
+abbrev pub ping_on : Option Store → VerbEnding
 ping_on chip = by_store chip (λ s. Acting (Ok (ping_text s)))
 
 -- ---- dump
 
-abbrev pub dump_by : Option Held → Ending
+abbrev pub dump_by : Option Held → VerbEnding
 dump_by None = Reading (ends.Refused refusals.Absent)
-dump_by (Some h) = if length h.complete == h.pages then Acting (Ok (written_file (kept_bytes h)))
+dump_by (Some h) = if length h.complete == h.pages then Acting (Ok (written_file (image_bytes h)))
     else Reading (ends.Refused (refusals.NotWhole (length h.complete) h.pages))
 
-abbrev pub dump_on : (image : ℕ) → Option Store → Ending
+abbrev pub dump_on : (image : ℕ) → Option Store → VerbEnding
 dump_on image chip = by_store chip (λ s. dump_by (held s image))

@@ -6,62 +6,17 @@ ghost use Rattle.dg_slot.specs.Layout.{slots, packets, page_size, most_pages, mo
 ghost use Rattle.dg_slot.specs.Kept.{Held, KeepsImage};
 ghost use Rattle.dg_slot.specs.Pages.{packet_in, page_in};
 ghost use Rattle.dg_volume.specs.Start.{length_in};
-ghost use Rattle.dg_tool.specs.Pages.{name_in, first_page, kept_bytes};
+ghost use Rattle.dg_tool.specs.Pages.{name_in, first_page, image_bytes};
 ghost use Rattle.dg_tool.specs.inner.OneBoard.{ReadsOn};
 
-use dg_end::End;
-use dg_nor::{Nor, Stopped};
+use dg_end::{End, Refusal};
+use dg_nor::Nor;
 use dg_object::{Descriptor, PACKET_SIZE, PACKETS};
 use dg_slot::{page_sector, read_descriptor, read_packet};
-use std::alloc::{AllocError, Global};
-
-/// Why pages are not read.
-#[derive(Clone, Copy, Debug, PartialEq, Eq)]
-pub(crate) enum PageFault {
-    /// Memory ran out.
-    Memory,
-    /// The board is stopped.
-    Stopped,
-}
-
-impl From<AllocError> for PageFault {
-    ghost use Rattle.std.specs.Prelude.{◌≡◌};
-    ghost use Rattle.dg_tool.specs.declared.pages.PageFault.{PageFault};
-
-    ghost from_gives = { λ _ e. e ≡ PageFault.Memory };
-
-    fn from(_error: AllocError) -> PageFault {
-        PageFault::Memory
-    }
-}
-
-impl From<Stopped> for PageFault {
-    ghost use Rattle.std.specs.Prelude.{◌≡◌};
-    ghost use Rattle.dg_tool.specs.declared.pages.PageFault.{PageFault};
-
-    ghost from_gives = { λ _ e. e ≡ PageFault.Stopped };
-
-    fn from(_error: Stopped) -> PageFault {
-        PageFault::Stopped
-    }
-}
-
-impl From<PageFault> for End {
-    ghost use Rattle.std.specs.Prelude.{◌≡◌};
-    ghost use Rattle.dg_tool.specs.inner.OneBoard.{end_of_page};
-
-    ghost from_gives = { λ fault e. e ≡ end_of_page fault };
-
-    fn from(fault: PageFault) -> End {
-        match fault {
-            PageFault::Memory => End::Memory,
-            PageFault::Stopped => End::FlashFault,
-        }
-    }
-}
+use std::alloc::Global;
 
 /// The descriptor of an image of which page 0 is complete.
-pub(crate) fn read_first<N: Nor>(nor: &mut N, image: u8) -> Result<Descriptor, PageFault>
+pub(crate) fn read_first<N: Nor>(nor: &mut N, image: u8) -> Result<Descriptor, End>
     requires known_image { image < slots }
     requires kept { (h : Held) × KeepsImage (N.device nor.old).image image h × (0 < length h.complete) }
     ensures told { IfOk result (λ d. (h : Held) → KeepsImage (N.device nor.old).image image h → 0 < length h.complete
@@ -70,11 +25,10 @@ pub(crate) fn read_first<N: Nor>(nor: &mut N, image: u8) -> Result<Descriptor, P
     ensures fits { IfOk result (λ d. d.length ≤ most_bytes) }
     ensures ends { ReadsOn result (N.device nor.old) (N.device nor.new) }
 {
-    match read_descriptor(nor, page_sector(image, 0)) {
-        Ok(Some(first)) => Ok(first.descriptor),
-        Ok(None) => unreachable!(),
-        Err(Stopped) => Err(PageFault::Stopped),
-    }
+    let Some(first) = read_descriptor(nor, page_sector(image, 0))? else {
+        return Err(End::Refused(Refusal::Absent));
+    };
+    Ok(first.descriptor)
 }
 
 /// Reads a packet of a page, and appends its bytes.
@@ -84,7 +38,7 @@ fn push_packet<N: Nor>(
     page: u8,
     packet: u8,
     bytes: &mut Vec<u8>,
-) -> Result<(), PageFault>
+) -> Result<(), End>
     requires known_image { image < slots }
     requires known_page { page < most_pages }
     requires known_packet { packet < packets }
@@ -99,7 +53,7 @@ fn push_packet<N: Nor>(
 }
 
 /// Reads a page, and appends its bytes.
-fn push_page<N: Nor>(nor: &mut N, image: u8, page: u8, bytes: &mut Vec<u8>) -> Result<(), PageFault>
+fn push_page<N: Nor>(nor: &mut N, image: u8, page: u8, bytes: &mut Vec<u8>) -> Result<(), End>
     requires known_image { image < slots }
     requires known_page { page < most_pages }
     ensures page { OnOk result (bytes.new.items ≡ bytes.old.items ++ page_in (N.device nor.old).image (page_sector image page)) }
@@ -113,7 +67,7 @@ fn push_page<N: Nor>(nor: &mut N, image: u8, page: u8, bytes: &mut Vec<u8>) -> R
 }
 
 /// Reads the data pages of an image that is kept whole.
-fn read_data<N: Nor>(alloc: Global, nor: &mut N, image: u8, pages: u8) -> Result<Vec<u8>, PageFault>
+fn read_data<N: Nor>(alloc: Global, nor: &mut N, image: u8, pages: u8) -> Result<Vec<u8>, End>
     requires known_image { image < slots }
     requires some { 1 ≤ pages }
     requires known_pages { pages ≤ most_pages }
@@ -135,11 +89,11 @@ pub(crate) fn read_bytes<N: Nor>(
     nor: &mut N,
     image: u8,
     pages: u8,
-) -> Result<Vec<u8>, PageFault>
+) -> Result<Vec<u8>, End>
     requires known_image { image < slots }
     requires whole { (h : Held) × KeepsImage (N.device nor.old).image image h × (length h.complete ≡ pages) × (h.pages ≡ pages) }
     ensures bytes { IfOk result (λ bytes. (h : Held) → KeepsImage (N.device nor.old).image image h
-        → length h.complete ≡ pages → h.pages ≡ pages → bytes.items ≡ kept_bytes h) }
+        → length h.complete ≡ pages → h.pages ≡ pages → bytes.items ≡ image_bytes h) }
     ensures some { IfOk result (λ bytes. 1 ≤ length bytes.items) }
     ensures fits { IfOk result (λ bytes. length bytes.items ≤ most_bytes) }
     ensures ends { ReadsOn result (N.device nor.old) (N.device nor.new) }

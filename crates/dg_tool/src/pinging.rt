@@ -8,14 +8,14 @@ ghost use Rattle.dg_volume.specs.Store.{App, Store, held};
 ghost use Rattle.dg_volume.specs.Stands.{Mounted, IsMounted, Tells};
 ghost use Rattle.dg_volume.specs.Told.{told_held, program_told};
 ghost use Rattle.dg_end.specs.Texts.{numbers, line};
-ghost use Rattle.dg_tool.specs.Verbs.{program_line, order_line, waived_word, commits_text, kept_line, kept_lines, ping_text};
+ghost use Rattle.dg_tool.specs.Verbs.{program_line, order_line, waived_word, commits_text, ping_line, kept_lines, ping_text};
 ghost use Rattle.dg_tool.specs.Verbs.{ping_on};
 ghost use Rattle.dg_tool.specs.Done.{OnBoards};
 ghost use Rattle.dg_end.specs.Lines.{text_outcome};
 ghost use Rattle.dg_tool.specs.inner.OneBoard.{ReadsOn};
 ghost use Rattle.dg_tool.specs.Rules.{reading_rule};
 
-use crate::pages::{PageFault, read_first};
+use crate::pages::read_first;
 use dg_control::{GOLDEN, IMAGES, Order, Program};
 use dg_end::{End, push_line, push_numbers, push_words};
 use dg_nor::Nor;
@@ -109,16 +109,11 @@ fn push_named(text: &mut Vec<u8>, image: u8, kept: &Kept, name: &[u8]) -> Result
 }
 
 /// Appends the line of an image of which this is kept.
-fn push_kept<N: Nor>(
-    text: &mut Vec<u8>,
-    image: u8,
-    kept: &Kept,
-    nor: &mut N,
-) -> Result<(), PageFault>
+fn push_kept<N: Nor>(text: &mut Vec<u8>, image: u8, kept: &Kept, nor: &mut N) -> Result<(), End>
     requires known_image { image < images }
     requires keeps { (h : Held) × KeepsImage (N.device nor.old).image image h × (kept.now ≡ told_held h) }
     ensures told { OnOk result ((h : Held) → KeepsImage (N.device nor.old).image image h → kept.now ≡ told_held h
-        → text.new.items ≡ text.old.items ++ kept_line image (Some h)) }
+        → text.new.items ≡ text.old.items ++ ping_line image (Some h)) }
     ensures ends { ReadsOn result (N.device nor.old) (N.device nor.new) }
 {
     if kept.done == 0 {
@@ -136,11 +131,11 @@ fn push_image<N: Nor>(
     image: u8,
     nor: &mut N,
     volume: &Volume,
-) -> Result<(), PageFault>
+) -> Result<(), End>
     requires known_image { image < images }
     requires mounted { IsMounted (N.device nor.old).image volume.now }
     ensures told { OnOk result ((s : Store) → Mounted (N.device nor.old).image volume.now s
-        → text.new.items ≡ text.old.items ++ kept_line image (held s image)) }
+        → text.new.items ≡ text.old.items ++ ping_line image (held s image)) }
     ensures ends { ReadsOn result (N.device nor.old) (N.device nor.new) }
 {
     match volume.kept(image) {
@@ -150,7 +145,7 @@ fn push_image<N: Nor>(
 }
 
 /// Appends the lines of the images after golden.
-fn push_images<N: Nor>(text: &mut Vec<u8>, nor: &mut N, volume: &Volume) -> Result<(), PageFault>
+fn push_images<N: Nor>(text: &mut Vec<u8>, nor: &mut N, volume: &Volume) -> Result<(), End>
     requires mounted { IsMounted (N.device nor.old).image volume.now }
     ensures told { OnOk result ((s : Store) → Mounted (N.device nor.old).image volume.now s
         → text.new.items ≡ text.old.items ++ kept_lines s) }
@@ -163,7 +158,7 @@ fn push_images<N: Nor>(text: &mut Vec<u8>, nor: &mut N, volume: &Volume) -> Resu
 }
 
 /// Tells what a board keeps that is mounted.
-fn ping_mounted<N: Nor>(alloc: Global, nor: &mut N, volume: &Volume) -> Result<Vec<u8>, PageFault>
+fn ping_mounted<N: Nor>(alloc: Global, nor: &mut N, volume: &Volume) -> Result<Vec<u8>, End>
     requires mounted { IsMounted (N.device nor.old).image volume.now }
     ensures told { IfOk result (λ text. (s : Store) → Mounted (N.device nor.old).image volume.now s → text.items ≡ ping_text s) }
     ensures ends { ReadsOn result (N.device nor.old) (N.device nor.new) }

@@ -15,13 +15,7 @@ use Rattle.dg_chain.specs.Receiving.{fill_operations}
 use Rattle.dg_end.specs.declared.refusal.Refusal.TheVariants as refusals
 use Rattle.dg_end.specs.declared.ends.End.{End}
 use Rattle.dg_end.specs.declared.ends.End.TheVariants as ends
-use Rattle.dg_chain_tool.specs.declared.filling.FillFault.{FillFault}
-use Rattle.dg_chain_tool.specs.declared.filling.FillFault.TheVariants as fill_fault
 use Rattle.dg_chain_tool.specs.Receiving.{with_foreign}
-
-abbrev pub end_of_fill : FillFault → End
-end_of_fill fill_fault.Stopped = ends.FlashFault
-end_of_fill (fill_fault.Foreign page) = ends.Refused (refusals.Foreign page)
 
 -- the page is the expected one
 abbrev pub fits_root : (expected : List ℕ) → List ℕ → Bool
@@ -47,11 +41,12 @@ abbrev pub is_expected : NextPage → Bool
 is_expected next = fits_root next.digest next.page
 
 -- how the filling of that page ends
-abbrev pub NextEnds : {T : Type 0} → Result T FillFault → NextPage → Store → Device → Device → Volume → Type 0
+abbrev pub NextEnds : {T : Type 0} → Result T End → NextPage → Store → Device → Device → Volume → Type 0
 NextEnds (Ok x) next s a b v = (is_expected next ≡ true) × Acted (stepping s page_operations (paged next.image next.page s)) a b v
-NextEnds (Err (fill_fault.Foreign k)) next s a b v =
+NextEnds (Err (ends.Refused (refusals.Foreign k))) next s a b v =
     (k ≡ next.number) × (is_expected next ≡ false) × Acted (resting s fill_operations) a b v
-NextEnds (Err fill_fault.Stopped) next s a b v = Stops (next_trail (is_expected next) s next.image next.page) a b
+NextEnds (Err ends.FlashFault) next s a b v = Stops (next_trail (is_expected next) s next.image next.page) a b
+NextEnds (Err end) next s a b v = ⊥
 
 -- pages from page n on are filled up to the first foreign one
 abbrev pub fill_to : Option Break → (n : ℕ) → Store → (image : ℕ) → List (List ℕ) → Trail Store
@@ -59,8 +54,9 @@ fill_to None n s image pages = fill_trail s image pages
 fill_to (Some at) n s image pages = with_foreign (fill_trail s image (take (at.page - n) pages))
 
 -- how that ends
-abbrev pub FillEnds : {T : Type 0} → Result T FillFault → Option Break → Trail Store → Device → Device → Volume → Type 0
+abbrev pub FillEnds : {T : Type 0} → Result T End → Option Break → Trail Store → Device → Device → Volume → Type 0
 FillEnds (Ok x) found t a b v = (found ≡ None) × Acted t a b v
-FillEnds (Err (fill_fault.Foreign k)) found t a b v =
+FillEnds (Err (ends.Refused (refusals.Foreign k))) found t a b v =
     ((at : Break) × (found ≡ Some at) × (at.page ≡ k)) × Acted t a b v
-FillEnds (Err fill_fault.Stopped) found t a b v = Stops t a b
+FillEnds (Err ends.FlashFault) found t a b v = Stops t a b
+FillEnds (Err end) found t a b v = ⊥

@@ -6,25 +6,21 @@ use Rattle.dg_volume.specs.Store.{Store}
 use Rattle.dg_end.specs.Lines.{Outcome}
 use Rattle.dg_end.specs.declared.ends.End.{End}
 use Rattle.dg_end.specs.declared.ends.End.TheVariants as ends
-use Rattle.dg_tool.specs.declared.pages.PageFault.{PageFault}
-use Rattle.dg_tool.specs.declared.pages.PageFault.TheVariants as page_fault
-use Rattle.dg_tool.specs.Endings.{Ending}
-use Rattle.dg_tool.specs.Done.{VerbRule, EndsAs, IsBefore, IsFound, IsOfVerb, IsStopped}
-
-abbrev pub end_of_page : PageFault → End
-end_of_page page_fault.Memory = ends.Memory
-end_of_page page_fault.Stopped = ends.FlashFault
+use Rattle.dg_tool.specs.Endings.{VerbEnding}
+use Rattle.dg_tool.specs.Done.{VerbRule, EndsAs, IsBefore, IsFound, IsOfVerb, IsBoardStopped}
 
 -- reads of a board that is a volume
-abbrev pub ReadsOn : {T : Type 0} → Result T PageFault → Device → Device → Type 0
+abbrev pub ReadsOn : {T : Type 0} → Result T End → Device → Device → Type 0
 ReadsOn (Ok x) a b = Looked a b
-ReadsOn (Err page_fault.Memory) a b = Looked a b
-ReadsOn (Err page_fault.Stopped) a b = ReadStopped a b
+ReadsOn (Err ends.Memory) a b = Looked a b
+ReadsOn (Err ends.FlashFault) a b = ReadStopped a b
+ReadsOn (Err end) a b = ⊥
 
 -- what a verb that came to this did on a board that stood for a store, where it ends so by the rules
-pub record OnStore (outcome : Outcome) (ending : Ending) (acted halted : Device → Device → Type 0) (a b : Device) : Type 0 where
+pub record OnStore (outcome : Outcome) (ending : VerbEnding) (acted halted : Device → Device → Type 0) (a b : Device)
+    : Type 0 where
   pub rules : EndsAs outcome ending (b ≡ a) (Looked a b) (acted a b) (halted a b)
-  pub stops : outcome ≡ Err ends.FlashFault → IsStopped a b
+  pub stops : outcome ≡ Err ends.FlashFault → IsBoardStopped a b
   pub of_verb : IsOfVerb outcome
   pub on_board : IsBefore outcome → ⊥
 
@@ -33,6 +29,6 @@ pub record OnBoard (outcome : Outcome) (rule : VerbRule) (a b : Device) : Type 0
   pub rules : (chip : Option Store) → rule.chips chip
       → EndsAs outcome (rule.ending chip) (b ≡ a) (Looked a b) (rule.acted chip a b) (rule.halted chip a b)
   pub found : IsFound outcome → (chip : Option Store) × rule.chips chip
-  pub stops : outcome ≡ Err ends.FlashFault → IsStopped a b
+  pub stops : outcome ≡ Err ends.FlashFault → IsBoardStopped a b
   pub of_verb : IsOfVerb outcome
   pub on_board : IsBefore outcome → ⊥

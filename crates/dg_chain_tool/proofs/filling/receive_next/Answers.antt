@@ -69,8 +69,8 @@ returns-in-Ok-Foreign-clause-ends g c = λ s mounted.
     let moved = subst (λ (t : Store). (fits_root c.args.expected.now page ≡ false) × Acted (resting t fill_operations) a b back.new.self) (sym (one_store a.image s x.0 mounted.stands x.1.stands)) done in
     (refl, moved.0, moved.1)
 
-pub unreachable-requires : goal.unreachable-requires
-unreachable-requires g c =
+pub returns-in-Ok-Bad-clause-ends : goal.returns-in-Ok-Bad-clause-ends
+returns-in-Ok-Bad-clause-ends g c = λ s mounted.
     let x = c.requires.fits in
     let h = x.2.next.kept in
     let here = c.in-Ok-Bad in
@@ -81,7 +81,7 @@ unreachable-requires g c =
     let opened = lends.1 _ x.0 h x.1 x.2.next.held_here in
     let r = subst (λ (y : ChainSealing). Receives c.args.expected.now (outline_told c.in-Some.slot).image h page a b y) here.field-0-is (here.ensures.received h opened) in
     let halted = subst (λ (n : ℕ). may_seal n h page ≡ true) (sym lends.0) x.2.next.fits in
-    absurd (bad_next a b c.args.volume.now c.slot.new.self c.slot.new.self x.0 c.args.image h c.args.expected.now page c.in-Some.slot c.requires.not_golden c.requires.known_image x.2.next.held_here lends.0 c.receive_page.ensures.touches x.1 (c.slot.ensures.mounted a.image x.0 x.1) opened here.field-0-2 here.field-0-0 here.field-0-1 halted r)
+    absurd (bad_next a b c.args.volume.now c.slot.new.self c.slot.new.self x.0 c.args.image h c.args.expected.now page c.in-Some.slot c.requires.not_golden c.requires.known_image x.2.next.held_here lends.0 c.receive_page.ensures.touches x.1 (c.slot.ensures.mounted a.image x.0 x.1) opened here.slot here._kept here._found halted r)
 
 pub returns-in-Err-clause-ends : goal.returns-in-Err-clause-ends
 returns-in-Err-clause-ends g c = λ s mounted.

@@ -11,7 +11,7 @@ use Rattle.dg_volume.specs.Acts.{Stops}
 use Rattle.dg_volume.proofs.InjectLemmas.{older_told, begun_anew, anew_fits}
 use Rattle.dg_volume.proofs.StoreLemmas.{one_store}
 use Rattle.dg_volume.specs.Filling.{new_row}
-use Rattle.dg_chain_tool.specs.inner.Filling.{fill_to, end_of_fill}
+use Rattle.dg_chain_tool.specs.inner.Filling.{fill_to}
 use Rattle.dg_end.specs.Conversions.{end_of_take}
 use Rattle.dg_tool.proofs.OutcomeLemmas.{at_end}
 use Rattle.dg_chain_tool.specs.Receiving.{first_foreign}
@@ -76,7 +76,7 @@ returns-in_err-receive_rest g c = record {
       let as_found = ap (first_foreign root (object row)) (sym (anew_done s row older)) in
       let whole = anew_fill root s row none older in
       let fault = c.in_err-receive_rest.field-0.0 in
-      at_end _ (Received root s row _ _) c.from_residual-in_err-receive_rest.result (end_of_fill fault) c.from_residual-in_err-receive_rest.ensures.1
+      at_end _ (Received root s row _ _) c.from_residual-in_err-receive_rest.result fault c.from_residual-in_err-receive_rest.ensures.1
       (received_part root s row _ _ ℕ fault found _ c.receive_rest.new.volume none as_found whole
       (ends_then {T = ℕ} (Err fault) found t u _ _ _ c.take.new.self c.receive_rest.new.volume (sym (to_first found 0 (last t) row.image (object row))) begun.acted (c.in_err-receive_rest.ensures.ends (last t) begun.mounted)));
 }

@@ -12,7 +12,7 @@ use Rattle.dg_end.specs.declared.refusal.Refusal.TheVariants as refusals
 use Rattle.dg_end.specs.declared.ends.End.TheVariants as ends
 use Rattle.dg_tool.proofs.OutcomeLemmas.{at_end}
 use Rattle.dg_volume.specs.Filling.{new_row}
-use Rattle.dg_chain_tool.specs.inner.Filling.{fill_to, end_of_fill}
+use Rattle.dg_chain_tool.specs.inner.Filling.{fill_to}
 use Rattle.dg_chain_tool.specs.Receiving.{first_foreign, receive_trail}
 use Rattle.dg_chain_tool.proofs.ReceiveLemmas.{Received, received_refused, received_whole, received_part, received_stops, receive_begins, kept_done, kept_is, ends_looked}
 use Rattle.dg_chain_tool.proofs.receiving.receive_kept.Goals as goal
@@ -86,7 +86,7 @@ returns-in_err-receive_rest g c = record {
       let as_found = ap (first_foreign root (object row)) (sym (kept_done s row h n keeps.here same count)) in
       let whole = kept_is root s row h n none keeps.here same count in
       let fault = c.in_err-receive_rest.field-0.0 in
-      at_end _ (Received root s row _ _) c.from_residual-in_err-receive_rest.result (end_of_fill fault) c.from_residual-in_err-receive_rest.ensures.1
+      at_end _ (Received root s row _ _) c.from_residual-in_err-receive_rest.result fault c.from_residual-in_err-receive_rest.ensures.1
       (received_part root s row _ _ ℕ fault found t c.receive_rest.new.volume none as_found whole (ends_looked {T = ℕ} (Err fault) found t _ _ _ c.receive_rest.new.volume looked (c.in_err-receive_rest.ensures.ends s here)));
 }
 

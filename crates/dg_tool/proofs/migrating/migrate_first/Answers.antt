@@ -11,7 +11,7 @@ use Rattle.dg_end.specs.Texts.{numbers, line}
 use Rattle.dg_end.specs.Conversions.{end_of_mount, end_of_commit}
 use Rattle.dg_end.specs.declared.ends.End.TheVariants as ends
 use Rattle.dg_tool.specs.Verbs.{migrate_by}
-use Rattle.dg_tool.specs.Done.{MigratedOn, StopsOn}
+use Rattle.dg_tool.specs.Done.{MigratedOn, VerbStopsOn}
 use Rattle.dg_tool.proofs.BoardLemmas.{some_of, no_boards, at_boards}
 use Rattle.dg_tool.proofs.InputLemmas.{ok_unlike}
 use Rattle.dg_tool.proofs.TrailLemmas.{stops_before, unmounted_first, acted_first, volume_of}
@@ -25,7 +25,7 @@ pub returns-in_err-volume : goal.returns-in_err-volume
 returns-in_err-volume g c = λ form is.
     let x = c.in_err-volume in
     at_boards _ c.from_residual.result (end_of_mount x.field-0.0) _ _ _ _ c.from_residual.ensures.1
-    (unmounted_first g.N.Nor.device c.args.boards.now _ _ ⊥ (migrate_by form) (MigratedOn form) (StopsOn (migrate_trail form)) (some_of _ (sym c.is_empty.ensures ∙ c.if-is_empty.false)) (migrate_needs form)
+    (unmounted_first g.N.Nor.device c.args.boards.now _ _ ⊥ (migrate_by form) (MigratedOn form) (VerbStopsOn (migrate_trail form)) (some_of _ (sym c.is_empty.ensures ∙ c.if-is_empty.false)) (migrate_needs form)
     x.field-0.0 (stops_before (migrate_trail form) _ _ (migrate_begins form)) (λ e. x.ensures.stopped (ap (λ f. Err f) e)) (λ e. x.ensures.not_a_volume (ap (λ f. Err f) e)) (λ e. x.ensures.refused (ap (λ f. Err f) e)))
 
 pub returns-in_err-migrate : goal.returns-in_err-migrate
@@ -36,7 +36,7 @@ returns-in_err-migrate g c = λ form is.
     let some = some_of _ (sym c.is_empty.ensures ∙ c.if-is_empty.false) in
     let one : form_of v ≡ form = c.a_volume_has_one_form.ensures.one _ (form_of v) form (c.a_volume_has_one_form.ensures.told _ v m.volume) (first_in_form g.N.Nor.device c.args.boards.now _ form some is (volume_of _ v m.volume)) in
     at_boards _ c.from_residual-in_err-migrate.result (end_of_commit x.field-0.0) _ _ _ _ c.from_residual-in_err-migrate.ensures.1
-    (acted_first g.N.Nor.device c.args.boards.now _ _ ⊥ (migrate_by form) (MigratedOn form) (StopsOn (migrate_trail form)) some (migrate_needs form)
+    (acted_first g.N.Nor.device c.args.boards.now _ _ ⊥ (migrate_by form) (MigratedOn form) (VerbStopsOn (migrate_trail form)) some (migrate_needs form)
     _ _ v m.looked m.same_image m.volume m.mounted (λ s. migrated_looked form s _ _ _ m.looked) (λ s. stops_looked (migrate_trail form s) _ _ _ m.looked)
     (λ s there.
     in_one_form (form_of v) form s _ _ _ one
@@ -50,7 +50,7 @@ returns-in_err-line g c = λ form is.
     let some = some_of _ (sym c.is_empty.ensures ∙ c.if-is_empty.false) in
     let one : form_of v ≡ form = c.a_volume_has_one_form.ensures.one _ (form_of v) form (c.a_volume_has_one_form.ensures.told _ v m.volume) (first_in_form g.N.Nor.device c.args.boards.now _ form some is (volume_of _ v m.volume)) in
     at_boards _ c.from_residual-in_err-line.result ends.Memory _ _ _ _ c.from_residual-in_err-line.ensures.1
-    (acted_first g.N.Nor.device c.args.boards.now _ _ ⊥ (migrate_by form) (MigratedOn form) (StopsOn (migrate_trail form)) some (migrate_needs form)
+    (acted_first g.N.Nor.device c.args.boards.now _ _ ⊥ (migrate_by form) (MigratedOn form) (VerbStopsOn (migrate_trail form)) some (migrate_needs form)
     _ _ v m.looked m.same_image m.volume m.mounted (λ s. migrated_looked form s _ _ _ m.looked) (λ s. stops_looked (migrate_trail form s) _ _ _ m.looked)
     (λ s there.
     let acted = x.acted s there in
@@ -65,7 +65,7 @@ returns g c = λ form is.
     let x = c.in_ok-migrate.ensures in
     let some = some_of _ (sym c.is_empty.ensures ∙ c.if-is_empty.false) in
     let one : form_of v ≡ form = c.a_volume_has_one_form.ensures.one _ (form_of v) form (c.a_volume_has_one_form.ensures.told _ v m.volume) (first_in_form g.N.Nor.device c.args.boards.now _ form some is (volume_of _ v m.volume)) in
-    acted_first g.N.Nor.device c.args.boards.now _ _ ⊥ (migrate_by form) (MigratedOn form) (StopsOn (migrate_trail form)) some (migrate_needs form)
+    acted_first g.N.Nor.device c.args.boards.now _ _ ⊥ (migrate_by form) (MigratedOn form) (VerbStopsOn (migrate_trail form)) some (migrate_needs form)
     _ _ v m.looked m.same_image m.volume m.mounted (λ s. migrated_looked form s _ _ _ m.looked) (λ s. stops_looked (migrate_trail form s) _ _ _ m.looked)
     (λ s there.
     let acted = x.acted s there in

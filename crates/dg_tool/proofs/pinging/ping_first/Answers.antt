@@ -5,7 +5,6 @@ use Rattle.dg_volume.proofs.ReadLemmas.{Looked_then, Looked_stopped}
 use Rattle.dg_end.specs.Conversions.{end_of_mount}
 use Rattle.dg_tool.specs.Endings.{Acting}
 use Rattle.dg_tool.specs.Verbs.{ping_text}
-use Rattle.dg_tool.specs.inner.OneBoard.{end_of_page}
 use Rattle.dg_tool.proofs.BoardLemmas.{some_of, no_boards, at_boards, same_bytes}
 use Rattle.dg_tool.proofs.OutcomeLemmas.{made_store}
 use Rattle.dg_tool.proofs.ReadLemmas.{reads_fail, reads_image}
@@ -29,7 +28,7 @@ pub returns-in_err-text-clause-done : goal.returns-in_err-text-clause-done
 returns-in_err-text-clause-done g c =
     let m = c.in_ok-volume.ensures in
     let x = c.in_err-text in
-    at_boards _ c.from_residual-in_err-text.result (end_of_page x.field-0.0) _ _ _ _ c.from_residual-in_err-text.ensures.1
+    at_boards _ c.from_residual-in_err-text.result x.field-0.0 _ _ _ _ c.from_residual-in_err-text.ensures.1
     (acted_first g.N.Nor.device c.args.boards.now _ _ ⊥ (λ s. Acting (Ok (ping_text s))) (λ chip. Looked) (λ chip. ReadStopped) (some_of _ (sym c.is_empty.ensures ∙ c.if-is_empty.false)) (λ s. tt)
     _ _ c.in_ok-volume.volume m.looked m.same_image m.volume m.mounted (λ s h. Looked_then m.looked h) (λ s h. Looked_stopped m.looked h)
     (λ s there. reads_fail ℕ x.field-0.0 (Acting (Ok (ping_text s))) Looked _ _ tt x.ensures.ends))

@@ -4,7 +4,7 @@ use Rattle.dg_volume.specs.Sizes.{images}
 use Rattle.dg_volume.specs.Store.{held}
 use Rattle.dg_volume.proofs.ReadLemmas.{Looked_then}
 use Rattle.dg_boot.proofs.BootLemmas.{mounted_looked}
-use Rattle.dg_tool.specs.Verbs.{kept_line}
+use Rattle.dg_tool.specs.Verbs.{ping_line}
 use Rattle.dg_end.proofs.TextLemmas.{lines_more}
 use Rattle.dg_tool.proofs.ReadLemmas.{reads_err}
 use Rattle.dg_tool.proofs.pinging.push_images.Goals as goal
@@ -14,7 +14,7 @@ loop-image-preserved g c =
     let i = c.loop-image.invariant in
     record {
       told = λ s mounted.
-          lines_more (λ j. kept_line j (held s j)) c.args.text.now.items c.loop-image.text.items c.push_image.new.text.items c.loop-image.image i.some (i.told s mounted)
+          lines_more (λ j. ping_line j (held s j)) c.args.text.now.items c.loop-image.text.items c.push_image.new.text.items c.loop-image.image i.some (i.told s mounted)
           (c.in_ok-push_image.ensures.told s (mounted_looked s _ _ c.args.volume.now i.looked mounted));
       some = omega (arith, i.some);
       looked = Looked_then i.looked c.in_ok-push_image.ensures.ends;
@@ -26,4 +26,4 @@ returns-in_err-push_image-clause-ends g c = reads_err ℕ c.from_residual.result
 pub returns-clause-told : goal.returns-clause-told
 returns-clause-told g c = λ s mounted.
     let last : c.loop-image.image - 1 ≡ images - 1 = omega (arith, c.loop-image-test.false, c.loop-image.auto.image-end) in
-    c.loop-image.invariant.told s mounted ∙ ap (λ (n : ℕ). c.args.text.now.items ++ flat_map (λ j. kept_line j (held s j)) (range_with_len 1 n)) last
+    c.loop-image.invariant.told s mounted ∙ ap (λ (n : ℕ). c.args.text.now.items ++ flat_map (λ j. ping_line j (held s j)) (range_with_len 1 n)) last
