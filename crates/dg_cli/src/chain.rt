@@ -10,7 +10,7 @@ ghost use Rattle.dg_cli.specs.Chained.{root_in, Checked};
 use dg_base::{Sink, Source, Status};
 use dg_command::root_bytes;
 use dg_nor::Nor;
-use std::alloc::{AllocError, Global};
+use std::alloc::Global;
 
 /// Compares an image of the first board with a root.
 pub(crate) fn check<K: Sink, N: Nor>(
@@ -26,10 +26,8 @@ pub(crate) fn check<K: Sink, N: Nor>(
         (with_boards (map N.device boards.old.items) (with_output (K.Sink, out.old) rest))
         (with_boards (map N.device boards.new.items) (with_output (K.Sink, out.new) rest)) }
 {
-    match root_bytes(alloc, root) {
-        Ok(root) => dg_chain_tool::check(alloc, image, &root, out, boards),
-        Err(AllocError) => Status::Memory,
-    }
+    let root = root_bytes(root);
+    dg_chain_tool::check(alloc, image, &root, out, boards)
 }
 
 /// Receives an image on the first board, page by page against a root.
@@ -51,8 +49,6 @@ pub(crate) fn receive<S: Source, K: Sink, N: Nor>(
         (with_boards (map N.device boards.old.items) (with_output (K.Sink, out.old) (with_input (S.Source, input.old) rest)))
         (with_boards (map N.device boards.new.items) (with_output (K.Sink, out.new) (with_input (S.Source, input.new) rest))) }
 {
-    match root_bytes(alloc, root) {
-        Ok(root) => dg_chain_tool::receive(alloc, image, version, name, &root, input, out, boards),
-        Err(AllocError) => Status::Memory,
-    }
+    let root = root_bytes(root);
+    dg_chain_tool::receive(alloc, image, version, name, &root, input, out, boards)
 }

@@ -5,3 +5,4 @@ pub mod KindLemmas
 pub mod LawLemmas
 pub mod RangeLemmas
 pub mod ReadLemmas
+pub mod RootLemmas

@@ -1,13 +1,10 @@
 //! The root of a chain, as the words write it.
-ghost use Rattle.std.specs.Prelude.{◌≡◌, true, length, Some, IfOk};
+ghost use Rattle.std.specs.Prelude.{◌≡◌, ◌<◌, true, Some};
 ghost use Rattle.std.specs.List.{list_all};
-ghost use Rattle.dg_base.specs.Hexadecimal.{hex_bytes, is_hex_digit};
+ghost use Rattle.dg_base.specs.Hexadecimal.{hex_bytes, hex_value, is_hex_digit};
 ghost use Rattle.dg_command.specs.Roots.{spells_root};
-ghost use Rattle.dg_command.specs.Sizes.{root_bytes};
 
 use crate::ranges::{ROOT_BYTES, ROOT_DIGITS};
-use dg_base::{HexFault, hex_reads_back, parse_hex};
-use std::alloc::{AllocError, Global};
 
 /// Whether a text is a root: 64 hex digits of either case.
 pub(crate) fn is_root(text: &[u8]) -> bool
@@ -30,25 +27,26 @@ fn is_hex_digit(digit: u8) -> bool
 }
 
 /// The 32 bytes of a root.
-pub fn root_bytes(alloc: Global, root: &[u8]) -> Result<[u8; ROOT_BYTES], AllocError>
+pub fn root_bytes(root: &[u8]) -> [u8; ROOT_BYTES]
     requires { spells_root root.now ≡ true }
-    ensures { IfOk result (λ bytes. hex_bytes root.now ≡ Some bytes) }
+    ensures { hex_bytes root.now ≡ Some result }
 {
-    hex_reads_back();
-    match parse_hex(alloc, root) {
-        Ok(bytes) => Ok(copied(&bytes)),
-        Err(HexFault::Memory) => Err(AllocError),
-        Err(HexFault::Odd) => unreachable!(),
-        Err(HexFault::Digit) => unreachable!(),
+    let mut bytes = [0; ROOT_BYTES];
+    for at in 0..ROOT_BYTES {
+        bytes[at] = hex_value(root[2 * at]) * 16 + hex_value(root[2 * at + 1]);
     }
+    bytes
 }
 
-// The same bytes, in place.
-fn copied(bytes: &[u8]) -> [u8; ROOT_BYTES]
-    requires { length bytes.now ≡ root_bytes }
-    ensures { result ≡ bytes.now }
+/// The value of a hex digit.
+fn hex_value(digit: u8) -> u8
+    requires { is_hex_digit digit ≡ true }
+    ensures value { hex_value digit ≡ Some result }
+    ensures small { result < 16 }
 {
-    let mut copy = [0; ROOT_BYTES];
-    copy.copy_from_slice(bytes);
-    copy
+    match digit {
+        b'0'..=b'9' => digit - b'0',
+        b'A'..=b'F' => digit - b'A' + 10,
+        _ => digit - b'a' + 10,
+    }
 }
