@@ -5,7 +5,6 @@ use Rattle.dg_base.specs.declared.answers.Status.TheVariants as statuses
 use Rattle.dg_outside.specs.Outside.{Outside}
 use Rattle.dg_tool.specs.Rules.{FormatDone, InjectDone}
 use Rattle.dg_chain_tool.specs.Done.{ReceiveDone}
-use Rattle.dg_trial.specs.AroundTrial.{AroundTrial}
 use Rattle.dg_trial.specs.Trials.{TrialEnds}
 use Rattle.dg_command.specs.Asking.{Asking, said_by, asking}
 use Rattle.dg_command.specs.declared.command.Asked.{Asked}
@@ -33,7 +32,7 @@ check_said image digits root s a b e h = subst (λ (r : List ℕ). Checked image
 
 -- ---- a trial speaks of no link
 
-pub no_link_of_a_trial : (s : Status) (motes pages seed : ℕ) (a b : AroundTrial) → TrialEnds s motes pages seed a b → s ≡ statuses.LinkFault → ⊥
+pub no_link_of_a_trial : (s : Status) (motes pages seed : ℕ) (a b : Outside) → TrialEnds s motes pages seed a b → s ≡ statuses.LinkFault → ⊥
 no_link_of_a_trial s motes pages seed a b h e = subst (λ (x : Status). TrialEnds x motes pages seed a b) e h
 
 -- ---- what was asked for

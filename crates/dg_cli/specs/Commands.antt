@@ -17,7 +17,6 @@ use Rattle.dg_serve.specs.Served.{Began}
 use Rattle.dg_serve.specs.Traces.{IsScript, trace, trace_lines}
 use Rattle.dg_serve.specs.Promised.{KeepsRules, ReplaysTo}
 use Rattle.dg_serve.specs.Networks.{NetworkServed, around_service}
-use Rattle.dg_trial.specs.AroundTrial.{around_trial}
 use Rattle.dg_trial.specs.Trials.{TrialEnds}
 use Rattle.dg_drip_run.specs.Dripped.{Dripped, played}
 use Rattle.dg_drip_run.specs.Causes.{DripEnds}
@@ -58,7 +57,7 @@ pub record ServeDone (turns seed : ℕ) (status : Status) (a b : Outside) : Type
 abbrev pub TrialDone : (motes pages seed : ℕ) → Status → Outside → Outside → Type 0
 TrialDone motes pages seed status a b =
     (b.input ≡ a.input)
-    × TrialEnds status motes pages seed (around_trial a.output.written a.boards) (around_trial b.output.written b.boards)
+    × TrialEnds status motes pages seed a b
     × (status ≡ WriteFault → Rose a.output.writes b.output.writes) × (status ≢ WriteFault → b.output.writes ≡ a.output.writes)
 
 -- ---- nodes

@@ -25,8 +25,8 @@ use Rattle.dg_rules.specs.World.{World, Site, first_world, off_site, no_site}
 use Rattle.dg_world.specs.Worlds.{IsWorld}
 use Rattle.dg_world.specs.declared.world.World.{World as KeptWorld}
 use Rattle.dg_world.specs.Boards.{WorldStands}
-use Rattle.dg_trial.specs.Playing.{golden, chip, first, MayPlay}
-use Rattle.dg_trial.specs.Schedule.{always, line, resets, opening, disturbances}
+use Rattle.dg_trial.specs.Playing.{golden, chip, first, MayPlayParts}
+use Rattle.dg_trial.specs.Schedule.{always, line_links, resets, opening, disturbances}
 use Rattle.dg_trial.proofs.FitLemmas.{few_events, schedule_fits}
 use Rattle.dg_trial.specs.Trials.{Formatted}
 
@@ -79,7 +79,7 @@ first_keeps motes row m within =
 
 -- the schedule may be played from there
 pub first_may : (motes sweeps : ℕ) (row : Row) (g : Lcg) → 2 ≤ motes → motes ≤ 16 → sweeps ≤ 79
-    → MayPlay motes (first motes row) (opening motes ++ (disturbances motes (100 * motes) g ++ map always (resets motes ++ times sweeps (sweep (line motes)))))
+    → MayPlayParts motes (first motes row) (opening motes ++ (disturbances motes (100 * motes) g ++ map always (resets motes ++ times sweeps (sweep (line_links motes)))))
 first_may motes sweeps row g some few s =
     record {
       keeps = first_keeps motes row;
@@ -91,21 +91,21 @@ first_may motes sweeps row g some few s =
 
 -- ---- how it is made
 
-pub line_begun : (items : List (ℕ × ℕ)) (motes far : ℕ) → items ≡ [] → 1 ≤ motes → far ≡ motes - 1 → items ++ line (far + 1) ≡ line motes
+pub line_begun : (items : List (ℕ × ℕ)) (motes far : ℕ) → items ≡ [] → 1 ≤ motes → far ≡ motes - 1 → items ++ line_links (far + 1) ≡ line_links motes
 line_begun items motes far none some e =
     let n : far + 1 ≡ motes = omega (arith, e, some) in
-    ap (λ (ls : List (ℕ × ℕ)). ls ++ line (far + 1)) none ∙ ap line n
+    ap (λ (ls : List (ℕ × ℕ)). ls ++ line_links (far + 1)) none ∙ ap line_links n
 
-pub line_more : (items more : List (ℕ × ℕ)) (motes far next : ℕ) → more ≡ items ++ (far - 1, far) ∷ [] → 0 < far → next ≡ far - 1 → items ++ line (far + 1) ≡ line motes → more ++ line (next + 1) ≡ line motes
+pub line_more : (items more : List (ℕ × ℕ)) (motes far next : ℕ) → more ≡ items ++ (far - 1, far) ∷ [] → 0 < far → next ≡ far - 1 → items ++ line_links (far + 1) ≡ line_links motes → more ++ line_links (next + 1) ≡ line_links motes
 line_more items more motes far next e some n h =
     let k : next + 1 ≡ far = omega (arith, n, some) in
-    ap (λ (ls : List (ℕ × ℕ)). ls ++ line (next + 1)) e ∙ ap (λ (m : ℕ). (items ++ (far - 1, far) ∷ []) ++ line m) k ∙ append_assoc items ((far - 1, far) ∷ []) (line far)
+    ap (λ (ls : List (ℕ × ℕ)). ls ++ line_links (next + 1)) e ∙ ap (λ (m : ℕ). (items ++ (far - 1, far) ∷ []) ++ line_links m) k ∙ append_assoc items ((far - 1, far) ∷ []) (line_links far)
     ∙ ap (λ (ls : List (ℕ × ℕ)). items ++ ls) (sym (line_at far some)) ∙ h
 
-pub line_done : (items : List (ℕ × ℕ)) (motes far : ℕ) → far ≤ 0 → items ++ line (far + 1) ≡ line motes → items ≡ line motes
+pub line_done : (items : List (ℕ × ℕ)) (motes far : ℕ) → far ≤ 0 → items ++ line_links (far + 1) ≡ line_links motes → items ≡ line_links motes
 line_done items motes far end h =
     let e : far + 1 ≡ 1 = omega (arith, end) in
-    sym (append-nil items) ∙ ap (λ (ls : List (ℕ × ℕ)). items ++ ls) (sym (ap line e ∙ line_none)) ∙ h
+    sym (append-nil items) ∙ ap (λ (ls : List (ℕ × ℕ)). items ++ ls) (sym (ap line_links e ∙ line_none)) ∙ h
 
 -- one row is declared
 pub declared_first : (w : World) (row : Row) → w.declared ≡ [] → declared_as (row_at w.declared row.image row.version) w row ≡ record w { declared = row ∷ [] }
@@ -134,8 +134,8 @@ row_is name content made n pages seed word named is size =
 pub linked_first : (motes : ℕ) (v : KeptWorld) → ((boards : List Device) (stores : List Store) (table : List Row) → length stores ≡ motes → motes ≤ length boards
     → ((m : ℕ) (d : Device) → m < motes → slice_get boards m ≡ Some d → Stands d.image (slice_index_or stores m no_site.store)) → IsWorld v boards (first_world table [] none_narrow stores))
     → (boards : List Device) → motes ≤ length boards → ((m : ℕ) (d : Device) → m < motes → slice_get boards m ≡ Some d → Stands d.image chip) → IsWorld v boards (first_world (golden ∷ []) [] none_narrow (replicate motes chip))
-linked_first motes v begins boards enough stands =
-    begins boards (replicate motes chip) (golden ∷ []) (length-replicate motes chip) enough
+linked_first motes v trial_start boards enough stands =
+    trial_start boards (replicate motes chip) (golden ∷ []) (length-replicate motes chip) enough
     (λ m d within is. subst (λ (x : Store). Stands d.image x) (sym (get_or-replicate motes m chip no_site.store within)) (stands m d within is))
 
 pub links_more : (motes i : ℕ) (v : KeptWorld) (boards : List Device) (links : List (ℕ × ℕ)) (l : ℕ × ℕ) → take (i + 1) links ≡ take i links ++ l ∷ []

@@ -1,9 +1,9 @@
 -- How a trial ends.
-use Rattle.std.proofs.Common.{◌≡◌, ◌≢◌, ◌⊎◌, inl, inr, ⊎_elim, ℕ, ◌+◌, ◌-◌, ◌*◌, ◌<◌, ◌≤◌, List, [], ◌∷◌, ◌++◌, codes, length, refl, ap, sym, subst, ◌∙◌, append_assoc, arith}
-use Rattle.std.specs.Prelude.{Option, Ok}
+use Rattle.std.proofs.Common.{◌≡◌, ◌≢◌, ◌⊎◌, inl, inr, ⊎_elim, ℕ, ◌+◌, ◌-◌, ◌*◌, ◌≤◌, List, [], ◌∷◌, ◌++◌, codes, length, ap, sym, subst, ◌∙◌, append_assoc, arith}
+use Rattle.std.specs.Prelude.{Option, Some, None, Result, Ok, Err, IfOk, OnErr}
 use Rattle.std.specs.Fmt.{decimal}
 use Rattle.dg_words.specs.Counts.{Rose}
-use Rattle.dg_base.specs.Outside.{Puts, PutsFront}
+use Rattle.dg_base.specs.Outside.{Puts}
 use Rattle.dg_base.specs.declared.answers.Status.{Status}
 use Rattle.dg_base.specs.declared.answers.Status.TheVariants as status
 use Rattle.dg_nor.specs.Device.{Device}
@@ -12,35 +12,48 @@ use Rattle.dg_rules.specs.Sizes.{most_motes}
 use Rattle.dg_rules.specs.World.{World}
 use Rattle.dg_seed.specs.Draws.{first_generator}
 use Rattle.rand_pcg.specs.Pcg.{pcg32}
-use Rattle.dg_trial.specs.AroundTrial.{around_trial}
-use Rattle.dg_trial.specs.Trials.{summary_line, no_board_line, trial_text, begins, wholes, TrialRun, WholeLaw, LineEnds, TellsWhole, TrialComplete, TrialEnds, TrialOutcome, TrialPlayed, TellsTrial, Unplayed}
+use Rattle.dg_trial.specs.Trials.{summary_line, no_board_line, trial_text, trial_start, wholes, TrialRun, WholeLaw, TellsWhole, TrialComplete, TrialEnds, TrialPlayed, Unplayed}
+use Rattle.dg_trial.specs.inner.Outcomes.{TrialOutcome, TellsTrial, TrialComesTo}
+use Rattle.dg_outside.specs.Outside.{Outside, OutputState}
+use Rattle.dg_end.specs.Lines.{Outcome, text_outcome, outcome_status, outcome_line}
+use Rattle.dg_end.specs.Writes.{WritesLast, WritesAnswer}
+use Rattle.dg_end.specs.declared.ends.End.{End}
+use Rattle.dg_end.specs.declared.ends.End.TheVariants as ends
 use Rattle.dg_trial.proofs.FitLemmas.{length-schedule}
 use Rattle.dg_trial.proofs.RunLemmas.{leads_events}
 use Rattle.dg_trial.proofs.TrialLemmas.{read_unread}
 use Rattle.dg_trial.specs.declared.summary.Summary.{Summary}
 
-pub line_ended : (r s : Status) (written line : List ℕ) (before after : Option (List ℕ)) (fb fa : ℕ) → written ≡ line
-    → ((r ≡ s) × Puts before after written × (fa ≡ fb)) ⊎ ((r ≡ status.WriteFault) × PutsFront before after written × Rose fb fa) → LineEnds r s line before after fb fa
-line_ended r s written line before after fb fa e h =
-    subst (λ (t : List ℕ). LineEnds r s t before after fb fa) e (⊎_elim (λ a. inl a) (λ b. inr (inl b)) h)
+-- ---- the last write
 
-pub line_cause : (r s : Status) (line : List ℕ) (before after : Option (List ℕ)) (fb fa : ℕ) → s ≢ status.WriteFault → LineEnds r s line before after fb fa → r ≡ status.WriteFault → Rose fb fa
-line_cause r s line before after fb fa other h is =
-    ⊎_elim (λ a. absurd (other (sym a.0 ∙ is))) (λ x. ⊎_elim (λ b. b.2) (λ c. absurd (differ (sym c.0 ∙ is))) x) h
+last_cause : (r wanted : Status) (line : Option (List ℕ)) (a b : OutputState) → wanted ≢ status.WriteFault → WritesLast r wanted line a b → r ≡ status.WriteFault → Rose a.writes b.writes
+last_cause r wanted None a b other h is = absurd (other (sym h.0 ∙ is))
+last_cause r wanted (Some text) a b other h is =
+    ⊎_elim (λ d. absurd (other (sym d.0 ∙ is))) (λ x. ⊎_elim (λ w. w.2) (λ m. absurd (differ (sym m.0 ∙ is))) x) h
   where
     differ : status.Memory ≡ status.WriteFault → ⊥
     differ e = cc
 
-pub line_unfailed : (r s : Status) (line : List ℕ) (before after : Option (List ℕ)) (fb fa : ℕ) → LineEnds r s line before after fb fa → r ≢ status.WriteFault → fa ≡ fb
-line_unfailed r s line before after fb fa h other = ⊎_elim (λ a. a.2) (λ x. ⊎_elim (λ b. absurd (other b.0)) (λ c. c.2) x) h
+last_unfailed : (r wanted : Status) (line : Option (List ℕ)) (a b : OutputState) → WritesLast r wanted line a b → r ≢ status.WriteFault → b.writes ≡ a.writes
+last_unfailed r wanted None a b h other = ap (λ (o : OutputState). o.writes) h.1
+last_unfailed r wanted (Some text) a b h other =
+    ⊎_elim (λ d. d.2) (λ x. ⊎_elim (λ w. absurd (other w.0)) (λ m. ap (λ (o : OutputState). o.writes) m.1) x) h
 
-pub boards_missing : (r : Status) (motes pages seed : ℕ) (before after : Option (List ℕ)) (fb fa n : ℕ) (old : List Device) → n ≡ length old → n < motes → LineEnds r status.NoBoard (no_board_line motes n) before after fb fa → TrialEnds r motes pages seed (around_trial before old) (around_trial after old)
-boards_missing r motes pages seed before after fb fa n old count few h =
-    let low : length old < motes = subst (λ (k : ℕ). k < motes) count few in
-    let E : Status → Type 0 = λ s. TrialEnds s motes pages seed (around_trial before old) (around_trial after old) in
-    let at = subst (λ (k : ℕ). LineEnds r status.NoBoard (no_board_line motes k) before after fb fa) count h in
-    ⊎_elim (λ a. subst E (sym a.0) (record { missing = low; same = refl }, a.1))
-    (λ x. ⊎_elim (λ b. subst E (sym b.0) (inr (record { missing = low; same = refl }, b.1))) (λ c. subst E (sym c.0) (inl refl, c.1)) x) at
+-- no trial comes to a write that failed
+writes_last : (outcome : Outcome) (motes pages seed : ℕ) (old new : List Device) → TrialComesTo outcome motes pages seed old new → outcome_status outcome ≢ status.WriteFault
+writes_last (Ok text) motes pages seed old new comes is = cc
+writes_last (Err ends.Memory) motes pages seed old new comes is = cc
+writes_last (Err ends.FlashFault) motes pages seed old new comes is = cc
+writes_last (Err (ends.NoBoard need have)) motes pages seed old new comes is = cc
+writes_last (Err end) motes pages seed old new comes is = absurd comes
+
+pub trial_cause : (r : Status) (outcome : Outcome) (motes pages seed : ℕ) (a b : OutputState) (old new : List Device) → TrialComesTo outcome motes pages seed old new → WritesAnswer r outcome a b → r ≡ status.WriteFault → Rose a.writes b.writes
+trial_cause r outcome motes pages seed a b old new comes h = last_cause r (outcome_status outcome) (outcome_line outcome) a b (writes_last outcome motes pages seed old new comes) h
+
+pub trial_unfailed : (r : Status) (outcome : Outcome) (a b : OutputState) → WritesAnswer r outcome a b → r ≢ status.WriteFault → b.writes ≡ a.writes
+trial_unfailed r outcome a b h = last_unfailed r (outcome_status outcome) (outcome_line outcome) a b h
+
+-- ---- what it comes to
 
 told_is : (motes pages seed : ℕ) (old new : List Device) (s : Summary) (t : TrialPlayed motes pages seed old new) → TellsTrial motes pages seed t.last s → summary_line s.motes s.pages s.sweeps s.events s.whole ≡ trial_text motes pages seed t.last
 told_is motes pages seed old new s t h =
@@ -50,35 +63,70 @@ told_is motes pages seed old new s t h =
 unread : (motes pages seed : ℕ) (old new : List Device) → TrialPlayed motes pages seed old new → Unplayed motes pages seed old new
 unread motes pages seed old new t = read_unread motes pages seed t.last old new t.run t.boards
 
-pub trial_told : WholeLaw → (r : Status) (motes pages seed : ℕ) (before after : Option (List ℕ)) (fb fa : ℕ) (old new : List Device) (s : Summary) → 2 ≤ motes → motes ≤ most_motes → 2 ≤ pages → pages ≤ 65 → motes ≤ length old → TrialOutcome (Ok s) motes pages seed old new
-    → LineEnds r status.Done (summary_line s.motes s.pages s.sweeps s.events s.whole) before after fb fa → TrialEnds r motes pages seed (around_trial before old) (around_trial after new)
-trial_told law r motes pages seed before after fb fa old new s some few some_pages few_pages enough run h =
-    let all = law motes pages seed run.0.last some few some_pages few_pages run.0.run in
-    let E : Status → Type 0 = λ x. TrialEnds x motes pages seed (around_trial before old) (around_trial after new) in
-    let at = subst (λ (t : List ℕ). LineEnds r status.Done t before after fb fa) (told_is motes pages seed old new s run.0 run.1) h in
-    ⊎_elim (λ a. subst E (sym a.0) (record { boards = enough; played = run.0; kept = all.0; whole = all.1; written = a.1 }))
-    (λ x. ⊎_elim (λ b. subst E (sym b.0) (inl (record { boards = enough; played = run.0; written = b.1 })))
-    (λ c. subst E (sym c.0) (unread motes pages seed old new run.0, c.1)) x) at
+-- the line is made of what was played
+pub line_told : {T : Type 0} (view : T → List ℕ) (r : Result T End) (motes pages seed : ℕ) (old new : List Device) (s : Summary) → motes ≤ length old → TrialOutcome (Ok s) motes pages seed old new
+    → IfOk r (λ x. view x ≡ summary_line s.motes s.pages s.sweeps s.events s.whole) → OnErr r (r ≡ Err ends.Memory) → TrialComesTo (text_outcome view r) motes pages seed old new
+line_told view (Ok x) motes pages seed old new s enough run line none = (enough, (run.0, line ∙ told_is motes pages seed old new s run.0 run.1))
+line_told view (Err e) motes pages seed old new s enough run line none =
+    let same : e ≡ ends.Memory = cc in
+    subst (λ (x : End). TrialComesTo (Err x) motes pages seed old new) (sym same) (unread motes pages seed old new run.0)
+
+-- or it was not played to its end
+pub run_fails : (e : End) (motes pages seed : ℕ) (old new : List Device) → motes ≤ length old → TrialOutcome (Err e) motes pages seed old new → TrialComesTo (Err e) motes pages seed old new
+run_fails ends.Memory motes pages seed old new enough h = h
+run_fails ends.FlashFault motes pages seed old new enough h = (enough, h)
+run_fails end motes pages seed old new enough h = absurd h
+
+-- what a trial is lent, and the rest
+abbrev pub standing : OutputState → List Device → Outside → Outside
+standing output boards rest = record rest { output = output; boards = boards }
+
+-- where there is no rest
+abbrev pub alone : OutputState → Outside
+alone output = record { input = record { left = None; reads = 0 }; output = output; link = record { inboxes = None; failures = 0; port = None }; clock = None; boards = [] }
+
+-- what a trial came to is written, and gives the status
+pub trial_ends : WholeLaw → (r : Status) (outcome : Outcome) (motes pages seed : ℕ) (a b : OutputState) (old new : List Device) (rest : Outside) → 2 ≤ motes → motes ≤ most_motes → 2 ≤ pages → pages ≤ 65 → TrialComesTo outcome motes pages seed old new
+    → WritesAnswer r outcome a b → TrialEnds r motes pages seed (standing a old rest) (standing b new rest)
+trial_ends law r (Ok text) motes pages seed a b old new rest some few some_pages few_pages comes h =
+    let t = comes.1.0 in
+    let all = law motes pages seed t.last some few some_pages few_pages t.run in
+    let E : Status → Type 0 = λ x. TrialEnds x motes pages seed (standing a old rest) (standing b new rest) in
+    let at = subst (λ (l : List ℕ). WritesLast r status.Done (Some l) a b) comes.1.1 h in
+    ⊎_elim (λ d. subst E (sym d.0) (record { boards = comes.0; played = t; kept = all.0; whole = all.1; written = d.1 }))
+    (λ x. ⊎_elim (λ w. subst E (sym w.0) (inl (record { boards = comes.0; played = t; written = w.1 })))
+    (λ m. subst E (sym m.0) (unread motes pages seed old new t, ap (λ (o : OutputState). o.written) m.1)) x) at
+trial_ends law r (Err ends.Memory) motes pages seed a b old new rest some few some_pages few_pages comes h =
+    subst (λ (x : Status). TrialEnds x motes pages seed (standing a old rest) (standing b new rest)) (sym h.0) (comes, ap (λ (o : OutputState). o.written) h.1)
+trial_ends law r (Err ends.FlashFault) motes pages seed a b old new rest some few some_pages few_pages comes h =
+    subst (λ (x : Status). TrialEnds x motes pages seed (standing a old rest) (standing b new rest)) (sym h.0) (comes.0, comes.1, ap (λ (o : OutputState). o.written) h.1)
+trial_ends law r (Err (ends.NoBoard need have)) motes pages seed a b old new rest some few some_pages few_pages comes h =
+    let E : Status → Type 0 = λ x. TrialEnds x motes pages seed (standing a old rest) (standing b new rest) in
+    let first = subst (λ (n : ℕ). WritesLast r status.NoBoard (Some (no_board_line n have)) a b) comes.1 h in
+    let at = subst (λ (n : ℕ). WritesLast r status.NoBoard (Some (no_board_line motes n)) a b) comes.2 first in
+    ⊎_elim (λ d. subst E (sym d.0) (comes.0, d.1))
+    (λ x. ⊎_elim (λ w. subst E (sym w.0) (inr (comes.0, w.1))) (λ m. subst E (sym m.0) (inl comes.0.same, ap (λ (o : OutputState). o.written) m.1)) x) at
+trial_ends law r (Err end) motes pages seed a b old new rest some few some_pages few_pages comes h = absurd comes
 
 -- a whole schedule has as many events as its motes and pages say
 pub counts_events : (motes pages seed : ℕ) (v : World) → 1 ≤ motes → TrialRun motes pages seed v → v.events ≡ event_count motes pages
 counts_events motes pages seed v some run =
     let s = sweep_count motes pages in
-    let played : v.events ≡ 0 + length (schedule motes pages seed) = leads_events (begins motes pages seed) v (schedule motes pages seed) run in
+    let played : v.events ≡ 0 + length (schedule motes pages seed) = leads_events (trial_start motes pages seed) v (schedule motes pages seed) run in
     let count = length-schedule motes (100 * motes) s (pcg32 (first_generator seed)).1 some in
     let links : 404 * (motes - 1) ≡ 2 * (motes - 1) * 202 = omega arith in
     let sweeps : s * (404 * (motes - 1)) ≡ s * (2 * (motes - 1) * 202) = ap (λ (n : ℕ). s * n) links in
     omega (arith, played, count, sweeps)
 
 -- where it was played and told, the line says that every mote keeps the image whole
-pub tells_whole : (r : Status) (motes pages seed : ℕ) (before after : Option (List ℕ)) (old new : List Device) → 1 ≤ motes → TrialEnds r motes pages seed (around_trial before old) (around_trial after new) → r ≡ status.Done → TellsWhole motes pages before after
-tells_whole r motes pages seed before after old new some ends is =
-    let d : TrialComplete motes pages seed (around_trial before old) (around_trial after new) = subst (λ (s : Status). TrialEnds s motes pages seed (around_trial before old) (around_trial after new)) is ends in
+pub tells_whole : (r : Status) (motes pages seed : ℕ) (a b : OutputState) (old new : List Device) (rest : Outside) → 1 ≤ motes → TrialEnds r motes pages seed (standing a old rest) (standing b new rest) → r ≡ status.Done → TellsWhole motes pages a.written b.written
+tells_whole r motes pages seed a b old new rest some told is =
+    let d : TrialComplete motes pages seed (standing a old rest) (standing b new rest) = subst (λ (s : Status). TrialEnds s motes pages seed (standing a old rest) (standing b new rest)) is told in
     let w = d.played.last in
     let text : ℕ → ℕ → List ℕ = λ events whole. summary_line motes pages (sweep_count motes pages) events whole in
-    let counted : Puts before after (text (event_count motes pages) (wholes (row_of_seed pages seed) w)) =
-    subst (λ (n : ℕ). Puts before after (text n (wholes (row_of_seed pages seed) w))) (counts_events motes pages seed w some d.played.run) d.written in
-    subst (λ (n : ℕ). Puts before after (text (event_count motes pages) n)) d.whole counted
+    let counted : Puts a.written b.written (text (event_count motes pages) (wholes (row_of_seed pages seed) w)) =
+    subst (λ (n : ℕ). Puts a.written b.written (text n (wholes (row_of_seed pages seed) w))) (counts_events motes pages seed w some d.played.run) d.written in
+    subst (λ (n : ℕ). Puts a.written b.written (text (event_count motes pages) n)) d.whole counted
 
 pub summary_text : (t0 t1 t2 t3 t4 t5 t6 : List ℕ) (a b c d e m p s v w : ℕ) → t1 ≡ t0 ++ (codes "trial motes " ++ decimal a) → t2 ≡ t1 ++ (codes " pages " ++ decimal b) → t3 ≡ t2 ++ (codes " sweeps " ++ decimal c) → t4 ≡ t3 ++ (codes " events " ++ decimal d)
     → t5 ≡ t4 ++ (codes " whole " ++ decimal e) → t6 ≡ t5 ++ 10 ∷ [] → a ≡ m → b ≡ p → c ≡ s → d ≡ v → e ≡ w → t6 ≡ t0 ++ summary_line m p s v w

@@ -12,7 +12,7 @@ use Rattle.dg_rounds.specs.Rounds.{times, sweep, round, paced, passed}
 use Rattle.dg_script.specs.Ranges.{AreTwo, EventInRange, StepInRange}
 use Rattle.dg_rules.specs.Premises.{LinkFits}
 use Rattle.dg_completion.proofs.GrowLemmas.{all_append, all_replicate, all_times}
-use Rattle.dg_trial.specs.Schedule.{Part, always, line, resets, beside, cut_reset, disturbed_at, disturbances, opening}
+use Rattle.dg_trial.specs.Schedule.{SchedulePart, always, line_links, resets, beside, cut_reset, disturbed_at, disturbances, opening}
 use Rattle.dg_trial.specs.Playing.{PartFits}
 use Rattle.dg_world.specs.Alone.{uncut}
 
@@ -70,8 +70,8 @@ disturbances_fit motes (suc n) g some =
     (λ sent. disturbed_fits motes (a.0 % motes) (a.0 / 65536 % 8) b.0 c.0 sent some (mod_low a.0 motes some), disturbances_fit motes n c.1 some)
 
 -- the links of a line
-pub line_fits : (motes n : ℕ) → n ≤ motes → AllByRecursion (LinkFits motes) (line n)
-unfolding line
+pub line_fits : (motes n : ℕ) → n ≤ motes → AllByRecursion (LinkFits motes) (line_links n)
+unfolding line_links
 line_fits motes zero h = tt
 line_fits motes (suc zero) h = tt
 line_fits motes (suc (suc n)) h = (record { first = omega arith; second = omega arith; two = λ e. let x : n ≡ n + 1 = e in omega (arith, x) }, line_fits motes (suc n) (omega arith))
@@ -101,16 +101,16 @@ sweep_fits motes (l ∷ links) a =
     all_append P (round l.0 l.1) (round l.1 l.0 ++ sweep links) (round_fits motes l.0 l.1 a.0)
     (all_append P (round l.1 l.0) (sweep links) (round_fits motes l.1 l.0 (turned motes l.0 l.1 a.0)) (sweep_fits motes links a.1))
 
-pub schedule_fits : (motes n sweeps : ℕ) (g : Lcg) → 2 ≤ motes → AllByRecursion (PartFits motes) (opening motes ++ (disturbances motes n g ++ map always (resets motes ++ times sweeps (sweep (line motes)))))
+pub schedule_fits : (motes n sweeps : ℕ) (g : Lcg) → 2 ≤ motes → AllByRecursion (PartFits motes) (opening motes ++ (disturbances motes n g ++ map always (resets motes ++ times sweeps (sweep (line_links motes)))))
 schedule_fits motes n sweeps g some =
-    let P : Part → Type 0 = PartFits motes in
+    let P : SchedulePart → Type 0 = PartFits motes in
     let first : 0 < motes = omega arith in
     let all : motes ≤ motes = omega arith in
-    let rest : List Event = resets motes ++ times sweeps (sweep (line motes)) in
+    let rest : List Event = resets motes ++ times sweeps (sweep (line_links motes)) in
     all_append P (opening motes) (disturbances motes n g ++ map always rest)
     (all_append P (map always (resets motes)) (always (Inject 0 1 1 0 0) ∷ []) (always_fit motes (resets motes) (resets_fit motes motes all)) (λ sent. uncut_fits motes (Inject 0 1 1 0 0) (first, record { image = omega arith; version = omega arith }), tt))
     (all_append P (disturbances motes n g) (map always rest) (disturbances_fit motes n g some)
-    (always_fit motes rest (all_append (EventInRange motes) (resets motes) (times sweeps (sweep (line motes))) (resets_fit motes motes all) (all_times (EventInRange motes) sweeps (sweep (line motes)) (sweep_fits motes (line motes) (line_fits motes motes all))))))
+    (always_fit motes rest (all_append (EventInRange motes) (resets motes) (times sweeps (sweep (line_links motes))) (resets_fit motes motes all) (all_times (EventInRange motes) sweeps (sweep (line_links motes)) (sweep_fits motes (line_links motes) (line_fits motes motes all))))))
 
 -- ---- how many they are
 
@@ -140,8 +140,8 @@ length-sweep (l ∷ links) =
     let e : length (sweep links) ≡ 404 * length links = length-sweep links in
     omega (arith, length-append (round l.0 l.1) (round l.1 l.0 ++ sweep links), length-append (round l.1 l.0) (sweep links), length-round l.0 l.1, length-round l.1 l.0, e)
 
-pub length-line : (n : ℕ) → 1 ≤ n → length (line n) + 1 ≡ n
-unfolding line
+pub length-line : (n : ℕ) → 1 ≤ n → length (line_links n) + 1 ≡ n
+unfolding line_links
 length-line zero h = absurd (omega arith)
 length-line (suc zero) h = refl
 length-line (suc (suc n)) h = let e = length-line (suc n) (omega arith) in omega (arith, e)
@@ -154,9 +154,9 @@ few_sweeps sweeps far a b =
 
 -- the events of a schedule: a reset of each mote at the beginning and at the end, the injection, the disturbances, and the rounds
 pub length-schedule : (motes n sweeps : ℕ) (g : Lcg) → 1 ≤ motes
-    → length (opening motes ++ (disturbances motes n g ++ map always (resets motes ++ times sweeps (sweep (line motes))))) ≡ 2 * motes + 1 + n + sweeps * (404 * (motes - 1))
+    → length (opening motes ++ (disturbances motes n g ++ map always (resets motes ++ times sweeps (sweep (line_links motes))))) ≡ 2 * motes + 1 + n + sweeps * (404 * (motes - 1))
 length-schedule motes n sweeps g some =
-    let es : List Event = times sweeps (sweep (line motes)) in
+    let es : List Event = times sweeps (sweep (line_links motes)) in
     let a = length-append (opening motes) (disturbances motes n g ++ map always (resets motes ++ es)) in
     let b = length-append (disturbances motes n g) (map always (resets motes ++ es)) in
     let c : length (map always (resets motes ++ es)) ≡ length (resets motes ++ es) = length-map (resets motes ++ es) always in
@@ -165,13 +165,13 @@ length-schedule motes n sweeps g some =
     let f : length (map always (resets motes)) ≡ length (resets motes) = length-map (resets motes) always in
     let h = length-resets motes in
     let i = length-disturbances motes n g in
-    let j = length-times sweeps (sweep (line motes)) in
-    let k : length (sweep (line motes)) ≡ 404 * (motes - 1) = length-sweep (line motes) ∙ ap (λ (x : ℕ). 404 * x) (let l = length-line motes some in let m : length (line motes) ≡ motes - 1 = omega (arith, l) in m) in
-    let o : sweeps * length (sweep (line motes)) ≡ sweeps * (404 * (motes - 1)) = ap (λ (x : ℕ). sweeps * x) k in
+    let j = length-times sweeps (sweep (line_links motes)) in
+    let k : length (sweep (line_links motes)) ≡ 404 * (motes - 1) = length-sweep (line_links motes) ∙ ap (λ (x : ℕ). 404 * x) (let l = length-line motes some in let m : length (line_links motes) ≡ motes - 1 = omega (arith, l) in m) in
+    let o : sweeps * length (sweep (line_links motes)) ≡ sweeps * (404 * (motes - 1)) = ap (λ (x : ℕ). sweeps * x) k in
     omega (arith, a, b, c, d, e, f, h, i, j, o)
 
 pub few_events : (motes sweeps : ℕ) (g : Lcg) → 2 ≤ motes → motes ≤ 16 → sweeps ≤ 79
-    → length (opening motes ++ (disturbances motes (100 * motes) g ++ map always (resets motes ++ times sweeps (sweep (line motes))))) ≤ 1000000
+    → length (opening motes ++ (disturbances motes (100 * motes) g ++ map always (resets motes ++ times sweeps (sweep (line_links motes))))) ≤ 1000000
 few_events motes sweeps g some few s =
     let e = length-schedule motes (100 * motes) sweeps g (omega arith) in
     let b = few_sweeps sweeps (motes - 1) s (omega arith) in

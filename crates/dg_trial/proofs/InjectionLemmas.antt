@@ -34,7 +34,7 @@ use Rattle.dg_script.specs.Ranges.{IsDeclared}
 use Rattle.dg_rules.specs.Premises.{WorldAgrees, IsHonestThen, TrueEvent}
 use Rattle.dg_rules.proofs.SiteLemmas.{site_there, site_other, site_count}
 use Rattle.dg_completion.specs.Completion.{page_count, pages_kept}
-use Rattle.dg_trial.specs.Schedule.{line, size_by, row_by}
+use Rattle.dg_trial.specs.Schedule.{line_links, size_by, row_by}
 use Rattle.dg_trial.specs.Playing.{golden, chip, first}
 use Rattle.dg_trial.proofs.BeginLemmas.{golden_is}
 use Rattle.dg_trial.proofs.FitLemmas.{line_fits}
@@ -93,8 +93,8 @@ plays_none w = refl
 
 pub first_agrees : GoldenPlaysLaw → (motes : ℕ) (row : Row) → motes ≤ most_motes → IsDeclared row → WorldAgrees (first motes row)
 first_agrees law motes row few declared =
-    let w : World = first_world (golden ∷ []) (line motes) none_narrow (replicate motes chip) in
-    let a = (law (record { name = codes "base"; bytes = codes "A"; used = 0; motes = motes; links = line motes; narrow = none_narrow }) [] w (record { is_row = golden_is; plays = plays_none w; few = few; links_fit = line_fits motes motes (omega arith); ranges = tt }) tt).agrees in
+    let w : World = first_world (golden ∷ []) (line_links motes) none_narrow (replicate motes chip) in
+    let a = (law (record { name = codes "base"; bytes = codes "A"; used = 0; motes = motes; links = line_links motes; narrow = none_narrow }) [] w (record { is_row = golden_is; plays = plays_none w; few = few; links_fit = line_fits motes motes (omega arith); ranges = tt }) tt).agrees in
     record { few = a.few; table = a.table; rows = (declared, tt); links = a.links; sites = a.sites; sent = a.sent }
 
 -- ---- the injection

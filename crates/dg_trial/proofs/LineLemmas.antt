@@ -9,17 +9,17 @@ use Rattle.dg_rounds.specs.Ways.{Way, here, more}
 use Rattle.dg_rules.specs.Events.{mote_of}
 use Rattle.dg_completion.specs.Met.{most_commits, commits_at}
 use Rattle.dg_completion.proofs.GrowLemmas.{all_append, all_replicate, all_times}
-use Rattle.dg_trial.specs.Schedule.{line}
+use Rattle.dg_trial.specs.Schedule.{line_links}
 use Rattle.dg_trial.proofs.FitLemmas.{length-round}
 
 -- ---- ways
 
-line_contains : (n m : ℕ) → m + 1 < n → Contains (line n) (m, m + 1)
-unfolding line
+line_contains : (n m : ℕ) → m + 1 < n → Contains (line_links n) (m, m + 1)
+unfolding line_links
 line_contains zero m h = absurd (omega (arith, h))
 line_contains (suc zero) m h = absurd (omega (arith, h))
 line_contains (suc (suc n)) m h = elim (cases_eq n m) [
-  | inl is ↦ subst (λ (k : ℕ). Contains ((n, n + 1) ∷ line (suc n)) (k, k + 1)) is (0, omega arith, refl)
+  | inl is ↦ subst (λ (k : ℕ). Contains ((n, n + 1) ∷ line_links (suc n)) (k, k + 1)) is (0, omega arith, refl)
   | inr other ↦ let r = line_contains (suc n) m (low n m other h) in (suc r.0, omega (arith, r.1), r.2)
 ]
   where
@@ -30,11 +30,11 @@ line_contains (suc (suc n)) m h = elim (cases_eq n m) [
     ]
 
 -- each mote is as many links from the first one as its number says
-pub way_to : (n m : ℕ) → m < n → Way (line n) 0 m m
+pub way_to : (n m : ℕ) → m < n → Way (line_links n) 0 m m
 way_to n zero h = here
 way_to n (suc m) h =
     let e : m + 1 ≡ suc m = omega arith in
-    more m m (suc m) (way_to n m (omega (arith, h))) (inl (subst (λ (k : ℕ). Contains (line n) (m, k)) e (line_contains n m (omega (arith, h)))))
+    more m m (suc m) (way_to n m (omega (arith, h))) (inl (subst (λ (k : ℕ). Contains (line_links n) (m, k)) e (line_contains n m (omega (arith, h)))))
 
 -- ---- commits
 
@@ -87,17 +87,17 @@ link_none m a b es first second =
 
 -- at a mote of a line of n: none where it is no mote of it, those of one link at the last one, those of two links at any
 record LineSum (m n : ℕ) : Type 0 where
-  far : n ≤ m → sum_by (commits_at m) (sweep (line n)) ≡ 0
-  end : n ≤ m + 1 → sum_by (commits_at m) (sweep (line n)) ≤ 1212
-  all : sum_by (commits_at m) (sweep (line n)) ≤ 2424
+  far : n ≤ m → sum_by (commits_at m) (sweep (line_links n)) ≡ 0
+  end : n ≤ m + 1 → sum_by (commits_at m) (sweep (line_links n)) ≤ 1212
+  all : sum_by (commits_at m) (sweep (line_links n)) ≤ 2424
 
 line_sum : (m n : ℕ) → LineSum m n
-unfolding line sweep
+unfolding line_links sweep
 line_sum m zero = record { far = λ h. refl; end = λ h. omega arith; all = omega arith }
 line_sum m (suc zero) = record { far = λ h. refl; end = λ h. omega arith; all = omega arith }
 line_sum m (suc (suc n)) =
     let before = line_sum m (suc n) in
-    let es : List Event = sweep (line (suc n)) in
+    let es : List Event = sweep (line_links (suc n)) in
     let few = link_few m n (n + 1) es in
     record {
       far = λ h. link_none m n (n + 1) es (λ e. let f : n ≡ m = e in omega (arith, f, h)) (λ e. let f : n + 1 ≡ m = e in omega (arith, f, h)) ∙ before.far (omega (arith, h));
@@ -119,5 +119,5 @@ times_sum m (suc k) b es h =
     omega (arith, a, c, h)
 
 -- so many commits at a mote in so many sweeps
-pub sweeps_few : (m n k : ℕ) → sum_by (commits_at m) (times k (sweep (line n))) ≤ k * 2424
-sweeps_few m n k = times_sum m k 2424 (sweep (line n)) (line_sum m n).all
+pub sweeps_few : (m n k : ℕ) → sum_by (commits_at m) (times k (sweep (line_links n))) ≤ k * 2424
+sweeps_few m n k = times_sum m k 2424 (sweep (line_links n)) (line_sum m n).all

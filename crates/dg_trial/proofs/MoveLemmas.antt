@@ -22,7 +22,7 @@ use Rattle.dg_rules.proofs.SiteLemmas.{site_there, site_other, site_count}
 use Rattle.dg_completion.specs.Rests.{IsFree}
 use Rattle.dg_completion.specs.Completion.{FreeLaw, IsOn, newest, pages_kept}
 use Rattle.dg_completion.specs.Met.{SpendLaw}
-use Rattle.dg_trial.specs.Schedule.{Part, always, resets}
+use Rattle.dg_trial.specs.Schedule.{SchedulePart, always, resets}
 use Rattle.dg_trial.specs.Playing.{LeadsTo, PartFits}
 use Rattle.dg_trial.proofs.RunLemmas.{leads_apart}
 use Rattle.dg_trial.proofs.ScheduleLemmas.{resets_more}
@@ -120,7 +120,7 @@ IsReset x = (m dt word : ℕ) × (x.event ≡ Reset m dt word)
 abbrev pub Shakes : Step → Type 0
 Shakes x = (IsFree x.event × (x.cut ≡ None)) ⊎ IsReset x
 
-abbrev pub PartShakes : Part → Type 0
+abbrev pub PartShakes : SchedulePart → Type 0
 PartShakes p = (sent : ℕ) → Shakes (p sent)
 
 reset_within : (n : ℕ) (e : Event) (m dt word : ℕ) → e ≡ Reset m dt word → EventInRange n e → m < n
@@ -150,7 +150,7 @@ module _ (laws : Laws) where
       (laws.agrees w v x reports good fits (true_reset w x.event r.0 r.1 r.2 r.3) did))
       shakes
 
-  pub run_moves : (motes : ℕ) (ps : List Part) (w v : World) → length w.sites ≡ motes → WorldAgrees w → AllByRecursion (PartFits motes) ps → AllByRecursion PartShakes ps → LeadsTo w ps v → Moves (5 * length ps) w v
+  pub run_moves : (motes : ℕ) (ps : List SchedulePart) (w v : World) → length w.sites ≡ motes → WorldAgrees w → AllByRecursion (PartFits motes) ps → AllByRecursion PartShakes ps → LeadsTo w ps v → Moves (5 * length ps) w v
   unfolding LeadsTo
   run_moves motes [] w v count good fits shake run = moves_none (5 * 0) w v good run
   run_moves motes (p ∷ ps) w v count good fits shake run =
@@ -198,5 +198,5 @@ module _ (laws : Laws) where
   resets_run (suc n) w v within good run =
       let e : suc n ≡ n + 1 = omega arith in
       let parts : map always (resets (suc n)) ≡ map always (resets n) ++ always (Reset n 0 0) ∷ [] = ap (λ (k : ℕ). map always (resets k)) e ∙ ap (map always) (resets_more n) ∙ map-append always (resets n) (Reset n 0 0 ∷ []) in
-      let two = leads_apart w v (map always (resets n)) (always (Reset n 0 0) ∷ []) (subst (λ (ps : List Part). LeadsTo w ps v) parts run) in
+      let two = leads_apart w v (map always (resets n)) (always (Reset n 0 0) ∷ []) (subst (λ (ps : List SchedulePart). LeadsTo w ps v) parts run) in
       subst (λ (k : ℕ). ResetRun k w v) (sym e) (one_more n w two.0 v (omega (arith, within)) (resets_run n w two.0 (omega (arith, within)) good two.1) two.2)

@@ -22,7 +22,7 @@ use Rattle.dg_completion.specs.Completion.{Follows, FreeLaw, IsOn, newest, large
 use Rattle.dg_completion.specs.Holders.{KeepsWhole, WithinLaw, ReachesAll, AllReached, EnoughLaw}
 use Rattle.dg_completion.specs.Met.{SpendLaw, commits_at}
 use Rattle.dg_completion.proofs.GrowLemmas.{rounds_free}
-use Rattle.dg_trial.specs.Schedule.{always, line}
+use Rattle.dg_trial.specs.Schedule.{always, line_links}
 use Rattle.dg_trial.specs.Playing.{golden, LeadsTo}
 use Rattle.dg_trial.specs.Trials.{keeps_all}
 use Rattle.dg_trial.proofs.LineLemmas.{way_to, sweeps_few}
@@ -68,7 +68,7 @@ module _ (name bytes : List ℕ) where
       let base : Bool → Option Row = λ b. cond (b && (golden.version == v)) (Some golden) None in
       ap (λ (b : Bool). cond (b && (image.version == v)) (Some image) (base (golden.image == i))) not_image ∙ ap base not_golden
 
-  module _ (within_law : WithinLaw) (motes : ℕ) (w : World) (some : 2 ≤ motes) (count : length w.sites ≡ motes) (links : w.links ≡ line motes) (table : w.table ≡ rows)
+  module _ (within_law : WithinLaw) (motes : ℕ) (w : World) (some : 2 ≤ motes) (count : length w.sites ≡ motes) (links : w.links ≡ line_links motes) (table : w.table ≡ rows)
       (narrow : w.narrow ≡ none_narrow) (whole : page_count image ≤ pages_kept (store_at w 0) image) where
     keeps : KeepsWhole w image 0
     keeps = record { there = omega (arith, count, some); pages = whole }
@@ -126,13 +126,13 @@ module _ (name bytes : List ℕ) where
     -- ---- the rest
 
     module _ (enough_law : EnoughLaw) (complete : CompletionLaw) (free : FreeLaw) (spend : SpendLaw) (swept : (ls : List (ℕ × ℕ)) (n : ℕ) → IsRest ls n (times n (sweep ls)))
-        (good : WorldAgrees w) (on : (m : ℕ) → m < motes → IsOn w m) (k : ℕ) (many : page_count image + motes - 2 ≤ k) (v : World) (run : LeadsTo w (map always (times k (sweep (line motes)))) v)
+        (good : WorldAgrees w) (on : (m : ℕ) → m < motes → IsOn w m) (k : ℕ) (many : page_count image + motes - 2 ≤ k) (v : World) (run : LeadsTo w (map always (times k (sweep (line_links motes)))) v)
         (room : (m : ℕ) → m < motes → 3 + k * 2424 ≤ (store_at w m).room) where
       abbrev es : List Event
-      es = times k (sweep (line motes))
+      es = times k (sweep (line_links motes))
 
       rest : IsRest w.links k es
-      rest = subst (λ (ls : List (ℕ × ℕ)). IsRest ls k es) (sym links) (swept (line motes) k)
+      rest = subst (λ (ls : List (ℕ × ℕ)). IsRest ls k es) (sym links) (swept (line_links motes) k)
 
       all_wide : (m : ℕ) → m < length w.sites → wide_at w m ≡ true
       all_wide m h =

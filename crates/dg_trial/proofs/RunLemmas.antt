@@ -11,8 +11,8 @@ use Rattle.dg_script.specs.Ranges.{StepInRange}
 use Rattle.dg_rules.specs.Golden.{WorldKeepsGolden}
 use Rattle.dg_rules.specs.Steps.{WorldStep, StepDoes, Ended, blows, and_sent}
 use Rattle.dg_rules.proofs.SiteLemmas.{site_count}
-use Rattle.dg_trial.specs.Schedule.{Part}
-use Rattle.dg_trial.specs.Playing.{LeadsTo, MayPlay, PartFits, PartsGoOnLaw}
+use Rattle.dg_trial.specs.Schedule.{SchedulePart}
+use Rattle.dg_trial.specs.Playing.{LeadsTo, MayPlayParts, PartFits, PartsGoOnLaw}
 
 -- ---- one step
 
@@ -57,22 +57,22 @@ pub leads_none : (w : World) → LeadsTo w [] w
 unfolding LeadsTo
 leads_none w = refl
 
-pub leads_one : (w v : World) (p : Part) (reports : List Report) → WorldStep w (p (length w.sent)) v reports → LeadsTo w (p ∷ []) v
+pub leads_one : (w v : World) (p : SchedulePart) (reports : List Report) → WorldStep w (p (length w.sent)) v reports → LeadsTo w (p ∷ []) v
 unfolding LeadsTo
 leads_one w v p reports step = (v, reports, step, refl)
 
-pub leads_then : (w u v : World) (xs ys : List Part) → LeadsTo w xs u → LeadsTo u ys v → LeadsTo w (xs ++ ys) v
+pub leads_then : (w u v : World) (xs ys : List SchedulePart) → LeadsTo w xs u → LeadsTo u ys v → LeadsTo w (xs ++ ys) v
 unfolding LeadsTo
 leads_then w u v [] ys e f = subst (λ (z : World). LeadsTo z ys v) (sym e) f
 leads_then w u v (x ∷ xs) ys e f = (e.0, e.1, e.2, leads_then e.0 u v xs ys e.3 f)
 
-pub leads_apart : (w v : World) (xs ys : List Part) → LeadsTo w (xs ++ ys) v → (u : World) × LeadsTo w xs u × LeadsTo u ys v
+pub leads_apart : (w v : World) (xs ys : List SchedulePart) → LeadsTo w (xs ++ ys) v → (u : World) × LeadsTo w xs u × LeadsTo u ys v
 unfolding LeadsTo
 leads_apart w v [] ys f = (w, refl, f)
 leads_apart w v (x ∷ xs) ys f =
     let rest = leads_apart f.0 v xs ys f.3 in (rest.0, (f.0, f.1, f.2, rest.1), rest.2)
 
-pub leads_events : (w v : World) (xs : List Part) → LeadsTo w xs v → v.events ≡ w.events + length xs
+pub leads_events : (w v : World) (xs : List SchedulePart) → LeadsTo w xs v → v.events ≡ w.events + length xs
 unfolding LeadsTo
 leads_events w v [] e = let h : w.events ≡ v.events = ap (λ (z : World). z.events) e in omega (arith, h)
 leads_events w v (x ∷ xs) e =
@@ -88,7 +88,7 @@ GoldenLaw = (w v : World) (x : Step) (reports : List Report) → WorldKeepsGolde
 
 pub goes_on : GoldenLaw → PartsGoOnLaw
 unfolding LeadsTo
-goes_on law motes w v [] ys may e = subst (λ (z : World). MayPlay motes z ys) e may
+goes_on law motes w v [] ys may e = subst (λ (z : World). MayPlayParts motes z ys) e may
 goes_on law motes w v (x ∷ xs) ys may e =
     let here = step_counts w e.0 (x (length w.sent)) e.1 e.2 in
     goes_on law motes e.0 v xs ys
@@ -105,7 +105,7 @@ pub all_front : {A : Type 0} (P : A → Type 0) (xs ys : List A) → AllByRecurs
 all_front P [] ys a = tt
 all_front P (x ∷ xs) ys a = (a.0, all_front P xs ys a.1)
 
-pub may_front : (motes : ℕ) (w : World) (xs ys : List Part) → MayPlay motes w (xs ++ ys) → MayPlay motes w xs
+pub may_front : (motes : ℕ) (w : World) (xs ys : List SchedulePart) → MayPlayParts motes w (xs ++ ys) → MayPlayParts motes w xs
 may_front motes w xs ys may =
     record {
       keeps = may.keeps;
@@ -115,7 +115,7 @@ may_front motes w xs ys may =
       fits = all_front (PartFits motes) xs ys may.fits;
     }
 
-pub leads_sites : (w v : World) (xs : List Part) → LeadsTo w xs v → length v.sites ≡ length w.sites
+pub leads_sites : (w v : World) (xs : List SchedulePart) → LeadsTo w xs v → length v.sites ≡ length w.sites
 unfolding LeadsTo
 leads_sites w v [] e = ap (λ (z : World). length z.sites) (sym e)
 leads_sites w v (x ∷ xs) e = leads_sites e.0 v xs e.3 ∙ (step_counts w e.0 (x (length w.sent)) e.1 e.2).sites

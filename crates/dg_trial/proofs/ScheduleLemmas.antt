@@ -6,25 +6,25 @@ use Rattle.rand_pcg.specs.Pcg.{pcg32}
 use Rattle.dg_base.specs.declared.events.Event.{Event}
 use Rattle.dg_base.specs.declared.events.Event.TheVariants.{Reset}
 use Rattle.dg_rounds.specs.Rounds.{times}
-use Rattle.dg_trial.specs.Schedule.{Part, always, line, resets, disturbance, disturbances, drawn}
+use Rattle.dg_trial.specs.Schedule.{SchedulePart, always, line_links, resets, disturbance, disturbances, drawn}
 
 -- ---- the line
 
-pub line_none : line 1 ≡ []
-unfolding line
+pub line_none : line_links 1 ≡ []
+unfolding line_links
 line_none = refl
 
-line_from : (k : ℕ) → line (suc (suc k)) ≡ (k, k + 1) ∷ line (suc k)
-unfolding line
+line_from : (k : ℕ) → line_links (suc (suc k)) ≡ (k, k + 1) ∷ line_links (suc k)
+unfolding line_links
 line_from k = refl
 
-pub line_at : (far : ℕ) → 0 < far → line (far + 1) ≡ (far - 1, far) ∷ line far
+pub line_at : (far : ℕ) → 0 < far → line_links (far + 1) ≡ (far - 1, far) ∷ line_links far
 line_at zero h = absurd (omega arith)
 line_at (suc k) h =
     let e : suc k + 1 ≡ suc (suc k) = omega arith in
     let a : k ≡ suc k - 1 = omega arith in
     let b : k + 1 ≡ suc k = omega arith in
-    ap line e ∙ line_from k ∙ ap (λ (x : ℕ). (x, k + 1) ∷ line (suc k)) a ∙ ap (λ (y : ℕ). (suc k - 1, y) ∷ line (suc k)) b
+    ap line_links e ∙ line_from k ∙ ap (λ (x : ℕ). (x, k + 1) ∷ line_links (suc k)) a ∙ ap (λ (y : ℕ). (suc k - 1, y) ∷ line_links (suc k)) b
 
 -- ---- resets
 
@@ -66,7 +66,7 @@ disturbances_split motes (suc k) n g =
     let b = pcg32 a.1 in
     let c = pcg32 b.1 in
     let e : suc k + n ≡ suc (k + n) = omega arith in
-    ap (λ (m : ℕ). disturbances motes m g) e ∙ ap (λ (ps : List Part). disturbance motes a.0 b.0 c.0 ∷ ps) (disturbances_split motes k n c.1)
+    ap (λ (m : ℕ). disturbances motes m g) e ∙ ap (λ (ps : List SchedulePart). disturbance motes a.0 b.0 c.0 ∷ ps) (disturbances_split motes k n c.1)
 
 pub drawn_none : (g : Lcg) → drawn 0 g ≡ g
 unfolding drawn

@@ -20,7 +20,7 @@ use Rattle.dg_completion.specs.Rests.{IsRest}
 use Rattle.dg_completion.specs.Completion.{newest, page_count, pages_kept, CompletionLaw}
 use Rattle.dg_completion.specs.Holders.{WithinLaw, EnoughLaw}
 use Rattle.dg_seed.specs.Draws.{first_generator}
-use Rattle.dg_trial.specs.Schedule.{Part, always, line, resets, beside, cut_reset, disturbed_at, disturbances, opening, schedule, sweep_count, row_by, row_of_seed}
+use Rattle.dg_trial.specs.Schedule.{SchedulePart, always, line_links, resets, beside, cut_reset, disturbed_at, disturbances, opening, schedule, sweep_count, row_by, row_of_seed}
 use Rattle.dg_trial.specs.Playing.{golden, chip, first, LeadsTo}
 use Rattle.dg_trial.specs.Trials.{AllKeep, WholeLaw, wholes}
 use Rattle.dg_trial.proofs.RunLemmas.{leads_apart, leads_sites}
@@ -60,7 +60,7 @@ unfolding LeadsTo
 one_step w v e run = (run.1, subst (λ (z : World). WorldStep w (uncut e) z run.1) run.3 run.2)
 
 -- the worlds between the parts of a schedule
-record Parts (motes k : ℕ) (ds : List Part) (w v : World) : Type 0 where
+record Parts (motes k : ℕ) (ds : List SchedulePart) (w v : World) : Type 0 where
   begun : World
   injected : World
   shook : World
@@ -70,17 +70,17 @@ record Parts (motes k : ℕ) (ds : List Part) (w v : World) : Type 0 where
   injection : WorldStep begun (uncut (Inject 0 1 1 0 0)) injected reports
   disturbed : LeadsTo injected ds shook
   last_resets : LeadsTo shook (map always (resets motes)) again
-  sweeps : LeadsTo again (map always (times k (sweep (line motes)))) v
+  sweeps : LeadsTo again (map always (times k (sweep (line_links motes)))) v
 
-in_parts : (motes k : ℕ) (ds : List Part) (w v : World) → LeadsTo w (opening motes ++ (ds ++ map always (resets motes ++ times k (sweep (line motes))))) v → Parts motes k ds w v
+in_parts : (motes k : ℕ) (ds : List SchedulePart) (w v : World) → LeadsTo w (opening motes ++ (ds ++ map always (resets motes ++ times k (sweep (line_links motes))))) v → Parts motes k ds w v
 in_parts motes k ds w v run =
-    let rs : List Part = map always (resets motes) in
-    let es : List Part = map always (times k (sweep (line motes))) in
-    let rest : List Part = map always (resets motes ++ times k (sweep (line motes))) in
+    let rs : List SchedulePart = map always (resets motes) in
+    let es : List SchedulePart = map always (times k (sweep (line_links motes))) in
+    let rest : List SchedulePart = map always (resets motes ++ times k (sweep (line_links motes))) in
     let a = leads_apart w v (opening motes) (ds ++ rest) run in
     let b = leads_apart w a.0 rs (always (Inject 0 1 1 0 0) ∷ []) a.1 in
     let c = leads_apart a.0 v ds rest a.2 in
-    let d = leads_apart c.0 v rs es (subst (λ (ps : List Part). LeadsTo c.0 ps v) (map-append always (resets motes) (times k (sweep (line motes)))) c.2) in
+    let d = leads_apart c.0 v rs es (subst (λ (ps : List SchedulePart). LeadsTo c.0 ps v) (map-append always (resets motes) (times k (sweep (line_links motes)))) c.2) in
     let one = one_step b.0 a.0 (Inject 0 1 1 0 0) b.2 in
     record {
       begun = b.0;
@@ -123,7 +123,7 @@ module _ (laws : WholeLaws) (motes pages seed word : ℕ) (g : Lcg) (some : 2 �
   abbrev k : ℕ
   k = sweep_count motes pages
 
-  abbrev ds : List Part
+  abbrev ds : List SchedulePart
   ds = disturbances motes (100 * motes) g
 
   begin_good : WorldAgrees begin
@@ -171,7 +171,7 @@ module _ (laws : WholeLaws) (motes pages seed word : ℕ) (g : Lcg) (some : 2 �
     count_four : length p.again.sites ≡ motes
     count_four = four.moves.count ∙ count_three
 
-    links_four : p.again.links ≡ line motes
+    links_four : p.again.links ≡ line_links motes
     links_four = four.moves.links ∙ three.links ∙ two.links ∙ resets_one.moves.links
 
     narrow_four : p.again.narrow ≡ none_narrow

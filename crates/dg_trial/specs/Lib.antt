@@ -1,5 +1,5 @@
 pub mod Schedule
 pub mod Playing
 pub mod Lines
-pub mod AroundTrial
 pub mod Trials
+pub mod inner

@@ -19,14 +19,14 @@ use Rattle.dg_rules.specs.Golden.{WorldKeepsGolden}
 use Rattle.dg_world.specs.Boards.{WorldStands, BoardStopped}
 use Rattle.dg_world.specs.Worlds.{IsWorld}
 use Rattle.dg_world.specs.declared.world.World.{World as KeptWorld}
-use Rattle.dg_trial.specs.Schedule.{Part, line}
-use Rattle.dg_trial.specs.declared.playing.Stop.{Stop}
-use Rattle.dg_trial.specs.declared.playing.Stop.TheVariants.{Memory, Flash}
+use Rattle.dg_trial.specs.Schedule.{SchedulePart, line_links}
+use Rattle.dg_end.specs.declared.ends.End.{End}
+use Rattle.dg_end.specs.declared.ends.End.TheVariants as ends
 
 -- ---- runs
 
 -- from world w, this many parts may lead to world v
-unfoldable pub LeadsTo : World → List Part → World → Type 0
+unfoldable pub LeadsTo : World → List SchedulePart → World → Type 0
 LeadsTo w [] v = w ≡ v
 LeadsTo w (p ∷ ps) v = (u : World) × (reports : List Report) × WorldStep w (p (length w.sent)) u reports × LeadsTo u ps v
 
@@ -39,7 +39,7 @@ chip = fresh (codes "base") (codes "A") 0
 
 -- the world in which a trial begins: wide motes in a line, whose chips were formatted with golden, and an image that is declared
 abbrev pub first : (motes : ℕ) → Row → World
-first motes row = record (first_world (golden ∷ []) (line motes) none_narrow (replicate motes chip)) { declared = row ∷ [] }
+first motes row = record (first_world (golden ∷ []) (line_links motes) none_narrow (replicate motes chip)) { declared = row ∷ [] }
 
 -- ---- the boards
 
@@ -59,46 +59,47 @@ pub record StopsInStep (w : World) (x : Step) (old new : List Device) : Type 0 w
 -- ---- what playing answers
 
 -- Parts were played, and the boards, which were `initial` when the trial began, stand for the world then.
-pub record PartsPlayed (w : World) (parts : List Part) (kept : KeptWorld) (initial now : List Device) : Type 0 where
+pub record PartsPlayed (w : World) (parts : List SchedulePart) (kept : KeptWorld) (initial now : List Device) : Type 0 where
   pub world : World
   pub run : LeadsTo w parts world
   pub kept_now : IsWorld kept now world
   pub boards : WorldStands world initial now
 
 -- Of these parts the first were played, and P holds of the world then, and of the parts that are left.
-pub record PartsBegun (w : World) (parts : List Part) (P : World → (left : List Part) → Type 0) : Type 0 where
-  pub begun : List Part
-  pub left : List Part
+pub record PartsBegun (w : World) (parts : List SchedulePart) (P : World → (left : List SchedulePart) → Type 0) : Type 0 where
+  pub begun : List SchedulePart
+  pub left : List SchedulePart
   pub split : parts ≡ begun ++ left
   pub world : World
   pub run : LeadsTo w begun world
   pub there : P world left
 
 -- a board stopped in the first of the parts that are left
-pub record StopsInPart (w : World) (left : List Part) (initial now : List Device) : Type 0 where
-  pub part : Part
-  pub more : List Part
+pub record StopsInPart (w : World) (left : List SchedulePart) (initial now : List Device) : Type 0 where
+  pub part : SchedulePart
+  pub more : List SchedulePart
   pub next : left ≡ part ∷ more
   pub stops : StopsInStep w (part (length w.sent)) initial now
 
-abbrev pub PartsPlayedAs : Result (Unit {0}) Stop → World → List Part → KeptWorld → (initial now : List Device) → Type 0
+abbrev pub PartsPlayedAs : Result (Unit {0}) End → World → List SchedulePart → KeptWorld → (initial now : List Device) → Type 0
 PartsPlayedAs (Ok u) w parts kept initial now = PartsPlayed w parts kept initial now
-PartsPlayedAs (Err Memory) w parts kept initial now = PartsBegun w parts (λ v left. WorldStands v initial now)
-PartsPlayedAs (Err Flash) w parts kept initial now = PartsBegun w parts (λ v left. StopsInPart v left initial now)
+PartsPlayedAs (Err ends.Memory) w parts kept initial now = PartsBegun w parts (λ v left. WorldStands v initial now)
+PartsPlayedAs (Err ends.FlashFault) w parts kept initial now = PartsBegun w parts (λ v left. StopsInPart v left initial now)
+PartsPlayedAs (Err end) w parts kept initial now = ⊥
 
 -- playing parts answers this, from a kept world and boards to these, whatever world they stood for
-abbrev pub PartsPlay : Result (Unit {0}) Stop → List Part → (first kept : KeptWorld) → (old now : List Device) → Type 0
+abbrev pub PartsPlay : Result (Unit {0}) End → List SchedulePart → (first kept : KeptWorld) → (old now : List Device) → Type 0
 PartsPlay result parts first kept old now = (w : World) (initial : List Device) → IsWorld first old w
     → WorldStands w initial old → PartsPlayedAs result w parts kept initial now
 
 -- ---- what may be played
 
 -- the numbers of a part are in their ranges, for this many motes
-abbrev pub PartFits : ℕ → Part → Type 0
+abbrev pub PartFits : ℕ → SchedulePart → Type 0
 PartFits motes p = (sent : ℕ) → StepInRange motes (p sent)
 
 -- These parts may be played from world w, which has this many motes: golden is found, and the events are few enough.
-pub record MayPlay (motes : ℕ) (w : World) (parts : List Part) : Type 0 where
+pub record MayPlayParts (motes : ℕ) (w : World) (parts : List SchedulePart) : Type 0 where
   pub keeps : WorldKeepsGolden w
   pub count : length w.sites ≡ motes
   pub few : w.events + length parts ≤ most_events
@@ -106,13 +107,14 @@ pub record MayPlay (motes : ℕ) (w : World) (parts : List Part) : Type 0 where
   pub fits : AllByRecursion (PartFits motes) parts
 
 -- So it is with the world that is kept, over boards that stand for it.
-pub record MayPlayOver (motes : ℕ) (kept : KeptWorld) (boards : List Device) (parts : List Part) : Type 0 where
+pub record MayPlayOver (motes : ℕ) (kept : KeptWorld) (boards : List Device) (parts : List SchedulePart) : Type 0 where
   pub world : World
   pub initial : List Device
   pub is : IsWorld kept boards world
   pub stands : WorldStands world initial boards
-  pub may : MayPlay motes world parts
+  pub may : MayPlayParts motes world parts
 
 -- Behind parts that were played those that follow may be played.
 abbrev pub PartsGoOnLaw : Type 0
-PartsGoOnLaw = (motes : ℕ) (w v : World) (xs ys : List Part) → MayPlay motes w (xs ++ ys) → LeadsTo w xs v → MayPlay motes v ys
+PartsGoOnLaw = (motes : ℕ) (w v : World) (xs ys : List SchedulePart) → MayPlayParts motes w (xs ++ ys) → LeadsTo w xs v
+    → MayPlayParts motes v ys

@@ -18,24 +18,24 @@ use Rattle.dg_seed.specs.Draws.{first_generator}
 use Rattle.dg_world.specs.Alone.{uncut}
 
 -- a step, where this many frames were sent before it
-abbrev pub Part : Type 0
-Part = ℕ → Step
+abbrev pub SchedulePart : Type 0
+SchedulePart = ℕ → Step
 
 -- it is the same however many frames were sent
-abbrev pub always : Event → Part
+abbrev pub always : Event → SchedulePart
 always event = λ sent. uncut event
 
 -- a schedule of one such step
-abbrev pub only : Step → List Part
+abbrev pub only : Step → List SchedulePart
 only step = (λ sent. step) ∷ []
 
 -- ---- what is fixed
 
 -- the links of motes in a line, the last one first
-unfoldable pub line : ℕ → List (ℕ × ℕ)
-line zero = []
-line (suc zero) = []
-line (suc (suc n)) = (n, n + 1) ∷ line (suc n)
+unfoldable pub line_links : ℕ → List (ℕ × ℕ)
+line_links zero = []
+line_links (suc zero) = []
+line_links (suc (suc n)) = (n, n + 1) ∷ line_links (suc n)
 
 -- one reset of each mote, in their order
 unfoldable pub resets : ℕ → List Event
@@ -79,11 +79,11 @@ disturbed_at motes mote kind w2 w3 sent =
     else cut_reset mote w2 w3
 
 -- the disturbance that three draws choose: the mote, the kind, and what else there is to choose
-abbrev pub disturbance : (motes w1 w2 w3 : ℕ) → Part
+abbrev pub disturbance : (motes w1 w2 w3 : ℕ) → SchedulePart
 disturbance motes w1 w2 w3 = λ sent. disturbed_at motes (w1 % motes) (w1 / 65536 % 8) w2 w3 sent
 
 -- this many disturbances, each by the next three draws of a generator
-unfoldable pub disturbances : (motes n : ℕ) → Lcg → List Part
+unfoldable pub disturbances : (motes n : ℕ) → Lcg → List SchedulePart
 disturbances motes zero g = []
 disturbances motes (suc n) g =
     let a = pcg32 g in
@@ -103,20 +103,20 @@ abbrev pub row_of_seed : (pages seed : ℕ) → Row
 row_of_seed pages seed = row_by pages seed (pcg32 (first_generator seed)).0
 
 -- each mote is started, and the image is injected into the first
-abbrev pub opening : (motes : ℕ) → List Part
+abbrev pub opening : (motes : ℕ) → List SchedulePart
 opening motes = map always (resets motes) ++ always (Inject 0 1 1 0 0) ∷ []
 
-abbrev pub shaking : (motes seed : ℕ) → List Part
+abbrev pub shaking : (motes seed : ℕ) → List SchedulePart
 shaking motes seed = disturbances motes (100 * motes) (pcg32 (first_generator seed)).1
 
 -- each mote is started again, and sweeps follow
 abbrev pub rest_events : (motes pages : ℕ) → List Event
-rest_events motes pages = resets motes ++ times (sweep_count motes pages) (sweep (line motes))
+rest_events motes pages = resets motes ++ times (sweep_count motes pages) (sweep (line_links motes))
 
 -- how many events it has: two resets of each mote, the injection, a hundred disturbances for each mote, and for each sweep
 -- two rounds of each link, of 202 events each
 abbrev pub event_count : (motes pages : ℕ) → ℕ
 event_count motes pages = 102 * motes + 1 + sweep_count motes pages * (2 * (motes - 1) * 202)
 
-abbrev pub schedule : (motes pages seed : ℕ) → List Part
+abbrev pub schedule : (motes pages seed : ℕ) → List SchedulePart
 schedule motes pages seed = opening motes ++ (shaking motes seed ++ map always (rest_events motes pages))

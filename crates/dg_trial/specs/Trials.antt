@@ -1,8 +1,7 @@
 -- What a trial did, and what it tells (docs/COMMANDS.md, "Trial").
 use Rattle.std.specs.Prelude.{◌≡◌, ◌⊎◌, ℕ, ◌<◌, ◌≤◌, nat_le, Bool, false, List, [], ◌∷◌, ◌++◌, length, codes, slice_get, count_by}
-use Rattle.std.specs.Prelude.{Option, Some, Result, Ok, Err}
+use Rattle.std.specs.Prelude.{Option, Some}
 use Rattle.std.specs.Fmt.{decimal}
-use Rattle.dg_words.specs.Counts.{Rose}
 use Rattle.dg_base.specs.Outside.{Puts, PutsFront}
 use Rattle.dg_base.specs.declared.answers.Status.{Status}
 use Rattle.dg_base.specs.declared.answers.Status.TheVariants.{Done, Memory, WriteFault, FlashFault, NoBoard}
@@ -16,25 +15,21 @@ use Rattle.dg_rules.specs.World.{World, Site, store_at}
 use Rattle.dg_completion.specs.Completion.{page_count, pages_kept}
 use Rattle.dg_world.specs.Counts.{NoneRose}
 use Rattle.dg_world.specs.Formatted.{FirstBoards, FormatStops}
-use Rattle.dg_world.specs.Worlds.{IsWorld}
-use Rattle.dg_world.specs.declared.world.World.{World as KeptWorld}
-use Rattle.dg_trial.specs.AroundTrial.{AroundTrial}
-use Rattle.dg_trial.specs.Schedule.{Part, row_of_seed, schedule, sweep_count, event_count}
+use Rattle.dg_end.specs.Texts.{numbers, line}
+use Rattle.dg_outside.specs.Outside.{Outside}
+use Rattle.dg_trial.specs.Schedule.{SchedulePart, row_of_seed, schedule, sweep_count, event_count}
 use Rattle.dg_world.specs.Boards.{WorldStands, BoardStopped}
 use Rattle.dg_trial.specs.Playing.{LeadsTo, first, chip, PartsBegun, StopsInPart}
-use Rattle.dg_trial.specs.declared.playing.Stop.{Stop}
-use Rattle.dg_trial.specs.declared.playing.Stop.TheVariants as stop
-use Rattle.dg_trial.specs.declared.summary.Summary.{Summary}
 
 -- ---- runs
 
 -- the world in which the trial of a seed begins
-abbrev pub begins : (motes pages seed : ℕ) → World
-begins motes pages seed = first motes (row_of_seed pages seed)
+abbrev pub trial_start : (motes pages seed : ℕ) → World
+trial_start motes pages seed = first motes (row_of_seed pages seed)
 
 -- a whole trial leads to world v
 abbrev pub TrialRun : (motes pages seed : ℕ) → World → Type 0
-TrialRun motes pages seed v = LeadsTo (begins motes pages seed) (schedule motes pages seed) v
+TrialRun motes pages seed v = LeadsTo (trial_start motes pages seed) (schedule motes pages seed) v
 
 -- a site keeps all pages of a row
 abbrev pub keeps_all : Row → Site → Bool
@@ -67,7 +62,7 @@ trial_text motes pages seed v = summary_line motes pages (sweep_count motes page
 
 -- there are fewer boards than motes
 abbrev pub no_board_line : (motes boards : ℕ) → List ℕ
-no_board_line motes boards = codes "noboard " ++ decimal motes ++ codes " " ++ decimal boards ++ 10 ∷ []
+no_board_line motes boards = line (codes "noboard" ++ numbers (motes ∷ boards ∷ []))
 
 -- ---- what is done
 
@@ -82,28 +77,9 @@ pub record Formatted (motes : ℕ) (old new : List Device) : Type 0 where
 abbrev pub StopsFormatting : (motes : ℕ) → (old new : List Device) → Type 0
 StopsFormatting motes old new = (board : ℕ) × FormatStops board motes chip old new
 
-abbrev pub FormatEnds : Result (Unit {0}) Stop → (motes : ℕ) → (old new : List Device) → Type 0
-FormatEnds (Ok u) motes old new = Formatted motes old new
-FormatEnds (Err stop.Flash) motes old new = StopsFormatting motes old new
-FormatEnds (Err stop.Memory) motes old new = ⊥
-
 -- a front of the schedule was played, and P holds of the world then, and of the parts that are left
-abbrev pub Front : (motes pages seed : ℕ) → (World → List Part → Type 0) → Type 0
-Front motes pages seed P = PartsBegun (begins motes pages seed) (schedule motes pages seed) P
-
--- the whole schedule was played, and the boards, which were `old` before it, stand for the world at its end
-pub record SchedulePlayed (motes pages seed : ℕ) (kept : KeptWorld) (old new : List Device) : Type 0 where
-  pub world : World
-  pub run : TrialRun motes pages seed world
-  pub kept_now : IsWorld kept new world
-  pub boards : WorldStands world old new
-  pub count : length world.sites ≡ motes
-
-abbrev pub ScheduleEnds : Result KeptWorld Stop → (motes pages seed : ℕ) → (old new : List Device) → Type 0
-ScheduleEnds (Ok kept) motes pages seed old new = SchedulePlayed motes pages seed kept old new
-ScheduleEnds (Err stop.Memory) motes pages seed old new = (new ≡ old) ⊎ Front motes pages seed (λ w left. WorldStands w old new)
-ScheduleEnds (Err stop.Flash) motes pages seed old new =
-    StopsFormatting motes old new ⊎ Front motes pages seed (λ w left. StopsInPart w left old new)
+abbrev pub Front : (motes pages seed : ℕ) → (World → List SchedulePart → Type 0) → Type 0
+Front motes pages seed P = PartsBegun (trial_start motes pages seed) (schedule motes pages seed) P
 
 -- The boards' stores are those at the end of a run of the schedule. No board of another mote was used, and no count rose.
 pub record TrialPlayed (motes pages seed : ℕ) (old new : List Device) : Type 0 where
@@ -120,49 +96,36 @@ pub record StopsReading (motes pages seed : ℕ) (old new : List Device) : Type 
   pub stands : (m : ℕ) (d : Device) → m < motes → slice_get new m ≡ Some d → Stands d.image (store_at last m)
   pub others : (m : ℕ) → motes ≤ m → slice_get new m ≡ slice_get old m
 
--- what the numbers of a trial tell that was played
-pub record TellsTrial (motes pages seed : ℕ) (last : World) (s : Summary) : Type 0 where
-  pub motes_reported : s.motes ≡ motes
-  pub pages_reported : s.pages ≡ pages
-  pub sweeps_reported : s.sweeps ≡ sweep_count motes pages
-  pub events_reported : s.events ≡ last.events
-  pub whole_reported : s.whole ≡ wholes (row_of_seed pages seed) last
-
 -- where a trial stands that was stopped: a front of its schedule was played, or none of it
 abbrev pub Unplayed : (motes pages seed : ℕ) → (old new : List Device) → Type 0
 Unplayed motes pages seed old new = (new ≡ old) ⊎ Front motes pages seed (λ w left. WorldStands w old new)
 
 -- a board stopped: in formatting, in a step, or in the reading at the end
-abbrev pub BoardStops : (motes pages seed : ℕ) → (old new : List Device) → Type 0
-BoardStops motes pages seed old new =
+abbrev pub TrialBoardStops : (motes pages seed : ℕ) → (old new : List Device) → Type 0
+TrialBoardStops motes pages seed old new =
     StopsFormatting motes old new ⊎ (Front motes pages seed (λ w left. StopsInPart w left old new)
     ⊎ StopsReading motes pages seed old new)
-
-abbrev pub TrialOutcome : Result Summary Stop → (motes pages seed : ℕ) → (old new : List Device) → Type 0
-TrialOutcome (Ok s) motes pages seed old new = (t : TrialPlayed motes pages seed old new) × TellsTrial motes pages seed t.last s
-TrialOutcome (Err stop.Memory) motes pages seed old new = Unplayed motes pages seed old new
-TrialOutcome (Err stop.Flash) motes pages seed old new = BoardStops motes pages seed old new
 
 -- ---- how a trial ends
 
 -- there are fewer boards than motes, and none was used
-pub record LacksBoards (motes : ℕ) (old new : List Device) : Type 0 where
+pub record TrialLacksBoards (motes : ℕ) (old new : List Device) : Type 0 where
   pub missing : length old < motes
   pub same : new ≡ old
 
 -- The trial was played and told, and every mote keeps the image whole.
-pub record TrialComplete (motes pages seed : ℕ) (a b : AroundTrial) : Type 0 where
+pub record TrialComplete (motes pages seed : ℕ) (a b : Outside) : Type 0 where
   pub boards : motes ≤ length a.boards
   pub played : TrialPlayed motes pages seed a.boards b.boards
   pub kept : AllKeep motes (row_of_seed pages seed) played.last
   pub whole : wholes (row_of_seed pages seed) played.last ≡ motes
-  pub written : Puts a.written b.written (trial_text motes pages seed played.last)
+  pub written : Puts a.output.written b.output.written (trial_text motes pages seed played.last)
 
 -- It was played, and its line was written in part.
-pub record TrialCut (motes pages seed : ℕ) (a b : AroundTrial) : Type 0 where
+pub record TrialCut (motes pages seed : ℕ) (a b : Outside) : Type 0 where
   pub boards : motes ≤ length a.boards
   pub played : TrialPlayed motes pages seed a.boards b.boards
-  pub written : PutsFront a.written b.written (trial_text motes pages seed played.last)
+  pub written : PutsFront a.output.written b.output.written (trial_text motes pages seed played.last)
 
 -- the line of a trial in which every mote keeps the image whole. Its numbers are those of the motes and the pages
 abbrev pub TellsWhole : (motes pages : ℕ) → (before after : Option (List ℕ)) → Type 0
@@ -170,21 +133,14 @@ TellsWhole motes pages before after =
     Puts before after (summary_line motes pages (sweep_count motes pages) (event_count motes pages) motes)
 
 -- How a trial ends, by its status. Only a write that failed raises the count of such.
-abbrev pub TrialEnds : Status → (motes pages seed : ℕ) → (a b : AroundTrial) → Type 0
+abbrev pub TrialEnds : Status → (motes pages seed : ℕ) → (a b : Outside) → Type 0
 TrialEnds Done motes pages seed a b = TrialComplete motes pages seed a b
 TrialEnds NoBoard motes pages seed a b =
-    LacksBoards motes a.boards b.boards × Puts a.written b.written (no_board_line motes (length a.boards))
+    TrialLacksBoards motes a.boards b.boards × Puts a.output.written b.output.written (no_board_line motes (length a.boards))
 TrialEnds WriteFault motes pages seed a b =
-    TrialCut motes pages seed a b
-    ⊎ (LacksBoards motes a.boards b.boards × PutsFront a.written b.written (no_board_line motes (length a.boards)))
+    TrialCut motes pages seed a b ⊎ (TrialLacksBoards motes a.boards b.boards
+    × PutsFront a.output.written b.output.written (no_board_line motes (length a.boards)))
 TrialEnds FlashFault motes pages seed a b =
-    (motes ≤ length a.boards) × BoardStops motes pages seed a.boards b.boards × (b.written ≡ a.written)
-TrialEnds Memory motes pages seed a b = Unplayed motes pages seed a.boards b.boards × (b.written ≡ a.written)
+    (motes ≤ length a.boards) × TrialBoardStops motes pages seed a.boards b.boards × (b.output.written ≡ a.output.written)
+TrialEnds Memory motes pages seed a b = Unplayed motes pages seed a.boards b.boards × (b.output.written ≡ a.output.written)
 TrialEnds status motes pages seed a b = ⊥
-
--- How the writing of a last line ends: it was written, or a front of it, since a write failed, or there was no memory for it.
-abbrev pub LineEnds : (r status : Status) → (text : List ℕ) → (before after : Option (List ℕ))
-    → (faults_before faults_after : ℕ) → Type 0
-LineEnds r status text before after fb fa =
-    ((r ≡ status) × Puts before after text × (fa ≡ fb))
-    ⊎ (((r ≡ WriteFault) × PutsFront before after text × Rose fb fa) ⊎ ((r ≡ Memory) × (after ≡ before) × (fa ≡ fb)))

@@ -1,6 +1,6 @@
 //! The world in which a trial begins.
 ghost use Rattle.std.specs.Prelude.{◌≡◌, ◌+◌, ◌-◌, ◌*◌, ◌<◌, ◌≤◌, ◌∷◌, ℕ, List, [], map, length, slice_get, replicate, Some};
-ghost use Rattle.std.specs.Prelude.{IfOk, OnOk};
+ghost use Rattle.std.specs.Prelude.{IfOk, OnOk, OnErr, Err};
 ghost use Rattle.dg_nor.specs.Device.{Device};
 ghost use Rattle.dg_object.specs.Sizes.{most_bytes};
 ghost use Rattle.dg_volume.specs.Stands.{Stands};
@@ -8,12 +8,12 @@ ghost use Rattle.dg_script.specs.Places.{none_narrow};
 ghost use Rattle.dg_rules.specs.Sizes.{most_motes};
 ghost use Rattle.dg_rules.specs.World.{World as RuleWorld, first_world};
 ghost use Rattle.dg_world.specs.Worlds.{IsWorld};
-ghost use Rattle.dg_trial.specs.Schedule.{line, size_by, row_by};
+ghost use Rattle.dg_trial.specs.Schedule.{line_links, size_by, row_by};
 ghost use Rattle.dg_trial.specs.Playing.{golden, chip};
-ghost use Rattle.dg_trial.specs.Trials.{FormatEnds};
+ghost use Rattle.dg_trial.specs.inner.Outcomes.{FormatEnds};
 
-use crate::playing::Stop;
 use dg_base::Bytes;
+use dg_end::{End, Refusal};
 use dg_nor::Nor;
 use dg_object::PAGE_SIZE;
 use dg_script::generate;
@@ -23,7 +23,7 @@ use std::alloc::{AllocError, Global};
 /// The links of this many motes in a line, the last one first.
 pub fn line(alloc: Global, motes: u8) -> Result<Vec<(u8, u8)>, AllocError>
     requires { 1 ≤ motes }
-    ensures { IfOk result (λ links. links.items ≡ line motes) }
+    ensures { IfOk result (λ links. links.items ≡ line_links motes) }
 {
     let mut links = Vec::new(alloc);
     let mut far = motes - 1;
@@ -61,43 +61,38 @@ fn size(pages: u8, word: u32) -> u32
 }
 
 /// The image of a trial is declared.
-pub fn declare(
-    alloc: Global,
-    world: &mut World,
-    pages: u8,
-    seed: u32,
-    word: u32,
-) -> Result<(), AllocError>
+pub fn declare(alloc: Global, world: &mut World, pages: u8, seed: u32, word: u32) -> Result<(), End>
     requires some { 2 ≤ pages }
     requires few { pages ≤ 65 }
     requires world { (boards : List Device) × (w : RuleWorld) × IsWorld world.old boards w × (w.declared ≡ []) }
-    ensures { OnOk result ((boards : List Device) (w : RuleWorld) → IsWorld world.old boards w → w.declared ≡ []
+    ensures declared { OnOk result ((boards : List Device) (w : RuleWorld) → IsWorld world.old boards w → w.declared ≡ []
         → IsWorld world.new boards (record w { declared = row_by pages seed word ∷ [] })) }
+    ensures memory { OnErr result (result ≡ Err End.Memory) }
 {
     let name = Bytes::new(Vec::from_slice(alloc, b"trial")?);
     let Ok(content) = generate(alloc, size(pages, word), seed) else {
-        return Err(AllocError);
+        return Err(End::Memory);
     };
     match world.declare(1, 1, name, content) {
         Ok(()) => Ok(()),
-        Err(DeclareFault::Memory) => Err(AllocError),
-        Err(DeclareFault::Taken) => unreachable!(),
+        Err(DeclareFault::Memory) => Err(End::Memory),
+        Err(DeclareFault::Taken) => Err(End::Refused(Refusal::Taken)),
     }
 }
 
 /// Formats the first boards with golden.
-fn format_first<N: Nor>(boards: &mut [N], motes: u8) -> Result<(), Stop>
+fn format_first<N: Nor>(boards: &mut [N], motes: u8) -> Result<(), End>
     requires { motes ≤ length boards.old }
     ensures { FormatEnds result motes (map N.device boards.old) (map N.device boards.new) }
 {
     match format_boards(boards, motes, b"base", b"A", 0) {
         Ok(()) => Ok(()),
-        Err(FormatStopped { .. }) => Err(Stop::Flash),
+        Err(FormatStopped { .. }) => Err(End::FlashFault),
     }
 }
 
 /// Formats the boards of the motes with golden.
-pub fn format<N: Nor>(boards: &mut Vec<N>, motes: u8) -> Result<(), Stop>
+pub fn format<N: Nor>(boards: &mut Vec<N>, motes: u8) -> Result<(), End>
     requires { motes ≤ length boards.old.items }
     ensures { FormatEnds result motes (map N.device boards.old.items) (map N.device boards.new.items) }
 {

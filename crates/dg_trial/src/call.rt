@@ -2,26 +2,27 @@
 ghost use Rattle.std.specs.Prelude.{◌≡◌, ◌≢◌, ◌⊎◌, ◌+◌, ◌-◌, ◌<◌, ◌≤◌, ◌∷◌, ◌++◌, ℕ, List, [], map, length, slice_get, count_by};
 ghost use Rattle.std.specs.Prelude.{Some, Err, IfOk, OnOk, OnErr};
 ghost use Rattle.dg_words.specs.Counts.{Rose};
-ghost use Rattle.dg_base.specs.Outside.{Puts, PutsFront};
+ghost use Rattle.dg_outside.specs.Outside.{Outside, with_output, with_boards};
+ghost use Rattle.dg_end.specs.Lines.{text_outcome};
 ghost use Rattle.dg_nor.specs.Device.{Device};
 ghost use Rattle.dg_rules.specs.Sizes.{most_motes};
 ghost use Rattle.dg_rules.specs.World.{World as RuleWorld};
 ghost use Rattle.dg_world.specs.Worlds.{IsWorld};
-ghost use Rattle.dg_trial.specs.AroundTrial.{around_trial};
 ghost use Rattle.dg_trial.specs.Schedule.{sweep_count};
 ghost use Rattle.dg_world.specs.Boards.{WorldStands};
-ghost use Rattle.dg_trial.specs.Trials.{ScheduleEnds, TrialRun, TrialOutcome, TrialEnds, TellsWhole, LineEnds, summary_line};
-ghost use Rattle.dg_trial.specs.Trials.{no_board_line};
+ghost use Rattle.dg_trial.specs.Trials.{TrialRun, TrialEnds, TellsWhole};
+ghost use Rattle.dg_trial.specs.inner.Outcomes.{ScheduleEnds, TrialOutcome, TrialComesTo};
 
 use crate::beginning::{declare, format, line, linked};
 use crate::laws::trials_end_whole;
-use crate::playing::{Stop, play};
-use crate::summary::{Summary, count_events, count_whole, push_no_board, push_summary};
-use dg_base::{Sink, Status, WriteFailed};
+use crate::playing::play;
+use crate::summary::{Summary, count_events, count_whole, line_of_summary};
+use dg_base::{Sink, Status};
+use dg_end::{End, answer};
 use dg_nor::Nor;
 use dg_seed::Draws;
 use dg_world::{FinishFault, World};
-use std::alloc::{AllocError, Global};
+use std::alloc::Global;
 
 /// How many sweeps end a trial: one for each page, and one for each link but the first.
 fn sweeps_of(motes: u8, pages: u8) -> u32
@@ -38,7 +39,7 @@ fn play_schedule<N: Nor>(
     pages: u8,
     seed: u32,
     boards: &mut Vec<N>,
-) -> Result<World, Stop>
+) -> Result<World, End>
     requires some { 2 ≤ motes }
     requires few { motes ≤ most_motes }
     requires some_pages { 2 ≤ pages }
@@ -48,16 +49,10 @@ fn play_schedule<N: Nor>(
 {
     let mut draws = Draws::of_seed(seed);
     let word = draws.next();
-    let Ok(links) = line(alloc, motes) else {
-        return Err(Stop::Memory);
-    };
-    let Ok(mut world) = linked(alloc, motes, &links) else {
-        return Err(Stop::Memory);
-    };
+    let links = line(alloc, motes)?;
+    let mut world = linked(alloc, motes, &links)?;
     format(boards, motes)?;
-    let Ok(()) = declare(alloc, &mut world, pages, seed, word) else {
-        return Err(Stop::Memory);
-    };
+    declare(alloc, &mut world, pages, seed, word)?;
     play(
         alloc,
         &mut world,
@@ -77,7 +72,7 @@ fn summarize<N: Nor>(
     motes: u8,
     pages: u8,
     boards: &mut Vec<N>,
-) -> Result<Summary, Stop>
+) -> Result<Summary, End>
     requires some { 2 ≤ motes }
     requires few { motes ≤ most_motes }
     requires some_pages { 2 ≤ pages }
@@ -96,8 +91,8 @@ fn summarize<N: Nor>(
             events: count_events(&reports),
             whole: count_whole(&reports, pages) as u32,
         }),
-        Err(FinishFault::Memory) => Err(Stop::Memory),
-        Err(FinishFault::Flash { .. }) => Err(Stop::Flash),
+        Err(FinishFault::Memory) => Err(End::Memory),
+        Err(FinishFault::Flash { .. }) => Err(End::FlashFault),
     }
 }
 
@@ -108,7 +103,7 @@ fn run<N: Nor>(
     pages: u8,
     seed: u32,
     boards: &mut Vec<N>,
-) -> Result<Summary, Stop>
+) -> Result<Summary, End>
     requires some { 2 ≤ motes }
     requires few { motes ≤ most_motes }
     requires some_pages { 2 ≤ pages }
@@ -120,44 +115,29 @@ fn run<N: Nor>(
     summarize(alloc, &world, motes, pages, boards)
 }
 
-/// Ends with this line.
-fn end_with<K: Sink>(out: &mut K, line: &[u8], status: Status) -> Status
-    ensures ends { ((result ≡ status) × Puts (K.written out.old) (K.written out.new) line.now
-        × (K.faults out.new ≡ K.faults out.old))
-        ⊎ ((result ≡ Status.WriteFault) × PutsFront (K.written out.old) (K.written out.new) line.now
-        × Rose (K.faults out.old) (K.faults out.new)) }
-    ensures counts { K.faults out.old ≤ K.faults out.new }
+/// Plays a trial, and makes the line that tells of it.
+fn play_and_tell<N: Nor>(
+    alloc: Global,
+    motes: u8,
+    pages: u8,
+    seed: u32,
+    boards: &mut Vec<N>,
+) -> Result<Vec<u8>, End>
+    requires some { 2 ≤ motes }
+    requires few { motes ≤ most_motes }
+    requires some_pages { 2 ≤ pages }
+    requires few_pages { pages ≤ 65 }
+    ensures { TrialComesTo (text_outcome (λ text. text.items) result) motes pages seed (map N.device boards.old.items)
+        (map N.device boards.new.items) }
 {
-    match out.write(line) {
-        Ok(()) => status,
-        Err(WriteFailed) => Status::WriteFault,
+    if boards.len() < usize::from(motes) {
+        return Err(End::NoBoard {
+            need: motes,
+            have: boards.len() as u32,
+        });
     }
-}
-
-/// Ends a trial that was played.
-fn end_played<K: Sink>(alloc: Global, out: &mut K, summary: &Summary) -> Status
-    ensures ends { LineEnds result Status.Done (summary_line summary.now.motes summary.now.pages summary.now.sweeps
-        summary.now.events summary.now.whole) (K.written out.old) (K.written out.new) (K.faults out.old) (K.faults out.new) }
-    ensures counts { K.faults out.old ≤ K.faults out.new }
-{
-    let mut text = Vec::new(alloc);
-    match push_summary(&mut text, summary) {
-        Ok(()) => end_with(out, &text, Status::Done),
-        Err(AllocError) => Status::Memory,
-    }
-}
-
-/// Ends a trial for which boards are missing.
-fn end_without_boards<K: Sink>(alloc: Global, out: &mut K, motes: u8, boards: u32) -> Status
-    ensures ends { LineEnds result Status.NoBoard (no_board_line motes boards) (K.written out.old) (K.written out.new)
-        (K.faults out.old) (K.faults out.new) }
-    ensures counts { K.faults out.old ≤ K.faults out.new }
-{
-    let mut text = Vec::new(alloc);
-    match push_no_board(&mut text, motes, boards) {
-        Ok(()) => end_with(out, &text, Status::NoBoard),
-        Err(AllocError) => Status::Memory,
-    }
+    let summary = run(alloc, motes, pages, seed, boards)?;
+    line_of_summary(alloc, &summary)
 }
 
 /// Plays the schedule that a seed makes over the boards of this many motes, with an image of this many pages, and writes one
@@ -176,9 +156,9 @@ pub fn trial<K: Sink, N: Nor>(
     requires few_pages { pages ≤ 65 }
     // The boards' stores are those at the end of a run of the schedule, every mote keeps the image whole, page by page, and the
     // line counts that run. Each other status comes with its cause, and what it leaves.
-    ensures ends { TrialEnds result motes pages seed
-        (around_trial (K.written out.old) (map N.device boards.old.items))
-        (around_trial (K.written out.new) (map N.device boards.new.items)) }
+    ensures ends { (rest : Outside) → TrialEnds result motes pages seed
+        (with_boards (map N.device boards.old.items) (with_output (K.Sink, out.old) rest))
+        (with_boards (map N.device boards.new.items) (with_output (K.Sink, out.new) rest)) }
     // where it is played and told, the line says that every mote keeps the image whole, and its number of events is that of
     // the motes and the pages
     ensures whole { result ≡ Status.Done → TellsWhole motes pages (K.written out.old) (K.written out.new) }
@@ -188,12 +168,6 @@ pub fn trial<K: Sink, N: Nor>(
     ensures writes { K.faults out.old ≤ K.faults out.new }
 {
     trials_end_whole();
-    if boards.len() < usize::from(motes) {
-        return end_without_boards(alloc, out, motes, boards.len() as u32);
-    }
-    match run(alloc, motes, pages, seed, boards) {
-        Ok(summary) => end_played(alloc, out, &summary),
-        Err(Stop::Memory) => Status::Memory,
-        Err(Stop::Flash) => Status::FlashFault,
-    }
+    let outcome = play_and_tell(alloc, motes, pages, seed, boards);
+    answer(alloc, out, outcome)
 }

@@ -2,7 +2,7 @@
 ghost use Rattle.std.specs.Prelude.{◌≡◌, ◌+◌, ◌*◌, ◌<◌, ◌≤◌, ◌∷◌, ◌++◌, [], ℕ, map, length};
 ghost use Rattle.dg_rounds.specs.Rounds.{times, sweep};
 ghost use Rattle.dg_seed.specs.Draws.{generator_of};
-ghost use Rattle.dg_trial.specs.Schedule.{Part, always, only, resets, opening, disturbances, drawn};
+ghost use Rattle.dg_trial.specs.Schedule.{SchedulePart, always, only, resets, opening, disturbances, drawn};
 ghost use Rattle.dg_trial.specs.Playing.{PartsPlay, MayPlayOver};
 ghost use Rattle.dg_rules.specs.Sizes.{most_motes};
 ghost use Rattle.dg_rules.specs.World.{World as RuleWorld};
@@ -11,20 +11,13 @@ ghost use Rattle.dg_world.specs.Worlds.{IsWorld};
 use crate::disturbing::disturbance;
 use crate::laws::what_is_left_may_be_played;
 use dg_base::{Event, Step};
+use dg_end::End;
 use dg_nor::Nor;
 use dg_rounds::sweep;
 use dg_rules::{Report, golden_is_found};
 use dg_seed::Draws;
 use dg_world::{World, WorldFault};
 use std::alloc::{AllocError, Global};
-
-/// Why a trial ends before its schedule does.
-#[derive(Clone, Copy, Debug, PartialEq, Eq)]
-pub enum Stop {
-    Memory,
-    /// A board stopped.
-    Flash,
-}
 
 /// The disturbances of each mote.
 const DISTURBANCES: u32 = 100;
@@ -35,10 +28,10 @@ fn play_step<N: Nor>(
     step: &Step,
     boards: &mut Vec<N>,
     reports: &mut Vec<Report>,
-) -> Result<(), Stop>
+) -> Result<(), End>
     requires { (motes : ℕ) × MayPlayOver motes world.old (map N.device boards.old.items) (only step.now) }
     // it may be the step of any part that is this one after this many frames
-    ensures { (part : Part)
+    ensures { (part : SchedulePart)
         → ((w : RuleWorld) → IsWorld world.old (map N.device boards.old.items) w
         → part (length w.sent) ≡ step.now)
         → PartsPlay result (part ∷ []) world.old world.new (map N.device boards.old.items) (map N.device boards.new.items) }
@@ -47,11 +40,11 @@ fn play_step<N: Nor>(
     reports.clear();
     match world.apply(boards, step, false, reports) {
         Ok(()) => Ok(()),
-        Err(WorldFault::Memory) => Err(Stop::Memory),
-        Err(WorldFault::Flash { .. }) => Err(Stop::Flash),
-        Err(WorldFault::TooMany) => unreachable!(),
-        Err(WorldFault::NotAVolume) => unreachable!(),
-        Err(WorldFault::NoImage) => unreachable!(),
+        Err(WorldFault::Memory) => Err(End::Memory),
+        Err(WorldFault::Flash { .. }) => Err(End::FlashFault),
+        Err(WorldFault::TooMany) => Err(End::TooMany),
+        Err(WorldFault::NotAVolume) => Err(End::NotAVolume),
+        Err(WorldFault::NoImage) => Err(End::NoImage),
     }
 }
 
@@ -61,7 +54,7 @@ fn play_event<N: Nor>(
     event: Event,
     boards: &mut Vec<N>,
     reports: &mut Vec<Report>,
-) -> Result<(), Stop>
+) -> Result<(), End>
     requires { (motes : ℕ) × MayPlayOver motes world.old (map N.device boards.old.items) (always event ∷ []) }
     ensures { PartsPlay result (always event ∷ []) world.old world.new (map N.device boards.old.items)
         (map N.device boards.new.items) }
@@ -76,7 +69,7 @@ fn play_resets<N: Nor>(
     motes: u8,
     boards: &mut Vec<N>,
     reports: &mut Vec<Report>,
-) -> Result<(), Stop>
+) -> Result<(), End>
     requires { MayPlayOver motes world.old (map N.device boards.old.items) (map always (resets motes)) }
     ensures { PartsPlay result (map always (resets motes)) world.old world.new (map N.device boards.old.items)
         (map N.device boards.new.items) }
@@ -98,7 +91,7 @@ fn play_injection<N: Nor>(
     world: &mut World,
     boards: &mut Vec<N>,
     reports: &mut Vec<Report>,
-) -> Result<(), Stop>
+) -> Result<(), End>
     requires { (motes : ℕ) × MayPlayOver motes world.old (map N.device boards.old.items) (always (Event.Inject 0 1 1 0 0) ∷ []) }
     ensures { PartsPlay result (always (Event.Inject 0 1 1 0 0) ∷ []) world.old world.new (map N.device boards.old.items)
         (map N.device boards.new.items) }
@@ -121,7 +114,7 @@ fn play_disturbance<N: Nor>(
     draws: &mut Draws,
     boards: &mut Vec<N>,
     reports: &mut Vec<Report>,
-) -> Result<(), Stop>
+) -> Result<(), End>
     requires may { MayPlayOver motes world.old (map N.device boards.old.items) (disturbances motes 1 (generator_of draws.old)) }
     requires some { 2 ≤ motes }
     requires few { motes ≤ most_motes }
@@ -135,7 +128,7 @@ fn play_disturbance<N: Nor>(
     let sent = world.frames_sent();
     match disturbance(alloc, motes, sent, first, second, third) {
         Ok(step) => play_step(world, &step, boards, reports),
-        Err(AllocError) => Err(Stop::Memory),
+        Err(AllocError) => Err(End::Memory),
     }
 }
 
@@ -147,7 +140,7 @@ fn play_disturbances<N: Nor>(
     draws: &mut Draws,
     boards: &mut Vec<N>,
     reports: &mut Vec<Report>,
-) -> Result<(), Stop>
+) -> Result<(), End>
     requires may { MayPlayOver motes world.old (map N.device boards.old.items)
         (disturbances motes (100 * motes) (generator_of draws.old)) }
     requires some { 2 ≤ motes }
@@ -168,7 +161,7 @@ fn play_sweep<N: Nor>(
     links: &[(u8, u8)],
     boards: &mut Vec<N>,
     reports: &mut Vec<Report>,
-) -> Result<(), Stop>
+) -> Result<(), End>
     requires { (motes : ℕ) × MayPlayOver motes world.old (map N.device boards.old.items) (map always (sweep links.now)) }
     ensures { PartsPlay result (map always (sweep links.now)) world.old world.new (map N.device boards.old.items)
         (map N.device boards.new.items) }
@@ -187,7 +180,7 @@ fn play_sweeps<N: Nor>(
     sweeps: u32,
     boards: &mut Vec<N>,
     reports: &mut Vec<Report>,
-) -> Result<(), Stop>
+) -> Result<(), End>
     requires { (motes : ℕ) × MayPlayOver motes world.old (map N.device boards.old.items)
         (map always (times sweeps (sweep links.now))) }
     ensures { PartsPlay result (map always (times sweeps (sweep links.now))) world.old world.new
@@ -209,7 +202,7 @@ pub fn play<N: Nor>(
     sweeps: u32,
     draws: &mut Draws,
     boards: &mut Vec<N>,
-) -> Result<(), Stop>
+) -> Result<(), End>
     requires may { MayPlayOver motes world.old (map N.device boards.old.items)
         (opening motes ++ (disturbances motes (100 * motes) (generator_of draws.old)
         ++ map always (resets motes ++ times sweeps (sweep links.now)))) }

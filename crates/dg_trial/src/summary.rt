@@ -1,12 +1,13 @@
 //! What is reported of a trial.
-ghost use Rattle.std.specs.Prelude.{◌≡◌, ◌++◌, ◌∷◌, [], ℕ, List, count_by, codes, OnOk};
+ghost use Rattle.std.specs.Prelude.{◌≡◌, ◌++◌, ◌∷◌, [], ℕ, List, count_by, codes, IfOk, OnOk, OnErr, Err};
 ghost use Rattle.std.specs.Fmt.{decimal};
-ghost use Rattle.dg_trial.specs.Trials.{summary_line, no_board_line};
+ghost use Rattle.dg_trial.specs.Trials.{summary_line};
 ghost use Rattle.dg_trial.specs.Lines.{tells_whole};
 
 use dg_base::push_u32;
+use dg_end::End;
 use dg_rules::Report;
-use std::alloc::AllocError;
+use std::alloc::{AllocError, Global};
 
 /// The numbers of a trial.
 #[derive(Clone, Copy, Debug, PartialEq, Eq)]
@@ -44,14 +45,23 @@ pub fn count_whole(reports: &[Report], pages: u8) -> usize
         .count()
 }
 
-/// How many events were played, by the last lines of a world.
+/// How many events a line counts: none, but for the first of the last lines of a world.
+fn events_in(report: &Report) -> u32
+    ensures { (events : ℕ) → report.now ≡ Report.End events → result ≡ events }
+{
+    match report {
+        Report::End { events } => *events,
+        _ => 0,
+    }
+}
+
+/// How many events were played, by the last lines of a world. 0 where they do not begin with the line that counts them.
 pub fn count_events(reports: &[Report]) -> u32
-    requires { (events : ℕ) × (rest : List Report) × (reports.now ≡ Report.End events ∷ rest) }
     ensures { (events : ℕ) (rest : List Report) → reports.now ≡ Report.End events ∷ rest → result ≡ events }
 {
     match reports.first() {
-        Some(Report::End { events }) => *events,
-        _ => unreachable!(),
+        Some(report) => events_in(report),
+        None => 0,
     }
 }
 
@@ -65,7 +75,7 @@ fn push_field(text: &mut Vec<u8>, word: &[u8], number: u32) -> Result<(), AllocE
 }
 
 /// Appends the line of a trial.
-pub fn push_summary(text: &mut Vec<u8>, summary: &Summary) -> Result<(), AllocError>
+fn push_summary(text: &mut Vec<u8>, summary: &Summary) -> Result<(), AllocError>
     ensures { OnOk result (text.new.items ≡ text.old.items
         ++ summary_line summary.now.motes summary.now.pages summary.now.sweeps summary.now.events summary.now.whole) }
 {
@@ -78,12 +88,13 @@ pub fn push_summary(text: &mut Vec<u8>, summary: &Summary) -> Result<(), AllocEr
     Ok(())
 }
 
-/// Appends the line of a trial for which boards are missing.
-pub fn push_no_board(text: &mut Vec<u8>, motes: u8, boards: u32) -> Result<(), AllocError>
-    ensures { OnOk result (text.new.items ≡ text.old.items ++ no_board_line motes boards) }
+/// The line of a trial.
+pub fn line_of_summary(alloc: Global, summary: &Summary) -> Result<Vec<u8>, End>
+    ensures line { IfOk result (λ text. text.items
+        ≡ summary_line summary.now.motes summary.now.pages summary.now.sweeps summary.now.events summary.now.whole) }
+    ensures memory { OnErr result (result ≡ Err End.Memory) }
 {
-    push_field(text, b"noboard ", u32::from(motes))?;
-    push_field(text, b" ", boards)?;
-    text.push(b'\n')?;
-    Ok(())
+    let mut text = Vec::new(alloc);
+    push_summary(&mut text, summary)?;
+    Ok(text)
 }

@@ -102,10 +102,10 @@ returns-in-Migrate-clause-writes g c = (c.migrate.ensures.does (outside (input_o
 
 pub returns-in-Trial-clause-done : goal.returns-in-Trial-clause-done
 returns-in-Trial-clause-done g c =
-    said_done c.args.command.now _ c.in-Trial.is _ _ _ (refl, c.trial.ensures.ends, c.trial.ensures.cause, c.trial.ensures.unfailed)
+    said_done c.args.command.now _ c.in-Trial.is _ _ _ (refl, c.trial.ensures.ends (outside (input_of (g.S.Source, c.args.input.now)) (output_of (g.K.Sink, c.args.out.now)) (link_of (g.L.Link, c.args.link.now)) (g.C.Clock.told c.args.clock.now) (map g.N.Nor.device c.args.boards.now.items)), c.trial.ensures.cause, c.trial.ensures.unfailed)
 
 pub returns-in-Trial-clause-link_fault : goal.returns-in-Trial-clause-link_fault
-returns-in-Trial-clause-link_fault g c = λ e. absurd (no_link_of_a_trial _ c.in-Trial.motes c.in-Trial.pages c.in-Trial.seed _ _ c.trial.ensures.ends e)
+returns-in-Trial-clause-link_fault g c = λ e. absurd (no_link_of_a_trial _ c.in-Trial.motes c.in-Trial.pages c.in-Trial.seed _ _ (c.trial.ensures.ends (outside (input_of (g.S.Source, c.args.input.now)) (output_of (g.K.Sink, c.args.out.now)) (link_of (g.L.Link, c.args.link.now)) (g.C.Clock.told c.args.clock.now) (map g.N.Nor.device c.args.boards.now.items))) e)
 
 pub returns-in-Wrap-clause-done : goal.returns-in-Wrap-clause-done
 returns-in-Wrap-clause-done g c =

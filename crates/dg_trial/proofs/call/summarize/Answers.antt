@@ -3,17 +3,11 @@ use Rattle.std.specs.Prelude.{Err}
 use Rattle.dg_rules.specs.Changes.{final_lines}
 use Rattle.dg_script.specs.declared.report.Report.{Report}
 use Rattle.dg_world.proofs.EndureLemmas.{stands_read}
-use Rattle.dg_trial.proofs.TrialLemmas.{read_unread, read_stopped, whole_read, few_whole, ends_first}
+use Rattle.dg_trial.proofs.TrialLemmas.{read_unread, read_stopped, whole_read, few_whole}
 use Rattle.dg_trial.proofs.call.summarize.Goals as goal
 
 pub finish-requires : goal.finish-requires
 finish-requires g c = record { world = (c.requires.world.0, c.requires.world.1) }
-
-pub count_events-requires : goal.count_events-requires
-count_events-requires g c =
-    let w = c.requires.world.0 in
-    let is = c.requires.world.1 in
-    ends_first w _ (c.deref.ensures.value ∙ c.in-Ok.ensures.finished w is ∙ ap (λ (xs : List Report). xs ++ final_lines w) c.new-reports.ensures.items)
 
 pub overflow_cast-result : goal.overflow_cast-result
 overflow_cast-result g c =

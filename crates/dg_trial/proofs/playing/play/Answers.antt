@@ -3,7 +3,7 @@ use Rattle.std.specs.Prelude.{Ok}
 use Rattle.std.proofs.lemmas.Result.{err_from_is_err_and}
 use Rattle.dg_rounds.specs.Rounds.{times, sweep}
 use Rattle.dg_seed.specs.Draws.{generator_of}
-use Rattle.dg_trial.specs.Schedule.{Part, always, resets, disturbances}
+use Rattle.dg_trial.specs.Schedule.{SchedulePart, always, resets, disturbances}
 use Rattle.dg_trial.specs.Playing.{PartsPlay}
 use Rattle.dg_trial.proofs.PartLemmas.{so_far_none, so_far_more, so_far_stop, may_next}
 use Rattle.dg_trial.proofs.LoopLemmas.{injected, pieces, played_so_far}
@@ -14,7 +14,7 @@ play_resets-requires g c =
     let n = c.args.motes in
     let first = c.args.world.now in
     let old = map g.N.Nor.device c.args.boards.now.items in
-    let r : List Part = map always (resets n) in
+    let r : List SchedulePart = map always (resets n) in
     let at = pieces n (generator_of c.args.draws.now) (times c.args.sweeps (sweep c.args.links.now)) in
     may_next c.what_is_left_may_be_played.ensures n [] r _ _ first first old old c.requires.may (so_far_none first old) at.first
 
@@ -23,7 +23,7 @@ play_injection-requires g c =
     let n = c.args.motes in
     let first = c.args.world.now in
     let old = map g.N.Nor.device c.args.boards.now.items in
-    let r : List Part = map always (resets n) in
+    let r : List SchedulePart = map always (resets n) in
     let at = pieces n (generator_of c.args.draws.now) (times c.args.sweeps (sweep c.args.links.now)) in
     let s1 = played_so_far r first c.play_resets.new.world old _ c.in_ok-play_resets.ensures in
     (n, may_next c.what_is_left_may_be_played.ensures n r injected _ _ first c.play_resets.new.world old _ c.requires.may s1 at.second)
@@ -33,8 +33,8 @@ play_disturbances-requires-clause-may g c =
     let n = c.args.motes in
     let first = c.args.world.now in
     let old = map g.N.Nor.device c.args.boards.now.items in
-    let r : List Part = map always (resets n) in
-    let d : List Part = disturbances n (100 * n) (generator_of c.args.draws.now) in
+    let r : List SchedulePart = map always (resets n) in
+    let d : List SchedulePart = disturbances n (100 * n) (generator_of c.args.draws.now) in
     let at = pieces n (generator_of c.args.draws.now) (times c.args.sweeps (sweep c.args.links.now)) in
     let s1 = played_so_far r first c.play_resets.new.world old _ c.in_ok-play_resets.ensures in
     let s2 = so_far_more r injected first c.play_resets.new.world c.play_injection.new.world old _ _ s1 c.in_ok-play_injection.ensures in
@@ -45,8 +45,8 @@ play_resets-requires-2 g c =
     let n = c.args.motes in
     let first = c.args.world.now in
     let old = map g.N.Nor.device c.args.boards.now.items in
-    let r : List Part = map always (resets n) in
-    let d : List Part = disturbances n (100 * n) (generator_of c.args.draws.now) in
+    let r : List SchedulePart = map always (resets n) in
+    let d : List SchedulePart = disturbances n (100 * n) (generator_of c.args.draws.now) in
     let at = pieces n (generator_of c.args.draws.now) (times c.args.sweeps (sweep c.args.links.now)) in
     let s1 = played_so_far r first c.play_resets.new.world old _ c.in_ok-play_resets.ensures in
     let s2 = so_far_more r injected first c.play_resets.new.world c.play_injection.new.world old _ _ s1 c.in_ok-play_injection.ensures in
@@ -58,8 +58,8 @@ play_sweeps-requires g c =
     let n = c.args.motes in
     let first = c.args.world.now in
     let old = map g.N.Nor.device c.args.boards.now.items in
-    let r : List Part = map always (resets n) in
-    let d : List Part = disturbances n (100 * n) (generator_of c.args.draws.now) in
+    let r : List SchedulePart = map always (resets n) in
+    let d : List SchedulePart = disturbances n (100 * n) (generator_of c.args.draws.now) in
     let at = pieces n (generator_of c.args.draws.now) (times c.args.sweeps (sweep c.args.links.now)) in
     let s1 = played_so_far r first c.play_resets.new.world old _ c.in_ok-play_resets.ensures in
     let s2 = so_far_more r injected first c.play_resets.new.world c.play_injection.new.world old _ _ s1 c.in_ok-play_injection.ensures in
@@ -73,7 +73,7 @@ returns-in_err-play_resets g c =
     let n = c.args.motes in
     let first = c.args.world.now in
     let old = map g.N.Nor.device c.args.boards.now.items in
-    let r : List Part = map always (resets n) in
+    let r : List SchedulePart = map always (resets n) in
     let at = pieces n (generator_of c.args.draws.now) (times c.args.sweeps (sweep c.args.links.now)) in
     rw (p.1, p.2)
     (so_far_stop c.in_err-play_resets.field-0.0 [] r _ _ first first c.play_resets.new.world old old _ (so_far_none first old) c.in_err-play_resets.ensures at.first)
@@ -84,7 +84,7 @@ returns-in_err-play_injection g c =
     let n = c.args.motes in
     let first = c.args.world.now in
     let old = map g.N.Nor.device c.args.boards.now.items in
-    let r : List Part = map always (resets n) in
+    let r : List SchedulePart = map always (resets n) in
     let at = pieces n (generator_of c.args.draws.now) (times c.args.sweeps (sweep c.args.links.now)) in
     let s1 = played_so_far r first c.play_resets.new.world old _ c.in_ok-play_resets.ensures in
     rw (p.1, p.2)
@@ -96,8 +96,8 @@ returns-in_err-play_disturbances g c =
     let n = c.args.motes in
     let first = c.args.world.now in
     let old = map g.N.Nor.device c.args.boards.now.items in
-    let r : List Part = map always (resets n) in
-    let d : List Part = disturbances n (100 * n) (generator_of c.args.draws.now) in
+    let r : List SchedulePart = map always (resets n) in
+    let d : List SchedulePart = disturbances n (100 * n) (generator_of c.args.draws.now) in
     let at = pieces n (generator_of c.args.draws.now) (times c.args.sweeps (sweep c.args.links.now)) in
     let s1 = played_so_far r first c.play_resets.new.world old _ c.in_ok-play_resets.ensures in
     let s2 = so_far_more r injected first c.play_resets.new.world c.play_injection.new.world old _ _ s1 c.in_ok-play_injection.ensures in
@@ -110,8 +110,8 @@ returns-in_err-play_resets-2 g c =
     let n = c.args.motes in
     let first = c.args.world.now in
     let old = map g.N.Nor.device c.args.boards.now.items in
-    let r : List Part = map always (resets n) in
-    let d : List Part = disturbances n (100 * n) (generator_of c.args.draws.now) in
+    let r : List SchedulePart = map always (resets n) in
+    let d : List SchedulePart = disturbances n (100 * n) (generator_of c.args.draws.now) in
     let at = pieces n (generator_of c.args.draws.now) (times c.args.sweeps (sweep c.args.links.now)) in
     let s1 = played_so_far r first c.play_resets.new.world old _ c.in_ok-play_resets.ensures in
     let s2 = so_far_more r injected first c.play_resets.new.world c.play_injection.new.world old _ _ s1 c.in_ok-play_injection.ensures in
@@ -125,8 +125,8 @@ returns-in_err-play_sweeps g c =
     let n = c.args.motes in
     let first = c.args.world.now in
     let old = map g.N.Nor.device c.args.boards.now.items in
-    let r : List Part = map always (resets n) in
-    let d : List Part = disturbances n (100 * n) (generator_of c.args.draws.now) in
+    let r : List SchedulePart = map always (resets n) in
+    let d : List SchedulePart = disturbances n (100 * n) (generator_of c.args.draws.now) in
     let at = pieces n (generator_of c.args.draws.now) (times c.args.sweeps (sweep c.args.links.now)) in
     let s1 = played_so_far r first c.play_resets.new.world old _ c.in_ok-play_resets.ensures in
     let s2 = so_far_more r injected first c.play_resets.new.world c.play_injection.new.world old _ _ s1 c.in_ok-play_injection.ensures in
@@ -140,12 +140,12 @@ returns g c =
     let n = c.args.motes in
     let first = c.args.world.now in
     let old = map g.N.Nor.device c.args.boards.now.items in
-    let r : List Part = map always (resets n) in
-    let d : List Part = disturbances n (100 * n) (generator_of c.args.draws.now) in
+    let r : List SchedulePart = map always (resets n) in
+    let d : List SchedulePart = disturbances n (100 * n) (generator_of c.args.draws.now) in
     let at = pieces n (generator_of c.args.draws.now) (times c.args.sweeps (sweep c.args.links.now)) in
     let s1 = played_so_far r first c.play_resets.new.world old _ c.in_ok-play_resets.ensures in
     let s2 = so_far_more r injected first c.play_resets.new.world c.play_injection.new.world old _ _ s1 c.in_ok-play_injection.ensures in
     let s3 = so_far_more (r ++ injected) d first c.play_injection.new.world c.play_disturbances.new.world old _ _ s2 c.in_ok-play_disturbances.ensures in
     let s4 = so_far_more ((r ++ injected) ++ d) r first c.play_disturbances.new.world c.play_resets-2.new.world old _ _ s3 c.in_ok-play_resets-2.ensures in
     let s5 = so_far_more (((r ++ injected) ++ d) ++ r) _ first c.play_resets-2.new.world c.play_sweeps.new.world old _ _ s4 c.in_ok-play_sweeps.ensures in
-    subst (λ (ps : List Part). PartsPlay (Ok tt) ps first c.play_sweeps.new.world old (map g.N.Nor.device c.play_sweeps.new.boards.items)) at.all s5.played
+    subst (λ (ps : List SchedulePart). PartsPlay (Ok tt) ps first c.play_sweeps.new.world old (map g.N.Nor.device c.play_sweeps.new.boards.items)) at.all s5.played

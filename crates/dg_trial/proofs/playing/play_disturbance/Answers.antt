@@ -1,6 +1,6 @@
 use Rattle.std.proofs.Common.{List, ◌∷◌, [], map, refl, sym, ap, subst, ◌∙◌, arith}
 use Rattle.dg_seed.specs.Draws.{generator_of}
-use Rattle.dg_trial.specs.Schedule.{Part, disturbance}
+use Rattle.dg_trial.specs.Schedule.{SchedulePart, disturbance}
 use Rattle.dg_trial.specs.Playing.{MayPlayOver, PartsPlay}
 use Rattle.dg_trial.proofs.ScheduleLemmas.{one_disturbance}
 use Rattle.dg_trial.proofs.PartLemmas.{nothing_played, may_only}
@@ -17,9 +17,9 @@ disturbance-requires-clause-few g c =
 pub play_step-requires : goal.play_step-requires
 play_step-requires g c =
     let motes = c.args.motes in
-    let part : Part = disturbance motes c.next-first.result c.next-second.result c.next-third.result in
+    let part : SchedulePart = disturbance motes c.next-first.result c.next-second.result c.next-third.result in
     let one = one_disturbance motes (generator_of c.args.draws.now) _ _ _ c.next-first.result c.next-second.result c.next-third.result c.next-first.ensures.step c.next-second.ensures.step c.next-third.ensures.step in
-    let may : MayPlayOver motes c.args.world.now (map g.N.Nor.device c.args.boards.now.items) (part ∷ []) = subst (λ (ps : List Part). MayPlayOver motes c.args.world.now (map g.N.Nor.device c.args.boards.now.items) ps) one.0 c.requires.may in
+    let may : MayPlayOver motes c.args.world.now (map g.N.Nor.device c.args.boards.now.items) (part ∷ []) = subst (λ (ps : List SchedulePart). MayPlayOver motes c.args.world.now (map g.N.Nor.device c.args.boards.now.items) ps) one.0 c.requires.may in
     let step = c.in-Ok.step in
     let only_it = may_only motes _ _ step part may (sym (c.in-Ok.ensures ∙ ap part (c.frames_sent-sent.ensures _ may.world may.is))) in
     (motes, only_it)
@@ -27,9 +27,9 @@ play_step-requires g c =
 pub returns-in-Ok-clause-played : goal.returns-in-Ok-clause-played
 returns-in-Ok-clause-played g c =
     let motes = c.args.motes in
-    let part : Part = disturbance motes c.next-first.result c.next-second.result c.next-third.result in
+    let part : SchedulePart = disturbance motes c.next-first.result c.next-second.result c.next-third.result in
     let one = one_disturbance motes (generator_of c.args.draws.now) _ _ _ c.next-first.result c.next-second.result c.next-third.result c.next-first.ensures.step c.next-second.ensures.step c.next-third.ensures.step in
-    subst (λ (ps : List Part). PartsPlay c.play_step.result ps c.args.world.now c.play_step.new.world (map g.N.Nor.device c.args.boards.now.items) (map g.N.Nor.device c.play_step.new.boards.items)) (sym one.0)
+    subst (λ (ps : List SchedulePart). PartsPlay c.play_step.result ps c.args.world.now c.play_step.new.world (map g.N.Nor.device c.args.boards.now.items) (map g.N.Nor.device c.play_step.new.boards.items)) (sym one.0)
     (c.play_step.ensures part (λ w is. sym (c.in-Ok.ensures ∙ ap part (c.frames_sent-sent.ensures _ w is))))
 
 pub returns-in-Ok-clause-drawn : goal.returns-in-Ok-clause-drawn
