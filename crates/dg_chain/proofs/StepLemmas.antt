@@ -14,11 +14,15 @@ use Rattle.dg_slot.specs.Kept.{Held, KeepsImage}
 use Rattle.dg_slot.proofs.HeaderLemmas.{done_read}
 use Rattle.dg_slot.proofs.DescriptorLemmas.{one_descriptor, descriptor_head}
 use Rattle.dg_chain.specs.Chain.{IsPayload, chain, root_of, most_payload, pages_of_size, no_digest}
-use Rattle.dg_chain.specs.Checking.{field_of, is_same, Break, first_break, length_in, last_field, has_shape, pages_on, data_pages, Answer, Fine, Broken, Misshapen, by_break, answer_of, Collision}
+use Rattle.dg_chain.specs.Checking.{field_of, is_same, Break, first_break, payload_length_in, last_field, has_shape, pages_on, data_pages, Answer, Fine, Broken, Misshapen, by_break, answer_of, Collision}
 use Rattle.dg_chain.specs.Answers.{ChainAnswers, Walks}
 use Rattle.dg_chain.specs.declared.checking.ChainFault.{ChainFault}
 use Rattle.dg_chain.specs.declared.checking.ChainFault.TheVariants as fault
 use Rattle.dg_chain.proofs.WalkLemmas.{named, own}
+
+pub err_is : {T E : Type 0} (r : Result T E) (e : E) → IsErrAnd r (λ x. x ≡ e) → r ≡ Err e
+err_is (Ok x) e h = absurd h
+err_is (Err x) e h = ap Err h
 
 -- ---- one page
 
@@ -124,7 +128,7 @@ answer_stops root pages e (Err f) is walks = subst (λ (g : ChainFault). ChainAn
 length_pages : (c : List ℕ) (image n : ℕ) → length (data_pages c image n) ≡ n
 length_pages c image n = length-map-range_with_len (λ (p : ℕ). page_in c (page_sector image p)) 1 n
 
-length_first : (c : List ℕ) (image n : ℕ) → 1 ≤ n → length_in (data_pages c image n) ≡ from_be_bytes w32 (take 4 (page_in c (page_sector image 1)))
+length_first : (c : List ℕ) (image n : ℕ) → 1 ≤ n → payload_length_in (data_pages c image n) ≡ from_be_bytes w32 (take 4 (page_in c (page_sector image 1)))
 length_first c image zero h = absurd (omega arith)
 length_first c image (suc n) h = refl
 
@@ -136,13 +140,13 @@ pub answered : (c d : List ℕ) (image count len : ℕ) (root last : List ℕ) (
 unfolding answer_of
 answered c d image count len root last t some unbroken is same told shape =
     let pages = data_pages c image count in
-    let length_is : length_in pages ≡ len = length_first c image count some ∙ sym (told ∙ ap (λ (x : List ℕ). from_be_bytes w32 (take 4 (page_in x (page_sector image 1)))) same) in
+    let length_is : payload_length_in pages ≡ len = length_first c image count some ∙ sym (told ∙ ap (λ (x : List ℕ). from_be_bytes w32 (take 4 (page_in x (page_sector image 1)))) same) in
     let has : has_shape pages ≡ t =
     ap (λ (n : ℕ). nat_le 1 n && (nat_le n most_payload && ((length pages == pages_of_size n) && is_same (last_field pages) no_digest))) length_is
     ∙ ap (λ (n : ℕ). shape_by len n (last_field pages)) (length_pages c image count)
     ∙ ap (shape_by len count) (sym is)
     ∙ shape in
-    ap (λ (o : Option Break). by_break o pages) unbroken ∙ ap (λ (b : Bool). cond b (Fine (length_in pages)) Misshapen) has ∙ ap (λ (n : ℕ). cond t (Fine n) Misshapen) length_is
+    ap (λ (o : Option Break). by_break o pages) unbroken ∙ ap (λ (b : Bool). cond b (Fine (payload_length_in pages)) Misshapen) has ∙ ap (λ (n : ℕ). cond t (Fine n) Misshapen) length_is
 
 -- ---- what the slot keeps
 

@@ -11,7 +11,7 @@ use Rattle.std.proofs.lemmas.Bool.{cases_eq, eq-eqb, eqb-true, and_parts, and_fr
 use Rattle.sha2.specs.Sha256.{sha256}
 use Rattle.dg_words.specs.Lists.{tabulate, padded}
 use Rattle.dg_chain.specs.Chain.{piece_size, most_payload, IsPayload, stream_of, pages_of_size, piece, pieces, no_digest, link_to, chained, chain, root_of}
-use Rattle.dg_chain.specs.Checking.{field_of, is_same, Break, first_break, length_in, last_field, has_shape, Fine, Misshapen, by_break, answer_of, Collision}
+use Rattle.dg_chain.specs.Checking.{field_of, is_same, Break, first_break, payload_length_in, last_field, has_shape, Fine, Misshapen, by_break, answer_of, Collision}
 
 -- ---- byte lists
 
@@ -133,7 +133,7 @@ some_pages : (len : ℕ) → 1 ≤ pages_of_size len
 some_pages len = omega arith
 
 -- the length that the first page tells
-first_told : (f : ℕ → List ℕ) (m : ℕ) → 1 ≤ m → 4 ≤ length (f 0) → length_in (chained (tabulate m f)) ≡ from_be_bytes w32 (take 4 (f 0))
+first_told : (f : ℕ → List ℕ) (m : ℕ) → 1 ≤ m → 4 ≤ length (f 0) → payload_length_in (chained (tabulate m f)) ≡ from_be_bytes w32 (take 4 (f 0))
 unfolding chained
 first_told f zero h l = absurd (omega arith)
 first_told f (suc m) h l = ap (from_be_bytes w32) (take-append-le 4 (f 0) (link_to (chained (map f (range_with_len (0 + 1) m)))) l)
@@ -146,7 +146,7 @@ front_of k n front rest e h =
     let long : k ≤ length (take n (front ++ rest)) = omega (arith, length-take n (front ++ rest), length-append front rest) in
     take-padded_front n 255 k (take n (front ++ rest)) long ∙ take-take k n (front ++ rest) h ∙ take_at front rest k e
 
-length_told : (x : List ℕ) → IsPayload x → length_in (chain x) ≡ length x
+length_told : (x : List ℕ) → IsPayload x → payload_length_in (chain x) ≡ length x
 length_told x h =
     let most : length x ≤ most_payload = h.most in
     let long : 4 ≤ length (piece x 0) = omega (arith, length_piece_of piece_size (stream_of x)) in
@@ -160,19 +160,19 @@ fine_by : (o : Option Break) (t : Bool) (pages : List (List ℕ)) (n : ℕ) → 
 fine_by (Some at) t pages n s e = cc
 fine_by None true pages n s e = (refl, refl)
 fine_by None false pages n s e =
-    let miss : Misshapen ≡ Fine n = ap (λ (b : Bool). cond b (Fine (length_in pages)) Misshapen) (sym s) ∙ e in cc
+    let miss : Misshapen ≡ Fine n = ap (λ (b : Bool). cond b (Fine (payload_length_in pages)) Misshapen) (sym s) ∙ e in cc
 
 no_shape : has_shape [] ≡ true → ⊥
 no_shape e = let h : false ≡ true = e in cc
 
-named_by : (root : List ℕ) (len : ℕ) (pages others : List (List ℕ)) → Linked root pages → Linked root others → length_in others ≡ len → length others ≡ pages_of_size len → length pages ≡ pages_of_size (length_in pages) → (pages ≡ [] → ⊥) → 1 ≤ length others
+named_by : (root : List ℕ) (len : ℕ) (pages others : List (List ℕ)) → Linked root pages → Linked root others → payload_length_in others ≡ len → length others ≡ pages_of_size len → length pages ≡ pages_of_size (payload_length_in pages) → (pages ≡ [] → ⊥) → 1 ≤ length others
     → (pages ≡ others) ⊎ Collision pages others
 named_by root len [] others p q l m n s t = absurd (s refl)
 named_by root len (page ∷ pages) [] p q l m n s t = absurd (omega arith)
 named_by root len (page ∷ pages) (other ∷ others) p q l m n s t =
     elim (list_cases page other) [
       | inl same ↦
-          let told : length_in (page ∷ pages) ≡ len = ap (λ (w : List ℕ). from_be_bytes w32 (take 4 w)) same ∙ l in
+          let told : payload_length_in (page ∷ pages) ≡ len = ap (λ (w : List ℕ). from_be_bytes w32 (take 4 w)) same ∙ l in
           same_or_collide root (page ∷ pages) (other ∷ others) p q (n ∙ ap pages_of_size told ∙ sym m)
       | inr differ ↦ inr (collides_here page other pages others differ (p.0 ∙ sym q.0))
     ]
@@ -181,10 +181,10 @@ pub named : (x : List ℕ) (pages : List (List ℕ)) (n : ℕ) → IsPayload x �
 unfolding answer_of
 named x pages n h e =
     let parts = fine_by (first_break (root_of x) 1 pages) (has_shape pages) pages n refl e in
-    let shape = and_parts (nat_le 1 (length_in pages)) _ parts.1 in
-    let shape2 = and_parts (nat_le (length_in pages) most_payload) _ shape.1 in
-    let shape3 = and_parts (length pages == pages_of_size (length_in pages)) (is_same (last_field pages) no_digest) shape2.1 in
-    let count : length pages ≡ pages_of_size (length_in pages) = eqb-true (length pages) (pages_of_size (length_in pages)) shape3.0 in
+    let shape = and_parts (nat_le 1 (payload_length_in pages)) _ parts.1 in
+    let shape2 = and_parts (nat_le (payload_length_in pages) most_payload) _ shape.1 in
+    let shape3 = and_parts (length pages == pages_of_size (payload_length_in pages)) (is_same (last_field pages) no_digest) shape2.1 in
+    let count : length pages ≡ pages_of_size (payload_length_in pages) = eqb-true (length pages) (pages_of_size (payload_length_in pages)) shape3.0 in
     let some : 1 ≤ length (chain x) = subst (λ (k : ℕ). 1 ≤ k) (sym (length_chain x)) (some_pages (length x)) in
     named_by (root_of x) (length x) pages (chain x) (linked (root_of x) 1 pages parts.0) (chain_linked (pieces x) (full_pieces x)) (length_told x h) (length_chain x) count
     (λ none. no_shape (ap has_shape (sym none) ∙ parts.1)) some
@@ -192,15 +192,15 @@ named x pages n h e =
 pub own : (x : List ℕ) → IsPayload x → answer_of (root_of x) (chain x) ≡ Fine (length x)
 unfolding answer_of
 own x h =
-    let told : length_in (chain x) ≡ length x = length_told x h in
-    let low : 1 ≤ length_in (chain x) = subst (λ (k : ℕ). 1 ≤ k) (sym told) h.some in
-    let high : length_in (chain x) ≤ most_payload = subst (λ (k : ℕ). k ≤ most_payload) (sym told) h.most in
-    let count : length (chain x) ≡ pages_of_size (length_in (chain x)) = length_chain x ∙ ap pages_of_size (sym told) in
+    let told : payload_length_in (chain x) ≡ length x = length_told x h in
+    let low : 1 ≤ payload_length_in (chain x) = subst (λ (k : ℕ). 1 ≤ k) (sym told) h.some in
+    let high : payload_length_in (chain x) ≤ most_payload = subst (λ (k : ℕ). k ≤ most_payload) (sym told) h.most in
+    let count : length (chain x) ≡ pages_of_size (payload_length_in (chain x)) = length_chain x ∙ ap pages_of_size (sym told) in
     let last : is_same (last_field (chain x)) no_digest ≡ true = ap (λ (f : List ℕ). is_same f no_digest) (last_chained (pieces x) (full_pieces x)) ∙ same_refl no_digest in
     let shape : has_shape (chain x) ≡ true =
-    and_from (nat_le 1 (length_in (chain x))) _ (le-leb 1 (length_in (chain x)) low)
-    (and_from (nat_le (length_in (chain x)) most_payload) _ (le-leb (length_in (chain x)) most_payload high)
-    (and_from (length (chain x) == pages_of_size (length_in (chain x))) _ (eq-eqb (length (chain x)) (pages_of_size (length_in (chain x))) count) last)) in
+    and_from (nat_le 1 (payload_length_in (chain x))) _ (le-leb 1 (payload_length_in (chain x)) low)
+    (and_from (nat_le (payload_length_in (chain x)) most_payload) _ (le-leb (payload_length_in (chain x)) most_payload high)
+    (and_from (length (chain x) == pages_of_size (payload_length_in (chain x))) _ (eq-eqb (length (chain x)) (pages_of_size (payload_length_in (chain x))) count) last)) in
     ap (λ (o : Option Break). by_break o (chain x)) (unbroken (root_of x) 1 (chain x) (chain_linked (pieces x) (full_pieces x)))
-    ∙ ap (λ (b : Bool). cond b (Fine (length_in (chain x))) Misshapen) shape
+    ∙ ap (λ (b : Bool). cond b (Fine (payload_length_in (chain x))) Misshapen) shape
     ∙ ap Fine told

@@ -40,9 +40,9 @@ first_break kept n (page ∷ pages) =
     else Some (record { page = n; kept = kept; found = sha256 page })
 
 -- the length that the first page tells
-abbrev pub length_in : List (List ℕ) → ℕ
-length_in [] = 0
-length_in (page ∷ pages) = from_be_bytes w32 (take 4 page)
+abbrev pub payload_length_in : List (List ℕ) → ℕ
+payload_length_in [] = 0
+payload_length_in (page ∷ pages) = from_be_bytes w32 (take 4 page)
 
 -- the digest that the last page carries
 abbrev pub last_field : List (List ℕ) → List ℕ
@@ -52,8 +52,8 @@ last_field (page ∷ next ∷ pages) = last_field (next ∷ pages)
 
 abbrev pub has_shape : List (List ℕ) → Bool
 has_shape pages =
-    nat_le 1 (length_in pages) && (nat_le (length_in pages) most_payload
-    && ((length pages == pages_of_size (length_in pages)) && is_same (last_field pages) no_digest))
+    nat_le 1 (payload_length_in pages) && (nat_le (payload_length_in pages) most_payload
+    && ((length pages == pages_of_size (payload_length_in pages)) && is_same (last_field pages) no_digest))
 
 pub data Answer : Type 0 where
   Fine : (length : ℕ) → Answer
@@ -62,7 +62,7 @@ pub data Answer : Type 0 where
 
 abbrev pub by_break : Option Break → List (List ℕ) → Answer
 by_break (Some at) pages = Broken at
-by_break None pages = if has_shape pages then Fine (length_in pages) else Misshapen
+by_break None pages = if has_shape pages then Fine (payload_length_in pages) else Misshapen
 
 -- the answer for the data pages of a slot, of which the first is page 1
 unfoldable pub answer_of : (root : List ℕ) → List (List ℕ) → Answer

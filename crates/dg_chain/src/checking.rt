@@ -1,7 +1,6 @@
 //! The pages of a slot are compared with a root.
 ghost use Rattle.std.specs.Prelude.{◌≡◌, ◌≢◌, ◌⊎◌, ℕ, ◌+◌, ◌<◌, ◌≤◌, ◌==◌, ◌&&◌, nat_le, false, List, Ok, Err, length, drop};
-ghost use Rattle.std.specs.Prelude.{IfOk, OnOk, [], ◌∷◌};
-ghost use Rattle.dg_nor.specs.Reads.{ReadEnds};
+ghost use Rattle.std.specs.Prelude.{IfOk, OnOk, OnErr, [], ◌∷◌};
 ghost use Rattle.dg_slot.specs.Layout.{slots, most_pages, page_sector};
 ghost use Rattle.dg_slot.specs.Pages.{page_in};
 ghost use Rattle.dg_slot.specs.Kept.{Held, KeepsImage};
@@ -44,20 +43,20 @@ impl From<Stopped> for ChainFault {
 }
 
 // How many data pages a slot has. The slot is whole.
-fn count_of<N: Nor>(nor: &mut N, image: u8) -> Result<u8, Stopped>
+fn count_of<N: Nor>(nor: &mut N, image: u8) -> Result<u8, ChainFault>
     requires known_image { image < slots }
     requires whole { IsKeptWhole (N.device nor.old).image image }
     ensures count { IfOk result (λ n. (h : Held) → KeepsImage (N.device nor.old).image image h → n + 1 ≡ length h.complete) }
     ensures some { IfOk result (λ n. 1 ≤ n) }
     ensures few { IfOk result (λ n. n < most_pages) }
     ensures awake { OnOk result ((N.device nor.old).stopped ≡ false) }
-    ensures ends { ReadEnds result (N.device nor.old) (N.device nor.new) }
+    ensures stopped { OnErr result (result ≡ Err ChainFault.Stopped) }
+    ensures ends { ChainEnds result (N.device nor.old) (N.device nor.new) }
 {
-    let found = read_descriptor(nor, page_sector(image, 0))?;
-    match found {
-        Some(first) => Ok(first.descriptor.pages - 1),
-        None => unreachable!(),
-    }
+    let Some(first) = read_descriptor(nor, page_sector(image, 0))? else {
+        return Err(ChainFault::Shape);
+    };
+    Ok(first.descriptor.pages - 1)
 }
 
 // The digest that a page carries, where it has the one that is kept of it.

@@ -69,6 +69,7 @@ pub fn seal_chained<N: Nor>(
     match job.seal(nor)? {
         Sealing::Sealed(slot) => Ok(ChainSealing::Sealed { slot, next }),
         Sealing::Bad { kept, found, slot } => Ok(ChainSealing::Bad { kept, found, slot }),
+        // Only page 0 may be unfit. A `PageJob` is of any page, and its type does not tell of which.
         Sealing::Unfit { .. } => unreachable!(),
     }
 }

@@ -4,7 +4,7 @@ use Rattle.std.specs.Prelude.{◌==◌, ◌↔◌, if◌then◌else◌, IsSomeAn
 use Rattle.std.proofs.lemmas.Bool.{cases_eq, ne_eqb}
 use Rattle.sha2.specs.Sha256.{sha256}
 use Rattle.dg_slot.specs.Kept.{Held}
-use Rattle.dg_chain.specs.Checking.{Answer, Fine, Broken, Misshapen, Break, answer_of, by_break, first_break, field_of, has_shape, length_in, is_same}
+use Rattle.dg_chain.specs.Checking.{Answer, Fine, Broken, Misshapen, Break, answer_of, by_break, first_break, field_of, is_same}
 use Rattle.dg_chain.proofs.WalkLemmas.{same_true}
 use Rattle.dg_inspect.specs.Pages.{root_in, chain_by, chain_in, ShowsKept, ShowsHeld}
 use Rattle.dg_inspect.proofs.PageLemmas.{if_true, if_false}

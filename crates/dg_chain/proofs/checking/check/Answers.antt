@@ -1,7 +1,8 @@
-use Rattle.std.proofs.Common.{◌≡◌, List, ℕ, drop, ◌∙◌, ap, subst}
+use Rattle.std.proofs.Common.{◌≡◌, inr, List, ℕ, Result, drop, ◌∙◌, sym, ap, subst}
 use Rattle.dg_chain.specs.Checking.{answer_of, data_pages}
-use Rattle.dg_chain.specs.Answers.{ChainAnswers}
-use Rattle.dg_chain.proofs.StepLemmas.{pages_kept, answer_named, answer_own}
+use Rattle.dg_chain.specs.Answers.{ChainAnswers, ChainEnds}
+use Rattle.dg_chain.proofs.StepLemmas.{err_is, pages_kept, answer_named, answer_own}
+use Rattle.dg_chain.specs.declared.checking.ChainFault.{ChainFault}
 use Rattle.dg_chain.proofs.checking.check.Goals as goal
 
 pub returns-clause-answer : goal.returns-clause-answer
@@ -19,3 +20,25 @@ returns-clause-named g c x h payload root keeps =
 pub returns-clause-own : goal.returns-clause-own
 returns-clause-own g c x h payload root keeps same =
     answer_own x (drop 1 h.complete) c.args.root.now c.check_pages.result payload root same (returns-clause-answer g c h keeps)
+
+-- the descriptor could not be read
+pub returns-in_err-count-clause-answer : goal.returns-in_err-count-clause-answer
+returns-in_err-count-clause-answer g c h keeps =
+    let stops = err_is c.from_residual.result _ c.from_residual.ensures.1 ∙ c.in_err-count.ensures.stopped in
+    rw stops tt
+
+pub returns-in_err-count-clause-named : goal.returns-in_err-count-clause-named
+returns-in_err-count-clause-named g c x h payload root keeps =
+    let stops = err_is c.from_residual.result _ c.from_residual.ensures.1 ∙ c.in_err-count.ensures.stopped in
+    rw stops tt
+
+pub returns-in_err-count-clause-own : goal.returns-in_err-count-clause-own
+returns-in_err-count-clause-own g c x h payload root keeps same = inr (err_is c.from_residual.result _ c.from_residual.ensures.1 ∙ c.in_err-count.ensures.stopped)
+
+pub returns-in_err-count-clause-awake : goal.returns-in_err-count-clause-awake
+returns-in_err-count-clause-awake g c other = absurd (other (err_is c.from_residual.result _ c.from_residual.ensures.1 ∙ c.in_err-count.ensures.stopped))
+
+pub returns-in_err-count-clause-ends : goal.returns-in_err-count-clause-ends
+returns-in_err-count-clause-ends g c =
+    let is = err_is c.from_residual.result _ c.from_residual.ensures.1 in
+    subst (λ (y : Result ℕ ChainFault). ChainEnds y (g.N.Nor.device c.args.nor.now) (g.N.Nor.device c.count_of.new.nor)) (sym is) c.in_err-count.ensures.ends
