@@ -1,5 +1,5 @@
 -- A chip that meets all conditions is a volume.
-use Rattle.std.proofs.Common.{◌≡◌, ℕ, ◌<◌, Bool, true, List, length, Option, Some, None, Result, Ok, Err, IfSome, IfOk, IsNone, IsSomeAnd, IsTrue, refl, sym, ap, subst, ◌∙◌, arith, eq-eqb, eqb-true}
+use Rattle.std.proofs.Common.{◌≡◌, ℕ, ◌<◌, Bool, true, List, length, Option, Some, None, Result, Ok, Err, IfOk, IsSomeAnd, IsTrue, refl, sym, ap, subst, ◌∙◌, arith, eq-eqb, eqb-true}
 use Rattle.std.specs.Prelude.{◌↔◌, nat_eq}
 use Rattle.dg_nor.specs.declared.device.Stopped.{Stopped}
 use Rattle.dg_words.specs.Cells.{part}
@@ -20,7 +20,7 @@ use Rattle.dg_slot.specs.Kept.{Held, HasDescriptor}
 use Rattle.dg_slot.proofs.HeaderLemmas.{one_header}
 use Rattle.dg_volume.specs.Sizes.{images, golden_version}
 use Rattle.dg_volume.specs.Store.{App, Store, held}
-use Rattle.dg_volume.specs.Stands.{IsVolume}
+use Rattle.dg_volume.specs.Stands.{IsVolume, IsNoVolume}
 use Rattle.dg_volume.specs.Reading.{SlotKeeps, ProgramHolds}
 use Rattle.dg_volume.proofs.MountLemmas.{gathered}
 use Rattle.dg_inspect.specs.Breaks.{slot_state, HoldsGolden, HoldsHeader, HoldsDescriptor, HoldsSet, HoldsBehind, FailsBehind, FailsAt, IsSectorOf, BreaksBehind, IsByteOf, BreaksAt}
@@ -142,12 +142,11 @@ bytes_with c p room (condition.Header i) y controls breaks = (p, room, controls,
 bytes_with c p room (condition.Descriptor i) y controls breaks = (p, room, controls, breaks)
 bytes_with c p room condition.Program y controls breaks = (p, room, controls, breaks)
 
-pub breaks_behind : (c d e : List ℕ) (p : Snapshot) (room : ℕ) (r : Result (Option Break) Stopped) → d ≡ c → e ≡ c → Controls d p room
-    → IfOk r (λ found. IfSome found (λ b. FailsBehind e p b.condition)) → IfOk r (λ found. IfSome found (λ b. IsSectorOf e b.condition b.sector))
-    → IfOk r (λ found. IfSome found (λ b. BreaksBehind e p b.condition b.byte)) → IfOk r (λ found. IfSome found (BreaksAt c))
+pub breaks_behind : (c d e : List ℕ) (p : Snapshot) (room : ℕ) (r : Result Break Stopped) → d ≡ c → e ≡ c → Controls d p room
+    → IfOk r (λ b. FailsBehind e p b.condition) → IfOk r (λ b. IsSectorOf e b.condition b.sector)
+    → IfOk r (λ b. BreaksBehind e p b.condition b.byte) → IfOk r (BreaksAt c)
 breaks_behind c d e p room (Err x) s t controls fails place byte = tt
-breaks_behind c d e p room (Ok None) s t controls fails place byte = tt
-breaks_behind c d e p room (Ok (Some b)) s t controls fails place byte =
+breaks_behind c d e p room (Ok b) s t controls fails place byte =
     let held : Controls c p room = subst (λ (x : List ℕ). Controls x p room) s controls in
     record {
       fails = fails_with c p room b.condition held (subst (λ (x : List ℕ). FailsBehind x p b.condition) t fails);
@@ -155,10 +154,11 @@ breaks_behind c d e p room (Ok (Some b)) s t controls fails place byte =
       byte = bytes_with c p room b.condition b.byte held (subst (λ (x : List ℕ). BreaksBehind x p b.condition b.byte) t byte);
     }
 
-pub no_break : (c d e : List ℕ) (p : Snapshot) (room : ℕ) (r : Result (Option Break) Stopped) → d ≡ c → e ≡ c → Controls d p room
-    → IfOk r (λ found. IsNone found → HoldsBehind e p) → IfOk r (λ found. IsNone found → IsVolume c)
-no_break c d e p room (Err x) s t controls holds = tt
-no_break c d e p room (Ok found) s t controls holds = λ none. all_hold c p room (subst (λ (x : List ℕ). Controls x p room) s controls) (subst (λ (x : List ℕ). HoldsBehind x p) t (holds none))
+-- a chip that is no volume does not meet all of them
+pub not_all_hold : (c d e : List ℕ) (p : Snapshot) (room : ℕ) → d ≡ c → e ≡ c → Controls d p room → IsNoVolume c → HoldsBehind e p → ⊥
+not_all_hold c d e p room s t controls none holds =
+    let volume = all_hold c p room (subst (λ (x : List ℕ). Controls x p room) s controls) (subst (λ (x : List ℕ). HoldsBehind x p) t holds) in
+    none volume.0 volume.1
 
 -- no snapshot is told
 pub snapshot_breaks : (c : List ℕ) (n k y : ℕ) → k ≡ current n → HasCount c n → ((p : Snapshot) (room : ℕ) → Controls c p room → ⊥) → BreaksPlace (sector c k) y

@@ -10,9 +10,9 @@ ghost use Rattle.dg_slot.specs.Pages.{page_in};
 ghost use Rattle.dg_slot.specs.Kept.{HasDescriptor};
 ghost use Rattle.dg_nor.specs.Chip.{sector};
 ghost use Rattle.dg_volume.specs.Sizes.{images};
-ghost use Rattle.dg_volume.specs.Stands.{IsVolume};
+ghost use Rattle.dg_volume.specs.Stands.{IsNoVolume};
 ghost use Rattle.dg_inspect.specs.Breaks.{slot_state, HoldsGolden, HoldsHeader};
-ghost use Rattle.dg_inspect.specs.Breaks.{HoldsDescriptor, HoldsSet, HeadersTo, DescriptorsTo};
+ghost use Rattle.dg_inspect.specs.Breaks.{HoldsDescriptor, HeadersTo, DescriptorsTo};
 ghost use Rattle.dg_inspect.specs.Breaks.{FailsBehind, IsSectorOf, BreaksBehind, BreaksAt, HoldsBehind};
 
 use crate::bytes::{
@@ -21,12 +21,11 @@ use crate::bytes::{
 use crate::header::{HeaderSeen, header_sector, see_header};
 use crate::seen::{Break, Condition};
 use dg_control::{
-    CONTROL_SECTOR, Control, GOLDEN, GOLDEN_VERSION, IMAGES, MountFault, Program, SlotState,
-    Snapshot,
+    CONTROL_SECTOR, Control, GOLDEN, GOLDEN_VERSION, IMAGES, MountFault, SlotState, Snapshot,
 };
 use dg_ledger::{LEDGER_SECTOR, Ledger, LedgerFault};
 use dg_nor::{Nor, Stopped};
-use dg_slot::{PROGRAM_SECTOR, find_descriptor, page_sector, read_descriptor};
+use dg_slot::{PROGRAM_SECTOR, page_sector, read_descriptor};
 
 /// How many bits of the ledger are cleared. None where sector 0 is no ledger.
 fn ledger_count<N: Nor>(nor: &mut N) -> Result<Option<u16>, Stopped>
@@ -37,8 +36,7 @@ fn ledger_count<N: Nor>(nor: &mut N) -> Result<Option<u16>, Stopped>
     match Ledger::mount(nor) {
         Ok(ledger) => Ok(Some(ledger.count())),
         Err(LedgerFault::Stopped) => Err(Stopped),
-        Err(LedgerFault::Shape) => Ok(None),
-        Err(LedgerFault::Used) => unreachable!(),
+        Err(LedgerFault::Shape | LedgerFault::Used) => Ok(None),
     }
 }
 
@@ -161,60 +159,42 @@ fn first_undescribed<N: Nor>(nor: &mut N, snapshot: &Snapshot) -> Result<Option<
     Ok(None)
 }
 
-/// Whether program memory in this state begins with the descriptor of what it is set to.
-fn holds_set<N: Nor>(nor: &mut N, program: Program) -> Result<bool, Stopped>
-    ensures holds { IfOk result (λ b. IsTrue b ↔ HoldsSet (N.device nor.old).image program) }
-    ensures ends { ReadEnds result (N.device nor.old) (N.device nor.new) }
-{
-    let Program::Set { image, version } = program else {
-        return Ok(true);
-    };
-    let Some(descriptor) = find_descriptor(nor, PROGRAM_SECTOR)? else {
-        return Ok(false);
-    };
-    Ok(descriptor.image == image && descriptor.version == version)
-}
-
-/// The first condition after the control sectors that a chip with this snapshot does not meet.
-fn break_behind<N: Nor>(nor: &mut N, snapshot: &Snapshot) -> Result<Option<Break>, Stopped>
-    ensures fails { IfOk result (λ found. IfSome found (λ b.
-        FailsBehind (N.device nor.old).image snapshot.now b.condition)) }
-    ensures sector { IfOk result (λ found. IfSome found (λ b. IsSectorOf (N.device nor.old).image b.condition b.sector)) }
-    ensures byte { IfOk result (λ found. IfSome found (λ b.
-        BreaksBehind (N.device nor.old).image snapshot.now b.condition b.byte)) }
-    ensures none { IfOk result (λ found. IsNone found → HoldsBehind (N.device nor.old).image snapshot.now) }
+/// The first condition after the control sectors that a chip with this snapshot does not meet. It does not meet all of them, so
+/// that of program memory is what is left if it meets the others.
+fn break_behind<N: Nor>(nor: &mut N, snapshot: &Snapshot) -> Result<Break, Stopped>
+    requires { HoldsBehind (N.device nor.old).image snapshot.now → ⊥ }
+    ensures fails { IfOk result (λ b. FailsBehind (N.device nor.old).image snapshot.now b.condition) }
+    ensures sector { IfOk result (λ b. IsSectorOf (N.device nor.old).image b.condition b.sector) }
+    ensures byte { IfOk result (λ b. BreaksBehind (N.device nor.old).image snapshot.now b.condition b.byte) }
     ensures ends { ReadEnds result (N.device nor.old) (N.device nor.new) }
 {
     let golden = snapshot.slots[usize::from(GOLDEN)];
     if !holds_golden(nor, golden)? {
-        return Ok(Some(Break {
+        return Ok(Break {
             condition: Condition::Golden,
             sector: header_sector(GOLDEN),
             byte: golden_byte(nor, golden)?,
-        }));
+        });
     }
     if let Some(image) = first_without_header(nor, snapshot)? {
-        return Ok(Some(Break {
+        return Ok(Break {
             condition: Condition::Header { image },
             sector: header_sector(image),
             byte: header_byte(nor, image, snapshot.slots[usize::from(image)])?,
-        }));
+        });
     }
     if let Some(image) = first_undescribed(nor, snapshot)? {
-        return Ok(Some(Break {
+        return Ok(Break {
             condition: Condition::Descriptor { image },
             sector: page_sector(image, 0),
             byte: descriptor_byte(nor, image, snapshot.slots[usize::from(image)])?,
-        }));
+        });
     }
-    if !holds_set(nor, snapshot.program)? {
-        return Ok(Some(Break {
-            condition: Condition::Program,
-            sector: PROGRAM_SECTOR,
-            byte: program_byte(nor, snapshot.program)?,
-        }));
-    }
-    Ok(None)
+    Ok(Break {
+        condition: Condition::Program,
+        sector: PROGRAM_SECTOR,
+        byte: program_byte(nor, snapshot.program)?,
+    })
 }
 
 /// Why the control sectors of a chip with this count have no snapshot.
@@ -245,17 +225,17 @@ fn ledger_break<N: Nor>(nor: &mut N) -> Result<Break, Stopped>
     })
 }
 
-/// The first condition of a volume that a chip does not meet. None where it is a volume.
-pub fn find_break<N: Nor>(nor: &mut N) -> Result<Option<Break>, Stopped>
-    ensures first { IfOk result (λ found. IfSome found (BreaksAt (N.device nor.old).image)) }
-    ensures none { IfOk result (λ found. IsNone found → IsVolume (N.device nor.old).image) }
+/// Why a chip is no volume: the first condition of a volume that it does not meet.
+pub(crate) fn first_break<N: Nor>(nor: &mut N) -> Result<Break, Stopped>
+    requires { IsNoVolume (N.device nor.old).image }
+    ensures breaks { IfOk result (BreaksAt (N.device nor.old).image) }
     ensures ends { ReadEnds result (N.device nor.old) (N.device nor.new) }
 {
     let Some(count) = ledger_count(nor)? else {
-        return Ok(Some(ledger_break(nor)?));
+        return ledger_break(nor);
     };
     let Some(snapshot) = chip_snapshot(nor)? else {
-        return Ok(Some(snapshot_break(nor, count)?));
+        return snapshot_break(nor, count);
     };
     break_behind(nor, &snapshot)
 }

@@ -66,8 +66,7 @@ fn see_complete<N: Nor>(nor: &mut N, image: u8, kept: &Kept) -> Result<Option<Pa
     if kept.done == 0 {
         return Ok(None);
     }
-    let pages = see_pages(nor, page_sector(image, 0), kept.done)?;
-    Ok(Some(pages))
+    see_pages(nor, page_sector(image, 0), kept.done)
 }
 
 /// What an image shows of which this is kept.

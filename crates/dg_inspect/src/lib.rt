@@ -20,10 +20,9 @@ mod seen;
 mod starting;
 mod unfit;
 
-pub use breaks::find_break;
 pub use chip::StillChip;
 pub use files::{inspect, is_chip_length};
-pub use looking::look;
+pub use looking::{find_break, look};
 pub use numbers::next_numbers;
 pub use seen::{
     Break, BytesSeen, ChainSeen, ChipSeen, Condition, FileSeen, ImageSeen, ImageVersion, LookFault,

@@ -1,19 +1,20 @@
 //! All that a chip shows.
-ghost use Rattle.std.specs.Prelude.{◌≡◌, ℕ, ◌<◌, None, Option, IfOk, IfSome, OnOk, length, slice_index_or};
+ghost use Rattle.std.specs.Prelude.{◌≡◌, ℕ, ◌<◌, None, Option, IfOk, IfSome, IsNone, OnOk, length, slice_index_or};
 ghost use Rattle.dg_nor.specs.Reads.{ReadEnds};
 ghost use Rattle.dg_control.specs.Store.{HasForm};
 ghost use Rattle.dg_volume.specs.Sizes.{images};
 ghost use Rattle.dg_volume.specs.Store.{App, Store, held};
 ghost use Rattle.dg_volume.specs.Told.{program_told};
-ghost use Rattle.dg_volume.specs.Stands.{HoldsApp, IsNoVolume, Mounted, IsMounted};
+ghost use Rattle.dg_volume.specs.Stands.{HoldsApp, IsVolume, Mounted, IsMounted};
+ghost use Rattle.dg_inspect.specs.Breaks.{BreaksAt};
 ghost use Rattle.dg_inspect.specs.Pages.{ShowsKept};
 ghost use Rattle.dg_inspect.specs.Seen.{ShowsProgram, ShowsStore, ShowsChip, LookEnds};
 
-use crate::breaks::find_break;
+use crate::breaks::first_break;
 use crate::images::see_image;
 use crate::orders::order_state;
 use crate::pages::see_whole;
-use crate::seen::{ChipSeen, ImageSeen, ImageVersion, LookFault, ProgramSeen, VolumeSeen};
+use crate::seen::{Break, ChipSeen, ImageSeen, ImageVersion, LookFault, ProgramSeen, VolumeSeen};
 use crate::starting::next_start;
 use dg_control::{IMAGES, Program};
 use dg_nor::{Nor, Stopped};
@@ -31,7 +32,9 @@ fn see_program<N: Nor>(nor: &mut N, program: Program) -> Result<Option<ProgramSe
     match program {
         Program::Blank => Ok(None),
         Program::Set { image, version } => {
-            let pages = see_whole(nor, PROGRAM_SECTOR)?;
+            let Some(pages) = see_whole(nor, PROGRAM_SECTOR)? else {
+                return Ok(None);
+            };
             Ok(Some(ProgramSeen {
                 set: ImageVersion { image, version },
                 pages,
@@ -85,15 +88,16 @@ fn see_volume<N: Nor>(alloc: Global, nor: &mut N, volume: &Volume) -> Result<Vol
     })
 }
 
-/// Why a chip is not a volume.
-fn see_broken<N: Nor>(nor: &mut N) -> Result<ChipSeen, Stopped>
-    requires { IsNoVolume (N.device nor.old).image }
-    ensures shows { IfOk result (ShowsChip (N.device nor.old).image) }
+/// The first condition of a volume that a chip does not meet. None if it is a volume.
+pub fn find_break<N: Nor>(nor: &mut N) -> Result<Option<Break>, Stopped>
+    ensures first { IfOk result (λ found. IfSome found (BreaksAt (N.device nor.old).image)) }
+    ensures none { IfOk result (λ found. IsNone found → IsVolume (N.device nor.old).image) }
     ensures ends { ReadEnds result (N.device nor.old) (N.device nor.new) }
 {
-    match find_break(nor)? {
-        Some(found) => Ok(ChipSeen::Broken(found)),
-        None => unreachable!(),
+    match Volume::mount(nor) {
+        Ok(_) => Ok(None),
+        Err(MountFault::Stopped) => Err(Stopped),
+        Err(MountFault::NotAVolume) => Ok(Some(first_break(nor)?)),
     }
 }
 
@@ -109,6 +113,6 @@ pub fn look<N: Nor>(alloc: Global, nor: &mut N) -> Result<ChipSeen, LookFault>
             Ok(ChipSeen::Volume(seen))
         }
         Err(MountFault::Stopped) => Err(LookFault::Stopped),
-        Err(MountFault::NotAVolume) => Ok(see_broken(nor)?),
+        Err(MountFault::NotAVolume) => Ok(ChipSeen::Broken(first_break(nor)?)),
     }
 }

@@ -1,5 +1,5 @@
 //! The pages of an image, from the sector of page 0 on.
-ghost use Rattle.std.specs.Prelude.{◌≡◌, ℕ, List, ◌+◌, ◌<◌, ◌≤◌, ◌++◌, ◌==◌, ◌&&◌, ◌||◌, not, length, IfOk, OnOk};
+ghost use Rattle.std.specs.Prelude.{◌≡◌, ℕ, List, ◌+◌, ◌<◌, ◌≤◌, ◌++◌, ◌==◌, ◌&&◌, ◌||◌, not, length, IfOk, IsSomeAnd, OnOk};
 ghost use Rattle.std.specs.FinSet as set;
 ghost use Rattle.sha2.specs.Sha256.{sha256};
 ghost use Rattle.sha2.specs.Hashers.{Holds256};
@@ -147,37 +147,40 @@ fn see_bytes_if_whole<N: Nor>(
     Ok(Some(seen))
 }
 
-/// The first `done` pages of an image, which begin with its descriptor.
-pub(crate) fn see_pages<N: Nor>(nor: &mut N, first: u32, done: u8) -> Result<PagesSeen, Stopped>
+/// The first `done` pages of an image. None where page 0 is no descriptor.
+pub(crate) fn see_pages<N: Nor>(
+    nor: &mut N,
+    first: u32,
+    done: u8,
+) -> Result<Option<PagesSeen>, Stopped>
     requires in_chip { first + most_pages ≤ sectors }
     requires some { 1 ≤ done }
     requires known_pages { done ≤ most_pages }
-    requires described { (d : Details) × IsDescriptor (page_in (N.device nor.old).image first) d }
-    ensures shows { IfOk result (ShowsPages (pages_from (N.device nor.old).image first done)) }
+    ensures shows { IfOk result (λ seen. (d : Details) → IsDescriptor (page_in (N.device nor.old).image first) d
+        → IsSomeAnd seen (ShowsPages (pages_from (N.device nor.old).image first done))) }
     ensures ends { ReadEnds result (N.device nor.old) (N.device nor.new) }
 {
     let Some(descriptor) = find_descriptor(nor, first)? else {
-        unreachable!()
+        return Ok(None);
     };
     let unsound = unsound_pages(nor, first, done)?;
     let bytes = see_bytes_if_whole(nor, first, done, &descriptor)?;
-    Ok(PagesSeen {
+    Ok(Some(PagesSeen {
         descriptor,
         unsound,
         bytes,
-    })
+    }))
 }
 
-/// The pages of the image that is there whole, and begins with its descriptor.
-pub(crate) fn see_whole<N: Nor>(nor: &mut N, first: u32) -> Result<PagesSeen, Stopped>
+/// The pages of the image that is there whole. None if page 0 is no descriptor.
+pub(crate) fn see_whole<N: Nor>(nor: &mut N, first: u32) -> Result<Option<PagesSeen>, Stopped>
     requires in_chip { first + most_pages ≤ sectors }
-    requires described { (d : Details) × IsDescriptor (page_in (N.device nor.old).image first) d }
     ensures shows { IfOk result (λ seen. (d : Details) → IsDescriptor (page_in (N.device nor.old).image first) d
-        → ShowsPages (pages_from (N.device nor.old).image first d.pages) seen) }
+        → IsSomeAnd seen (ShowsPages (pages_from (N.device nor.old).image first d.pages))) }
     ensures ends { ReadEnds result (N.device nor.old) (N.device nor.new) }
 {
     let Some(descriptor) = find_descriptor(nor, first)? else {
-        unreachable!()
+        return Ok(None);
     };
     see_pages(nor, first, descriptor.pages)
 }

@@ -2,10 +2,11 @@ use Rattle.std.proofs.Common.{List, ℕ, sym, subst, rules}
 use Rattle.dg_control.specs.Store.{HasForm}
 use Rattle.dg_boot.proofs.ReadLemmas.{Looked_then}
 use Rattle.dg_volume.specs.Stands.{IsNoVolume, Mounted}
+use Rattle.dg_inspect.specs.Breaks.{BreaksAt}
 use Rattle.dg_inspect.proofs.looking.look.Goals as goal
 
-pub see_broken-requires : goal.see_broken-requires
-see_broken-requires g c = subst IsNoVolume (sym c.mount.ensures.same_image) (c.mount.ensures.not_a_volume (search rules))
+pub first_break-requires : goal.first_break-requires
+first_break-requires g c = subst IsNoVolume (sym c.mount.ensures.same_image) (c.mount.ensures.not_a_volume (search rules))
 
 pub returns-in_ok-seen-in-Ok-clause-shows : goal.returns-in_ok-seen-in-Ok-clause-shows
 returns-in_ok-seen-in-Ok-clause-shows g c =
@@ -21,3 +22,8 @@ returns-in_ok-seen-in-Ok-clause-shows g c =
 
 pub returns-in_ok-seen-in-Ok-clause-ends : goal.returns-in_ok-seen-in-Ok-clause-ends
 returns-in_ok-seen-in-Ok-clause-ends g c = Looked_then c.in-Ok.ensures.looked c.in_ok-seen-in-Ok.ensures.ends
+
+pub returns-in_ok-first_break-in-Err-NotAVolume-clause-shows : goal.returns-in_ok-first_break-in-Err-NotAVolume-clause-shows
+returns-in_ok-first_break-in-Err-NotAVolume-clause-shows g c =
+    let found = c.in_ok-first_break-in-Err-NotAVolume in
+    (c.mount.ensures.not_a_volume (search rules), subst (λ (x : List ℕ). BreaksAt x found.field-0) c.mount.ensures.same_image found.ensures.breaks)

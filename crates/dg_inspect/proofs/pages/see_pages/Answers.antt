@@ -14,7 +14,7 @@ see_bytes_if_whole-requires-clause-described g c =
     subst (λ (x : List ℕ). IsDescriptor (page_in x c.args.first) (details_of c.in-Some.descriptor)) (sym same) found
 
 pub returns-clause-shows : goal.returns-clause-shows
-returns-clause-shows g c =
+returns-clause-shows g c = λ d is.
     let image = (g.N.Nor.device c.args.nor.now).image in
     let found = rw c.in-Some.is at c.in_ok-descriptor.ensures.descriptor in
     let one = c.in_ok-descriptor.ensures.ends.same_image in
