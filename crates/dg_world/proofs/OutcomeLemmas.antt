@@ -1,5 +1,6 @@
 -- What an event did, from its outcome.
-use Rattle.std.proofs.Common.{◌≡◌, ℕ, List, refl, ap, sym, ◌∙◌, subst}
+use Rattle.std.proofs.Common.{◌≡◌, ℕ, Bool, true, false, List, refl, ap, sym, ◌∙◌, subst}
+use Rattle.std.proofs.lemmas.Bool.{false≢true}
 use Rattle.std.specs.Prelude.{Option, Some, None, Result, Ok, Err, IsErrAnd}
 use Rattle.dg_nor.specs.Device.{Device}
 use Rattle.dg_mote.specs.Motes.{sent_in}
@@ -9,6 +10,7 @@ use Rattle.dg_script.specs.declared.report.Cause.{Cause}
 use Rattle.dg_world.specs.inner.EventOutcomes.{EventOutcome, Refused, Unreported, Changes, Starts}
 use Rattle.dg_world.specs.inner.OutcomeEndings.{outcome_frame, outcome_sent, OutcomeEnds}
 use Rattle.dg_node.specs.Hosts.{host}
+use Rattle.dg_world.specs.inner.Untold.{is_untold}
 use Rattle.dg_world.specs.inner.Outcomes.{outcome_by, outcome_of, halt_of, as_outcome}
 use Rattle.dg_node.specs.declared.report.ChipReport.{ChipReport}
 use Rattle.dg_node.specs.declared.answers.StartedImage.{StartedImage}
@@ -53,6 +55,21 @@ changes_of t a b sent refused started before after =
     ap (λ (x : Option ChipReport). outcome_by (sent_in t.outbox) t.refused t.started x t.after) before
     ∙ ap (λ (x : Option ChipReport). outcome_by (sent_in t.outbox) t.refused t.started (Some a) x) after
     ∙ is_changed (sent_in t.outbox) t.refused t.started a b sent refused started
+
+-- ---- nothing is told
+
+pub untold_none : (why : Option Cause) (a b : Option ChipReport) (x : Option StartedImage) (o : Option Bool) → is_untold why a b x o ≡ true → (why ≡ None) × (a ≡ None) × (b ≡ None) × (x ≡ None) × (o ≡ None)
+untold_none None None None None None e = (refl, refl, refl, refl, refl)
+untold_none (Some why) a b x o e = absurd (false≢true e)
+untold_none None (Some a) b x o e = absurd (false≢true e)
+untold_none None None (Some b) x o e = absurd (false≢true e)
+untold_none None None None (Some x) o e = absurd (false≢true e)
+untold_none None None None None (Some o) e = absurd (false≢true e)
+
+pub unreported_of : (t : Outcome) → t.is_told ≡ false → sent_in t.outbox ≡ None → outcome_of t ≡ Unreported
+unreported_of t untold sent =
+    let n = untold_none t.refused t.before t.after t.started t.orderly (t.untold untold) in
+    is_sent (sent_in t.outbox) t.refused t.started t.before t.after n.0 n.3 n.1 ∙ ap outcome_sent sent
 
 -- its frame is that of the outbox
 frame_by : (o : Option (List ℕ)) (why : Option Cause) (x : Option StartedImage) (a b : Option ChipReport) → o ≡ outcome_frame (outcome_by o why x a b)

@@ -11,3 +11,4 @@ pub mod OutcomeEndings
 pub mod Outcomes
 pub mod Sees
 pub mod Steps
+pub mod Untold

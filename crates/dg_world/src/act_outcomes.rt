@@ -1,6 +1,7 @@
 //! What an injection or an order did, as an outcome.
 ghost use Rattle.std.specs.Prelude.{◌≡◌, ◌<◌, ◌^◌, Some, length};
 ghost use Rattle.dg_object.specs.Object.{Row};
+ghost use Rattle.dg_mote.specs.Motes.{sent_in};
 ghost use Rattle.dg_node.specs.Acts.{is_orderly_ordered, is_orderly_injected};
 ghost use Rattle.dg_rules.specs.Events.{order_cause, inject_cause};
 ghost use Rattle.dg_world.specs.inner.ActOutcomes.{ordered_outcome, injected_outcome, injected_refusal, halt_of_act};
@@ -21,6 +22,7 @@ pub(crate) fn note_ordered(ordered: Ordered, outcome: &mut Outcome)
         Ordered::Kept(change) => note_change(change, outcome),
         Ordered::Refused { why, orderly } => {
             outcome.refused = Some(order_cause(why));
+            outcome.is_told = true;
             outcome.orderly = Some(orderly);
         }
     }
@@ -38,21 +40,24 @@ pub(crate) fn note_injected(injected: Injected, bytes: usize, outcome: &mut Outc
         Injected::Kept(change) => note_change(change, outcome),
         Injected::Refused { why, orderly } => {
             outcome.refused = Some(inject_cause(why, bytes));
+            outcome.is_told = true;
             outcome.orderly = Some(orderly);
         }
     }
 }
 
 fn note_change(change: Change, outcome: &mut Outcome)
-    ensures { outcome.new ≡ record outcome.old {
-      before = Some change.before;
-      after = Some change.after;
-      orderly = Some change.orderly;
-    } }
+    ensures before { outcome.new.before ≡ Some change.before }
+    ensures after { outcome.new.after ≡ Some change.after }
+    ensures orderly { outcome.new.orderly ≡ Some change.orderly }
+    ensures refused { outcome.new.refused ≡ outcome.old.refused }
+    ensures started { outcome.new.started ≡ outcome.old.started }
+    ensures sent { sent_in outcome.new.outbox ≡ sent_in outcome.old.outbox }
 {
     outcome.before = Some(change.before);
     outcome.after = Some(change.after);
     outcome.orderly = Some(change.orderly);
+    outcome.is_told = true;
 }
 
 /// Why an event ends the run that was not done. What was reported of the chip before stays in the outcome.
@@ -62,6 +67,7 @@ pub(crate) fn act_fault(fault: ActFault, outcome: &mut Outcome) -> Fault
     match fault {
         ActFault::Stopped { before } => {
             outcome.before = before;
+            outcome.is_told = true;
             Fault::Stopped
         }
         ActFault::NotAVolume => Fault::NotAVolume,

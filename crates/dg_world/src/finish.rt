@@ -143,7 +143,8 @@ fn push_site<N: Nor>(
             Ok(())
         }
         Err(MountFault::Stopped) => Err(Stopped),
-        Err(MountFault::NotAVolume) => unreachable!(),
+        // it is a volume, so that this does not come
+        Err(MountFault::NotAVolume) => Err(Stopped),
     }
 }
 

@@ -71,7 +71,7 @@ fn format_board<N: Nor>(nor: &mut N, name: &[u8], golden: &[u8], used: u32) -> R
 {
     match Volume::format(nor, golden, name, used, FORM) {
         Ok(()) => Ok(()),
-        Err(FormatFault::Stopped) => Err(Stopped),
-        Err(FormatFault::Empty | FormatFault::TooLarge) => unreachable!(),
+        // golden fits, so that this was stopped
+        Err(FormatFault::Stopped | FormatFault::Empty | FormatFault::TooLarge) => Err(Stopped),
     }
 }

@@ -75,6 +75,7 @@ pub(crate) fn hear<N: Nor>(
 {
     let Some(node) = runs else {
         outcome.refused = Some(Cause::Off);
+        outcome.is_told = true;
         return Ok(());
     };
     let before = report_before(node.volume());
@@ -86,10 +87,12 @@ pub(crate) fn hear<N: Nor>(
             }
             outcome.before = Some(before);
             outcome.after = Some(report_chip(node.volume()));
+            outcome.is_told = true;
             Ok(())
         }
         Err(Stopped) => {
             outcome.before = Some(before);
+            outcome.is_told = true;
             Err(Fault::Stopped)
         }
     }
@@ -120,6 +123,7 @@ pub(crate) fn hear_sent<N: Nor>(
 {
     let Some(node) = runs else {
         outcome.refused = Some(Cause::Off);
+        outcome.is_told = true;
         return Ok(());
     };
     let before = report_before(node.volume());
@@ -131,10 +135,12 @@ pub(crate) fn hear_sent<N: Nor>(
             }
             outcome.before = Some(before);
             outcome.after = Some(report_chip(node.volume()));
+            outcome.is_told = true;
             Ok(())
         }
         Err(Stopped) => {
             outcome.before = Some(before);
+            outcome.is_told = true;
             Err(Fault::Stopped)
         }
     }
@@ -168,11 +174,13 @@ pub(crate) fn hear_numbered<N: Nor>(
 {
     if runs.is_none() {
         outcome.refused = Some(Cause::Off);
+        outcome.is_told = true;
         return Ok(());
     }
     match context.shared.air.get(number as usize) {
         None => {
             outcome.refused = Some(Cause::Frame);
+            outcome.is_told = true;
             Ok(())
         }
         Some(sent) => {
@@ -180,6 +188,7 @@ pub(crate) fn hear_numbered<N: Nor>(
                 hear_sent(runs, context.moment, word, &sent.message, board, outcome)
             } else {
                 outcome.refused = Some(Cause::Link);
+                outcome.is_told = true;
                 Ok(())
             }
         }
@@ -215,15 +224,18 @@ pub(crate) fn hear_last<N: Nor>(
 {
     if runs.is_none() {
         outcome.refused = Some(Cause::Off);
+        outcome.is_told = true;
         return Ok(());
     }
     if !context.shared.links.are_joined(from, context.mote) {
         outcome.refused = Some(Cause::Link);
+        outcome.is_told = true;
         return Ok(());
     }
     match context.shared.air.last_of(from) {
         None => {
             outcome.refused = Some(Cause::Frame);
+            outcome.is_told = true;
             Ok(())
         }
         Some(sent) => hear_sent(runs, context.moment, word, &sent.message, board, outcome),

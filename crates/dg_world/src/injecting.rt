@@ -96,11 +96,13 @@ fn inject<N: Nor>(
 {
     if image_version.image == 0 {
         outcome.refused = Some(Cause::Reserved);
+        outcome.is_told = true;
         return Ok(());
     }
     match context.shared.images.get(image_version) {
         None => {
             outcome.refused = Some(Cause::Image);
+            outcome.is_told = true;
             Ok(())
         }
         Some(image) => inject_image(context, runs, image_version, image, word, board, outcome),
@@ -148,6 +150,7 @@ pub(crate) fn inject_known<N: Nor>(
 {
     if !knows(context.shared.is_wide(context.mote), image_version.image) {
         outcome.refused = Some(Cause::Image);
+        outcome.is_told = true;
         return Ok(());
     }
     inject(context, runs, image_version, word, board, outcome)

@@ -102,6 +102,7 @@ pub(crate) fn order_known<N: Nor>(
     a_volume_bounds_a_remount();
     if !knows(context.shared.is_wide(context.mote), image_version.image) {
         outcome.refused = Some(Cause::Image);
+        outcome.is_told = true;
         return Ok(());
     }
     order(context, runs, number, image_version, word, board, outcome)

@@ -1,7 +1,7 @@
 //! The outcome of an event at a mote.
-ghost use Rattle.std.specs.Prelude.{◌≡◌, None};
+ghost use Rattle.std.specs.Prelude.{◌≡◌, None, true, false};
 ghost use Rattle.dg_mote.specs.Motes.{sent_in};
-ghost use Rattle.dg_world.specs.inner.Outcomes.{IsNothing};
+ghost use Rattle.dg_world.specs.inner.Untold.{is_untold};
 
 use dg_boot::BootFault;
 use dg_mote::{Heard, Outbox};
@@ -23,13 +23,18 @@ pub struct Outcome {
     pub(crate) started: Option<StartedImage>,
     /// Whether the chip is orderly, where an act on its volume or a look at it told that.
     pub(crate) orderly: Option<bool>,
+    /// Whether one of the five values above may be there. Of most events none is: so they are asked for by one flag.
+    pub(crate) is_told: bool,
     /// The frame that is sent.
     pub(crate) outbox: Outbox,
     /// What the mote did that heard a frame last. It is not cleared: only a frame that is heard asks for it.
     pub(crate) heard: Heard,
+    ghost untold: { is_told ≡ false → is_untold refused before after started orderly ≡ true },
 }
 
 impl Outcome {
+    ghost use Rattle.dg_world.specs.inner.Outcomes.{IsNothing};
+
     /// Nothing came of it yet.
     pub(crate) fn new() -> Outcome
         ensures { IsNothing result }
@@ -40,6 +45,7 @@ impl Outcome {
             after: None,
             started: None,
             orderly: None,
+            is_told: false,
             outbox: Outbox::new(),
             heard: Heard::Dropped,
         }
@@ -49,20 +55,16 @@ impl Outcome {
     pub(crate) fn clear(&mut self)
         ensures { IsNothing self.new }
     {
-        clear_value(&mut self.refused);
-        clear_value(&mut self.before);
-        clear_value(&mut self.after);
-        clear_value(&mut self.started);
-        clear_value(&mut self.orderly);
         clear_outbox(&mut self.outbox);
-    }
-}
-
-fn clear_value<T: Copy>(value: &mut Option<T>)
-    ensures { value.new ≡ None }
-{
-    if value.is_some() {
-        *value = None;
+        if !self.is_told {
+            return;
+        }
+        self.refused = None;
+        self.before = None;
+        self.after = None;
+        self.started = None;
+        self.orderly = None;
+        self.is_told = false;
     }
 }
 

@@ -44,6 +44,7 @@ pub(crate) fn reset<N: Nor>(
     let powered = Node::power(board, at)?;
     *runs = Some(powered.node);
     outcome.started = Some(powered.image);
+    outcome.is_told = true;
     Ok(())
 }
 

@@ -1,6 +1,6 @@
 //! A step at the board of its mote, and what is reported of it.
 ghost use Rattle.std.specs.Prelude.{◌≡◌, ◌+◌, ◌<◌, ◌≤◌, ◌∷◌, ◌++◌, ℕ, [], None, Some, length, vec_len, option_to_list};
-ghost use Rattle.std.specs.Prelude.{option_copied, IfOk, IsTrue, true, false};
+ghost use Rattle.std.specs.Prelude.{option_copied, IfOk, IsTrue, Bool, true, false};
 ghost use Rattle.std.specs.List.{filter};
 ghost use Rattle.std.specs.Vec.{vec_capacity};
 ghost use Rattle.dg_nor.specs.Device.{Took};
@@ -8,6 +8,7 @@ ghost use Rattle.dg_volume.specs.Remount.{RemountBytes};
 ghost use Rattle.dg_volume.specs.Store.{Store};
 ghost use Rattle.dg_volume.specs.Stands.{Stands, Tells};
 ghost use Rattle.dg_frame.specs.Grammar.{in_range, message_of};
+ghost use Rattle.dg_mote.specs.Motes.{sent_in};
 ghost use Rattle.dg_frame.specs.Spelling.{frame_of};
 ghost use Rattle.dg_rules.specs.Sizes.{most_motes};
 ghost use Rattle.dg_rules.specs.World.{World as RuleWorld};
@@ -47,7 +48,20 @@ fn push_outcome(mote: u8, outcome: &Outcome, reported: bool, out: &mut Vec<Repor
 {
     if let Some(message) = outcome.outbox.message() {
         push_sent(mote, message, reported, out);
-    } else if let Some(cause) = outcome.refused {
+    } else if outcome.is_told {
+        push_told(mote, outcome, out);
+    }
+}
+
+/// The same, where it is no frame. It is not inlined: most events report nothing else.
+#[inline(never)]
+fn push_told(mote: u8, outcome: &Outcome, out: &mut Vec<Report>)
+    requires unsent { sent_in outcome.now.outbox ≡ None }
+    requires capacity { vec_len out.old + MOST_CHANGES ≤ vec_capacity out.old }
+    ensures { (reported : Bool)
+        → out.new.items ≡ out.old.items ++ filter (is_reported reported) (outcome_lines mote (outcome_of outcome.now)) }
+{
+    if let Some(cause) = outcome.refused {
         push_refused(mote, cause, out);
     } else if let Some(line) = outcome.started {
         push_start(mote, line, out);
@@ -262,6 +276,7 @@ fn step_cut<N: Nor>(
             a_volume_bounds_a_remount();
             let orderly = look_after_cut(mote, event, &outcome.before, context.known, board, out)?;
             outcome.orderly = orderly;
+            outcome.is_told = true;
             out.push_reserved(Report::Off { mote });
             *runs = None;
             outcome.outbox = Outbox::new();

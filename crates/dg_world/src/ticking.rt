@@ -43,6 +43,7 @@ fn tick_on<N: Nor>(
         Ok(Ticked::Sent) => Ok(()),
         Ok(Ticked::Restarted(image)) => {
             outcome.started = Some(image);
+            outcome.is_told = true;
             Ok(())
         }
         Err(fault) => Err(Fault::from(fault)),
@@ -73,6 +74,7 @@ pub(crate) fn tick<N: Nor>(
     match runs {
         None => {
             outcome.refused = Some(Cause::Off);
+            outcome.is_told = true;
             Ok(())
         }
         Some(node) => tick_on(node, now, word, board, outcome),

@@ -5,8 +5,8 @@ use Rattle.dg_world.specs.inner.Finished.{kept_reports}
 use Rattle.dg_world.proofs.FinishLemmas.{site_told, told_behind}
 use Rattle.dg_world.proofs.finish.push_site.Goals as goal
 
-pub unreachable-requires : goal.unreachable-requires
-unreachable-requires g c = c.in-Err-NotAVolume.ensures.not_a_volume (ap (λ e. Err e) c.in-Err-NotAVolume.field-0-is) c.requires.volume.0 c.requires.volume.1
+pub returns-in-Err-NotAVolume-clause-stopped : goal.returns-in-Err-NotAVolume-clause-stopped
+returns-in-Err-NotAVolume-clause-stopped g c = absurd (c.in-Err-NotAVolume.ensures.not_a_volume (ap (λ e. Err e) c.in-Err-NotAVolume.field-0-is) c.requires.volume.0 c.requires.volume.1)
 
 pub returns-in-Ok-clause-reported : goal.returns-in-Ok-clause-reported
 returns-in-Ok-clause-reported g c = λ x stands.

@@ -1,21 +1,23 @@
-use Rattle.std.proofs.Common.{◌≡◌, List, ◌++◌, ap, sym, ◌∙◌}
+use Rattle.std.proofs.Common.{◌++◌, ap, sym, ◌∙◌}
+use Rattle.std.proofs.lemmas.List.{append-nil}
 use Rattle.std.specs.Prelude.{option_map}
 use Rattle.std.specs.List.{filter}
 use Rattle.dg_frame.specs.Spelling.{frame_of}
 use Rattle.dg_rules.specs.Changes.{is_reported}
-use Rattle.dg_script.specs.declared.report.Report.{Report}
-use Rattle.dg_world.specs.inner.EventOutcomes.{EventOutcome, Changes}
+use Rattle.dg_world.specs.inner.EventOutcomes.{EventOutcome}
 use Rattle.dg_world.specs.inner.OutcomeEndings.{outcome_lines}
-use Rattle.dg_world.specs.inner.Outcomes.{outcome_of}
-use Rattle.dg_world.proofs.ChipReportLemmas.{changes_reported}
-use Rattle.dg_world.proofs.OutcomeLemmas.{changes_of}
+use Rattle.dg_world.proofs.OutcomeLemmas.{unreported_of}
 use Rattle.dg_world.proofs.stepping.push_outcome.Goals as goal
 
-pub returns-in-Some-Some : goal.returns-in-Some-Some
-returns-in-Some-Some c =
-    let e = c.in-Some-Some in
+pub push_told-requires-clause-unsent : goal.push_told-requires-clause-unsent
+push_told-requires-clause-unsent c = sym c.message.ensures.value ∙ ap (λ f. option_map (λ x. frame_of x.now) f) c.in_default.is
+
+pub returns-else-outcome : goal.returns-else-outcome
+returns-else-outcome c =
     let t = c.args.outcome.now in
-    let outcome : outcome_of t ≡ Changes e.before e.after = changes_of t e.before e.after (sym c.message.ensures.value ∙ ap (λ f. option_map (λ x. frame_of x.now) f) c.in_default.is) c.in_default-refused.is c.in_default-started.is e.is-0 e.is-1 in
-    c.push_changes.ensures.reported
-    ∙ ap (λ (l : List Report). c.args.out.now.items ++ l) (sym (changes_reported c.args.reported c.args.mote e.before e.after))
-    ∙ ap (λ (x : EventOutcome). c.args.out.now.items ++ filter (is_reported c.args.reported) (outcome_lines c.args.mote x)) (sym outcome)
+    let sent = sym c.message.ensures.value ∙ ap (λ f. option_map (λ x. frame_of x.now) f) c.in_default.is in
+    sym (append-nil c.args.out.now.items)
+    ∙ ap (λ (x : EventOutcome). c.args.out.now.items ++ filter (is_reported c.args.reported) (outcome_lines c.args.mote x)) (sym (unreported_of t c.if-outcome.false sent))
+
+pub returns-then-outcome : goal.returns-then-outcome
+returns-then-outcome c = c.push_told.ensures c.args.reported

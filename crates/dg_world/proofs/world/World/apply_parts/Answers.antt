@@ -108,7 +108,7 @@ returns-in-Ok g c =
     let few = c.if-self-ge-MOST_EVENTS.false in
     let law = c.consistency_is_kept.ensures in
     let first = deployed begun bs c.args.out.now.items in
-    let last = deployed (record { moment = v.moment + c.from.result; events = v.events + 1; shared = record v.shared { air = c.send.new.self }; motes = with_item v.motes i c.step_at.new.runs; known = c.note.new.boards; outcome = c.step_at.new.outcome }) (map device (slice_set boards i c.step_at.new.board)) c.step_at.new.out.items in
+    let last = deployed (record { moment = v.moment + c.from.result; events = v.events + 1; shared = record v.shared { air = c.send.new.self }; motes = with_item v.motes i c.step_at.new.runs; known = c.note.new.boards; outcome = record c.step_at.new.outcome { untold = c.self-1.given.0 } }) (map device (slice_set boards i c.step_at.new.board)) c.step_at.new.out.items in
     let Made : List Report → Type 0 = λ old. ApplyMade (Ok tt) x c.args.loud (deployed v bs old) last in
     let made : Made told = record {
       ends = λ w is fits.
