@@ -1,3 +1,7 @@
 pub mod CommandLemmas
+pub mod PlanLemmas
+mod InjectLemmas
+mod PacketLemmas
+mod SealLemmas
 mod StartLemmas
-mod TakeLemmas
+mod StopLemmas

@@ -26,6 +26,10 @@ planned p = carried_out (bytes_of_plan p) (commands_of p) (chip_of p)
 abbrev pub lists_of : Plan → List GName
 lists_of p = p.commands.ghost_name ∷ p.bytes.ghost_name ∷ []
 
+-- what no call on a plan changes: the references to the two lists, how long the lists are, and the chip that was handed in
+abbrev pub lent_of : Plan → List ℕ
+lent_of p = p.commands.ghost_name ∷ p.bytes.ghost_name ∷ length p.commands.now ∷ length p.bytes.now ∷ chip_of p
+
 -- It is stopped where a command or its bytes had no room.
 abbrev pub plan_device : Plan → Device
 plan_device p = record {
@@ -35,6 +39,6 @@ plan_device p = record {
   left = Some (length p.commands.now - p.count);
   taken = None;
   blown = p.full;
-  references = lists_of p;
+  references = lent_of p;
   beneath = None;
 }

@@ -5,12 +5,26 @@
 #![tactic(auto)]
 
 mod command;
+mod injections;
+mod laws;
+mod mounting;
+mod orders;
+mod packets;
+mod pages;
 mod plan;
 mod recording;
+mod seals;
 mod starts;
 mod takes;
 
 pub use command::Command;
+pub use injections::inject;
+pub use laws::a_list_is_carried_out_or_not;
+pub use mounting::ActFault;
+pub use orders::order;
+pub use packets::{PacketFault, packet};
+pub use pages::PageName;
 pub use plan::Plan;
+pub use seals::{SealFault, seal};
 pub use starts::start;
-pub use takes::{ActFault, take};
+pub use takes::take;

@@ -3,7 +3,7 @@ ghost use Rattle.std.specs.Prelude.{◌≡◌, ◌==◌, ℕ, ◌+◌, ◌<◌, 
 ghost use Rattle.dg_words.specs.Cells.{part};
 ghost use Rattle.dg_nor.specs.Sizes.{chip_size};
 ghost use Rattle.dg_plan.specs.Commands.{CommandFits, command_done, laid_by, erase_kind, program_kind};
-ghost use Rattle.dg_plan.specs.Plans.{planned, bytes_of_plan, chip_of, lists_of};
+ghost use Rattle.dg_plan.specs.Plans.{planned, bytes_of_plan, chip_of, lent_of};
 
 use crate::command::{COPY, Command, ERASE, PROGRAM};
 use crate::plan::Plan;
@@ -133,7 +133,7 @@ impl Plan<'_> {
         ensures planned { planned self.new ≡ command_done (bytes_of_plan self.old) command (planned self.old) }
         ensures count { self.new.count ≡ self.old.count + 1 }
         ensures size { length self.new.commands.now ≡ length self.old.commands.now }
-        ensures same_lists { lists_of self.new ≡ lists_of self.old }
+        ensures same_lent { lent_of self.new ≡ lent_of self.old }
         ensures full { self.new.full ≡ self.old.full }
         ensures short { self.new.short ≡ self.old.short }
     {
@@ -152,7 +152,7 @@ impl Plan<'_> {
         ensures chip { chip_of self.new ≡ chip_of self.old }
         ensures count { self.new.count ≡ self.old.count }
         ensures size { length self.new.commands.now ≡ length self.old.commands.now }
-        ensures same_lists { lists_of self.new ≡ lists_of self.old }
+        ensures same_lent { lent_of self.new ≡ lent_of self.old }
         ensures full { self.new.full ≡ self.old.full }
         ensures short { self.new.short ≡ self.old.short }
     {

@@ -6,7 +6,7 @@ ghost use Rattle.dg_volume.specs.Start.{boot};
 ghost use Rattle.dg_volume.specs.Acts.{Stops};
 ghost use Rattle.dg_nor.specs.Reads.{ActStopped};
 ghost use Rattle.dg_boot.specs.Started.{Starts, Lacks};
-ghost use Rattle.dg_plan.specs.Plans.{planned, lists_of, plan_device};
+ghost use Rattle.dg_plan.specs.Plans.{planned, lists_of, chip_of, plan_device};
 ghost use Rattle.dg_plan.specs.Acts.{IsPlanOf};
 
 use crate::plan::Plan;
@@ -18,6 +18,8 @@ pub fn start(plan: &mut Plan<'_>, kind: Kind) -> Result<Started, BootFault>
         → Starts (boot kind s) (plan_device plan.old) (plan_device plan.new) told
         × IsPlanOf (boot kind s).trail plan.old plan.new) }
     ensures same_lists { lists_of plan.new ≡ lists_of plan.old }
+    // the plan holds the chip that was handed in
+    ensures same_chip { chip_of plan.new ≡ chip_of plan.old }
     ensures no_volume { result ≡ Err BootFault.NotAVolume → IsNoVolume (planned plan.old) }
     ensures no_image { result ≡ Err BootFault.NoImage → (s : Store) → Stands (planned plan.old) s
         → Lacks (boot kind s) (plan_device plan.old) (plan_device plan.new) }
