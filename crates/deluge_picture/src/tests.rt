@@ -1,17 +1,17 @@
 //! Words that are no option, and a report of as many lines as are used.
 
-use crate::{answer, exit_code, option};
+use crate::{answer, asked_by, exit_code};
 use dg_base::{MemSink, MemSource};
 use dg_picture::picture;
 use std::process::ExitCode;
 use std::test::Fail;
 
 #[test]
-fn a_word_that_is_no_option_ends_in_2(rt: HostRuntime) {
-    assert_eq!(rt;
-        exit_code(answer(&rt, option("--picture"))),
-        ExitCode::from(2)
-    );
+fn a_word_that_is_no_option_ends_in_2(rt: HostRuntime) -> Result<(), Fail> {
+    let word = String::from_str(rt.alloc(), "--picture")?;
+    let code = exit_code(answer(&rt, asked_by(Some(word), None)));
+    assert_eq!(rt; code, ExitCode::from(2));
+    Ok(())
 }
 
 /// As many lines as a report has at most.

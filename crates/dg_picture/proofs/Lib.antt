@@ -4,3 +4,4 @@ pub mod DrawLemmas
 pub mod LayoutLemmas
 pub mod LawLemmas
 pub mod DrawnLemmas
+pub mod FollowLemmas

@@ -21,6 +21,13 @@ RefusesInput fault.TooMany before after = (bytes : List ℕ) × TakesAll before 
 RefusesInput fault.TooLong before after = (bytes : List ℕ) × Takes before after bytes × (most_used_bytes < length bytes)
 RefusesInput _ before after = Unit {0}
 
+-- why bytes are refused
+abbrev pub RefusesBytes : PictureFault → (bytes : List ℕ) → Type 0
+RefusesBytes fault.Memory bytes = Unit {0}
+RefusesBytes (fault.NoReport line) bytes = FirstNoReport bytes line
+RefusesBytes fault.TooMany bytes = HasMoreLines bytes
+RefusesBytes _ bytes = ⊥
+
 -- A text is the picture of a report, whose lines are these bytes.
 abbrev pub IsPicture : (bytes text : List ℕ) → Type 0
 IsPicture bytes text =

@@ -3,3 +3,4 @@ pub mod Layout
 pub mod Texts
 pub mod Picture
 pub mod Drawn
+pub mod Followed

@@ -1,10 +1,10 @@
 //! The call that draws the report of a replay.
-ghost use Rattle.std.specs.Prelude.{◌≡◌, ◌≢◌, ◌<◌, ◌≤◌, List, ℕ, length, IfOk, Err};
+ghost use Rattle.std.specs.Prelude.{◌≡◌, ◌≢◌, ◌<◌, ◌≤◌, List, ℕ, length, IfOk, MatchResult, Err};
 ghost use Rattle.dg_words.specs.Counts.{Rose};
 ghost use Rattle.dg_base.specs.Outside.{Takes, Puts, PutsFront, AtEnd};
 ghost use Rattle.dg_script.specs.Sizes.{most_used_bytes};
 ghost use Rattle.dg_story.specs.Reading.{FirstNoReport, HasMoreLines};
-ghost use Rattle.dg_picture.specs.Drawn.{Drawn, IsPicture, ReadOf};
+ghost use Rattle.dg_picture.specs.Drawn.{Drawn, IsPicture, ReadOf, RefusesBytes};
 
 use crate::drawing::drawn;
 use dg_base::{Sink, Source, Status};
@@ -50,7 +50,7 @@ impl PictureFault {
 
 // Draws the report that these bytes are the lines of.
 #[tactic(auto, using(crate::proofs::DrawnLemmas::pictured))]
-fn draw(alloc: Global, bytes: &[u8]) -> Result<Vec<u8>, LinesFault>
+pub(crate) fn draw(alloc: Global, bytes: &[u8]) -> Result<Vec<u8>, LinesFault>
     ensures ok { IfOk result (λ text. IsPicture bytes.now text.items) }
     ensures none { (line : ℕ) → result ≡ Err (LinesFault.NoReport line) → FirstNoReport bytes.now line }
     ensures many { result ≡ Err LinesFault.TooMany → HasMoreLines bytes.now }
@@ -61,6 +61,18 @@ fn draw(alloc: Global, bytes: &[u8]) -> Result<Vec<u8>, LinesFault>
         return Err(LinesFault::Memory);
     };
     Ok(text)
+}
+
+// The same, with the faults of the call.
+pub(crate) fn draw_whole(alloc: Global, bytes: &[u8]) -> Result<Vec<u8>, PictureFault>
+    ensures { MatchResult result (λ text. IsPicture bytes.now text.items) (λ fault. RefusesBytes fault bytes.now) }
+{
+    match draw(alloc, bytes) {
+        Ok(text) => Ok(text),
+        Err(LinesFault::Memory) => Err(PictureFault::Memory),
+        Err(LinesFault::TooMany) => Err(PictureFault::TooMany),
+        Err(LinesFault::NoReport { line }) => Err(PictureFault::NoReport { line }),
+    }
 }
 
 // Reads all of a report from an input, and draws it.
@@ -79,12 +91,7 @@ fn read<S: Source>(alloc: Global, source: &mut S) -> Result<Vec<u8>, PictureFaul
     if bytes.len() > USED {
         return Err(PictureFault::TooLong);
     }
-    match draw(alloc, &bytes) {
-        Ok(text) => Ok(text),
-        Err(LinesFault::Memory) => Err(PictureFault::Memory),
-        Err(LinesFault::TooMany) => Err(PictureFault::TooMany),
-        Err(LinesFault::NoReport { line }) => Err(PictureFault::NoReport { line }),
-    }
+    draw_whole(alloc, &bytes)
 }
 
 /// Reads the report of a replay to its end, plain or timed, with or without `sent` lines, and writes its picture, an SVG of
