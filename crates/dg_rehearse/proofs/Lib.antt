@@ -5,3 +5,4 @@ pub mod BeginLemmas
 pub mod SpellLemmas
 pub mod TellingLemmas
 pub mod EndLemmas
+pub mod NeighbourLemmas

@@ -1,5 +1,5 @@
 -- Frames go along links: what is heard was sent by a neighbour (docs/COMMANDS.md, "Rehearsing by the clock").
-use Rattle.std.specs.Prelude.{◌≡◌, true, IsSomeAnd}
+use Rattle.std.specs.Prelude.{◌≡◌, ℕ, Bool, true, false, List, slice_index_or, IsSomeAnd}
 use Rattle.dg_base.specs.declared.events.Event.{Event}
 use Rattle.dg_base.specs.declared.events.Event.TheVariants.{Tick, Hear, Last, Reset, Inject, Order, Frame}
 use Rattle.dg_netcfg.specs.declared.profile.NetProfile.{NetProfile}
@@ -26,3 +26,7 @@ IsAlongItem n w (Applies step reported) = IsAlongEvent n w step.event
 -- what was played delivered no frame but along a link
 abbrev pub IsAlong : NetProfile → Played → Type 0
 IsAlong n p = IsAlongItem n p.before p.item
+
+-- only those are marked that links join with mote a
+abbrev pub AreNeighbours : (marks : List Bool) → List (ℕ × ℕ) → (a : ℕ) → Type 0
+AreNeighbours marks links a = (m : ℕ) → slice_index_or marks m false ≡ true → is_linked links a m ≡ true

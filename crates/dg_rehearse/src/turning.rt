@@ -1,13 +1,14 @@
 //! A turn of a mote: its event, who hears its frame, and what that ends.
-ghost use Rattle.std.specs.Prelude.{◌≡◌, ◌≤◌, ◌<◌, ℕ, true, map, Ok, OnOk, Some, None};
+ghost use Rattle.std.specs.Prelude.{◌≡◌, ◌≤◌, ◌<◌, ℕ, List, true, map, Ok, OnOk, Some, None};
 ghost use Rattle.dg_netcfg.specs.declared.profile.NetProfile.{NetProfile as Profile};
 ghost use Rattle.dg_rules.specs.Events.{mote_of};
 ghost use Rattle.dg_script.specs.Places.{is_linked};
+ghost use Rattle.dg_rehearse.specs.Along.{AreNeighbours};
 ghost use Rattle.dg_rehearse.specs.Rehearsed.{IsRehearsed, IsUnderWay, GoesOn, MoreEvents, IsFull, Staging, staging};
 ghost use Rattle.dg_rehearse.specs.Rehearsed.{SentBy, LastSentBy, GoesAlong};
 ghost use Rattle.dg_rehearse.specs.declared.plan.Ending.{Ending as End};
 
-use crate::neighbours::are_linked;
+use crate::neighbours::Neighbours;
 use crate::plan::{Ending, Plan};
 use crate::schedule::{Next, Schedule};
 use crate::stage::{Played, Stage};
@@ -72,8 +73,9 @@ impl Schedule {
         let Ok(frame) = u32::try_from(sent) else {
             return Ok(Played::Done);
         };
+        let near = Neighbours::of(from, profile.links.as_slice());
         for mote in 0..profile.motes {
-            match self.hear(from, mote, frame, profile, plan, stage, boards)? {
+            match self.hear(&near, mote, frame, profile, plan, stage, boards)? {
                 Played::Done => {}
                 Played::TooMany => return Ok(Played::TooMany),
             }
@@ -85,7 +87,7 @@ impl Schedule {
     #[tactic(auto, using(crate::proofs::PlayLemmas::goes_nowhere))]
     fn hear<N: Nor>(
         &mut self,
-        from: u8,
+        near: &Neighbours,
         mote: u8,
         frame: u32,
         profile: &NetProfile,
@@ -96,12 +98,13 @@ impl Schedule {
         requires under_way { IsUnderWay profile.now plan.now (staging stage.old (map N.device boards.old.items)) }
         requires known { mote < profile.now.motes }
         requires numbered { 1 ≤ frame }
-        requires sent { SentBy from frame (staging stage.old (map N.device boards.old.items)) }
+        requires sent { SentBy near.now.mote frame (staging stage.old (map N.device boards.old.items)) }
+        requires near { AreNeighbours near.now.are profile.now.links near.now.mote }
         ensures goes_on { OnOk result (GoesOn profile.now plan.now (staging stage.old (map N.device boards.old.items))
             (staging stage.new (map N.device boards.new.items))) }
         ensures full { result ≡ Ok Played.TooMany → IsFull (staging stage.new (map N.device boards.new.items)) }
     {
-        if !self.reaches(from, mote, profile, plan, stage) {
+        if !self.reaches(near, mote, plan, stage) {
             return Ok(Played::Done);
         }
         let word = self.draws.next();
@@ -114,19 +117,12 @@ impl Schedule {
         self.event(event, mote, profile, plan, stage, boards)
     }
 
-    /// Whether a frame reaches a mote: they are neighbours, the mote is on, and the draw does not lose it.
-    fn reaches(
-        &mut self,
-        from: u8,
-        mote: u8,
-        profile: &NetProfile,
-        plan: &Plan,
-        stage: &Stage,
-    ) -> bool
-        ensures { result ≡ true → is_linked profile.now.links from mote ≡ true }
+    /// Whether a frame reaches a mote: it is a neighbour, and on, and the draw does not lose the frame.
+    fn reaches(&mut self, near: &Neighbours, mote: u8, plan: &Plan, stage: &Stage) -> bool
+        ensures { (links : List (ℕ × ℕ)) → AreNeighbours near.now.are links near.now.mote → result ≡ true
+            → is_linked links near.now.mote mote ≡ true }
     {
-        mote != from
-            && are_linked(profile.links.as_slice(), from, mote)
+        near.has(mote)
             && stage.world.due(mote).is_some()
             && self.draws.next() % 100 >= u32::from(plan.loss)
     }
