@@ -92,17 +92,16 @@ pass_on n more old mid new A F l h some ends =
 
 -- ---- all of a line that is too long
 
--- so many pieces were passed over, and the line went on behind each
-pub record Passing (left_old left_now : Option (List ℕ)) (old now : Reading) (turns : ℕ) : Type 0 where
+-- pieces were passed over, and the line went on behind each
+pub record Passing (left_old left_now : Option (List ℕ)) (old now : Reading) : Type 0 where
   pub more : List ℕ
   pub taken : Takes left_old left_now more
   pub none : HasNoEnd (old.ahead ++ more)
   pub passed : now.passed + length now.ahead ≡ old.passed + length (old.ahead ++ more)
   pub used : now.passed + length now.ahead ≤ most_used_bytes
   pub number : now.number ≡ old.number
-  pub each : turns ≤ length more
 
-pub passing_begun : (left : Option (List ℕ)) (old : Reading) → HasNoEnd old.ahead → old.passed + length old.ahead ≤ most_used_bytes → Passing left left old old 0
+pub passing_begun : (left : Option (List ℕ)) (old : Reading) → HasNoEnd old.ahead → old.passed + length old.ahead ≤ most_used_bytes → Passing left left old old
 passing_begun left old none used = record {
   more = [];
   taken = Takes-nil left;
@@ -110,12 +109,11 @@ passing_begun left old none used = record {
   passed = ap (λ (xs : List ℕ). old.passed + length xs) (sym (append-nil old.ahead));
   used = used;
   number = refl;
-  each = omega arith;
 }
 
-pub passing_on : (a b c : Option (List ℕ)) (old now new : Reading) (turns : ℕ) (A F : Type 0) → Passing a b old now turns
-    → (more : List ℕ) → Takes b c more → PassAnswer None more now new A F → Passing a c old new (turns + 1)
-passing_on a b c old now new turns A F p more taken h =
+pub passing_on : (a b c : Option (List ℕ)) (old now new : Reading) (A F : Type 0) → Passing a b old now
+    → (more : List ℕ) → Takes b c more → PassAnswer None more now new A F → Passing a c old new
+passing_on a b c old now new A F p more taken h =
     let whole : (old.ahead ++ p.more) ++ more ≡ old.ahead ++ (p.more ++ more) = append_assoc old.ahead p.more more in
     let long : length (old.ahead ++ (p.more ++ more)) ≡ length (old.ahead ++ p.more) + length more = ap length (sym whole) ∙ length-append (old.ahead ++ p.more) more in
     record {
@@ -125,12 +123,7 @@ passing_on a b c old now new turns A F p more taken h =
       passed = omega (arith, h.3, p.passed, long);
       used = h.4;
       number = h.2 ∙ p.number;
-      each = omega (arith, p.each, h.1, length-append p.more more);
     }
-
--- there are no more pieces than bytes that are used
-pub passing_ends : (a b : Option (List ℕ)) (old now : Reading) (turns : ℕ) → Passing a b old now turns → most_used_bytes < turns → {A : Type 0} → A
-passing_ends a b old now turns p over = absurd (omega (arith, p.each, p.passed, p.used, length-append old.ahead p.more, over))
 
 -- a text is shorter by one CR at most
 stripped_long : (b : Bool) (xs : List ℕ) → length xs ≤ length (cond b (take (length xs - 1) xs) xs) + 1
@@ -140,15 +133,15 @@ stripped_long false xs = omega arith
 pub strip_long : (xs : List ℕ) → length xs ≤ length (strip_carriage_return xs) + 1
 strip_long xs = stripped_long (get_or xs (length xs - 1) 0 == 13) xs
 
-pub pass_stops : (stop : Stop) (a b c : Option (List ℕ)) (old now new last : Reading) (turns : ℕ) (A F : Type 0) → Passing a b old now turns → length old.ahead ≡ most_kept
+pub pass_stops : (stop : Stop) (a b c : Option (List ℕ)) (old now new last : Reading) (A F : Type 0) → Passing a b old now → length old.ahead ≡ most_kept
     → (more : List ℕ) → Takes b c more → PassAnswer (Some stop) more now new A F
     → (all : List ℕ) × Takes a c all × NextAnswer (Err stop) (old.ahead ++ all) old last A F
-pass_stops ReadFault a b c old now new last turns A F p full more taken h = (
+pass_stops ReadFault a b c old now new last A F p full more taken h = (
   p.more,
   subst (Takes a c) (ap (λ (xs : List ℕ). p.more ++ xs) h.1 ∙ append-nil p.more) (Takes-join a b c p.more more p.taken taken),
   (h.0, p.none, omega (arith, p.passed, p.used)),
 )
-pass_stops TooLong a b c old now new last turns A F p full more taken h =
+pass_stops TooLong a b c old now new last A F p full more taken h =
     let whole : (old.ahead ++ p.more) ++ more ≡ old.ahead ++ (p.more ++ more) = append_assoc old.ahead p.more more in
     let long : length (old.ahead ++ (p.more ++ more)) ≡ length (old.ahead ++ p.more) + length more = ap length (sym whole) ∙ length-append (old.ahead ++ p.more) more in
     let room : length (old.ahead ++ p.more) ≡ most_used_bytes - old.passed = omega (arith, p.passed, h.1) in
@@ -158,7 +151,7 @@ pass_stops TooLong a b c old now new last turns A F p full more taken h =
       Takes-join a b c p.more more p.taken taken,
       record { all = omega (arith, long, h.0, h.1, p.passed); none = subst HasNoEnd (sym front) p.none },
     )
-pass_stops (Long line) a b c old now new last turns A F p full more taken h =
+pass_stops (Long line) a b c old now new last A F p full more taken h =
     let front : List ℕ = old.ahead ++ p.more in
     let whole : front ++ more ≡ old.ahead ++ (p.more ++ more) = append_assoc old.ahead p.more more in
     let long : length (old.ahead ++ (p.more ++ more)) ≡ length front + length more = ap length (sym whole) ∙ length-append front more in
@@ -199,8 +192,8 @@ pass_stops (Long line) a b c old now new last turns A F p full more taken h =
 
 -- ---- the next line
 
--- so many times bytes came, and these first ones hold no LF
-pub record Looking (left_old left_now : Option (List ℕ)) (old now : Reading) (looked turns : ℕ) : Type 0 where
+-- bytes came, and these first ones hold no LF
+pub record Looking (left_old left_now : Option (List ℕ)) (old now : Reading) (looked : ℕ) : Type 0 where
   pub more : List ℕ
   pub taken : Takes left_old left_now more
   pub ahead : now.ahead ≡ old.ahead ++ more
@@ -210,9 +203,8 @@ pub record Looking (left_old left_now : Option (List ℕ)) (old now : Reading) (
   pub kept : length now.ahead ≤ most_kept
   pub within : looked ≤ length now.ahead
   pub none : HasNoEnd (take looked now.ahead)
-  pub each : turns ≤ length more
 
-pub looking_begun : (left : Option (List ℕ)) (old : Reading) → old.passed + length old.ahead ≤ most_used_bytes → length old.ahead ≤ most_kept → Looking left left old old 0 0
+pub looking_begun : (left : Option (List ℕ)) (old : Reading) → old.passed + length old.ahead ≤ most_used_bytes → length old.ahead ≤ most_kept → Looking left left old old 0
 looking_begun left old used kept = record {
   more = [];
   taken = Takes-nil left;
@@ -223,12 +215,11 @@ looking_begun left old used kept = record {
   kept = kept;
   within = omega arith;
   none = λ k d h. absurd (omega (arith, h));
-  each = omega arith;
 }
 
-pub looking_on : (n : ℕ) (a b c : Option (List ℕ)) (old now new : Reading) (before looked turns : ℕ) (A F : Type 0) → Looking a b old now before turns
-    → HasNoEnd now.ahead → looked ≡ length now.ahead → n ≢ 0 → (more : List ℕ) → Takes b c more → FillAnswer (Ok n) more now new A F → Looking a c old new looked (turns + 1)
-looking_on n a b c old now new before looked turns A F l none all some more taken h =
+pub looking_on : (n : ℕ) (a b c : Option (List ℕ)) (old now new : Reading) (before looked : ℕ) (A F : Type 0) → Looking a b old now before
+    → HasNoEnd now.ahead → looked ≡ length now.ahead → n ≢ 0 → (more : List ℕ) → Takes b c more → FillAnswer (Ok n) more now new A F → Looking a c old new looked
+looking_on n a b c old now new before looked A F l none all some more taken h =
     let long : length new.ahead ≡ length now.ahead + length more = ap length h.1 ∙ length-append now.ahead more in
     let front : take looked new.ahead ≡ now.ahead = ap (take looked) h.1 ∙ take_at now.ahead more looked (sym all) in
     record {
@@ -241,13 +232,7 @@ looking_on n a b c old now new before looked turns A F l none all some more take
       kept = h.6;
       within = omega (arith, long, all);
       none = subst HasNoEnd (sym front) none;
-      each = omega (arith, l.each, h.0, some, length-append l.more more);
     }
-
-pub looking_ends : (a b : Option (List ℕ)) (old now : Reading) (looked turns : ℕ) → Looking a b old now looked turns → most_kept < turns → {A : Type 0} → A
-looking_ends a b old now looked turns l over =
-    let long : length now.ahead ≡ length old.ahead + length l.more = ap length l.ahead ∙ length-append old.ahead l.more in
-    absurd (omega (arith, long, l.each, l.kept, over))
 
 -- an answer speaks of what there was before by its numbers alone
 answer_since : (r : Result (Option ℕ) Stop) (bytes : List ℕ) (old now new : Reading) (A F : Type 0) → now.passed ≡ old.passed → now.number ≡ old.number
@@ -273,22 +258,22 @@ answer_since (Err (Long line)) bytes old now new A F p q h = (
 answer_since (Err TooLong) bytes old now new A F p q h = record { all = omega (arith, h.all, p); none = subst (λ k. HasNoEnd (take (most_used_bytes - k) bytes)) p h.none }
 
 -- a line was looked for, and this was answered of the bytes that are kept
-pub looking_answers : (r : Result (Option ℕ) Stop) (a b : Option (List ℕ)) (old now new : Reading) (looked turns : ℕ) (A F : Type 0) → Looking a b old now looked turns
+pub looking_answers : (r : Result (Option ℕ) Stop) (a b : Option (List ℕ)) (old now new : Reading) (looked : ℕ) (A F : Type 0) → Looking a b old now looked
     → NextAnswer r now.ahead now new A F → (all : List ℕ) × Takes a b all × NextAnswer r (old.ahead ++ all) old new A F
-looking_answers r a b old now new looked turns A F l h = (
+looking_answers r a b old now new looked A F l h = (
   l.more,
   l.taken,
   answer_since r (old.ahead ++ l.more) old now new A F l.passed l.number (subst (λ (xs : List ℕ). NextAnswer r xs now new A F) l.ahead h),
 )
 
-pub looking_gives : (r : Result (Option ℕ) Stop) (a b : Option (List ℕ)) (old now new : Reading) (looked turns : ℕ) (A F : Type 0) → Looking a b old now looked turns
+pub looking_gives : (r : Result (Option ℕ) Stop) (a b : Option (List ℕ)) (old now new : Reading) (looked : ℕ) (A F : Type 0) → Looking a b old now looked
     → NextAnswer r now.ahead now new ⊥ ⊥ → (all : List ℕ) × Takes a b all × NextAnswer r (old.ahead ++ all) old new A F
-looking_gives r a b old now new looked turns A F l h = looking_answers r a b old now new looked turns A F l (answer_if F r now.ahead now new (λ (e : ⊥). absurd e) h)
+looking_gives r a b old now new looked A F l h = looking_answers r a b old now new looked A F l (answer_if F r now.ahead now new (λ (e : ⊥). absurd e) h)
 
 -- nothing came, and this was answered of the bytes that are kept
-pub looking_rest : (n : ℕ) (r : Result (Option ℕ) Stop) (a b c : Option (List ℕ)) (old now new last : Reading) (looked turns : ℕ) (A F : Type 0) → Looking a b old now looked turns
+pub looking_rest : (n : ℕ) (r : Result (Option ℕ) Stop) (a b c : Option (List ℕ)) (old now new last : Reading) (looked : ℕ) (A F : Type 0) → Looking a b old now looked
     → (more : List ℕ) → Takes b c more → FillAnswer (Ok n) more now new A F → n ≡ 0 → NextAnswer r new.ahead new last ⊤ ⊥ → (all : List ℕ) × Takes a c all × NextAnswer r (old.ahead ++ all) old last A F
-looking_rest n r a b c old now new last looked turns A F l more taken h zero answer = (
+looking_rest n r a b c old now new last looked A F l more taken h zero answer = (
   l.more ++ more,
   Takes-join a b c l.more more l.taken taken,
   answer_since r (old.ahead ++ (l.more ++ more)) old new last A F (h.2 ∙ l.passed) (h.3 ∙ l.number)
@@ -296,9 +281,9 @@ looking_rest n r a b c old now new last looked turns A F l more taken h zero ans
 )
 
 -- the buffer is full, and the line was passed over
-pub looking_passes : (stop : Stop) (a b c : Option (List ℕ)) (old now new : Reading) (looked turns : ℕ) (A F : Type 0) → Looking a b old now looked turns
+pub looking_passes : (stop : Stop) (a b c : Option (List ℕ)) (old now new : Reading) (looked : ℕ) (A F : Type 0) → Looking a b old now looked
     → (more : List ℕ) → Takes b c more → NextAnswer (Err stop) (now.ahead ++ more) now new A F → (all : List ℕ) × Takes a c all × NextAnswer (Err stop) (old.ahead ++ all) old new A F
-looking_passes stop a b c old now new looked turns A F l more taken h = (
+looking_passes stop a b c old now new looked A F l more taken h = (
   l.more ++ more,
   Takes-join a b c l.more more l.taken taken,
   answer_since (Err stop) (old.ahead ++ (l.more ++ more)) old now new A F l.passed l.number
@@ -306,14 +291,14 @@ looking_passes stop a b c old now new looked turns A F l more taken h = (
 )
 
 -- no more bytes could be taken
-pub looking_stops : (stop : Stop) (a b c : Option (List ℕ)) (old now new last : Reading) (looked turns : ℕ) (A F : Type 0) → Looking a b old now looked turns → HasNoEnd now.ahead
+pub looking_stops : (stop : Stop) (a b c : Option (List ℕ)) (old now new last : Reading) (looked : ℕ) (A F : Type 0) → Looking a b old now looked → HasNoEnd now.ahead
     → (more : List ℕ) → Takes b c more → FillAnswer (Err stop) more now new A F → (all : List ℕ) × Takes a c all × NextAnswer (Err stop) (old.ahead ++ all) old last A F
-looking_stops ReadFault a b c old now new last looked turns A F l none more taken h = (
+looking_stops ReadFault a b c old now new last looked A F l none more taken h = (
   l.more,
   subst (Takes a c) (ap (λ (xs : List ℕ). l.more ++ xs) h.1 ∙ append-nil l.more) (Takes-join a b c l.more more l.taken taken),
   (h.0, subst HasNoEnd l.ahead none, omega (arith, ap length l.ahead, l.passed, l.used)),
 )
-looking_stops TooLong a b c old now new last looked turns A F l none more taken h =
+looking_stops TooLong a b c old now new last looked A F l none more taken h =
     let whole : (old.ahead ++ l.more) ++ more ≡ old.ahead ++ (l.more ++ more) = append_assoc old.ahead l.more more in
     let same : length now.ahead ≡ length (old.ahead ++ l.more) = ap length l.ahead in
     let long : length (old.ahead ++ (l.more ++ more)) ≡ length (old.ahead ++ l.more) + length more = ap length (sym whole) ∙ length-append (old.ahead ++ l.more) more in
@@ -324,7 +309,7 @@ looking_stops TooLong a b c old now new last looked turns A F l none more taken 
       Takes-join a b c l.more more l.taken taken,
       record { all = omega (arith, long, h.0, h.1, l.passed, same); none = subst HasNoEnd (sym front) none },
     )
-looking_stops (Long line) a b c old now new last looked turns A F l none more taken h = absurd h
+looking_stops (Long line) a b c old now new last looked A F l none more taken h = absurd h
 
 -- a stop is handed on as it is
 pub stop_is : (r : Result (Option ℕ) Stop) (stop : Stop) → IsErrAnd r (λ e. e ≡ stop) → Err stop ≡ r
