@@ -1,4 +1,5 @@
 pub mod Answers
 pub mod Messages
 pub mod Pages
+pub mod Plans
 pub mod Timers

@@ -37,6 +37,45 @@ pub(crate) const FLAG_FAULT: u32 = 9;
 /// The page does not begin as a descriptor.
 pub(crate) const TAG: u32 = 10;
 
+/// The bytes of the chip are no volume.
+pub(crate) const NO_VOLUME: u32 = 11;
+
+/// There is no image to start.
+pub(crate) const NO_IMAGE: u32 = 12;
+
+/// Image 0 is golden, which is written by formatting alone.
+pub(crate) const RESERVED: u32 = 13;
+
+/// This version or a larger one is kept.
+pub(crate) const STALE: u32 = 14;
+
+/// There is no room for the commits.
+pub(crate) const WORN: u32 = 15;
+
+/// The image has no byte.
+pub(crate) const EMPTY: u32 = 16;
+
+/// It has more than 70,656.
+pub(crate) const TOO_LARGE: u32 = 17;
+
+/// This version is kept with another content.
+pub(crate) const TAKEN: u32 = 18;
+
+/// The kept order has this number or a larger one.
+pub(crate) const OLD_ORDER: u32 = 19;
+
+/// The packet was put before.
+pub(crate) const PUT: u32 = 20;
+
+/// Nothing, or another version, is kept of the image.
+pub(crate) const NOT_KEPT: u32 = 21;
+
+/// Another page is the next one, or all are complete.
+pub(crate) const NOT_NEXT: u32 = 22;
+
+/// Page 0 is not the descriptor of the image.
+pub(crate) const UNFIT: u32 = 23;
+
 /// The answer of a refused frame.
 pub(crate) fn frame_answer(fault: FrameFault) -> u32
     ensures { result ≡ frame_answer fault }

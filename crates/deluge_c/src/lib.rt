@@ -6,8 +6,15 @@
 
 mod answers;
 mod checksums;
+mod injections;
 mod lines;
+mod looks;
 mod messages;
+mod orders;
+mod packets;
 mod pages;
 mod rooms;
+mod seals;
+mod starts;
+mod takes;
 mod timers;

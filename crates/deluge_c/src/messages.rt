@@ -199,7 +199,7 @@ fn wide_entries_in(m: &MessageFields) -> [Entry; WIDE_IMAGES]
     ]
 }
 
-fn order_in(order: &OrderFields) -> Order
+pub(crate) fn order_in(order: &OrderFields) -> Order
     ensures { result ≡ order_of_fields order.now }
 {
     Order {
@@ -210,7 +210,7 @@ fn order_in(order: &OrderFields) -> Order
 }
 
 /// The packets of a page whose bits are set.
-fn set_in(want: &[u8; SET_BYTES]) -> PageBits<PACKETS>
+pub(crate) fn set_in(want: &[u8; SET_BYTES]) -> PageBits<PACKETS>
     ensures { result ≡ numbers_of want.now }
 {
     PageBits::from_bytes(want).unwrap()
