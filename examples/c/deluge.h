@@ -31,7 +31,20 @@ enum deluge_answer {
     DELUGE_BROKEN = 7,      /* an escape stands before another byte than it may */
     DELUGE_LONG = 8,        /* more bytes than a frame has */
     DELUGE_FLAG_WITHIN = 9, /* a flag stands within the piece */
-    DELUGE_TAG = 10         /* the page does not begin as a descriptor */
+    DELUGE_TAG = 10,        /* the page does not begin as a descriptor */
+    DELUGE_NO_VOLUME = 11,  /* the bytes of the chip are no volume */
+    DELUGE_NO_IMAGE = 12,   /* there is no image to start */
+    DELUGE_RESERVED = 13,   /* image 0 is golden, which is written by formatting alone */
+    DELUGE_STALE = 14,      /* this version or a larger one is kept */
+    DELUGE_WORN = 15,       /* too few commits are left */
+    DELUGE_EMPTY = 16,      /* the image has no byte */
+    DELUGE_TOO_LARGE = 17,  /* it has more than 70,656 */
+    DELUGE_TAKEN = 18,      /* this version is kept with another content */
+    DELUGE_OLD_ORDER = 19,  /* the kept order has this number or a larger one */
+    DELUGE_PUT = 20,        /* the packet was put before */
+    DELUGE_NOT_KEPT = 21,   /* nothing, or another version, is kept of the image */
+    DELUGE_NOT_NEXT = 22,   /* another page is the next one, or all are complete */
+    DELUGE_UNFIT = 23       /* page 0 is not the descriptor of the image */
 };
 
 /* ---- checksums */
@@ -116,5 +129,90 @@ uint32_t deluge_page_check(const uint8_t *first, size_t first_count, const uint8
 
 /* The SHA-256 digest of a page, 32 bytes, by which the page before it names it in its last 32 bytes. LENGTH: nothing is written. */
 uint32_t deluge_page_digest(const uint8_t *page, size_t count, uint8_t *digest, size_t digest_count);
+
+/* ---- plans: acts of the store and the start, over a chip that can be read in place */
+
+/* A chip of 530 sectors of 2,048 bytes, all of it mapped, so that `chip` points to its bytes. A chip that cannot be read so is not
+ * served. */
+#define DELUGE_CHIP_BYTES 1085440
+#define DELUGE_SECTOR_BYTES 2048
+
+enum deluge_command_kind { DELUGE_ERASE = 1, DELUGE_PROGRAM = 2, DELUGE_COPY = 3 };
+
+/* One operation of the chip, for the caller's driver. An erase sets the `count` bytes from `at` on, a sector, to 0xFF. A program
+ * makes old AND new of `count` bytes from `at` on: its bytes stand from `from` on in the bytes beside the list. A copy does the
+ * same with the bytes of the chip itself, from `from` on. */
+struct deluge_command {
+    uint32_t kind, at, from, count;
+};
+
+/* The most commands of a start, of 65 pages, and the most bytes that it programs. */
+#define DELUGE_START_COMMANDS 593
+#define DELUGE_START_BYTES 193
+
+/* Each call mounts the chip and plans one act. DONE: the first `planned` commands are its operations, in their order. Whoever
+ * carries them out, and stops anywhere, has a chip that a stop of the act may leave: the next call goes on from there.
+ * ROOM: the list, or the bytes beside it, hold as many of the operations as have room.
+ * LENGTH, RANGE, NO_VOLUME: nothing is planned. */
+
+enum deluge_cause { DELUGE_POWER = 0, DELUGE_ORDER_WAITS = 1 };
+
+struct deluge_started {
+    uint32_t version, length;
+    uint16_t crc;
+    uint8_t image, pages;
+};
+
+/* Plans a start: after its commands program memory holds `pages` pages from sector 3 on, of which the first is the descriptor.
+ * NO_IMAGE has commands too, which count the start. */
+uint32_t deluge_plan_start(const uint8_t *chip, size_t chip_count, uint32_t cause, struct deluge_command *commands, size_t room,
+    uint8_t *bytes, size_t bytes_room, size_t *planned, struct deluge_started *started);
+
+/* What is told of an image before any of its pages, as an advert tells it. */
+struct deluge_profile {
+    uint32_t version;
+    uint16_t crc; /* of page 0 */
+    uint8_t image, pages;
+};
+
+/* Plans that the slot of an image is taken: at most 8 commands and 139 bytes. RESERVED, STALE or WORN: nothing is planned. */
+uint32_t deluge_plan_take(const uint8_t *chip, size_t chip_count, const struct deluge_profile *profile,
+    struct deluge_command *commands, size_t room, uint8_t *bytes, size_t bytes_room, size_t *planned);
+
+/* Plans that an order is kept: at most 4 commands and 65 bytes. RANGE, OLD_ORDER or WORN: nothing is planned. */
+uint32_t deluge_plan_order(const uint8_t *chip, size_t chip_count, const struct deluge_order *order, struct deluge_command *commands,
+    size_t room, uint8_t *bytes, size_t bytes_room, size_t *planned);
+
+/* A packet of the next page of an image, and which packets of the page were put before, by bits as in `want`. */
+struct deluge_packet {
+    uint32_t version;
+    uint8_t image, page, packet, got[6], bytes[DELUGE_PACKET_BYTES];
+};
+
+/* Plans that a packet is put: 1 command and 23 bytes, and an erase before it where none was put before. 25 bytes of the chip are
+ * read. RANGE, PUT, NOT_KEPT or NOT_NEXT: nothing is planned. */
+uint32_t deluge_plan_packet(const uint8_t *chip, size_t chip_count, const struct deluge_packet *packet,
+    struct deluge_command *commands, size_t room, uint8_t *bytes, size_t bytes_room, size_t *planned);
+
+/* Plans that the next page of an image is made complete, as it stands there: 1 command and 1 byte. CHECK, where its CRC is another
+ * one, UNFIT, RANGE, NOT_KEPT or NOT_NEXT: nothing is planned. */
+uint32_t deluge_plan_seal(const uint8_t *chip, size_t chip_count, uint8_t image, uint32_t version, uint8_t page,
+    struct deluge_command *commands, size_t room, uint8_t *bytes, size_t bytes_room, size_t *planned);
+
+/* Plans that an image is kept whole: at most 3,258 commands and 71,964 bytes. With less room it is a beginning, from which a next
+ * call goes on where a page had room: 58 commands and 1,244 bytes. */
+uint32_t deluge_plan_inject(const uint8_t *chip, size_t chip_count, uint8_t image, uint32_t version, const uint8_t *name,
+    size_t name_count, const uint8_t *content, size_t content_count, struct deluge_command *commands, size_t room, uint8_t *bytes,
+    size_t bytes_room, size_t *planned);
+
+/* What a chip keeps of an image: the first `done` of its pages are complete. */
+struct deluge_kept {
+    uint32_t version;
+    uint16_t crc; /* of page 0 */
+    uint8_t pages, done;
+};
+
+/* LENGTH, RANGE, NO_VOLUME or NOT_KEPT: `kept` is as it was. */
+uint32_t deluge_kept(const uint8_t *chip, size_t chip_count, uint8_t image, struct deluge_kept *kept);
 
 #endif
