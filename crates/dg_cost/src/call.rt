@@ -9,7 +9,7 @@ ghost use Rattle.dg_cost_text.specs.declared.rows.Counted.{Counted};
 use crate::mote_rows::counted;
 use dg_base::{Sink, Source, Status, WriteFailed};
 use dg_cost_text::{Model, csv_text, json_text, table_text, timed_text};
-use dg_count::{Counter, Given};
+use dg_count::{Costs, Counter, Given};
 use dg_meter::Metered;
 use dg_nor::Nor;
 use dg_replay::replay_watched;
@@ -95,11 +95,11 @@ fn look_at<N: Nor>(board: &mut Metered<N>) -> Option<Given> {
 }
 
 /// The room that is left on each chip at the end.
-fn look_again<N: Nor>(counter: &mut Counter, boards: &mut Vec<Metered<N>>) {
+fn look_again<N: Nor>(costs: &mut Costs, boards: &mut Vec<Metered<N>>) {
     for index in 0..boards.len() {
-        if index < boards.len() && index < counter.motes.len() {
+        if index < boards.len() && index < costs.motes.len() {
             if let Ok(volume) = Volume::mount(&mut boards[index]) {
-                counter.motes[index].room_end = Some(u64::from(volume.room()));
+                costs.motes[index].room_end = Some(u64::from(volume.room()));
             }
         }
     }
@@ -125,7 +125,12 @@ fn text_of(
     ensures { IfOk result (λ text. IsText asked.now report.now text.items) }
 {
     match asked {
-        Form::Timed => timed_text(alloc, report, &counter.stamps, counter.now()),
+        Form::Timed => timed_text(
+            alloc,
+            report,
+            &counter.costs.stamps,
+            counter.costs.at(counter.all_events()),
+        ),
         Form::Csv => csv_of(alloc, counter, status),
         Form::Table(model) => {
             let counted = counted(alloc, counter, status)?;
@@ -163,10 +168,10 @@ pub fn cost<S: Source, K: Sink, N: Nor>(
     };
     let mut counter = Counter::new(alloc, given, asked.is_timed());
     let status = replay_watched(alloc, input, &mut report, boards, &mut counter);
-    if counter.failed || 0 < report.faults {
+    if counter.costs.failed || 0 < report.faults {
         return Status::Memory;
     }
-    look_again(&mut counter, boards);
+    look_again(&mut counter.costs, boards);
     match text_of(alloc, asked, &counter, report.bytes.as_slice(), status) {
         Ok(text) => match out.write(&text) {
             Ok(()) => status,

@@ -1,7 +1,8 @@
 //! The rows of a chip.
 
 use dg_cost_text::{Part, Rows};
-use dg_count::{EVENTS, MoteCost};
+use dg_count::MoteCost;
+use dg_events::EVENTS;
 use dg_meter::{Kind, REGIONS, Region, Share, Shares, Tally};
 use std::alloc::AllocError;
 

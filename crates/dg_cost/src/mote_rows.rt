@@ -5,9 +5,10 @@ use crate::moment_rows::{push_all_moments, push_wholes};
 use dg_base::Status;
 use dg_cost_text::{Counted, Part, Rows, total_of};
 use dg_count::{
-    ANSWERS, CAUSES, Counter, EVENTS, FAULTS, FRAMES, HEARD, MOTES, MoteCost, PACKET, PUT,
-    SENT_KINDS, SentBy, TRACED, TRACED_PUT, USED, narrow, share_of,
+    ANSWERS, Counter, FAULTS, FRAMES, HEARD, MOTES, MoteCost, PACKET, PUT, SENT_KINDS, SentBy,
+    TRACED, TRACED_PUT, USED, narrow, share_of,
 };
+use dg_events::{CAUSES, EVENTS, EventCounts};
 use dg_meter::Share;
 use std::alloc::{AllocError, Global};
 
@@ -23,14 +24,19 @@ fn push_neighbours(rows: &mut Rows, cost: &MoteCost) -> Result<(), AllocError> {
     Ok(())
 }
 
-fn push_time(rows: &mut Rows, cost: &MoteCost, ms: u64) -> Result<(), AllocError> {
+fn push_time(
+    rows: &mut Rows,
+    cost: &MoteCost,
+    events: &EventCounts,
+    ms: u64,
+) -> Result<(), AllocError> {
     let on = cost.on_until(ms);
     rows.sum("on.ms", on)?;
     rows.sum("off.ms", ms.saturating_sub(on))?;
     rows.own("off.end", if cost.on { 0 } else { 1 })?;
-    rows.each("events.", &EVENTS, &cost.events, "")?;
-    rows.each("refused.event.", &CAUSES, &cost.refused, "")?;
-    rows.sum("cuts", cost.cuts)
+    rows.each("events.", &EVENTS, &events.events, "")?;
+    rows.each("refused.event.", &CAUSES, &events.refused, "")?;
+    rows.sum("cuts", events.cuts)
 }
 
 /// The frames that a mote sent, and those that no mote heard.
@@ -68,14 +74,14 @@ fn push_packets(rows: &mut Rows, cost: &MoteCost, by: &SentBy) -> Result<(), All
     rows.sum("traced.vain.count", by.without(PACKET, PUT + TRACED_PUT))
 }
 
-fn push_starts(rows: &mut Rows, cost: &MoteCost) -> Result<(), AllocError> {
-    rows.sum("starts.power", cost.starts.power)?;
-    rows.sum("starts.order", cost.starts.order)?;
-    rows.sum("starts.cut.power", cost.starts.cut_power)?;
-    rows.sum("starts.cut.order", cost.starts.cut_order)?;
-    rows.sum("starts.none", cost.starts.none)?;
+fn push_starts(rows: &mut Rows, cost: &MoteCost, events: &EventCounts) -> Result<(), AllocError> {
+    rows.sum("starts.power", events.by_power)?;
+    rows.sum("starts.order", events.by_order)?;
+    rows.sum("starts.cut.power", events.cut_by_power)?;
+    rows.sum("starts.cut.order", cost.cut_restarts)?;
+    rows.sum("starts.none", cost.no_image)?;
     let images = ["0", "1", "2", "3", "4", "5", "6"];
-    rows.each("starts.image.", &images, &cost.starts_image, "")?;
+    rows.each("starts.image.", &images, &events.of_image, "")?;
     rows.sum("starts.copied", cost.starts_copied)
 }
 
@@ -88,13 +94,14 @@ fn mote_rows(
     counter: &Counter,
 ) -> Result<Rows, AllocError> {
     let mut rows = Rows::new(alloc);
-    push_time(&mut rows, cost, counter.ms)?;
+    let events = counter.events_at(counter.costs.ended, usize::from(mote));
+    push_time(&mut rows, cost, &events, counter.costs.ms)?;
     push_sent(&mut rows, by)?;
     push_heard(&mut rows, cost)?;
     push_packets(&mut rows, cost, by)?;
-    push_starts(&mut rows, cost)?;
+    push_starts(&mut rows, cost, &events)?;
     push_chip(&mut rows, cost)?;
-    push_wholes(&mut rows, mote, &counter.moments)?;
+    push_wholes(&mut rows, mote, &counter.costs.moments)?;
     Ok(rows)
 }
 
@@ -119,7 +126,7 @@ fn push_totals(all: &mut Rows, counter: &Counter, by: &[SentBy]) -> Result<(), A
     }
     let mut heard = Share::none();
     let mut flash = (0, 0, 0);
-    for cost in &counter.motes {
+    for cost in &counter.costs.motes {
         for kind in 0..SENT_KINDS {
             heard = heard.with(cost.heard(kind));
         }
@@ -146,22 +153,25 @@ fn all_rows(
     if let Some(first) = motes.first() {
         push_sums(&mut all, motes, first)?;
         push_totals(&mut all, counter, by)?;
-        push_all_moments(&mut all, &counter.moments)?;
+        push_all_moments(&mut all, &counter.costs.moments)?;
     }
-    all.own("run.motes", u64::from(counter.count))?;
-    all.own("run.events", counter.events)?;
-    all.own("run.ms", counter.ms)?;
+    all.own("run.motes", u64::from(counter.costs.count))?;
+    all.own("run.events", counter.all_events())?;
+    all.own("run.ms", counter.costs.ms)?;
     all.own("run.status", u64::from(status.code()))?;
     Ok(all)
 }
 
 /// What a run that ended so came to.
 pub fn counted(alloc: Global, counter: &Counter, status: Status) -> Result<Counted, AllocError> {
-    let by = counter.frames.sent_by_each(alloc, counter.motes.len())?;
+    let by = counter
+        .costs
+        .frames
+        .sent_by_each(alloc, counter.costs.motes.len())?;
     let mut motes = Vec::new(alloc);
-    for mote in 0..counter.motes.len() {
+    for mote in 0..counter.costs.motes.len() {
         if mote < by.len() {
-            let cost = &counter.motes[mote];
+            let cost = &counter.costs.motes[mote];
             motes.push(mote_rows(alloc, narrow(mote), cost, &by[mote], counter)?)?;
         }
     }
@@ -169,6 +179,6 @@ pub fn counted(alloc: Global, counter: &Counter, status: Status) -> Result<Count
     Ok(Counted {
         motes,
         all,
-        scheduled: counter.scheduled,
+        scheduled: counter.costs.scheduled,
     })
 }

@@ -17,12 +17,20 @@ pub struct SentFrame {
     pub heard: u16,
     /// A bit for each mote to which its bytes came from outside.
     pub traced: u16,
-    /// It was put into a page by a mote that heard it.
-    pub put: bool,
-    /// It was put into a page as its bytes came from outside.
-    pub traced_put: bool,
-    /// It was put into a page that became complete.
-    pub used: bool,
+    /// What became of it, as the sum of [`HEARD`] and the others.
+    pub state: u8,
+}
+
+impl SentFrame {
+    /// A mote hears it, and puts it into a page or not. Answers whether it hears it for the first time.
+    #[inline(always)]
+    pub fn hear(&mut self, mote: u8, puts: bool) -> bool {
+        let mote = bit(mote);
+        let fresh = self.heard & mote == 0;
+        self.heard |= mote;
+        self.state |= if puts { HEARD | PUT } else { HEARD };
+        fresh
+    }
 }
 
 /// The frames that were sent, the first one first.
@@ -73,9 +81,7 @@ impl Frames {
             kind,
             heard: 0,
             traced: 0,
-            put: false,
-            traced_put: false,
-            used: false,
+            state: 0,
         })?;
         if usize::from(by) < self.last.len() {
             self.last[usize::from(by)] = self.sent.len();
@@ -115,23 +121,10 @@ impl Frames {
         self.sent[number - 1] = frame;
     }
 
-    /// A mote hears the frame with this number, and puts it into a page or not. Answers the frame as it was before.
-    #[inline(always)]
-    pub fn hear(&mut self, number: usize, mote: u8, puts: bool) -> Option<SentFrame> {
-        if number == 0 || self.sent.len() < number {
-            return None;
-        }
-        let frame = &mut self.sent[number - 1];
-        let before = *frame;
-        frame.heard |= bit(mote);
-        frame.put |= puts;
-        Some(before)
-    }
-
     /// The frame with this number was put into a page that became complete.
     pub fn used(&mut self, number: usize) {
         if let Some(mut frame) = self.get(number) {
-            frame.used = true;
+            frame.state |= USED;
             self.set(number, frame);
         }
     }
@@ -140,6 +133,7 @@ impl Frames {
     pub fn trace(&mut self, number: usize, mote: u8) {
         if let Some(mut frame) = self.get(number) {
             frame.traced |= bit(mote);
+            frame.state |= TRACED;
             self.set(number, frame);
         }
     }
@@ -147,7 +141,7 @@ impl Frames {
     /// And they were put into a page.
     pub fn trace_put(&mut self, number: usize) {
         if let Some(mut frame) = self.get(number) {
-            frame.traced_put = true;
+            frame.state |= TRACED_PUT;
             self.set(number, frame);
         }
     }
@@ -216,43 +210,22 @@ fn has_bytes(world: &World, number: usize, bytes: &[u8]) -> bool {
 }
 
 /// It was heard.
-pub const HEARD: usize = 1;
+pub const HEARD: u8 = 1;
 
 /// Its bytes came to a mote from outside.
-pub const TRACED: usize = 2;
+pub const TRACED: u8 = 2;
 
 /// It was put into a page.
-pub const PUT: usize = 4;
+pub const PUT: u8 = 4;
 
 /// It was put into a page as its bytes came from outside.
-pub const TRACED_PUT: usize = 8;
+pub const TRACED_PUT: u8 = 8;
 
 /// It was put into a page that became complete.
-pub const USED: usize = 16;
+pub const USED: u8 = 16;
 
 /// How many sets of these there are.
 const STATES: usize = 32;
-
-/// What became of a frame, as the sum of what is true of it.
-fn state_of(frame: &SentFrame) -> usize {
-    let mut state = 0;
-    if frame.heard != 0 {
-        state += HEARD;
-    }
-    if frame.traced != 0 {
-        state += TRACED;
-    }
-    if frame.put {
-        state += PUT;
-    }
-    if frame.traced_put {
-        state += TRACED_PUT;
-    }
-    if frame.used {
-        state += USED;
-    }
-    state
-}
 
 /// How many frames a mote sent of each kind, by what became of them.
 #[derive(Clone, Copy)]
@@ -288,18 +261,18 @@ impl SentBy {
     #[inline(always)]
     fn count(&mut self, frame: &SentFrame) {
         let kind = usize::from(frame.kind);
-        let state = state_of(frame);
+        let state = usize::from(frame.state);
         if kind < SENT_KINDS && state < STATES {
             self.states[kind][state] = self.states[kind][state].wrapping_add(1);
         }
     }
 
     /// How many frames of a kind there were of which none of this is true.
-    pub fn without(&self, kind: usize, set: usize) -> u64 {
+    pub fn without(&self, kind: usize, set: u8) -> u64 {
         let mut number: u64 = 0;
         if kind < SENT_KINDS {
             for state in 0..STATES {
-                if state & set == 0 {
+                if state & usize::from(set) == 0 {
                     number = number.saturating_add(self.states[kind][state]);
                 }
             }
@@ -308,7 +281,7 @@ impl SentBy {
     }
 
     /// The same of all kinds.
-    pub fn all_without(&self, set: usize) -> u64 {
+    pub fn all_without(&self, set: u8) -> u64 {
         let mut number: u64 = 0;
         for kind in 0..SENT_KINDS {
             number = number.saturating_add(self.without(kind, set));

@@ -1,18 +1,31 @@
 //! Frames that are handed to motes.
 
-use crate::counter::Counter;
-use crate::frames::bit;
-use crate::kinds::{CUT_ANSWER, SENT_KINDS, answer_kind, bytes_kind, fault_kind, frame_bytes};
+use crate::costs::Costs;
+use crate::kinds::{
+    CUT_ANSWER, REFUSED_ANSWER, SENT_KINDS, answer_kind, bytes_kind, fault_kind, frame_bytes,
+};
 use crate::mote::{FILL, MOTES, MoteCost};
-use crate::share::{add_one, add_share};
-use crate::told::Told;
+use crate::share::add_share;
 use crate::work::Work;
+use dg_events::{Told, add_one};
 use dg_mote::Heard;
 use dg_rules::Event;
 use dg_world::World;
 use std::alloc::AllocError;
 
 impl MoteCost {
+    /// It refused a frame of this kind, if it did.
+    #[inline(never)]
+    fn refused(&mut self, kind: usize, heard: Heard) {
+        if let Heard::Refused(fault) = heard {
+            add_share(
+                &mut self.refused_frames,
+                fault_kind(fault),
+                frame_bytes(kind),
+            );
+        }
+    }
+
     /// A frame with this number, 0 where it came from outside, was put into the page that is filled.
     fn fill_with(&mut self, number: usize) {
         self.put = self.put.saturating_add(1);
@@ -23,7 +36,7 @@ impl MoteCost {
     }
 }
 
-impl Counter {
+impl Costs {
     /// The number of the frame that an event brings to its mote, and 0 where it comes from outside.
     #[inline(always)]
     fn frame_number(&self, event: &Event) -> usize {
@@ -34,34 +47,39 @@ impl Counter {
         }
     }
 
-    /// A frame of a mote was handed to a mote.
+    /// The frame with this number was handed to a mote, which put it into a page or not. Answers its kind.
     #[inline(always)]
-    fn heard_frame(&mut self, mote: u8, number: usize, heard: Option<Heard>, puts: u64) {
-        let Some(frame) = self.frames.hear(number, mote, 0 < puts) else {
-            return;
-        };
+    pub fn heard_frame(&mut self, mote: u8, number: usize, puts: bool) -> usize {
+        if number == 0 || self.frames.sent.len() < number {
+            return SENT_KINDS;
+        }
+        let frame = &mut self.frames.sent[number - 1];
+        let fresh = frame.hear(mote, puts);
+        let by = usize::from(frame.by);
+        let kind = usize::from(frame.kind);
+        let index = usize::from(mote);
+        if index < self.motes.len() && by < MOTES && kind < SENT_KINDS {
+            let cost = &mut self.motes[index];
+            cost.from[by][kind] = cost.from[by][kind].wrapping_add(1);
+            if fresh {
+                cost.first[by] = cost.first[by].wrapping_add(1);
+            }
+        }
+        kind
+    }
+
+    /// A mote answered a frame of this kind.
+    #[inline(always)]
+    pub fn answered(&mut self, mote: u8, kind: usize, heard: Heard) {
         let index = usize::from(mote);
         if self.motes.len() <= index {
             return;
         }
         let cost = &mut self.motes[index];
-        let kind = usize::from(frame.kind);
-        let by = usize::from(frame.by);
-        if by < MOTES && kind < SENT_KINDS {
-            cost.from[by][kind] = cost.from[by][kind].wrapping_add(1);
-            if frame.heard & bit(mote) == 0 {
-                cost.first[by] = cost.first[by].wrapping_add(1);
-            }
-        }
-        if let Some(Heard::Refused(fault)) = heard {
-            add_share(
-                &mut cost.refused_frames,
-                fault_kind(fault),
-                frame_bytes(kind),
-            );
-        }
-        if 0 < puts {
-            cost.fill_with(number);
+        let answer = answer_kind(heard);
+        add_one(&mut cost.answers, answer);
+        if answer == REFUSED_ANSWER {
+            cost.refused(kind, heard);
         }
     }
 
@@ -73,12 +91,12 @@ impl Counter {
         mote: u8,
         bytes: &[u8],
         heard: Option<Heard>,
-        puts: u64,
+        work: Work,
     ) -> Result<(), AllocError> {
         let found = self.frames.find(world, mote, bytes)?;
         if let Some(number) = found {
             self.frames.trace(number, mote);
-            if 0 < puts {
+            if 0 < work.puts {
                 self.frames.trace_put(number);
             }
         }
@@ -94,19 +112,33 @@ impl Counter {
         if let Some(Heard::Refused(fault)) = heard {
             add_share(&mut cost.refused_outside, fault_kind(fault), bytes.len());
         }
-        if 0 < puts {
-            cost.fill_with(0);
-        }
+        let answer = match heard {
+            Some(heard) => answer_kind(heard),
+            None => CUT_ANSWER,
+        };
+        add_one(&mut cost.answers, answer);
+        self.fill_by(mote, 0, work);
         Ok(())
     }
 
     /// A mote heard the frame with this number. Nothing is reported of it, and it left the chip as it was.
     #[inline(always)]
     pub fn note_quiet(&mut self, mote: u8, number: usize, heard: Heard) {
-        self.heard_frame(mote, number, Some(heard), 0);
+        let kind = self.heard_frame(mote, number, false);
+        self.answered(mote, kind, heard);
+    }
+
+    /// The frame with this number was put into a page, or a page became complete.
+    pub fn fill_by(&mut self, mote: u8, number: usize, work: Work) {
         let index = usize::from(mote);
-        if index < self.motes.len() {
-            add_one(&mut self.motes[index].answers, answer_kind(heard));
+        if self.motes.len() <= index {
+            return;
+        }
+        if 0 < work.puts {
+            self.motes[index].fill_with(number);
+        }
+        if 0 < work.sealed {
+            self.use_fill(index);
         }
     }
 
@@ -120,31 +152,24 @@ impl Counter {
         told: Told,
         work: Work,
     ) -> Result<(), AllocError> {
-        let heard = if told.off { None } else { Some(world.heard()) };
         match event {
             Event::Hear { .. } | Event::Last { .. } => {
                 let number = self.frame_number(event);
-                self.heard_frame(mote, number, heard, work.puts);
+                let kind = self.heard_frame(mote, number, 0 < work.puts);
+                if !told.off {
+                    self.answered(mote, kind, world.heard());
+                } else if usize::from(mote) < self.motes.len() {
+                    add_one(&mut self.motes[usize::from(mote)].answers, CUT_ANSWER);
+                }
+                self.fill_by(mote, number, work);
+                Ok(())
             }
             Event::Frame { bytes, .. } => {
-                self.heard_bytes(world, mote, bytes.as_slice(), heard, work.puts)?;
+                let heard = if told.off { None } else { Some(world.heard()) };
+                self.heard_bytes(world, mote, bytes.as_slice(), heard, work)
             }
-            _ => return Ok(()),
+            _ => Ok(()),
         }
-        let index = usize::from(mote);
-        if self.motes.len() <= index {
-            return Ok(());
-        }
-        let answer = match heard {
-            Some(heard) => answer_kind(heard),
-            None => CUT_ANSWER,
-        };
-        let cost = &mut self.motes[index];
-        add_one(&mut cost.answers, answer);
-        if 0 < work.sealed {
-            self.use_fill(index);
-        }
-        Ok(())
     }
 
     /// The page became complete that the mote with this place fills.

@@ -2,45 +2,6 @@
 
 use dg_frame::FrameFault;
 use dg_mote::Heard;
-use dg_rules::{Cause, Event};
-
-pub const EVENTS: [&str; 7] = ["tick", "hear", "last", "reset", "inject", "order", "frame"];
-
-/// The number of an event's kind.
-#[inline(always)]
-pub fn event_kind(event: &Event) -> usize {
-    match event {
-        Event::Tick { .. } => 0,
-        Event::Hear { .. } => 1,
-        Event::Last { .. } => 2,
-        Event::Reset { .. } => 3,
-        Event::Inject { .. } => 4,
-        Event::Order { .. } => 5,
-        Event::Frame { .. } => 6,
-    }
-}
-
-pub const CAUSES: [&str; 11] = [
-    "off", "frame", "link", "image", "empty", "toolarge", "reserved", "stale", "taken", "worn",
-    "oldorder",
-];
-
-/// The number of a cause.
-pub fn cause_kind(cause: Cause) -> usize {
-    match cause {
-        Cause::Off => 0,
-        Cause::Frame => 1,
-        Cause::Link => 2,
-        Cause::Image => 3,
-        Cause::Empty => 4,
-        Cause::TooLarge { .. } => 5,
-        Cause::Reserved => 6,
-        Cause::Stale { .. } => 7,
-        Cause::Taken => 8,
-        Cause::Worn { .. } => 9,
-        Cause::OldOrder { .. } => 10,
-    }
-}
 
 /// How many kinds of frames motes send.
 pub const SENT_KINDS: usize = 4;
@@ -90,6 +51,9 @@ pub const ANSWERS: [&str; 12] = [
     "refused", "dropped", "noted", "same", "other", "asks", "serves", "merged", "took", "sealed",
     "bad", "cut",
 ];
+
+/// The number of the answer that refuses a frame.
+pub const REFUSED_ANSWER: usize = 0;
 
 /// The number of the answer to a frame in which the power was cut.
 pub const CUT_ANSWER: usize = 11;

@@ -2,20 +2,24 @@
 //! commits, starts, and when it has what.
 #![tactic(auto)]
 
+mod costs;
 mod counter;
 mod frames;
 mod hearing;
 mod kinds;
 mod moments;
 mod mote;
+mod place;
+mod power;
 mod share;
-mod told;
 mod watching;
 mod work;
 
-pub use counter::{Counter, Given};
+pub use costs::{Costs, Given};
+pub use counter::Counter;
 pub use frames::{Frames, HEARD, PUT, SentBy, SentFrame, TRACED, TRACED_PUT, USED, share_of};
-pub use kinds::{ANSWERS, CAUSES, EVENTS, FAULTS, FRAMES, PACKET, SENT_KINDS};
+pub use kinds::{ANSWERS, FAULTS, FRAMES, PACKET, SENT_KINDS};
 pub use moments::{Have, Moments, Whole};
-pub use mote::{MOTES, MoteCost, Starts};
+pub use mote::{MOTES, MoteCost};
+pub use place::EventPlace;
 pub use share::narrow;

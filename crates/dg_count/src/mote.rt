@@ -10,30 +10,6 @@ pub const MOTES: usize = 16;
 /// The packets of the page that a mote fills.
 pub const FILL: usize = 48;
 
-/// The starts of a mote, by power and by order.
-#[derive(Clone, Copy)]
-pub struct Starts {
-    pub power: u64,
-    pub order: u64,
-    /// Those in which a cut fired.
-    pub cut_power: u64,
-    pub cut_order: u64,
-    /// Those that found no image.
-    pub none: u64,
-}
-
-impl Starts {
-    pub fn none() -> Starts {
-        Starts {
-            power: 0,
-            order: 0,
-            cut_power: 0,
-            cut_order: 0,
-            none: 0,
-        }
-    }
-}
-
 /// What is counted of a mote.
 #[derive(Clone, Copy)]
 pub struct MoteCost {
@@ -46,9 +22,6 @@ pub struct MoteCost {
     pub started: u64,
     /// How many short starts are counted.
     pub gesture: u8,
-    pub events: [u64; 7],
-    pub refused: [u64; 11],
-    pub cuts: u64,
     pub outside: [Share; 5],
     pub refused_frames: [Share; 5],
     pub refused_outside: [Share; 5],
@@ -59,8 +32,11 @@ pub struct MoteCost {
     pub first: [u64; MOTES],
     pub put: u64,
     pub traced: Share,
-    pub starts: Starts,
-    pub starts_image: [u64; 7],
+    /// The restarts in ticks in which a cut blew.
+    pub cut_restarts: u64,
+    /// The starts that found no image.
+    pub no_image: u64,
+    /// The starts that succeeded and copied into program memory.
     pub starts_copied: u64,
     /// What its chip was formatted by.
     pub format: Tally,
@@ -92,9 +68,6 @@ impl MoteCost {
             on_ms: 0,
             started: 0,
             gesture: 0,
-            events: [0; 7],
-            refused: [0; 11],
-            cuts: 0,
             outside: [Share::none(); 5],
             refused_frames: [Share::none(); 5],
             refused_outside: [Share::none(); 5],
@@ -103,8 +76,8 @@ impl MoteCost {
             first: [0; MOTES],
             put: 0,
             traced: Share::none(),
-            starts: Starts::none(),
-            starts_image: [0; 7],
+            cut_restarts: 0,
+            no_image: 0,
             starts_copied: 0,
             format: Tally::none(),
             tally: Tally::none(),

@@ -10,14 +10,6 @@ pub fn add_share(shares: &mut [Share], kind: usize, bytes: usize) {
     }
 }
 
-/// One more of the kind with this number. There are never 2^64 of it.
-#[inline(always)]
-pub fn add_one(counts: &mut [u64], kind: usize) {
-    if kind < counts.len() {
-        counts[kind] = counts[kind].wrapping_add(1);
-    }
-}
-
 /// So many more of the kind with this number.
 #[inline(always)]
 pub fn add(counts: &mut [u64], kind: usize, more: u64) {

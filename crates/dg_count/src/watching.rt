@@ -1,12 +1,17 @@
 //! The watcher of a replay that counts.
+ghost use Rattle.std.specs.Prelude.{◌≡◌};
+ghost use Rattle.dg_rules.specs.Events.{mote_of};
+ghost use Rattle.dg_events.specs.Kinds.{event_number};
+ghost use Rattle.dg_count.specs.Runs.{CountsEvent};
 
+use crate::costs::Costs;
 use crate::counter::Counter;
 use crate::frames::kind_of;
-use crate::kinds::event_kind;
-use crate::share::add_one;
-use crate::told::{NOTHING_TOLD, told_by};
+use crate::place::{EventPlace, place_of};
 use crate::work::NO_WORK;
+use dg_events::{NOTHING_TOLD, event_kind, told_by};
 use dg_meter::{Metered, SLOTS, Tally};
+use dg_mote::Heard;
 use dg_nor::Nor;
 use dg_replay::Watcher;
 use dg_rules::Event;
@@ -21,38 +26,16 @@ const HEAR: usize = 1;
 
 const LAST: usize = 2;
 
-/// Where an event is, its step of time, and its kind.
-#[derive(Clone, Copy)]
-struct EventPlace {
-    mote: u8,
-    dt: u32,
-    kind: usize,
-}
-
-#[inline(always)]
-fn place_of(event: &Event) -> EventPlace {
-    let kind = event_kind(event);
-    let (mote, dt) = match event {
-        Event::Last { to, dt, .. } => (*to, *dt),
-        Event::Tick { mote, dt, .. }
-        | Event::Hear { mote, dt, .. }
-        | Event::Reset { mote, dt, .. }
-        | Event::Inject { mote, dt, .. }
-        | Event::Order { mote, dt, .. }
-        | Event::Frame { mote, dt, .. } => (*mote, *dt),
-    };
-    EventPlace { mote, dt, kind }
-}
-
-impl Counter {
+impl Costs {
     /// The reports on what a mote keeps.
     fn note_kept(
         &mut self,
         mote: u8,
         pages: &[u8; SLOTS],
         reports: &[Report],
+        number: u64,
     ) -> Result<(), AllocError> {
-        let now = self.now();
+        let now = self.at(number);
         for report in reports {
             match report {
                 Report::Lost { image, .. } => self.moments.lose(mote, *image),
@@ -80,22 +63,23 @@ impl Counter {
         &mut self,
         world: &World,
         event: &Event,
+        number: u64,
         mote: u8,
         dt: u32,
         boards: &[Metered<N>],
         reports: &[Report],
     ) -> Result<(), AllocError> {
-        self.events = self.events.wrapping_add(1);
-        self.ms = self.ms.wrapping_add(u64::from(dt));
+        self.pass(dt);
         let index = usize::from(mote);
-        if self.motes.len() <= index || boards.len() <= index {
+        if self.operations.len() <= index {
             return Ok(());
         }
-        let cost = &mut self.motes[index];
-        cost.events[TICK] = cost.events[TICK].wrapping_add(1);
+        if boards.len() <= index {
+            return Ok(());
+        }
         let tally = boards[index].tally();
-        if !reports.is_empty() || cost.tally.operations != tally.operations {
-            self.note_busy_tick(world, event, mote, tally, reports)?;
+        if !reports.is_empty() || self.operations[index] != tally.operations {
+            self.note_all(world, event, number, tally, reports)?;
         }
         match world.sent() {
             Some(message) => self.frames.send(mote, kind_of(message)),
@@ -103,83 +87,46 @@ impl Counter {
         }
     }
 
-    /// A tick was applied of which something is reported, or that made operations.
-    #[inline(never)]
-    fn note_busy_tick(
-        &mut self,
-        world: &World,
-        event: &Event,
-        mote: u8,
-        tally: &Tally,
-        reports: &[Report],
-    ) -> Result<(), AllocError> {
-        let place = EventPlace {
-            mote,
-            dt: 0,
-            kind: TICK,
-        };
-        self.note_all(world, event, place, tally, reports)
-    }
-
-    /// An event was applied that brings a mote the frame with this number.
+    /// A frame with this number was brought to a mote, after `dt` milliseconds.
     #[inline(always)]
     fn note_hearing<N: Nor>(
         &mut self,
         world: &World,
         event: &Event,
-        place: EventPlace,
-        number: usize,
+        number: u64,
+        mote: u8,
+        dt: u32,
+        frame: usize,
         boards: &[Metered<N>],
         reports: &[Report],
     ) -> Result<(), AllocError> {
-        self.count_event(place);
-        let index = usize::from(place.mote);
-        if self.motes.len() <= index || boards.len() <= index {
+        self.pass(dt);
+        let index = usize::from(mote);
+        if self.operations.len() <= index {
+            return Ok(());
+        }
+        if boards.len() <= index {
             return Ok(());
         }
         let tally = boards[index].tally();
-        if !reports.is_empty() || self.motes[index].tally.operations != tally.operations {
-            return self.note_all(world, event, place, tally, reports);
+        if !reports.is_empty() {
+            return self.note_all(world, event, number, tally, reports);
         }
-        self.note_quiet(place.mote, number, world.heard());
+        if self.operations[index] != tally.operations {
+            self.note_put(event, mote, frame, tally, world.heard());
+            return Ok(());
+        }
+        self.note_quiet(mote, frame, world.heard());
         Ok(())
     }
 
-    /// An event was applied that is no tick.
-    #[inline(always)]
-    fn note_no_tick<N: Nor>(
-        &mut self,
-        world: &World,
-        event: &Event,
-        boards: &[Metered<N>],
-        reports: &[Report],
-    ) -> Result<(), AllocError> {
-        match event {
-            Event::Hear {
-                mote,
-                dt,
-                frame,
-                ..
-            } => {
-                let place = EventPlace {
-                    mote: *mote,
-                    dt: *dt,
-                    kind: HEAR,
-                };
-                let number = *frame as usize;
-                self.note_hearing(world, event, place, number, boards, reports)
-            }
-            Event::Last { from, to, dt, .. } => {
-                let place = EventPlace {
-                    mote: *to,
-                    dt: *dt,
-                    kind: LAST,
-                };
-                let number = self.frames.last_of(*from);
-                self.note_hearing(world, event, place, number, boards, reports)
-            }
-            _ => self.note_other(world, event, boards, reports),
-        }
+    /// A mote heard the frame with this number, of which nothing is reported, and its chip changed.
+    #[inline(never)]
+    fn note_put(&mut self, event: &Event, mote: u8, number: usize, tally: &Tally, heard: Heard) {
+        let work = self.note_work(mote, event_kind(event), tally, false, &[]);
+        let kind = self.heard_frame(mote, number, 0 < work.puts);
+        self.answered(mote, kind, heard);
+        self.fill_by(mote, number, work);
     }
 
     /// Another event was applied.
@@ -188,18 +135,22 @@ impl Counter {
         &mut self,
         world: &World,
         event: &Event,
+        number: u64,
+        place: EventPlace,
         boards: &[Metered<N>],
         reports: &[Report],
     ) -> Result<(), AllocError> {
-        let place = place_of(event);
-        self.count_event(place);
+        self.pass(place.dt);
         let index = usize::from(place.mote);
-        if self.motes.len() <= index || boards.len() <= index {
+        if self.operations.len() <= index {
+            return Ok(());
+        }
+        if boards.len() <= index {
             return Ok(());
         }
         let tally = boards[index].tally();
-        if !reports.is_empty() || self.motes[index].tally.operations != tally.operations {
-            return self.note_all(world, event, place, tally, reports);
+        if !reports.is_empty() || self.operations[index] != tally.operations {
+            return self.note_all(world, event, number, tally, reports);
         }
         self.note_heard(world, place.mote, event, NOTHING_TOLD, NO_WORK)
     }
@@ -210,12 +161,12 @@ impl Counter {
         &mut self,
         world: &World,
         event: &Event,
-        place: EventPlace,
+        number: u64,
         tally: &Tally,
         reports: &[Report],
     ) -> Result<(), AllocError> {
-        let EventPlace { mote, kind, .. } = place;
-        self.stamp(reports.len());
+        let EventPlace { mote, kind, .. } = place_of(event);
+        self.stamp(reports.len(), number);
         let told = told_by(reports);
         let work = self.note_work(mote, kind, tally, told.off, reports);
         if !reports.is_empty() || kind == TICK {
@@ -225,26 +176,22 @@ impl Counter {
             self.note_heard(world, mote, event, told, work)?;
         }
         if !reports.is_empty() {
-            self.note_kept(mote, &tally.pages, reports)?;
+            self.note_kept(mote, &tally.pages, reports, number)?;
         }
         Ok(())
     }
 
+    /// Time goes on to an event.
     #[inline(always)]
-    fn count_event(&mut self, place: EventPlace) {
-        self.events = self.events.wrapping_add(1);
-        self.ms = self.ms.wrapping_add(u64::from(place.dt));
-        let index = usize::from(place.mote);
-        if index < self.motes.len() {
-            add_one(&mut self.motes[index].events, place.kind);
-        }
+    fn pass(&mut self, dt: u32) {
+        self.ms = self.ms.wrapping_add(u64::from(dt));
     }
 
     /// A start found no image.
-    fn note_end<N: Nor>(&mut self, event: &Event, boards: &[Metered<N>]) {
-        let place = place_of(event);
+    fn note_end<N: Nor>(&mut self, place: EventPlace, boards: &[Metered<N>]) {
+        self.pass(place.dt);
+        self.ended = Some(place);
         let EventPlace { mote, kind, .. } = place;
-        self.count_event(place);
         if let Some(board) = boards.get(usize::from(mote)) {
             self.note_work(mote, kind, board.tally(), false, &[]);
         }
@@ -252,24 +199,100 @@ impl Counter {
         let index = usize::from(mote);
         if index < self.motes.len() {
             let cost = &mut self.motes[index];
-            cost.starts.none = cost.starts.none.saturating_add(1);
+            cost.no_image = cost.no_image.saturating_add(1);
             cost.go_off(ms);
         }
     }
 }
 
+impl Counter {
+    /// A tick of a mote was applied, after `dt` milliseconds.
+    #[inline(always)]
+    fn note_tick<N: Nor>(
+        &mut self,
+        world: &World,
+        event: &Event,
+        mote: u8,
+        dt: u32,
+        boards: &[Metered<N>],
+        reports: &[Report],
+    )
+        requires kind { event_number event.now ≡ 0 }
+        requires mote { mote ≡ mote_of event.now }
+        ensures { CountsEvent self.old.events self.new.events event.now reports.now }
+    {
+        self.events.note(event, TICK, mote, reports);
+        let number = self.events.all;
+        let done = self
+            .costs
+            .note_tick(world, event, number, mote, dt, boards, reports);
+        self.costs.unless(done);
+    }
+
+    /// An event of this kind was applied that brings a mote the frame with this number, after `dt` milliseconds.
+    #[inline(always)]
+    fn note_hearing<N: Nor>(
+        &mut self,
+        world: &World,
+        event: &Event,
+        kind: usize,
+        mote: u8,
+        dt: u32,
+        frame: usize,
+        boards: &[Metered<N>],
+        reports: &[Report],
+    )
+        requires kind { kind ≡ event_number event.now }
+        requires mote { mote ≡ mote_of event.now }
+        ensures { CountsEvent self.old.events self.new.events event.now reports.now }
+    {
+        self.events.note(event, kind, mote, reports);
+        let number = self.events.all;
+        let done = self
+            .costs
+            .note_hearing(world, event, number, mote, dt, frame, boards, reports);
+        self.costs.unless(done);
+    }
+
+    /// Another event was applied.
+    #[inline(never)]
+    fn note_other<N: Nor>(
+        &mut self,
+        world: &World,
+        event: &Event,
+        boards: &[Metered<N>],
+        reports: &[Report],
+    )
+        ensures { CountsEvent self.old.events self.new.events event.now reports.now }
+    {
+        let place = place_of(event);
+        self.events.note(event, place.kind, place.mote, reports);
+        let number = self.events.all;
+        let done = self
+            .costs
+            .note_other(world, event, number, place, boards, reports);
+        self.costs.unless(done);
+    }
+}
+
 impl<N: Nor> Watcher<Metered<N>> for Counter {
-    fn begun(&mut self, motes: u8) {
-        self.count = motes;
+    fn begun(&mut self, motes: u8)
+        ensures { self.new.events ≡ self.old.events }
+    {
+        self.costs.count = motes;
     }
 
-    fn placed(&mut self, motes: u8, used: Option<u32>, boards: &[Metered<N>]) {
-        let done = self.place(motes, used, boards);
-        self.unless(done);
+    fn placed(&mut self, motes: u8, used: Option<u32>, boards: &[Metered<N>])
+        ensures { self.new.events ≡ self.old.events }
+    {
+        let done = self.costs.place(motes, used, boards);
+        self.costs.unless(done);
     }
 
-    fn taken(&mut self) {
-        self.stamp(1);
+    fn taken(&mut self)
+        ensures { self.new.events ≡ self.old.events }
+    {
+        self.costs.stamp(1, self.events.all);
     }
 
     #[inline(always)]
@@ -280,20 +303,39 @@ impl<N: Nor> Watcher<Metered<N>> for Counter {
         boards: &[Metered<N>],
         reported: bool,
         reports: &[Report],
-    ) {
-        let done = match event {
+    )
+        // an event that is shown is counted once, whatever became of it
+        ensures { CountsEvent self.old.events self.new.events event.now reports.now }
+    {
+        match event {
             Event::Tick { mote, dt, .. } => {
                 self.note_tick(world, event, *mote, *dt, boards, reports)
             }
-            _ => {
-                self.scheduled = self.scheduled || !reported;
-                self.note_no_tick(world, event, boards, reports)
+            Event::Hear {
+                mote,
+                dt,
+                frame,
+                ..
+            } => {
+                let frame = *frame as usize;
+                self.costs.scheduled = self.costs.scheduled || !reported;
+                self.note_hearing(world, event, HEAR, *mote, *dt, frame, boards, reports)
             }
-        };
-        self.unless(done);
+            Event::Last { from, to, dt, .. } => {
+                let frame = self.costs.frames.last_of(*from);
+                self.costs.scheduled = self.costs.scheduled || !reported;
+                self.note_hearing(world, event, LAST, *to, *dt, frame, boards, reports)
+            }
+            _ => {
+                self.costs.scheduled = self.costs.scheduled || !reported;
+                self.note_other(world, event, boards, reports)
+            }
+        }
     }
 
-    fn ended(&mut self, event: &Event, boards: &[Metered<N>]) {
-        self.note_end(event, boards);
+    fn ended(&mut self, event: &Event, boards: &[Metered<N>])
+        ensures { self.new.events ≡ self.old.events }
+    {
+        self.costs.note_end(place_of(event), boards);
     }
 }

@@ -1,8 +1,9 @@
 //! What an event does to a chip, by the operations that it makes.
 
-use crate::counter::Counter;
+use crate::costs::Costs;
 use crate::mote::MoteCost;
-use crate::share::{add, add_one};
+use crate::share::add;
+use dg_events::add_one;
 use dg_meter::{Kind, Operation, Region, Tally};
 use dg_script::Report;
 
@@ -110,18 +111,6 @@ fn pages_told(reports: &[Report]) -> Option<(u8, u32, u8)> {
 }
 
 impl MoteCost {
-    /// What the operations of an event come to, the last of which a cut interrupted, where there is one.
-    fn work(&mut self, kind: usize, after: &Tally, cut: Option<Operation>) -> Work {
-        if cut.is_none() && self.is_put(after) {
-            self.tally.operations = after.operations;
-            self.tally.programs.page = after.programs.page;
-            self.tally.last = after.last;
-            add_one(&mut self.flash_events, kind);
-            return ONE_PUT;
-        }
-        self.all_work(kind, after, cut)
-    }
-
     /// Whether one operation was made, and that put a packet into a page.
     fn is_put(&self, after: &Tally) -> bool {
         if after.operations != self.tally.operations.saturating_add(1) {
@@ -133,8 +122,7 @@ impl MoteCost {
         }
     }
 
-    /// The same of any operations.
-    #[inline(never)]
+    /// What the operations of an event come to, the last of which a cut interrupted, where there is one.
     fn all_work(&mut self, kind: usize, after: &Tally, cut: Option<Operation>) -> Work {
         let before = self.tally;
         add(
@@ -189,7 +177,7 @@ impl MoteCost {
     }
 }
 
-impl Counter {
+impl Costs {
     /// How many pages became complete in an event, of which this many gates were finished and the last was interrupted.
     fn sealed(
         &self,
@@ -231,9 +219,37 @@ impl Counter {
         if self.motes[index].tally.operations == after.operations {
             return NO_WORK;
         }
+        if index < self.operations.len() {
+            self.operations[index] = after.operations;
+        }
+        let cost = &mut self.motes[index];
+        if !off && cost.is_put(after) {
+            cost.tally.operations = after.operations;
+            cost.tally.programs.page = after.programs.page;
+            cost.tally.last = after.last;
+            add_one(&mut cost.flash_events, kind);
+            return ONE_PUT;
+        }
+        self.note_all_work(mote, kind, after, off, reports)
+    }
+
+    /// The same, where it is not one packet that was put into a page.
+    #[inline(never)]
+    fn note_all_work(
+        &mut self,
+        mote: u8,
+        kind: usize,
+        after: &Tally,
+        off: bool,
+        reports: &[Report],
+    ) -> Work {
+        let index = usize::from(mote);
+        if self.motes.len() <= index {
+            return NO_WORK;
+        }
         let cut = if off { after.last } else { None };
         let taken = self.motes[index].tally.headers < after.headers;
-        let mut work = self.motes[index].work(kind, after, cut);
+        let mut work = self.motes[index].all_work(kind, after, cut);
         work.sealed = self.sealed(mote, taken, work.sealed, cut, reports);
         let cost = &mut self.motes[index];
         cost.sealed = cost.sealed.saturating_add(work.sealed);

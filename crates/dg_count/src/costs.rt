@@ -1,0 +1,157 @@
+//! What is counted of a replay beside its events.
+
+use crate::frames::Frames;
+use crate::moments::Moments;
+use crate::mote::MoteCost;
+use crate::place::EventPlace;
+use crate::share::narrow;
+use dg_base::MOST_MOTES;
+use dg_control::IMAGES;
+use dg_cost_text::{Moment, Stamp};
+use dg_meter::{Metered, SLOTS};
+use dg_nor::Nor;
+use dg_volume::Kept;
+use std::alloc::{AllocError, Global};
+
+/// The commits of a chip that was never used.
+const MOST_ROOM: u64 = 520_223;
+
+/// What a board keeps as it is.
+#[derive(Clone, Copy)]
+pub struct Given {
+    pub room: u32,
+    pub kept: [Option<Kept>; IMAGES],
+}
+
+/// What a replay costs beside its events, counted as it is played.
+#[derive(Drop)]
+pub struct Costs {
+    alloc: Global,
+    /// What each board kept before the replay, where it is a volume.
+    pub given: Vec<Option<Given>>,
+    pub motes: Vec<MoteCost>,
+    pub frames: Frames,
+    /// The operations of each mote's chip up to the last event.
+    pub operations: [u64; MOST_MOTES as usize],
+    pub moments: Moments,
+    pub stamps: Vec<Stamp>,
+    /// Whether stamps are wanted.
+    pub timed: bool,
+    /// How many motes the script has.
+    pub count: u8,
+    pub ms: u64,
+    /// The boards are used.
+    pub placed: bool,
+    /// Rounds or sweeps were played.
+    pub scheduled: bool,
+    /// The event that found no image to start, and ended the replay.
+    pub ended: Option<EventPlace>,
+    /// Memory ran out: nothing of this counts.
+    pub failed: bool,
+}
+
+impl Costs {
+    pub fn new(alloc: Global, given: Vec<Option<Given>>, timed: bool) -> Costs {
+        Costs {
+            alloc,
+            given,
+            motes: Vec::new(alloc),
+            frames: Frames::new(alloc),
+            operations: [0; MOST_MOTES as usize],
+            moments: Moments::new(alloc),
+            stamps: Vec::new(alloc),
+            timed,
+            count: 0,
+            ms: 0,
+            placed: false,
+            scheduled: false,
+            ended: None,
+            failed: false,
+        }
+    }
+
+    /// The moment of the event with this number.
+    pub fn at(&self, event: u64) -> Moment {
+        Moment { event, ms: self.ms }
+    }
+
+    /// Without memory nothing counts.
+    #[inline(always)]
+    pub fn unless(&mut self, done: Result<(), AllocError>) {
+        if done.is_err() {
+            self.failed = true;
+        }
+    }
+
+    /// Lines are reported in the event with this number.
+    pub fn stamp(&mut self, lines: usize, event: u64) {
+        if !self.timed || lines == 0 {
+            return;
+        }
+        let now = self.at(event);
+        if self.stamps.push(Stamp { at: now, lines }).is_err() {
+            self.failed = true;
+        }
+    }
+
+    /// The motes begin over boards that have these tallies.
+    pub fn place<N: Nor>(
+        &mut self,
+        motes: u8,
+        used: Option<u32>,
+        boards: &[Metered<N>],
+    ) -> Result<(), AllocError> {
+        self.placed = true;
+        for mote in 0..motes {
+            let mut cost = MoteCost::new();
+            if let Some(board) = boards.get(usize::from(mote)) {
+                cost.format = *board.tally();
+                cost.tally = *board.tally();
+                if usize::from(mote) < self.operations.len() {
+                    self.operations[usize::from(mote)] = cost.tally.operations;
+                }
+            }
+            cost.room_begin = match (used, self.given_at(mote)) {
+                (Some(used), _) => MOST_ROOM.saturating_sub(u64::from(used)),
+                (None, Some(given)) => u64::from(given.room),
+                (None, None) => 0,
+            };
+            self.motes.push(cost)?;
+            self.moments.keeps.push([None; SLOTS])?;
+        }
+        if used.is_none() {
+            for mote in 0..motes {
+                self.keep_given(mote)?;
+            }
+        }
+        Ok(())
+    }
+
+    fn given_at(&self, mote: u8) -> Option<Given> {
+        match self.given.get(usize::from(mote)) {
+            Some(given) => *given,
+            None => None,
+        }
+    }
+
+    /// A mote keeps what its board kept.
+    fn keep_given(&mut self, mote: u8) -> Result<(), AllocError> {
+        let Some(given) = self.given_at(mote) else {
+            return Ok(());
+        };
+        let now = self.at(0);
+        for image in 1..SLOTS {
+            if let Some(Some(kept)) = given.kept.get(image) {
+                self.moments.keep(
+                    mote,
+                    narrow(image),
+                    kept.version,
+                    kept.done,
+                    kept.pages,
+                    now,
+                )?;
+            }
+        }
+        Ok(())
+    }
+}
