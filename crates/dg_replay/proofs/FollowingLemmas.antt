@@ -17,10 +17,11 @@ use Rattle.dg_replay.specs.declared.halt.Halt.{Halt}
 use Rattle.dg_replay.specs.declared.halt.Halt.TheVariants.{ReadFault, TooLong, Stopped}
 use Rattle.dg_replay.specs.declared.player.Player.{Player}
 use Rattle.dg_replay.specs.declared.stop.Stop.{Stop}
-use Rattle.dg_replay.specs.Stages.{Basis, DoneSoFar, replay_state, line_read, bytes_taken}
+use Rattle.dg_replay.specs.Stages.{Basis, DoneSoFar, ReplayState, line_read, bytes_taken}
 use Rattle.dg_replay.specs.Untouched.{TextKeepsBytes}
 use Rattle.dg_replay.specs.declared.stop.Stop.TheVariants.{BadInput}
 use Rattle.dg_replay.proofs.BytesLemmas.{text_same}
+use Rattle.dg_replay.proofs.ShownLemmas.{stays_same}
 
 above : (n m : ℕ) → m < n → nat_le n m ≡ false
 above n m h = grind (arith, nat_tests)
@@ -51,9 +52,9 @@ next_halted (read_stop.Long line) halt bytes old new A F N P is h none long =
     (h.1.text, h.1.rest, record { first = h.1.first; used = h.1.used; near = h.1.near }, long h.1.text h.1.long)
 
 -- what is played of a text, from a player that stands behind lines, and which boards keep their bytes
-abbrev pub TextPlays : Result (Unit {0}) Stop → (text : List ℕ) → (number : ℕ) → (p q : Player) → (old now : List Device) → (mid after : Option (List ℕ)) → (failed : Type 0) → Type 0
-TextPlays r text number p q old now mid after failed = TextKeepsBytes p.place text old now
-    × ((basis : Basis) (so_far : DoneSoFar) → Stood p so_far.lines so_far.world basis.boards old → TextAnswer basis r (line_read text number) so_far (replay_state p old mid) (replay_state q now after) failed)
+abbrev pub TextPlays : Result (Unit {0}) Stop → (text : List ℕ) → (number : ℕ) → (a b : ReplayState) → (failed : Type 0) → Type 0
+TextPlays r text number a b failed = TextKeepsBytes a.player.place text a.boards b.boards
+    × ((basis : Basis) (so_far : DoneSoFar) → Stood a.player so_far.lines so_far.world basis.boards a.boards → TextAnswer basis r (line_read text number) so_far a b failed)
 
 -- a line that was given was played
 pub given_next : (r : Result Bool Halt) (o : Option ℕ) (n : ℕ) (text bytes : List ℕ) (old new : Reading) (A F N : Type 0) (P : Result (Unit {0}) Stop → List ℕ → ℕ → Type 0) → o ≡ Some n → text ≡ new.text
@@ -65,5 +66,5 @@ given_next r o n text bytes old new A F N P some same h played =
     next_given r n bytes old new A F N (λ x t. P x t (old.number + 1)) g there
 
 -- nothing is played of a line that is too long
-pub long_plays : (p : Player) (n : ℕ) (old : List Device) (mid : Option (List ℕ)) (failed : Type 0) (text : List ℕ) → most_line < length text → TextPlays (Err (BadInput n line_fault.Long)) text n p p old old mid mid failed
-long_plays p n old mid failed text long = (text_same p.place text old old refl, λ basis so_far s. (refl, long_line p.place text long, record { boards = refl; written = refl }))
+pub long_plays : (a : ReplayState) (n : ℕ) (failed : Type 0) (text : List ℕ) → most_line < length text → TextPlays (Err (BadInput n line_fault.Long)) text n a a failed
+long_plays a n failed text long = (text_same a.player.place text a.boards a.boards refl, λ basis so_far s. (refl, long_line a.player.place text long, record { boards = refl; written = refl; seen = stays_same a.saw }))

@@ -34,7 +34,8 @@ use Rattle.dg_replay.specs.Promised.{PlayedFirst, FramesAreHonest}
 use Rattle.dg_replay.specs.Boards.{LacksImage, InSome}
 use Rattle.dg_replay.specs.Playing.{LineBegun, RunsFrom}
 use Rattle.dg_replay.specs.Replaying.{Reached, TextRead}
-use Rattle.dg_replay.specs.Stages.{span}
+use Rattle.dg_replay.specs.Shown.{Saw}
+use Rattle.dg_replay.specs.Stages.{line_told, span}
 use Rattle.dg_replay.specs.declared.player.Player.{Player}
 use Rattle.dg_replay.proofs.ItemLemmas.{motes_same, runs_append, runs_from_none}
 use Rattle.dg_nor.specs.Device.{Device}
@@ -233,18 +234,18 @@ golden_finds law b left played u old new g lacks =
     let some : FindsImage (Goes lacks.ends.deed) = subst FindsImage lacks.ends.goes finds in
     some lacks.ends.none
 
-line_finds : ImageIsFound → (g : Ground) (done : List Line) (line : Line) (played : List Played) (last world : Option World) (begun left : List Item) (text : List ℕ) (old new : List Device) → (UsesBoards done → ⊥) → LinesFit first_place done → IsSpelled (place_behind first_place done) line → map item_played played ≡ items_of done
-    → RunsTo (beginning_of g done).world played last → item_by (place_behind first_place done) line ≡ begun ++ left → RunsFrom last begun world text → InSome world (λ u. LacksImage u left old new) → ⊥
-line_finds law ground done line played None world begun left text old new alone fit spelled items run parts runs lacks = subst (λ (o : Option World). InSome o (λ u. LacksImage u left old new)) runs.1 lacks
-line_finds law ground done line played (Some w) world begun left text old new alone fit spelled items run parts (u, is, now) lacks =
+line_finds : (G H : Saw) → ImageIsFound → (g : Ground) (done : List Line) (line : Line) (played : List Played) (last world : Option World) (begun left : List Item) (text : List ℕ) (old new : List Device) → (UsesBoards done → ⊥) → LinesFit first_place done → IsSpelled (place_behind first_place done) line → map item_played played ≡ items_of done
+    → RunsTo (beginning_of g done).world played last → item_by (place_behind first_place done) line ≡ begun ++ left → RunsFrom last begun world (line_told text G H) → InSome world (λ u. LacksImage u left old new) → ⊥
+line_finds G H law ground done line played None world begun left text old new alone fit spelled items run parts runs lacks = subst (λ (o : Option World). InSome o (λ u. LacksImage u left old new)) runs.1 lacks
+line_finds G H law ground done line played (Some w) world begun left text old new alone fit spelled items run parts (u, is, now, shown) lacks =
     let more : map item_played (played ++ now.played) ≡ items_of done ++ begun =
     map-append item_played played now.played ∙ ap (λ (xs : List Item). xs ++ map item_played now.played) items ∙ ap (λ (xs : List Item). items_of done ++ xs) now.are in
     let g = golden_run ground done (line ∷ []) begun left (played ++ now.played) u alone fit (one_fits _ line spelled) parts more (runs_append (beginning_of ground done).world w u played now.played run now.run) in
     golden_finds law (beginning_of ground done) left (played ++ now.played) u old new g (subst (λ (o : Option World). InSome o (λ z. LacksImage z left old new)) is lacks)
 
-pub image_found : {table : List Row} → ImageIsFound → (ends : Bool) (spells : Script) (texts : List (List ℕ)) (n : ℕ) (p : Player) (initial now : List Device) (before mid : Option (List ℕ)) → LinesFit first_place spells.lines → (r : Reached table ends spells texts n p (span initial now before mid)) → (UsesBoards r.done → ⊥)
-    → (text : List ℕ) (old new : List Device) → TextRead text p (λ line. LineBegun r.done line r.last (λ v left t. InSome v (λ u. LacksImage u left old new))) → ⊥
-image_found law ends spells texts n p initial now before mid fit r alone text old new read =
+pub image_found : {table : List Row} {S G H : Saw} → ImageIsFound → (ends : Bool) (spells : Script) (texts : List (List ℕ)) (n : ℕ) (p : Player) (initial now : List Device) (before mid : Option (List ℕ)) → LinesFit first_place spells.lines → (r : Reached table ends spells texts n p (span initial now before mid S G)) → (UsesBoards r.done → ⊥)
+    → (text : List ℕ) (old new : List Device) → TextRead text p (λ line. LineBegun r.done line r.last G H (λ v left t. InSome v (λ u. LacksImage u left old new))) → ⊥
+image_found {G = G} {H = H} law ends spells texts n p initial now before mid fit r alone text old new read =
     let begun = read.there in
     let spelled = subst (λ (place : Place). IsSpelled place read.line) r.stood.place (is_spelled p.place text read.line read.spelled) in
-    line_finds law r.ground r.done read.line r.played r.last begun.world begun.begun begun.left begun.text old new alone (front_fits first_place r.done _ (subst (LinesFit first_place) (sym r.lines) fit)) spelled r.items r.run begun.parts begun.runs begun.there
+    line_finds G H law r.ground r.done read.line r.played r.last begun.world begun.begun begun.left begun.text old new alone (front_fits first_place r.done _ (subst (LinesFit first_place) (sym r.lines) fit)) spelled r.items r.run begun.parts begun.runs begun.there

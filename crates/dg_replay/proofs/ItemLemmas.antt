@@ -211,22 +211,32 @@ run_counts g lines played v run = by_beginning (beginning_of g lines).world (beg
 
 -- ---- items that were played
 
-pub items_run_none : (w : World) → w.events ≤ most_events → ItemsRun w [] w []
+pub no_plays : (w : World) → Plays w [] w
 unfolding Plays
-items_run_none w few = record { played = []; are = refl; run = refl; reported = refl; few = few }
+no_plays w = refl
 
-pub items_run_one : (w v : World) (item : Item) (reports : List Report) → ItemStep w item v reports → v.events ≤ most_events → ItemsRun w (item ∷ []) v (report_text reports)
+abbrev pub items_run_none : (w : World) → w.events ≤ most_events → ItemsRun w [] w []
+items_run_none w few = record { played = []; are = refl; run = no_plays w; reported = refl; few = few }
+
+-- an item that was played
+abbrev pub played_one : (w v : World) (item : Item) (reports : List Report) → Played
+played_one w v item reports = record { item = item; before = w; after = v; reports = reports }
+
+pub one_plays : (w v : World) (item : Item) (reports : List Report) → ItemStep w item v reports → Plays w (played_one w v item reports ∷ []) v
 unfolding Plays
+one_plays w v item reports step = (refl, step, refl)
+
+abbrev pub items_run_one : (w v : World) (item : Item) (reports : List Report) → ItemStep w item v reports → v.events ≤ most_events → ItemsRun w (item ∷ []) v (report_text reports)
 items_run_one w v item reports step few =
     record {
-      played = record { item = item; before = w; after = v; reports = reports } ∷ [];
+      played = played_one w v item reports ∷ [];
       are = refl;
-      run = (refl, step, refl);
+      run = one_plays w v item reports step;
       reported = sym (append-nil (report_text reports));
       few = few;
     }
 
-pub items_run_join : (w u v : World) (xs ys : List Item) (before text : List ℕ) → ItemsRun w xs u before → ItemsRun u ys v text → ItemsRun w (xs ++ ys) v (before ++ text)
+abbrev pub items_run_join : (w u v : World) (xs ys : List Item) (before text : List ℕ) → ItemsRun w xs u before → ItemsRun u ys v text → ItemsRun w (xs ++ ys) v (before ++ text)
 items_run_join w u v xs ys before text a b =
     record {
       played = a.played ++ b.played;

@@ -3,6 +3,8 @@ use Rattle.std.proofs.Common.{◌≡◌, ℕ, ◌<◌, ◌≤◌, ◌≢◌, ◌
 use Rattle.std.proofs.lemmas.List.{length-set}
 use Rattle.std.specs.List.{filter}
 use Rattle.std.specs.Prelude.{Option, Some, None, Result, Ok, Err, OnOk, OnErr}
+use Rattle.dg_base.specs.declared.events.Cut.{Cut as PowerCut}
+use Rattle.dg_base.specs.declared.events.Event.{Event}
 use Rattle.dg_base.specs.declared.events.Step.{Step}
 use Rattle.dg_object.specs.Object.{Row}
 use Rattle.dg_nor.specs.Device.{Device}
@@ -12,25 +14,30 @@ use Rattle.dg_script.specs.declared.report.Report.{Report}
 use Rattle.dg_script.specs.Ranges.{StepInRange}
 use Rattle.dg_rules.specs.Steps.{DeclareStep, declared_as}
 use Rattle.dg_script.specs.declared.report.Report.TheVariants as report
+use Rattle.dg_volume.specs.Store.{Store}
 use Rattle.dg_volume.specs.Table.{row_at}
 use Rattle.dg_rules.specs.Changes.{is_reported, is_taken, declared_lines}
+use Rattle.dg_rules.specs.Runs.{Played}
 use Rattle.dg_rules.specs.World.{World}
 use Rattle.dg_rules.specs.Events.{mote_of}
 use Rattle.dg_rules.specs.Sizes.{most_events}
 use Rattle.dg_world.specs.Worlds.{IsWorld}
 use Rattle.dg_world.specs.declared.world.WorldFault.{WorldFault}
-use Rattle.dg_world.specs.declared.world.WorldFault.TheVariants.{Flash, TooMany as TooManyFault, Memory as MemoryFault}
+use Rattle.dg_world.specs.declared.world.WorldFault.TheVariants.{Flash, TooMany as TooManyFault, Memory as MemoryFault, NoImage as NoImageFault}
 use Rattle.dg_world.proofs.CountLemmas.{NoneRose_then}
 use Rattle.dg_world.specs.Applied.{Applied, FlashAt, RunEnded}
-use Rattle.dg_world.specs.Deployments.{deployed}
+use Rattle.dg_world.specs.Applying.{ApplyDone, step_of}
+use Rattle.dg_world.specs.Deployments.{Deployment, deployed}
 use Rattle.dg_world.specs.declared.world.World.{World as KeptWorld}
 use Rattle.dg_world.specs.Boards.{WorldStands}
 use Rattle.dg_replay.specs.Boards.{ItemStops, LacksImage, EventNext}
 use Rattle.dg_replay.specs.Playing.{KeepsMotes, ItemsRun, ItemsPlayed, ItemsBegun, ItemsPlayedAs, IsOneTooMany, StopsInItem}
 use Rattle.dg_replay.specs.declared.stop.Stop.{Stop}
-use Rattle.dg_replay.specs.Stages.{boards_reported}
+use Rattle.dg_replay.specs.Shown.{Saw, LeadTo, IsApplied, IsEnding, StaysSeen, Shows}
+use Rattle.dg_replay.specs.Stages.{Told, boards_told}
 use Rattle.dg_replay.specs.declared.stop.Stop.TheVariants.{Memory, BadInput, WriteFault, FlashFault, TooMany, NoBoard, NoImage, NotAVolume}
-use Rattle.dg_replay.proofs.ItemLemmas.{items_run_none, items_run_one, items_run_join, declared_same, step_counts}
+use Rattle.dg_replay.proofs.ItemLemmas.{items_run_none, items_run_one, items_run_join, played_one, declared_same, step_counts}
+use Rattle.dg_replay.proofs.ShownLemmas.{shows_none, shows_same, shows_join}
 use Rattle.dg_world.proofs.EndureLemmas.{boards_through, board_stops, event_within, sites_same, other_than, stands_next}
 
 -- ---- the boards behind an event
@@ -47,6 +54,16 @@ not_full r board n is few full = less n most_events few (λ e. ⊎_elim (λ x. d
 
     lacks : ◌≡◌ {A = Result (Unit {0}) WorldFault} (Err (Flash board)) (Err MemoryFault) → ⊥
     lacks e = cc
+
+-- nor was one that found no image
+pub image_not_full : (r : Result (Unit {0}) WorldFault) (n : ℕ) → r ≡ Err NoImageFault → n ≤ most_events → (n ≡ most_events → r ≡ Err TooManyFault) → n < most_events
+image_not_full r n is few full = less n most_events few (λ e. differs (sym is ∙ full e))
+  where
+    less : (k m : ℕ) → k ≤ m → k ≢ m → k < m
+    less k m h other = omega arith
+
+    differs : ◌≡◌ {A = Result (Unit {0}) WorldFault} (Err NoImageFault) (Err TooManyFault) → ⊥
+    differs e = cc
 
 flash_next : (u : World) (x : Step) (reported : Bool) (more : List Item) (board : ℕ) (initial old new : List Device) → u.events < most_events → mote_of x.event < length u.sites → FlashAt u x board old new → WorldStands u initial old → StopsInItem u (Applies x reported ∷ more) initial new
 flash_next u x reported more board initial old new few within f b =
@@ -71,18 +88,18 @@ err_is : (x y : Stop) → ◌≡◌ {A = Result (Unit {0}) Stop} (Err x) (Err y)
 err_is x y e = cc
 
 -- nothing was played, and P holds of the world and of all items
-begun_none : (w : World) (items : List Item) (P : World → List Item → List ℕ → Type 0) → w.events ≤ most_events → P w items [] → ItemsBegun w items P
-begun_none w items P few there =
-    record { begun = []; left = items; parts = refl; world = w; text = []; runs = items_run_none w few; there = there }
+begun_none : (w : World) (items : List Item) (F G : Saw) (P : World → List Item → List ℕ → Type 0) → w.events ≤ most_events → StaysSeen F G → P w items [] → ItemsBegun w items F G P
+begun_none w items F G P few stays there =
+    record { begun = []; left = items; parts = refl; world = w; text = []; runs = items_run_none w few; shown = shows_none F G w stays; there = there }
 
 -- all was played, and P holds of the world then
-begun_all : (w v : World) (items : List Item) (text : List ℕ) (P : World → List Item → List ℕ → Type 0) → ItemsRun w items v text → P v [] text → ItemsBegun w items P
-begun_all w v items text P runs there =
-    record { begun = items; left = []; parts = sym (append-nil items); world = v; text = text; runs = runs; there = there }
+begun_all : (w v : World) (items : List Item) (text : List ℕ) (F G : Saw) (P : World → List Item → List ℕ → Type 0) → (runs : ItemsRun w items v text) → Shows F G w runs.played → P v [] text → ItemsBegun w items F G P
+begun_all w v items text F G P runs shown there =
+    record { begun = items; left = []; parts = sym (append-nil items); world = v; text = text; runs = runs; shown = shown; there = there }
 
-pub played_none : (w : World) (kept : KeptWorld) (initial now : List Device) (told : List ℕ) → IsWorld kept now w → WorldStands w initial now → ItemsPlayed w [] kept initial now told told
+pub played_none : (w : World) (kept : KeptWorld) (initial now : List Device) (told : Told) → IsWorld kept now w → WorldStands w initial now → ItemsPlayed w [] kept initial now told told
 played_none w kept initial now told is stands =
-    record { world = w; text = []; runs = items_run_none w is.few_events; kept_now = is; boards = stands; report_now = sym (append-nil told) }
+    record { world = w; text = []; runs = items_run_none w is.few_events; kept_now = is; boards = stands; report_now = sym (append-nil told.text); shown = shows_same told.saw w }
 
 -- a world in which the step may be applied
 abbrev MayStep : KeptWorld → List Device → Step → Type 0
@@ -91,7 +108,11 @@ MayStep k old x = (z : World) × IsWorld k old z × StepInRange (length z.sites)
 step_within : (k : KeptWorld) (old : List Device) (w : World) (x : Step) → IsWorld k old w → MayStep k old x → mote_of x.event < length w.sites
 step_within k old w x is (z, at, fits) = subst (λ (n : ℕ). mote_of x.event < n) (sites_same k old z w at is) (event_within (length z.sites) x.event fits.event)
 
-applied_runs : (w : World) (x : Step) (reported : Bool) (v v2 : KeptWorld) (old new : List Device) (before reports : List Report) → before ≡ [] → (a : Applied w x reported (deployed v old before) (deployed v2 new reports)) → ItemsRun w (Applies x reported ∷ []) a.world (report_text reports)
+-- what was played
+abbrev pub applied_one : {w : World} {x : Step} {reported : Bool} {a b : Deployment} → Applied w x reported a b → (reports : List Report) → Played
+applied_one {w} {x} {reported} a reports = played_one w a.world (Applies x reported) reports
+
+abbrev pub applied_runs : (w : World) (x : Step) (reported : Bool) (v v2 : KeptWorld) (old new : List Device) (before reports : List Report) → before ≡ [] → (a : Applied w x reported (deployed v old before) (deployed v2 new reports)) → ItemsRun w (Applies x reported ∷ []) a.world (report_text reports)
 applied_runs w x reported v v2 old new before reports none a =
     let told : reports ≡ filter (is_reported reported) a.reports = a.report_now ∙ ap (λ (rs : List Report). rs ++ filter (is_reported reported) a.reports) none in
     items_run_one w a.world (Applies x reported) reports (a.reports, a.step, told) a.stood.few_events
@@ -101,9 +122,9 @@ applied_stands w x reported v v2 initial old new before reports may is stands a 
     stands_next w a.world v2 (mote_of x.event) initial old new (step_within v old w x is may) (step_counts w a.world x a.reports a.step).sites a.stood a.boards a.calm stands
 
 -- an event was applied, and told
-applied_played : (w : World) (x : Step) (reported : Bool) (v v2 : KeptWorld) (initial old new : List Device) (before reports : List Report) (report_before told : List ℕ) → before ≡ [] → MayStep v old x → Applied w x reported (deployed v old before) (deployed v2 new reports)
-    → told ≡ report_before ++ report_text reports → IsWorld v old w → WorldStands w initial old → ItemsPlayed w (Applies x reported ∷ []) v2 initial new report_before told
-applied_played w x reported v v2 initial old new before reports report_before told none may a is_reported is stands =
+applied_played : (w : World) (x : Step) (reported : Bool) (v v2 : KeptWorld) (initial old new : List Device) (before reports : List Report) (report_before told : Told) → before ≡ [] → MayStep v old x → (a : Applied w x reported (deployed v old before) (deployed v2 new reports))
+    → Shows report_before.saw told.saw w (applied_one a reports ∷ []) → told.text ≡ report_before.text ++ report_text reports → IsWorld v old w → WorldStands w initial old → ItemsPlayed w (Applies x reported ∷ []) v2 initial new report_before told
+applied_played w x reported v v2 initial old new before reports report_before told none may a shown is_reported is stands =
     record {
       world = a.world;
       text = report_text reports;
@@ -111,32 +132,33 @@ applied_played w x reported v v2 initial old new before reports report_before to
       kept_now = a.stood;
       boards = applied_stands w x reported v v2 initial old new before reports may is stands a;
       report_now = is_reported;
+      shown = shown;
     }
 
 -- it was applied, and there was no memory to tell it
-pub applied_untold : (w : World) (x : Step) (reported : Bool) (v v2 : KeptWorld) (initial old new : List Device) (before reports : List Report) → before ≡ [] → MayStep v old x → Applied w x reported (deployed v old before) (deployed v2 new reports) → IsWorld v old w → WorldStands w initial old
-    → ItemsBegun w (Applies x reported ∷ []) (λ u left text. WorldStands u initial new)
-applied_untold w x reported v v2 initial old new before reports none may a is stands =
-    begun_all w a.world (Applies x reported ∷ []) (report_text reports) (λ u left text. WorldStands u initial new) (applied_runs w x reported v v2 old new before reports none a) (applied_stands w x reported v v2 initial old new before reports may is stands a)
+pub applied_untold : (w : World) (x : Step) (reported : Bool) (v v2 : KeptWorld) (initial old new : List Device) (before reports : List Report) (F G : Saw) → before ≡ [] → MayStep v old x → (a : Applied w x reported (deployed v old before) (deployed v2 new reports)) → Shows F G w (applied_one a reports ∷ []) → IsWorld v old w → WorldStands w initial old
+    → ItemsBegun w (Applies x reported ∷ []) F G (λ u left text. WorldStands u initial new)
+applied_untold w x reported v v2 initial old new before reports F G none may a shown is stands =
+    begun_all w a.world (Applies x reported ∷ []) (report_text reports) F G (λ u left text. WorldStands u initial new) (applied_runs w x reported v v2 old new before reports none a) shown (applied_stands w x reported v v2 initial old new before reports may is stands a)
 
 -- there was no memory to apply it
-pub nothing_applied : (w : World) (items : List Item) (v : KeptWorld) (initial old new : List Device) → IsWorld v old w → new ≡ old → WorldStands w initial old → ItemsBegun w items (λ u left text. WorldStands u initial new)
-nothing_applied w items v initial old new is same stands =
-    begun_none w items (λ u left text. WorldStands u initial new) is.few_events (subst (λ (ds : List Device). WorldStands w initial ds) (sym same) stands)
+pub nothing_applied : (w : World) (items : List Item) (v : KeptWorld) (initial old new : List Device) (F G : Saw) → IsWorld v old w → new ≡ old → StaysSeen F G → WorldStands w initial old → ItemsBegun w items F G (λ u left text. WorldStands u initial new)
+nothing_applied w items v initial old new F G is same stays stands =
+    begun_none w items F G (λ u left text. WorldStands u initial new) is.few_events stays (subst (λ (ds : List Device). WorldStands w initial ds) (sym same) stands)
 
 -- it was one too many
-pub not_applied : (w : World) (x : Step) (reported : Bool) (v : KeptWorld) (initial old new : List Device) (report_before told : List ℕ) → IsWorld v old w → w.events ≡ most_events → new ≡ old → told ≡ report_before → WorldStands w initial old
-    → ItemsBegun w (Applies x reported ∷ []) (λ u left text. IsOneTooMany u left × WorldStands u initial new × (told ≡ report_before ++ text))
-not_applied w x reported v initial old new report_before told is full same untold stands =
-    begun_none w (Applies x reported ∷ []) (λ u left text. IsOneTooMany u left × WorldStands u initial new × (told ≡ report_before ++ text)) is.few_events
-    (record { full = full; next = record { step = x; reported = reported; more = []; is = refl } }, subst (λ (ds : List Device). WorldStands w initial ds) (sym same) stands, untold ∙ sym (append-nil report_before))
+pub not_applied : (w : World) (x : Step) (reported : Bool) (v : KeptWorld) (initial old new : List Device) (report_before told : Told) → IsWorld v old w → w.events ≡ most_events → new ≡ old → told.text ≡ report_before.text → StaysSeen report_before.saw told.saw → WorldStands w initial old
+    → ItemsBegun w (Applies x reported ∷ []) report_before.saw told.saw (λ u left text. IsOneTooMany u left × WorldStands u initial new × (told.text ≡ report_before.text ++ text))
+not_applied w x reported v initial old new report_before told is full same untold stays stands =
+    begun_none w (Applies x reported ∷ []) report_before.saw told.saw (λ u left text. IsOneTooMany u left × WorldStands u initial new × (told.text ≡ report_before.text ++ text)) is.few_events stays
+    (record { full = full; next = record { step = x; reported = reported; more = []; is = refl } }, subst (λ (ds : List Device). WorldStands w initial ds) (sym same) stands, untold ∙ sym (append-nil report_before.text))
 
 -- a board stopped in it
-pub stopped_in : (w : World) (x : Step) (reported : Bool) (v : KeptWorld) (board : ℕ) (initial old new : List Device) (report_before told : List ℕ) → MayStep v old x → IsWorld v old w → w.events < most_events → FlashAt w x board old new → told ≡ report_before → WorldStands w initial old
-    → ItemsBegun w (Applies x reported ∷ []) (λ u left text. StopsInItem u left initial new × (told ≡ report_before ++ text))
-stopped_in w x reported v board initial old new report_before told may is few f untold stands =
-    begun_none w (Applies x reported ∷ []) (λ u left text. StopsInItem u left initial new × (told ≡ report_before ++ text)) is.few_events
-    (flash_next w x reported [] board initial old new few (step_within v old w x is may) f stands, untold ∙ sym (append-nil report_before))
+pub stopped_in : (w : World) (x : Step) (reported : Bool) (v : KeptWorld) (board : ℕ) (initial old new : List Device) (report_before told : Told) → MayStep v old x → IsWorld v old w → w.events < most_events → FlashAt w x board old new → told.text ≡ report_before.text → StaysSeen report_before.saw told.saw → WorldStands w initial old
+    → ItemsBegun w (Applies x reported ∷ []) report_before.saw told.saw (λ u left text. StopsInItem u left initial new × (told.text ≡ report_before.text ++ text))
+stopped_in w x reported v board initial old new report_before told may is few f untold stays stands =
+    begun_none w (Applies x reported ∷ []) report_before.saw told.saw (λ u left text. StopsInItem u left initial new × (told.text ≡ report_before.text ++ text)) is.few_events stays
+    (flash_next w x reported [] board initial old new few (step_within v old w x is may) f stands, untold ∙ sym (append-nil report_before.text))
 
 -- it found no image to start
 ended_stands : (w : World) (x : Step) (v : KeptWorld) (initial old new : List Device) → MayStep v old x → IsWorld v old w → (e : RunEnded w x old new) → WorldStands w initial old → WorldStands e.world initial new
@@ -153,19 +175,55 @@ ended_stands w x v initial old new may is e b =
           e.boards.others m (other_than m (mote_of x.event) (length w.sites) within far) ∙ b.others m far;
     }
 
-pub ended_in : (w : World) (x : Step) (reported : Bool) (v : KeptWorld) (initial old new : List Device) (told : List ℕ) → MayStep v old x → IsWorld v old w → RunEnded w x old new → WorldStands w initial old
-    → ItemsBegun w (Applies x reported ∷ []) (λ u left text. LacksImage u left initial new × (told ≡ told ++ text))
-ended_in w x reported v initial old new told may is e stands =
-    begun_none w (Applies x reported ∷ []) (λ u left text. LacksImage u left initial new × (told ≡ told ++ text)) is.few_events
-    (record { next = record { step = x; reported = reported; more = []; is = refl }; after = e.world; ends = e.ends; boards = ended_stands w x v initial old new may is e stands }, sym (append-nil told))
+pub ended_in : (w : World) (x : Step) (reported : Bool) (v : KeptWorld) (initial old new : List Device) (text : List ℕ) (F G : Saw) → MayStep v old x → IsWorld v old w → RunEnded w x old new → Shows F G w [] → WorldStands w initial old
+    → ItemsBegun w (Applies x reported ∷ []) F G (λ u left t. LacksImage u left initial new × (text ≡ text ++ t))
+ended_in w x reported v initial old new text F G may is e shown stands = record {
+  begun = [];
+  left = Applies x reported ∷ [];
+  parts = refl;
+  world = w;
+  text = [];
+  runs = items_run_none w is.few_events;
+  shown = shown;
+  there = (
+    record { next = record { step = x; reported = reported; more = []; is = refl }; after = e.world; ends = e.ends; boards = ended_stands w x v initial old new may is e stands },
+    sym (append-nil text),
+  );
+}
+
+-- which a watcher was shown as the end
+pub ended_shown : (w : World) (event : Event) (cut : Option PowerCut) (v : KeptWorld) (initial old new : List Device) (F G : Saw) → MayStep v old (step_of event cut) → IsWorld v old w → w.events < most_events → RunEnded w (step_of event cut) old new
+    → ((stores : List Store) (events : List Played) (u : World) → LeadTo stores events u → IsEnding u event new → F stores events → G stores events) → Shows F G w []
+ended_shown w event cut v initial old new F G may is few e ended = λ stores events lead f.
+    subst (λ (es : List Played). G stores es) (sym (append-nil events)) (ended stores events w lead (record { few = few; cut = cut; after = e.world; ends = e.ends; stand = e.stood }) f)
 
 -- it was applied, and this came of reporting it
-pub told_as : (r : Result (Unit {0}) Stop) (w : World) (x : Step) (reported : Bool) (v v2 : KeptWorld) (initial old new : List Device) (before reports : List Report) (report_before told : List ℕ) → before ≡ [] → MayStep v old x → Applied w x reported (deployed v old before) (deployed v2 new reports)
-    → OnOk r (told ≡ report_before ++ report_text reports) → OnErr r (r ≡ Err Memory) → IsWorld v old w → WorldStands w initial old → ItemsPlayedAs r w (Applies x reported ∷ []) v2 initial report_before (boards_reported new told)
-told_as (Ok u) w x reported v v2 initial old new before reports report_before told none may a is_reported memory is stands = applied_played w x reported v v2 initial old new before reports report_before told none may a is_reported is stands
-told_as (Err stop) w x reported v v2 initial old new before reports report_before told none may a is_reported memory is stands =
+pub told_as : (r : Result (Unit {0}) Stop) (w : World) (x : Step) (reported : Bool) (v v2 : KeptWorld) (initial old new : List Device) (before reports : List Report) (report_before told : Told) → before ≡ [] → MayStep v old x → (a : Applied w x reported (deployed v old before) (deployed v2 new reports)) → Shows report_before.saw told.saw w (applied_one a reports ∷ [])
+    → OnOk r (told.text ≡ report_before.text ++ report_text reports) → OnErr r (r ≡ Err Memory) → IsWorld v old w → WorldStands w initial old → ItemsPlayedAs r w (Applies x reported ∷ []) v2 initial report_before (boards_told new told)
+told_as (Ok u) w x reported v v2 initial old new before reports report_before told none may a shown is_reported memory is stands = applied_played w x reported v v2 initial old new before reports report_before told none may a shown is_reported is stands
+told_as (Err stop) w x reported v v2 initial old new before reports report_before told none may a shown is_reported memory is stands =
     let same : stop ≡ Memory = err_is stop Memory memory in
-    subst (λ (e : Stop). ItemsPlayedAs (Err e) w (Applies x reported ∷ []) v2 initial report_before (boards_reported new told)) (sym same) (applied_untold w x reported v v2 initial old new before reports none may a is stands)
+    subst (λ (e : Stop). ItemsPlayedAs (Err e) w (Applies x reported ∷ []) v2 initial report_before (boards_told new told)) (sym same) (applied_untold w x reported v v2 initial old new before reports report_before.saw told.saw none may a shown is stands)
+
+-- which a watcher was shown
+pub applied_shown : (w : World) (event : Event) (cut : Option PowerCut) (reported : Bool) (v v2 : KeptWorld) (old new : List Device) (before reports shown : List Report) (F G : Saw) → before ≡ [] → shown ≡ reports → IsWorld v old w
+    → (done : ApplyDone (Ok tt) (step_of event cut) reported (deployed v old before) (deployed v2 new reports)) → (a : Applied w (step_of event cut) reported (deployed v old before) (deployed v2 new reports))
+    → ((stores : List Store) (events : List Played) (p : Played) → LeadTo stores events p.before → IsApplied p event reported (deployed v2 new shown) → F stores events → G stores (events ++ p ∷ [])) → Shows F G w (applied_one a reports ∷ [])
+applied_shown w event cut reported v v2 old new before reports shown F G none same is done a applied = λ stores events lead f.
+    let told : reports ≡ filter (is_reported reported) a.reports = a.report_now ∙ ap (λ (rs : List Report). rs ++ filter (is_reported reported) a.reports) none in
+    let there : IsApplied (applied_one a reports) event reported (deployed v2 new reports) = record {
+      cut = cut;
+      item = refl;
+      told = refl;
+      step = (a.reports, a.step, told);
+      few = a.stood.few_events;
+      before = deployed v old before;
+      was = is;
+      none = none;
+      stands = a.stood;
+      done = done;
+    } in
+    applied stores events (applied_one a reports) lead (subst (λ (rs : List Report). IsApplied (applied_one a reports) event reported (deployed v2 new rs)) (sym same) there) f
 
 -- the world that is kept goes on behind an event
 pub goes_on : (r : Result (Unit {0}) Stop) (k k2 : KeptWorld) (old new : List Device) → ((w : World) → IsWorld k old w → (u : World) × IsWorld k2 new u × (length u.sites ≡ length w.sites)) → KeepsMotes r k k2 old new
@@ -189,9 +247,9 @@ declared_stands w z row reports v2 initial now step kept b =
       others = λ m past. b.others m (omega (arith, past, same));
     }
 
-pub declared_played : (w z : World) (row : Row) (reports : List Report) (v2 : KeptWorld) (initial now : List Device) (report_before told : List ℕ) → DeclareStep w row z reports → IsWorld v2 now z → told ≡ report_before ++ report_text reports → WorldStands w initial now
+pub declared_played : (w z : World) (row : Row) (reports : List Report) (v2 : KeptWorld) (initial now : List Device) (report_before told : Told) → DeclareStep w row z reports → IsWorld v2 now z → told.text ≡ report_before.text ++ report_text reports → StaysSeen report_before.saw told.saw → WorldStands w initial now
     → ItemsPlayed w (Declares row ∷ []) v2 initial now report_before told
-declared_played w z row reports v2 initial now report_before told step kept is_reported b =
+declared_played w z row reports v2 initial now report_before told step kept is_reported stays b =
     record {
       world = z;
       text = report_text reports;
@@ -199,15 +257,16 @@ declared_played w z row reports v2 initial now report_before told step kept is_r
       kept_now = kept;
       boards = declared_stands w z row reports v2 initial now step kept b;
       report_now = is_reported;
+      shown = shows_none report_before.saw told.saw w stays;
     }
 
 -- it was declared with another name or content, and this came of reporting it
-pub taken_as : (r : Result (Unit {0}) Stop) (w : World) (row : Row) (v2 : KeptWorld) (initial now : List Device) (reports : List Report) (report_before told : List ℕ) → DeclareStep w row w reports → OnOk r (told ≡ report_before ++ report_text reports) → OnErr r (r ≡ Err Memory)
-    → IsWorld v2 now w → WorldStands w initial now → ItemsPlayedAs r w (Declares row ∷ []) v2 initial report_before (boards_reported now told)
-taken_as (Ok u) w row v2 initial now reports report_before told step is_reported memory is stands = declared_played w w row reports v2 initial now report_before told step is is_reported stands
-taken_as (Err stop) w row v2 initial now reports report_before told step is_reported memory is stands =
+pub taken_as : (r : Result (Unit {0}) Stop) (w : World) (row : Row) (v2 : KeptWorld) (initial now : List Device) (reports : List Report) (report_before told : Told) → DeclareStep w row w reports → OnOk r (told.text ≡ report_before.text ++ report_text reports) → OnErr r (r ≡ Err Memory) → StaysSeen report_before.saw told.saw
+    → IsWorld v2 now w → WorldStands w initial now → ItemsPlayedAs r w (Declares row ∷ []) v2 initial report_before (boards_told now told)
+taken_as (Ok u) w row v2 initial now reports report_before told step is_reported memory stays is stands = declared_played w w row reports v2 initial now report_before told step is is_reported stays stands
+taken_as (Err stop) w row v2 initial now reports report_before told step is_reported memory stays is stands =
     let same : stop ≡ Memory = err_is stop Memory memory in
-    subst (λ (e : Stop). ItemsPlayedAs (Err e) w (Declares row ∷ []) v2 initial report_before (boards_reported now told)) (sym same) (begun_none w (Declares row ∷ []) (λ u left text. WorldStands u initial now) is.few_events stands)
+    subst (λ (e : Stop). ItemsPlayedAs (Err e) w (Declares row ∷ []) v2 initial report_before (boards_told now told)) (sym same) (begun_none w (Declares row ∷ []) report_before.saw told.saw (λ u left text. WorldStands u initial now) is.few_events stays stands)
 
 -- a row was declared that is not taken: nothing is told
 pub declared_step : (o : Option Row) (w : World) (row : Row) → row_at w.declared row.image row.version ≡ o → is_taken o row ≡ false → DeclareStep w row (declared_as o w row) []
@@ -235,9 +294,9 @@ stops_more [] more w board image old new h = absurd h
 stops_more (Declares row ∷ left) more w board image old new h = absurd h
 stops_more (Applies x reported ∷ left) more w board image old new h = h
 
-begun_later : (w u : World) (xs ys more whole : List Item) (before : List ℕ) (P Q : World → List Item → List ℕ → Type 0) → ItemsRun w xs u before → ItemsBegun u ys P → whole ≡ xs ++ (ys ++ more)
-    → ((v : World) (left : List Item) (text : List ℕ) → P v left text → Q v (left ++ more) (before ++ text)) → ItemsBegun w whole Q
-begun_later w u xs ys more whole before P Q a b is f =
+begun_later : (w u : World) (xs ys more whole : List Item) (before : List ℕ) (F G H : Saw) (P Q : World → List Item → List ℕ → Type 0) → (a : ItemsRun w xs u before) → Shows F G w a.played → ItemsBegun u ys G H P → whole ≡ xs ++ (ys ++ more)
+    → ((v : World) (left : List Item) (text : List ℕ) → P v left text → Q v (left ++ more) (before ++ text)) → ItemsBegun w whole F H Q
+begun_later w u xs ys more whole before F G H P Q a shown b is f =
     record {
       begun = xs ++ b.begun;
       left = b.left ++ more;
@@ -245,11 +304,12 @@ begun_later w u xs ys more whole before P Q a b is f =
       world = b.world;
       text = before ++ b.text;
       runs = items_run_join w u b.world xs b.begun before b.text a b.runs;
+      shown = shows_join F G H w u a.played b.runs.played shown a.run b.shown;
       there = f b.world b.left b.text b.there;
     }
 
 -- one part played behind another
-pub played_join : (w : World) (xs ys : List Item) (k k2 : KeptWorld) (initial mid now : List Device) (t0 t1 t2 : List ℕ) (a : ItemsPlayed w xs k initial mid t0 t1) → ItemsPlayed a.world ys k2 initial now t1 t2 → ItemsPlayed w (xs ++ ys) k2 initial now t0 t2
+pub played_join : (w : World) (xs ys : List Item) (k k2 : KeptWorld) (initial mid now : List Device) (t0 t1 t2 : Told) (a : ItemsPlayed w xs k initial mid t0 t1) → ItemsPlayed a.world ys k2 initial now t1 t2 → ItemsPlayed w (xs ++ ys) k2 initial now t0 t2
 played_join w xs ys k k2 initial mid now t0 t1 t2 a b =
     record {
       world = b.world;
@@ -257,24 +317,25 @@ played_join w xs ys k k2 initial mid now t0 t1 t2 a b =
       runs = items_run_join w a.world b.world xs ys a.text b.text a.runs b.runs;
       kept_now = b.kept_now;
       boards = b.boards;
-      report_now = b.report_now ∙ ap (λ (t : List ℕ). t ++ b.text) a.report_now ∙ append_assoc t0 a.text b.text;
+      report_now = b.report_now ∙ ap (λ (t : List ℕ). t ++ b.text) a.report_now ∙ append_assoc t0.text a.text b.text;
+      shown = shows_join t0.saw t1.saw t2.saw w a.world a.runs.played b.runs.played a.shown a.runs.run b.shown;
     }
 
 -- one part was played, and another stopped
-pub stopped_later : (stop : Stop) (w : World) (xs ys more whole : List Item) (k k2 : KeptWorld) (initial mid now : List Device) (t0 t1 t2 : List ℕ) (a : ItemsPlayed w xs k initial mid t0 t1) → ItemsPlayedAs (Err stop) a.world ys k2 initial t1 (boards_reported now t2)
-    → whole ≡ xs ++ (ys ++ more) → ItemsPlayedAs (Err stop) w whole k2 initial t0 (boards_reported now t2)
+pub stopped_later : (stop : Stop) (w : World) (xs ys more whole : List Item) (k k2 : KeptWorld) (initial mid now : List Device) (t0 t1 t2 : Told) (a : ItemsPlayed w xs k initial mid t0 t1) → ItemsPlayedAs (Err stop) a.world ys k2 initial t1 (boards_told now t2)
+    → whole ≡ xs ++ (ys ++ more) → ItemsPlayedAs (Err stop) w whole k2 initial t0 (boards_told now t2)
 unfolding next_more
 stopped_later Memory w xs ys more whole k k2 initial mid now t0 t1 t2 a b is =
-    begun_later w a.world xs ys more whole a.text (λ v left text. WorldStands v initial now) (λ v left text. WorldStands v initial now) a.runs b is (λ v left text h. h)
+    begun_later w a.world xs ys more whole a.text t0.saw t1.saw t2.saw (λ v left text. WorldStands v initial now) (λ v left text. WorldStands v initial now) a.runs a.shown b is (λ v left text h. h)
 stopped_later TooMany w xs ys more whole k k2 initial mid now t0 t1 t2 a b is =
-    begun_later w a.world xs ys more whole a.text (λ v left text. IsOneTooMany v left × WorldStands v initial now × (t2 ≡ t1 ++ text)) (λ v left text. IsOneTooMany v left × WorldStands v initial now × (t2 ≡ t0 ++ text)) a.runs b is
-    (λ v left text h. (record { full = h.0.full; next = next_more left more h.0.next }, h.1, h.2 ∙ ap (λ (t : List ℕ). t ++ text) a.report_now ∙ append_assoc t0 a.text text))
+    begun_later w a.world xs ys more whole a.text t0.saw t1.saw t2.saw (λ v left text. IsOneTooMany v left × WorldStands v initial now × (t2.text ≡ t1.text ++ text)) (λ v left text. IsOneTooMany v left × WorldStands v initial now × (t2.text ≡ t0.text ++ text)) a.runs a.shown b is
+    (λ v left text h. (record { full = h.0.full; next = next_more left more h.0.next }, h.1, h.2 ∙ ap (λ (t : List ℕ). t ++ text) a.report_now ∙ append_assoc t0.text a.text text))
 stopped_later FlashFault w xs ys more whole k k2 initial mid now t0 t1 t2 a b is =
-    begun_later w a.world xs ys more whole a.text (λ v left text. StopsInItem v left initial now × (t2 ≡ t1 ++ text)) (λ v left text. StopsInItem v left initial now × (t2 ≡ t0 ++ text)) a.runs b is
-    (λ v left text h. (record { stopped = h.0.stopped; there = stops_more left more v h.0.stopped.board h.0.stopped.after.image initial now h.0.there }, h.1 ∙ ap (λ (t : List ℕ). t ++ text) a.report_now ∙ append_assoc t0 a.text text))
+    begun_later w a.world xs ys more whole a.text t0.saw t1.saw t2.saw (λ v left text. StopsInItem v left initial now × (t2.text ≡ t1.text ++ text)) (λ v left text. StopsInItem v left initial now × (t2.text ≡ t0.text ++ text)) a.runs a.shown b is
+    (λ v left text h. (record { stopped = h.0.stopped; there = stops_more left more v h.0.stopped.board h.0.stopped.after.image initial now h.0.there }, h.1 ∙ ap (λ (t : List ℕ). t ++ text) a.report_now ∙ append_assoc t0.text a.text text))
 stopped_later NoImage w xs ys more whole k k2 initial mid now t0 t1 t2 a b is =
-    begun_later w a.world xs ys more whole a.text (λ v left text. LacksImage v left initial now × (t2 ≡ t1 ++ text)) (λ v left text. LacksImage v left initial now × (t2 ≡ t0 ++ text)) a.runs b is
-    (λ v left text h. (lacks_more left more v initial now h.0, h.1 ∙ ap (λ (t : List ℕ). t ++ text) a.report_now ∙ append_assoc t0 a.text text))
+    begun_later w a.world xs ys more whole a.text t0.saw t1.saw t2.saw (λ v left text. LacksImage v left initial now × (t2.text ≡ t1.text ++ text)) (λ v left text. LacksImage v left initial now × (t2.text ≡ t0.text ++ text)) a.runs a.shown b is
+    (λ v left text h. (lacks_more left more v initial now h.0, h.1 ∙ ap (λ (t : List ℕ). t ++ text) a.report_now ∙ append_assoc t0.text a.text text))
 stopped_later NotAVolume w xs ys more whole k k2 initial mid now t0 t1 t2 a b is = absurd b
 stopped_later (NoBoard motes boards) w xs ys more whole k k2 initial mid now t0 t1 t2 a b is = absurd b
 stopped_later (BadInput n fault) w xs ys more whole k k2 initial mid now t0 t1 t2 a b is = absurd b

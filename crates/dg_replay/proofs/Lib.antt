@@ -1,4 +1,5 @@
 pub mod ItemLemmas
+pub mod ShownLemmas
 pub mod ItemStepLemmas
 pub mod StepLemmas
 pub mod BytesLemmas
@@ -25,6 +26,7 @@ pub mod FrontLemmas
 pub mod LiftLemmas
 pub mod LineByLine
 pub mod UsedLemmas
+pub mod SeenLemmas
 pub mod FollowingLemmas
 pub mod WayLemmas
 pub mod LinesReadLemmas

@@ -21,8 +21,9 @@ use Rattle.dg_replay.specs.Ending.{script_of}
 use Rattle.dg_replay.specs.Fronts.{IsFront, BeginsAs}
 use Rattle.dg_replay.specs.Replayed.{Progress, Untouched, item_played, played_text, AtTooMany, BoardsLeft, AreWhole, NextIsWhole, DoneIsWhole}
 use Rattle.dg_replay.specs.Untouched.{IsElsewhere, FormatsNone}
-use Rattle.dg_replay.specs.Replaying.{PlayedUpTo, HasFew, ReportedBefore, StopsThere, StopsInTaken}
+use Rattle.dg_replay.specs.Replaying.{PlayedUpTo, HasFew, ReportedBefore, IsLeft, StopsThere, StopsInTaken}
 use Rattle.dg_replay.specs.declared.stop.Stop.{Stop}
+use Rattle.dg_replay.specs.Shown.{Saw}
 use Rattle.dg_replay.specs.Stages.{span, bytes_taken}
 use Rattle.dg_replay.specs.declared.stop.Stop.TheVariants.{Memory, BadInput, WriteFault, FlashFault, TooMany, NoBoard, NoImage, NotAVolume}
 use Rattle.dg_replay.proofs.FrontLemmas.{front_begins}
@@ -151,24 +152,24 @@ module _ (front ahead : List ℕ) (is : IsFront front) (few : length front ≤ m
   begins_here = front_begins front ahead is few
 
   -- A stop at the last line of whole lines is one in every script that begins with them, and the bytes are enough for it.
-  module _ (at_end : Type 0) (number : ℕ) (initial now : List Device) (before after : Option (List ℕ)) (failed : Type 0) where
-    fault_here : {table : List Row} (line : ℕ) (fault : LineFault) → StopsThere table (BadInput line fault) (script_from false first_place 1 (lines front)) number (span initial now before after) failed
-        → StopsInTaken table (BadInput line fault) (script_of (front ++ ahead)) (bytes_taken (front ++ ahead) at_end) number (span initial now before after) failed
+  module _ (at_end : Type 0) (number : ℕ) (initial now : List Device) (before after : Option (List ℕ)) (failed : Type 0) (S H : Saw) where
+    fault_here : {table : List Row} (line : ℕ) (fault : LineFault) → StopsThere table (BadInput line fault) (script_from false first_place 1 (lines front)) number (span initial now before after S H) failed
+        → StopsInTaken table (BadInput line fault) (script_of (front ++ ahead)) (bytes_taken (front ++ ahead) at_end) number (span initial now before after S H) failed
     fault_here {table} line fault (same, f) =
         let first : Script = script_from false first_place 1 (lines front) in
         let input : List ℕ = front ++ ahead in
-        let Q : (s : Script) → Progress table s → Type 0 = λ s c. (c.rest ≡ []) × (s.fault ≡ Some (line, fault)) × BoardsStand c.last initial now × HasFew s initial × ((at_end ⊎ DoneIsWhole input c.done c.rest c.begun) × Untouched c initial now) in
+        let Q : (s : Script) → Progress table s → Type 0 = λ s c. (c.rest ≡ []) × (s.fault ≡ Some (line, fault)) × BoardsStand c.last initial now × HasFew s initial × ((at_end ⊎ DoneIsWhole input c.done c.rest c.begun) × IsLeft (span initial now before after S H) c) in
         let P : Script → Type 0 = λ s. PlayedUpTo table s initial before after (Q s) in
         let c = f.came in
         let all : DoneIsWhole input c.done c.rest c.begun = subst (λ (r : List Line). DoneIsWhole input c.done r c.begun) (append-nil c.rest) (done_whole c []) in
         let made : P first = record { came = c; reported = f.reported; limits = f.limits; stood = f.stood; there = (f.there.0, f.there.1, f.there.2, f.there.3, (inr all, f.there.4)) } in
         (same, subst P (sym (begins_here.fault (line, fault) f.there.1)) made)
 
-    pub stops_here : (table : List Row) (stop : Stop) → StopsThere table stop (script_from false first_place 1 (lines front)) number (span initial now before after) failed
+    pub stops_here : (table : List Row) (stop : Stop) → StopsThere table stop (script_from false first_place 1 (lines front)) number (span initial now before after S H) failed
         → (stop ≡ TooMany → lacking (length initial) (script_of (front ++ ahead)).lines ≡ None)
-        → StopsInTaken table stop (script_of (front ++ ahead)) (bytes_taken (front ++ ahead) at_end) number (span initial now before after) failed
+        → StopsInTaken table stop (script_of (front ++ ahead)) (bytes_taken (front ++ ahead) at_end) number (span initial now before after S H) failed
     stops_here table Memory f enough =
-        record { came = lifted begins_here f.came; text = f.text; more = f.more; reported = f.reported; whole = f.whole; limits = f.limits; stood = f.stood; there = (f.there.0, (inr (done_whole f.came begins_here.rest), untouched_lifted begins_here f.came initial now f.there.1)) }
+        record { came = lifted begins_here f.came; text = f.text; more = f.more; reported = f.reported; whole = f.whole; limits = f.limits; stood = f.stood; there = (f.there.0, (inr (done_whole f.came begins_here.rest), (untouched_lifted begins_here f.came initial now f.there.1.0, f.there.1.1))) }
     stops_here table (BadInput line fault) f enough = fault_here line fault f
     stops_here table WriteFault (rose, f) enough = (
       rose,
@@ -180,7 +181,7 @@ module _ (front ahead : List ℕ) (is : IsFront front) (few : length front ≤ m
         whole = f.whole;
         limits = f.limits;
         stood = f.stood;
-        there = (left_there begins_here f.came initial now f.there.0, told_there begins_here f.came number f.text f.there.1, (inr (done_whole f.came begins_here.rest), untouched_lifted begins_here f.came initial now f.there.2));
+        there = (left_there begins_here f.came initial now f.there.0, told_there begins_here f.came number f.text f.there.1, (inr (done_whole f.came begins_here.rest), (untouched_lifted begins_here f.came initial now f.there.2.0, f.there.2.1)));
       },
     )
     stops_here table FlashFault f enough =
@@ -195,7 +196,7 @@ module _ (front ahead : List ℕ) (is : IsFront front) (few : length front ≤ m
           there = (
             (at.0, at.1 ++ b.rest, ap (λ (ls : List Line). ls ++ b.rest) at.2, at.3),
             stopped_line c.done c.rest b.rest c.left c.last initial now at.0 at.1 at.2 f.there.1,
-            (inr (next_whole c b.rest at.0 at.1 at.2), untouched_lifted b c initial now f.there.2),
+            (inr (next_whole c b.rest at.0 at.1 at.2), (untouched_lifted b c initial now f.there.2.0, f.there.2.1)),
           );
         }
     stops_here table TooMany f enough =
@@ -206,7 +207,7 @@ module _ (front ahead : List ℕ) (is : IsFront front) (few : length front ≤ m
           reported = f.reported;
           limits = f.limits;
           stood = f.stood;
-          there = (many_on c.done c.rest b.rest c.begun c.left c.played c.parts f.there.0, f.there.1, enough refl, (inr (done_whole c b.rest), untouched_lifted b c initial now f.there.3));
+          there = (many_on c.done c.rest b.rest c.begun c.left c.played c.parts f.there.0, f.there.1, enough refl, (inr (done_whole c b.rest), (untouched_lifted b c initial now f.there.3.0, f.there.3.1)));
         }
     stops_here table (NoBoard motes boards) f enough =
         let c = f.came in
@@ -216,7 +217,7 @@ module _ (front ahead : List ℕ) (is : IsFront front) (few : length front ≤ m
           reported = f.reported;
           limits = f.limits;
           stood = f.stood;
-          there = (f.there.0, (f.there.1.0 ++ b.rest, ap (λ (ls : List Line). ls ++ b.rest) f.there.1.1), f.there.2, f.there.3, (inr (done_whole c b.rest), untouched_lifted b c initial now f.there.4));
+          there = (f.there.0, (f.there.1.0 ++ b.rest, ap (λ (ls : List Line). ls ++ b.rest) f.there.1.1), f.there.2, f.there.3, (inr (done_whole c b.rest), (untouched_lifted b c initial now f.there.4.0, f.there.4.1)));
         }
     stops_here table NoImage f enough =
         let c = f.came in
@@ -232,7 +233,7 @@ module _ (front ahead : List ℕ) (is : IsFront front) (few : length front ≤ m
             f.there.1,
             lacks_on c.last c.done c.rest b.rest c.begun c.left initial now c.parts f.there.2,
             λ more. told_there b c number (played_text c.played ++ more) (f.there.3 more),
-            (inr (next_whole c b.rest at.0 at.1 at.2), untouched_lifted b c initial now f.there.4),
+            (inr (next_whole c b.rest at.0 at.1 at.2), (untouched_lifted b c initial now f.there.4.0, f.there.4.1)),
           );
         }
     stops_here table NotAVolume f enough =
@@ -247,6 +248,6 @@ module _ (front ahead : List ℕ) (is : IsFront front) (few : length front ≤ m
           there = (
             record { more = lacking.more ++ b.rest; next = ap (λ (ls : List Line). ls ++ b.rest) lacking.next; there = lacking.there },
             λ more. told_there b c number (played_text c.played ++ more) (f.there.1 more),
-            (inr (next_whole c b.rest Boards lacking.more lacking.next), untouched_lifted b c initial now f.there.2),
+            (inr (next_whole c b.rest Boards lacking.more lacking.next), (untouched_lifted b c initial now f.there.2.0, f.there.2.1)),
           );
         }

@@ -16,6 +16,7 @@ use Rattle.dg_replay.specs.Playing.{Stood}
 use Rattle.dg_replay.specs.Near.{behind_line, behind_lines}
 use Rattle.dg_replay.specs.Replaying.{TextReported, TextAnswer, Reached, StopsThere}
 use Rattle.dg_replay.specs.declared.player.Player.{Player}
+use Rattle.dg_replay.specs.Shown.{Saw}
 use Rattle.dg_replay.specs.Stages.{based_on, done_so_far, replay_state, line_read, span}
 use Rattle.dg_replay.specs.declared.stop.Stop.{Stop}
 use Rattle.dg_replay.specs.Untouched.{TextKeepsBytes}
@@ -27,13 +28,13 @@ use Rattle.dg_replay.proofs.ReplayLemmas.{reached_first, stopped_at}
 use Rattle.dg_replay.proofs.NextLineLemmas.{reached_next}
 
 -- the lines of these bytes, which are so many, were played
-pub record FrontPlayed (front : List ℕ) (given : ℕ) (p : Player) (initial now : List Device) (before after : Option (List ℕ)) : Type 0 where
+pub record FrontPlayed (front : List ℕ) (given : ℕ) (p : Player) (initial now : List Device) (before after : Option (List ℕ)) (first saw : Saw) : Type 0 where
   pub is : IsFront front
   pub behind : (more : List ℕ) → behind_lines given (front ++ more) ≡ more
-  pub reached : (table : List Row) (ends : Bool) (more : List (List ℕ)) → Reached table ends (script_from ends first_place 1 (lines front ++ more)) more (given + 1) p (span initial now before after)
+  pub reached : (table : List Row) (ends : Bool) (more : List (List ℕ)) → Reached table ends (script_from ends first_place 1 (lines front ++ more)) more (given + 1) p (span initial now before after first saw)
 
 -- nothing was read
-pub front_first : (p : Player) (initial : List Device) (before : Option (List ℕ)) → p.place ≡ first_place → FrontPlayed [] 0 p initial initial before before
+pub front_first : {S : Saw} (p : Player) (initial : List Device) (before : Option (List ℕ)) → p.place ≡ first_place → FrontPlayed [] 0 p initial initial before before S S
 front_first p initial before place = record { is = inl refl; behind = λ more. behind_none more; reached = λ table ends more. reached_first ends more p initial before place }
 
 not_feed : (bytes : List ℕ) → HasNoEnd bytes → All (λ b. (b == 10) ≡ false) bytes
@@ -56,34 +57,34 @@ behind_more front text line given behind l more =
     behind_next given ((front ++ line) ++ more) ∙ ap behind_line (ap (behind_lines given) (append_assoc front line more) ∙ behind (line ++ more)) ∙ behind_whole text line more l
 
 -- one more line was played, and what is reported of it was written
-pub front_next : (front text line : List ℕ) (given : ℕ) (p q : Player) (initial old now : List Device) (before mid after : Option (List ℕ)) → FrontPlayed front given p initial old before mid → IsLine text line
-    → TextKeepsBytes p.place text old now → ((done : List Line) (w : Option World) (table : List Row) → Stood p done w initial old → TextReported (based_on table initial) text (done_so_far done w) (replay_state p old mid) (replay_state q now after)) → FrontPlayed (front ++ line) (given + 1) q initial now before after
-front_next front text line given p q initial old now before mid after f l kept told = record {
+pub front_next : {S G H : Saw} (front text line : List ℕ) (given : ℕ) (p q : Player) (initial old now : List Device) (before mid after : Option (List ℕ)) → FrontPlayed front given p initial old before mid S G → IsLine text line
+    → TextKeepsBytes p.place text old now → ((done : List Line) (w : Option World) (table : List Row) → Stood p done w initial old → TextReported (based_on table initial) text (done_so_far done w) (replay_state p old mid G) (replay_state q now after H)) → FrontPlayed (front ++ line) (given + 1) q initial now before after S H
+front_next {S = S} {H = H} front text line given p q initial old now before mid after f l kept told = record {
   is = front_more front text line l;
   behind = behind_more front text line given f.behind l;
   reached = λ table ends more.
       let r = f.reached table ends (text ∷ more) in
-      subst (λ (ts : List (List ℕ)). Reached table ends (script_from ends first_place 1 ts) more (given + 1 + 1) q (span initial now before after)) (sym (texts_next front text line more f.is l))
+      subst (λ (ts : List (List ℕ)). Reached table ends (script_from ends first_place 1 ts) more (given + 1 + 1) q (span initial now before after S H)) (sym (texts_next front text line more f.is l))
       (reached_next ends (script_from ends first_place 1 (lines front ++ text ∷ more)) more text (given + 1) p q initial old now before mid after r kept (told r.done r.last table r.stood));
 }
 
 -- the replay stopped at the text that follows, whatever texts follow that
-pub text_stopped : (law : ImageIsFound) (stop : Stop) (front text : List ℕ) (given : ℕ) (p q : Player) (initial old now : List Device) (before mid after : Option (List ℕ)) (failed worse : Type 0) → (failed → worse)
-    → FrontPlayed front given p initial old before mid → TextKeepsBytes p.place text old now
-    → ((done : List Line) (w : Option World) (table : List Row) → Stood p done w initial old → TextAnswer (based_on table initial) (Err stop) (line_read text (given + 1)) (done_so_far done w) (replay_state p old mid) (replay_state q now after) failed)
-    → (table : List Row) (ends : Bool) (more : List (List ℕ)) → StopsThere table stop (script_from ends first_place 1 (lines front ++ text ∷ more)) (given + 1) (span initial now before after) worse
-text_stopped law stop front text given p q initial old now before mid after failed worse spread f kept answer table ends more =
+pub text_stopped : {S G : Saw} (law : ImageIsFound) (stop : Stop) (front text : List ℕ) (given : ℕ) (p q : Player) (initial old now : List Device) (before mid after : Option (List ℕ)) (failed worse : Type 0) (H : Saw) → (failed → worse)
+    → FrontPlayed front given p initial old before mid S G → TextKeepsBytes p.place text old now
+    → ((done : List Line) (w : Option World) (table : List Row) → Stood p done w initial old → TextAnswer (based_on table initial) (Err stop) (line_read text (given + 1)) (done_so_far done w) (replay_state p old mid G) (replay_state q now after H) failed)
+    → (table : List Row) (ends : Bool) (more : List (List ℕ)) → StopsThere table stop (script_from ends first_place 1 (lines front ++ text ∷ more)) (given + 1) (span initial now before after S H) worse
+text_stopped law stop front text given p q initial old now before mid after failed worse H spread f kept answer table ends more =
     let r = f.reached table ends (text ∷ more) in
     let script : Script = script_from ends first_place 1 (lines front ++ text ∷ more) in
-    stopped_at stop ends script more text (given + 1) p q initial old now before mid after failed worse spread r
+    stopped_at {H = H} stop ends script more text (given + 1) p q initial old now before mid after failed worse spread r
     (λ alone. image_found law ends script (text ∷ more) (given + 1) p initial old before mid (script_fits ends first_place 1 (lines front ++ text ∷ more)) r alone text initial now)
     kept (answer r.done r.last table r.stood)
 
 -- the same at one more line
-pub front_stopped : (law : ImageIsFound) (stop : Stop) (front text line : List ℕ) (given : ℕ) (p q : Player) (initial old now : List Device) (before mid after : Option (List ℕ)) (failed worse : Type 0) → (failed → worse)
-    → FrontPlayed front given p initial old before mid → IsLine text line → TextKeepsBytes p.place text old now
-    → ((done : List Line) (w : Option World) (table : List Row) → Stood p done w initial old → TextAnswer (based_on table initial) (Err stop) (line_read text (given + 1)) (done_so_far done w) (replay_state p old mid) (replay_state q now after) failed)
-    → (table : List Row) (ends : Bool) (more : List (List ℕ)) → StopsThere table stop (script_from ends first_place 1 (lines (front ++ line) ++ more)) (given + 1) (span initial now before after) worse
-front_stopped law stop front text line given p q initial old now before mid after failed worse spread f l kept answer table ends more =
-    subst (λ (ts : List (List ℕ)). StopsThere table stop (script_from ends first_place 1 ts) (given + 1) (span initial now before after) worse) (sym (texts_next front text line more f.is l))
-    (text_stopped law stop front text given p q initial old now before mid after failed worse spread f kept answer table ends more)
+pub front_stopped : {S G : Saw} (law : ImageIsFound) (stop : Stop) (front text line : List ℕ) (given : ℕ) (p q : Player) (initial old now : List Device) (before mid after : Option (List ℕ)) (failed worse : Type 0) (H : Saw) → (failed → worse)
+    → FrontPlayed front given p initial old before mid S G → IsLine text line → TextKeepsBytes p.place text old now
+    → ((done : List Line) (w : Option World) (table : List Row) → Stood p done w initial old → TextAnswer (based_on table initial) (Err stop) (line_read text (given + 1)) (done_so_far done w) (replay_state p old mid G) (replay_state q now after H) failed)
+    → (table : List Row) (ends : Bool) (more : List (List ℕ)) → StopsThere table stop (script_from ends first_place 1 (lines (front ++ line) ++ more)) (given + 1) (span initial now before after S H) worse
+front_stopped {S = S} law stop front text line given p q initial old now before mid after failed worse H spread f l kept answer table ends more =
+    subst (λ (ts : List (List ℕ)). StopsThere table stop (script_from ends first_place 1 ts) (given + 1) (span initial now before after S H) worse) (sym (texts_next front text line more f.is l))
+    (text_stopped law stop front text given p q initial old now before mid after failed worse H spread f kept answer table ends more)

@@ -21,7 +21,8 @@ use Rattle.dg_replay.specs.Playing.{Stood}
 use Rattle.dg_replay.specs.Replaying.{TextAnswer, Reached, InputAnswer}
 use Rattle.dg_replay.specs.declared.halt.Halt.{Halt}
 use Rattle.dg_replay.specs.declared.player.Player.{Player}
-use Rattle.dg_replay.specs.Stages.{based_on, done_so_far, replay_state, line_read, span, bytes_taken, failures}
+use Rattle.dg_replay.specs.Shown.{Saw}
+use Rattle.dg_replay.specs.Stages.{based_on, done_so_far, ReplayState, replay_state, line_read, Span, span, bytes_taken, failures}
 use Rattle.dg_replay.specs.declared.stop.Stop.{Stop}
 use Rattle.dg_replay.specs.Untouched.{TextKeepsBytes}
 use Rattle.dg_replay.proofs.EndLemmas.{script_all}
@@ -31,7 +32,7 @@ use Rattle.dg_replay.proofs.NearLemmas.{behind_next, none_behind, behind_endless
 use Rattle.dg_replay.proofs.NextLineLemmas.{reached_next}
 
 -- Lines were read and played, and of the bytes that were taken these are left.
-pub record LinesRead (left_old left_now : Option (List ℕ)) (reader : Reading) (number : ℕ) (p : Player) (initial now : List Device) (before after : Option (List ℕ)) : Type 0 where
+pub record LinesRead (left_old left_now : Option (List ℕ)) (reader : Reading) (number : ℕ) (p : Player) (initial now : List Device) (before after : Option (List ℕ)) (first saw : Saw) : Type 0 where
   pub front : List ℕ
   pub given : ℕ
   pub taken : Takes left_old left_now (front ++ reader.ahead)
@@ -40,11 +41,11 @@ pub record LinesRead (left_old left_now : Option (List ℕ)) (reader : Reading) 
   pub numbered : number ≡ given + 1
   pub counted : reader.number ≡ given
   pub few : given ≤ reader.passed
-  pub played : FrontPlayed front given p initial now before after
+  pub played : FrontPlayed front given p initial now before after first saw
 
 -- nothing was read
-pub lines_first : (left : Option (List ℕ)) (reader : Reading) (p : Player) (initial : List Device) (before : Option (List ℕ)) → reader.ahead ≡ [] → reader.passed ≡ 0 → reader.number ≡ 0 → p.place ≡ first_place
-    → LinesRead left left reader 1 p initial initial before before
+pub lines_first : {S : Saw} (left : Option (List ℕ)) (reader : Reading) (p : Player) (initial : List Device) (before : Option (List ℕ)) → reader.ahead ≡ [] → reader.passed ≡ 0 → reader.number ≡ 0 → p.place ≡ first_place
+    → LinesRead left left reader 1 p initial initial before before S S
 lines_first left reader p initial before none unread first place = record {
   front = [];
   given = 0;
@@ -58,9 +59,9 @@ lines_first left reader p initial before none unread first place = record {
 }
 
 -- what is played of a text, from a player that stands behind lines
-abbrev pub PlaysText : Result (Unit {0}) Stop → (text : List ℕ) → (number : ℕ) → (p q : Player) → (initial old now : List Device) → (mid after : Option (List ℕ)) → (failed : Type 0) → Type 0
-PlaysText r text number p q initial old now mid after failed = TextKeepsBytes p.place text old now
-    × ((done : List Line) (w : Option World) (table : List Row) → Stood p done w initial old → TextAnswer (based_on table initial) r (line_read text number) (done_so_far done w) (replay_state p old mid) (replay_state q now after) failed)
+abbrev pub PlaysText : Result (Unit {0}) Stop → (text : List ℕ) → (number : ℕ) → (initial : List Device) → (a b : ReplayState) → (failed : Type 0) → Type 0
+PlaysText r text number initial a b failed = TextKeepsBytes a.player.place text a.boards b.boards
+    × ((done : List Line) (w : Option World) (table : List Row) → Stood a.player done w initial a.boards → TextAnswer (based_on table initial) r (line_read text number) (done_so_far done w) a b failed)
 
 -- the bytes that came behind the lines
 pub joined : (a b c : Option (List ℕ)) (front ahead more : List ℕ) → Takes a b (front ++ ahead) → Takes b c more → Takes a c (front ++ (ahead ++ more))
@@ -75,9 +76,9 @@ line_some : (text line : List ℕ) → IsLine text line → 1 ≤ length line
 line_some text line l = omega (arith, ap length l.ended, length-append l.before (10 ∷ []))
 
 -- one more line was read and played
-next_line : (a b c : Option (List ℕ)) (old new : Reading) (more line : List ℕ) (number : ℕ) (p q : Player) (initial was now : List Device) (before mid after : Option (List ℕ)) (at_end failed : Type 0)
-    → (i : LinesRead a b old number p initial was before mid) → Takes b c more → Gives (old.ahead ++ more) old new at_end → old.ahead ++ more ≡ line ++ new.ahead → IsLine new.text line
-    → PlaysText (Ok tt) new.text (old.number + 1) p q initial was now mid after failed → LinesRead a c new (number + 1) q initial now before after
+next_line : {S G H : Saw} (a b c : Option (List ℕ)) (old new : Reading) (more line : List ℕ) (number : ℕ) (p q : Player) (initial was now : List Device) (before mid after : Option (List ℕ)) (at_end failed : Type 0)
+    → (i : LinesRead a b old number p initial was before mid S G) → Takes b c more → Gives (old.ahead ++ more) old new at_end → old.ahead ++ more ≡ line ++ new.ahead → IsLine new.text line
+    → PlaysText (Ok tt) new.text (old.number + 1) initial (replay_state p was mid G) (replay_state q now after H) failed → LinesRead a c new (number + 1) q initial now before after S H
 next_line a b c old new more line number p q initial was now before mid after at_end failed i taken g parts l told =
     let some = line_some new.text line l in
     let long : length (old.ahead ++ more) ≡ length line + length new.ahead = ap length parts ∙ length-append line new.ahead in
@@ -93,9 +94,9 @@ next_line a b c old new more line number p q initial was now before mid after at
       played = front_next i.front new.text line i.given p q initial was now before mid after i.played l told.0 (λ done w table s. told.1 done w table s);
     }
 
-pub lines_next : (a b c : Option (List ℕ)) (old new : Reading) (more : List ℕ) (number : ℕ) (p q : Player) (initial was now : List Device) (before mid after : Option (List ℕ)) (at_end failed : Type 0)
-    → LinesRead a b old number p initial was before mid → Takes b c more → Gives (old.ahead ++ more) old new at_end → new.last ≡ false
-    → PlaysText (Ok tt) new.text (old.number + 1) p q initial was now mid after failed → LinesRead a c new (number + 1) q initial now before after
+pub lines_next : {S G H : Saw} (a b c : Option (List ℕ)) (old new : Reading) (more : List ℕ) (number : ℕ) (p q : Player) (initial was now : List Device) (before mid after : Option (List ℕ)) (at_end failed : Type 0)
+    → LinesRead a b old number p initial was before mid S G → Takes b c more → Gives (old.ahead ++ more) old new at_end → new.last ≡ false
+    → PlaysText (Ok tt) new.text (old.number + 1) initial (replay_state p was mid G) (replay_state q now after H) failed → LinesRead a c new (number + 1) q initial now before after S H
 lines_next a b c old new more number p q initial was now before mid after at_end failed i taken g more_lines told =
     ⊎_elim
     (λ l. next_line a b c old new more g.first.line number p q initial was now before mid after at_end failed i taken g g.first.parts l told)
@@ -134,17 +135,17 @@ behind_last front text line given behind l = behind_next given (front ++ line) �
 pub then_none : (n : ℕ) (bytes : List ℕ) → behind_lines n bytes ≡ [] → behind_lines (n + 1) bytes ≡ []
 then_none n bytes e = behind_next n bytes ∙ ap behind_line e ∙ none_behind
 
-abbrev pub Comes : (a c : Option (List ℕ)) → Result (Player × ℕ) Halt → (at_end read_failed : Type 0) → (initial now : List Device) → (before after : Option (List ℕ)) → (write_failed : Type 0) → Type 0
-Comes a c r at_end reads initial now before after failed = (bytes : List ℕ) × Takes a c bytes × ((table : List Row) → InputAnswer table r (bytes_taken bytes at_end) (span initial now before after) (failures reads failed))
+abbrev pub Comes : (a c : Option (List ℕ)) → Result (Player × ℕ) Halt → (at_end read_failed : Type 0) → (s : Span) → (write_failed : Type 0) → Type 0
+Comes a c r at_end reads s failed = (bytes : List ℕ) × Takes a c bytes × ((table : List Row) → InputAnswer table r (bytes_taken bytes at_end) s (failures reads failed))
 
-pub at_number : {table : List Row} (script : Script) (n m : ℕ) (q : Player) (initial now : List Device) (before after : Option (List ℕ)) → n ≡ m → Reached table true script [] m q (span initial now before after) → Reached table true script [] n q (span initial now before after)
-at_number {table} script n m q initial now before after e r = subst (λ k. Reached table true script [] k q (span initial now before after)) (sym e) r
+pub at_number : {table : List Row} {S H : Saw} (script : Script) (n m : ℕ) (q : Player) (initial now : List Device) (before after : Option (List ℕ)) → n ≡ m → Reached table true script [] m q (span initial now before after S H) → Reached table true script [] n q (span initial now before after S H)
+at_number {table} {S = S} {H = H} script n m q initial now before after e r = subst (λ k. Reached table true script [] k q (span initial now before after S H)) (sym e) r
 
 -- the last line was read and played
-last_whole : (a c : Option (List ℕ)) (reads writes at_end : Type 0) (front line text : List ℕ) (given number : ℕ) (p q : Player) (initial was now : List Device) (before mid after : Option (List ℕ)) (failed : Type 0)
-    → FrontPlayed front given p initial was before mid → number ≡ given + 1 → Takes a c (front ++ line) → length (front ++ line) ≤ most_used_bytes → at_end
-    → IsLine text line → PlaysText (Ok tt) text (given + 1) p q initial was now mid after failed → Comes a c (Ok (q, number + 1)) at_end reads initial now before after writes
-last_whole a c reads writes at_end front line text given number p q initial was now before mid after failed f numbered taken few ended l told =
+last_whole : {S G H : Saw} (a c : Option (List ℕ)) (reads writes at_end : Type 0) (front line text : List ℕ) (given number : ℕ) (p q : Player) (initial was now : List Device) (before mid after : Option (List ℕ)) (failed : Type 0)
+    → FrontPlayed front given p initial was before mid S G → number ≡ given + 1 → Takes a c (front ++ line) → length (front ++ line) ≤ most_used_bytes → at_end
+    → IsLine text line → PlaysText (Ok tt) text (given + 1) initial (replay_state p was mid G) (replay_state q now after H) failed → Comes a c (Ok (q, number + 1)) at_end reads (span initial now before after S H) writes
+last_whole {S = S} {H = H} a c reads writes at_end front line text given number p q initial was now before mid after failed f numbered taken few ended l told =
     let input : List ℕ = front ++ line in
     let next = front_next front text line given p q initial was now before mid after f l told.0 (λ done w table s. told.1 done w table s) in
     let same : number + 1 ≡ given + 1 + 1 = ap (λ k. k + 1) numbered in
@@ -156,17 +157,17 @@ last_whole a c reads writes at_end front line text given number p q initial was 
         ended,
         few,
         ap (λ k. behind_lines k input) same ∙ then_none (given + 1) input behind,
-        at_number (script_of input) (number + 1) (given + 1 + 1) q initial now before after same (subst (λ (s : Script). Reached table true s [] (given + 1 + 1) q (span initial now before after)) script (next.reached table true [])),
+        at_number (script_of input) (number + 1) (given + 1 + 1) q initial now before after same (subst (λ (s : Script). Reached table true s [] (given + 1 + 1) q (span initial now before after S H)) script (next.reached table true [])),
       ),
     )
 
-last_part : (a c : Option (List ℕ)) (reads writes at_end : Type 0) (front line text : List ℕ) (given number : ℕ) (p q : Player) (initial was now : List Device) (before mid after : Option (List ℕ)) (failed : Type 0)
-    → FrontPlayed front given p initial was before mid → number ≡ given + 1 → Takes a c (front ++ line) → length (front ++ line) ≤ most_used_bytes → at_end
-    → IsLastLine text line → PlaysText (Ok tt) text (given + 1) p q initial was now mid after failed → Comes a c (Ok (q, number + 1)) at_end reads initial now before after writes
-last_part a c reads writes at_end front line text given number p q initial was now before mid after failed f numbered taken few ended l told =
+last_part : {S G H : Saw} (a c : Option (List ℕ)) (reads writes at_end : Type 0) (front line text : List ℕ) (given number : ℕ) (p q : Player) (initial was now : List Device) (before mid after : Option (List ℕ)) (failed : Type 0)
+    → FrontPlayed front given p initial was before mid S G → number ≡ given + 1 → Takes a c (front ++ line) → length (front ++ line) ≤ most_used_bytes → at_end
+    → IsLastLine text line → PlaysText (Ok tt) text (given + 1) initial (replay_state p was mid G) (replay_state q now after H) failed → Comes a c (Ok (q, number + 1)) at_end reads (span initial now before after S H) writes
+last_part {S = S} {H = H} a c reads writes at_end front line text given number p q initial was now before mid after failed f numbered taken few ended l told =
     let input : List ℕ = front ++ line in
     let script : Script = script_from true first_place 1 (lines front ++ text ∷ []) in
-    let next : (table : List Row) → Reached table true script [] (given + 1 + 1) q (span initial now before after) =
+    let next : (table : List Row) → Reached table true script [] (given + 1 + 1) q (span initial now before after S H) =
     λ table. let r = f.reached table true (text ∷ []) in reached_next true script [] text (given + 1) p q initial was now before mid after r told.0 (told.1 r.done r.last table r.stood) in
     let same : number + 1 ≡ given + 1 + 1 = ap (λ k. k + 1) numbered in
     let spelled : script ≡ script_of input = ap (λ (ls : List (List ℕ)). script_from true first_place 1 ls) (sym (last_text front text line f.is l)) ∙ sym (script_all input few) in (
@@ -176,14 +177,14 @@ last_part a c reads writes at_end front line text given number p q initial was n
         ended,
         few,
         ap (λ k. behind_lines k input) same ∙ then_none (given + 1) input (behind_last front text line given f.behind l),
-        at_number (script_of input) (number + 1) (given + 1 + 1) q initial now before after same (subst (λ (s : Script). Reached table true s [] (given + 1 + 1) q (span initial now before after)) spelled (next table)),
+        at_number (script_of input) (number + 1) (given + 1 + 1) q initial now before after same (subst (λ (s : Script). Reached table true s [] (given + 1 + 1) q (span initial now before after S H)) spelled (next table)),
       ),
     )
 
-pub lines_last : (a b c : Option (List ℕ)) (reads writes : Type 0) (old new : Reading) (more : List ℕ) (number : ℕ) (p q : Player) (initial was now : List Device) (before mid after : Option (List ℕ)) (at_end failed : Type 0)
-    → LinesRead a b old number p initial was before mid → Takes b c more → Gives (old.ahead ++ more) old new at_end → new.last ≡ true
-    → PlaysText (Ok tt) new.text (old.number + 1) p q initial was now mid after failed → Comes a c (Ok (q, number + 1)) at_end reads initial now before after writes
-lines_last a b c reads writes old new more number p q initial was now before mid after at_end failed i taken g last told =
+pub lines_last : {S G H : Saw} (a b c : Option (List ℕ)) (reads writes : Type 0) (old new : Reading) (more : List ℕ) (number : ℕ) (p q : Player) (initial was now : List Device) (before mid after : Option (List ℕ)) (at_end failed : Type 0)
+    → LinesRead a b old number p initial was before mid S G → Takes b c more → Gives (old.ahead ++ more) old new at_end → new.last ≡ true
+    → PlaysText (Ok tt) new.text (old.number + 1) initial (replay_state p was mid G) (replay_state q now after H) failed → Comes a c (Ok (q, number + 1)) at_end reads (span initial now before after S H) writes
+lines_last {G = G} {H = H} a b c reads writes old new more number p q initial was now before mid after at_end failed i taken g last told =
     let e = g.last last in
     let line = g.first.line in
     let parts : old.ahead ++ more ≡ line ++ [] = g.first.parts ∙ ap (λ (xs : List ℕ). line ++ xs) e.1 in
@@ -195,5 +196,5 @@ lines_last a b c reads writes old new more number p q initial was now before mid
     (λ l. last_part a c reads writes at_end i.front line new.text i.given number p q initial was now before mid after failed i.played i.numbered all few e.0 l.0 plays)
     g.first.is
   where
-    at_given : (text : List ℕ) (n given : ℕ) (p q : Player) (initial was now : List Device) (mid after : Option (List ℕ)) (failed : Type 0) → n ≡ given → PlaysText (Ok tt) text (n + 1) p q initial was now mid after failed → PlaysText (Ok tt) text (given + 1) p q initial was now mid after failed
+    at_given : (text : List ℕ) (n given : ℕ) (p q : Player) (initial was now : List Device) (mid after : Option (List ℕ)) (failed : Type 0) → n ≡ given → PlaysText (Ok tt) text (n + 1) initial (replay_state p was mid G) (replay_state q now after H) failed → PlaysText (Ok tt) text (given + 1) initial (replay_state p was mid G) (replay_state q now after H) failed
     at_given text n given p q initial was now mid after failed e told = (told.0, λ done w table s. told.1 done w table s)

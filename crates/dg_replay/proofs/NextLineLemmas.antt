@@ -1,7 +1,7 @@
 -- The next line of a script: what was played with it, and how far a replay came.
 use Rattle.std.proofs.Common.{◌≡◌, ◌≢◌, ◌⊎◌, inl, inr, ℕ, ◌+◌, ◌≤◌, Bool, true, false, List, [], ◌∷◌, ◌++◌, length, map, take, drop, length-append, refl, append-nil, append_assoc, ap, sym, ◌∙◌, subst, arith}
 use Rattle.std.specs.Prelude.{Option, Some, None, Result, Ok, Err, IfSome, nat_lt, if◌then◌else◌}
-use Rattle.std.proofs.lemmas.List.{take-append-drop, map-append}
+use Rattle.std.proofs.lemmas.List.{take-append-drop, take_at, take_all, length-map, map-append}
 use Rattle.dg_base.proofs.OutsideLemmas.{Puts-join, PutsFront-nil}
 use Rattle.dg_base.specs.Outside.{Puts, PutsFront}
 use Rattle.dg_nor.specs.Device.{Device}
@@ -23,12 +23,14 @@ use Rattle.dg_replay.specs.Ending.{events_in, InBounds}
 use Rattle.dg_replay.specs.Replayed.{Progress, AtTooMany, RunsTo, item_played, played_text}
 use Rattle.dg_replay.specs.Playing.{InWorld, RunsOn, RunsFrom, LineBegun, IsOneTooMany}
 use Rattle.dg_replay.specs.Replaying.{TextPlayed, TextReported, Reached, PlayedFront}
-use Rattle.dg_replay.specs.Stages.{based_on, done_so_far, replay_state, span}
+use Rattle.dg_replay.specs.Shown.{Saw, GoesOnSeen, stores_in, events_played}
+use Rattle.dg_replay.specs.Stages.{based_on, done_so_far, line_told, replay_state, span}
 use Rattle.dg_replay.specs.declared.player.Player.{Player}
 use Rattle.dg_replay.specs.Untouched.{TextKeepsBytes}
 use Rattle.dg_replay.proofs.BytesLemmas.{keeps_next}
 use Rattle.dg_replay.proofs.ItemLemmas.{some_is, items_next, begin_next, plays_append, played_more, runs_from_none, run_counts}
 use Rattle.dg_world.specs.Mounted.{StandFor}
+use Rattle.dg_replay.proofs.ShownLemmas.{IsFirst, begins_first, shows_from}
 use Rattle.dg_replay.proofs.StandLemmas.{few_in, grounded_next}
 
 -- an answer that is another one
@@ -96,24 +98,26 @@ too_many_played ground done (Some v) ps left run full = record { events = sym (r
 -- ---- a run goes on
 
 -- a run to a world, and items that run from there
-pub record Over (o : Option World) (ps : List Played) (items : List Item) (v : Option World) (t : List ℕ) : Type 0 where
+pub record Over (o : Option World) (ps : List Played) (items : List Item) (v : Option World) (t : List ℕ) (before after : Saw) : Type 0 where
   pub now : List Played
   pub are : map item_played now ≡ items
   pub run : RunsTo o (ps ++ now) v
   pub reported : t ≡ played_text now
   pub few : IfSome v (λ u. u.events ≤ most_events)
+  pub shown : GoesOnSeen before after o ps o (ps ++ now)
 
-over : (o w : Option World) (ps : List Played) (items : List Item) (v : Option World) (t : List ℕ) → RunsTo o ps w → RunsFrom w items v t → Over o ps items v t
-over o None ps items v t run (none, is, told) =
+over : {G H : Saw} (o w : Option World) (ps : List Played) (items : List Item) (v : Option World) (t : List ℕ) → IfSome o IsFirst → RunsTo o ps w → RunsFrom w items v (line_told t G H) → Over o ps items v t G H
+over {H = H} o None ps items v t first run (none, is, told, stays) =
     record {
       now = [];
       are = sym none;
       run = subst (λ (x : Option World). RunsTo o (ps ++ []) x) (sym is) (subst (λ (xs : List Played). RunsTo o xs None) (sym (append-nil ps)) run);
       reported = told;
       few = subst (λ (x : Option World). IfSome x (λ u. u.events ≤ most_events)) (sym is) tt;
+      shown = λ f. subst (λ (xs : List Played). H (stores_in o) (events_played xs)) (sym (append-nil ps)) (stays (stores_in o) (events_played ps) f);
     }
-over None (Some w) ps items v t run from = absurd (let e : Some w ≡ None = run.1 in cc)
-over (Some w0) (Some w) ps items v t (u, is, plays) (z, at, runs) =
+over None (Some w) ps items v t first run from = absurd (let e : Some w ≡ None = run.1 in cc)
+over {G = G} {H = H} (Some w0) (Some w) ps items v t begins (u, is, plays) (z, at, runs, shown) =
     let first : Plays w0 ps w = subst (λ (x : World). Plays w0 ps x) (sym (some_is w u is)) plays in
     record {
       now = runs.played;
@@ -121,6 +125,7 @@ over (Some w0) (Some w) ps items v t (u, is, plays) (z, at, runs) =
       run = subst (λ (x : Option World). RunsTo (Some w0) (ps ++ runs.played) x) (sym at) (z, refl, plays_append w0 w z ps runs.played first runs.run);
       reported = runs.reported;
       few = subst (λ (x : Option World). IfSome x (λ u. u.events ≤ most_events)) (sym at) runs.few;
+      shown = shows_from G H (Some w0) ps runs.played w begins (u, is, plays) shown;
     }
 
 -- where nothing is played, nothing is told
@@ -129,7 +134,7 @@ none_told [] e = refl
 none_told (p ∷ ps) e = cc
 
 -- what is reported of items is reported of some
-pub begun_some : (o v : Option World) (ps : List Played) (begun : List Item) (t : List ℕ) → Over o ps begun v t → t ≢ [] → begun ≢ []
+pub begun_some : {G H : Saw} (o v : Option World) (ps : List Played) (begun : List Item) (t : List ℕ) → Over o ps begun v t G H → t ≢ [] → begun ≢ []
 begun_some o v ps begun t x some none = some (x.reported ∙ none_told x.now (x.are ∙ none))
 
 -- ---- the next line
@@ -157,12 +162,13 @@ pub few_items : (done : List Line) (ps : List Played) → map item_played ps ≡
 few_items done ps items few = subst (λ (xs : List Item). events_among xs ≤ most_events) (sym items) few
 
 -- the next line was played, and what is reported of it was written
-pub reached_next : {table : List Row} (ends : Bool) (script : Script) (texts : List (List ℕ)) (text : List ℕ) (n : ℕ) (p q : Player) (initial old now : List Device) (before mid after : Option (List ℕ))
-    → (r : Reached table ends script (text ∷ texts) n p (span initial old before mid)) → TextKeepsBytes p.place text old now → TextReported (based_on table initial) text (done_so_far r.done r.last) (replay_state p old mid) (replay_state q now after) → Reached table ends script texts (n + 1) q (span initial now before after)
+pub reached_next : {table : List Row} {S G H : Saw} (ends : Bool) (script : Script) (texts : List (List ℕ)) (text : List ℕ) (n : ℕ) (p q : Player) (initial old now : List Device) (before mid after : Option (List ℕ))
+    → (r : Reached table ends script (text ∷ texts) n p (span initial old before mid S G)) → TextKeepsBytes p.place text old now → TextReported (based_on table initial) text (done_so_far r.done r.last) (replay_state p old mid G) (replay_state q now after H) → Reached table ends script texts (n + 1) q (span initial now before after S H)
 reached_next ends script texts text n p q initial old now before mid after r kept t =
     let line = t.played.line in
     let to = t.played.to in
-    let on = to.runs r.ground r.played r.grounded r.items r.run in
+    let goes = to.runs r.ground r.played r.grounded r.items r.run in
+    let on = goes.on in
     record {
       done = r.done ++ line ∷ [];
       played = on.now;
@@ -175,6 +181,7 @@ reached_next ends script texts text n p q initial old now before mid after r kep
       grounded = on.grounded;
       run = on.run;
       reported = subst (λ (xs : List ℕ). Puts before after xs) (ap (λ (xs : List ℕ). played_text r.played ++ xs) to.report_now ∙ sym on.reported) (Puts-join before mid after _ _ r.reported t.written);
+      seen = λ f. goes.shown (r.seen f);
       stood = to.stood;
       few = few_lines (r.done ++ line ∷ []) on.now on.items (few_next on.ground (r.done ++ line ∷ []) to.world on.now q now on.run to.stood.world);
       untouched = keeps_next p.place r.done line initial old now r.stood.place r.untouched (kept line t.played.spelled);
@@ -199,6 +206,17 @@ front_put script initial before mid after ps t came told tells put limits stood 
       there = there k;
     }
 
+-- what is reported of the lines that were done before is what was told then
+pub told_front : (done all : List Line) (ps behind : List Played) → take (length done) all ≡ done → map item_played ps ≡ items_of done → played_text (take (length (items_of (take (length done) all))) (ps ++ behind)) ≡ played_text ps
+told_front done all ps behind front items =
+    let count : length ps ≡ length (items_of done) = sym (length-map ps item_played) ∙ ap length items in
+    ap (λ (ls : List Line). played_text (take (length (items_of ls)) (ps ++ behind))) front ∙ ap played_text (take_at ps behind (length (items_of done)) count)
+
+pub told_all : (done : List Line) (ps : List Played) → map item_played ps ≡ items_of done → played_text (take (length (items_of (take (length done) done))) ps) ≡ played_text ps
+told_all done ps items =
+    let count : length ps ≡ length (items_of done) = sym (length-map ps item_played) ∙ ap length items in
+    ap (λ (ls : List Line). played_text (take (length (items_of ls)) ps)) (take_all (length done) done (omega arith)) ∙ ap played_text (take_all (length (items_of done)) ps (omega (arith, count)))
+
 -- nothing more was written
 pub front_kept : (before after : Option (List ℕ)) (t : List ℕ) → after ≡ before → PutsFront before after t
 front_kept before after t none = subst (λ (o : Option (List ℕ)). PutsFront before o t) (sym none) (PutsFront-nil before t)
@@ -210,7 +228,7 @@ all_put before mid after ps qs t told tells put = subst (λ (xs : List ℕ). Put
 -- ---- how far a replay came
 
 -- It began no line behind those that were done.
-abbrev pub at_line : {table : List Row} (ends : Bool) (script : Script) (texts : List (List ℕ)) (n : ℕ) (p : Player) (initial now : List Device) (before mid : Option (List ℕ)) → Reached table ends script texts n p (span initial now before mid) → Progress table script
+abbrev pub at_line : {table : List Row} {S G : Saw} (ends : Bool) (script : Script) (texts : List (List ℕ)) (n : ℕ) (p : Player) (initial now : List Device) (before mid : Option (List ℕ)) → Reached table ends script texts n p (span initial now before mid S G) → Progress table script
 at_line ends script texts n p initial now before mid r =
     record {
       done = r.done;
@@ -229,9 +247,9 @@ at_line ends script texts n p initial now before mid r =
     }
 
 -- It played one more line.
-abbrev pub behind_line : {table : List Row} (ends : Bool) (script : Script) (texts : List (List ℕ)) (text : List ℕ) (n : ℕ) (p q : Player) (initial old now : List Device) (before mid : Option (List ℕ))
-    → (r : Reached table ends script (text ∷ texts) n p (span initial old before mid)) → (t : TextPlayed (based_on table initial) text (done_so_far r.done r.last) p q now) → RunsOn table initial r.done t.line t.to.world t.to.text r.played → Progress table script
-behind_line ends script texts text n p q initial old now before mid r t on =
+abbrev pub behind_line : {table : List Row} {S G H : Saw} (ends : Bool) (script : Script) (texts : List (List ℕ)) (text : List ℕ) (n : ℕ) (p q : Player) (initial old now : List Device) (before mid after : Option (List ℕ))
+    → (r : Reached table ends script (text ∷ texts) n p (span initial old before mid S G)) → (t : TextPlayed (based_on table initial) text (done_so_far r.done r.last) (replay_state p old mid G) (replay_state q now after H)) → RunsOn table initial r.done t.line t.to.world t.to.text r.played → Progress table script
+behind_line ends script texts text n p q initial old now before mid after r t on =
     record {
       done = r.done ++ t.line ∷ [];
       rest = (script_from ends q.place (n + 1) texts).lines;
@@ -252,8 +270,8 @@ pub items_over : (done : List Line) (ps now : List Played) (items : List Item) �
 items_over done ps now items first next = map-append item_played ps now ∙ ap (λ (xs : List Item). xs ++ map item_played now) first ∙ ap (λ (xs : List Item). items_of done ++ xs) next
 
 -- It began the next line.
-abbrev pub in_line : {table : List Row} {P : Option World → List Item → List ℕ → Type 0} (ends : Bool) (script : Script) (texts : List (List ℕ)) (text : List ℕ) (n : ℕ) (p : Player) (initial old : List Device) (before mid : Option (List ℕ)) (line : Line)
-    → (r : Reached table ends script (text ∷ texts) n p (span initial old before mid)) → line_of p.place text ≡ Ok line → (b : LineBegun r.done line r.last P) → Over (beginning_of r.ground r.done).world r.played b.begun b.world b.text → (b.left ≡ [] → b.begun ≡ []) → Progress table script
+abbrev pub in_line : {table : List Row} {S G H : Saw} {P : Option World → List Item → List ℕ → Type 0} (ends : Bool) (script : Script) (texts : List (List ℕ)) (text : List ℕ) (n : ℕ) (p : Player) (initial old : List Device) (before mid : Option (List ℕ)) (line : Line)
+    → (r : Reached table ends script (text ∷ texts) n p (span initial old before mid S G)) → line_of p.place text ≡ Ok line → (b : LineBegun r.done line r.last G H P) → Over (beginning_of r.ground r.done).world r.played b.begun b.world b.text G H → (b.left ≡ [] → b.begun ≡ []) → Progress table script
 in_line ends script texts text n p initial old before mid line r spelled b o within =
     record {
       done = r.done;
@@ -271,14 +289,14 @@ in_line ends script texts text n p initial old before mid line r spelled b o wit
       run = o.run;
     }
 
-pub run_of : {table : List Row} {P : Option World → List Item → List ℕ → Type 0} (ends : Bool) (script : Script) (texts : List (List ℕ)) (text : List ℕ) (n : ℕ) (p : Player) (initial old : List Device) (before mid : Option (List ℕ)) (line : Line)
-    → (r : Reached table ends script (text ∷ texts) n p (span initial old before mid)) → (b : LineBegun r.done line r.last P) → Over (beginning_of r.ground r.done).world r.played b.begun b.world b.text
-run_of ends script texts text n p initial old before mid line r b = over (beginning_of r.ground r.done).world r.last r.played b.begun b.world b.text r.run b.runs
+pub run_of : {table : List Row} {S G H : Saw} {P : Option World → List Item → List ℕ → Type 0} (ends : Bool) (script : Script) (texts : List (List ℕ)) (text : List ℕ) (n : ℕ) (p : Player) (initial old : List Device) (before mid : Option (List ℕ)) (line : Line)
+    → (r : Reached table ends script (text ∷ texts) n p (span initial old before mid S G)) → (b : LineBegun r.done line r.last G H P) → Over (beginning_of r.ground r.done).world r.played b.begun b.world b.text G H
+run_of ends script texts text n p initial old before mid line r b = over (beginning_of r.ground r.done).world r.last r.played b.begun b.world b.text (begins_first r.ground r.done) r.run b.runs
 
-pub over_tells : (o v : Option World) (ps : List Played) (items : List Item) (t : List ℕ) → (x : Over o ps items v t) → played_text (ps ++ x.now) ≡ played_text ps ++ t
+pub over_tells : {G H : Saw} (o v : Option World) (ps : List Played) (items : List Item) (t : List ℕ) → (x : Over o ps items v t G H) → played_text (ps ++ x.now) ≡ played_text ps ++ t
 over_tells o v ps items t x = played_more ps x.now ∙ ap (λ (xs : List ℕ). played_text ps ++ xs) (sym x.reported)
 
-pub over_bounds : (boards : ℕ) (ground : Ground) (done : List Line) (v : Option World) (ps : List Played) (items : List Item) (t : List ℕ) → lacking boards done ≡ None → (x : Over (beginning_of ground done).world ps items v t) → InBounds boards done (map item_played (ps ++ x.now))
+pub over_bounds : {G H : Saw} (boards : ℕ) (ground : Ground) (done : List Line) (v : Option World) (ps : List Played) (items : List Item) (t : List ℕ) → lacking boards done ≡ None → (x : Over (beginning_of ground done).world ps items v t G H) → InBounds boards done (map item_played (ps ++ x.now))
 over_bounds boards ground done v ps items t none x =
     record { boards_enough = none; few_events = few_played ground done v (ps ++ x.now) x.run x.few }
 
@@ -323,8 +341,12 @@ pub run_with : (ground : Ground) (done : List Line) (line : Line) (ps : List Pla
 run_with ground done line ps v busy run =
     subst (λ (o : Option World). RunsTo o ps v) (sym (ap (λ (b : Beginning). b.world) (begin_next ground _ done line) ∙ busy.begins ground (beginning_of ground done))) run
 
-abbrev pub all_of_line : {table : List Row} (ends : Bool) (script : Script) (texts : List (List ℕ)) (text : List ℕ) (n : ℕ) (p : Player) (initial old : List Device) (before mid : Option (List ℕ)) (line : Line) (begun : List Item) (v : Option World) (t : List ℕ)
-    → (r : Reached table ends script (text ∷ texts) n p (span initial old before mid)) → line_of p.place text ≡ Ok line → item_by (place_behind first_place r.done) line ≡ begun → IsBusy line → Over (beginning_of r.ground r.done).world r.played begun v t → Progress table script
+pub busy_seen : (H : Saw) (ground : Ground) (done : List Line) (line : Line) (ps : List Played) → IsBusy line → H (stores_in (beginning_of ground done).world) (events_played ps) → H (stores_in (beginning_of ground (done ++ line ∷ [])).world) (events_played ps)
+busy_seen H ground done line ps busy seen =
+    subst (λ (o : Option World). H (stores_in o) (events_played ps)) (sym (ap (λ (b : Beginning). b.world) (begin_next ground _ done line) ∙ busy.begins ground (beginning_of ground done))) seen
+
+abbrev pub all_of_line : {table : List Row} {S G H : Saw} (ends : Bool) (script : Script) (texts : List (List ℕ)) (text : List ℕ) (n : ℕ) (p : Player) (initial old : List Device) (before mid : Option (List ℕ)) (line : Line) (begun : List Item) (v : Option World) (t : List ℕ)
+    → (r : Reached table ends script (text ∷ texts) n p (span initial old before mid S G)) → line_of p.place text ≡ Ok line → item_by (place_behind first_place r.done) line ≡ begun → IsBusy line → Over (beginning_of r.ground r.done).world r.played begun v t G H → Progress table script
 all_of_line ends script texts text n p initial old before mid line begun v t r spelled parts busy o =
     record {
       done = r.done ++ line ∷ [];

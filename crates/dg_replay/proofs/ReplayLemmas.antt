@@ -1,7 +1,7 @@
 -- What the texts of a script do, one after the other.
 use Rattle.std.proofs.Common.{◌≡◌, ◌≢◌, ◌⊎◌, inl, inr, ⊎_elim, ℕ, ◌≤◌, Bool, List, [], ◌∷◌, ◌++◌, length, map, take, length-append, refl, append-nil, append_assoc, ap, sym, ◌∙◌, subst, arith}
 use Rattle.std.specs.Prelude.{Option, Some, None, Ok, Err, IfSome}
-use Rattle.std.proofs.lemmas.List.{take_at, take_all, length-map}
+use Rattle.std.proofs.lemmas.List.{take_at, take_all}
 use Rattle.dg_base.proofs.OutsideLemmas.{Puts-nil}
 use Rattle.dg_base.specs.Outside.{Puts}
 use Rattle.dg_nor.specs.Device.{Device}
@@ -21,24 +21,25 @@ use Rattle.dg_replay.specs.Items.{UsesBoards, is_boards, begin_behind, beginning
 use Rattle.dg_replay.specs.Boards.{InSome, LacksImage, BoardsStand, StoppedIn}
 use Rattle.dg_replay.specs.Ending.{events_in}
 use Rattle.dg_base.specs.declared.answers.Status.TheVariants as status
-use Rattle.dg_replay.specs.Replayed.{Progress, AtTooMany, NoImageThere, BoardStoppedThere, BoardsLeft, Untouched, item_played, played_text}
+use Rattle.dg_replay.specs.Replayed.{Progress, AtTooMany, NoImageThere, BoardStoppedThere, BoardsLeft, item_played, played_text}
 use Rattle.dg_replay.specs.Playing.{InWorld, Stood, Ready, Joined, RunsOn, RunsFrom, LineBegun, IsOneTooMany}
-use Rattle.dg_replay.specs.Replaying.{TextPlayed, TextCut, TextRead, NothingDone, TextAnswer, CutAtStop, CutAtTooMany, CutAtImage, Reached, PlayedFront, PlayedUpTo, HasFew, ReportedBefore, StopsThere}
+use Rattle.dg_replay.specs.Replaying.{TextPlayed, TextCut, TextRead, NothingDone, TextAnswer, CutAtStop, CutAtTooMany, CutAtImage, Reached, PlayedFront, PlayedUpTo, HasFew, ReportedBefore, IsLeft, StopsThere}
 use Rattle.dg_replay.specs.declared.player.Player.{Player}
 use Rattle.dg_replay.specs.declared.stop.Stop.{Stop}
 use Rattle.dg_replay.specs.Untouched.{TextKeepsBytes}
 use Rattle.dg_replay.proofs.BytesLemmas.{keep_read, keeps_next, untouched_done}
 use Rattle.dg_replay.proofs.UntouchedLemmas.{kept_begun, kept_done}
-use Rattle.dg_replay.specs.Stages.{based_on, done_so_far, replay_state, line_read, span}
+use Rattle.dg_replay.specs.Shown.{Saw}
+use Rattle.dg_replay.specs.Stages.{based_on, done_so_far, LineTold, line_told, replay_state, line_read, span}
 use Rattle.dg_replay.specs.declared.stop.Stop.TheVariants.{Memory, BadInput, WriteFault, FlashFault, TooMany, NoBoard, NoImage, NotAVolume}
 use Rattle.std.specs.List.{list_any}
 use Rattle.dg_replay.proofs.StandLemmas.{grounded_next}
 use Rattle.dg_replay.proofs.GoldenRuns.{lacking_none}
 use Rattle.dg_replay.proofs.LineRanges.{IsBehind, script_fits}
-use Rattle.dg_replay.proofs.NextLineLemmas.{script_line, script_fault, lacking_append, lacking_next, too_many_played, Over, begun_some, few_next, few_items, front_put, front_kept, all_put, at_line, behind_line, in_line, run_of, over_tells, over_bounds, Choice, choose, IsBusy, busy, all_of_line, some_left, lacks_left, uses_or}
+use Rattle.dg_replay.proofs.NextLineLemmas.{told_front, told_all, script_line, script_fault, lacking_append, lacking_next, too_many_played, Over, begun_some, few_next, few_items, front_put, front_kept, all_put, at_line, behind_line, in_line, run_of, over_tells, over_bounds, Choice, choose, IsBusy, busy, busy_seen, all_of_line, some_left, lacks_left, uses_or}
 
 -- its boards are formatted
-begun_world : (P : World → Type 0) (p : Player) (w v : Option World) (items : List Item) (t : List ℕ) (now : List Device) → InSome v P → RunsFrom w items v t → InWorld p w now → IsBehind p.place
+begun_world : (P : World → Type 0) (p : Player) (w v : Option World) (items : List Item) (t : LineTold) (now : List Device) → InSome v P → RunsFrom w items v t → InWorld p w now → IsBehind p.place
 begun_world P p None v items t now there from kept = absurd (subst (λ (o : Option World). InSome o P) from.1 there)
 begun_world P p (Some w) v items t now there from kept = record { ready = kept.2; some = kept.3 }
 
@@ -66,14 +67,14 @@ stopped_more : (motes : ℕ) (line : Line) (more : List Line) (left : List Item)
 stopped_more motes line more left w initial now s = record { stopped = s.stopped; there = s.there }
 
 -- memory ran out in a line
-memory_begun : {table : List Row} (ends : Bool) (script : Script) (texts : List (List ℕ)) (text : List ℕ) (n : ℕ) (p : Player) (initial old now : List Device) (before mid after : Option (List ℕ)) (line : Line) (r : Reached table ends script (text ∷ texts) n p (span initial old before mid))
-    → TextKeepsBytes p.place text old now → line_of p.place text ≡ Ok line → (b : LineBegun r.done line r.last (λ v left t. BoardsStand v initial now)) → Choice b.begun b.left → after ≡ mid → PlayedFront table script initial before after (λ c text. BoardsStand c.last initial now × Untouched c initial now)
+memory_begun : {table : List Row} {S G H : Saw} (ends : Bool) (script : Script) (texts : List (List ℕ)) (text : List ℕ) (n : ℕ) (p : Player) (initial old now : List Device) (before mid after : Option (List ℕ)) (line : Line) (r : Reached table ends script (text ∷ texts) n p (span initial old before mid S G))
+    → TextKeepsBytes p.place text old now → line_of p.place text ≡ Ok line → (b : LineBegun r.done line r.last G H (λ v left t. BoardsStand v initial now)) → Choice b.begun b.left → after ≡ mid → PlayedFront table script initial before after (λ c text. BoardsStand c.last initial now × IsLeft (span initial now before after S H) c)
 memory_begun ends script texts text n p initial old now before mid after line r kept spelled b (inl within) none =
     let o = run_of ends script texts text n p initial old before mid line r b in
     front_put script initial before mid after r.played b.text (in_line ends script texts text n p initial old before mid line r spelled b o within) r.reported
     (over_tells (beginning_of r.ground r.done).world b.world r.played b.begun b.text o) (front_kept mid after b.text none)
-    (over_bounds (length initial) r.ground r.done b.world r.played b.begun b.text r.boards_enough o) (λ uses. (r.grounded uses).1) (λ k. (b.there, kept_begun ends script texts text n p initial old now before mid line r kept spelled b o within))
-memory_begun ends script texts text n p initial old now before mid after line r kept spelled b (inr (left, (item, items, begun))) none =
+    (over_bounds (length initial) r.ground r.done b.world r.played b.begun b.text r.boards_enough o) (λ uses. (r.grounded uses).1) (λ k. (b.there, (kept_begun ends script texts text n p initial old now before mid line r kept spelled b o within, λ f. o.shown (r.seen f))))
+memory_begun {H = H} ends script texts text n p initial old now before mid after line r kept spelled b (inr (left, (item, items, begun))) none =
     let o = run_of ends script texts text n p initial old before mid line r b in
     let parts = b.parts ∙ ap (λ (xs : List Item). b.begun ++ xs) left ∙ append-nil b.begun in
     let does : IsBusy line = busy (place_behind first_place r.done) line item items (parts ∙ begun) in
@@ -83,24 +84,19 @@ memory_begun ends script texts text n p initial old now before mid after line r 
       boards_enough = lacking_next (length initial) r.done line r.boards_enough (does.enough (length initial));
       few_events = (over_bounds (length initial) r.ground r.done b.world r.played b.begun b.text r.boards_enough o).few_events;
     }) (λ uses. (grounded_next r.ground r.done line does.plain does.counts r.grounded uses).1)
-    (λ k. (b.there, untouched_done (all_of_line ends script texts text n p initial old before mid line b.begun b.world b.text r spelled parts does o) initial now (keeps_next p.place r.done line initial old now r.stood.place r.untouched (kept line spelled))))
-
--- what is reported of the lines that were done before is what was told then
-told_front : (done all : List Line) (ps behind : List Played) → take (length done) all ≡ done → map item_played ps ≡ items_of done → played_text (take (length (items_of (take (length done) all))) (ps ++ behind)) ≡ played_text ps
-told_front done all ps behind front items =
-    let count : length ps ≡ length (items_of done) = sym (length-map ps item_played) ∙ ap length items in
-    ap (λ (ls : List Line). played_text (take (length (items_of ls)) (ps ++ behind))) front ∙ ap played_text (take_at ps behind (length (items_of done)) count)
-
-told_all : (done : List Line) (ps : List Played) → map item_played ps ≡ items_of done → played_text (take (length (items_of (take (length done) done))) ps) ≡ played_text ps
-told_all done ps items =
-    let count : length ps ≡ length (items_of done) = sym (length-map ps item_played) ∙ ap length items in
-    ap (λ (ls : List Line). played_text (take (length (items_of ls)) ps)) (take_all (length done) done (omega arith)) ∙ ap played_text (take_all (length (items_of done)) ps (omega (arith, count)))
+    (λ k. (
+      b.there,
+      (
+        untouched_done (all_of_line ends script texts text n p initial old before mid line b.begun b.world b.text r spelled parts does o) initial now (keeps_next p.place r.done line initial old now r.stood.place r.untouched (kept line spelled)),
+        λ f. busy_seen H r.ground r.done line (r.played ++ o.now) does (o.shown (r.seen f)),
+      ),
+    ))
 
 -- all that was told before a line that was played was written
-told_line : {table : List Row} (ends : Bool) (script : Script) (texts : List (List ℕ)) (text : List ℕ) (n : ℕ) (p q : Player) (initial old now : List Device) (before mid : Option (List ℕ))
-    → (r : Reached table ends script (text ∷ texts) n p (span initial old before mid)) → (t : TextPlayed (based_on table initial) text (done_so_far r.done r.last) p q now) → (on : RunsOn table initial r.done t.line t.to.world t.to.text r.played) → (told : List ℕ) (k : ℕ) → told ≡ t.to.text
-    → ReportedBefore n (behind_line ends script texts text n p q initial old now before mid r t on) (played_text r.played ++ take k told)
-told_line ends script texts text n p q initial old now before mid r t on told k same =
+told_line : {table : List Row} {S G H : Saw} (ends : Bool) (script : Script) (texts : List (List ℕ)) (text : List ℕ) (n : ℕ) (p q : Player) (initial old now : List Device) (before mid after : Option (List ℕ))
+    → (r : Reached table ends script (text ∷ texts) n p (span initial old before mid S G)) → (t : TextPlayed (based_on table initial) text (done_so_far r.done r.last) (replay_state p old mid G) (replay_state q now after H)) → (on : RunsOn table initial r.done t.line t.to.world t.to.text r.played) → (told : List ℕ) (k : ℕ) → told ≡ t.to.text
+    → ReportedBefore n (behind_line ends script texts text n p q initial old now before mid after r t on) (played_text r.played ++ take k told)
+told_line ends script texts text n p q initial old now before mid after r t on told k same =
     ⊎_elim
     (λ (none : t.to.text ≡ []).
     let all : played_text on.now ≡ played_text r.played = on.reported ∙ ap (λ (xs : List ℕ). played_text r.played ++ xs) none ∙ append-nil (played_text r.played) in
@@ -123,26 +119,30 @@ told_line ends script texts text n p q initial old now before mid r t on told k 
     on.on
 
 -- a line was played, and what is reported of it was not all written
-cut_told : {table : List Row} (ends : Bool) (script : Script) (texts : List (List ℕ)) (text : List ℕ) (n : ℕ) (p q : Player) (initial old now : List Device) (before mid after : Option (List ℕ))
-    → (r : Reached table ends script (text ∷ texts) n p (span initial old before mid)) → TextKeepsBytes p.place text old now → TextCut (based_on table initial) text (done_so_far r.done r.last) (replay_state p old mid) (replay_state q now after) → PlayedFront table script initial before after (λ c text. BoardsLeft status.WriteFault c initial now × ReportedBefore n c text × Untouched c initial now)
+cut_told : {table : List Row} {S G H : Saw} (ends : Bool) (script : Script) (texts : List (List ℕ)) (text : List ℕ) (n : ℕ) (p q : Player) (initial old now : List Device) (before mid after : Option (List ℕ))
+    → (r : Reached table ends script (text ∷ texts) n p (span initial old before mid S G)) → TextKeepsBytes p.place text old now → TextCut (based_on table initial) text (done_so_far r.done r.last) (replay_state p old mid G) (replay_state q now after H) → PlayedFront table script initial before after (λ c text. BoardsLeft status.WriteFault c initial now × ReportedBefore n c text × IsLeft (span initial now before after S H) c)
 cut_told ends script texts text n p q initial old now before mid after r kept t =
     let to = t.played.to in
     let line = t.played.line in
-    let on = to.runs r.ground r.played r.grounded r.items r.run in
-    front_put script initial before mid after r.played t.played.reported (behind_line ends script texts text n p q initial old now before mid r t.played on) r.reported
+    let goes = to.runs r.ground r.played r.grounded r.items r.run in
+    let on = goes.on in
+    front_put script initial before mid after r.played t.played.reported (behind_line ends script texts text n p q initial old now before mid after r t.played on) r.reported
     (on.reported ∙ ap (λ (xs : List ℕ). played_text r.played ++ xs) (sym to.report_now)) t.written
     (record {
       boards_enough = lacking_next (length initial) r.done line r.boards_enough to.boards_enough;
       few_events = few_next on.ground (r.done ++ line ∷ []) to.world on.now q now on.run to.stood.world;
     }) (λ uses. (on.grounded uses).1) (λ k. (
       inl to.stood.boards,
-      told_line ends script texts text n p q initial old now before mid r t.played on t.played.reported k to.report_now,
-      untouched_done (behind_line ends script texts text n p q initial old now before mid r t.played on) initial now (keeps_next p.place r.done line initial old now r.stood.place r.untouched (kept line t.played.spelled)),
+      told_line ends script texts text n p q initial old now before mid after r t.played on t.played.reported k to.report_now,
+      (
+        untouched_done (behind_line ends script texts text n p q initial old now before mid after r t.played on) initial now (keeps_next p.place r.done line initial old now r.stood.place r.untouched (kept line t.played.spelled)),
+        λ f. goes.shown (r.seen f),
+      ),
     ))
 
 -- all that was told before a line that was begun was written
-told_begun : {table : List Row} {P : Option World → List Item → List ℕ → Type 0} (ends : Bool) (script : Script) (texts : List (List ℕ)) (text : List ℕ) (n : ℕ) (p : Player) (initial old : List Device) (before mid : Option (List ℕ)) (line : Line)
-    → (r : Reached table ends script (text ∷ texts) n p (span initial old before mid)) → (spelled : line_of p.place text ≡ Ok line) → (b : LineBegun r.done line r.last P) → (o : Over (beginning_of r.ground r.done).world r.played b.begun b.world b.text) → (within : b.left ≡ [] → b.begun ≡ []) → (k : ℕ)
+told_begun : {table : List Row} {S G H : Saw} {P : Option World → List Item → List ℕ → Type 0} (ends : Bool) (script : Script) (texts : List (List ℕ)) (text : List ℕ) (n : ℕ) (p : Player) (initial old : List Device) (before mid : Option (List ℕ)) (line : Line)
+    → (r : Reached table ends script (text ∷ texts) n p (span initial old before mid S G)) → (spelled : line_of p.place text ≡ Ok line) → (b : LineBegun r.done line r.last G H P) → (o : Over (beginning_of r.ground r.done).world r.played b.begun b.world b.text G H) → (within : b.left ≡ [] → b.begun ≡ []) → (k : ℕ)
     → ReportedBefore n (in_line ends script texts text n p initial old before mid line r spelled b o within) (played_text r.played ++ take k b.text)
 told_begun ends script texts text n p initial old before mid line r spelled b o within k = record {
   lines = length r.done;
@@ -153,10 +153,10 @@ told_begun ends script texts text n p initial old before mid line r spelled b o 
 }
 
 -- a line was begun, and so
-cut_begun : {table : List Row} (ends : Bool) (script : Script) (texts : List (List ℕ)) (text : List ℕ) (n : ℕ) (p : Player) (initial old now : List Device) (before mid after : Option (List ℕ)) (line : Line) (r : Reached table ends script (text ∷ texts) n p (span initial old before mid))
-    → TextKeepsBytes p.place text old now → line_of p.place text ≡ Ok line → (b : LineBegun r.done line r.last (λ v left t. CutAtStop r.done line v left t (span initial now mid after) ⊎ (CutAtTooMany v left t (span initial now mid after) ⊎ CutAtImage v left t (span initial now mid after))))
-    → CutAtStop r.done line b.world b.left b.text (span initial now mid after) ⊎ (CutAtTooMany b.world b.left b.text (span initial now mid after) ⊎ CutAtImage b.world b.left b.text (span initial now mid after))
-    → (InSome b.world (λ u. LacksImage u b.left initial now) → UsesBoards r.done) → PlayedFront table script initial before after (λ c text. BoardsLeft status.WriteFault c initial now × ReportedBefore n c text × Untouched c initial now)
+cut_begun : {table : List Row} {S G H : Saw} (ends : Bool) (script : Script) (texts : List (List ℕ)) (text : List ℕ) (n : ℕ) (p : Player) (initial old now : List Device) (before mid after : Option (List ℕ)) (line : Line) (r : Reached table ends script (text ∷ texts) n p (span initial old before mid S G))
+    → TextKeepsBytes p.place text old now → line_of p.place text ≡ Ok line → (b : LineBegun r.done line r.last G H (λ v left t. CutAtStop r.done line v left t (span initial now mid after G H) ⊎ (CutAtTooMany v left t (span initial now mid after G H) ⊎ CutAtImage v left t (span initial now mid after G H))))
+    → CutAtStop r.done line b.world b.left b.text (span initial now mid after G H) ⊎ (CutAtTooMany b.world b.left b.text (span initial now mid after G H) ⊎ CutAtImage b.world b.left b.text (span initial now mid after G H))
+    → (InSome b.world (λ u. LacksImage u b.left initial now) → UsesBoards r.done) → PlayedFront table script initial before after (λ c text. BoardsLeft status.WriteFault c initial now × ReportedBefore n c text × IsLeft (span initial now before after S H) c)
 cut_begun ends script texts text n p initial old now before mid after line r kept spelled b (inl (some, stop, cut)) uses =
     let o = run_of ends script texts text n p initial old before mid line r b in
     let within = stop_within (place_behind first_place r.done) line (motes_in r.done) b.begun b.left b.world initial now b.parts stop in
@@ -166,7 +166,7 @@ cut_begun ends script texts text n p initial old now before mid after line r kep
     (λ k. (
       inr (inl (begun_some (beginning_of r.ground r.done).world b.world r.played b.begun b.text o some, stopped_more (motes_in r.done) line _ b.left b.world initial now stop)),
       told_begun ends script texts text n p initial old before mid line r spelled b o within k,
-      kept_begun ends script texts text n p initial old now before mid line r kept spelled b o within,
+      (kept_begun ends script texts text n p initial old now before mid line r kept spelled b o within, λ f. o.shown (r.seen f)),
     ))
 cut_begun ends script texts text n p initial old now before mid after line r kept spelled b (inr (inl (full, boards, cut))) uses =
     let o = run_of ends script texts text n p initial old before mid line r b in
@@ -176,7 +176,7 @@ cut_begun ends script texts text n p initial old now before mid after line r kep
     (λ k. (
       inl boards,
       told_begun ends script texts text n p initial old before mid line r spelled b o (λ none. absurd (some_left b.world b.left full none)) k,
-      kept_begun ends script texts text n p initial old now before mid line r kept spelled b o (λ none. absurd (some_left b.world b.left full none)),
+      (kept_begun ends script texts text n p initial old now before mid line r kept spelled b o (λ none. absurd (some_left b.world b.left full none)), λ f. o.shown (r.seen f)),
     ))
 cut_begun ends script texts text n p initial old now before mid after line r kept spelled b (inr (inr (some, lacks, cut))) uses =
     let o = run_of ends script texts text n p initial old before mid line r b in
@@ -187,12 +187,12 @@ cut_begun ends script texts text n p initial old now before mid after line r kep
     (λ k. (
       inr (inr (inr (uses lacks, lacks))),
       told_begun ends script texts text n p initial old before mid line r spelled b o within k,
-      kept_begun ends script texts text n p initial old now before mid line r kept spelled b o within,
+      (kept_begun ends script texts text n p initial old now before mid line r kept spelled b o within, λ f. o.shown (r.seen f)),
     ))
 
 -- all that was told before a line that was begun was told, whatever follows all that is reported of that
-image_told : {table : List Row} {P : Option World → List Item → List ℕ → Type 0} (ends : Bool) (script : Script) (texts : List (List ℕ)) (text : List ℕ) (n : ℕ) (p : Player) (initial old : List Device) (before mid : Option (List ℕ)) (line : Line)
-    → (r : Reached table ends script (text ∷ texts) n p (span initial old before mid)) → (spelled : line_of p.place text ≡ Ok line) → (b : LineBegun r.done line r.last P) → (o : Over (beginning_of r.ground r.done).world r.played b.begun b.world b.text) → (within : b.left ≡ [] → b.begun ≡ []) → (more : List ℕ)
+image_told : {table : List Row} {S G H : Saw} {P : Option World → List Item → List ℕ → Type 0} (ends : Bool) (script : Script) (texts : List (List ℕ)) (text : List ℕ) (n : ℕ) (p : Player) (initial old : List Device) (before mid : Option (List ℕ)) (line : Line)
+    → (r : Reached table ends script (text ∷ texts) n p (span initial old before mid S G)) → (spelled : line_of p.place text ≡ Ok line) → (b : LineBegun r.done line r.last G H P) → (o : Over (beginning_of r.ground r.done).world r.played b.begun b.world b.text G H) → (within : b.left ≡ [] → b.begun ≡ []) → (more : List ℕ)
     → ReportedBefore n (in_line ends script texts text n p initial old before mid line r spelled b o within) (played_text (r.played ++ o.now) ++ more)
 image_told ends script texts text n p initial old before mid line r spelled b o within more = record {
   lines = length r.done;
@@ -204,9 +204,9 @@ image_told ends script texts text n p initial old before mid line r spelled b o 
 }
 
 -- an event of a line found no image to start
-image_begun : {table : List Row} (ends : Bool) (script : Script) (texts : List (List ℕ)) (text : List ℕ) (n : ℕ) (p : Player) (initial old now : List Device) (before mid after : Option (List ℕ)) (line : Line) (r : Reached table ends script (text ∷ texts) n p (span initial old before mid))
-    → TextKeepsBytes p.place text old now → line_of p.place text ≡ Ok line → UsesBoards r.done → LineBegun r.done line r.last (λ v left t. InSome v (λ u. LacksImage u left initial now) × Puts mid after t)
-    → PlayedUpTo table script initial before after (λ c. ((line : Line) × (more : List Line) × (c.rest ≡ line ∷ more)) × UsesBoards c.done × NoImageThere c initial now × ((more : List ℕ) → ReportedBefore n c (played_text c.played ++ more)) × Untouched c initial now)
+image_begun : {table : List Row} {S G H : Saw} (ends : Bool) (script : Script) (texts : List (List ℕ)) (text : List ℕ) (n : ℕ) (p : Player) (initial old now : List Device) (before mid after : Option (List ℕ)) (line : Line) (r : Reached table ends script (text ∷ texts) n p (span initial old before mid S G))
+    → TextKeepsBytes p.place text old now → line_of p.place text ≡ Ok line → UsesBoards r.done → LineBegun r.done line r.last G H (λ v left t. InSome v (λ u. LacksImage u left initial now) × Puts mid after t)
+    → PlayedUpTo table script initial before after (λ c. ((line : Line) × (more : List Line) × (c.rest ≡ line ∷ more)) × UsesBoards c.done × NoImageThere c initial now × ((more : List ℕ) → ReportedBefore n c (played_text c.played ++ more)) × IsLeft (span initial now before after S H) c)
 image_begun ends script texts text n p initial old now before mid after line r kept spelled uses b =
     let o = run_of ends script texts text n p initial old before mid line r b in
     record {
@@ -219,14 +219,14 @@ image_begun ends script texts text n p initial old now before mid after line r k
         uses,
         b.there.0,
         λ more. image_told ends script texts text n p initial old before mid line r spelled b o (λ none. absurd (lacks_left b.world b.left initial now b.there.0 none)) more,
-        kept_begun ends script texts text n p initial old now before mid line r kept spelled b o (λ none. absurd (lacks_left b.world b.left initial now b.there.0 none)),
+        (kept_begun ends script texts text n p initial old now before mid line r kept spelled b o (λ none. absurd (lacks_left b.world b.left initial now b.there.0 none)), λ f. o.shown (r.seen f)),
       );
     }
 
 -- a board stopped in a line
-stop_begun : {table : List Row} (ends : Bool) (script : Script) (texts : List (List ℕ)) (text : List ℕ) (n : ℕ) (p : Player) (initial old now : List Device) (before mid after : Option (List ℕ)) (line : Line) (r : Reached table ends script (text ∷ texts) n p (span initial old before mid))
-    → TextKeepsBytes p.place text old now → line_of p.place text ≡ Ok line → UsesBoard line → LineBegun r.done line r.last (λ v left t. StoppedIn (motes_in r.done) (line ∷ []) left v initial now × Puts mid after t)
-    → PlayedUpTo table script initial before after (λ c. ((line : Line) × (more : List Line) × (c.rest ≡ line ∷ more) × UsesBoard line) × BoardStoppedThere c initial now × Untouched c initial now)
+stop_begun : {table : List Row} {S G H : Saw} (ends : Bool) (script : Script) (texts : List (List ℕ)) (text : List ℕ) (n : ℕ) (p : Player) (initial old now : List Device) (before mid after : Option (List ℕ)) (line : Line) (r : Reached table ends script (text ∷ texts) n p (span initial old before mid S G))
+    → TextKeepsBytes p.place text old now → line_of p.place text ≡ Ok line → UsesBoard line → LineBegun r.done line r.last G H (λ v left t. StoppedIn (motes_in r.done) (line ∷ []) left v initial now × Puts mid after t)
+    → PlayedUpTo table script initial before after (λ c. ((line : Line) × (more : List Line) × (c.rest ≡ line ∷ more) × UsesBoard line) × BoardStoppedThere c initial now × IsLeft (span initial now before after S H) c)
 stop_begun ends script texts text n p initial old now before mid after line r kept spelled uses b =
     let o = run_of ends script texts text n p initial old before mid line r b in
     let stop = b.there.0 in
@@ -239,15 +239,15 @@ stop_begun ends script texts text n p initial old now before mid after line r ke
       there = (
         (line, _, refl, uses),
         stopped_more (motes_in r.done) line _ b.left b.world initial now stop,
-        kept_begun ends script texts text n p initial old now before mid line r kept spelled b o (stop_within (place_behind first_place r.done) line (motes_in r.done) b.begun b.left b.world initial now b.parts stop),
+        (kept_begun ends script texts text n p initial old now before mid line r kept spelled b o (stop_within (place_behind first_place r.done) line (motes_in r.done) b.begun b.left b.world initial now b.parts stop), λ f. o.shown (r.seen f)),
       );
     }
 
 -- there were too many events in it
-many_begun : {table : List Row} (ends : Bool) (script : Script) (texts : List (List ℕ)) (text : List ℕ) (n : ℕ) (p : Player) (initial old now : List Device) (before mid after : Option (List ℕ)) (line : Line) (r : Reached table ends script (text ∷ texts) n p (span initial old before mid))
-    → TextKeepsBytes p.place text old now → line_of p.place text ≡ Ok line → LineBegun r.done line r.last (λ v left t. InSome v (λ u. IsOneTooMany u left) × BoardsStand v initial now × Puts mid after t)
-    → PlayedUpTo table script initial before after (λ c. AtTooMany c.left c.played × BoardsStand c.last initial now × (lacking (length initial) script.lines ≡ None) × Untouched c initial now)
-many_begun ends script texts text n p initial old now before mid after line r kept spelled b =
+many_begun : {table : List Row} {S G H : Saw} (ends : Bool) (script : Script) (texts : List (List ℕ)) (text : List ℕ) (n : ℕ) (p : Player) (initial old now : List Device) (before mid after : Option (List ℕ)) (line : Line) (r : Reached table ends script (text ∷ texts) n p (span initial old before mid S G))
+    → TextKeepsBytes p.place text old now → line_of p.place text ≡ Ok line → LineBegun r.done line r.last G H (λ v left t. InSome v (λ u. IsOneTooMany u left) × BoardsStand v initial now × Puts mid after t)
+    → PlayedUpTo table script initial before after (λ c. AtTooMany c.left c.played × BoardsStand c.last initial now × (lacking (length initial) script.lines ≡ None) × IsLeft (span initial now before after S H) c)
+many_begun {G = G} {H = H} ends script texts text n p initial old now before mid after line r kept spelled b =
     let o = run_of ends script texts text n p initial old before mid line r b in
     record {
       came = in_line ends script texts text n p initial old before mid line r spelled b o (λ none. absurd (some_left b.world b.left b.there.0 none));
@@ -259,21 +259,21 @@ many_begun ends script texts text n p initial old now before mid after line r ke
         b.there.1,
         subst (λ (ls : List Line). lacking (length initial) ls ≡ None) r.lines
             (lacking_append (length initial) r.done (script_from ends p.place n (text ∷ texts)).lines r.boards_enough
-            (lacking_none (length initial) p.place _ (begun_world (λ u. IsOneTooMany u b.left) p r.last b.world b.begun b.text old b.there.0 b.runs r.stood.world) (script_fits ends p.place n (text ∷ texts)))),
-        kept_begun ends script texts text n p initial old now before mid line r kept spelled b o (λ none. absurd (some_left b.world b.left b.there.0 none)),
+            (lacking_none (length initial) p.place _ (begun_world (λ u. IsOneTooMany u b.left) p r.last b.world b.begun (line_told b.text G H) old b.there.0 b.runs r.stood.world) (script_fits ends p.place n (text ∷ texts)))),
+        (kept_begun ends script texts text n p initial old now before mid line r kept spelled b o (λ none. absurd (some_left b.world b.left b.there.0 none)), λ f. o.shown (r.seen f)),
       );
     }
 
 -- nothing was done behind the lines that were done
-nothing_more : {table : List Row} (ends : Bool) (script : Script) (texts : List (List ℕ)) (n : ℕ) (p : Player) (initial old now : List Device) (before mid after : Option (List ℕ))
-    → Reached table ends script texts n p (span initial old before mid) → NothingDone old now mid after → PlayedFront table script initial before after (λ c text. BoardsStand c.last initial now × Untouched c initial now)
-nothing_more ends script texts n p initial old now before mid after r none =
+nothing_more : {table : List Row} {S G H : Saw} (ends : Bool) (script : Script) (texts : List (List ℕ)) (n : ℕ) (p q : Player) (initial old now : List Device) (before mid after : Option (List ℕ))
+    → Reached table ends script texts n p (span initial old before mid S G) → NothingDone (replay_state p old mid G) (replay_state q now after H) → PlayedFront table script initial before after (λ c text. BoardsStand c.last initial now × IsLeft (span initial now before after S H) c)
+nothing_more ends script texts n p q initial old now before mid after r none =
     front_put script initial before mid after r.played [] (at_line ends script texts n p initial old before mid r) r.reported (sym (append-nil (played_text r.played))) (front_kept mid after [] none.written)
     (record { boards_enough = r.boards_enough; few_events = few_items r.done r.played r.items r.few })
-    (λ uses. (r.grounded uses).1) (λ k. (subst (λ (ds : List Device). BoardsStand r.last initial ds) (sym none.boards) r.stood.boards, kept_done ends script texts n p initial old now before mid r none.boards))
+    (λ uses. (r.grounded uses).1) (λ k. (subst (λ (ds : List Device). BoardsStand r.last initial ds) (sym none.boards) r.stood.boards, (kept_done ends script texts n p initial old now before mid r none.boards, λ f. none.seen _ _ (r.seen f))))
 
 -- where a line was read and not begun
-at_line_put : {table : List Row} (ends : Bool) (script : Script) (texts : List (List ℕ)) (n : ℕ) (p : Player) (initial old : List Device) (before mid after : Option (List ℕ)) {P : Progress table script → Type 0} → (r : Reached table ends script texts n p (span initial old before mid)) → after ≡ mid
+at_line_put : {table : List Row} {S G : Saw} (ends : Bool) (script : Script) (texts : List (List ℕ)) (n : ℕ) (p : Player) (initial old : List Device) (before mid after : Option (List ℕ)) {P : Progress table script → Type 0} → (r : Reached table ends script texts n p (span initial old before mid S G)) → after ≡ mid
     → P (at_line ends script texts n p initial old before mid r) → PlayedUpTo table script initial before after P
 at_line_put ends script texts n p initial old before mid after r none there =
     record {
@@ -285,7 +285,7 @@ at_line_put ends script texts n p initial old before mid after r none there =
     }
 
 -- a script all of whose lines were done
-pub all_done : {table : List Row} (ends : Bool) (script : Script) (texts : List (List ℕ)) (n : ℕ) (p : Player) (initial now : List Device) (before mid : Option (List ℕ)) → (r : Reached table ends script texts n p (span initial now before mid))
+pub all_done : {table : List Row} {S G : Saw} (ends : Bool) (script : Script) (texts : List (List ℕ)) (n : ℕ) (p : Player) (initial now : List Device) (before mid : Option (List ℕ)) → (r : Reached table ends script texts n p (span initial now before mid S G))
     → (script_from ends p.place n texts).lines ≡ [] → HasFew script initial
 all_done ends script texts n p initial now before mid r none =
     let all : r.done ≡ script.lines = sym (append-nil r.done) ∙ ap (λ (ls : List Line). r.done ++ ls) (sym none) ∙ r.lines in
@@ -295,18 +295,18 @@ all_done ends script texts n p initial now before mid r none =
     }
 
 -- no script with golden lacks an image
-image_uses : {table : List Row} {ends : Bool} {script : Script} {texts : List (List ℕ)} {text : List ℕ} {n : ℕ} {p : Player} {initial old now : List Device} {before mid : Option (List ℕ)} (r : Reached table ends script (text ∷ texts) n p (span initial old before mid))
-    → ((UsesBoards r.done → ⊥) → TextRead text p (λ line. LineBegun r.done line r.last (λ v left t. InSome v (λ u. LacksImage u left initial now))) → ⊥)
-    → (line : Line) → line_of p.place text ≡ Ok line → (begun left : List Item) → item_by (place_behind first_place r.done) line ≡ begun ++ left → (world : Option World) (told : List ℕ) → RunsFrom r.last begun world told
+image_uses : {table : List Row} {S G H : Saw} {ends : Bool} {script : Script} {texts : List (List ℕ)} {text : List ℕ} {n : ℕ} {p : Player} {initial old now : List Device} {before mid : Option (List ℕ)} (r : Reached table ends script (text ∷ texts) n p (span initial old before mid S G))
+    → ((UsesBoards r.done → ⊥) → TextRead text p (λ line. LineBegun r.done line r.last G H (λ v left t. InSome v (λ u. LacksImage u left initial now))) → ⊥)
+    → (line : Line) → line_of p.place text ≡ Ok line → (begun left : List Item) → item_by (place_behind first_place r.done) line ≡ begun ++ left → (world : Option World) (told : List ℕ) → RunsFrom r.last begun world (line_told told G H)
     → InSome world (λ u. LacksImage u left initial now) → UsesBoards r.done
 image_uses r found line spelled begun left parts world told runs lacks =
     ⊎_elim (λ uses. uses) (λ alone. absurd (found alone (record { line = line; spelled = spelled; there = record { begun = begun; left = left; parts = parts; world = world; text = told; runs = runs; there = lacks } }))) (uses_or (list_any is_boards r.done))
 
 -- a stop at a line, behind the lines that were done
-pub stopped_at : {table : List Row} (stop : Stop) (ends : Bool) (script : Script) (texts : List (List ℕ)) (text : List ℕ) (n : ℕ) (p q : Player) (initial old now : List Device) (before mid after : Option (List ℕ)) (failed worse : Type 0) → (failed → worse)
-    → (r : Reached table ends script (text ∷ texts) n p (span initial old before mid)) → ((UsesBoards r.done → ⊥) → TextRead text p (λ line. LineBegun r.done line r.last (λ v left t. InSome v (λ u. LacksImage u left initial now))) → ⊥)
-    → TextKeepsBytes p.place text old now → TextAnswer (based_on table initial) (Err stop) (line_read text n) (done_so_far r.done r.last) (replay_state p old mid) (replay_state q now after) failed → StopsThere table stop script n (span initial now before after) worse
-stopped_at Memory ends script texts text n p q initial old now before mid after failed worse spread r found kept (inl none) = nothing_more ends script (text ∷ texts) n p initial old now before mid after r none
+pub stopped_at : {table : List Row} {S G H : Saw} (stop : Stop) (ends : Bool) (script : Script) (texts : List (List ℕ)) (text : List ℕ) (n : ℕ) (p q : Player) (initial old now : List Device) (before mid after : Option (List ℕ)) (failed worse : Type 0) → (failed → worse)
+    → (r : Reached table ends script (text ∷ texts) n p (span initial old before mid S G)) → ((UsesBoards r.done → ⊥) → TextRead text p (λ line. LineBegun r.done line r.last G H (λ v left t. InSome v (λ u. LacksImage u left initial now))) → ⊥)
+    → TextKeepsBytes p.place text old now → TextAnswer (based_on table initial) (Err stop) (line_read text n) (done_so_far r.done r.last) (replay_state p old mid G) (replay_state q now after H) failed → StopsThere table stop script n (span initial now before after S H) worse
+stopped_at Memory ends script texts text n p q initial old now before mid after failed worse spread r found kept (inl none) = nothing_more ends script (text ∷ texts) n p q initial old now before mid after r none
 stopped_at Memory ends script texts text n p q initial old now before mid after failed worse spread r found kept (inr (t, none)) =
     memory_begun ends script texts text n p initial old now before mid after t.line r kept t.spelled t.there (choose t.there.begun t.there.left) none
 stopped_at (BadInput line fault) ends script texts text n p q initial old now before mid after failed worse spread r found kept (same, spelled, none) =
@@ -318,7 +318,7 @@ stopped_at (BadInput line fault) ends script texts text n p q initial old now be
         sym r.fault ∙ ap (λ (s : Script). s.fault) bad ∙ ap (λ (k : ℕ). Some (k, fault)) (sym same),
         subst (λ (ds : List Device). BoardsStand r.last initial ds) (sym none.boards) r.stood.boards,
         all_done ends script (text ∷ texts) n p initial old before mid r rest,
-        kept_done ends script (text ∷ texts) n p initial old now before mid r none.boards,
+        (kept_done ends script (text ∷ texts) n p initial old now before mid r none.boards, λ f. none.seen _ _ (r.seen f)),
       ),
     )
 stopped_at WriteFault ends script texts text n p q initial old now before mid after failed worse spread r found kept (rose, inl cut) =
@@ -329,7 +329,7 @@ stopped_at FlashFault ends script texts text n p q initial old now before mid af
     stop_begun ends script texts text n p initial old now before mid after t.line r kept t.spelled t.there.0 t.there.1
 stopped_at TooMany ends script texts text n p q initial old now before mid after failed worse spread r found kept t =
     many_begun ends script texts text n p initial old now before mid after t.line r kept t.spelled t.there
-stopped_at (NoBoard motes boards) ends script texts text n p q initial old now before mid after failed worse spread r found kept (t, told) =
+stopped_at (NoBoard motes boards) ends script texts text n p q initial old now before mid after failed worse spread r found kept (t, told, stays) =
     let m = t.there in
     let spelled = t.spelled ∙ ap (λ (l : Line). Ok l) m.is_motes in
     at_line_put ends script (text ∷ texts) n p initial old before mid after r told (
@@ -337,12 +337,12 @@ stopped_at (NoBoard motes boards) ends script texts text n p q initial old now b
       (_, ap (λ (s : Script). s.lines) (script_line ends p.place n text texts (Motes motes) spelled)),
       subst (λ (ds : List Device). BoardsStand r.last initial ds) (sym m.same) r.stood.boards,
       r.boards_enough,
-      kept_done ends script (text ∷ texts) n p initial old now before mid r m.same,
+      (kept_done ends script (text ∷ texts) n p initial old now before mid r m.same, λ f. stays _ _ (r.seen f)),
     )
 stopped_at NoImage ends script texts text n p q initial old now before mid after failed worse spread r found kept t =
     let b = t.there in
     image_begun ends script texts text n p initial old now before mid after t.line r kept t.spelled (image_uses r found t.line t.spelled b.begun b.left b.parts b.world b.text b.runs b.there.0) b
-stopped_at NotAVolume ends script texts text n p q initial old now before mid after failed worse spread r found kept (t, told) =
+stopped_at NotAVolume ends script texts text n p q initial old now before mid after failed worse spread r found kept (t, told, stays) =
     let spelled = t.spelled ∙ ap (λ (l : Line). Ok l) t.there.0 in
     at_line_put ends script (text ∷ texts) n p initial old before mid after r told (
       record { more = _; next = ap (λ (s : Script). s.lines) (script_line ends p.place n text texts Boards spelled); there = t.there.1 },
@@ -353,12 +353,12 @@ stopped_at NotAVolume ends script texts text n p q initial old now before mid af
         more = more;
         reported = ap (λ (xs : List ℕ). xs ++ more) (sym (told_all r.done r.played r.items));
       },
-      untouched_done (at_line ends script (text ∷ texts) n p initial old before mid r) initial now (λ none. keep_read (items_of r.done) initial now t.there.1.read),
+      (untouched_done (at_line ends script (text ∷ texts) n p initial old before mid r) initial now (λ none. keep_read (items_of r.done) initial now t.there.1.read), λ f. stays _ _ (r.seen f)),
     )
 
 -- the first line of the script is reached at once
-pub reached_first : {table : List Row} (ends : Bool) (texts : List (List ℕ)) (p : Player) (initial : List Device) (before : Option (List ℕ)) → p.place ≡ first_place
-    → Reached table ends (script_from ends first_place 1 texts) texts 1 p (span initial initial before before)
+pub reached_first : {table : List Row} {S : Saw} (ends : Bool) (texts : List (List ℕ)) (p : Player) (initial : List Device) (before : Option (List ℕ)) → p.place ≡ first_place
+    → Reached table ends (script_from ends first_place 1 texts) texts 1 p (span initial initial before before S S)
 unfolding place_behind items_behind begin_behind lacking
 reached_first {table} ends texts p initial before place =
     record {
@@ -373,6 +373,7 @@ reached_first {table} ends texts p initial before place =
       grounded = λ uses. absurd (cc);
       run = (refl, refl);
       reported = Puts-nil before;
+      seen = λ f. f;
       stood = record {
         seats = λ some. absurd (omega (arith, some, ap (λ (at : Place). at.motes) place));
         place = place;
@@ -387,11 +388,6 @@ reached_first {table} ends texts p initial before place =
       untouched = λ none m away. refl;
       boards_enough = refl;
     }
-
--- the texts that are left, where the next line was found
-pub reached_texts : {table : List Row} (ends : Bool) (script : Script) (texts others : List (List ℕ)) (n : ℕ) (p : Player) (initial now : List Device) (before mid : Option (List ℕ)) → texts ≡ others
-    → Reached table ends script texts n p (span initial now before mid) → Reached table ends script others n p (span initial now before mid)
-reached_texts {table} ends script texts others n p initial now before mid e r = subst (λ (ts : List (List ℕ)). Reached table ends script ts n p (span initial now before mid)) e r
 
 -- what stands for a world is ready
 pub ready_of : (p : Player) (done : List Line) (w : Option World) (initial now : List Device) → Stood p done w initial now → Ready p now

@@ -20,11 +20,12 @@ use Rattle.dg_replay.specs.Ending.{Ending, Ends, Over, ending_from, ending_of, e
 use Rattle.dg_replay.specs.Around.{Around, around}
 use Rattle.dg_replay.specs.Promised.{Headline}
 use Rattle.dg_replay.specs.Done.{IsUnfailed, ReplaysAll, ReplayDone}
-use Rattle.dg_replay.specs.Replayed.{Progress, Untouched, RunsTo, played_text, Wrote, BoardsLeft, NoVolumeThere, NoImageThere, IsComplete, AreVolumes, IsSettled, AreWhole, AllWhole, NextIsWhole, RestsOnTaken, IsCaused, Replayed}
-use Rattle.dg_replay.specs.Replaying.{Reached, PlayedUpTo, InputAnswer, StopEnds, EndsWith, ScriptReplayed}
+use Rattle.dg_replay.specs.Replayed.{Progress, IsSeen, RunsTo, played_text, Wrote, BoardsLeft, NoVolumeThere, NoImageThere, IsComplete, AreVolumes, IsSettled, AreWhole, AllWhole, NextIsWhole, RestsOnTaken, IsCaused, Replayed}
+use Rattle.dg_replay.specs.Replaying.{Reached, PlayedUpTo, InputAnswer, StopEnds, EndsWith, IsLeft, ScriptReplayed}
 use Rattle.dg_replay.specs.declared.halt.Halt.{Halt}
 use Rattle.dg_replay.specs.declared.halt.Halt.TheVariants as halts
 use Rattle.dg_replay.specs.declared.stop.Stop.{Stop}
+use Rattle.dg_replay.specs.Shown.{Saw}
 use Rattle.dg_replay.specs.Stages.{span, bytes_taken, failures}
 use Rattle.dg_replay.specs.declared.player.Player.{Player}
 use Rattle.dg_replay.proofs.EndLemmas.{over_not, is_over-true, over_ends, stopped_ends, in_limits}
@@ -55,11 +56,11 @@ caused_too FlashFault e r w b v i h = h
 caused_too _ e r w b v i h = h
 
 -- a script whose input was read to its end
-pub end_replayed : {table : List Row} (s : Status) (input : List ℕ) (at_end : Type 0) (old new : List Device) (before after : Option (List ℕ)) (reads writes : Type 0) → at_end → length input ≤ most_used_bytes
-    → ScriptReplayed table s (script_of input) (ending_from (length old) false (script_of input)) (bytes_taken input ⊤) (span old new before after) (failures ⊥ writes)
-    → ScriptReplayed table s (script_of input) (ending_of (length old) input) (bytes_taken input at_end) (span old new before after) (failures reads writes)
-end_replayed {table} s input at_end old new before after reads writes ended few r =
-    let made : ScriptReplayed table s (script_of input) (ending_from (length old) false (script_of input)) (bytes_taken input at_end) (span old new before after) (failures reads writes) = record {
+pub end_replayed : {table : List Row} {S G : Saw} (s : Status) (input : List ℕ) (at_end : Type 0) (old new : List Device) (before after : Option (List ℕ)) (reads writes : Type 0) → at_end → length input ≤ most_used_bytes
+    → ScriptReplayed table s (script_of input) (ending_from (length old) false (script_of input)) (bytes_taken input ⊤) (span old new before after S G) (failures ⊥ writes)
+    → ScriptReplayed table s (script_of input) (ending_of (length old) input) (bytes_taken input at_end) (span old new before after S G) (failures reads writes)
+end_replayed {table} {S = S} {G = G} s input at_end old new before after reads writes ended few r =
+    let made : ScriptReplayed table s (script_of input) (ending_from (length old) false (script_of input)) (bytes_taken input at_end) (span old new before after S G) (failures reads writes) = record {
       came = r.came;
       text = r.text;
       written = r.written;
@@ -69,73 +70,73 @@ end_replayed {table} s input at_end old new before after reads writes ended few 
       limits = r.limits;
       stood = r.stood;
       boards = r.boards;
-      untouched = r.untouched;
+      left = r.left;
       caused = caused_too s (ending_from (length old) false (script_of input)) reads writes (BoardStopped (motes_in r.came.done) old new) (NoVolumeThere r.came old new) ((UsesBoards r.came.done) × NoImageThere r.came old new) r.caused;
     } in
-    subst (λ (b : Bool). ScriptReplayed table s (script_of input) (ending_from (length old) b (script_of input)) (bytes_taken input at_end) (span old new before after) (failures reads writes)) (sym (over_not input few)) made
+    subst (λ (b : Bool). ScriptReplayed table s (script_of input) (ending_from (length old) b (script_of input)) (bytes_taken input at_end) (span old new before after S G) (failures reads writes)) (sym (over_not input few)) made
 
 -- an input that is too long
-pub over_replayed : {table : List Row} (s : Status) (input : List ℕ) (at_end : Type 0) (n : ℕ) (p : Player) (old new : List Device) (before mid after : Option (List ℕ)) (failed reads writes : Type 0) → (failed → writes) → length input ≡ most_used_bytes + 1
-    → Reached table false (script_of input) [] n p (span old new before mid) → EndsWith s TooLong (ending_line Over) mid after failed
-    → ScriptReplayed table s (script_of input) (ending_of (length old) input) (bytes_taken input at_end) (span old new before after) (failures reads writes)
-over_replayed {table} s input at_end n p old new before mid after failed reads writes spread long r done =
+pub over_replayed : {table : List Row} {S G : Saw} (s : Status) (input : List ℕ) (at_end : Type 0) (n : ℕ) (p : Player) (old new : List Device) (before mid after : Option (List ℕ)) (failed reads writes : Type 0) → (failed → writes) → length input ≡ most_used_bytes + 1
+    → Reached table false (script_of input) [] n p (span old new before mid S G) → EndsWith s TooLong (ending_line Over) mid after failed
+    → ScriptReplayed table s (script_of input) (ending_of (length old) input) (bytes_taken input at_end) (span old new before after S G) (failures reads writes)
+over_replayed {table} {S = S} {G = G} s input at_end n p old new before mid after failed reads writes spread long r done =
     let over : has_unused_bytes input ≡ true = is_over-true input (omega (arith, long)) in
-    subst (λ (b : Bool). ScriptReplayed table s (script_of input) (ending_from (length old) b (script_of input)) (bytes_taken input at_end) (span old new before after) (failures reads writes)) (sym over)
+    subst (λ (b : Bool). ScriptReplayed table s (script_of input) (ending_from (length old) b (script_of input)) (bytes_taken input at_end) (span old new before after S G) (failures reads writes)) (sym over)
     (over_ends s (script_of input) input at_end n p old new before mid after failed reads writes spread (over_settled (length old) input over)
     (λ c. over_done input c.done c.rest c.begun c.left over c.lines c.parts) r done)
 
 -- a read failed
-pub failed_replayed : {table : List Row} (input : List ℕ) (at_end : Type 0) (ending : Ending) (old new : List Device) (before after : Option (List ℕ)) (reads writes : Type 0) → reads
-    → PlayedUpTo table (script_of input) old before after (λ c. (c.begun ≡ []) × BoardsStand c.last old new × AreWhole input c.done × AllWhole input c.done × Untouched c old new)
-    → ScriptReplayed table ReadFault (script_of input) ending (bytes_taken input at_end) (span old new before after) (failures reads writes)
+pub failed_replayed : {table : List Row} {S G : Saw} (input : List ℕ) (at_end : Type 0) (ending : Ending) (old new : List Device) (before after : Option (List ℕ)) (reads writes : Type 0) → reads
+    → PlayedUpTo table (script_of input) old before after (λ c. (c.begun ≡ []) × BoardsStand c.last old new × AreWhole input c.done × AllWhole input c.done × IsLeft (span old new before after S G) c)
+    → ScriptReplayed table ReadFault (script_of input) ending (bytes_taken input at_end) (span old new before after S G) (failures reads writes)
 failed_replayed input at_end ending old new before after reads writes rose f =
-    record { came = f.came; text = played_text f.came.played; written = f.reported; report = (refl, f.there.0); read = (f.there.2, f.there.3); near = tt; limits = f.limits; stood = f.stood; boards = f.there.1; untouched = f.there.4; caused = rose }
+    record { came = f.came; text = played_text f.came.played; written = f.reported; report = (refl, f.there.0); read = (f.there.2, f.there.3); near = tt; limits = f.limits; stood = f.stood; boards = f.there.1; left = f.there.4; caused = rose }
 
 -- ---- how the lines that were played end
 
 -- a read failed
-pub halt_failed : {table : List Row} (halt : Halt) (input : List ℕ) (at_end reads : Type 0) (old new : List Device) (before after : Option (List ℕ)) (writes worse : Type 0) → halt ≡ halts.ReadFault → InputAnswer table (Err halt) (bytes_taken input at_end) (span old new before after) (failures reads writes)
-    → (length input ≤ most_used_bytes + 1) × ScriptReplayed table ReadFault (script_of input) (ending_of (length old) input) (bytes_taken input at_end) (span old new before after) (failures reads worse)
-halt_failed {table} halt input at_end reads old new before after writes worse is answer =
-    let h : InputAnswer table (Err halts.ReadFault) (bytes_taken input at_end) (span old new before after) (failures reads writes) = subst (λ (x : Halt). InputAnswer table (Err x) (bytes_taken input at_end) (span old new before after) (failures reads writes)) is answer in
+pub halt_failed : {table : List Row} {S G : Saw} (halt : Halt) (input : List ℕ) (at_end reads : Type 0) (old new : List Device) (before after : Option (List ℕ)) (writes worse : Type 0) → halt ≡ halts.ReadFault → InputAnswer table (Err halt) (bytes_taken input at_end) (span old new before after S G) (failures reads writes)
+    → (length input ≤ most_used_bytes + 1) × ScriptReplayed table ReadFault (script_of input) (ending_of (length old) input) (bytes_taken input at_end) (span old new before after S G) (failures reads worse)
+halt_failed {table} {S = S} {G = G} halt input at_end reads old new before after writes worse is answer =
+    let h : InputAnswer table (Err halts.ReadFault) (bytes_taken input at_end) (span old new before after S G) (failures reads writes) = subst (λ (x : Halt). InputAnswer table (Err x) (bytes_taken input at_end) (span old new before after S G) (failures reads writes)) is answer in
     (omega (arith, h.1), failed_replayed input at_end (ending_of (length old) input) old new before after reads worse h.0 h.2)
 
 -- the input is too long
-pub halt_over : {table : List Row} (halt : Halt) (s : Status) (input : List ℕ) (at_end reads : Type 0) (old new : List Device) (before mid after : Option (List ℕ)) (failed later worse : Type 0) → halt ≡ halts.TooLong → (later → worse) → InputAnswer table (Err halt) (bytes_taken input at_end) (span old new before mid) (failures reads failed)
-    → EndsWith s TooLong (ending_line Over) mid after later → (length input ≤ most_used_bytes + 1) × ScriptReplayed table s (script_of input) (ending_of (length old) input) (bytes_taken input at_end) (span old new before after) (failures reads worse)
-halt_over {table} halt s input at_end reads old new before mid after failed later worse is widen answer done =
-    let h : InputAnswer table (Err halts.TooLong) (bytes_taken input at_end) (span old new before mid) (failures reads failed) = subst (λ (x : Halt). InputAnswer table (Err x) (bytes_taken input at_end) (span old new before mid) (failures reads failed)) is answer in
+pub halt_over : {table : List Row} {S G : Saw} (halt : Halt) (s : Status) (input : List ℕ) (at_end reads : Type 0) (old new : List Device) (before mid after : Option (List ℕ)) (failed later worse : Type 0) → halt ≡ halts.TooLong → (later → worse) → InputAnswer table (Err halt) (bytes_taken input at_end) (span old new before mid S G) (failures reads failed)
+    → EndsWith s TooLong (ending_line Over) mid after later → (length input ≤ most_used_bytes + 1) × ScriptReplayed table s (script_of input) (ending_of (length old) input) (bytes_taken input at_end) (span old new before after S G) (failures reads worse)
+halt_over {table} {S = S} {G = G} halt s input at_end reads old new before mid after failed later worse is widen answer done =
+    let h : InputAnswer table (Err halts.TooLong) (bytes_taken input at_end) (span old new before mid S G) (failures reads failed) = subst (λ (x : Halt). InputAnswer table (Err x) (bytes_taken input at_end) (span old new before mid S G) (failures reads failed)) is answer in
     (omega (arith, h.0), over_replayed s input at_end h.1.0 h.1.1 old new before mid after later reads worse widen h.0 h.1.2 done)
 
 -- the replay stopped at a line
-pub halt_stopped : {table : List Row} (halt : Halt) (stop : Stop) (s : Status) (input : List ℕ) (at_end reads : Type 0) (old new : List Device) (before mid after : Option (List ℕ)) (failed later worse : Type 0) → halt ≡ halts.Stopped stop → (failed → worse) → (later → worse)
-    → InputAnswer table (Err halt) (bytes_taken input at_end) (span old new before mid) (failures reads failed) → StopEnds stop s mid after later
-    → (length input ≤ most_used_bytes + 1) × ScriptReplayed table s (script_of input) (ending_of (length old) input) (bytes_taken input at_end) (span old new before after) (failures reads worse)
-halt_stopped {table} halt stop s input at_end reads old new before mid after failed later worse is spread widen answer done =
-    let h : InputAnswer table (Err (halts.Stopped stop)) (bytes_taken input at_end) (span old new before mid) (failures reads failed) = subst (λ (x : Halt). InputAnswer table (Err x) (bytes_taken input at_end) (span old new before mid) (failures reads failed)) is answer in
+pub halt_stopped : {table : List Row} {S G : Saw} (halt : Halt) (stop : Stop) (s : Status) (input : List ℕ) (at_end reads : Type 0) (old new : List Device) (before mid after : Option (List ℕ)) (failed later worse : Type 0) → halt ≡ halts.Stopped stop → (failed → worse) → (later → worse)
+    → InputAnswer table (Err halt) (bytes_taken input at_end) (span old new before mid S G) (failures reads failed) → StopEnds stop s mid after later
+    → (length input ≤ most_used_bytes + 1) × ScriptReplayed table s (script_of input) (ending_of (length old) input) (bytes_taken input at_end) (span old new before after S G) (failures reads worse)
+halt_stopped {table} {S = S} {G = G} halt stop s input at_end reads old new before mid after failed later worse is spread widen answer done =
+    let h : InputAnswer table (Err (halts.Stopped stop)) (bytes_taken input at_end) (span old new before mid S G) (failures reads failed) = subst (λ (x : Halt). InputAnswer table (Err x) (bytes_taken input at_end) (span old new before mid S G) (failures reads failed)) is answer in
     (omega (arith, h.0), stopped_ends stop s (script_of input) (has_unused_bytes input) input at_end h.2.0 old new before mid after failed later reads worse spread widen h.2.1 h.1 h.2.2 done)
 
 -- what a replay did, where these bytes were taken
-pub replayed_of : {table : List Row} (s : Status) (bytes : List ℕ) (a b : Around) → Takes a.left b.left bytes → length bytes ≤ most_used_bytes + 1
-    → ScriptReplayed table s (script_of bytes) (ending_of (length a.boards) bytes) (bytes_taken bytes (AtEnd b.left)) (span a.boards b.boards a.written b.written) (failures (Rose a.reads b.reads) (Rose a.writes b.writes))
+abbrev pub replayed_of : {table : List Row} {S G : Saw} (s : Status) (bytes : List ℕ) (a b : Around) → Takes a.left b.left bytes → length bytes ≤ most_used_bytes + 1
+    → ScriptReplayed table s (script_of bytes) (ending_of (length a.boards) bytes) (bytes_taken bytes (AtEnd b.left)) (span a.boards b.boards a.written b.written S G) (failures (Rose a.reads b.reads) (Rose a.writes b.writes))
     → (s ≢ ReadFault → b.reads ≡ a.reads) → (s ≢ WriteFault → b.writes ≡ a.writes) → Replayed table s a b
 replayed_of s bytes a b taken few r reads writes =
-    record { input = bytes; taken = taken; few_bytes = few; came = r.came; text = r.text; written = r.written; report = r.report; read = r.read; near = r.near; limits = r.limits; stood = r.stood; boards = r.boards; untouched = r.untouched; caused = r.caused; read_faults = reads; write_faults = writes }
+    record { input = bytes; taken = taken; few_bytes = few; came = r.came; text = r.text; written = r.written; report = r.report; read = r.read; near = r.near; limits = r.limits; stood = r.stood; boards = r.boards; untouched = r.left.0; caused = r.caused; read_faults = reads; write_faults = writes }
 
 -- before the first line nothing is done
-none_bound : (boards : ℕ) → InBounds boards [] []
+pub none_bound : (boards : ℕ) → InBounds boards [] []
 unfolding lacking
 none_bound boards = record { boards_enough = refl; few_events = omega arith }
 
-no_items : [] ≡ items_of [] ++ []
+pub no_items : [] ≡ items_of [] ++ []
 unfolding items_behind
 no_items = refl
 
-no_run : (g : Ground) → RunsTo (beginning_of g []).world [] None
+pub no_run : (g : Ground) → RunsTo (beginning_of g []).world [] None
 unfolding begin_behind
 no_run g = (refl, refl)
 
-abbrev none_played : {table : List Row} (script : Script) → Progress table script
+abbrev pub none_played : {table : List Row} (script : Script) → Progress table script
 none_played {table} script = record {
   done = [];
   rest = script.lines;
@@ -152,8 +153,13 @@ none_played {table} script = record {
   run = no_run (record { stores = []; table = table });
 }
 
+-- a watcher saw nothing then
+pub unread_seen : (table : List Row) (saw : Saw) (script : Script) → saw [] [] → IsSeen saw (none_played {table = table} script)
+unfolding begin_behind
+unread_seen table saw script f = f
+
 -- memory ran out before anything was read
-pub memory_unread : {table : List Row} (bytes : List ℕ) (lb la wb : Option (List ℕ)) (rb ra k : ℕ) (old : List Device) → Takes lb la bytes → length bytes ≤ (most_used_bytes + 1) → ra ≡ rb
+abbrev pub memory_unread : {table : List Row} (bytes : List ℕ) (lb la wb : Option (List ℕ)) (rb ra k : ℕ) (old : List Device) → Takes lb la bytes → length bytes ≤ (most_used_bytes + 1) → ra ≡ rb
     → Replayed table Memory (around lb rb wb k old) (around la ra wb k old)
 memory_unread bytes lb la wb rb ra k old taken few reads =
     record { input = bytes; taken = taken; few_bytes = few; came = none_played (script_of bytes); text = []; written = Puts-nil wb; report = record { more = []; front = refl }; read = inr (none_whole bytes); near = tt; limits = none_bound (length old); stood = λ uses. absurd (cc); boards = refl; untouched = λ none m away. refl; caused = tt; read_faults = λ other. reads; write_faults = λ other. refl }

@@ -1,6 +1,6 @@
 -- What one more line makes of where a replay stands, and of its run.
 use Rattle.std.proofs.Common.{◌≡◌, ℕ, ◌≤◌, Bool, true, false, ◌||◌, List, [], ◌∷◌, ◌++◌, length, map, refl, append-nil, ap, sym, ◌∙◌, subst, arith, eqb-true, inl, inr}
-use Rattle.std.specs.Prelude.{Option, Some, None, option_map, IfSome}
+use Rattle.std.specs.Prelude.{Option, Some, None, option_map, IfSome, replicate}
 use Rattle.std.specs.List.{AllByRecursion}
 use Rattle.std.proofs.lemmas.List.{map-append}
 use Rattle.dg_nor.specs.Device.{Device}
@@ -19,16 +19,19 @@ use Rattle.dg_rules.specs.Premises.{LinkFits}
 use Rattle.dg_rules.specs.Runs.{Played, Plays, ItemStep}
 use Rattle.dg_rules.specs.Changes.{declared_lines}
 use Rattle.dg_rules.specs.Steps.{declared_as}
-use Rattle.dg_volume.specs.Store.{Store}
-use Rattle.dg_rules.specs.World.{World, first_world}
+use Rattle.dg_volume.specs.Store.{Store, fresh, golden_row}
+use Rattle.dg_rules.specs.World.{World, Site, first_world}
 use Rattle.dg_rules.specs.Begins.{AreShaped}
 use Rattle.dg_world.specs.Mounted.{StandFor}
 use Rattle.dg_replay.specs.Boards.{BoardsStand}
 use Rattle.dg_replay.specs.Items.{Ground, no_ground, Beginning, begin_by, beginning_of, motes_in, no_beginning, golden_world, with_link, with_narrow, is_boards, UsesBoards, begin_behind}
 use Rattle.dg_replay.specs.Replayed.{IsGround, RunsTo, item_played, played_text}
 use Rattle.dg_replay.specs.Playing.{IsDeclaration, Seated, InWorld, Joined, Stood, ItemsRun, ItemsBegun, LineRuns, LineBegun, Grounded}
+use Rattle.dg_replay.specs.Shown.{Saw, events_played, stores_in, StaysSeen, Shows}
+use Rattle.dg_replay.specs.Stages.{line_told}
 use Rattle.dg_replay.specs.declared.player.Player.{Player}
 use Rattle.dg_replay.proofs.ItemLemmas.{some_is, items_next, place_next, begin_next, motes_same, runs_append, runs_from_none, plays_none, played_more, items_run_none}
+use Rattle.dg_replay.proofs.ShownLemmas.{declared_none, first_stores, begins_first, shows_none, shows_nothing, shows_from}
 
 -- ---- where a replay stands
 
@@ -109,6 +112,9 @@ same_run : (g : Ground) (done : List Line) (line : Line) (played : List Played) 
 same_run g done line played v same r =
     subst (λ (b : Beginning). RunsTo b.world played v) (sym (begin_next g no_beginning done line)) (subst (λ (o : Option World). RunsTo o played v) (sym same) r)
 
+same_world : (g : Ground) (done : List Line) (line : Line) → (begin_by g (beginning_of g done) line).world ≡ (beginning_of g done).world → (beginning_of g (done ++ line ∷ [])).world ≡ (beginning_of g done).world
+same_world g done line same = ap (λ (b : Beginning). b.world) (begin_next g no_beginning done line) ∙ same
+
 -- the items with a line that has none
 same_items : (done : List Line) (line : Line) → item_by (place_behind first_place done) line ≡ [] → items_of done ≡ items_of (done ++ line ∷ [])
 same_items done line none = sym (items_next done line ∙ ap (λ (xs : List Item). items_of done ++ xs) none ∙ append-nil (items_of done))
@@ -171,64 +177,90 @@ grounded_motes g done n played r = λ uses.
     let some = uses_some g no_beginning done (uses_next done (Motes n) refl uses) in absurd (run_none (beginning_of g done).world played some.0 some.1 r)
 
 -- a line without items
-pub silent_runs : {table : List Row} {initial : List Device} (done : List Line) (line : Line) (w : Option World) → item_by (place_behind first_place done) line ≡ [] → ((g : Ground) → (begin_by g (beginning_of g done) line).world ≡ (beginning_of g done).world)
-    → ((g : Ground) (played : List Played) → RunsTo (beginning_of g done).world played w → Grounded table initial g done → Grounded table initial g (done ++ line ∷ [])) → LineRuns table initial done line w w []
-silent_runs done line w none same ground = λ g played before items r. record {
-  ground = g;
-  grounded = ground g played r before;
-  now = played;
-  items = items ∙ same_items done line none;
-  run = same_run g done line played w (same g) r;
-  reported = sym (append-nil (played_text played));
-  on = inl refl;
+pub silent_runs : {table : List Row} {initial : List Device} {F G : Saw} (done : List Line) (line : Line) (w : Option World) → item_by (place_behind first_place done) line ≡ [] → ((g : Ground) → (begin_by g (beginning_of g done) line).world ≡ (beginning_of g done).world)
+    → ((g : Ground) (played : List Played) → RunsTo (beginning_of g done).world played w → Grounded table initial g done → Grounded table initial g (done ++ line ∷ []))
+    → ((g : Ground) (played : List Played) → RunsTo (beginning_of g done).world played w → F (stores_in (beginning_of g done).world) (events_played played) → G (stores_in (beginning_of g done).world) (events_played played)) → LineRuns table initial done line w w (line_told [] F G)
+silent_runs {F = F} {G = G} done line w none same ground shown = λ g played before items r. record {
+  on = record {
+    ground = g;
+    grounded = ground g played r before;
+    now = played;
+    items = items ∙ same_items done line none;
+    run = same_run g done line played w (same g) r;
+    reported = sym (append-nil (played_text played));
+    on = inl refl;
+  };
+  shown = λ f. subst (λ (o : Option World). G (stores_in o) (events_played played)) (sym (same_world g done line (same g))) (shown g played r f);
 }
 
 -- a line with items
-pub busy_runs : {table : List Row} {initial : List Device} (done : List Line) (line : Line) (u z : World) (items : List Item) (text : List ℕ) → item_by (place_behind first_place done) line ≡ items → ((g : Ground) → (begin_by g (beginning_of g done) line).world ≡ (beginning_of g done).world)
-    → is_boards line ≡ false → ((b : Beginning) → (begin_by no_ground b line).motes ≡ b.motes) → ItemsRun u items z text → LineRuns table initial done line (Some u) (Some z) text
-busy_runs done line u z items text are same plain counts x = λ g played first before r. record {
-  ground = g;
-  grounded = grounded_next g done line plain counts first;
-  now = played ++ x.played;
-  items = map-append item_played played x.played ∙ ap (λ (xs : List Item). xs ++ map item_played x.played) before ∙ ap (λ (xs : List Item). items_of done ++ xs) (x.are ∙ sym are) ∙ sym (items_next done line);
-  run = same_run g done line (played ++ x.played) (Some z) (same g) (runs_append (beginning_of g done).world u z played x.played r x.run);
-  reported = played_more played x.played ∙ ap (λ (xs : List ℕ). played_text played ++ xs) (sym x.reported);
-  on = inr (x.played, refl);
+pub busy_runs : {table : List Row} {initial : List Device} {F G : Saw} (done : List Line) (line : Line) (u z : World) (items : List Item) (text : List ℕ) → item_by (place_behind first_place done) line ≡ items → ((g : Ground) → (begin_by g (beginning_of g done) line).world ≡ (beginning_of g done).world)
+    → is_boards line ≡ false → ((b : Beginning) → (begin_by no_ground b line).motes ≡ b.motes) → (x : ItemsRun u items z text) → Shows F G u x.played → LineRuns table initial done line (Some u) (Some z) (line_told text F G)
+busy_runs {F = F} {G = G} done line u z items text are same plain counts x shown = λ g played first before r. record {
+  on = record {
+    ground = g;
+    grounded = grounded_next g done line plain counts first;
+    now = played ++ x.played;
+    items = map-append item_played played x.played ∙ ap (λ (xs : List Item). xs ++ map item_played x.played) before ∙ ap (λ (xs : List Item). items_of done ++ xs) (x.are ∙ sym are) ∙ sym (items_next done line);
+    run = same_run g done line (played ++ x.played) (Some z) (same g) (runs_append (beginning_of g done).world u z played x.played r x.run);
+    reported = played_more played x.played ∙ ap (λ (xs : List ℕ). played_text played ++ xs) (sym x.reported);
+    on = inr (x.played, refl);
+  };
+  shown = λ f. subst (λ (o : Option World). G (stores_in o) (events_played (played ++ x.played))) (sym (same_world g done line (same g))) (shows_from F G (beginning_of g done).world played x.played u (begins_first g done) r shown f);
 }
 
-pub golden_runs : {table : List Row} {initial : List Device} (done : List Line) (name : List ℕ) (used : ℕ) (content : List ℕ) (motes : ℕ) → motes ≡ motes_in done → LineRuns table initial done (Golden name used content) None (Some (golden_world motes name used content)) []
-golden_runs done name used content motes is = λ g played before items r. record {
-  ground = g;
-  grounded = grounded_next g done (Golden name used content) refl (λ b. refl) before;
-  now = played;
-  items = items ∙ same_items done (Golden name used content) refl;
-  run = subst (λ (b : Beginning). RunsTo b.world played (Some (golden_world motes name used content))) (sym (begin_next g no_beginning done (Golden name used content))) (
-    golden_world motes name used content,
-    refl,
-    plays_none (golden_world (beginning_of g done).motes name used content) (golden_world motes name used content) played (runs_from_none (beginning_of g done).world played r).1
-        (ap (λ (n : ℕ). golden_world n name used content) (motes_same g no_ground no_beginning no_beginning done refl ∙ sym is)),
-  );
-  reported = sym (append-nil (played_text played));
-  on = inl refl;
-}
+-- the boards are used from now on
+placed_from : (F G : Saw) (o v : Option World) (w : World) (stores : List Store) (played : List Played) → RunsTo o played None → v ≡ Some w → stores_in (Some w) ≡ stores → (F [] [] → G stores []) → F (stores_in o) (events_played played) → G (stores_in v) (events_played played)
+placed_from F G o v w stores played r is are placed f =
+    let none : played ≡ [] = (runs_from_none o played r).1 in
+    subst (λ (x : Option World). G (stores_in x) (events_played played)) (sym is)
+    (subst (λ (ss : List Store). G ss (events_played played)) (sym are)
+    (subst (λ (es : List Played). G stores es) (sym (ap events_played none)) (shows_nothing F (λ ss es. G stores []) o played r placed f)))
+
+pub golden_runs : {table : List Row} {initial : List Device} {F G : Saw} (done : List Line) (name : List ℕ) (used : ℕ) (content : List ℕ) (motes : ℕ) → motes ≡ motes_in done → (F [] [] → G (replicate motes (fresh name content used)) []) → LineRuns table initial done (Golden name used content) None (Some (golden_world motes name used content)) (line_told [] F G)
+golden_runs {F = F} {G = G} done name used content motes is placed = λ g played before items r.
+    let many : (beginning_of g done).motes ≡ motes = motes_same g no_ground no_beginning no_beginning done refl ∙ sym is in
+    record {
+      on = record {
+        ground = g;
+        grounded = grounded_next g done (Golden name used content) refl (λ b. refl) before;
+        now = played;
+        items = items ∙ same_items done (Golden name used content) refl;
+        run = subst (λ (b : Beginning). RunsTo b.world played (Some (golden_world motes name used content))) (sym (begin_next g no_beginning done (Golden name used content))) (
+          golden_world motes name used content,
+          refl,
+          plays_none (golden_world (beginning_of g done).motes name used content) (golden_world motes name used content) played (runs_from_none (beginning_of g done).world played r).1
+              (ap (λ (n : ℕ). golden_world n name used content) many),
+        );
+        reported = sym (append-nil (played_text played));
+        on = inl refl;
+      };
+      shown = λ f. placed_from F G (beginning_of g done).world (beginning_of g (done ++ Golden name used content ∷ [])).world (golden_world motes name used content) (replicate motes (fresh name content used)) played r
+          (ap (λ (b : Beginning). b.world) (begin_next g no_beginning done (Golden name used content)) ∙ ap (λ (n : ℕ). Some (golden_world n name used content)) many)
+          (first_stores (golden_row name content ∷ []) [] none_narrow (replicate motes (fresh name content used))) placed f;
+    }
 
 -- the boards are used as they are, and held against any table
-pub boards_runs : {initial : List Device} (done : List Line) (table : List Row) (stores : List Store) → StandFor (motes_in done) stores initial → AreShaped stores → LineRuns table initial done Boards None (Some (first_world table [] none_narrow stores)) []
-boards_runs {initial} done table stores stand shaped = λ g played before items r.
+pub boards_runs : {initial : List Device} {F G : Saw} (done : List Line) (table : List Row) (stores : List Store) → StandFor (motes_in done) stores initial → AreShaped stores → (F [] [] → G stores []) → LineRuns table initial done Boards None (Some (first_world table [] none_narrow stores)) (line_told [] F G)
+boards_runs {initial} {F} {G} done table stores stand shaped placed = λ g played before items r.
     let ground : Ground = record { stores = stores; table = table } in
     let count : motes_in (done ++ Boards ∷ []) ≡ motes_in done = ap (λ (b : Beginning). b.motes) (begin_next no_ground no_beginning done Boards) in
     record {
-      ground = ground;
-      grounded = λ uses. subst (λ (n : ℕ). IsGround ground table n × StandFor n stores initial) (sym count) (record { held = refl; count = stand.count; shaped = shaped }, stand);
-      now = played;
-      items = items ∙ same_items done Boards refl;
-      run = subst (λ (b : Beginning). RunsTo b.world played (Some (first_world table [] none_narrow stores))) (sym (begin_next ground no_beginning done Boards)) (
-        first_world table [] none_narrow stores,
-        refl,
-        plays_none (first_world table [] none_narrow stores) (first_world table [] none_narrow stores) played (runs_from_none (beginning_of g done).world played r).1 refl,
-      );
-      reported = sym (append-nil (played_text played));
-      on = inl refl;
+      on = record {
+        ground = ground;
+        grounded = λ uses. subst (λ (n : ℕ). IsGround ground table n × StandFor n stores initial) (sym count) (record { held = refl; count = stand.count; shaped = shaped }, stand);
+        now = played;
+        items = items ∙ same_items done Boards refl;
+        run = subst (λ (b : Beginning). RunsTo b.world played (Some (first_world table [] none_narrow stores))) (sym (begin_next ground no_beginning done Boards)) (
+          first_world table [] none_narrow stores,
+          refl,
+          plays_none (first_world table [] none_narrow stores) (first_world table [] none_narrow stores) played (runs_from_none (beginning_of g done).world played r).1 refl,
+        );
+        reported = sym (append-nil (played_text played));
+        on = inl refl;
+      };
+      shown = λ f. placed_from F G (beginning_of g done).world (beginning_of ground (done ++ Boards ∷ [])).world (first_world table [] none_narrow stores) stores played r
+          (ap (λ (b : Beginning). b.world) (begin_next ground no_beginning done Boards)) (first_stores table [] none_narrow stores) placed f;
     }
 
 -- ---- links and narrow motes
@@ -236,17 +268,18 @@ boards_runs {initial} done table stores stand shaped = λ g played before items 
 -- What may be said of a world before its first event: declarations look at it no more than it looks at them.
 record Sets (f : World → World) : Type 0 where
   declared : (w : World) → (f w).declared ≡ w.declared
+  sites : (w : World) → (f w).sites ≡ w.sites
   rows : (o : Option Row) (w : World) (row : Row) → f (declared_as o w row) ≡ declared_as o (f w) row
 
 link_sets : (link : ℕ × ℕ) → Sets (with_link link)
-link_sets link = record { declared = λ w. refl; rows = by_row }
+link_sets link = record { declared = λ w. refl; sites = λ w. refl; rows = by_row }
   where
     by_row : (o : Option Row) (w : World) (row : Row) → with_link link (declared_as o w row) ≡ declared_as o (with_link link w) row
     by_row None w row = refl
     by_row (Some k) w row = refl
 
 narrow_sets : (m : ℕ) → Sets (with_narrow m)
-narrow_sets m = record { declared = λ w. refl; rows = by_row }
+narrow_sets m = record { declared = λ w. refl; sites = λ w. refl; rows = by_row }
   where
     by_row : (o : Option Row) (w : World) (row : Row) → with_narrow m (declared_as o w row) ≡ declared_as o (with_narrow m w) row
     by_row None w row = refl
@@ -283,26 +316,46 @@ run_set : (f : World → World) → Sets f → (o : Option World) (ps : List Pla
 run_set f s None ps w all (none, is) = absurd (let e : Some w ≡ None = is in cc)
 run_set f s (Some u) ps w all (v, is, plays) = (f w, refl, subst (λ (z : World). Plays (f u) (map (set_in f) ps) (f z)) (sym (some_is w v is)) (plays_set f s u v ps all plays))
 
+-- the stores are the same, and no event is among what was played
+stores_set : (f : World → World) → Sets f → (o : Option World) → stores_in (option_map f o) ≡ stores_in o
+stores_set f s None = refl
+stores_set f s (Some w) = ap (λ (xs : List Site). map (λ (x : Site). x.store) xs) (s.sites w)
+
+events_set : (f : World → World) (ps : List Played) → AllByRecursion IsDeclaration (map item_played ps) → events_played (map (set_in f) ps) ≡ events_played ps
+events_set f ps all = declared_none (map (set_in f) ps) (subst (λ (xs : List Item). AllByRecursion IsDeclaration xs) (sym (items_set f ps)) all) ∙ sym (declared_none ps all)
+
+seen_set : (f : World → World) → Sets f → (F G : Saw) (o v : Option World) (ps : List Played) → AllByRecursion IsDeclaration (map item_played ps) → v ≡ option_map f o → StaysSeen F G → F (stores_in o) (events_played ps) → G (stores_in v) (events_played (map (set_in f) ps))
+seen_set f s F G o v ps all is stays seen =
+    subst (λ (x : Option World). G (stores_in x) (events_played (map (set_in f) ps))) (sym is)
+    (subst (λ (ss : List Store). G ss (events_played (map (set_in f) ps))) (sym (stores_set f s o))
+    (subst (λ (es : List Played). G (stores_in o) es) (sym (events_set f ps all)) (stays (stores_in o) (events_played ps) seen)))
+
 -- behind such a line, the same was played from a world of which it says that
-set_runs : {table : List Row} {initial : List Device} (f : World → World) → Sets f → (done : List Line) (line : Line) (w : World) → AllByRecursion IsDeclaration (items_of done) → item_by (place_behind first_place done) line ≡ []
-    → ((g : Ground) (b : Beginning) → (begin_by g b line).world ≡ option_map f b.world) → is_boards line ≡ false → ((b : Beginning) → (begin_by no_ground b line).motes ≡ b.motes) → LineRuns table initial done line (Some w) (Some (f w)) []
-set_runs f s done line w all none begins plain counts = λ g played before items r. record {
-  ground = g;
-  grounded = grounded_next g done line plain counts before;
-  now = map (set_in f) played;
-  items = items_set f played ∙ items ∙ same_items done line none;
-  run = subst (λ (x : Beginning). RunsTo x.world (map (set_in f) played) (Some (f w))) (sym (begin_next g no_beginning done line))
-      (subst (λ (o : Option World). RunsTo o (map (set_in f) played) (Some (f w))) (sym (begins g (beginning_of g done)))
-      (run_set f s (beginning_of g done).world played w (subst (λ (xs : List Item). AllByRecursion IsDeclaration xs) (sym items) all) r));
-  reported = text_set f played ∙ sym (append-nil (played_text played));
-  on = inl refl;
-}
+set_runs : {table : List Row} {initial : List Device} {F G : Saw} (f : World → World) → Sets f → (done : List Line) (line : Line) (w : World) → AllByRecursion IsDeclaration (items_of done) → item_by (place_behind first_place done) line ≡ []
+    → ((g : Ground) (b : Beginning) → (begin_by g b line).world ≡ option_map f b.world) → is_boards line ≡ false → ((b : Beginning) → (begin_by no_ground b line).motes ≡ b.motes) → StaysSeen F G → LineRuns table initial done line (Some w) (Some (f w)) (line_told [] F G)
+set_runs {F = F} {G = G} f s done line w all none begins plain counts stays = λ g played before items r.
+    let declared : AllByRecursion IsDeclaration (map item_played played) = subst (λ (xs : List Item). AllByRecursion IsDeclaration xs) (sym items) all in
+    record {
+      on = record {
+        ground = g;
+        grounded = grounded_next g done line plain counts before;
+        now = map (set_in f) played;
+        items = items_set f played ∙ items ∙ same_items done line none;
+        run = subst (λ (x : Beginning). RunsTo x.world (map (set_in f) played) (Some (f w))) (sym (begin_next g no_beginning done line))
+            (subst (λ (o : Option World). RunsTo o (map (set_in f) played) (Some (f w))) (sym (begins g (beginning_of g done)))
+            (run_set f s (beginning_of g done).world played w declared r));
+        reported = text_set f played ∙ sym (append-nil (played_text played));
+        on = inl refl;
+      };
+      shown = λ seen. seen_set f s F G (beginning_of g done).world (beginning_of g (done ++ line ∷ [])).world played declared
+          (ap (λ (x : Beginning). x.world) (begin_next g no_beginning done line) ∙ begins g (beginning_of g done)) stays seen;
+    }
 
-pub link_runs : {table : List Row} {initial : List Device} (done : List Line) (a b : ℕ) (w : World) → AllByRecursion IsDeclaration (items_of done) → LineRuns table initial done (Link a b) (Some w) (Some (with_link (a, b) w)) []
-link_runs done a b w all = set_runs (with_link (a, b)) (link_sets (a, b)) done (Link a b) w all refl (λ g x. refl) refl (λ x. refl)
+pub link_runs : {table : List Row} {initial : List Device} {F G : Saw} (done : List Line) (a b : ℕ) (w : World) → AllByRecursion IsDeclaration (items_of done) → StaysSeen F G → LineRuns table initial done (Link a b) (Some w) (Some (with_link (a, b) w)) (line_told [] F G)
+link_runs done a b w all stays = set_runs (with_link (a, b)) (link_sets (a, b)) done (Link a b) w all refl (λ g x. refl) refl (λ x. refl) stays
 
-pub narrow_runs : {table : List Row} {initial : List Device} (done : List Line) (m : ℕ) (w : World) → AllByRecursion IsDeclaration (items_of done) → LineRuns table initial done (Narrow m) (Some w) (Some (with_narrow m w)) []
-narrow_runs done m w all = set_runs (with_narrow m) (narrow_sets m) done (Narrow m) w all refl (λ g x. refl) refl (λ x. refl)
+pub narrow_runs : {table : List Row} {initial : List Device} {F G : Saw} (done : List Line) (m : ℕ) (w : World) → AllByRecursion IsDeclaration (items_of done) → StaysSeen F G → LineRuns table initial done (Narrow m) (Some w) (Some (with_narrow m w)) (line_told [] F G)
+narrow_runs done m w all stays = set_runs (with_narrow m) (narrow_sets m) done (Narrow m) w all refl (λ g x. refl) refl (λ x. refl) stays
 
 -- ---- a line that was begun
 
@@ -312,15 +365,15 @@ few_in None p now kept = tt
 few_in (Some w) p now kept = kept.0.few_events
 
 -- nothing of it was played
-pub none_begun : {Q : Option World → List Item → List ℕ → Type 0} (p : Player) (done : List Line) (line : Line) (w : Option World) (now : List Device) → InWorld p w now → Q w (item_by (place_behind first_place done) line) [] → LineBegun done line w Q
-none_begun {Q} p done line w now kept there = from w (few_in w p now kept) there
+pub none_begun : {F G : Saw} {Q : Option World → List Item → List ℕ → Type 0} (p : Player) (done : List Line) (line : Line) (w : Option World) (now : List Device) → InWorld p w now → StaysSeen F G → Q w (item_by (place_behind first_place done) line) [] → LineBegun done line w F G Q
+none_begun {F} {G} {Q} p done line w now kept stays there = from w (few_in w p now kept) there
   where
-    from : (v : Option World) → IfSome v (λ u. u.events ≤ most_events) → Q v (item_by (place_behind first_place done) line) [] → LineBegun done line v Q
-    from None few at = record { begun = []; left = _; parts = refl; world = None; text = []; runs = (refl, refl, refl); there = at }
-    from (Some u) few at = record { begun = []; left = _; parts = refl; world = Some u; text = []; runs = (u, refl, items_run_none u few); there = at }
+    from : (v : Option World) → IfSome v (λ u. u.events ≤ most_events) → Q v (item_by (place_behind first_place done) line) [] → LineBegun done line v F G Q
+    from None few at = record { begun = []; left = _; parts = refl; world = None; text = []; runs = (refl, refl, refl, stays); there = at }
+    from (Some u) few at = record { begun = []; left = _; parts = refl; world = Some u; text = []; runs = (u, refl, items_run_none u few, shows_none F G u stays); there = at }
 
 -- its items were
-pub line_begun : {P : World → List Item → List ℕ → Type 0} {Q : Option World → List Item → List ℕ → Type 0} (done : List Line) (line : Line) (w : World) (items : List Item) → item_by (place_behind first_place done) line ≡ items → (b : ItemsBegun w items P)
-    → (P b.world b.left b.text → Q (Some b.world) b.left b.text) → LineBegun done line (Some w) Q
+pub line_begun : {F G : Saw} {P : World → List Item → List ℕ → Type 0} {Q : Option World → List Item → List ℕ → Type 0} (done : List Line) (line : Line) (w : World) (items : List Item) → item_by (place_behind first_place done) line ≡ items → (b : ItemsBegun w items F G P)
+    → (P b.world b.left b.text → Q (Some b.world) b.left b.text) → LineBegun done line (Some w) F G Q
 line_begun done line w items are b then_there =
-    record { begun = b.begun; left = b.left; parts = are ∙ b.parts; world = Some b.world; text = b.text; runs = (b.world, refl, b.runs); there = then_there b.there }
+    record { begun = b.begun; left = b.left; parts = are ∙ b.parts; world = Some b.world; text = b.text; runs = (b.world, refl, b.runs, b.shown); there = then_there b.there }

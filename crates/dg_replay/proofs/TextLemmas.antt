@@ -16,50 +16,52 @@ use Rattle.dg_replay.specs.Playing.{PlayedLine, PlayedAs, LineBegun}
 use Rattle.dg_replay.specs.Replaying.{NotFound, StopsAtLine, TextPlayed, TextAnswer, BegunWritten}
 use Rattle.dg_replay.specs.declared.player.Player.{Player}
 use Rattle.dg_replay.specs.declared.stop.Stop.{Stop}
-use Rattle.dg_replay.specs.Stages.{based_on, done_so_far, boards_reported, replay_state, line_read}
+use Rattle.dg_replay.specs.Shown.{Saw}
+use Rattle.dg_replay.specs.Stages.{based_on, done_so_far, told_so_far, boards_told, replay_state, line_read}
+use Rattle.dg_replay.proofs.ShownLemmas.{stays_same}
 use Rattle.dg_replay.specs.declared.stop.Stop.TheVariants.{Memory, BadInput, WriteFault, FlashFault, TooMany, NoBoard, NoImage, NotAVolume}
 
 same_stop : (s t : Stop) → ◌≡◌ {A = Result (Unit {0}) Stop} (Err s) (Err t) → s ≡ t
 same_stop s t e = cc
 
 -- what holds where a line was begun, and follows
-begun_then : {done : List Line} {line : Line} {w : Option World} {P Q : Option World → List Item → List ℕ → Type 0} → ((v : Option World) (left : List Item) (t : List ℕ) → P v left t → Q v left t) → LineBegun done line w P → LineBegun done line w Q
+begun_then : {done : List Line} {line : Line} {w : Option World} {F G : Saw} {P Q : Option World → List Item → List ℕ → Type 0} → ((v : Option World) (left : List Item) (t : List ℕ) → P v left t → Q v left t) → LineBegun done line w F G P → LineBegun done line w F G Q
 begun_then f b = record { begun = b.begun; left = b.left; parts = b.parts; world = b.world; text = b.text; runs = b.runs; there = f b.world b.left b.text b.there }
 
 -- a line was played, and what is reported of it was written, or a front of it
-pub told_as : (table : List Row) (r : Result (Unit {0}) Stop) (text : List ℕ) (number : ℕ) (p q : Player) (done : List Line) (w : Option World) (initial old new : List Device) (before after : Option (List ℕ)) (failed : Type 0) (line : Line) (told : List ℕ)
-    → line_of p.place text ≡ Ok line → PlayedLine (based_on table initial) q (done_so_far done w) line [] (boards_reported new told) → q.place ≡ place_after p.place line
+pub told_as : (table : List Row) (r : Result (Unit {0}) Stop) (text : List ℕ) (number : ℕ) (p q : Player) (done : List Line) (w : Option World) (initial old new : List Device) (before after : Option (List ℕ)) (failed : Type 0) (F G : Saw) (line : Line) (told : List ℕ)
+    → line_of p.place text ≡ Ok line → PlayedLine (based_on table initial) q (done_so_far done w) line (told_so_far [] F) (boards_told new (told_so_far told G)) → q.place ≡ place_after p.place line
     → OnOk r (Puts before after told) → OnErr r (PutsFront before after told × (told ≢ [])) → OnErr r ((r ≡ Err WriteFault) × failed)
-    → TextAnswer (based_on table initial) r (line_read text number) (done_so_far done w) (replay_state p old before) (replay_state q new after) failed
-told_as table (Ok u) text number p q done w initial old new before after failed line told spelled to behind ok cut cause =
+    → TextAnswer (based_on table initial) r (line_read text number) (done_so_far done w) (replay_state p old before F) (replay_state q new after G) failed
+told_as table (Ok u) text number p q done w initial old new before after failed F G line told spelled to behind ok cut cause =
     record { played = record { line = line; spelled = spelled; reported = told; to = to; behind = behind }; written = ok }
-told_as table (Err s) text number p q done w initial old new before after failed line told spelled to behind ok cut cause =
-    let P : Stop → Type 0 = λ x. TextAnswer (based_on table initial) (Err x) (line_read text number) (done_so_far done w) (replay_state p old before) (replay_state q new after) failed in
-    let played : TextPlayed (based_on table initial) text (done_so_far done w) p q new = record { line = line; spelled = spelled; reported = told; to = to; behind = behind } in
+told_as table (Err s) text number p q done w initial old new before after failed F G line told spelled to behind ok cut cause =
+    let P : Stop → Type 0 = λ x. TextAnswer (based_on table initial) (Err x) (line_read text number) (done_so_far done w) (replay_state p old before F) (replay_state q new after G) failed in
+    let played : TextPlayed (based_on table initial) text (done_so_far done w) (replay_state p old before F) (replay_state q new after G) = record { line = line; spelled = spelled; reported = told; to = to; behind = behind } in
     subst P (sym (same_stop s WriteFault cause.0)) (cause.1, inl (record { played = played; written = cut.0 }))
 
 -- a line was not played, or begun, and what is reported of that was written, or a front of it
-pub begun_as : (table : List Row) (stop result : Stop) (text : List ℕ) (number : ℕ) (p q : Player) (done : List Line) (w : Option World) (initial old new : List Device) (before after : Option (List ℕ)) (failed : Type 0) (line : Line) (told : List ℕ)
-    → line_of p.place text ≡ Ok line → PlayedAs (based_on table initial) (Err stop) q (done_so_far done w) line (boards_reported old []) (boards_reported new told) → BegunWritten stop result told before after failed
-    → TextAnswer (based_on table initial) (Err result) (line_read text number) (done_so_far done w) (replay_state p old before) (replay_state q new after) failed
-begun_as table Memory result text number p q done w initial old new before after failed line told spelled played (is, none) =
-    let P : Stop → Type 0 = λ x. TextAnswer (based_on table initial) (Err x) (line_read text number) (done_so_far done w) (replay_state p old before) (replay_state q new after) failed in
+pub begun_as : (table : List Row) (stop result : Stop) (text : List ℕ) (number : ℕ) (p q : Player) (done : List Line) (w : Option World) (initial old new : List Device) (before after : Option (List ℕ)) (failed : Type 0) (F G : Saw) (line : Line) (told : List ℕ)
+    → line_of p.place text ≡ Ok line → PlayedAs (based_on table initial) (Err stop) q (done_so_far done w) line (boards_told old (told_so_far [] F)) (boards_told new (told_so_far told G)) → BegunWritten stop result told before after failed
+    → TextAnswer (based_on table initial) (Err result) (line_read text number) (done_so_far done w) (replay_state p old before F) (replay_state q new after G) failed
+begun_as table Memory result text number p q done w initial old new before after failed F G line told spelled played (is, none) =
+    let P : Stop → Type 0 = λ x. TextAnswer (based_on table initial) (Err x) (line_read text number) (done_so_far done w) (replay_state p old before F) (replay_state q new after G) failed in
     subst P (sym is) (inr (record { line = line; spelled = spelled; there = played }, none))
-begun_as table (NoBoard m b) result text number p q done w initial old new before after failed line told spelled played (is, none) =
-    let P : Stop → Type 0 = λ x. TextAnswer (based_on table initial) (Err x) (line_read text number) (done_so_far done w) (replay_state p old before) (replay_state q new after) failed in
-    subst P (sym is) (record { line = line; spelled = spelled; there = played }, none)
-begun_as table NotAVolume result text number p q done w initial old new before after failed line told spelled played (is, none) =
-    let P : Stop → Type 0 = λ x. TextAnswer (based_on table initial) (Err x) (line_read text number) (done_so_far done w) (replay_state p old before) (replay_state q new after) failed in
-    subst P (sym is) (record { line = line; spelled = spelled; there = played }, none)
-begun_as table NoImage result text number p q done w initial old new before after failed line told spelled played (inl (is, put)) =
-    let P : Stop → Type 0 = λ x. TextAnswer (based_on table initial) (Err x) (line_read text number) (done_so_far done w) (replay_state p old before) (replay_state q new after) failed in
+begun_as table (NoBoard m b) result text number p q done w initial old new before after failed F G line told spelled played (is, none) =
+    let P : Stop → Type 0 = λ x. TextAnswer (based_on table initial) (Err x) (line_read text number) (done_so_far done w) (replay_state p old before F) (replay_state q new after G) failed in
+    subst P (sym is) (record { line = line; spelled = spelled; there = played.0 }, none, played.1)
+begun_as table NotAVolume result text number p q done w initial old new before after failed F G line told spelled played (is, none) =
+    let P : Stop → Type 0 = λ x. TextAnswer (based_on table initial) (Err x) (line_read text number) (done_so_far done w) (replay_state p old before F) (replay_state q new after G) failed in
+    subst P (sym is) (record { line = line; spelled = spelled; there = (played.0, played.1) }, none, played.2)
+begun_as table NoImage result text number p q done w initial old new before after failed F G line told spelled played (inl (is, put)) =
+    let P : Stop → Type 0 = λ x. TextAnswer (based_on table initial) (Err x) (line_read text number) (done_so_far done w) (replay_state p old before F) (replay_state q new after G) failed in
     subst P (sym is) (record {
       line = line;
       spelled = spelled;
       there = begun_then (λ v left t h. (h.0, subst (λ (xs : List ℕ). Puts before after xs) h.1 put)) played;
     })
-begun_as table NoImage result text number p q done w initial old new before after failed line told spelled played (inr (is, rose, some, cut)) =
-    let P : Stop → Type 0 = λ x. TextAnswer (based_on table initial) (Err x) (line_read text number) (done_so_far done w) (replay_state p old before) (replay_state q new after) failed in
+begun_as table NoImage result text number p q done w initial old new before after failed F G line told spelled played (inr (is, rose, some, cut)) =
+    let P : Stop → Type 0 = λ x. TextAnswer (based_on table initial) (Err x) (line_read text number) (done_so_far done w) (replay_state p old before F) (replay_state q new after G) failed in
     subst P (sym is) (
       rose,
       inr (record {
@@ -68,15 +70,15 @@ begun_as table NoImage result text number p q done w initial old new before afte
         there = begun_then (λ v left t h. inr (inr (subst (λ (xs : List ℕ). xs ≢ []) h.1 some, h.0, subst (λ (xs : List ℕ). PutsFront before after xs) h.1 cut))) played;
       }),
     )
-begun_as table FlashFault result text number p q done w initial old new before after failed line told spelled played (inl (is, put)) =
-    let P : Stop → Type 0 = λ x. TextAnswer (based_on table initial) (Err x) (line_read text number) (done_so_far done w) (replay_state p old before) (replay_state q new after) failed in
+begun_as table FlashFault result text number p q done w initial old new before after failed F G line told spelled played (inl (is, put)) =
+    let P : Stop → Type 0 = λ x. TextAnswer (based_on table initial) (Err x) (line_read text number) (done_so_far done w) (replay_state p old before F) (replay_state q new after G) failed in
     subst P (sym is) (record {
       line = line;
       spelled = spelled;
       there = (played.0, begun_then (λ v left t h. (h.0, subst (λ (xs : List ℕ). Puts before after xs) h.1 put)) played.1);
     })
-begun_as table FlashFault result text number p q done w initial old new before after failed line told spelled played (inr (is, rose, some, cut)) =
-    let P : Stop → Type 0 = λ x. TextAnswer (based_on table initial) (Err x) (line_read text number) (done_so_far done w) (replay_state p old before) (replay_state q new after) failed in
+begun_as table FlashFault result text number p q done w initial old new before after failed F G line told spelled played (inr (is, rose, some, cut)) =
+    let P : Stop → Type 0 = λ x. TextAnswer (based_on table initial) (Err x) (line_read text number) (done_so_far done w) (replay_state p old before F) (replay_state q new after G) failed in
     subst P (sym is) (
       rose,
       inr (record {
@@ -85,15 +87,15 @@ begun_as table FlashFault result text number p q done w initial old new before a
         there = begun_then (λ v left t h. inl (subst (λ (xs : List ℕ). xs ≢ []) h.1 some, h.0, subst (λ (xs : List ℕ). PutsFront before after xs) h.1 cut)) played.1;
       }),
     )
-begun_as table TooMany result text number p q done w initial old new before after failed line told spelled played (inl (is, put)) =
-    let P : Stop → Type 0 = λ x. TextAnswer (based_on table initial) (Err x) (line_read text number) (done_so_far done w) (replay_state p old before) (replay_state q new after) failed in
+begun_as table TooMany result text number p q done w initial old new before after failed F G line told spelled played (inl (is, put)) =
+    let P : Stop → Type 0 = λ x. TextAnswer (based_on table initial) (Err x) (line_read text number) (done_so_far done w) (replay_state p old before F) (replay_state q new after G) failed in
     subst P (sym is) (record {
       line = line;
       spelled = spelled;
       there = begun_then (λ v left t h. (h.0, h.1, subst (λ (xs : List ℕ). Puts before after xs) h.2 put)) played;
     })
-begun_as table TooMany result text number p q done w initial old new before after failed line told spelled played (inr (is, rose, some, cut)) =
-    let P : Stop → Type 0 = λ x. TextAnswer (based_on table initial) (Err x) (line_read text number) (done_so_far done w) (replay_state p old before) (replay_state q new after) failed in
+begun_as table TooMany result text number p q done w initial old new before after failed F G line told spelled played (inr (is, rose, some, cut)) =
+    let P : Stop → Type 0 = λ x. TextAnswer (based_on table initial) (Err x) (line_read text number) (done_so_far done w) (replay_state p old before F) (replay_state q new after G) failed in
     subst P (sym is) (
       rose,
       inr (record {
@@ -102,18 +104,18 @@ begun_as table TooMany result text number p q done w initial old new before afte
         there = begun_then (λ v left t h. inr (inl (h.0, h.1, subst (λ (xs : List ℕ). PutsFront before after xs) h.2 cut))) played;
       }),
     )
-begun_as table (BadInput n f) result text number p q done w initial old new before after failed line told spelled played written = absurd played
-begun_as table WriteFault result text number p q done w initial old new before after failed line told spelled played written = absurd played
+begun_as table (BadInput n f) result text number p q done w initial old new before after failed F G line told spelled played written = absurd played
+begun_as table WriteFault result text number p q done w initial old new before after failed F G line told spelled played written = absurd played
 
 -- no line was found
-pub not_found_as : (table : List Row) (stop : Stop) (text : List ℕ) (number : ℕ) (p q : Player) (done : List Line) (w : Option World) (initial now : List Device) (before : Option (List ℕ)) (failed : Type 0)
-    → NotFound p.place text number stop → TextAnswer (based_on table initial) (Err stop) (line_read text number) (done_so_far done w) (replay_state p now before) (replay_state q now before) failed
-not_found_as table stop text number p q done w initial now before failed (inl memory) =
-    let P : Stop → Type 0 = λ x. TextAnswer (based_on table initial) (Err x) (line_read text number) (done_so_far done w) (replay_state p now before) (replay_state q now before) failed in
-    subst P (sym memory) (inl (record { boards = refl; written = refl }))
-not_found_as table stop text number p q done w initial now before failed (inr (fault, is, read)) =
-    let P : Stop → Type 0 = λ x. TextAnswer (based_on table initial) (Err x) (line_read text number) (done_so_far done w) (replay_state p now before) (replay_state q now before) failed in
-    subst P (sym is) (refl, read, record { boards = refl; written = refl })
+pub not_found_as : (table : List Row) (stop : Stop) (text : List ℕ) (number : ℕ) (p q : Player) (done : List Line) (w : Option World) (initial now : List Device) (before : Option (List ℕ)) (failed : Type 0) (F : Saw)
+    → NotFound p.place text number stop → TextAnswer (based_on table initial) (Err stop) (line_read text number) (done_so_far done w) (replay_state p now before F) (replay_state q now before F) failed
+not_found_as table stop text number p q done w initial now before failed F (inl memory) =
+    let P : Stop → Type 0 = λ x. TextAnswer (based_on table initial) (Err x) (line_read text number) (done_so_far done w) (replay_state p now before F) (replay_state q now before F) failed in
+    subst P (sym memory) (inl (record { boards = refl; written = refl; seen = stays_same F }))
+not_found_as table stop text number p q done w initial now before failed F (inr (fault, is, read)) =
+    let P : Stop → Type 0 = λ x. TextAnswer (based_on table initial) (Err x) (line_read text number) (done_so_far done w) (replay_state p now before F) (replay_state q now before F) failed in
+    subst P (sym is) (refl, read, record { boards = refl; written = refl; seen = stays_same F })
 
 -- a line was not read
 pub not_read : (place : Place) (text : List ℕ) (number : ℕ) (stop : Stop) (fault : LineFault) → (known : (fault ≡ line_fault.Memory) ⊎ (fault ≢ line_fault.Memory)) → StopsAtLine stop number fault → (fault ≢ line_fault.Memory → line_of place text ≡ Err fault)

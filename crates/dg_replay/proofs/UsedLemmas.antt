@@ -14,6 +14,7 @@ use Rattle.dg_replay.specs.Ending.{up_to, whole_lines, used}
 use Rattle.dg_replay.specs.Fronts.{IsFront}
 use Rattle.dg_replay.specs.Replayed.{AllRead}
 use Rattle.dg_replay.specs.Replaying.{Reached}
+use Rattle.dg_replay.specs.Shown.{Saw}
 use Rattle.dg_replay.specs.Stages.{span}
 use Rattle.dg_replay.specs.declared.player.Player.{Player}
 use Rattle.dg_replay.proofs.EndLemmas.{is_over-true}
@@ -47,6 +48,6 @@ over_used front ahead is few over none =
 -- ---- what was played
 
 -- all lines of these texts were played
-pub all_read : {table : List Row} (texts : List (List ℕ)) (n : ℕ) (p : Player) (initial now : List Device) (before after : Option (List ℕ)) → (r : Reached table false (script_from false first_place 1 texts) [] n p (span initial now before after)) → AllRead texts r.done
+pub all_read : {table : List Row} {S G : Saw} (texts : List (List ℕ)) (n : ℕ) (p : Player) (initial now : List Device) (before after : Option (List ℕ)) → (r : Reached table false (script_from false first_place 1 texts) [] n p (span initial now before after S G)) → AllRead texts r.done
 unfolding script_from
 all_read texts n p initial now before after r = record { lines = sym (append-nil r.done) ∙ r.lines; fault = sym r.fault }

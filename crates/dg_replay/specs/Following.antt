@@ -1,12 +1,11 @@
 -- What reading the next line and playing it answers (docs/ARCHITECTURE.md, "The way of a script line").
-use Rattle.std.specs.Prelude.{◌≡◌, ℕ, ◌+◌, ◌≤◌, Bool, true, false, List, length, Option, Result, Ok, Err}
-use Rattle.dg_nor.specs.Device.{Device}
+use Rattle.std.specs.Prelude.{◌≡◌, ℕ, ◌+◌, ◌≤◌, Bool, true, false, List, length, Result, Ok, Err}
 use Rattle.dg_script.specs.LineReading.{Reading, most_kept, most_used_bytes, HasNoEnd, FirstLine, Gives, IsAtEnd, IsTooLong}
 use Rattle.dg_script.specs.declared.fault.LineFault.TheVariants as line_fault
 use Rattle.dg_script.specs.declared.line_reader.ReadStop.{ReadStop}
 use Rattle.dg_script.specs.declared.line_reader.ReadStop.TheVariants as read_stop
-use Rattle.dg_replay.specs.Stages.{BytesTaken}
-use Rattle.dg_replay.specs.declared.player.Player.{Player}
+use Rattle.dg_replay.specs.Shown.{StaysSeen}
+use Rattle.dg_replay.specs.Stages.{BytesTaken, ReplayState}
 use Rattle.dg_replay.specs.declared.halt.Halt.{Halt}
 use Rattle.dg_replay.specs.declared.halt.Halt.TheVariants.{ReadFault, TooLong, Stopped}
 use Rattle.dg_replay.specs.declared.stop.Stop.{Stop}
@@ -18,11 +17,12 @@ pub record LineTaken (bytes : List ℕ) (old : Reading) (at_end : Type 0) (text 
   pub used : old.passed + length bytes ≤ most_used_bytes
   pub near : length rest ≤ most_kept
 
--- nothing was played and nothing written
-pub record AllAsBefore (p q : Player) (old new : List Device) (before after : Option (List ℕ)) : Type 0 where
-  pub player : q ≡ p
-  pub boards : new ≡ old
-  pub written : after ≡ before
+-- nothing was played and nothing written, and the state of the replay, which was a, is b
+pub record AllAsBefore (a b : ReplayState) : Type 0 where
+  pub player : b.player ≡ a.player
+  pub boards : b.boards ≡ a.boards
+  pub written : b.written ≡ a.written
+  pub seen : StaysSeen a.saw b.saw
 
 -- why a replay ends at a line that could not be read
 abbrev pub HaltedAs : ReadStop → Halt → Type 0

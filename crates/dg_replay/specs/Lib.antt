@@ -5,6 +5,7 @@ pub mod WholeLines
 pub mod Fronts
 pub mod Near
 pub mod Around
+pub mod Shown
 pub mod Stages
 pub mod Untouched
 pub mod Replayed

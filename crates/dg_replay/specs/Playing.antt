@@ -32,7 +32,8 @@ use Rattle.dg_replay.specs.Boards.{LacksImage}
 use Rattle.dg_script.specs.Items.{Item, Declares, Applies, item_by, items_of, place_behind}
 use Rattle.dg_replay.specs.Items.{Ground, UsesBoards, beginning_of, motes_in, lacking_by}
 use Rattle.dg_replay.specs.Replayed.{IsGround, item_played, played_text, RunsTo}
-use Rattle.dg_replay.specs.Stages.{Basis, DoneSoFar, BoardsReported}
+use Rattle.dg_replay.specs.Shown.{Saw, Shows, StaysSeen, GoesOnSeen}
+use Rattle.dg_replay.specs.Stages.{Basis, based_on, DoneSoFar, Told, LineTold, line_told, BoardsTold}
 use Rattle.dg_replay.specs.declared.player.Player.{Player}
 use Rattle.dg_replay.specs.declared.stop.Stop.{Stop}
 use Rattle.dg_replay.specs.declared.stop.Stop.TheVariants.{Memory, BadInput, WriteFault, FlashFault, TooMany, NoBoard, NoImage}
@@ -48,25 +49,29 @@ pub record ItemsRun (w : World) (items : List Item) (v : World) (text : List ℕ
   pub reported : text ≡ played_text played
   pub few : v.events ≤ most_events
 
--- Items were played, and the boards, which were `initial` when the replay began, stand for the world then.
+-- Items were played, and the boards, which were `initial` when the replay began, stand for the world then. A watcher was shown
+-- what was played.
 pub record ItemsPlayed (w : World) (items : List Item) (kept : KeptWorld) (initial now : List Device)
-    (report_before report : List ℕ) : Type 0 where
+    (told_before told : Told) : Type 0 where
   pub world : World
   pub text : List ℕ
   pub runs : ItemsRun w items world text
   pub kept_now : IsWorld kept now world
   pub boards : WorldStands world initial now
-  pub report_now : report ≡ report_before ++ text
+  pub report_now : told.text ≡ told_before.text ++ text
+  pub shown : Shows told_before.saw told.saw w runs.played
 
--- Of these items the first were played, and P holds of the world then, of those that are left,
+-- Of these items the first were played, which a watcher was shown, and P holds of the world then, of those that are left,
 -- and of what is reported of those that were played.
-pub record ItemsBegun (w : World) (items : List Item) (P : World → (left : List Item) → (text : List ℕ) → Type 0) : Type 0 where
+pub record ItemsBegun (w : World) (items : List Item) (before after : Saw)
+    (P : World → (left : List Item) → (text : List ℕ) → Type 0) : Type 0 where
   pub begun : List Item
   pub left : List Item
   pub parts : items ≡ begun ++ left
   pub world : World
   pub text : List ℕ
   pub runs : ItemsRun w begun world text
+  pub shown : Shows before after w runs.played
   pub there : P world left text
 
 -- an event was not played, since there were a million before it
@@ -79,23 +84,25 @@ pub record StopsInItem (w : World) (left : List Item) (initial now : List Device
   pub stopped : BoardStopped (length w.sites) initial now
   pub there : ItemStops left (Some w) stopped.board stopped.after.image initial now
 
--- What playing items answers, where this was reported before, and b are the boards and what is reported then.
+-- What playing items answers, where this was told before, and b are the boards and what is told then.
 abbrev pub ItemsPlayedAs : Result (Unit {0}) Stop → World → List Item → KeptWorld → (initial : List Device)
-    → (report_before : List ℕ) → (b : BoardsReported) → Type 0
-ItemsPlayedAs (Ok u) w items kept initial report_before b = ItemsPlayed w items kept initial b.boards report_before b.reported
-ItemsPlayedAs (Err Memory) w items kept initial report_before b =
-    ItemsBegun w items (λ v left text. WorldStands v initial b.boards)
-ItemsPlayedAs (Err TooMany) w items kept initial report_before b =
-    ItemsBegun w items (λ v left text. IsOneTooMany v left × WorldStands v initial b.boards
-    × (b.reported ≡ report_before ++ text))
-ItemsPlayedAs (Err FlashFault) w items kept initial report_before b =
-    ItemsBegun w items (λ v left text. StopsInItem v left initial b.boards × (b.reported ≡ report_before ++ text))
-ItemsPlayedAs (Err NoImage) w items kept initial report_before b =
-    ItemsBegun w items (λ v left text. LacksImage v left initial b.boards × (b.reported ≡ report_before ++ text))
-ItemsPlayedAs (Err NotAVolume) w items kept initial report_before b = ⊥
-ItemsPlayedAs (Err (NoBoard motes boards)) w items kept initial report_before b = ⊥
-ItemsPlayedAs (Err (BadInput n fault)) w items kept initial report_before b = ⊥
-ItemsPlayedAs (Err WriteFault) w items kept initial report_before b = ⊥
+    → (before : Told) → (b : BoardsTold) → Type 0
+ItemsPlayedAs (Ok u) w items kept initial before b = ItemsPlayed w items kept initial b.boards before b.told
+ItemsPlayedAs (Err Memory) w items kept initial before b =
+    ItemsBegun w items before.saw b.told.saw (λ v left text. WorldStands v initial b.boards)
+ItemsPlayedAs (Err TooMany) w items kept initial before b =
+    ItemsBegun w items before.saw b.told.saw (λ v left text. IsOneTooMany v left × WorldStands v initial b.boards
+    × (b.told.text ≡ before.text ++ text))
+ItemsPlayedAs (Err FlashFault) w items kept initial before b =
+    ItemsBegun w items before.saw b.told.saw (λ v left text. StopsInItem v left initial b.boards
+    × (b.told.text ≡ before.text ++ text))
+ItemsPlayedAs (Err NoImage) w items kept initial before b =
+    ItemsBegun w items before.saw b.told.saw (λ v left text. LacksImage v left initial b.boards
+    × (b.told.text ≡ before.text ++ text))
+ItemsPlayedAs (Err NotAVolume) w items kept initial before b = ⊥
+ItemsPlayedAs (Err (NoBoard motes boards)) w items kept initial before b = ⊥
+ItemsPlayedAs (Err (BadInput n fault)) w items kept initial before b = ⊥
+ItemsPlayedAs (Err WriteFault) w items kept initial before b = ⊥
 
 -- the world that is kept stands for one with as many motes as before
 abbrev pub KeepsMotes : Result (Unit {0}) Stop → (before after : KeptWorld) → (old new : List Device) → Type 0
@@ -177,39 +184,47 @@ pub record RunsOn (table : List Row) (initial : List Device) (done : List Line) 
   -- where something is reported, it goes on after what was played before
   pub on : (text ≡ []) ⊎ ((more : List Played) × (now ≡ played ++ more))
 
+-- A line goes on with such a run, and a watcher that saw what was played before sees what was played then.
+pub record GoesOn (basis : Basis) (done : List Line) (line : Line) (v : Option World) (told : LineTold) (g : Ground)
+    (played : List Played) : Type 0 where
+  pub on : RunsOn basis.table basis.boards done line v told.text played
+  pub shown : GoesOnSeen told.before told.after (beginning_of g done).world played
+      (beginning_of on.ground (done ++ line ∷ [])).world on.now
+
 -- What a line after others makes of a run that leads to a world. Behind a link or a narrow mote it is the run of the same
 -- items from a world that has it.
 abbrev pub LineRuns : (table : List Row) → (initial : List Device) → (done : List Line) → (line : Line)
-    → (w v : Option World) → (text : List ℕ) → Type 0
-LineRuns table initial done line w v text = (g : Ground) (played : List Played) → Grounded table initial g done
+    → (w v : Option World) → (told : LineTold) → Type 0
+LineRuns table initial done line w v told = (g : Ground) (played : List Played) → Grounded table initial g done
     → map item_played played ≡ items_of done → RunsTo (beginning_of g done).world played w
-    → RunsOn table initial done line v text played
+    → GoesOn (based_on table initial) done line v told g played
 
--- A line was played after others, and this is reported of it.
-pub record PlayedLine (basis : Basis) (q : Player) (behind : DoneSoFar) (line : Line) (report_before : List ℕ)
-    (b : BoardsReported) : Type 0 where
+-- A line was played after others, and this is told of it.
+pub record PlayedLine (basis : Basis) (q : Player) (behind : DoneSoFar) (line : Line) (before : Told)
+    (b : BoardsTold) : Type 0 where
   pub world : Option World
   pub text : List ℕ
-  pub report_now : b.reported ≡ report_before ++ text
-  pub runs : LineRuns basis.table basis.boards behind.lines line behind.world world text
+  pub report_now : b.told.text ≡ before.text ++ text
+  pub runs : LineRuns basis.table basis.boards behind.lines line behind.world world (line_told text before.saw b.told.saw)
   pub stood : Stood q (behind.lines ++ line ∷ []) world basis.boards b.boards
   pub boards_enough : lacking_by (length basis.boards) line None ≡ None
 
--- items run from a world, and none where there is no world yet
-abbrev pub RunsFrom : Option World → List Item → Option World → List ℕ → Type 0
-RunsFrom None items v text = (items ≡ []) × (v ≡ None) × (text ≡ [])
-RunsFrom (Some w) items v text = (u : World) × (v ≡ Some u) × ItemsRun w items u text
+-- items run from a world, which a watcher was shown, and none where there is no world yet
+abbrev pub RunsFrom : Option World → List Item → Option World → LineTold → Type 0
+RunsFrom None items v told = (items ≡ []) × (v ≡ None) × (told.text ≡ []) × StaysSeen told.before told.after
+RunsFrom (Some w) items v told =
+    (u : World) × (v ≡ Some u) × (x : ItemsRun w items u told.text) × Shows told.before told.after w x.played
 
--- A line after others was begun: of its items the first were played, and P holds of the world then, of those that are left,
--- and of what is reported of those that were played.
-pub record LineBegun (done : List Line) (line : Line) (w : Option World) (P : Option World → (left : List Item)
-    → (text : List ℕ) → Type 0) : Type 0 where
+-- A line after others was begun: of its items the first were played, which a watcher was shown, and P holds of the world then,
+-- of those that are left, and of what is reported of those that were played.
+pub record LineBegun (done : List Line) (line : Line) (w : Option World) (before after : Saw)
+    (P : Option World → (left : List Item) → (text : List ℕ) → Type 0) : Type 0 where
   pub begun : List Item
   pub left : List Item
   pub parts : item_by (place_behind first_place done) line ≡ begun ++ left
   pub world : Option World
   pub text : List ℕ
-  pub runs : RunsFrom w begun world text
+  pub runs : RunsFrom w begun world (line_told text before after)
   pub there : P world left text
 
 -- the line that says how many motes there are was not played, since boards are missing
@@ -220,23 +235,24 @@ pub record LacksBoards (line : Line) (motes boards : ℕ) (initial old new : Lis
   pub same : new ≡ old
 
 -- What playing a line answers, from a player and boards that stand for the world after other lines. The boards and what is
--- reported were a before it, and are b then.
-abbrev pub PlayedAs : Basis → Result (Unit {0}) Stop → Player → (behind : DoneSoFar) → Line → (a b : BoardsReported) → Type 0
-PlayedAs basis (Ok u) q behind line a b = PlayedLine basis q behind line a.reported b
+-- told were a before it, and are b then.
+abbrev pub PlayedAs : Basis → Result (Unit {0}) Stop → Player → (behind : DoneSoFar) → Line → (a b : BoardsTold) → Type 0
+PlayedAs basis (Ok u) q behind line a b = PlayedLine basis q behind line a.told b
 PlayedAs basis (Err Memory) q behind line a b =
-    LineBegun behind.lines line behind.world (λ v left text. BoardsStand v basis.boards b.boards)
-PlayedAs basis (Err (NoBoard motes boards)) q behind line a b = LacksBoards line motes boards basis.boards a.boards b.boards
+    LineBegun behind.lines line behind.world a.told.saw b.told.saw (λ v left text. BoardsStand v basis.boards b.boards)
+PlayedAs basis (Err (NoBoard motes boards)) q behind line a b =
+    LacksBoards line motes boards basis.boards a.boards b.boards × StaysSeen a.told.saw b.told.saw
 PlayedAs basis (Err FlashFault) q behind line a b = UsesBoard line
-    × LineBegun behind.lines line behind.world (λ v left text.
-    StoppedIn (motes_in behind.lines) (line ∷ []) left v basis.boards b.boards × (b.reported ≡ a.reported ++ text))
+    × LineBegun behind.lines line behind.world a.told.saw b.told.saw (λ v left text.
+    StoppedIn (motes_in behind.lines) (line ∷ []) left v basis.boards b.boards × (b.told.text ≡ a.told.text ++ text))
 PlayedAs basis (Err TooMany) q behind line a b =
-    LineBegun behind.lines line behind.world (λ v left text. InSome v (λ u. IsOneTooMany u left)
-    × BoardsStand v basis.boards b.boards × (b.reported ≡ a.reported ++ text))
+    LineBegun behind.lines line behind.world a.told.saw b.told.saw (λ v left text. InSome v (λ u. IsOneTooMany u left)
+    × BoardsStand v basis.boards b.boards × (b.told.text ≡ a.told.text ++ text))
 PlayedAs basis (Err NoImage) q behind line a b =
-    LineBegun behind.lines line behind.world (λ v left text. InSome v (λ u. LacksImage u left basis.boards b.boards)
-    × (b.reported ≡ a.reported ++ text))
+    LineBegun behind.lines line behind.world a.told.saw b.told.saw (λ v left text.
+    InSome v (λ u. LacksImage u left basis.boards b.boards) × (b.told.text ≡ a.told.text ++ text))
 PlayedAs basis (Err NotAVolume) q behind line a b =
-    (line ≡ Boards) × NoVolumeIn (motes_in behind.lines) basis.boards b.boards
+    (line ≡ Boards) × NoVolumeIn (motes_in behind.lines) basis.boards b.boards × StaysSeen a.told.saw b.told.saw
 PlayedAs basis (Err (BadInput n fault)) q behind line a b = ⊥
 PlayedAs basis (Err WriteFault) q behind line a b = ⊥
 

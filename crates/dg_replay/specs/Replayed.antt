@@ -32,6 +32,7 @@ use Rattle.dg_world.specs.Boards.{BoardStopped}
 use Rattle.dg_replay.specs.Boards.{BoardsStand, StoppedIn, EventNext, InSome, NoVolumeIn, LacksImage}
 use Rattle.dg_replay.specs.Items.{Ground, UsesBoards, beginning_of, motes_in, next_items, events_among}
 use Rattle.dg_replay.specs.Around.{Around}
+use Rattle.dg_replay.specs.Shown.{Saw, stores_in, events_played}
 use Rattle.dg_replay.specs.Stages.{BytesTaken, bytes_taken}
 use Rattle.dg_replay.specs.Ending.{Ending, Ends, NoBoards, TooManyEvents, FaultAt, Over, InBounds, whole_lines, ending_of}
 use Rattle.dg_replay.specs.Ending.{ending_line, status_of, script_of}
@@ -75,6 +76,10 @@ pub record Progress (table : List Row) (script : Script) : Type 0 where
   pub items : map item_played played ≡ items_of done ++ begun
   pub run : RunsTo (beginning_of ground done).world played last
   pub grounded : UsesBoards done → IsGround ground table (motes_in done)
+
+-- a watcher saw the events that were played, from where the run begins
+abbrev pub IsSeen : {table : List Row} {script : Script} → Saw → Progress table script → Type 0
+IsSeen saw c = saw (stores_in (beginning_of c.ground c.done).world) (events_played c.played)
 
 -- the end of a report
 abbrev pub closing : Ending → Option World → List ℕ

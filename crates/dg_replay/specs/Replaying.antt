@@ -27,12 +27,14 @@ use Rattle.dg_replay.specs.Ending.{Ending, NoBoards, TooManyEvents, FaultAt, scr
 use Rattle.dg_replay.specs.Near.{behind_lines, FewBytesBehind}
 use Rattle.dg_replay.specs.Untouched.{KeepBytes, FormatsNone}
 use Rattle.dg_replay.specs.Replayed.{Progress, ReachesEnding, AtTooMany, closing, Wrote, BoardsLeft, BoardStoppedThere, IsCaused}
-use Rattle.dg_replay.specs.Replayed.{Untouched}
+use Rattle.dg_replay.specs.Replayed.{Untouched, IsSeen}
 use Rattle.dg_replay.specs.Replayed.{RunsTo, item_played, played_text, report_of_lines, IsSettled, AreWhole, AllWhole}
 use Rattle.dg_replay.specs.Replayed.{NextIsWhole}
 use Rattle.dg_replay.specs.Replayed.{DoneIsWhole, RestsOnTaken, ReadsNear, NoVolumeThere, NoImageThere, no_volume_line}
 use Rattle.dg_replay.specs.Replayed.{no_image_line}
-use Rattle.dg_replay.specs.Stages.{Basis, DoneSoFar, ReplayState, LineRead, Span, BytesTaken, Failures, boards_reported, span}
+use Rattle.dg_replay.specs.Shown.{Saw, StaysSeen, stores_in, events_played}
+use Rattle.dg_replay.specs.Stages.{Basis, DoneSoFar, ReplayState, LineRead, Span, BytesTaken, Failures, told_so_far, boards_told}
+use Rattle.dg_replay.specs.Stages.{span_between}
 use Rattle.dg_replay.specs.Playing.{Stood, PlayedLine, LineBegun, IsOneTooMany, LacksBoards, Grounded}
 use Rattle.dg_replay.specs.declared.player.Player.{Player}
 use Rattle.dg_script.specs.declared.line.Line.{Line}
@@ -46,27 +48,28 @@ use Rattle.dg_replay.specs.declared.stop.Stop.TheVariants.{Memory, BadInput, Wri
 use Rattle.dg_replay.specs.declared.stop.Stop.TheVariants.{NotAVolume}
 
 -- The line that a text spells was played, from a player and boards that stand for the world after some lines.
-pub record TextPlayed (basis : Basis) (text : List ℕ) (so_far : DoneSoFar) (p q : Player) (now : List Device) : Type 0 where
+pub record TextPlayed (basis : Basis) (text : List ℕ) (so_far : DoneSoFar) (a b : ReplayState) : Type 0 where
   pub line : Line
-  pub spelled : line_of p.place text ≡ Ok line
+  pub spelled : line_of a.player.place text ≡ Ok line
   pub reported : List ℕ
-  pub to : PlayedLine basis q so_far line [] (boards_reported now reported)
-  pub behind : q.place ≡ place_after p.place line
+  pub to : PlayedLine basis b.player so_far line (told_so_far [] a.saw) (boards_told b.boards (told_so_far reported b.saw))
+  pub behind : b.player.place ≡ place_after a.player.place line
 
 -- and what is reported of it was written
 pub record TextReported (basis : Basis) (text : List ℕ) (behind : DoneSoFar) (a b : ReplayState) : Type 0 where
-  pub played : TextPlayed basis text behind a.player b.player b.boards
+  pub played : TextPlayed basis text behind a b
   pub written : Puts a.written b.written played.reported
 
 -- or a front of it
 pub record TextCut (basis : Basis) (text : List ℕ) (behind : DoneSoFar) (a b : ReplayState) : Type 0 where
-  pub played : TextPlayed basis text behind a.player b.player b.boards
+  pub played : TextPlayed basis text behind a b
   pub written : PutsFront a.written b.written played.reported
 
 -- nothing was done
-pub record NothingDone (old new : List Device) (before after : Option (List ℕ)) : Type 0 where
-  pub boards : new ≡ old
-  pub written : after ≡ before
+pub record NothingDone (a b : ReplayState) : Type 0 where
+  pub boards : b.boards ≡ a.boards
+  pub written : b.written ≡ a.written
+  pub seen : StaysSeen a.saw b.saw
 
 -- a line was read, and P holds of it
 pub record TextRead (text : List ℕ) (p : Player) (P : Line → Type 0) : Type 0 where
@@ -121,38 +124,37 @@ BegunWritten stop result text before after failed = (result ≡ stop) × (after 
 
 -- items of a line after others were played, and what is reported of them was not all written, since a write failed
 abbrev pub BegunAndCut : (initial : List Device) → (behind : DoneSoFar) → (a b : ReplayState) → Line → Type 0
-BegunAndCut initial behind a b line = LineBegun behind.lines line behind.world
-    (λ v left t. CutAtStop behind.lines line v left t (span initial b.boards a.written b.written)
-    ⊎ (CutAtTooMany v left t (span initial b.boards a.written b.written)
-    ⊎ CutAtImage v left t (span initial b.boards a.written b.written)))
+BegunAndCut initial behind a b line = LineBegun behind.lines line behind.world a.saw b.saw
+    (λ v left t. CutAtStop behind.lines line v left t (span_between initial a b)
+    ⊎ (CutAtTooMany v left t (span_between initial a b) ⊎ CutAtImage v left t (span_between initial a b)))
 
 -- What playing the text of a line answers after some lines. The player, the boards and what was written were a before it,
 -- and are b then.
 abbrev pub TextAnswer : Basis → Result (Unit {0}) Stop → LineRead → (behind : DoneSoFar) → (a b : ReplayState)
     → (write_failed : Type 0) → Type 0
 TextAnswer basis (Ok u) read behind a b failed = TextReported basis read.text behind a b
-TextAnswer basis (Err Memory) read behind a b failed = NothingDone a.boards b.boards a.written b.written
-    ⊎ (TextRead read.text a.player (λ line. LineBegun behind.lines line behind.world
+TextAnswer basis (Err Memory) read behind a b failed = NothingDone a b
+    ⊎ (TextRead read.text a.player (λ line. LineBegun behind.lines line behind.world a.saw b.saw
     (λ v left t. BoardsStand v basis.boards b.boards)) × (b.written ≡ a.written))
 TextAnswer basis (Err (BadInput line fault)) read behind a b failed = (line ≡ read.number)
-    × (line_of a.player.place read.text ≡ Err fault) × NothingDone a.boards b.boards a.written b.written
+    × (line_of a.player.place read.text ≡ Err fault) × NothingDone a b
 TextAnswer basis (Err WriteFault) read behind a b failed = failed × (TextCut basis read.text behind a b
     ⊎ TextRead read.text a.player (BegunAndCut basis.boards behind a b))
 TextAnswer basis (Err FlashFault) read behind a b failed = TextRead read.text a.player (λ line. UsesBoard line
-    × LineBegun behind.lines line behind.world (λ v left t.
+    × LineBegun behind.lines line behind.world a.saw b.saw (λ v left t.
     StoppedIn (motes_in behind.lines) (line ∷ []) left v basis.boards b.boards × Puts a.written b.written t))
 TextAnswer basis (Err TooMany) read behind a b failed = TextRead read.text a.player (λ line.
-    LineBegun behind.lines line behind.world (λ v left t. InSome v (λ u. IsOneTooMany u left)
+    LineBegun behind.lines line behind.world a.saw b.saw (λ v left t. InSome v (λ u. IsOneTooMany u left)
     × BoardsStand v basis.boards b.boards × Puts a.written b.written t))
 TextAnswer basis (Err (NoBoard motes boards)) read behind a b failed =
     TextRead read.text a.player (λ line. LacksBoards line motes boards basis.boards a.boards b.boards)
-    × (b.written ≡ a.written)
+    × (b.written ≡ a.written) × StaysSeen a.saw b.saw
 TextAnswer basis (Err NoImage) read behind a b failed = TextRead read.text a.player (λ line.
-    LineBegun behind.lines line behind.world (λ v left t. InSome v (λ u. LacksImage u left basis.boards b.boards)
-    × Puts a.written b.written t))
+    LineBegun behind.lines line behind.world a.saw b.saw (λ v left t.
+    InSome v (λ u. LacksImage u left basis.boards b.boards) × Puts a.written b.written t))
 TextAnswer basis (Err NotAVolume) read behind a b failed =
     TextRead read.text a.player (λ line. (line ≡ Boards) × NoVolumeIn (motes_in behind.lines) basis.boards b.boards)
-    × (b.written ≡ a.written)
+    × (b.written ≡ a.written) × StaysSeen a.saw b.saw
 
 -- These texts are left of a script, and what comes before them was played.
 pub record Reached (table : List Row) (ends : Bool) (script : Script) (texts : List (List ℕ)) (number : ℕ) (p : Player)
@@ -168,11 +170,20 @@ pub record Reached (table : List Row) (ends : Bool) (script : Script) (texts : L
   pub run : RunsTo (beginning_of ground done).world played last
   pub grounded : Grounded table s.initial ground done
   pub reported : Puts s.before s.after (played_text played)
+  pub seen : s.first [] [] → s.saw (stores_in (beginning_of ground done).world) (events_played played)
   pub stood : Stood p done last s.initial s.now
   pub few : events_in done ≤ most_events
   pub untouched : AllByRecursion FormatsNone done → KeepBytes (items_of done) s.initial s.now
   -- there are boards for the motes of every line that was done
   pub boards_enough : lacking (length s.initial) done ≡ None
+
+-- where nothing is said of what a watcher saw
+abbrev pub unseen : Saw
+unseen = λ stores events. Unit {0}
+
+-- what a watcher saw that was shown the events of a run from where it begins
+abbrev pub seen_of : (from : Option World) → (played : List Played) → Saw
+seen_of from played = λ stores events. (stores ≡ stores_in from) × (events ≡ events_played played)
 
 -- A script was played so far, what was written is a front of what is reported of that, and P holds of how far,
 -- and of what was written.
@@ -240,10 +251,13 @@ StopsAtText table NotAVolume script W number s failed =
     PlayedUpTo table script s.initial s.before s.after (λ c. NoVolumeThere c s.initial s.now
     × ((more : List ℕ) → ReportedBefore number c (played_text c.played ++ more)) × W c)
 
--- the same where what the boards keep is said
+-- what the boards keep, and that a watcher was shown the events that were played
+abbrev pub IsLeft : {table : List Row} {script : Script} → Span → Progress table script → Type 0
+IsLeft s c = Untouched c s.initial s.now × (s.first [] [] → IsSeen s.saw c)
+
+-- the same where that is said
 abbrev pub StopsThere : (table : List Row) → Stop → (script : Script) → (number : ℕ) → Span → (write_failed : Type 0) → Type 0
-StopsThere table stop script number s failed =
-    StopsAtText table stop script (λ c. Untouched c s.initial s.now) number s failed
+StopsThere table stop script number s failed = StopsAtText table stop script (λ c. IsLeft s c) number s failed
 
 -- Each line of which something was done is whole among these bytes, and so is the one at which the boards end the replay.
 abbrev pub IsWholeAt : Stop → (input : List ℕ) → (done rest : List Line) → (begun : List Item) → Type 0
@@ -256,8 +270,8 @@ IsWholeAt stop input done rest begun = DoneIsWhole input done rest begun
 abbrev pub StopsInTaken : (table : List Row) → Stop → (script : Script) → BytesTaken → (number : ℕ) → Span
     → (write_failed : Type 0) → Type 0
 StopsInTaken table stop script taken number s failed =
-    StopsAtText table stop script (λ c. (taken.at_end ⊎ IsWholeAt stop taken.bytes c.done c.rest c.begun)
-    × Untouched c s.initial s.now) number s failed
+    StopsAtText table stop script (λ c. (taken.at_end ⊎ IsWholeAt stop taken.bytes c.done c.rest c.begun) × IsLeft s c) number s
+    failed
 
 -- where the rules end the script there, S holds
 abbrev pub ByRules : Stop → Type 0 → Type 0
@@ -273,8 +287,7 @@ InputAnswer table (Ok reached) taken s failed =
     × Reached table true (script_of taken.bytes) [] reached.1 reached.0 s
 InputAnswer table (Err ReadFault) taken s failed = failed.read × (length taken.bytes ≤ most_used_bytes)
     × PlayedUpTo table (script_of taken.bytes) s.initial s.before s.after (λ c. (c.begun ≡ [])
-    × BoardsStand c.last s.initial s.now × AreWhole taken.bytes c.done × AllWhole taken.bytes c.done
-    × Untouched c s.initial s.now)
+    × BoardsStand c.last s.initial s.now × AreWhole taken.bytes c.done × AllWhole taken.bytes c.done × IsLeft s c)
 InputAnswer table (Err TooLong) taken s failed = (length taken.bytes ≡ most_used_bytes + 1)
     × ((number : ℕ) × (p : Player) × Reached table false (script_of taken.bytes) [] number p s)
 InputAnswer table (Err (Stopped stop)) taken s failed =
@@ -287,7 +300,7 @@ pub record ReadyToEnd (table : List Row) (script : Script) (ending : Ending) (pi
   pub came : Progress table script
   pub reported : Puts s.before s.after (played_text came.played)
   pub boards : BoardsStand came.last s.initial s.now
-  pub untouched : Untouched came s.initial s.now
+  pub left : IsLeft s came
   pub all : ReachesEnding ending came
   pub line : closing ending came.last ≡ piece
   pub limits : InBounds (length s.initial) came.done (map item_played came.played)
@@ -338,6 +351,6 @@ pub record ScriptReplayed (table : List Row) (status : Status) (script : Script)
   pub limits : InBounds (length s.initial) came.done (map item_played came.played)
   pub stood : UsesBoards came.done → StandFor (motes_in came.done) came.ground.stores s.initial
   pub boards : BoardsLeft status came s.initial s.now
-  pub untouched : Untouched came s.initial s.now
+  pub left : IsLeft s came
   pub caused : IsCaused status ending failed.read failed.write (BoardStopped (motes_in came.done) s.initial s.now)
       (NoVolumeThere came s.initial s.now) ((UsesBoards came.done) × NoImageThere came s.initial s.now)

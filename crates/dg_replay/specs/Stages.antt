@@ -5,6 +5,7 @@ use Rattle.dg_nor.specs.Device.{Device}
 use Rattle.dg_object.specs.Object.{Row}
 use Rattle.dg_rules.specs.World.{World}
 use Rattle.dg_script.specs.declared.line.Line.{Line}
+use Rattle.dg_replay.specs.Shown.{Saw}
 use Rattle.dg_replay.specs.declared.player.Player.{Player}
 
 -- What a replay is held against: a table of images, and the boards as they were when it began.
@@ -23,22 +24,40 @@ pub record DoneSoFar : Type 0 where
 abbrev pub done_so_far : (lines : List Line) (world : Option World) → DoneSoFar
 done_so_far lines world = record { lines = lines; world = world }
 
--- The boards, and what was reported of lines so far.
-pub record BoardsReported : Type 0 where
+-- What was told so far: the text that is reported of lines, and what a watcher saw.
+pub record Told : Type 1 where
+  pub text : List ℕ
+  pub saw : Saw
+
+abbrev pub told_so_far : (text : List ℕ) (saw : Saw) → Told
+told_so_far text saw = record { text = text; saw = saw }
+
+-- What is told of a line: the text that is reported of it, and what a watcher saw before it and after it.
+pub record LineTold : Type 1 where
+  pub text : List ℕ
+  pub before : Saw
+  pub after : Saw
+
+abbrev pub line_told : (text : List ℕ) (before after : Saw) → LineTold
+line_told text before after = record { text = text; before = before; after = after }
+
+-- The boards, and what was told of lines so far.
+pub record BoardsTold : Type 1 where
   pub boards : List Device
-  pub reported : List ℕ
+  pub told : Told
 
-abbrev pub boards_reported : (boards : List Device) (report : List ℕ) → BoardsReported
-boards_reported boards report = record { boards = boards; reported = report }
+abbrev pub boards_told : (boards : List Device) (told : Told) → BoardsTold
+boards_told boards told = record { boards = boards; told = told }
 
--- The state of a replay: its player, the boards, and what was written, where that is told.
-pub record ReplayState : Type 0 where
+-- The state of a replay: its player, the boards, what was written, where that is told, and what a watcher saw.
+pub record ReplayState : Type 1 where
   pub player : Player
   pub boards : List Device
   pub written : Option (List ℕ)
+  pub saw : Saw
 
-abbrev pub replay_state : (player : Player) (boards : List Device) (written : Option (List ℕ)) → ReplayState
-replay_state player boards written = record { player = player; boards = boards; written = written }
+abbrev pub replay_state : (player : Player) (boards : List Device) (written : Option (List ℕ)) (saw : Saw) → ReplayState
+replay_state player boards written saw = record { player = player; boards = boards; written = written; saw = saw }
 
 -- The text of a line, and its number.
 pub record LineRead : Type 0 where
@@ -48,15 +67,29 @@ pub record LineRead : Type 0 where
 abbrev pub line_read : (text : List ℕ) (number : ℕ) → LineRead
 line_read text number = record { text = text; number = number }
 
--- The boards when a replay began and now, and what was written before and now, where that is told.
-pub record Span : Type 0 where
+-- The boards when a replay began and now, what was written before and now, where that is told, and what a watcher saw before
+-- and now.
+pub record Span : Type 1 where
   pub initial : List Device
   pub now : List Device
   pub before : Option (List ℕ)
   pub after : Option (List ℕ)
+  pub first : Saw
+  pub saw : Saw
 
-abbrev pub span : (initial now : List Device) (before after : Option (List ℕ)) → Span
-span initial now before after = record { initial = initial; now = now; before = before; after = after }
+abbrev pub span : (initial now : List Device) (before after : Option (List ℕ)) (first saw : Saw) → Span
+span initial now before after first saw = record {
+  initial = initial;
+  now = now;
+  before = before;
+  after = after;
+  first = first;
+  saw = saw;
+}
+
+-- from one state of a replay to another
+abbrev pub span_between : (initial : List Device) (a b : ReplayState) → Span
+span_between initial a b = span initial b.boards a.written b.written a.saw b.saw
 
 -- Bytes that were taken of an input, and whether that is its end.
 pub record BytesTaken : Type 1 where

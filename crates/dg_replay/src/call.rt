@@ -1,8 +1,10 @@
 //! The call that replays a script.
-ghost use Rattle.std.specs.Prelude.{◌≤◌, map};
+ghost use Rattle.std.specs.Prelude.{◌≤◌, [], List, map};
 ghost use Rattle.dg_mote.specs.Sizes.{BuffersFit, ValuesAreSmall};
 ghost use Rattle.dg_replay.specs.Around.{around};
+ghost use Rattle.dg_object.specs.Object.{Row};
 ghost use Rattle.dg_replay.specs.Done.{ReplayDone};
+ghost use Rattle.dg_replay.specs.Replayed.{Replayed, IsSeen};
 
 use crate::ends::{end_at_stop, end_script};
 use crate::finish::end_with;
@@ -42,7 +44,8 @@ pub fn replay<S: Source, K: Sink, N: Nor>(
     replay_watched(alloc, input, out, boards, &mut Unwatched)
 }
 
-/// The same, and `watcher` is shown what is played.
+/// The same, and `watcher` is shown what is played: where it had seen nothing before, it saw exactly the events that were
+/// played, however the replay ends.
 pub fn replay_watched<S: Source, K: Sink, N: Nor, W: Watcher<N>>(
     alloc: Global,
     input: &mut S,
@@ -53,6 +56,10 @@ pub fn replay_watched<S: Source, K: Sink, N: Nor, W: Watcher<N>>(
     ensures done { ReplayDone result (around (S.left input.old) (S.faults input.old) (K.written out.old) (K.faults out.old)
         (map N.device boards.old.items))
         (around (S.left input.new) (S.faults input.new) (K.written out.new) (K.faults out.new) (map N.device boards.new.items)) }
+    ensures seen { (table : List Row) → W.saw watcher.old [] [] → (x : Replayed table result
+        (around (S.left input.old) (S.faults input.old) (K.written out.old) (K.faults out.old) (map N.device boards.old.items))
+        (around (S.left input.new) (S.faults input.new) (K.written out.new) (K.faults out.new) (map N.device boards.new.items)))
+        × IsSeen (W.saw watcher.new) x.came }
     // All arrays of bytes that are alive at once in a mote's call have no more than 256, and beside the outbox and its sets
     // none lies in the value of a mote.
     ensures buffers { BuffersFit × ValuesAreSmall }

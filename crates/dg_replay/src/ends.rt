@@ -4,10 +4,11 @@ ghost use Rattle.dg_words.specs.Counts.{Rose};
 ghost use Rattle.dg_nor.specs.Device.{Device};
 ghost use Rattle.dg_object.specs.Object.{Row};
 ghost use Rattle.dg_script.specs.Script.{Script};
+ghost use Rattle.dg_replay.specs.Items.{beginning_of};
 ghost use Rattle.dg_replay.specs.Ending.{ending_from};
 ghost use Rattle.dg_replay.specs.Near.{behind_lines};
 ghost use Rattle.dg_replay.specs.Playing.{Ready};
-ghost use Rattle.dg_replay.specs.Replaying.{StopEnds, Reached, ScriptReplayed};
+ghost use Rattle.dg_replay.specs.Replaying.{StopEnds, Reached, ScriptReplayed, unseen, seen_of};
 ghost use Rattle.dg_replay.specs.Stages.{span, bytes_taken, failures};
 
 use crate::finish::{end_at_line, end_with, end_without_boards, finish};
@@ -47,9 +48,11 @@ pub fn end_script<K: Sink, N: Nor>(
     requires { Ready player.now (map N.device boards.old.items) }
     ensures ends { (table : List Row) (script : Script) (input : List ℕ) (initial : List Device) (before : Option (List ℕ))
         (faults : ℕ) → faults ≤ K.faults out.old → behind_lines number input ≡ []
-        → Reached table true script [] number player.now (span initial (map N.device boards.old.items) before (K.written out.old))
+        → (r : Reached table true script [] number player.now
+        (span initial (map N.device boards.old.items) before (K.written out.old) unseen unseen))
         → ScriptReplayed table result script (ending_from (length initial) false script) (bytes_taken input ⊤)
-        (span initial (map N.device boards.new.items) before (K.written out.new))
+        (span initial (map N.device boards.new.items) before (K.written out.new) unseen
+        (seen_of (beginning_of r.ground r.done).world r.played))
         (failures ⊥ (Rose faults (K.faults out.new))) }
     ensures counts { K.faults out.old ≤ K.faults out.new }
     ensures unfailed { result ≢ Status.WriteFault → K.faults out.new ≡ K.faults out.old }

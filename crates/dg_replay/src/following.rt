@@ -14,7 +14,7 @@ use crate::items::LineReport;
 use crate::lines::{next_line, write_begun, write_text};
 use crate::player::{Player, play_line};
 use crate::stop::Stop;
-use crate::watching::{Watcher, show_line};
+use crate::watching::Watcher;
 use dg_base::{Sink, Source};
 use dg_nor::Nor;
 use dg_rules::scripts_with_golden;
@@ -43,20 +43,22 @@ fn play_next<S: Source, K: Sink, N: Nor, W: Watcher<N>>(
     player: &mut Player,
     boards: &mut Vec<N>,
     out: &mut K,
-    line_report: &mut LineReport<'_, W>,
+    line_report: &mut LineReport,
+    watcher: &mut W,
 ) -> Result<bool, Halt>
     requires { Ready player.old (map N.device boards.old.items) }
     ensures answer { (more : List ℕ) × Takes (S.left input.old) (S.left input.new) more
         × NextPlayed result (bytes_taken (reader.old.ahead ++ more) (AtEnd (S.left input.new))) reader.old reader.new
         (Rose (S.faults input.old) (S.faults input.new))
-        (AllAsBefore player.old player.new (map N.device boards.old.items) (map N.device boards.new.items)
-        (K.written out.old) (K.written out.new))
+        (AllAsBefore
+        (replay_state player.old (map N.device boards.old.items) (K.written out.old) (W.saw watcher.old))
+        (replay_state player.new (map N.device boards.new.items) (K.written out.new) (W.saw watcher.new)))
         (λ r text. TextKeepsBytes player.old.place text (map N.device boards.old.items) (map N.device boards.new.items)
         × ((basis : Basis) (behind : DoneSoFar)
         → Stood player.old behind.lines behind.world basis.boards (map N.device boards.old.items)
         → TextAnswer basis r (line_read text (reader.old.number + 1)) behind
-        (replay_state player.old (map N.device boards.old.items) (K.written out.old))
-        (replay_state player.new (map N.device boards.new.items) (K.written out.new))
+        (replay_state player.old (map N.device boards.old.items) (K.written out.old) (W.saw watcher.old))
+        (replay_state player.new (map N.device boards.new.items) (K.written out.new) (W.saw watcher.new))
         (Rose (K.faults out.old) (K.faults out.new)))) }
     ensures reads { S.faults input.old ≤ S.faults input.new }
     ensures unread { result ≢ Err Halt.ReadFault → S.faults input.new ≡ S.faults input.old }
@@ -73,17 +75,14 @@ fn play_next<S: Source, K: Sink, N: Nor, W: Watcher<N>>(
         Err(stop) => return Err(Halt::Stopped(stop)),
     };
     line_report.text.clear();
-    match play_line(alloc, &mut line, player, boards, line_report) {
-        Ok(()) => {
-            show_line(&line, player.place.motes, boards, &mut *line_report.watcher);
-            match player.place.pass(line) {
-                Ok(()) => match write_text(out, &line_report.text) {
-                    Ok(()) => Ok(true),
-                    Err(stop) => Err(Halt::Stopped(stop)),
-                },
-                Err(AllocError) => Err(Halt::Stopped(Stop::Memory)),
-            }
-        }
+    match play_line(alloc, &mut line, player, boards, line_report, watcher) {
+        Ok(()) => match player.place.pass(line) {
+            Ok(()) => match write_text(out, &line_report.text) {
+                Ok(()) => Ok(true),
+                Err(stop) => Err(Halt::Stopped(stop)),
+            },
+            Err(AllocError) => Err(Halt::Stopped(Stop::Memory)),
+        },
         Err(stop) => Err(Halt::Stopped(write_begun(out, &line_report.text, stop))),
     }
 }
@@ -103,7 +102,8 @@ pub fn play_lines<S: Source, K: Sink, N: Nor, W: Watcher<N>>(
     requires first { reader.old.number ≡ 0 }
     ensures answer { (bytes : List ℕ) × Takes (S.left input.old) (S.left input.new) bytes
         × ((table : List Row) → InputAnswer table result (bytes_taken bytes (AtEnd (S.left input.new)))
-        (span (map N.device boards.old.items) (map N.device boards.new.items) (K.written out.old) (K.written out.new))
+        (span (map N.device boards.old.items) (map N.device boards.new.items) (K.written out.old) (K.written out.new)
+        (W.saw watcher.old) (W.saw watcher.new))
         (failures (Rose (S.faults input.old) (S.faults input.new)) (Rose (K.faults out.old) (K.faults out.new)))) }
     ensures reads { S.faults input.old ≤ S.faults input.new }
     ensures unread { result ≢ Err Halt.ReadFault → S.faults input.new ≡ S.faults input.old }
@@ -115,7 +115,6 @@ pub fn play_lines<S: Source, K: Sink, N: Nor, W: Watcher<N>>(
     let mut line_report = LineReport {
         reports: Vec::new(alloc),
         text: Vec::new(alloc),
-        watcher,
     };
     let mut number = 1;
     while play_next(
@@ -126,6 +125,7 @@ pub fn play_lines<S: Source, K: Sink, N: Nor, W: Watcher<N>>(
         boards,
         out,
         &mut line_report,
+        watcher,
     )? {
         number += 1;
         if reader.is_last() {

@@ -14,27 +14,25 @@ ghost use Rattle.dg_world.specs.Worlds.{IsWorld};
 ghost use Rattle.dg_world.specs.Applying.{step_of};
 ghost use Rattle.dg_world.specs.Boards.{WorldStands};
 ghost use Rattle.dg_replay.specs.Playing.{ItemsPlayedAs, KeepsMotes};
-ghost use Rattle.dg_replay.specs.Stages.{boards_reported};
+ghost use Rattle.dg_replay.specs.Stages.{told_so_far, boards_told};
 ghost use Rattle.dg_replay.specs.Untouched.{KeepBytes};
 
 use crate::stop::Stop;
 use crate::watching::Watcher;
-use dg_base::{Bytes, Cut, Event, ImageVersion};
+use dg_base::{Bytes, Cut, Event};
 use dg_nor::Nor;
 use dg_rounds::{ROUND_EVENTS, RoundTurns};
 use dg_script::{Report, write_report};
 use dg_world::{DeclareFault, World, WorldFault};
 use std::alloc::AllocError;
 
-/// What is reported of a line that is played, in buffers that the next line uses again, and who watches.
+/// What is reported of a line that is played, in buffers that the next line uses again.
 #[derive(Drop)]
-pub struct LineReport<'a, W> {
+pub struct LineReport {
     /// What one item of it reports.
     pub reports: Vec<Report>,
     /// The text of all that it reports.
     pub text: Vec<u8>,
-    /// It is shown each item that was played, and what came of it.
-    pub watcher: &'a mut W,
 }
 
 /// Appends the text of report lines.
@@ -48,7 +46,7 @@ pub fn push_reports(text: &mut Vec<u8>, reports: &[Report]) -> Result<(), AllocE
 }
 
 /// Appends the text of what an item reports.
-fn append_text<W>(line_report: &mut LineReport<'_, W>) -> Result<(), Stop>
+fn append_text(line_report: &mut LineReport) -> Result<(), Stop>
     ensures reported { OnOk result (line_report.new.text.items ≡ line_report.old.text.items
         ++ report_text line_report.old.reports.items) }
     ensures memory { OnErr result (result ≡ Err Stop.Memory) }
@@ -64,19 +62,21 @@ fn append_text<W>(line_report: &mut LineReport<'_, W>) -> Result<(), Stop>
 }
 
 /// Declares an image.
-pub fn play_image<N, W: Watcher<N>>(
+pub fn play_image<N: Nor, W: Watcher<N>>(
     world: &mut World,
-    image_version: ImageVersion,
+    image: u8,
+    version: u32,
     name: Bytes,
     content: Bytes,
-    line_report: &mut LineReport<'_, W>,
+    line_report: &mut LineReport,
+    watcher: &mut W,
 ) -> Result<(), Stop>
-    requires fits { IsDeclared (row_of image_version.image image_version.version name content) }
+    requires fits { IsDeclared (row_of image version name content) }
     ensures { (boards initial : List Device) (w : RuleWorld) → IsWorld world.old boards w → WorldStands w initial boards
-        → ItemsPlayedAs result w (Declares (row_of image_version.image image_version.version name content) ∷ []) world.new initial
-        line_report.old.text.items (boards_reported boards line_report.new.text.items) }
+        → ItemsPlayedAs result w (Declares (row_of image version name content) ∷ []) world.new initial
+        (told_so_far line_report.old.text.items (W.saw watcher.old))
+        (boards_told boards (told_so_far line_report.new.text.items (W.saw watcher.new))) }
 {
-    let ImageVersion { image, version } = image_version;
     line_report.reports.clear();
     match world.declare(image, version, name, content) {
         Ok(()) => Ok(()),
@@ -86,7 +86,7 @@ pub fn play_image<N, W: Watcher<N>>(
             .push(Report::Taken { image, version })
         {
             Ok(()) => {
-                line_report.watcher.taken();
+                watcher.taken();
                 append_text(line_report)
             }
             Err(_) => Err(Stop::Memory),
@@ -102,7 +102,8 @@ pub fn play_event<N: Nor, W: Watcher<N>>(
     cut: Option<&Cut>,
     reported: bool,
     boards: &mut Vec<N>,
-    line_report: &mut LineReport<'_, W>,
+    line_report: &mut LineReport,
+    watcher: &mut W,
 ) -> Result<(), Stop>
     requires { (w : RuleWorld) × IsWorld world.old (map N.device boards.old.items) w
         × StepInRange (length w.sites) (step_of event.now (option_copied cut)) }
@@ -112,14 +113,15 @@ pub fn play_event<N: Nor, W: Watcher<N>>(
     ensures played { (w : RuleWorld) (initial : List Device) → IsWorld world.old (map N.device boards.old.items) w
         → WorldStands w initial (map N.device boards.old.items)
         → ItemsPlayedAs result w (Applies (step_of event.now (option_copied cut.entry)) reported ∷ []) world.new initial
-        line_report.old.text.items (boards_reported (map N.device boards.new.items) line_report.new.text.items) }
+        (told_so_far line_report.old.text.items (W.saw watcher.old))
+        (boards_told (map N.device boards.new.items)
+        (told_so_far line_report.new.text.items (W.saw watcher.new))) }
     ensures kept { KeepBytes (Applies (step_of event.now (option_copied cut.entry)) reported ∷ []) (map N.device boards.old.items)
         (map N.device boards.new.items) }
 {
     line_report.reports.clear();
     match world.apply_parts(boards, event, cut, reported, &mut line_report.reports) {
         Ok(()) => {
-            let watcher = &mut *line_report.watcher;
             let reports = &line_report.reports;
             watcher.applied(world, event, boards.as_slice(), reported, reports);
             append_text(line_report)
@@ -129,7 +131,7 @@ pub fn play_event<N: Nor, W: Watcher<N>>(
         Err(WorldFault::TooMany) => Err(Stop::TooMany),
         Err(WorldFault::NotAVolume) => Err(Stop::NotAVolume),
         Err(WorldFault::NoImage) => {
-            line_report.watcher.ended(event, boards.as_slice());
+            watcher.ended(event, boards.as_slice());
             Err(Stop::NoImage)
         }
     }
@@ -142,21 +144,24 @@ pub fn play_round<N: Nor, W: Watcher<N>>(
     a: u8,
     b: u8,
     boards: &mut Vec<N>,
-    line_report: &mut LineReport<'_, W>,
+    line_report: &mut LineReport,
+    watcher: &mut W,
 ) -> Result<(), Stop>
     requires { (w : RuleWorld) × IsWorld world.old (map N.device boards.old.items) w × LinkFits (length w.sites) (a, b) }
     ensures goes_on { KeepsMotes result world.old world.new (map N.device boards.old.items) (map N.device boards.new.items) }
     ensures played { (w : RuleWorld) (initial : List Device) → IsWorld world.old (map N.device boards.old.items) w
         → WorldStands w initial (map N.device boards.old.items)
-        → ItemsPlayedAs result w (unreported (round a b)) world.new initial line_report.old.text.items
-        (boards_reported (map N.device boards.new.items) line_report.new.text.items) }
+        → ItemsPlayedAs result w (unreported (round a b)) world.new initial
+        (told_so_far line_report.old.text.items (W.saw watcher.old))
+        (boards_told (map N.device boards.new.items)
+        (told_so_far line_report.new.text.items (W.saw watcher.new))) }
     ensures kept { KeepBytes (unreported (round a b)) (map N.device boards.old.items)
         (map N.device boards.new.items) }
 {
     let turns = RoundTurns::new(a, b);
     for position in 0..ROUND_EVENTS {
         let event = turns.at(position);
-        play_event(world, event, None, false, boards, line_report)?;
+        play_event(world, event, None, false, boards, line_report, watcher)?;
     }
     Ok(())
 }
@@ -167,19 +172,22 @@ fn play_both<N: Nor, W: Watcher<N>>(
     a: u8,
     b: u8,
     boards: &mut Vec<N>,
-    line_report: &mut LineReport<'_, W>,
+    line_report: &mut LineReport,
+    watcher: &mut W,
 ) -> Result<(), Stop>
     requires { (w : RuleWorld) × IsWorld world.old (map N.device boards.old.items) w × LinkFits (length w.sites) (a, b) }
     ensures goes_on { KeepsMotes result world.old world.new (map N.device boards.old.items) (map N.device boards.new.items) }
     ensures played { (w : RuleWorld) (initial : List Device) → IsWorld world.old (map N.device boards.old.items) w
         → WorldStands w initial (map N.device boards.old.items)
-        → ItemsPlayedAs result w (unreported (round a b ++ round b a)) world.new initial line_report.old.text.items
-        (boards_reported (map N.device boards.new.items) line_report.new.text.items) }
+        → ItemsPlayedAs result w (unreported (round a b ++ round b a)) world.new initial
+        (told_so_far line_report.old.text.items (W.saw watcher.old))
+        (boards_told (map N.device boards.new.items)
+        (told_so_far line_report.new.text.items (W.saw watcher.new))) }
     ensures kept { KeepBytes (unreported (round a b ++ round b a)) (map N.device boards.old.items)
         (map N.device boards.new.items) }
 {
-    play_round(world, a, b, boards, line_report)?;
-    play_round(world, b, a, boards, line_report)?;
+    play_round(world, a, b, boards, line_report, watcher)?;
+    play_round(world, b, a, boards, line_report, watcher)?;
     Ok(())
 }
 
@@ -188,20 +196,23 @@ fn play_sweep<N: Nor, W: Watcher<N>>(
     world: &mut World,
     links: &[(u8, u8)],
     boards: &mut Vec<N>,
-    line_report: &mut LineReport<'_, W>,
+    line_report: &mut LineReport,
+    watcher: &mut W,
 ) -> Result<(), Stop>
     requires { (w : RuleWorld) × IsWorld world.old (map N.device boards.old.items) w
         × AllByRecursion (LinkFits (length w.sites)) links.now }
     ensures goes_on { KeepsMotes result world.old world.new (map N.device boards.old.items) (map N.device boards.new.items) }
     ensures played { (w : RuleWorld) (initial : List Device) → IsWorld world.old (map N.device boards.old.items) w
         → WorldStands w initial (map N.device boards.old.items)
-        → ItemsPlayedAs result w (unreported (sweep links.now)) world.new initial line_report.old.text.items
-        (boards_reported (map N.device boards.new.items) line_report.new.text.items) }
+        → ItemsPlayedAs result w (unreported (sweep links.now)) world.new initial
+        (told_so_far line_report.old.text.items (W.saw watcher.old))
+        (boards_told (map N.device boards.new.items)
+        (told_so_far line_report.new.text.items (W.saw watcher.new))) }
     ensures kept { KeepBytes (unreported (sweep links.now)) (map N.device boards.old.items)
         (map N.device boards.new.items) }
 {
     for link in links {
-        play_both(world, link.0, link.1, boards, line_report)?;
+        play_both(world, link.0, link.1, boards, line_report, watcher)?;
     }
     Ok(())
 }
@@ -213,19 +224,22 @@ pub fn play_sweeps<N: Nor, W: Watcher<N>>(
     links: &[(u8, u8)],
     count: u32,
     boards: &mut Vec<N>,
-    line_report: &mut LineReport<'_, W>,
+    line_report: &mut LineReport,
+    watcher: &mut W,
 ) -> Result<(), Stop>
     requires { (w : RuleWorld) × IsWorld world.old (map N.device boards.old.items) w
         × AllByRecursion (LinkFits (length w.sites)) links.now }
     ensures played { (w : RuleWorld) (initial : List Device) → IsWorld world.old (map N.device boards.old.items) w
         → WorldStands w initial (map N.device boards.old.items)
-        → ItemsPlayedAs result w (unreported (times count (sweep links.now))) world.new initial line_report.old.text.items
-        (boards_reported (map N.device boards.new.items) line_report.new.text.items) }
+        → ItemsPlayedAs result w (unreported (times count (sweep links.now))) world.new initial
+        (told_so_far line_report.old.text.items (W.saw watcher.old))
+        (boards_told (map N.device boards.new.items)
+        (told_so_far line_report.new.text.items (W.saw watcher.new))) }
     ensures kept { KeepBytes (unreported (times count (sweep links.now))) (map N.device boards.old.items)
         (map N.device boards.new.items) }
 {
     for _ in 0..count {
-        play_sweep(world, links, boards, line_report)?;
+        play_sweep(world, links, boards, line_report, watcher)?;
     }
     Ok(())
 }

@@ -1,16 +1,17 @@
 //! Plays the lines of a script over its world.
-ghost use Rattle.std.specs.Prelude.{◌≡◌, ◌<◌, ◌≤◌, ℕ, true, false, List, [], Err, map, length, OnOk};
+ghost use Rattle.std.specs.Prelude.{◌≡◌, ◌<◌, ◌≤◌, ℕ, true, false, List, [], Err, map, length, OnOk, OnErr};
 ghost use Rattle.dg_volume.specs.Store.{fresh};
 ghost use Rattle.dg_script.specs.Fitting.{IsGolden};
 ghost use Rattle.dg_script.specs.Places.{first_place, place_after};
 ghost use Rattle.dg_replay.specs.Playing.{Stood, MayPlay, gone_on, Counted, PlayedAs, FormattedAs, MountedAs, mount_stop};
-ghost use Rattle.dg_replay.specs.Stages.{Basis, DoneSoFar, boards_reported};
+ghost use Rattle.dg_replay.specs.Shown.{StaysSeen};
+ghost use Rattle.dg_replay.specs.Stages.{Basis, DoneSoFar, told_so_far, boards_told};
 ghost use Rattle.dg_replay.specs.Untouched.{KeepBytes, LineKeepsBytes};
 
 use crate::items::{LineReport, play_event, play_image, play_round, play_sweeps};
 use crate::stop::Stop;
 use crate::watching::Watcher;
-use dg_base::{Bytes, ImageVersion};
+use dg_base::Bytes;
 use dg_nor::Nor;
 use dg_script::{Line, Place};
 use dg_volume::a_chip_stands_for_a_shaped_store;
@@ -39,10 +40,16 @@ impl Player {
 }
 
 /// There are this many motes, for which boards are needed.
-fn play_motes<N: Nor>(motes: u8, boards: &Vec<N>) -> Result<(), Stop>
+fn play_motes<N: Nor, W: Watcher<N>>(
+    motes: u8,
+    boards: &Vec<N>,
+    watcher: &mut W,
+) -> Result<(), Stop>
     ensures counted { OnOk result (motes ≤ length boards.now.items) }
     ensures missing { (stop : Stop) → result ≡ Err stop → (stop ≡ Stop.NoBoard motes (length boards.now.items))
         × (length boards.now.items < motes) }
+    ensures begun { W.saw watcher.old [] [] → W.saw watcher.new [] [] }
+    ensures unshown { OnErr result (StaysSeen (W.saw watcher.old) (W.saw watcher.new)) }
 {
     let have = boards.len();
     if have < usize::from(motes) {
@@ -51,6 +58,7 @@ fn play_motes<N: Nor>(motes: u8, boards: &Vec<N>) -> Result<(), Stop>
             boards: have as u32,
         });
     }
+    watcher.begun(motes);
     Ok(())
 }
 
@@ -88,13 +96,14 @@ fn format<N: Nor>(
 }
 
 /// There is golden, with which the boards of the motes are formatted.
-fn play_golden<N: Nor>(
+fn play_golden<N: Nor, W: Watcher<N>>(
     alloc: Global,
     player: &mut Player,
     name: &Bytes,
     used: u32,
     content: &Bytes,
     boards: &mut Vec<N>,
+    watcher: &mut W,
 ) -> Result<(), Stop>
     requires fits { IsGolden name.now used content.now }
     requires counted { Counted player.old.place.motes (length boards.old.items) }
@@ -102,8 +111,10 @@ fn play_golden<N: Nor>(
     ensures played { (basis : Basis) (behind : DoneSoFar) (text : List ℕ)
         → Stood player.old behind.lines behind.world basis.boards (map N.device boards.old.items)
         → PlayedAs basis result (gone_on player.new (Line.Golden name.now used content.now)) behind
-        (Line.Golden name.now used content.now) (boards_reported (map N.device boards.old.items) text)
-        (boards_reported (map N.device boards.new.items) text) }
+        (Line.Golden name.now used content.now)
+        (boards_told (map N.device boards.old.items) (told_so_far text (W.saw watcher.old)))
+        (boards_told (map N.device boards.new.items)
+        (told_so_far text (W.saw watcher.new))) }
     ensures place { player.new.place ≡ player.old.place }
 {
     let motes = player.place.motes;
@@ -114,6 +125,7 @@ fn play_golden<N: Nor>(
     match format(boards, motes, name, used, content) {
         Ok(()) => {
             player.world = world;
+            watcher.placed(motes, Some(used), boards.as_slice());
             Ok(())
         }
         Err(FormatStopped { .. }) => Err(Stop::FlashFault),
@@ -148,13 +160,20 @@ fn mount_stop(stopped: MountStopped) -> Stop
 }
 
 /// The boards of the motes are used as they are.
-fn play_boards<N: Nor>(alloc: Global, player: &mut Player, boards: &mut Vec<N>) -> Result<(), Stop>
+fn play_boards<N: Nor, W: Watcher<N>>(
+    alloc: Global,
+    player: &mut Player,
+    boards: &mut Vec<N>,
+    watcher: &mut W,
+) -> Result<(), Stop>
     requires counted { Counted player.old.place.motes (length boards.old.items) }
     requires unready { player.old.place.ready ≡ false }
     ensures played { (basis : Basis) (behind : DoneSoFar) (text : List ℕ)
         → Stood player.old behind.lines behind.world basis.boards (map N.device boards.old.items)
         → PlayedAs basis result (gone_on player.new Line.Boards) behind Line.Boards
-        (boards_reported (map N.device boards.old.items) text) (boards_reported (map N.device boards.new.items) text) }
+        (boards_told (map N.device boards.old.items) (told_so_far text (W.saw watcher.old)))
+        (boards_told (map N.device boards.new.items)
+        (told_so_far text (W.saw watcher.new))) }
     ensures place { player.new.place ≡ player.old.place }
     ensures kept { KeepBytes [] (map N.device boards.old.items) (map N.device boards.new.items) }
 {
@@ -166,6 +185,7 @@ fn play_boards<N: Nor>(alloc: Global, player: &mut Player, boards: &mut Vec<N>) 
     match mount(boards, motes) {
         Ok(()) => {
             player.world = world;
+            watcher.placed(motes, None, boards.as_slice());
             Ok(())
         }
         Err(stopped) => Err(mount_stop(stopped)),
@@ -186,43 +206,45 @@ pub fn play_line<N: Nor, W: Watcher<N>>(
     line: &mut Line,
     player: &mut Player,
     boards: &mut Vec<N>,
-    line_report: &mut LineReport<'_, W>,
+    line_report: &mut LineReport,
+    watcher: &mut W,
 ) -> Result<(), Stop>
     requires may { MayPlay line.old player.old (map N.device boards.old.items) }
     ensures played { (basis : Basis) (behind : DoneSoFar)
         → Stood player.old behind.lines behind.world basis.boards (map N.device boards.old.items)
         → PlayedAs basis result (gone_on player.new line.new) behind line.old
-        (boards_reported (map N.device boards.old.items) line_report.old.text.items)
-        (boards_reported (map N.device boards.new.items) line_report.new.text.items) }
+        (boards_told (map N.device boards.old.items) (told_so_far line_report.old.text.items (W.saw watcher.old)))
+        (boards_told (map N.device boards.new.items)
+        (told_so_far line_report.new.text.items (W.saw watcher.new))) }
     ensures behind { place_after player.new.place line.new ≡ place_after player.old.place line.old }
     ensures linked { (a b : ℕ) → line.new ≡ Line.Link a b → boards.new.items ≡ boards.old.items }
+    ensures unshown { (a b : ℕ) → line.new ≡ Line.Link a b
+        → StaysSeen (W.saw watcher.old) (W.saw watcher.new) }
     ensures kept { LineKeepsBytes player.old.place line.old (map N.device boards.old.items) (map N.device boards.new.items) }
 {
     match line {
         Line::Nothing | Line::Cut(_) => Ok(()),
-        Line::Motes(motes) => play_motes(*motes, boards),
+        Line::Motes(motes) => play_motes(*motes, boards, watcher),
         Line::Golden {
             name,
             used,
             content,
-        } => play_golden(alloc, player, name, *used, content, boards),
-        Line::Boards => play_boards(alloc, player, boards),
+        } => play_golden(alloc, player, name, *used, content, boards, watcher),
+        Line::Boards => play_boards(alloc, player, boards, watcher),
         Line::Image {
             image,
             version,
             name,
             content,
         } => {
-            let image_version = ImageVersion {
-                image: *image,
-                version: *version,
-            };
             let (name, content) = (take_bytes(alloc, name), take_bytes(alloc, content));
-            play_image(&mut player.world, image_version, name, content, line_report)
+            let world = &mut player.world;
+            play_image(world, *image, *version, name, content, line_report, watcher)
         }
         Line::Happens(event) => {
             let cut = player.place.cut.as_ref();
-            play_event(&mut player.world, event, cut, true, boards, line_report)
+            let world = &mut player.world;
+            play_event(world, event, cut, true, boards, line_report, watcher)
         }
         Line::Link(a, b) => {
             player.world.link(*a, *b);
@@ -232,10 +254,11 @@ pub fn play_line<N: Nor, W: Watcher<N>>(
             player.world.narrow(*mote);
             Ok(())
         }
-        Line::Round(a, b) => play_round(&mut player.world, *a, *b, boards, line_report),
+        Line::Round(a, b) => play_round(&mut player.world, *a, *b, boards, line_report, watcher),
         Line::Sweeps(count) => {
             let links = player.place.links.as_slice();
-            play_sweeps(&mut player.world, links, *count, boards, line_report)
+            let world = &mut player.world;
+            play_sweeps(world, links, *count, boards, line_report, watcher)
         }
     }
 }

@@ -1,21 +1,36 @@
 //! Who watches a replay.
+ghost use Rattle.std.specs.Prelude.{⊤, List, [], ◌∷◌, ◌++◌, map};
+ghost use Rattle.dg_rules.specs.Runs.{Played};
+ghost use Rattle.dg_rules.specs.World.{World as RuleWorld};
+ghost use Rattle.dg_volume.specs.Store.{Store};
+ghost use Rattle.dg_world.specs.Deployments.{deployed};
+ghost use Rattle.dg_replay.specs.Shown.{IsPlaced, LeadTo, IsApplied, IsEnding};
 
+use dg_nor::Nor;
 use dg_rules::Event;
-use dg_script::{Line, Report};
+use dg_script::Report;
 use dg_world::World;
 
 /// Watches a replay: it is shown each event after the boards, and changes nothing of the replay. A method that does nothing
 /// costs nothing.
-pub trait Watcher<N> {
+pub trait Watcher<N: Nor> {
+    // The motes' chips began with these stores, none before the boards are used, and the watcher was shown exactly these events
+    // since then.
+    ghost saw: { Self → (stores : List Store) → (events : List Played) → Type 0 };
+
     /// The script has this many motes.
-    fn begun(&mut self, motes: u8);
+    fn begun(&mut self, motes: u8)
+        ensures { saw self.old [] [] → saw self.new [] [] };
 
     /// The boards of the motes are used from now on: they were formatted with this many commits told as spent, or mounted as
     /// they are.
-    fn placed(&mut self, motes: u8, used: Option<u32>, boards: &[N]);
+    fn placed(&mut self, motes: u8, used: Option<u32>, boards: &[N])
+        ensures { (stores : List Store) → IsPlaced motes used (map N.device boards.now) stores → saw self.old [] []
+            → saw self.new stores [] };
 
     /// An image was not declared, which is reported by a line.
-    fn taken(&mut self);
+    fn taken(&mut self)
+        ensures { (stores : List Store) (events : List Played) → saw self.old stores events → saw self.new stores events };
 
     /// An event was applied, also where it was refused or cut, and these lines are reported of it. A frame that it sent is
     /// reported only where `reported` is true: events of rounds and sweeps do not tell theirs.
@@ -26,17 +41,24 @@ pub trait Watcher<N> {
         boards: &[N],
         reported: bool,
         reports: &[Report],
-    );
+    )
+        ensures { (stores : List Store) (events : List Played) (p : Played) → LeadTo stores events p.before
+            → IsApplied p event.now reported (deployed world.now (map N.device boards.now) reports.now)
+            → saw self.old stores events → saw self.new stores (events ++ p ∷ []) };
 
-    /// An event found no image to start, and ends the replay.
-    fn ended(&mut self, event: &Event, boards: &[N]);
+    /// An event found no image to start, and ends the replay. It is none of those that were applied.
+    fn ended(&mut self, event: &Event, boards: &[N])
+        ensures { (stores : List Store) (events : List Played) (w : RuleWorld) → LeadTo stores events w
+            → IsEnding w event.now (map N.device boards.now) → saw self.old stores events → saw self.new stores events };
 }
 
 /// Nobody watches.
 #[derive(Clone, Copy, Debug, PartialEq, Eq)]
 pub struct Unwatched;
 
-impl<N> Watcher<N> for Unwatched {
+impl<N: Nor> Watcher<N> for Unwatched {
+    ghost saw = { λ w stores events. ⊤ };
+
     #[inline(always)]
     fn begun(&mut self, _motes: u8) {}
 
@@ -58,24 +80,4 @@ impl<N> Watcher<N> for Unwatched {
 
     #[inline(always)]
     fn ended(&mut self, _event: &Event, _boards: &[N]) {}
-}
-
-/// Shows a line that was played and that is about the boards, in a script of this many motes before it.
-#[inline(always)]
-pub fn show_line<N, W: Watcher<N>>(line: &Line, motes: u8, boards: &Vec<N>, watcher: &mut W) {
-    match line {
-        Line::Motes(motes) => watcher.begun(*motes),
-        Line::Golden { used, .. } => {
-            watcher.placed(motes, Some(*used), boards.as_slice());
-        }
-        Line::Boards => watcher.placed(motes, None, boards.as_slice()),
-        Line::Nothing
-        | Line::Cut(_)
-        | Line::Image { .. }
-        | Line::Happens(_)
-        | Line::Link(..)
-        | Line::Narrow(_)
-        | Line::Round(..)
-        | Line::Sweeps(_) => {}
-    }
 }

@@ -1,0 +1,98 @@
+-- What a watcher of a replay is shown (docs/PROMISES.md, "The report and what it tells").
+use Rattle.std.specs.Prelude.{◌≡◌, ℕ, ◌<◌, ◌≤◌, Bool, List, [], ◌++◌, length, map, replicate, slice_get, Option, Some, None, Ok}
+use Rattle.std.specs.List.{filter}
+use Rattle.dg_nor.specs.Device.{Device}
+use Rattle.dg_base.specs.declared.events.Cut.{Cut as PowerCut}
+use Rattle.dg_base.specs.declared.events.Event.{Event}
+use Rattle.dg_object.specs.Object.{Row}
+use Rattle.dg_volume.specs.Shaped.{IsShaped}
+use Rattle.dg_volume.specs.Stands.{Stands}
+use Rattle.dg_volume.specs.Store.{Store, fresh}
+use Rattle.dg_script.specs.Items.{Item, Applies}
+use Rattle.dg_rules.specs.Begins.{store_of}
+use Rattle.dg_rules.specs.Runs.{Played, Plays, ItemStep}
+use Rattle.dg_rules.specs.Sizes.{most_motes, most_events}
+use Rattle.dg_rules.specs.Steps.{EndsRun}
+use Rattle.dg_rules.specs.World.{World, first_world, store_at}
+use Rattle.dg_world.specs.Applying.{ApplyDone, IsOf, step_of}
+use Rattle.dg_world.specs.Deployments.{Deployment}
+use Rattle.dg_world.specs.Mounted.{StandFor}
+use Rattle.dg_replay.specs.Items.{is_event}
+
+-- what a watcher saw: the stores with which the motes' chips began, none before the boards are used, and the events since then
+abbrev pub Saw : Type 1
+Saw = (stores : List Store) → (events : List Played) → Type 0
+
+-- the events among what was played
+abbrev pub events_played : List Played → List Played
+events_played played = filter (λ p. is_event p.item) played
+
+-- the stores of the motes of a world, none before there is one
+abbrev pub stores_in : Option World → List Store
+stores_in None = []
+stores_in (Some w) = map (λ x. x.store) w.sites
+
+-- ---- the boards
+
+-- The boards of this many motes are used from now on, and stand for these stores, each in its shape. Where they were formatted
+-- with so many commits told as spent, they are fresh.
+pub record IsPlaced (motes : ℕ) (used : Option ℕ) (boards : List Device) (stores : List Store) : Type 0 where
+  pub some : 1 ≤ motes
+  pub few : motes ≤ most_motes
+  pub enough : motes ≤ length boards
+  pub stand : StandFor motes stores boards
+  pub formatted : (n : ℕ) → used ≡ Some n → (name : List ℕ) × (content : List ℕ)
+      × (stores ≡ replicate motes (fresh name content n))
+  pub shaped : used ≡ None → (m : ℕ) → m < motes → IsShaped (store_of stores m)
+
+-- ---- events
+
+-- These are the events of a run that leads from these stores to a world.
+pub record LeadTo (stores : List Store) (events : List Played) (w : World) : Type 0 where
+  pub table : List Row
+  pub links : List (ℕ × ℕ)
+  pub narrow : List Bool
+  pub played : List Played
+  pub run : Plays (first_world table links narrow stores) played w
+  pub are : events ≡ events_played played
+  pub motes : length w.sites ≡ length stores
+  pub counted : w.events ≡ length events
+
+-- An event was applied, which left this world with its boards, and these lines are reported of it.
+pub record IsApplied (p : Played) (event : Event) (reported : Bool) (after : Deployment) : Type 0 where
+  pub cut : Option PowerCut
+  pub item : p.item ≡ Applies (step_of event cut) reported
+  pub told : p.reports ≡ after.reported
+  pub step : ItemStep p.before p.item p.after p.reports
+  pub few : p.after.events ≤ most_events
+  pub before : Deployment
+  pub was : IsOf before p.before
+  pub none : before.reported ≡ []
+  pub stands : IsOf after p.after
+  -- and all else that is promised of that
+  pub done : ApplyDone (Ok tt) (step_of event cut) reported before after
+
+-- An event found no image to start. The boards stand for the world in which the run ends.
+pub record IsEnding (w : World) (event : Event) (boards : List Device) : Type 0 where
+  pub few : w.events < most_events
+  pub cut : Option PowerCut
+  pub after : World
+  pub ends : EndsRun w (step_of event cut) after
+  pub stand : (m : ℕ) (d : Device) → m < length after.sites → slice_get boards m ≡ Some d → Stands d.image (store_at after m)
+
+-- ---- what goes on
+
+-- what was seen before is what is seen after
+abbrev pub StaysSeen : (before after : Saw) → Type 0
+StaysSeen before after = (stores : List Store) (events : List Played) → before stores events → after stores events
+
+-- a watcher was shown what was played from this world on
+abbrev pub Shows : (before after : Saw) → World → List Played → Type 0
+Shows before after w played = (stores : List Store) (events : List Played) → LeadTo stores events w → before stores events
+    → after stores (events ++ events_played played)
+
+-- what was played from where one run begins was seen, and so is what was played from where another one does
+abbrev pub GoesOnSeen : (before after : Saw) → (from : Option World) → (played : List Played) → (on : Option World)
+    → (now : List Played) → Type 0
+GoesOnSeen before after from played on now = before (stores_in from) (events_played played)
+    → after (stores_in on) (events_played now)
