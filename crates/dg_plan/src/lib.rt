@@ -28,3 +28,8 @@ pub use plan::Plan;
 pub use seals::{SealFault, seal};
 pub use starts::start;
 pub use takes::take;
+
+#[cfg(test)]
+mod fault_tests;
+#[cfg(test)]
+mod tests;

@@ -41,7 +41,7 @@ pub enum PacketFault {
 }
 
 /// Plans that a packet is put into the next page of a slot, of which these packets were put before. Where there are none, the
-/// sector of the page is erased first. 25 bytes of the chip are read.
+/// sector of the page is erased first. 19 bytes of the chip are read.
 ///
 /// Whether they stand there is the caller's care: a page of other bytes is not sealed.
 pub fn packet(
