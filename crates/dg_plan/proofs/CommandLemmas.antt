@@ -4,13 +4,13 @@ use Rattle.std.specs.Prelude.{◌==◌, bit_and}
 use Rattle.std.proofs.lemmas.List.{take_more}
 use Rattle.std.proofs.lemmas.Bool.{both_ways, cases_lt}
 use Rattle.std.proofs.lemmas.Nat.{and_le_l}
-use Rattle.dg_words.specs.Cells.{part, overwritten, AreBytes}
+use Rattle.dg_words.specs.Cells.{part}
 use Rattle.dg_words.proofs.CellLemmas.{length-part, length-overwritten, get_or-part, get_or-overwritten_inside, get_or-overwritten_outside}
 use Rattle.dg_nor.specs.Sizes.{sector_size, chip_size}
 use Rattle.dg_nor.specs.Chip.{blank, programmed, IsChip}
 use Rattle.dg_nor.proofs.ChipLemmas.{length-blank, get_or-blank, length-programmed, get_or-programmed, get_or-programmed_outside}
 use Rattle.dg_plan.specs.declared.command.Command.{Command}
-use Rattle.dg_plan.specs.Commands.{erase_kind, program_kind, done_by, command_done, carried_out, CommandFits, CommandsFit, no_command, laid_by}
+use Rattle.dg_plan.specs.Commands.{erase_kind, program_kind, done_by, command_done, carried_out, CommandFits, CommandsFit, laid_by}
 
 -- ---- the kinds of commands
 

@@ -1,5 +1,5 @@
 -- What a refused injection leaves.
-use Rattle.std.proofs.Common.{◌≡◌, ◌≢◌, refl, sym, subst}
+use Rattle.std.proofs.Common.{◌≡◌, refl, sym, subst}
 use Rattle.dg_nor.specs.Device.{Device}
 use Rattle.dg_nor.specs.Reads.{Looked}
 use Rattle.dg_nor.proofs.ReadLemmas.{Looked_then}

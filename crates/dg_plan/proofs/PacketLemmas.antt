@@ -1,5 +1,5 @@
 -- A slot that is written by its header alone.
-use Rattle.std.proofs.Common.{◌≡◌, ℕ, ◌+◌, ◌^◌, ◌<◌, ◌≤◌, List, length, Option, Some, None, IfSome, refl, sym, ap, subst, ◌∙◌, arith}
+use Rattle.std.proofs.Common.{◌≡◌, ℕ, ◌^◌, ◌<◌, ◌≤◌, List, Option, Some, None, IfSome, refl, sym, ap, subst, ◌∙◌, arith}
 use Rattle.dg_bits.specs.Sets.{Numbers}
 use Rattle.dg_nor.specs.Chip.{Touches}
 use Rattle.dg_slot.specs.Layout.{header_sector, slot_end, page_sector}

@@ -1,12 +1,12 @@
 -- Stops before, after and within a list of commands.
-use Rattle.std.proofs.Common.{◌≡◌, ℕ, zero, suc, ◌+◌, ◌-◌, ◌<◌, ◌≤◌, List, [], ◌∷◌, length, take, take_all, refl, sym, ap, subst, ◌∙◌, inl, inr, arith}
-use Rattle.dg_nor.specs.Trail.{Trail, Stage, operations, operations_of, last, last_of, EachWorks, LeavesFrom, MayLeave}
+use Rattle.std.proofs.Common.{◌≡◌, ℕ, zero, suc, ◌-◌, ◌≤◌, List, [], ◌∷◌, length, take, take_all, refl, sym, ap, subst, inl, inr, arith}
+use Rattle.dg_nor.specs.Trail.{Trail, Stage, operations, operations_of, last, last_of, EachWorks, LeavesFrom}
 use Rattle.dg_volume.specs.Store.{Store, IsNear}
 use Rattle.dg_volume.specs.Stands.{Stands}
 use Rattle.dg_plan.specs.declared.plan.Plan.{Plan}
 use Rattle.dg_plan.specs.declared.command.Command.{Command}
 use Rattle.dg_plan.specs.Commands.{carried_out}
-use Rattle.dg_plan.specs.Plans.{planned, commands_of, bytes_of_plan, chip_of}
+use Rattle.dg_plan.specs.Plans.{commands_of, bytes_of_plan, chip_of}
 use Rattle.dg_plan.specs.Acts.{IsPlanOf}
 use Rattle.dg_plan.specs.Stops.{StopsAt}
 

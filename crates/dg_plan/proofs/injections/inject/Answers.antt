@@ -1,6 +1,4 @@
-use Rattle.std.proofs.Common.{◌≡◌, ℕ, ⊎_elim, refl, sym, ap, subst, ◌∙◌, inl, inr, arith}
-use Rattle.dg_nor.specs.Device.{Device}
-use Rattle.dg_nor.specs.Reads.{Looked}
+use Rattle.std.proofs.Common.{◌≡◌, ⊎_elim, refl, ap, ◌∙◌}
 use Rattle.dg_nor.proofs.ReadLemmas.{Looked-none}
 use Rattle.dg_object.specs.Object.{row_of}
 use Rattle.dg_volume.specs.Trails.{inject_trail}

@@ -1,4 +1,4 @@
-use Rattle.std.proofs.Common.{◌≡◌, ℕ, List, sym, ap, subst, inl, inr}
+use Rattle.std.proofs.Common.{ℕ, List, sym, ap, subst, inl, inr}
 use Rattle.std.specs.Prelude.{Err}
 use Rattle.dg_volume.specs.Stands.{Mounted, IsMounted}
 use Rattle.dg_plan.proofs.PlanLemmas.{lists_lent, chip_lent}

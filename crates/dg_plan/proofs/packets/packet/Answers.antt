@@ -1,4 +1,4 @@
-use Rattle.std.proofs.Common.{◌≡◌, ℕ, ◌+◌, refl, sym, ap, ◌∙◌, inl, inr, arith}
+use Rattle.std.proofs.Common.{◌+◌, refl, sym, ◌∙◌}
 use Rattle.dg_bits.specs.Sets.{least}
 use Rattle.dg_nor.proofs.ReadLemmas.{Looked-none}
 use Rattle.dg_plan.specs.Plans.{plan_device}

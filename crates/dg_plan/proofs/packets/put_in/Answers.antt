@@ -1,11 +1,11 @@
-use Rattle.std.proofs.Common.{◌≡◌, ℕ, ◌+◌, List, sym, ap, subst, ◌∙◌, arith}
+use Rattle.std.proofs.Common.{◌+◌, sym, ap, subst, ◌∙◌}
 use Rattle.std.specs.FinSet as set
 use Rattle.dg_bits.specs.Sets.{Numbers, least}
 use Rattle.dg_nor.specs.Chip.{Touches}
 use Rattle.dg_nor.proofs.ChipLemmas.{Touches_then}
 use Rattle.dg_nor.proofs.DeviceLemmas.{OnErr_from, Ran_then, Halts_first, Halts_second}
 use Rattle.dg_slot.specs.Layout.{page_sector}
-use Rattle.dg_slot.specs.Jobs.{outline_told, done_told, slot_of, got_told, sector_of, IsOpen, put_packet, ArePut}
+use Rattle.dg_slot.specs.Jobs.{outline_told, done_told, sector_of, IsOpen, put_packet, ArePut}
 use Rattle.dg_slot.specs.declared.states.OpenSlot.{OpenSlot}
 use Rattle.dg_plan.specs.Packets.{erases}
 use Rattle.dg_plan.proofs.packets.put_in.Goals as goal

@@ -1,5 +1,5 @@
 -- The header is read, and then the slot is written.
-use Rattle.std.proofs.Common.{◌≡◌, ℕ, ◌+◌, ◌<◌, List, is_some, refl, sym, ap, subst, ◌∙◌, arith}
+use Rattle.std.proofs.Common.{◌≡◌, ℕ, ◌+◌, ◌<◌, List, is_some, sym, ap, subst, ◌∙◌, arith}
 use Rattle.std.specs.FinSet as set
 use Rattle.dg_bits.specs.Sets.{least}
 use Rattle.dg_nor.specs.Chip.{Touches}

@@ -1,14 +1,7 @@
-use Rattle.std.proofs.Common.{◌≡◌, ℕ, List, ⊎_elim, refl, sym, ap, subst, ◌∙◌, inl, inr, arith}
-use Rattle.dg_nor.specs.Device.{Ran}
-use Rattle.dg_nor.specs.Trail.{operations}
+use Rattle.std.proofs.Common.{⊎_elim, refl, ap, ◌∙◌}
 use Rattle.dg_nor.proofs.ReadLemmas.{Looked-none, Looked_then}
-use Rattle.dg_slot.specs.Kept.{kept_crc}
-use Rattle.dg_slot.specs.Fits.{may_seal}
-use Rattle.dg_volume.specs.Trails.{sealing_trail}
-use Rattle.dg_volume.specs.Acts.{Stops}
 use Rattle.dg_plan.specs.Plans.{plan_device}
-use Rattle.dg_plan.specs.Packets.{standing}
-use Rattle.dg_plan.proofs.PlanLemmas.{lists_lent, chip_lent, looked_ran, looked_halted, plan_by}
+use Rattle.dg_plan.proofs.PlanLemmas.{lists_lent, chip_lent}
 use Rattle.dg_plan.proofs.SealLemmas.{sealed_before, bad_before, unfit_before, stopped_before}
 use Rattle.dg_plan.proofs.seals.seal.Goals as goal
 

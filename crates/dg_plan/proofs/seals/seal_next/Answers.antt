@@ -2,15 +2,12 @@
 use Rattle.std.proofs.Common.{◌≡◌, ℕ, ◌+◌, ◌<◌, List, refl, sym, ap, subst, ◌∙◌, true, false, arith}
 use Rattle.dg_nor.specs.Chip.{Touches}
 use Rattle.dg_nor.specs.Device.{Ran}
-use Rattle.dg_nor.specs.Trail.{last}
 use Rattle.dg_nor.proofs.ReadLemmas.{Looked-none}
 use Rattle.dg_object.specs.Object.{Outline}
-use Rattle.dg_slot.specs.Layout.{most_pages, header_sector, slot_end}
-use Rattle.dg_slot.specs.Kept.{Held, KeepsImage, with_page}
+use Rattle.dg_slot.specs.Layout.{most_pages, header_sector}
 use Rattle.dg_slot.specs.Fits.{may_seal}
-use Rattle.dg_slot.specs.Jobs.{outline_told, done_told, slot_of, page_from, Seals, SlotStops, seal_trail}
+use Rattle.dg_slot.specs.Jobs.{outline_told, done_told, slot_of, SlotStops, seal_trail}
 use Rattle.dg_volume.specs.Stands.{Stands}
-use Rattle.dg_volume.specs.Changes.{paged}
 use Rattle.dg_plan.specs.Packets.{standing}
 use Rattle.dg_plan.proofs.PacketLemmas.{is_next, is_elsewhere}
 use Rattle.dg_plan.proofs.SealLemmas.{held_told, not_told, not_golden, sealing_operations, sealing_last, keeps_more, ready}

@@ -1,4 +1,4 @@
-use Rattle.std.proofs.Common.{◌≡◌, ℕ, ◌+◌, ◌-◌, ◌≤◌, List, length, take, inl, sym, ap, subst, ◌∙◌, arith}
+use Rattle.std.proofs.Common.{ℕ, ◌+◌, ◌-◌, ◌≤◌, List, length, take, inl, sym, ap, subst, ◌∙◌, arith}
 use Rattle.dg_words.specs.Cells.{part, overwritten}
 use Rattle.dg_words.proofs.CellLemmas.{put_mid-overwritten, part-overwritten_apart, part-overwritten_at}
 use Rattle.dg_nor.specs.Chip.{IsChip}

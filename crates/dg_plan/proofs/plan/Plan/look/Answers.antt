@@ -1,4 +1,4 @@
-use Rattle.std.proofs.Common.{◌≡◌, ℕ, ◌+◌, ◌-◌, ◌≤◌, List, length, get_or, take, sym, ap, ◌∙◌, arith}
+use Rattle.std.proofs.Common.{◌≡◌, ℕ, ◌+◌, List, length, get_or, take, sym, ap, ◌∙◌, arith}
 use Rattle.dg_words.specs.Cells.{part}
 use Rattle.dg_words.proofs.CellLemmas.{between-part}
 use Rattle.dg_plan.specs.Commands.{carried_out, command_done}

@@ -1,8 +1,8 @@
-use Rattle.std.proofs.Common.{◌≡◌, ℕ, ◌+◌, List, [], ◌∷◌, ◌++◌, take, sym, ap, subst, ◌∙◌}
+use Rattle.std.proofs.Common.{List, [], ◌∷◌, ◌++◌, take, sym, ap, subst, ◌∙◌}
 use Rattle.std.proofs.lemmas.List.{take_more_set}
 use Rattle.dg_nor.specs.Chip.{IsChip}
 use Rattle.dg_plan.specs.declared.command.Command.{Command}
-use Rattle.dg_plan.specs.Commands.{carried_out, command_done, CommandsFit}
+use Rattle.dg_plan.specs.Commands.{carried_out, CommandsFit}
 use Rattle.dg_plan.proofs.CommandLemmas.{each_of, all_of, carried_more, fit_more, IsChip-command_done}
 use Rattle.dg_plan.proofs.plan.Plan.record.Goals as goal
 
