@@ -189,7 +189,7 @@ struct deluge_packet {
     uint8_t image, page, packet, got[6], bytes[DELUGE_PACKET_BYTES];
 };
 
-/* Plans that a packet is put: 1 command and 23 bytes, and an erase before it where none was put before. 25 bytes of the chip are
+/* Plans that a packet is put: 1 command and 23 bytes, and an erase before it where none was put before. 19 bytes of the chip are
  * read. RANGE, PUT, NOT_KEPT or NOT_NEXT: nothing is planned. */
 uint32_t deluge_plan_packet(const uint8_t *chip, size_t chip_count, const struct deluge_packet *packet,
     struct deluge_command *commands, size_t room, uint8_t *bytes, size_t bytes_room, size_t *planned);

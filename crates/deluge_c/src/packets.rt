@@ -35,7 +35,7 @@ pub struct PacketFields {
 }
 
 /// Plans that a packet is put into the next page of an image: 1 command, which programs 23 bytes, and before it an erase where no
-/// packet was put before. 25 bytes of the chip are read.
+/// packet was put before. 19 bytes of the chip are read, and never more than 25.
 #[unsafe(no_mangle)]
 pub extern "C" fn deluge_plan_packet(
     chip: &[u8],
