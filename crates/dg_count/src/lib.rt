@@ -2,6 +2,7 @@
 //! commits, starts, and when it has what.
 #![tactic(auto)]
 
+mod call;
 mod costs;
 mod counter;
 mod frames;
@@ -15,6 +16,7 @@ mod share;
 mod watching;
 mod work;
 
+pub use call::replay_counted;
 pub use costs::{Costs, Given};
 pub use counter::Counter;
 pub use frames::{Frames, HEARD, PUT, SentBy, SentFrame, TRACED, TRACED_PUT, USED, share_of};

@@ -1,6 +1,7 @@
 //! The watcher of a replay that counts.
-ghost use Rattle.std.specs.Prelude.{◌≡◌, ⊤};
+ghost use Rattle.std.specs.Prelude.{◌≡◌};
 ghost use Rattle.dg_rules.specs.Events.{mote_of};
+ghost use Rattle.dg_events.specs.Counters.{HasCounted};
 ghost use Rattle.dg_events.specs.Kinds.{event_number};
 ghost use Rattle.dg_count.specs.Runs.{CountsEvent};
 
@@ -276,7 +277,8 @@ impl Counter {
 }
 
 impl<N: Nor> Watcher<Metered<N>> for Counter {
-    ghost saw = { λ counter stores events. ⊤ };
+    // it counted the events that it was shown, whatever their stores
+    ghost saw = { λ counter stores events. HasCounted counter.events events };
 
     fn begun(&mut self, motes: u8) {
         self.costs.count = motes;
