@@ -1,7 +1,7 @@
 -- Reads and writes one after another.
 use Rattle.std.proofs.Common.{◌≡◌, ℕ, List, [], ◌++◌, length, Option, None, Some, refl, sym, ap, ◌∙◌, arith}
 use Rattle.std.proofs.lemmas.List.{append-nil, append_assoc, take_all}
-use Rattle.dg_base.specs.Outside.{ahead_of, followed_by, Takes, Puts, PutsFront, AtEnd}
+use Rattle.dg_base.specs.Outside.{ahead_of, followed_by, Takes, Puts, PutsPrefix, AtEnd}
 
 -- Taking no byte leaves what was there.
 pub Takes-nil : (a : Option (List ℕ)) → Takes a a []
@@ -38,8 +38,8 @@ Puts-join None b c x y p q = q ∙ ap (λ o. followed_by o y) p
 Puts-join (Some bytes) b c x y p q = q ∙ ap (λ o. followed_by o y) p ∙ ap Some (append_assoc bytes x y)
 
 -- A put of all is a put of some front, and so is one of nothing.
-pub PutsFront-all : (a b : Option (List ℕ)) (x : List ℕ) → Puts a b x → PutsFront a b x
-PutsFront-all a b x p = (length x, omega arith, p ∙ ap (followed_by a) (sym (take_all (length x) x (omega arith))))
+pub PutsPrefix-all : (a b : Option (List ℕ)) (x : List ℕ) → Puts a b x → PutsPrefix a b x
+PutsPrefix-all a b x p = (length x, omega arith, p ∙ ap (followed_by a) (sym (take_all (length x) x (omega arith))))
 
-pub PutsFront-nil : (a : Option (List ℕ)) (x : List ℕ) → PutsFront a a x
-PutsFront-nil a x = (0, omega arith, Puts-nil a)
+pub PutsPrefix-nil : (a : Option (List ℕ)) (x : List ℕ) → PutsPrefix a a x
+PutsPrefix-nil a x = (0, omega arith, Puts-nil a)

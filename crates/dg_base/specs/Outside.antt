@@ -21,8 +21,8 @@ abbrev pub Puts : Option (List ℕ) → Option (List ℕ) → List ℕ → Type 
 Puts before after bytes = after ≡ followed_by before bytes
 
 -- Some front of the bytes was put.
-abbrev pub PutsFront : Option (List ℕ) → Option (List ℕ) → List ℕ → Type 0
-PutsFront before after bytes = (n : ℕ) × (n ≤ length bytes) × Puts before after (take n bytes)
+abbrev pub PutsPrefix : Option (List ℕ) → Option (List ℕ) → List ℕ → Type 0
+PutsPrefix before after bytes = (n : ℕ) × (n ≤ length bytes) × Puts before after (take n bytes)
 
 -- No byte is left; nothing is claimed where the bytes are not told.
 abbrev pub AtEnd : Option (List ℕ) → Type 0

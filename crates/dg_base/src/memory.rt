@@ -2,7 +2,7 @@
 ghost use Rattle.std.specs.Prelude.{◌≡◌, IsTrue, ◌+◌, ◌-◌, ◌^◌, ◌<◌, ◌≤◌, ◌↔◌, ◌⊎◌, min, [], length, take, drop, Ok, Some, IsErr};
 ghost use Rattle.std.specs.Prelude.{IfOk, OnOk, OnErr, MatchResult, Contains, vec_len};
 ghost use Rattle.dg_words.specs.Counts.{Rose};
-ghost use Rattle.dg_base.specs.Outside.{Takes, Puts, PutsFront, AtEnd};
+ghost use Rattle.dg_base.specs.Outside.{Takes, Puts, PutsPrefix, AtEnd};
 
 use crate::outside::{ReadFailed, Sink, Source, WriteFailed};
 use std::alloc::{AllocError, Global};
@@ -83,7 +83,7 @@ impl Source for MemSource {
             self.faults = self.faults.saturating_add(1);
             return Err(ReadFailed);
         }
-        let count = copy_front(into, &self.bytes[self.at..]);
+        let count = copy_prefix(into, &self.bytes[self.at..]);
         self.at += count;
         Ok(count)
     }
@@ -152,7 +152,7 @@ impl Sink for MemSink {
 
     fn write(&mut self, bytes: &[u8]) -> Result<(), WriteFailed>
         ensures ok { OnOk result (Puts (Some self.old.written) (Some self.new.written) bytes.now) }
-        ensures err { OnErr result (PutsFront (Some self.old.written) (Some self.new.written) bytes.now) }
+        ensures err { OnErr result (PutsPrefix (Some self.old.written) (Some self.new.written) bytes.now) }
         ensures counts { self.old.faults ≤ self.new.faults }
         ensures failed { OnErr result (Rose self.old.faults self.new.faults) }
 
@@ -188,7 +188,7 @@ fn is_failing(failing: &[u32], calls: u32) -> bool
 }
 
 // Copies as many bytes as there are and fit, and answers how many.
-fn copy_front(into: &mut [u8], bytes: &[u8]) -> usize
+fn copy_prefix(into: &mut [u8], bytes: &[u8]) -> usize
     ensures count { result ≡ min (length into.old) (length bytes.now) }
     ensures front { take result into.new ≡ take result bytes.now }
     ensures rest { drop result into.new ≡ drop result into.old }

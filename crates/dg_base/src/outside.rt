@@ -5,7 +5,7 @@
 ghost use Rattle.std.specs.Prelude.{◌≡◌, ℕ, Option, ◌<◌, ◌≤◌, List, length, take, Ok, Some, IfOk, OnOk, OnErr, MatchResult};
 ghost use Rattle.std.specs.Prelude.{codes};
 ghost use Rattle.dg_words.specs.Counts.{Rose};
-ghost use Rattle.dg_base.specs.Outside.{Takes, Puts, PutsFront, AtEnd};
+ghost use Rattle.dg_base.specs.Outside.{Takes, Puts, PutsPrefix, AtEnd};
 
 use std::error::Error;
 use std::fmt;
@@ -70,7 +70,7 @@ pub trait Sink {
     /// Writes all of `bytes` after what was written.
     fn write(&mut self, bytes: &[u8]) -> Result<(), WriteFailed>
         ensures ok { OnOk result (Puts (written self.old) (written self.new) bytes.now) }
-        ensures err { OnErr result (PutsFront (written self.old) (written self.new) bytes.now) }
+        ensures err { OnErr result (PutsPrefix (written self.old) (written self.new) bytes.now) }
         ensures counts { faults self.old ≤ faults self.new }
         ensures failed { OnErr result (Rose (faults self.old) (faults self.new)) }
         ensures unfailed { OnOk result (faults self.new ≡ faults self.old) };

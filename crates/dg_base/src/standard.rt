@@ -3,7 +3,7 @@ ghost use Rattle.std.specs.Prelude.{◌≡◌, ◌<◌, ◌≤◌, length, None,
 ghost use Rattle.std.specs.Io.KnownBytes.{Appends, ReadConsumes};
 ghost use Rattle.std.specs.Bool.{OnTrue, OnFalse};
 ghost use Rattle.dg_words.specs.Counts.{Rose};
-ghost use Rattle.dg_base.specs.Standard.{reader_of, writer_of, faults_read, faults_written, AppendsFront};
+ghost use Rattle.dg_base.specs.Standard.{reader_of, writer_of, faults_read, faults_written, AppendsPrefix};
 
 use crate::outside::{ReadFailed, Sink, Source, WriteFailed};
 use std::io::{Read, Write};
@@ -79,7 +79,7 @@ impl<W: Write> Sink for StdSink<W> {
 
         // What the writer tells of its bytes.
         ensures whole { OnOk result (Appends (W.contents (writer_of self.old)) (W.contents (writer_of self.new)) bytes.now) }
-        ensures front { OnErr result (AppendsFront (W.contents (writer_of self.old)) (W.contents (writer_of self.new))
+        ensures front { OnErr result (AppendsPrefix (W.contents (writer_of self.old)) (W.contents (writer_of self.new))
             bytes.now) }
         ensures unfailed { OnOk result (faults_written self.new ≡ faults_written self.old) }
     {
@@ -95,7 +95,7 @@ impl<W: Write> Sink for StdSink<W> {
 // nothing.
 fn write_whole<W: Write>(writer: &mut W, bytes: &[u8]) -> bool
     ensures whole { OnTrue result (Appends (W.contents writer.old) (W.contents writer.new) bytes.now) }
-    ensures front { OnFalse result (AppendsFront (W.contents writer.old) (W.contents writer.new) bytes.now) }
+    ensures front { OnFalse result (AppendsPrefix (W.contents writer.old) (W.contents writer.new) bytes.now) }
 {
     let mut done = 0;
     while done < bytes.len() {

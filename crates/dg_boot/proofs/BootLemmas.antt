@@ -22,7 +22,7 @@ use Rattle.dg_volume.specs.declared.volume.Volume.{Volume}
 use Rattle.dg_volume.proofs.ActLemmas.{acted_then, stops_then}
 use Rattle.dg_volume.proofs.BehindLemmas.{memory_free}
 use Rattle.dg_boot.specs.Loads.{Measures}
-use Rattle.dg_boot.specs.Started.{Lacks}
+use Rattle.dg_boot.specs.Started.{NoImageFound}
 use Rattle.dg_boot.specs.Ends.{TrailWent, BootOutcome}
 use Rattle.dg_boot.specs.declared.Started.{Started}
 use Rattle.dg_boot.specs.declared.loaded.Loaded.{Loaded}
@@ -220,5 +220,5 @@ pub stopped_boots : (r : Result Started BootFault) (b : Boot) (x y : Device) →
 stopped_boots (Ok told) b x y h stops = absurd h
 stopped_boots (Err e) b x y h stops = subst (λ (f : BootFault). BootOutcome (Err f) b x y) (sym h) stops
 
-pub lacks_read : (s : Store) (x y : Device) (v : Volume) → Looked x y → Mounted x.image v s → Lacks (record { runs = None; trail = resting s 0 }) x y
+pub lacks_read : (s : Store) (x y : Device) (v : Volume) → Looked x y → Mounted x.image v s → NoImageFound (record { runs = None; trail = resting s 0 }) x y
 lacks_read s x y v looked m = let went = went_read s x y v looked m in record { none = refl; ran = went.acted.ran; stands = went.acted.mounted.stands }

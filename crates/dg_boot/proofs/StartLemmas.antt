@@ -10,7 +10,7 @@ use Rattle.dg_volume.specs.Start.{Boot}
 use Rattle.dg_volume.specs.Acts.{Stops}
 use Rattle.dg_volume.specs.declared.volume.MountFault.{MountFault}
 use Rattle.dg_volume.specs.declared.volume.MountFault.TheVariants as mount
-use Rattle.dg_boot.specs.Started.{Starts, Lacks}
+use Rattle.dg_boot.specs.Started.{Starts, NoImageFound}
 use Rattle.dg_boot.specs.Ends.{BootOutcome}
 use Rattle.dg_boot.specs.Faults.{boot_fault_of}
 use Rattle.dg_boot.specs.declared.Started.{Started}
@@ -37,7 +37,7 @@ all_run_on (Err e) b x y h = tt
 at_fault : (r : Result Started BootFault) (e : BootFault) (b : Boot) (x y : Device) → IsErrOf r e → BootOutcome r b x y → BootOutcome (Err e) b x y
 at_fault r e b x y is h = subst (λ (q : Result Started BootFault). BootOutcome q b x y) is h
 
-pub boot_lacks : (r : Result Started BootFault) (b : Boot) (x y : Device) → IsErrOf r faults.NoImage → BootOutcome r b x y → Lacks b x y
+pub boot_lacks : (r : Result Started BootFault) (b : Boot) (x y : Device) → IsErrOf r faults.NoImage → BootOutcome r b x y → NoImageFound b x y
 boot_lacks r b x y is h = at_fault r faults.NoImage b x y is h
 
 pub boot_stops : (r : Result Started BootFault) (b : Boot) (x y : Device) → IsErrOf r faults.Stopped → BootOutcome r b x y → Stops b.trail x y

@@ -14,7 +14,7 @@ use Rattle.dg_volume.specs.Start.{finish_trail, order_boot, kept_boot, waived_on
 use Rattle.dg_volume.specs.Acts.{Acted, Stops}
 use Rattle.dg_volume.specs.declared.volume.Volume.{Volume}
 use Rattle.dg_boot.specs.Loads.{IsWhole, app_from, Measures}
-use Rattle.dg_boot.specs.Started.{Starts, Lacks}
+use Rattle.dg_boot.specs.Started.{Starts, NoImageFound}
 use Rattle.dg_boot.specs.declared.loaded.Loaded.{Loaded}
 use Rattle.dg_boot.specs.declared.Started.{Started}
 use Rattle.dg_boot.specs.declared.BootFault.{BootFault}
@@ -33,7 +33,7 @@ Goes (Err e) t old new v = Stops t old new
 -- a start of a volume went this way, or was stopped on it
 abbrev pub BootOutcome : Result Started BootFault → Boot → Device → Device → Type 0
 BootOutcome (Ok told) b old new = Starts b old new told × (operations b.trail ≡ 0 → new.image ≡ old.image)
-BootOutcome (Err faults.NoImage) b old new = Lacks b old new
+BootOutcome (Err faults.NoImage) b old new = NoImageFound b old new
 BootOutcome (Err faults.Stopped) b old new = Stops b.trail old new
 BootOutcome (Err faults.NotAVolume) b old new = ⊥
 

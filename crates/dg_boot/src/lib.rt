@@ -28,7 +28,7 @@ ghost use Rattle.dg_volume.specs.Stands.{Stands, IsNoVolume};
 ghost use Rattle.dg_volume.specs.Start.{boot};
 ghost use Rattle.dg_volume.specs.Acts.{Stops, TouchesBut};
 ghost use Rattle.dg_volume.specs.Consistent.{Consistent, IsSoundApp};
-ghost use Rattle.dg_boot.specs.Started.{Starts, Lacks};
+ghost use Rattle.dg_boot.specs.Started.{Starts, NoImageFound};
 
 use crate::starting::start_mounted;
 pub use choosing::order_waits;
@@ -83,7 +83,7 @@ pub fn start<N: Nor>(nor: &mut N, kind: Kind) -> Result<Started, BootFault>
     ensures awake { OnOk result ((N.device nor.old).stopped ≡ false) }
     ensures touches { TouchesBut (program_sector 0) program_end (N.device nor.old).image (N.device nor.new).image }
     ensures no_image { IsErrOf result BootFault.NoImage → (s : Store) → Stands (N.device nor.old).image s
-        → Lacks (boot kind s) (N.device nor.old) (N.device nor.new) }
+        → NoImageFound (boot kind s) (N.device nor.old) (N.device nor.new) }
     ensures of_a_volume { IsErrOf result BootFault.NoImage → (s : Store) × Stands (N.device nor.old).image s }
     ensures not_a_volume { IsErrOf result BootFault.NotAVolume → IsNoVolume (N.device nor.old).image
         × Looked (N.device nor.old) (N.device nor.new) }

@@ -20,7 +20,7 @@ use crate::loaded::Loaded;
 use crate::pieces::copy_page;
 use dg_nor::{Nor, Stopped, read_in};
 use dg_object::{Descriptor, HEAD_SIZE, Head, PAGE_SIZE};
-use dg_slot::{PROGRAM_SECTOR, front_crc, page_sector};
+use dg_slot::{PROGRAM_SECTOR, page_sector, prefix_crc};
 
 /// The bytes of a page.
 const PAGE: u32 = PAGE_SIZE as u32;
@@ -46,7 +46,7 @@ fn image_crc<N: Nor>(nor: &mut N, length: u32) -> Result<u16, Stopped>
     let mut crc = 0;
     for p in 0..length.div_ceil(PAGE) {
         let count = (length - PAGE * p).min(PAGE);
-        crc = front_crc(nor, PROGRAM_SECTOR + 1 + p, count, crc)?;
+        crc = prefix_crc(nor, PROGRAM_SECTOR + 1 + p, count, crc)?;
     }
     Ok(crc)
 }

@@ -3,7 +3,7 @@ ghost use Rattle.std.specs.Prelude.{◌≡◌, ◌<◌, ◌≤◌, false, length
 ghost use Rattle.dg_nor.specs.Chip.{Touches};
 ghost use Rattle.dg_slot.specs.Layout.{header_sector, slot_end};
 ghost use Rattle.dg_slot.specs.Kept.{Held};
-ghost use Rattle.dg_slot.specs.Jobs.{IsOpen, outline_told, SlotStops};
+ghost use Rattle.dg_slot.specs.Jobs.{IsOpen, outline_of_slot, SlotStops};
 ghost use Rattle.dg_chain.specs.Answers.{chained_slot};
 ghost use Rattle.dg_chain.specs.Receiving.{receive_page_trail, Receives};
 
@@ -24,15 +24,15 @@ pub fn receive_page<N: Nor>(
     requires fits { (h : Held) × IsOpen (N.device nor.old).image slot h × (length h.complete < h.pages)
         × (1 ≤ length h.complete) }
     ensures received { IfOk result (λ answer. (h : Held) → IsOpen (N.device nor.old).image slot h
-        → Receives expected.now (outline_told slot).image h page.now (N.device nor.old) (N.device nor.new) answer) }
+        → Receives expected.now (outline_of_slot slot).image h page.now (N.device nor.old) (N.device nor.new) answer) }
     // the slot that is returned is this one
-    ensures same { IfOk result (λ answer. outline_told (chained_slot answer) ≡ outline_told slot) }
+    ensures same { IfOk result (λ answer. outline_of_slot (chained_slot answer) ≡ outline_of_slot slot) }
     ensures same_reference { (N.device nor.new).references ≡ (N.device nor.old).references }
-    ensures touches { Touches (header_sector (outline_told slot).image) (slot_end (outline_told slot).image)
+    ensures touches { Touches (header_sector (outline_of_slot slot).image) (slot_end (outline_of_slot slot).image)
         (N.device nor.old).image (N.device nor.new).image }
     ensures awake { OnOk result ((N.device nor.old).stopped ≡ false) }
     ensures stopped { OnErr result ((h : Held) → IsOpen (N.device nor.old).image slot h
-        → SlotStops (outline_told slot).image (receive_page_trail expected.now (outline_told slot).image h page.now)
+        → SlotStops (outline_of_slot slot).image (receive_page_trail expected.now (outline_of_slot slot).image h page.now)
         (N.device nor.old) (N.device nor.new)) }
 {
     let mut job = slot.begin_page(nor)?;

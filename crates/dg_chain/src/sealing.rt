@@ -4,7 +4,7 @@ ghost use Rattle.std.specs.FinSet as set;
 ghost use Rattle.dg_nor.specs.Chip.{Touches};
 ghost use Rattle.dg_slot.specs.Layout.{packets, header_sector};
 ghost use Rattle.dg_slot.specs.Kept.{Held};
-ghost use Rattle.dg_slot.specs.Jobs.{outline_told, done_told, Packets, page_from, slot_of, got_told, IsJob, SlotStops};
+ghost use Rattle.dg_slot.specs.Jobs.{outline_of_slot, done_of_slot, Packets, page_from, slot_of, got_of_job, IsJob, SlotStops};
 ghost use Rattle.dg_chain.specs.Answers.{chained_trail, chained_slot, SealsChained};
 
 use crate::DIGEST_SIZE;
@@ -42,20 +42,20 @@ pub fn seal_chained<N: Nor>(
     nor: &mut N,
     expected: &[u8; DIGEST_SIZE],
 ) -> Result<ChainSealing, Stopped>
-    requires all { (q : ℕ) → q < packets → set.contains (got_told job) q ≡ true }
-    requires data_page { 1 ≤ done_told (slot_of job) }
+    requires all { (q : ℕ) → q < packets → set.contains (got_of_job job) q ≡ true }
+    requires data_page { 1 ≤ done_of_slot (slot_of job) }
     ensures sealed { IfOk result (λ answer. (h : Held) (ps : Packets) → IsJob (N.device nor.old).image job h ps
-        → SealsChained expected.now (outline_told (slot_of job)).image h (page_from ps) (N.device nor.old) (N.device nor.new)
+        → SealsChained expected.now (outline_of_slot (slot_of job)).image h (page_from ps) (N.device nor.old) (N.device nor.new)
         answer) }
     // the slot that is returned is this one
-    ensures same { IfOk result (λ answer. outline_told (chained_slot answer) ≡ outline_told (slot_of job)) }
+    ensures same { IfOk result (λ answer. outline_of_slot (chained_slot answer) ≡ outline_of_slot (slot_of job)) }
     ensures same_reference { (N.device nor.new).references ≡ (N.device nor.old).references }
-    ensures touches { let k = header_sector (outline_told (slot_of job)).image in Touches k (k + 1) (N.device nor.old).image
+    ensures touches { let k = header_sector (outline_of_slot (slot_of job)).image in Touches k (k + 1) (N.device nor.old).image
         (N.device nor.new).image }
     ensures awake { OnOk result ((N.device nor.old).stopped ≡ false) }
     ensures stopped { OnErr result ((h : Held) (ps : Packets) → IsJob (N.device nor.old).image job h ps
-        → SlotStops (outline_told (slot_of job)).image
-        (chained_trail expected.now (outline_told (slot_of job)).image h (page_from ps)) (N.device nor.old)
+        → SlotStops (outline_of_slot (slot_of job)).image
+        (chained_trail expected.now (outline_of_slot (slot_of job)).image h (page_from ps)) (N.device nor.old)
         (N.device nor.new)) }
 {
     let mut page = [0; PAGE_SIZE];

@@ -8,7 +8,7 @@ use Rattle.dg_nor.proofs.TrailLemmas.{operations-resting, last-resting, Leaves-r
 use Rattle.dg_slot.specs.Layout.{header_sector, slot_end, page_operations}
 use Rattle.dg_slot.specs.Kept.{Held, KeepsImage, with_page}
 use Rattle.dg_slot.specs.Fits.{may_seal}
-use Rattle.dg_slot.specs.Jobs.{Opens, IsOpen, outline_told, SlotStops}
+use Rattle.dg_slot.specs.Jobs.{Opens, IsOpen, outline_of_slot, SlotStops}
 use Rattle.dg_slot.specs.declared.states.OpenSlot.{OpenSlot}
 use Rattle.dg_volume.specs.Sizes.{images}
 use Rattle.dg_volume.specs.Store.{Store, held}
@@ -25,19 +25,19 @@ use Rattle.dg_chain.specs.declared.sealing.ChainSealing.TheVariants.{Sealed, For
 use Rattle.dg_chain_tool.specs.inner.Filling.{fits_root, next_trail}
 
 abbrev Back : List ℕ → Volume → Volume → OpenSlot → Type 0
-Back d v w o = (t : Store) (g : Held) → MountedBut (λ j. j ≡ (outline_told o).image) d v t → held t (outline_told o).image ≡ Some g → Opens o g → Mounted d w t
+Back d v w o = (t : Store) (g : Held) → MountedBut (λ j. j ≡ (outline_of_slot o).image) d v t → held t (outline_of_slot o).image ≡ Some g → Opens o g → Mounted d w t
 
-module _ (a b : Device) (v v1 w : Volume) (s : Store) (i : ℕ) (h : Held) (expected page : List ℕ) (slot : OpenSlot) (not_golden : 1 ≤ i) (known : i < images) (here : held s i ≡ Some h) (there : (outline_told slot).image ≡ i)
-    (touches : Touches (header_sector (outline_told slot).image) (slot_end (outline_told slot).image) a.image b.image) (before : Mounted a.image v s) (lent : Mounted a.image v1 s) (opened : IsOpen a.image slot h) where
+module _ (a b : Device) (v v1 w : Volume) (s : Store) (i : ℕ) (h : Held) (expected page : List ℕ) (slot : OpenSlot) (not_golden : 1 ≤ i) (known : i < images) (here : held s i ≡ Some h) (there : (outline_of_slot slot).image ≡ i)
+    (touches : Touches (header_sector (outline_of_slot slot).image) (slot_end (outline_of_slot slot).image) a.image b.image) (before : Mounted a.image v s) (lent : Mounted a.image v1 s) (opened : IsOpen a.image slot h) where
   touched : Touches (header_sector i) (slot_end i) a.image b.image
   touched = subst (λ (n : ℕ). Touches (header_sector n) (slot_end n) a.image b.image) there touches
 
-  pub sealed_next : (o : OpenSlot) (next : List ℕ) → (outline_told o).image ≡ i → Receives expected (outline_told slot).image h page a b (Sealed o next) → Back b.image v1 w o
+  pub sealed_next : (o : OpenSlot) (next : List ℕ) → (outline_of_slot o).image ≡ i → Receives expected (outline_of_slot slot).image h page a b (Sealed o next) → Back b.image v1 w o
       → (fits_root expected page ≡ true) × Acted (stepping s page_operations (paged i page s)) a b w
   sealed_next o next image r back =
       (bytes_same (sha256 page) expected r.0, page_acted a b w s (paged i page s) r.4 (page_mounted a.image b.image v1 w s i h page o not_golden known image here touched r.3 lent back))
 
-  pub foreign_next : (o : OpenSlot) (found : List ℕ) → (outline_told o).image ≡ i → Receives expected (outline_told slot).image h page a b (Foreign found o) → Back b.image v1 w o
+  pub foreign_next : (o : OpenSlot) (found : List ℕ) → (outline_of_slot o).image ≡ i → Receives expected (outline_of_slot slot).image h page a b (Foreign found o) → Back b.image v1 w o
       → (fits_root expected page ≡ false) × Acted (resting s fill_operations) a b w
   foreign_next o found image r back =
       let keeps : KeepsImage b.image i h = subst (λ (n : ℕ). KeepsImage b.image n h) image r.2.keeps in
@@ -47,8 +47,8 @@ module _ (a b : Device) (v v1 w : Volume) (s : Store) (i : ℕ) (h : Held) (expe
         record { ran = subst (λ (n : ℕ). Ran n a b) (sym (operations-resting s fill_operations)) r.3; mounted = subst (Mounted b.image w) (sym (last-resting s fill_operations)) mounted },
       )
 
-  pub bad_next : (o : OpenSlot) (kept found : ℕ) → may_seal (outline_told slot).image h page ≡ true → Receives expected (outline_told slot).image h page a b (Bad kept found o) → ⊥
-  bad_next o kept found halted r = r.3 (r.2 ∙ may_crc (outline_told slot).image h page halted ∙ sym r.1)
+  pub bad_next : (o : OpenSlot) (kept found : ℕ) → may_seal (outline_of_slot slot).image h page ≡ true → Receives expected (outline_of_slot slot).image h page a b (Bad kept found o) → ⊥
+  bad_next o kept found halted r = r.3 (r.2 ∙ may_crc (outline_of_slot slot).image h page halted ∙ sym r.1)
 
   rest_stops : SlotStops i (resting h fill_operations) a b → Stops (resting s fill_operations) a b
   rest_stops stops =
@@ -61,7 +61,7 @@ module _ (a b : Device) (v v1 w : Volume) (s : Store) (i : ℕ) (h : Held) (expe
   stops_by true false e stops = let no : false ≡ true = e in absurd cc
   stops_by false m e stops = rest_stops stops
 
-  pub stopped_next : may_seal (outline_told slot).image h page ≡ true → SlotStops (outline_told slot).image (receive_page_trail expected (outline_told slot).image h page) a b → Stops (next_trail (fits_root expected page) s i page) a b
+  pub stopped_next : may_seal (outline_of_slot slot).image h page ≡ true → SlotStops (outline_of_slot slot).image (receive_page_trail expected (outline_of_slot slot).image h page) a b → Stops (next_trail (fits_root expected page) s i page) a b
   stopped_next halted stops =
       let at : may_seal i h page ≡ true = subst (λ (n : ℕ). may_seal n h page ≡ true) there halted in
       stops_by (fits_root expected page) (may_seal i h page) at (subst (λ (n : ℕ). SlotStops n (receive_page_trail expected n h page) a b) there stops)

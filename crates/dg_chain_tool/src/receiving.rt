@@ -24,7 +24,9 @@ use dg_end::{End, Refusal, end_of_injection, line_of};
 use dg_nor::Nor;
 use dg_object::PAGE_SIZE;
 use dg_tool::read_image;
-use dg_volume::{Kept, NewImage, Volume, a_row_is_filled_page_by_page, injection_fault, is_other};
+use dg_volume::{
+    Kept, NewImage, Volume, a_row_is_filled_page_by_page, differs_from_kept, injection_fault,
+};
 use std::alloc::Global;
 
 /// Fills what is missing of a version that is kept, where that is this image.
@@ -46,7 +48,7 @@ fn receive_kept<N: Nor>(
         (receive_to root.now row s) (Completed (receive_trail root.now s row))
         (Stops (receive_trail root.now s row)) (N.device nor.old) (N.device nor.new) }
 {
-    let other = is_other(nor, new, kept)?;
+    let other = differs_from_kept(nor, new, kept)?;
     if other {
         return Err(End::Refused(Refusal::Taken));
     }

@@ -9,11 +9,11 @@ use Rattle.dg_trial.specs.Trials.{TrialEnds}
 use Rattle.dg_command.specs.Asking.{Asking, said_by, asking}
 use Rattle.dg_command.specs.declared.command.Asked.{Asked}
 use Rattle.dg_command.specs.declared.command.Command.{Command}
-use Rattle.dg_cli.specs.Commands.{ReadsInput, UsesLink, SaidDone}
+use Rattle.dg_cli.specs.Commands.{ReadsInput, UsesLink, CommandOutcome}
 use Rattle.dg_cli.specs.Chained.{root_in, Checked}
 
-pub said_done : (c d : Command) → c ≡ d → (s : Status) (a b : Outside) → SaidDone (said_by d) s a b → SaidDone (said_by c) s a b
-said_done c d e s a b h = subst (λ (x : Command). SaidDone (said_by x) s a b) (sym e) h
+pub said_done : (c d : Command) → c ≡ d → (s : Status) (a b : Outside) → CommandOutcome (said_by d) s a b → CommandOutcome (said_by c) s a b
+said_done c d e s a b h = subst (λ (x : Command). CommandOutcome (said_by x) s a b) (sym e) h
 
 -- ---- commands that are given names and digits
 

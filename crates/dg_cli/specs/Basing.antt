@@ -1,7 +1,7 @@
 -- What the command did that runs a base mote over the first board (docs/COMMANDS.md, "Base").
 use Rattle.std.specs.Prelude.{◌≡◌, ◌⊎◌, ℕ, List, [], ◌∷◌, ◌++◌, codes}
 use Rattle.dg_words.specs.Counts.{Rose}
-use Rattle.dg_base.specs.Outside.{Puts, PutsFront}
+use Rattle.dg_base.specs.Outside.{Puts, PutsPrefix}
 use Rattle.dg_base.specs.declared.answers.Status.{Status}
 use Rattle.dg_base.specs.declared.answers.Status.TheVariants.{WriteFault, NoBoard}
 use Rattle.dg_nor.specs.Device.{Device}
@@ -45,7 +45,7 @@ pub record NoBoardReported (status : Status) (a b : Around) : Type 0 where
   pub left : b.left ≡ a.left
   pub reads : b.reads ≡ a.reads
   pub written : ((status ≡ NoBoard) × Puts a.written b.written no_base_board_line × (b.writes ≡ a.writes))
-      ⊎ ((status ≡ WriteFault) × PutsFront a.written b.written no_base_board_line × Rose a.writes b.writes)
+      ⊎ ((status ≡ WriteFault) × PutsPrefix a.written b.written no_base_board_line × Rose a.writes b.writes)
 
 -- over the first of the boards, and the others are as before
 abbrev pub BasedOver : Base → Status → Around → Around → (old new : List Device) → Type 0

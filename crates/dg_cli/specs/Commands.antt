@@ -94,34 +94,34 @@ pub record VersionDone (status : Status) (a b : Outside) : Type 0 where
 
 -- ---- all commands
 
-abbrev pub SaidDone : Said → Status → Outside → Outside → Type 0
-SaidDone (Replay flashes) status a b = ReplayDone status (around_of a) (around_of b)
-SaidDone (Serve turns seed flashes) status a b = ServeDone turns seed status a b
-SaidDone (Format name used form flash) status a b = FormatDone name used form status a b
-SaidDone (Inject image version name flash) status a b = InjectDone image version name status a b
-SaidDone (OrderSaid number image version flash) status a b =
+abbrev pub CommandOutcome : Said → Status → Outside → Outside → Type 0
+CommandOutcome (Replay flashes) status a b = ReplayDone status (around_of a) (around_of b)
+CommandOutcome (Serve turns seed flashes) status a b = ServeDone turns seed status a b
+CommandOutcome (Format name used form flash) status a b = FormatDone name used form status a b
+CommandOutcome (Inject image version name flash) status a b = InjectDone image version name status a b
+CommandOutcome (OrderSaid number image version flash) status a b =
     OrderDone (record { number = number; image = image; version = version }) status a b
-SaidDone (Boot flash) status a b = BootDone status a b
-SaidDone (Ping flash) status a b = PingDone status a b
-SaidDone (Dump image flash) status a b = DumpDone image status a b
-SaidDone (Migrate flash) status a b = MigrateDone status a b
-SaidDone (Trial motes pages seed) status a b = TrialDone motes pages seed status a b
-SaidDone Wrap status a b = WrapDone status a b
-SaidDone (Check image root flash) status a b = Checked image (root_in root) status a b
-SaidDone (Receive image version name root flash) status a b = ReceiveDone image version name (root_in root) status a b
-SaidDone Drip status a b = DripDone status a b
-SaidDone (Base id step seed flash) status a b = BaseDone id step seed status (around_of a) (around_of b)
+CommandOutcome (Boot flash) status a b = BootDone status a b
+CommandOutcome (Ping flash) status a b = PingDone status a b
+CommandOutcome (Dump image flash) status a b = DumpDone image status a b
+CommandOutcome (Migrate flash) status a b = MigrateDone status a b
+CommandOutcome (Trial motes pages seed) status a b = TrialDone motes pages seed status a b
+CommandOutcome Wrap status a b = WrapDone status a b
+CommandOutcome (Check image root flash) status a b = Checked image (root_in root) status a b
+CommandOutcome (Receive image version name root flash) status a b = ReceiveDone image version name (root_in root) status a b
+CommandOutcome Drip status a b = DripDone status a b
+CommandOutcome (Base id step seed flash) status a b = BaseDone id step seed status (around_of a) (around_of b)
 
 -- by what the words ask for
-abbrev pub AskedDone : Asking → Status → Outside → Outside → Type 0
-AskedDone (Asks said) status a b = SaidDone said status a b
-AskedDone Helps status a b = HelpDone status a b
-AskedDone TellsVersion status a b = VersionDone status a b
-AskedDone Misuses status a b = UsageDone status a b
+abbrev pub CommandLineOutcome : Asking → Status → Outside → Outside → Type 0
+CommandLineOutcome (Asks said) status a b = CommandOutcome said status a b
+CommandLineOutcome Helps status a b = HelpDone status a b
+CommandLineOutcome TellsVersion status a b = VersionDone status a b
+CommandLineOutcome Misuses status a b = UsageDone status a b
 
 -- the words themselves may take more memory than there is, and then nothing is done
 abbrev pub CommandDone : Asking → Status → Outside → Outside → Type 0
-CommandDone asking status a b = AskedDone asking status a b ⊎ ((status ≡ Memory) × (b ≡ a))
+CommandDone asking status a b = CommandLineOutcome asking status a b ⊎ ((status ≡ Memory) × (b ≡ a))
 
 -- the words ask for what reads the input
 abbrev pub ReadsInput : Asking → Type 0

@@ -1,7 +1,7 @@
 -- What is told of words that are no command, or that ask for help or the version (docs/COMMANDS.md, "How a command ends").
 use Rattle.std.specs.Prelude.{◌≡◌, ◌≢◌, ◌⊎◌, ℕ, List, [], ◌∷◌, ◌++◌, codes, Option}
 use Rattle.dg_words.specs.Counts.{Rose}
-use Rattle.dg_base.specs.Outside.{Puts, PutsFront}
+use Rattle.dg_base.specs.Outside.{Puts, PutsPrefix}
 use Rattle.dg_base.specs.declared.answers.Status.{Status}
 use Rattle.dg_base.specs.declared.answers.Status.TheVariants.{Done, Usage, WriteFault}
 
@@ -18,7 +18,7 @@ abbrev pub TextWritten : (text : List ℕ) → (wanted status : Status) → (wri
     → (writes_before writes_after : ℕ) → Type 0
 TextWritten text wanted status before after faults_before faults_after =
     ((status ≡ wanted) × Puts before after text × (faults_after ≡ faults_before))
-    ⊎ ((status ≡ WriteFault) × PutsFront before after text × Rose faults_before faults_after)
+    ⊎ ((status ≡ WriteFault) × PutsPrefix before after text × Rose faults_before faults_after)
 
 abbrev pub UsageWritten : Status → (written_before written_after : Option (List ℕ)) → (writes_before writes_after : ℕ) → Type 0
 UsageWritten status before after faults_before faults_after =

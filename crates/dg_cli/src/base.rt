@@ -1,7 +1,7 @@
 //! The command that runs a base mote on a serial line.
 ghost use Rattle.std.specs.Prelude.{◌≡◌, ◌≢◌, ◌≤◌, ◌⊎◌, map};
 ghost use Rattle.dg_words.specs.Counts.{Rose};
-ghost use Rattle.dg_base.specs.Outside.{Puts, PutsFront};
+ghost use Rattle.dg_base.specs.Outside.{Puts, PutsPrefix};
 ghost use Rattle.dg_replay.specs.Around.{around};
 ghost use Rattle.dg_cli.specs.Basing.{no_base_board_line, BaseDone};
 
@@ -13,7 +13,7 @@ use std::alloc::Global;
 fn tell_no_board<K: Sink>(out: &mut K) -> Status
     ensures written { ((result ≡ Status.NoBoard) × Puts (K.written out.old) (K.written out.new) no_base_board_line
         × (K.faults out.new ≡ K.faults out.old))
-        ⊎ ((result ≡ Status.WriteFault) × PutsFront (K.written out.old) (K.written out.new) no_base_board_line
+        ⊎ ((result ≡ Status.WriteFault) × PutsPrefix (K.written out.old) (K.written out.new) no_base_board_line
         × Rose (K.faults out.old) (K.faults out.new)) }
     ensures writes { K.faults out.old ≤ K.faults out.new }
 {

@@ -4,7 +4,7 @@ ghost use Rattle.dg_words.specs.Counts.{Rose};
 ghost use Rattle.dg_outside.specs.Outside.{input_of, output_of, link_of, outside};
 ghost use Rattle.dg_command.specs.Asking.{Asks, said_by, is_well_formed};
 ghost use Rattle.dg_command.specs.Bounds.{IsInBounds};
-ghost use Rattle.dg_cli.specs.Commands.{SaidDone, ReadsInput, UsesLink};
+ghost use Rattle.dg_cli.specs.Commands.{CommandOutcome, ReadsInput, UsesLink};
 
 use crate::base::base;
 use crate::chain::{check, receive};
@@ -31,7 +31,7 @@ pub(crate) fn dispatch<S: Source, K: Sink, N: Nor, L: Link, C: Clock>(
 ) -> Status
     requires ranges { IsInBounds (said_by command.now) }
     requires formed { is_well_formed (said_by command.now) ≡ true }
-    ensures done { SaidDone (said_by command.now) result
+    ensures done { CommandOutcome (said_by command.now) result
         (outside (input_of (S.Source, input.old)) (output_of (K.Sink, out.old)) (link_of (L.Link, link.old))
         (C.told clock.old) (map N.device boards.old.items))
         (outside (input_of (S.Source, input.new)) (output_of (K.Sink, out.new)) (link_of (L.Link, link.new))

@@ -1,4 +1,4 @@
--- Ways from a mote that keeps a row whole, and numbers of sweeps that are enough.
+-- Paths from a mote that keeps a row whole, and numbers of sweeps that are enough.
 use Rattle.std.proofs.Common.{◌≡◌, ℕ, zero, suc, ◌+◌, ◌-◌, ◌<◌, ◌≤◌, max, Bool, true, false, ◌&&◌, ◌||◌, eqb, leb, ltb, List, [], ◌∷◌, length, Option, Some, None, refl, sym, ap, subst, ◌∙◌, inl, inr, arith}
 use Rattle.std.specs.Prelude.{slice_index_or}
 use Rattle.std.specs.List.{Contains, list_any, range_with_len}
@@ -7,7 +7,7 @@ use Rattle.dg_object.specs.Object.{Row}
 use Rattle.dg_volume.specs.Sizes.{images}
 use Rattle.dg_frame.specs.Sizes.{wide_images}
 use Rattle.dg_mote.specs.Sizes.{shared}
-use Rattle.dg_rounds.specs.Ways.{IsLinked, Way, here, more}
+use Rattle.dg_rounds.specs.LinkPaths.{IsLinked, LinkPath, here, more}
 use Rattle.dg_rules.specs.World.{World, store_at}
 use Rattle.dg_completion.specs.Completion.{newest, page_count, pages_kept, within, IsHops, IsEnoughFor, IsEnoughOver}
 use Rattle.dg_completion.specs.Holders.{KeepsWhole, HolderWithin, WithinLaw, ReachesAll, AllReached, EnoughLaw, OneEnoughLaw}
@@ -79,7 +79,7 @@ module _ (w : World) (row : Row) where
       there_any (leads h m) w.links (m, mid) back
       (or_right (eqb mid m && within w row h m) (eqb m m && within w row h mid) (and_from (eqb m m) (within w row h mid) (eq-eqb m m refl) e))
 
-  way_within : (holder : ℕ) → KeepsWhole w row holder → (h m : ℕ) → Way w.links holder h m → within w row h m ≡ true
+  way_within : (holder : ℕ) → KeepsWhole w row holder → (h m : ℕ) → LinkPath w.links holder h m → within w row h m ≡ true
   unfolding within
   way_within holder keeps _ _ here =
       and_from (leb (page_count row) (pages_kept (store_at w holder) row)) (ltb holder (length w.sites))
@@ -149,7 +149,7 @@ module _ (w : World) (row : Row) (reaches : ReachesAll w row) where
           | inl before ↦ let x = rest.1 m before in record { holder = x.holder; keeps = x.keeps; links = x.links; few = omega (arith, x.few); way = x.way }
           | inr same ↦
               let e : n ≡ m = omega (arith, same, less) in
-              record { holder = reaches.holder; keeps = reaches.keeps; links = way.0; few = omega arith; way = subst (Way w.links reaches.holder way.0) e way.1 }
+              record { holder = reaches.holder; keeps = reaches.keeps; links = way.0; few = omega arith; way = subst (LinkPath w.links reaches.holder way.0) e way.1 }
         ],
       )
 

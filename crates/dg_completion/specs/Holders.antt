@@ -3,7 +3,7 @@
 use Rattle.std.specs.Prelude.{◌≡◌, ℕ, ◌<◌, ◌≤◌, true, length, Some}
 use Rattle.dg_object.specs.Object.{Row}
 use Rattle.dg_volume.specs.Sizes.{images}
-use Rattle.dg_rounds.specs.Ways.{Way}
+use Rattle.dg_rounds.specs.LinkPaths.{LinkPath}
 use Rattle.dg_rules.specs.World.{World, store_at}
 use Rattle.dg_completion.specs.Completion.{newest, page_count, pages_kept, within, IsEnough}
 
@@ -18,7 +18,7 @@ pub record HolderWithin (w : World) (row : Row) (h m : ℕ) : Type 0 where
   pub keeps : KeepsWhole w row holder
   pub links : ℕ
   pub few : links ≤ h
-  pub way : Way w.links holder links m
+  pub way : LinkPath w.links holder links m
 
 -- `within` says that there is such a way
 abbrev pub WithinLaw : Type 0
@@ -29,7 +29,7 @@ WithinLaw = (w : World) (row : Row) (h m : ℕ)
 pub record ReachesAll (w : World) (row : Row) : Type 0 where
   pub holder : ℕ
   pub keeps : KeepsWhole w row holder
-  pub ways : (m : ℕ) → m < length w.sites → (links : ℕ) × Way w.links holder links m
+  pub ways : (m : ℕ) → m < length w.sites → (links : ℕ) × LinkPath w.links holder links m
 
 -- so it is for the newest row of each image that has one
 abbrev pub AllReached : World → Type 0

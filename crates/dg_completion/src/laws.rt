@@ -89,7 +89,7 @@ pub fn enough_sweeps_complete()
 /// How far all motes are from one that keeps a row whole, in links, and how many sweeps are enough. Where a way leads to
 /// every mote from one that keeps the newest row of an image whole, for each image that has a row, one number is enough
 /// and no smaller one is called so.
-pub fn distances_are_ways()
+pub fn distances_are_paths()
     ensures within { WithinLaw }
     ensures enough { EnoughLaw }
     ensures one { OneEnoughLaw }

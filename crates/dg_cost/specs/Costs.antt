@@ -1,7 +1,7 @@
 -- All that is promised of a rehearsal that tells what it costs (docs/COMMANDS.md, "What a script costs").
 use Rattle.std.specs.Prelude.{◌≡◌, ◌⊎◌, ℕ, List, [], Some}
 use Rattle.dg_words.specs.Counts.{Rose}
-use Rattle.dg_base.specs.Outside.{Puts, PutsFront}
+use Rattle.dg_base.specs.Outside.{Puts, PutsPrefix}
 use Rattle.dg_base.specs.declared.answers.Status.{Status}
 use Rattle.dg_base.specs.declared.answers.Status.TheVariants.{Memory, WriteFault}
 use Rattle.dg_nor.specs.Device.{Device}
@@ -23,7 +23,7 @@ IsText Timed report text = IsStampedReport report text
 -- The text was written, and the status is that of the replay, or a front of it, since a write failed.
 abbrev pub CostWrote : (ran status : Status) → (text : List ℕ) → (a b : Around) → Type 0
 CostWrote ran status text a b = ((status ≡ ran) × Puts a.written b.written text)
-    ⊎ ((status ≡ WriteFault) × PutsFront a.written b.written text × Rose a.writes b.writes)
+    ⊎ ((status ≡ WriteFault) × PutsPrefix a.written b.written text × Rose a.writes b.writes)
 
 -- A script was replayed as `replay` does it, into a report that was kept, and its cost was told.
 pub record Rehearsed (asked : Form) (status : Status) (a b : Around) : Type 0 where

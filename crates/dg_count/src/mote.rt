@@ -32,7 +32,7 @@ pub struct MoteCost {
     pub first: [u64; MOTES],
     pub put: u64,
     pub traced: Share,
-    /// The restarts in ticks in which a cut blew.
+    /// The restarts in ticks in which a cut fired.
     pub cut_restarts: u64,
     /// The starts that found no image.
     pub no_image: u64,

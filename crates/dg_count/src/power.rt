@@ -11,7 +11,7 @@ use dg_world::World;
 const CLEARS: u64 = 5_000;
 
 impl MoteCost {
-    /// A cut blew in an event: in a tick it is one in a restart, unless the tick clears the count of short starts.
+    /// A cut fired in an event: in a tick it is one in a restart, unless the tick clears the count of short starts.
     fn cut(&mut self, event: &Event, ms: u64) {
         if let Event::Tick { .. } = event {
             let clears = 0 < self.gesture && CLEARS <= ms.saturating_sub(self.started);

@@ -2,7 +2,7 @@
 use Rattle.std.proofs.Common.{◌≡◌, ◌≢◌, ◌∙◌, ◌⊎◌, inl, inr, ⊎_elim, ℕ, ◌<◌, ◌≤◌, ◌+◌, ◌-◌, Bool, true, false, List, [], ◌∷◌, ◌++◌, length, take, refl, ap, sym, subst, append-nil, append_assoc, length-append, arith, Result, Ok, Err, Option, Some}
 use Rattle.std.specs.Prelude.{codes, IsErrAnd}
 use Rattle.dg_words.specs.Counts.{Rose}
-use Rattle.dg_base.specs.Outside.{Takes, Puts, PutsFront, AtEnd}
+use Rattle.dg_base.specs.Outside.{Takes, Puts, PutsPrefix, AtEnd}
 use Rattle.dg_base.proofs.OutsideLemmas.{Takes-nil, Takes-join, Puts-nil, Puts-join}
 use Rattle.dg_base.specs.declared.answers.Status.{Status}
 use Rattle.dg_base.specs.declared.answers.Status.TheVariants as statuses
@@ -54,7 +54,7 @@ closed_after status wanted before mid after report told whole piece failed write
     ⊎_elim
     (λ k. inl (k.0, subst (λ (xs : List ℕ). Puts before after xs) joined (Puts-join before mid after report (told ++ piece) put k.1)))
     (λ j. ⊎_elim
-    (λ k. inr (inl (k.0, spread k.1, subst (λ (xs : List ℕ). PutsFront before after xs) joined (front_behind before mid after report (told ++ piece) put k.2))))
+    (λ k. inr (inl (k.0, spread k.1, subst (λ (xs : List ℕ). PutsPrefix before after xs) joined (front_behind before mid after report (told ++ piece) put k.2))))
     (λ k. inr (inr (k.0, subst (λ (xs : List ℕ). Puts before after xs) is (Puts-join before mid after report told put k.1)))) j)
     h
 
@@ -202,7 +202,7 @@ stopped_line status first p q more number spread i taken g line is h =
     (λ k. dripped_in status first p q more number i taken g line is
     (⊎_elim (λ w. (take w.2.0 k.0, w.2.2)) (λ f. some_put status statuses.TooMany k.0 (codes "toomany" ++ 10 ∷ []) mid after (Rose p.around.writes q.around.writes) f.1) k.2)
     (⊎_elim
-    (λ w. inr (inr (inr (w.0, spread w.1, subst (λ (xs : List ℕ). PutsFront before after xs) k.1 (front_behind before mid after (report_of i.script) k.0 i.put w.2)))))
+    (λ w. inr (inr (inr (w.0, spread w.1, subst (λ (xs : List ℕ). PutsPrefix before after xs) k.1 (front_behind before mid after (report_of i.script) k.0 i.put w.2)))))
     (λ f. inl (TooManyEvents, f.0, closed_after status statuses.TooMany before mid after (report_of i.script) k.0 (report_of (played (with_drip_line i.script line))) (codes "toomany" ++ 10 ∷ []) (Rose p.around.writes q.around.writes) (Rose first.writes q.around.writes) spread i.put k.1 f.1))
     k.2))
     h

@@ -2,7 +2,7 @@
 use Rattle.std.proofs.Common.{◌≡◌, ◌∙◌, ◌⊎◌, inl, inr, ⊎_elim, ℕ, suc, ◌<◌, ◌≤◌, ◌+◌, ◌*◌, ◌^◌, List, [], ◌∷◌, ◌++◌, length, take, refl, ap, sym, subst, append-nil, length-append, arith, Err}
 use Rattle.std.specs.Prelude.{Option, codes}
 use Rattle.std.proofs.lemmas.List.{take_all, take-append-le}
-use Rattle.dg_base.specs.Outside.{Puts, PutsFront}
+use Rattle.dg_base.specs.Outside.{Puts, PutsPrefix}
 use Rattle.dg_base.proofs.OutsideLemmas.{Puts-join}
 use Rattle.dg_base.specs.declared.answers.Status.{Status}
 use Rattle.dg_base.specs.declared.answers.Status.TheVariants as statuses
@@ -25,14 +25,14 @@ take_behind (c ∷ x) y n =
     let e : length (c ∷ x) + n ≡ suc (length x + n) = omega arith in
     ap (λ (k : ℕ). take k (c ∷ (x ++ y))) e ∙ ap (λ (t : List ℕ). c ∷ t) (take_behind x y n)
 
-pub front_behind : (a b c : Option (List ℕ)) (x y : List ℕ) → Puts a b x → PutsFront b c y → PutsFront a c (x ++ y)
+pub front_behind : (a b c : Option (List ℕ)) (x y : List ℕ) → Puts a b x → PutsPrefix b c y → PutsPrefix a c (x ++ y)
 front_behind a b c x y p q = (
   length x + q.0,
   (let within = q.1 in omega (arith, within, length-append x y)),
   subst (λ (t : List ℕ). Puts a c t) (sym (take_behind x y q.0)) (Puts-join a b c x (take q.0 y) p q.2),
 )
 
-pub front_more : (a b : Option (List ℕ)) (x y : List ℕ) → PutsFront a b x → PutsFront a b (x ++ y)
+pub front_more : (a b : Option (List ℕ)) (x y : List ℕ) → PutsPrefix a b x → PutsPrefix a b (x ++ y)
 front_more a b x y p = (
   p.0,
   (let within = p.1 in omega (arith, within, length-append x y)),
@@ -42,7 +42,7 @@ front_more a b x y p = (
 -- ---- the end behind events that are too many
 
 pub closed_behind : (r wanted : Status) (old mid new : Option (List ℕ)) (text piece : List ℕ) (rose failed : Type 0) → (rose → failed) → Puts old mid text
-    → ((r ≡ wanted) × Puts mid new piece) ⊎ ((r ≡ statuses.WriteFault) × rose × PutsFront mid new piece) → Closed r wanted text piece old new failed
+    → ((r ≡ wanted) × Puts mid new piece) ⊎ ((r ≡ statuses.WriteFault) × rose × PutsPrefix mid new piece) → Closed r wanted text piece old new failed
 closed_behind r wanted old mid new text piece rose failed spread first next =
     ⊎_elim
     (λ h. inl (h.0, Puts-join old mid new text piece first h.1))
@@ -81,7 +81,7 @@ pub line_ok : (q : Player) (s t : DripScript) (text : List ℕ) (old new : Optio
     → ((b : List ℕ) × Plays q t b) × ((more : List ℕ) × TellsMore s t more × Puts old new more)
 line_ok q s t text old new h is put = ((report_of s, h), (text, tells q s t text h is, put))
 
-pub line_cut : (q : Player) (s t : DripScript) (text : List ℕ) (old new : Option (List ℕ)) (failed : Type 0) → Plays q t (report_of s) → text ≡ q.text.items → failed → PutsFront old new text → LineStops statuses.WriteFault s t old new failed
+pub line_cut : (q : Player) (s t : DripScript) (text : List ℕ) (old new : Option (List ℕ)) (failed : Type 0) → Plays q t (report_of s) → text ≡ q.text.items → failed → PutsPrefix old new text → LineStops statuses.WriteFault s t old new failed
 line_cut q s t text old new failed h is rose put = inr (text, tells q s t text h is, inl (refl, rose, put))
 
 full_of : (e : PlayStop) (p q : Player) (line : DripLine) (s : DripScript) (before : List ℕ) → e ≡ TooMany → LinePlayed (Err e) p q line → Plays p s before

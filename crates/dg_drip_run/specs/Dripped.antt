@@ -2,7 +2,7 @@
 use Rattle.std.specs.Prelude.{◌≡◌, ◌⊎◌, ℕ, ◌+◌, ◌-◌, ◌<◌, ◌≤◌, Bool, true, false, List, [], ◌∷◌, ◌++◌, length, take, codes}
 use Rattle.std.specs.Prelude.{Option, Some, Result, Ok, Err}
 use Rattle.dg_words.specs.Counts.{Rose}
-use Rattle.dg_base.specs.Outside.{Takes, Puts, PutsFront, AtEnd}
+use Rattle.dg_base.specs.Outside.{Takes, Puts, PutsPrefix, AtEnd}
 use Rattle.dg_base.specs.declared.answers.Status.{Status}
 use Rattle.dg_base.specs.declared.answers.Status.TheVariants as statuses
 use Rattle.dg_script.specs.LineReading.{Reading, IsLine, IsLastLine, HasNoEnd, FirstLine, Gives, IsAtEnd, IsTooLong, most_kept}
@@ -68,7 +68,7 @@ abbrev pub Closed : (status wanted : Status) → (report closing : List ℕ) →
     → (write_failed : Type 0) → Type 0
 Closed status wanted report closing before after failed =
     ((status ≡ wanted) × Puts before after (report ++ closing))
-    ⊎ (((status ≡ statuses.WriteFault) × failed × PutsFront before after (report ++ closing))
+    ⊎ (((status ≡ statuses.WriteFault) × failed × PutsPrefix before after (report ++ closing))
     ⊎ ((status ≡ statuses.Memory) × Puts before after report))
 
 -- What was written of the report of a script. Its lines were played, this many, of this many bytes, and what is left of the
@@ -83,7 +83,7 @@ Wrote status s lines passed ahead a b =
     -- memory ran out
     ⊎ (((status ≡ statuses.Memory) × Puts a.written b.written (report_of (played s)))
     -- a write failed of what the last line tells
-    ⊎ ((status ≡ statuses.WriteFault) × Rose a.writes b.writes × PutsFront a.written b.written (report_of (played s)))))
+    ⊎ ((status ≡ statuses.WriteFault) × Rose a.writes b.writes × PutsPrefix a.written b.written (report_of (played s)))))
 
 -- All that is reported of the lines before the last one that was played was written, and these have a million events at most.
 -- So it is of all of them, unless the last one ended the replay.
@@ -137,7 +137,7 @@ TellsMore s t more = report_of s ++ more ≡ report_of (played t)
 abbrev pub LineStops : Status → (s t : DripScript) → (before after : Option (List ℕ)) → (write_failed : Type 0) → Type 0
 LineStops status s t before after failed =
     ((status ≡ statuses.Memory) × (after ≡ before))
-    ⊎ ((more : List ℕ) × TellsMore s t more × (((status ≡ statuses.WriteFault) × failed × PutsFront before after more)
+    ⊎ ((more : List ℕ) × TellsMore s t more × (((status ≡ statuses.WriteFault) × failed × PutsPrefix before after more)
     ⊎ ((most_events < length t.items) × Closed status statuses.TooMany more (codes "toomany" ++ 10 ∷ []) before after failed)))
 
 -- a line was played and told, or the replay ends in it

@@ -1,7 +1,7 @@
 //! Ends the replay of a script.
 ghost use Rattle.std.specs.Prelude.{◌≡◌, ◌⊎◌, ◌++◌, ◌<◌, ◌≤◌, ℕ, List, [], length, OnOk};
 ghost use Rattle.dg_words.specs.Counts.{Rose};
-ghost use Rattle.dg_base.specs.Outside.{Puts, PutsFront};
+ghost use Rattle.dg_base.specs.Outside.{Puts, PutsPrefix};
 ghost use Rattle.std.specs.List.{flat_map, range_with_len};
 ghost use Rattle.dg_drip.specs.Network.{Network};
 ghost use Rattle.dg_drip_replay.specs.Standing.{Stands};
@@ -66,7 +66,7 @@ pub fn end_with<K: Sink>(out: &mut K, piece: &[u8], status: Status) -> Status
         (Rose (K.faults out.old) (K.faults out.new)) }
     ensures put { ((result ≡ status) × Puts (K.written out.old) (K.written out.new) piece.now)
         ⊎ ((result ≡ Status.WriteFault) × Rose (K.faults out.old) (K.faults out.new)
-        × PutsFront (K.written out.old) (K.written out.new) piece.now) }
+        × PutsPrefix (K.written out.old) (K.written out.new) piece.now) }
     ensures counts { K.faults out.old ≤ K.faults out.new }
 {
     match out.write(piece) {

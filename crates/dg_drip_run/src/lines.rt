@@ -1,7 +1,7 @@
 //! Plays a line of a script, and writes what is reported of it.
 ghost use Rattle.std.specs.Prelude.{◌≡◌, ◌≤◌, ℕ, ◌++◌, ◌∷◌, [], List, codes, OnOk, OnErr};
 ghost use Rattle.dg_words.specs.Counts.{Rose};
-ghost use Rattle.dg_base.specs.Outside.{Puts, PutsFront};
+ghost use Rattle.dg_base.specs.Outside.{Puts, PutsPrefix};
 ghost use Rattle.dg_drip_script.specs.Lines.{FitsDripLine, DripStandsAt};
 ghost use Rattle.dg_drip_script.specs.Scripts.{DripScript, with_drip_line};
 ghost use Rattle.dg_drip_run.specs.Dripped.{Closed, LineAnswer, TextAnswer};
@@ -16,7 +16,7 @@ use std::alloc::Global;
 // Writes what is reported of a line, where it is something.
 fn put_text<K: Sink>(out: &mut K, text: &[u8]) -> Result<(), WriteFailed>
     ensures ok { OnOk result (Puts (K.written out.old) (K.written out.new) text.now) }
-    ensures err { OnErr result (PutsFront (K.written out.old) (K.written out.new) text.now) }
+    ensures err { OnErr result (PutsPrefix (K.written out.old) (K.written out.new) text.now) }
     ensures failed { OnErr result (Rose (K.faults out.old) (K.faults out.new)) }
     ensures unfailed { OnOk result (K.faults out.new ≡ K.faults out.old) }
     ensures counts { K.faults out.old ≤ K.faults out.new }

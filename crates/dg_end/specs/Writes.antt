@@ -1,7 +1,7 @@
 -- How a command ends that came to its outcome: at most one write, and its status (docs/COMMANDS.md, "How a command ends").
 use Rattle.std.specs.Prelude.{◌≡◌, ◌⊎◌, ℕ, List, Option, Some, None, Result}
 use Rattle.dg_words.specs.Counts.{Rose}
-use Rattle.dg_base.specs.Outside.{Puts, PutsFront}
+use Rattle.dg_base.specs.Outside.{Puts, PutsPrefix}
 use Rattle.dg_base.specs.declared.answers.Status.{Status}
 use Rattle.dg_base.specs.declared.answers.Status.TheVariants as statuses
 use Rattle.dg_outside.specs.Outside.{Outside, OutputState, SameLink, CountsRise}
@@ -14,7 +14,7 @@ abbrev pub WritesLast : (status wanted : Status) → Option (List ℕ) → Outpu
 WritesLast status wanted None a b = (status ≡ wanted) × (b ≡ a)
 WritesLast status wanted (Some text) a b =
     ((status ≡ wanted) × Puts a.written b.written text × (b.writes ≡ a.writes))
-    ⊎ ((status ≡ statuses.WriteFault) × PutsFront a.written b.written text × Rose a.writes b.writes)
+    ⊎ ((status ≡ statuses.WriteFault) × PutsPrefix a.written b.written text × Rose a.writes b.writes)
     ⊎ ((status ≡ statuses.Memory) × (b ≡ a))
 
 -- a command wrote its answer, or its last line

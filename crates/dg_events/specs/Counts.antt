@@ -39,7 +39,7 @@ is_cause number (Some cause) = cause_number cause == number
 abbrev pub is_refused : (cause : ℕ) → Happened → Bool
 is_refused number x = is_cause number x.told.refused
 
--- one in which a cut blew
+-- one in which a cut fired
 abbrev pub is_cut : Happened → Bool
 is_cut x = x.told.off
 
@@ -73,7 +73,7 @@ is_start_by_power x = is_reset x.event && has_started x.told.started
 abbrev pub is_start_by_order : Happened → Bool
 is_start_by_order x = is_tick x.event && has_started x.told.started
 
--- the start of a Reset in which a cut blew
+-- the start of a Reset in which a cut fired
 abbrev pub is_cut_start_by_power : Happened → Bool
 is_cut_start_by_power x = is_reset x.event && x.told.off
 

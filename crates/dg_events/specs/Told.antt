@@ -16,12 +16,12 @@ use Rattle.dg_events.specs.declared.told.Told.{Told}
 
 -- ---- by the rules
 
--- A cut blew in the event, or it started this, if anything.
+-- A cut fired in the event, or it started this, if anything.
 abbrev pub came_by : Bool → Option Runs → Told
-came_by blew started = record {
+came_by fired started = record {
   refused = None;
-  off = blew;
-  started = option_map (λ (r : Runs). r.image) (started_unless blew started);
+  off = fired;
+  started = option_map (λ (r : Runs). r.image) (started_unless fired started);
 }
 
 -- the same, or it is refused by this cause

@@ -20,13 +20,13 @@ pub struct EventCounts {
     pub events: [u64; 7],
     /// Those that were refused, by cause.
     pub refused: [u64; 11],
-    /// Those in which a cut blew.
+    /// Those in which a cut fired.
     pub cuts: u64,
     /// The starts of resets that succeeded.
     pub by_power: u64,
     /// The starts in ticks that succeeded.
     pub by_order: u64,
-    /// The starts of resets in which a cut blew.
+    /// The starts of resets in which a cut fired.
     pub cut_by_power: u64,
     /// The starts that succeeded, by the image that runs then.
     pub of_image: [u64; 7],

@@ -10,7 +10,7 @@ use dg_script::Report;
 pub struct Told {
     /// It was refused.
     pub refused: Option<Cause>,
-    /// A cut blew in it.
+    /// A cut fired in it.
     pub off: bool,
     /// It started this image.
     pub started: Option<u8>,

@@ -24,7 +24,7 @@ use Rattle.dg_object.specs.Descriptor.{Details, IsHead, IsDescriptor, RestFits, 
 use Rattle.dg_object.proofs.HeadLemmas.{word, head_image, head_pages, head_version}
 use Rattle.dg_slot.specs.Layout.{header_size, gates_at, gates_size, fewest_pages, most_pages, header_sector, page_sector, program_sector}
 use Rattle.dg_slot.specs.Pages.{page_in}
-use Rattle.dg_slot.specs.Header.{header_bytes, gates_of, Heads, IsHeader}
+use Rattle.dg_slot.specs.Header.{header_bytes, gates_of, EncodesHeader, IsHeader}
 use Rattle.dg_slot.proofs.HeaderLemmas.{one_header}
 use Rattle.dg_volume.specs.Sizes.{golden_version}
 use Rattle.dg_inspect.specs.Breaks.{HasHeader, HoldsGolden, HoldsSet}
@@ -117,7 +117,7 @@ gates_break first gates i v n k fit whole low before here = record {
 
 pub gates_rest : (first gates : List ℕ) (i v n most k : ℕ) → FitTo header_size (SpelledFits first i v) n → n ≡ header_size → first ≡ header_bytes i v (said_pages first) (said_crc first) → fewest_pages ≤ said_pages first
     → said_pages first ≤ most_pages → said_crc first < 2 ^ 16 → most ≡ said_pages first → length gates ≡ gates_size → k ≤ length gates → AreCleared gates most k → (k < length gates → AreCleared gates most (k + 1) → ⊥)
-    → ((pages crc done : ℕ) → Heads first gates i v pages crc done → ⊥) → IsFirstBreak sector_size (HeaderFits first gates i v) (gates_at + k)
+    → ((pages crc done : ℕ) → EncodesHeader first gates i v pages crc done → ⊥) → IsFirstBreak sector_size (HeaderFits first gates i v) (gates_at + k)
 unfolding gates_of
 gates_rest first gates i v n most k fit whole spelled few many small m long within before here none =
     let P : ℕ → Type 0 = λ x. AreCleared gates x k in
@@ -180,7 +180,7 @@ golden_gates slot first gates all n k live e fit whole long equal low = record {
 
 pub golden_rest : (slot : SlotState) (first gates all : List ℕ) (n k : ℕ) → slot ≡ Live golden_version → all ≡ gates_of (said_pages first) → FitTo header_size (SpelledFits first 0 golden_version) n → n ≡ header_size
     → first ≡ header_bytes 0 golden_version (said_pages first) (said_crc first) → fewest_pages ≤ said_pages first → said_pages first ≤ most_pages → said_crc first < 2 ^ 16 → length gates ≡ gates_size
-    → FitTo (length gates) (AreEqual gates all) k → (k ≡ length gates → gates ≡ all) → ((pages crc : ℕ) → slot ≡ Live golden_version → Heads first gates 0 golden_version pages crc pages → ⊥)
+    → FitTo (length gates) (AreEqual gates all) k → (k ≡ length gates → gates ≡ all) → ((pages crc : ℕ) → slot ≡ Live golden_version → EncodesHeader first gates 0 golden_version pages crc pages → ⊥)
     → IsFirstBreak sector_size (GoldenFits slot first gates) (gates_at + k)
 golden_rest slot first gates all n k live e fit whole spelled few many small long equal same none = ⊎_elim
     (λ low. golden_gates slot first gates all n k live e fit whole long equal low)
@@ -287,15 +287,15 @@ no_ledger c d text bits e f same none n t most b =
     let g : bits ≡ part (sector c ledger_sector) text_size bits_size = f ∙ ap (λ (x : List ℕ). part (sector x ledger_sector) text_size bits_size) same in
     none n (record { text = sym e ∙ t; bits = sym g ∙ b; most = most })
 
-heads_at : (first gates xs ys : List ℕ) (i v pages crc done : ℕ) → first ≡ xs → gates ≡ ys → Heads first gates i v pages crc done → Heads xs ys i v pages crc done
-heads_at first gates xs ys i v pages crc done e f h = subst (λ (x : List ℕ). Heads x ys i v pages crc done) e (subst (λ (y : List ℕ). Heads first y i v pages crc done) f h)
+heads_at : (first gates xs ys : List ℕ) (i v pages crc done : ℕ) → first ≡ xs → gates ≡ ys → EncodesHeader first gates i v pages crc done → EncodesHeader xs ys i v pages crc done
+heads_at first gates xs ys i v pages crc done e f h = subst (λ (x : List ℕ). EncodesHeader x ys i v pages crc done) e (subst (λ (y : List ℕ). EncodesHeader first y i v pages crc done) f h)
 
 pub no_header : (c first gates : List ℕ) (i v : ℕ) → first ≡ part (sector c (header_sector i)) 0 header_size → gates ≡ part (sector c (header_sector i)) gates_at gates_size → (HasHeader c i v → ⊥)
-    → (pages crc done : ℕ) → Heads first gates i v pages crc done → ⊥
+    → (pages crc done : ℕ) → EncodesHeader first gates i v pages crc done → ⊥
 no_header c first gates i v e f none pages crc done h = none (pages, crc, done, heads_at first gates _ _ i v pages crc done e f h)
 
 pub no_golden : (c first gates : List ℕ) (slot : SlotState) → first ≡ part (sector c (header_sector 0)) 0 header_size → gates ≡ part (sector c (header_sector 0)) gates_at gates_size → (HoldsGolden c slot → ⊥)
-    → (pages crc : ℕ) → slot ≡ Live golden_version → Heads first gates 0 golden_version pages crc pages → ⊥
+    → (pages crc : ℕ) → slot ≡ Live golden_version → EncodesHeader first gates 0 golden_version pages crc pages → ⊥
 no_golden c first gates slot e f none pages crc live h = none (live, (pages, crc, heads_at first gates _ _ 0 golden_version pages crc pages e f h))
 
 pub golden_at : (c first gates : List ℕ) (slot : SlotState) (b : ℕ) → first ≡ part (sector c (header_sector 0)) 0 header_size → gates ≡ part (sector c (header_sector 0)) gates_at gates_size

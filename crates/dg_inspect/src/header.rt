@@ -6,7 +6,7 @@ ghost use Rattle.dg_words.specs.Cells.{part};
 ghost use Rattle.dg_nor.specs.Chip.{sector};
 ghost use Rattle.dg_nor.specs.Reads.{ReadEnds};
 ghost use Rattle.dg_slot.specs.Layout.{slots, header_sector, header_size, gates_at, gates_size};
-ghost use Rattle.dg_slot.specs.Header.{header_bytes, gates_of, Heads, IsHeader};
+ghost use Rattle.dg_slot.specs.Header.{header_bytes, gates_of, EncodesHeader, IsHeader};
 
 use dg_nor::{Nor, Stopped, read_in};
 use dg_object::{FEWEST_PAGES, MOST_PAGES};
@@ -69,8 +69,8 @@ fn cleared(gates: &Gates) -> u8
 /// What a header says, where it is one of that image and version.
 fn header_seen(first: &Header, gates: &Gates, image: u8, version: u32) -> Option<HeaderSeen>
     requires known_image { image < slots }
-    ensures fits { IfSome result (λ seen. Heads first.now gates.now image version seen.pages seen.crc seen.done) }
-    ensures no_fit { IsNone result → (pages crc done : ℕ) → Heads first.now gates.now image version pages crc done → ⊥ }
+    ensures fits { IfSome result (λ seen. EncodesHeader first.now gates.now image version seen.pages seen.crc seen.done) }
+    ensures no_fit { IsNone result → (pages crc done : ℕ) → EncodesHeader first.now gates.now image version pages crc done → ⊥ }
 {
     let pages = first[3];
     let crc = u16::from_be_bytes([first[8], first[9]]);

@@ -20,7 +20,7 @@ use dg_base::crc16_more;
 use dg_bits::PageBits;
 use dg_nor::{Nor, Stopped, read_in};
 use dg_object::{Descriptor, HEAD_SIZE, PAGE_SIZE};
-use dg_slot::{find_descriptor, front_crc};
+use dg_slot::{find_descriptor, prefix_crc};
 use sha2::{Digest, Sha256};
 
 /// Where the descriptor keeps the CRCs, after its head: two bytes for each page from page 1 on.
@@ -52,7 +52,7 @@ fn has_kept_crc<N: Nor>(nor: &mut N, first: u32, page: u8) -> Result<bool, Stopp
     ensures ends { ReadEnds result (N.device nor.old) (N.device nor.new) }
 {
     let kept = kept_crc(nor, first, page)?;
-    let found = front_crc(nor, first + u32::from(page), PAGE, 0)?;
+    let found = prefix_crc(nor, first + u32::from(page), PAGE, 0)?;
     Ok(found == kept)
 }
 

@@ -11,7 +11,7 @@ ghost use Rattle.dg_object.specs.Sizes.{head_size, page_size, most_bytes};
 ghost use Rattle.dg_object.specs.Object.{pages_for};
 ghost use Rattle.dg_object.specs.Descriptor.{Details, IsHead, IsDescriptor};
 ghost use Rattle.dg_slot.specs.Layout.{slots, header_size, fewest_pages, most_pages};
-ghost use Rattle.dg_slot.specs.Header.{header_bytes, Heads};
+ghost use Rattle.dg_slot.specs.Header.{header_bytes, EncodesHeader};
 ghost use Rattle.dg_volume.specs.Sizes.{golden_version};
 ghost use Rattle.dg_inspect.specs.Bytes.{FitTo, IsFirstBreak, AreEqual, AreCleared, LedgerFits};
 ghost use Rattle.dg_inspect.specs.Bytes.{said_pages, said_crc, SpelledFits};
@@ -139,7 +139,7 @@ fn spelled_bytes(first: &Header, image: u8, version: u32) -> usize
 /// The first byte at which a header is not one of that image and version.
 pub(crate) fn header_break(first: &Header, gates: &Gates, image: u8, version: u32) -> u32
     requires known_image { image < slots }
-    requires none { (pages crc done : ℕ) → Heads first.now gates.now image version pages crc done → ⊥ }
+    requires none { (pages crc done : ℕ) → EncodesHeader first.now gates.now image version pages crc done → ⊥ }
     ensures { IsFirstBreak sector_size (HeaderFits first.now gates.now image version) result }
 {
     let spelled = spelled_bytes(first, image, version);
@@ -152,7 +152,7 @@ pub(crate) fn header_break(first: &Header, gates: &Gates, image: u8, version: u3
 /// The first byte at which the header of golden is not one of a slot that keeps it whole.
 pub(crate) fn golden_break(slot: SlotState, first: &Header, gates: &Gates) -> u32
     requires { (pages crc : ℕ) → slot ≡ SlotState.Live golden_version
-        → Heads first.now gates.now 0 golden_version pages crc pages → ⊥ }
+        → EncodesHeader first.now gates.now 0 golden_version pages crc pages → ⊥ }
     ensures { IsFirstBreak sector_size (GoldenFits slot first.now gates.now) result }
 {
     if slot

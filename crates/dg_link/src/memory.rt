@@ -126,13 +126,13 @@ fn hand_over(frame: Option<FrameBytes>, into: &mut [u8; LONGEST_FRAME]) -> Optio
     ensures front { option_map (λ n. take n into.new) result ≡ frame }
 {
     match frame {
-        Some(frame) => Some(copy_front(frame.as_slice(), into)),
+        Some(frame) => Some(copy_prefix(frame.as_slice(), into)),
         None => None,
     }
 }
 
 // Copies a frame to the beginning of `into`, and answers how many bytes it has.
-fn copy_front(frame: &[u8], into: &mut [u8; LONGEST_FRAME]) -> usize
+fn copy_prefix(frame: &[u8], into: &mut [u8; LONGEST_FRAME]) -> usize
     requires { length frame.now ≤ longest_frame }
     ensures fits { result ≤ longest_frame }
     ensures front { take result into.new ≡ frame.now }

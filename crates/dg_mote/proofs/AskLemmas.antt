@@ -25,7 +25,7 @@ use Rattle.dg_frame.specs.declared.Entry.{Entry}
 use Rattle.dg_object.specs.Object.{Outline}
 use Rattle.dg_slot.specs.Layout.{packets, page_sector, header_sector, slot_end}
 use Rattle.dg_slot.specs.Kept.{Held, KeepsImage, held_begun}
-use Rattle.dg_slot.specs.Jobs.{IsOpen, IsJob, packet, no_packets, outline_told, done_told, slot_of}
+use Rattle.dg_slot.specs.Jobs.{IsOpen, IsJob, packet, no_packets, outline_of_slot, done_of_slot, slot_of}
 use Rattle.dg_slot.specs.declared.states.OpenSlot.{OpenSlot}
 use Rattle.dg_slot.specs.declared.states.PageJob.{PageJob}
 use Rattle.dg_volume.specs.Sizes.{images}
@@ -114,7 +114,7 @@ keeps_by s i e (Some h) here is ahead within =
 pub keeps_version_of : (s : Store) (i : ℕ) (e : Entry) → MayTake s i e → is_version (held s i) e.version ≡ true → KeepsVersion s i e
 keeps_version_of s i e may is = keeps_by s i e (held s i) refl is may.ahead may.tells.have
 
-pub opened_kept : (s : Store) (i : ℕ) (e : Entry) (a : Device) (w : Volume) (o : OpenSlot) → MayTake s i e → is_version (held s i) e.version ≡ true → Mounted a.image w s → (outline_told o).image ≡ i → ((h : Held) → held s i ≡ Some h → IsOpen a.image o h)
+pub opened_kept : (s : Store) (i : ℕ) (e : Entry) (a : Device) (w : Volume) (o : OpenSlot) → MayTake s i e → is_version (held s i) e.version ≡ true → Mounted a.image w s → (outline_of_slot o).image ≡ i → ((h : Held) → held s i ≡ Some h → IsOpen a.image o h)
     → Acted (slot_trail s i e) a a w × Opened a.image (last (slot_trail s i e)) i e o
 opened_kept s i e a w o may is m image open_by =
     let keeps = keeps_version_of s i e may is in
@@ -142,7 +142,7 @@ take_free s i e may none =
     let some = may.not_golden in
     passed (i == 0) _ _ (grind (arith, nat_tests)) ∙ taking_by s i e (held s i) none may.ahead may.free
 
-pub opened_taken : TakeEnds → TakenHeld → (s : Store) (i : ℕ) (e : Entry) (a b : Device) (w : Volume) (o : OpenSlot) → MayTake s i e → is_version (held s i) e.version ≡ false → Acted (take_trail s (outline i e)) a b w → outline_told o ≡ outline i e → IsOpen b.image o (held_begun (outline i e))
+pub opened_taken : TakeEnds → TakenHeld → (s : Store) (i : ℕ) (e : Entry) (a b : Device) (w : Volume) (o : OpenSlot) → MayTake s i e → is_version (held s i) e.version ≡ false → Acted (take_trail s (outline i e)) a b w → outline_of_slot o ≡ outline i e → IsOpen b.image o (held_begun (outline i e))
     → Acted (slot_trail s i e) a b w × Opened b.image (last (slot_trail s i e)) i e o
 opened_taken ends begun_held s i e a b w o may none acted same opened =
     let p = outline i e in
@@ -173,7 +173,7 @@ ask_stops_first s i e a b stops =
 
 -- what an erase of the next page leaves
 pub record PageErased (c d : List ℕ) (o : OpenSlot) : Type 0 where
-  pub touches : let k = page_sector (outline_told o).image (done_told o) in Touches k (k + 1) c d
+  pub touches : let k = page_sector (outline_of_slot o).image (done_of_slot o) in Touches k (k + 1) c d
   pub kept : (h : Held) → IsOpen c o h → IsOpen d o h
 
 pub record Erased (c d : List ℕ) (w : Volume) (x : Store) (i : ℕ) (h : Held) : Type 0 where
@@ -184,8 +184,8 @@ pub record Erased (c d : List ℕ) (w : Volume) (x : Store) (i : ℕ) (h : Held)
 pub erased_in : SlotStays → (c d : List ℕ) (w : Volume) (x : Store) (i : ℕ) (e : Entry) (o : OpenSlot) → 1 ≤ i → i < images → (opened : Opened c x i e o) → Mounted c w x → PageErased c d o → Erased c d w x i opened.kept
 erased_in stays c d w x i e o low known opened m erased =
     let h = opened.kept in
-    let j = (outline_told o).image in
-    let k = page_sector j (done_told o) in
+    let j = (outline_of_slot o).image in
+    let k = page_sector j (done_of_slot o) in
     let wide : Touches (header_sector j) (slot_end j) c d = Touches_wider k (k + 1) (header_sector j) (slot_end j) erased.touches (omega arith) (omega (arith, opened.stands.opens.done, opened.more, opened.stands.keeps.header.most)) in
     let touches : Touches (header_sector i) (slot_end i) c d = subst (λ (n : ℕ). Touches (header_sector n) (slot_end n) c d) opened.of_image wide in
     let keeps : KeepsImage d i h = subst (λ (n : ℕ). KeepsImage d n h) opened.of_image (erased.kept h opened.stands).keeps in
@@ -199,7 +199,7 @@ ask_begun stays s i e a b d w o job may acted opened erased ran same begins =
     let inside = erased_in stays b.image d.image w x i e o may.not_golden may.known opened acted.mounted erased in
     let whole : Acted (joined t (resting x 1)) a d w = acted_then t (resting x 1) a b d w w refl acted (rest_acted x 1 b d w inside.mounted ran) in
     let ends : last (joined t (resting x 1)) ≡ x = last-joined t (resting x 1) refl ∙ last-resting x 1 in
-    let begun_here : Begun d.image x i e job = record { of_image = ap (λ (p : OpenSlot). (outline_told p).image) same ∙ opened.of_image; kept = opened.kept; held_here = opened.held_here; version = opened.version; stands = begins opened.kept opened.stands } in
+    let begun_here : Begun d.image x i e job = record { of_image = ap (λ (p : OpenSlot). (outline_of_slot p).image) same ∙ opened.of_image; kept = opened.kept; held_here = opened.held_here; version = opened.version; stands = begins opened.kept opened.stands } in
     subst (λ (u : Trail Store). Acted u a d w × Begun d.image (last u) i e job) (sym (ask_is s i e)) (whole, subst (λ (y : Store). Begun d.image y i e job) (sym ends) begun_here)
 
 pub ask_stops_then : SlotStays → FillingStops → (s : Store) (i : ℕ) (e : Entry) (a b d : Device) (w : Volume) (o : OpenSlot) → MayTake s i e → Acted (slot_trail s i e) a b w → Opened b.image (last (slot_trail s i e)) i e o → PageErased b.image d.image o → Halts 1 0 b d → Stops (ask_trail s i e) a d
@@ -233,7 +233,7 @@ maintain_free c v m s timer is mode = free_by v.mode (subst (λ (y : Mode). Mode
     free_by (value.Transmit a b d f) stands = absurd stands
 
 pub asking_done : (a b : Device) (v : Mote) (w : Volume) (m : MoteState) (s : Store) (timer : Timer) (now word source i page : ℕ) (e : Entry) (asks : Reception) (job : PageJob) → IsMote a.image v m s → m.mode ≡ Maintain timer → MayTake s i e → i ≤ known_images m.wide
-    → Acted (ask_trail s i e) a b w → Begun b.image (last (ask_trail s i e)) i e job → is_lent w i ≡ true → ((k : ℕ) → k ≢ i → is_lent w k ≡ is_lent v.volume k) → asks ≡ reception_begun now word → page ≡ done_told (slot_of job)
+    → Acted (ask_trail s i e) a b w → Begun b.image (last (ask_trail s i e)) i e job → is_lent w i ≡ true → ((k : ℕ) → k ≢ i → is_lent w k ≡ is_lent v.volume k) → asks ≡ reception_begun now word → page ≡ done_of_slot (slot_of job)
     → Done (asking m s now word source i e) a b (record v { volume = w; mode = value.Receive e.version source asks job }) (heard.Asks i page)
 asking_done a b v w m s timer now word source i page e asks job is mode may high acted started lent others asked pages =
     let t = last (ask_trail s i e) in

@@ -20,7 +20,7 @@ use Rattle.dg_trickle.specs.Steps.{started}
 use Rattle.dg_slot.specs.Layout.{packets, header_sector, slot_end}
 use Rattle.dg_slot.specs.Kept.{Held, with_page, KeepsImage, kept_crc}
 use Rattle.dg_slot.specs.Fits.{may_seal, first_fits}
-use Rattle.dg_slot.specs.Jobs.{Opens, IsOpen, IsJob, Packets, packet, put_packet, page_from, outline_told, slot_of, got_told, sector_of, slot_in, Seals}
+use Rattle.dg_slot.specs.Jobs.{Opens, IsOpen, IsJob, Packets, packet, put_packet, page_from, outline_of_slot, slot_of, got_of_job, sector_of, slot_in, Seals}
 use Rattle.dg_slot.specs.declared.states.OpenSlot.{OpenSlot}
 use Rattle.dg_slot.specs.declared.states.PageJob.{PageJob}
 use Rattle.dg_slot.specs.declared.states.Sealing.{Sealing}
@@ -167,12 +167,12 @@ accepted_asks r now q bytes known count missing =
     let e : after_accept (reception r) now q ≡ Put (set.insert (came r.packets) q) (now + next_wait) = passed (set.contains (came r.packets) q) _ _ missing in
     e ∙ ap (λ g. Put g (now + next_wait)) (sym (came_put r.packets q bytes known count)) ∙ ap (λ d. Put (came (put_packet r.packets q bytes)) d) (sym (ap (λ (x : Reception). x.due) e))
 
-missing_came : (r : Receiving) (c : List ℕ) (job : PageJob) (h : Held) (q : ℕ) → q < packets → IsJob c job h r.packets → set.contains (got_told job) q ≡ false → set.contains (came r.packets) q ≡ false
+missing_came : (r : Receiving) (c : List ℕ) (job : PageJob) (h : Held) (q : ℕ) → q < packets → IsJob c job h r.packets → set.contains (got_of_job job) q ≡ false → set.contains (came r.packets) q ≡ false
 missing_came r c job h q known stands missing = came_has r.packets q ∙ ap (λ b. b && ltb q packets) (sym (stands.got q known) ∙ missing)
 
 -- ---- the slot of a page that is being filled
 
-pub slot_known : (job : PageJob) → (outline_told (slot_of job)).image < images
+pub slot_known : (job : PageJob) → (outline_of_slot (slot_of job)).image < images
 slot_known job = omega (arith, job.slot.known)
 
 pub record InSlot (c : List ℕ) (v : Volume) (s : Store) (job : PageJob) (r : Receiving) (d : List ℕ) : Type 0 where
@@ -183,7 +183,7 @@ pub record InSlot (c : List ℕ) (v : Volume) (s : Store) (job : PageJob) (r : R
 
 pub in_slot : SlotStays → (c d : List ℕ) (v : Volume) (s : Store) (job : PageJob) (r : Receiving) → Receives c v s job r → Mounted c v s → Touches (sector_of job) (sector_of job + 1) c d → ((h : Held) → IsOpen c (slot_of job) h → IsOpen d (slot_of job) h) → InSlot c v s job r d
 in_slot stays c d v s job r receives m touches kept =
-    let i = (outline_told (slot_of job)).image in
+    let i = (outline_of_slot (slot_of job)).image in
     let stands = receives.stands in
     let wide : Touches (header_sector i) (slot_end i) c d = Touches_wider (sector_of job) (sector_of job + 1) (header_sector i) (slot_end i) touches (omega arith) (omega (arith, stands.slot.opens.done, stands.more, stands.slot.keeps.header.most)) in
     let here : Touches (header_sector r.image) (slot_end r.image) c d = subst (λ (n : ℕ). Touches (header_sector n) (slot_end n) c d) receives.image wide in
@@ -219,7 +219,7 @@ pub record Takes (m : MoteState) (r : Receiving) (s : Store) (now q : ℕ) (byte
   pub done : Done (took m r s now q bytes) a b v (heard.Took q)
 
 pub took_done : (a b : Device) (v : Mote) (m : MoteState) (s : Store) (r : Receiving) (version server now q : ℕ) (asking new : Reception) (job filled : PageJob) (bytes : List ℕ) → q < packets → NamesKnown m.wide (Receive r) → IsMote a.image v m s → AsksThis a.image v.volume s r version server asking job
-    → InSlot a.image v.volume s job r b.image → set.contains (got_told job) q ≡ false → new ≡ after_accept asking now q → slot_of filled ≡ slot_of job → ((h : Held) (ps : Packets) → IsJob a.image job h ps → IsJob b.image filled h (put_packet ps q bytes)) → Ran 1 a b → set.len new.got < packets
+    → InSlot a.image v.volume s job r b.image → set.contains (got_of_job job) q ≡ false → new ≡ after_accept asking now q → slot_of filled ≡ slot_of job → ((h : Held) (ps : Packets) → IsJob a.image job h ps → IsJob b.image filled h (put_packet ps q bytes)) → Ran 1 a b → set.len new.got < packets
     → Takes m r s now q bytes a b (record v { mode = value.Receive version server new filled })
 took_done a b v m s r version server now q asking new job filled bytes known named is this inside missing accepts same put ran less =
     let receives = this.receives in
@@ -241,7 +241,7 @@ took_done a b v m s r version server now q asking new job filled bytes known nam
             this.of_server,
             this.of_version,
             record {
-              image = ap (λ (o : OpenSlot). (outline_told o).image) same ∙ receives.image;
+              image = ap (λ (o : OpenSlot). (outline_of_slot o).image) same ∙ receives.image;
               not_golden = receives.not_golden;
               lent = receives.lent;
               others = receives.others;
@@ -266,7 +266,7 @@ pub record MadeWhole (b : Device) (v : Mote) (m : MoteState) (s : Store) (r : Re
   pub whole : PageIsWhole b.image v m s r h ps
 
 pub made_whole : (a b : Device) (v : Mote) (m : MoteState) (s : Store) (r : Receiving) (version server now q : ℕ) (asking new : Reception) (job filled : PageJob) (bytes : List ℕ) → q < packets → IsMote a.image v m s → (this : AsksThis a.image v.volume s r version server asking job)
-    → InSlot a.image v.volume s job r b.image → set.contains (got_told job) q ≡ false → new ≡ after_accept asking now q → slot_of filled ≡ slot_of job → ((h : Held) (ps : Packets) → IsJob a.image job h ps → IsJob b.image filled h (put_packet ps q bytes)) → packets ≤ set.len new.got
+    → InSlot a.image v.volume s job r b.image → set.contains (got_of_job job) q ≡ false → new ≡ after_accept asking now q → slot_of filled ≡ slot_of job → ((h : Held) (ps : Packets) → IsJob a.image job h ps → IsJob b.image filled h (put_packet ps q bytes)) → packets ≤ set.len new.got
     → MadeWhole b (record v { mode = value.Receive version server new filled }) m s r this.receives.kept (put_packet r.packets q bytes)
 made_whole a b v m s r version server now q asking new job filled bytes known is this inside missing accepts same put more =
     let receives = this.receives in
@@ -292,7 +292,7 @@ made_whole a b v m s r version server now q asking new job filled bytes known is
           refl,
           record {
             not_golden = receives.not_golden;
-            of_image = ap (λ (o : OpenSlot). (outline_told o).image) same ∙ receives.image;
+            of_image = ap (λ (o : OpenSlot). (outline_of_slot o).image) same ∙ receives.image;
             held_here = receives.held_here;
             stands = put receives.kept r.packets receives.stands;
           },
@@ -321,24 +321,24 @@ pub record Sealed (s : Store) (i : ℕ) (h : Held) (page : List ℕ) (a b : Devi
   pub fits_is : fits ≡ may_seal i h page
   pub acted : Acted (sealing_trail s i h page) a b w
 
-unsealed : Filling → (o : OpenSlot) (a b : Device) (v w : Volume) (s : Store) (i : ℕ) (job : PageJob) (h : Held) (ps : Packets) → Mounted a.image v s → Fills a.image s i job h ps → Touches (header_sector i) (slot_end i) a.image b.image → outline_told o ≡ outline_told (slot_of job)
-    → may_seal i h (page_from ps) ≡ false → IsOpen b.image o h → Ran 0 a b → ((t : Store) (g : Held) → MountedBut (λ j. j ≡ (outline_told o).image) b.image v t → held t (outline_told o).image ≡ Some g → Opens o g → Mounted b.image w t)
+unsealed : Filling → (o : OpenSlot) (a b : Device) (v w : Volume) (s : Store) (i : ℕ) (job : PageJob) (h : Held) (ps : Packets) → Mounted a.image v s → Fills a.image s i job h ps → Touches (header_sector i) (slot_end i) a.image b.image → outline_of_slot o ≡ outline_of_slot (slot_of job)
+    → may_seal i h (page_from ps) ≡ false → IsOpen b.image o h → Ran 0 a b → ((t : Store) (g : Held) → MountedBut (λ j. j ≡ (outline_of_slot o).image) b.image v t → held t (outline_of_slot o).image ≡ Some g → Opens o g → Mounted b.image w t)
     → Sealed s i h (page_from ps) a b w false
 unsealed filling o a b v w s i job h ps m fills touches same unfit opened ran back =
     let known : i < images = omega (arith, slot_known job, fills.of_image) in
-    let image : (outline_told o).image ≡ i = ap (λ (p : Outline). p.image) same ∙ fills.of_image in
+    let image : (outline_of_slot o).image ≡ i = ap (λ (p : Outline). p.image) same ∙ fills.of_image in
     let keeps : KeepsImage b.image i h = subst (λ (n : ℕ). KeepsImage b.image n h) image opened.keeps in
     let still : MountedBut (λ j. j ≡ i) b.image v s = filling a.image b.image v s i h fills.not_golden known fills.held_here touches keeps (mounted_but a.image v s m) in
     let mounted : Mounted b.image w s = back s h (subst (λ (n : ℕ). MountedBut (λ j. j ≡ n) b.image v s) (sym image) still) (ap (held s) image ∙ fills.held_here) opened.opens in
     record { fits_is = sym unfit; acted = subst (λ (t : Trail Store). Acted t a b w) (sym (passed (may_seal i h (page_from ps)) _ _ unfit)) (rest_acted s 0 a b w mounted ran) }
 
-pub sealed_ends : Filling → PageCounts → PageHeld → (answer : Sealing) (a b : Device) (v w : Volume) (s : Store) (i : ℕ) (job : PageJob) (h : Held) (ps : Packets) → Mounted a.image v s → Fills a.image s i job h ps → Touches (header_sector i) (slot_end i) a.image b.image → outline_told (slot_in answer) ≡ outline_told (slot_of job)
-    → Seals i h (page_from ps) a b answer → ((t : Store) (g : Held) → MountedBut (λ j. j ≡ (outline_told (slot_in answer)).image) b.image v t → held t (outline_told (slot_in answer)).image ≡ Some g → Opens (slot_in answer) g → Mounted b.image w t)
+pub sealed_ends : Filling → PageCounts → PageHeld → (answer : Sealing) (a b : Device) (v w : Volume) (s : Store) (i : ℕ) (job : PageJob) (h : Held) (ps : Packets) → Mounted a.image v s → Fills a.image s i job h ps → Touches (header_sector i) (slot_end i) a.image b.image → outline_of_slot (slot_in answer) ≡ outline_of_slot (slot_of job)
+    → Seals i h (page_from ps) a b answer → ((t : Store) (g : Held) → MountedBut (λ j. j ≡ (outline_of_slot (slot_in answer)).image) b.image v t → held t (outline_of_slot (slot_in answer)).image ≡ Some g → Opens (slot_in answer) g → Mounted b.image w t)
     → Sealed s i h (page_from ps) a b w (is_sealed answer)
 sealed_ends filling counts held_more (sealing.Sealed o) a b v w s i job h ps m fills touches same seals back =
     let page = page_from ps in
     let known : i < images = omega (arith, slot_known job, fills.of_image) in
-    let image : (outline_told o).image ≡ i = ap (λ (p : Outline). p.image) same ∙ fills.of_image in
+    let image : (outline_of_slot o).image ≡ i = ap (λ (p : Outline). p.image) same ∙ fills.of_image in
     let t = paged i page s in
     let keeps : KeepsImage b.image i (with_page h page) = subst (λ (n : ℕ). KeepsImage b.image n (with_page h page)) image seals.1.keeps in
     let but : MountedBut (λ j. j ≡ i) b.image v t = counts a.image b.image v s i h page fills.not_golden known fills.held_here touches keeps (mounted_but a.image v s m) in

@@ -5,7 +5,7 @@ use Rattle.dg_trickle.specs.Timer.{Timer}
 use Rattle.dg_recv.specs.Reception.{Reception}
 use Rattle.dg_send.specs.Owed.{Owed}
 use Rattle.dg_slot.specs.Kept.{Held}
-use Rattle.dg_slot.specs.Jobs.{Opens, outline_told, slot_of}
+use Rattle.dg_slot.specs.Jobs.{Opens, outline_of_slot, slot_of}
 use Rattle.dg_slot.specs.declared.states.OpenSlot.{OpenSlot}
 use Rattle.dg_slot.specs.declared.states.PageJob.{PageJob}
 use Rattle.dg_volume.specs.Store.{Store, held}
@@ -66,9 +66,9 @@ mounted_but c v s m = record {
 
 -- what a slot that goes back makes of the volume
 pub record GoesBack (v w : Volume) (slot : OpenSlot) : Type 0 where
-  pub mounted : (c : List ℕ) (s : Store) (h : Held) → MountedBut (λ i. i ≡ (outline_told slot).image) c v s → held s (outline_told slot).image ≡ Some h → Opens slot h → Mounted c w s
-  pub back : is_lent w (outline_told slot).image ≡ false
-  pub others : (i : ℕ) → i ≢ (outline_told slot).image → is_lent w i ≡ is_lent v i
+  pub mounted : (c : List ℕ) (s : Store) (h : Held) → MountedBut (λ i. i ≡ (outline_of_slot slot).image) c v s → held s (outline_of_slot slot).image ≡ Some h → Opens slot h → Mounted c w s
+  pub back : is_lent w (outline_of_slot slot).image ≡ false
+  pub others : (i : ℕ) → i ≢ (outline_of_slot slot).image → is_lent w i ≡ is_lent v i
 
 pub record IsFree (c : List ℕ) (v : Volume) (s : Store) : Type 0 where
   pub mounted : Mounted c v s

@@ -21,7 +21,7 @@ use Rattle.dg_recv.specs.Steps.{missing, ask_of}
 use Rattle.dg_slot.specs.Layout.{packets, most_pages, page_sector}
 use Rattle.dg_slot.specs.Kept.{Held, KeepsImage}
 use Rattle.dg_slot.specs.Pages.{page_in, packet_in, slot_pages}
-use Rattle.dg_slot.specs.Jobs.{outline_told, done_told, slot_of}
+use Rattle.dg_slot.specs.Jobs.{outline_of_slot, done_of_slot, slot_of}
 use Rattle.dg_slot.specs.declared.states.PageJob.{PageJob}
 use Rattle.dg_volume.specs.Sizes.{images}
 use Rattle.dg_volume.specs.Store.{Store, held}
@@ -138,7 +138,7 @@ request_in_range true id to image version page want a b c d some = grind (arith,
 request_in_range false id to image version page want a b c d some = grind (arith, nat_tests)
 
 pub request_fits : (c : List ℕ) (v : Volume) (s : Store) (job : PageJob) (r : Receiving) (wide : Bool) (id to version now : ℕ) (asking : Reception) (want : Numbers) → NamesKnown wide (Receive r) → Receives c v s job r → version ≡ r.version → asking ≡ reception r → Ask.Request want ≡ ask_of asking now
-    → in_range wide (Request id to (outline_told (slot_of job)).image version (done_told (slot_of job)) want) ≡ true
+    → in_range wide (Request id to (outline_of_slot (slot_of job)).image version (done_of_slot (slot_of job)) want) ≡ true
 request_fits c v s job r wide id to version now asking want named receives of_version asks is =
     let o = slot_of job in
     let high = named.1 in
@@ -147,7 +147,7 @@ request_fits c v s job r wide id to version now asking want named receives of_ve
     let opens = receives.stands.slot.opens in
     let more = receives.stands.more in
     let gaps : set.len (missing (reception r)) ≢ 0 = some_missing packets (came r.packets) (came_below r.packets) receives.missing in
-    request_in_range wide id to (outline_told o).image version (done_told o) want
+    request_in_range wide id to (outline_of_slot o).image version (done_of_slot o) want
     (omega (arith, receives.not_golden, receives.image)) (omega (arith, high, receives.image)) (omega (arith, real, opens.version, receives.version, of_version)) (omega (arith, few, opens.done, opens.pages, more))
     (subst (λ (w : Numbers). set.len w ≢ 0) (sym (asked_for (reception r) now want (is ∙ ap (λ a. ask_of a now) asks))) gaps)
 

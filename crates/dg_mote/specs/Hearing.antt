@@ -8,7 +8,7 @@ use Rattle.dg_frame.specs.declared.Entry.{Entry}
 use Rattle.dg_slot.specs.Layout.{packets}
 use Rattle.dg_slot.specs.Kept.{Held}
 use Rattle.dg_slot.specs.Fits.{may_seal}
-use Rattle.dg_slot.specs.Jobs.{IsJob, IsOpen, Packets, packet, no_packets, outline_told, slot_of}
+use Rattle.dg_slot.specs.Jobs.{IsJob, IsOpen, Packets, packet, no_packets, outline_of_slot, slot_of}
 use Rattle.dg_slot.specs.declared.states.PageJob.{PageJob}
 use Rattle.dg_slot.specs.declared.states.OpenSlot.{OpenSlot}
 use Rattle.dg_slot.specs.declared.states.Sealing.{Sealing}
@@ -44,7 +44,7 @@ StaysIf answer P = Unit {0}
 -- the slot of an image is lent, and a page of it is being filled: these packets of it came
 pub record Fills (c : List ℕ) (s : Store) (image : ℕ) (job : PageJob) (h : Held) (ps : Packets) : Type 0 where
   pub not_golden : 1 ≤ image
-  pub of_image : (outline_told (slot_of job)).image ≡ image
+  pub of_image : (outline_of_slot (slot_of job)).image ≡ image
   pub held_here : held s image ≡ Some h
   pub stands : IsJob c job h ps
 
@@ -97,7 +97,7 @@ slot_trail s i e = if is_version (held s i) e.version then resting s 0 else take
 
 -- the slot is open for the entry's version, of which pages are missing
 pub record Opened (c : List ℕ) (s : Store) (i : ℕ) (e : Entry) (o : OpenSlot) : Type 0 where
-  pub of_image : (outline_told o).image ≡ i
+  pub of_image : (outline_of_slot o).image ≡ i
   pub kept : Held
   pub held_here : held s i ≡ Some kept
   pub version : kept.version ≡ e.version
@@ -106,7 +106,7 @@ pub record Opened (c : List ℕ) (s : Store) (i : ℕ) (e : Entry) (o : OpenSlot
 
 -- the next page of the entry's version was begun
 pub record Begun (c : List ℕ) (s : Store) (i : ℕ) (e : Entry) (job : PageJob) : Type 0 where
-  pub of_image : (outline_told (slot_of job)).image ≡ i
+  pub of_image : (outline_of_slot (slot_of job)).image ≡ i
   pub kept : Held
   pub held_here : held s i ≡ Some kept
   pub version : kept.version ≡ e.version

@@ -5,7 +5,7 @@ use Rattle.dg_nor.specs.Device.{Device, Ran}
 use Rattle.dg_nor.specs.Trail.{operations, last}
 use Rattle.dg_slot.specs.Layout.{packets}
 use Rattle.dg_slot.specs.Kept.{Held}
-use Rattle.dg_slot.specs.Jobs.{IsJob, outline_told, slot_of}
+use Rattle.dg_slot.specs.Jobs.{IsJob, outline_of_slot, slot_of}
 use Rattle.dg_slot.specs.declared.states.PageJob.{PageJob}
 use Rattle.dg_volume.specs.Store.{Store, held}
 use Rattle.dg_volume.specs.Stands.{Mounted, NothingLent, is_lent}
@@ -24,7 +24,7 @@ use Rattle.dg_mote.specs.declared.mote.Mode.TheVariants as value
 -- In a reception the slot is lent, and no other is. The job stands for the next page with the packets that came,
 -- and some are missing.
 pub record Receives (c : List ℕ) (v : Volume) (s : Store) (job : PageJob) (r : Receiving) : Type 0 where
-  pub image : (outline_told (slot_of job)).image ≡ r.image
+  pub image : (outline_of_slot (slot_of job)).image ≡ r.image
   pub not_golden : 1 ≤ r.image
   pub lent : is_lent v r.image ≡ true
   pub others : (i : ℕ) → i ≢ r.image → is_lent v i ≡ false

@@ -35,5 +35,5 @@ pub use rounds::{
 pub use rules::{
     a_frame_is_heard_in_silence, a_restart_is_for_the_order, an_equal_advert_keeps_a_mote_silent,
     an_overheard_packet_keeps_a_mote_from_asking, an_overheard_request_keeps_a_mote_from_asking,
-    pages_are_handed_on_before_the_image_is_whole, requests_are_sets,
+    pages_are_forwarded_before_the_image_is_whole, requests_are_sets,
 };

@@ -12,7 +12,9 @@ use dg_frame::Entry;
 use dg_nor::{Nor, Stopped};
 use dg_object::Profile;
 use dg_slot::{OpenSlot, PageJob};
-use dg_volume::{Volume, a_lent_slot_is_filled, acts_end, what_stands_behind_the_commits};
+use dg_volume::{
+    Volume, a_lent_slot_is_filled, acts_end, what_is_after_the_commits_does_not_count,
+};
 
 /// Begins the next page of an image, whose slot is taken unless this version is kept.
 pub(crate) fn begin_page<N: Nor>(
@@ -32,7 +34,7 @@ pub(crate) fn begin_page<N: Nor>(
     ensures stopped { OnErr result ((s : Store) → Mounted (N.device nor.old).image volume.old s → MayTake s image entry
         → Stops (ask_trail s image entry) (N.device nor.old) (N.device nor.new)) }
 {
-    what_stands_behind_the_commits();
+    what_is_after_the_commits_does_not_count();
     a_lent_slot_is_filled();
     let slot = open(nor, volume, image, entry)?;
     slot.begin_page(nor)

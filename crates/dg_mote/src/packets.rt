@@ -8,7 +8,7 @@ ghost use Rattle.dg_frame.specs.Ranges.{PageInRange};
 ghost use Rattle.dg_slot.specs.Layout.{packets};
 ghost use Rattle.dg_slot.specs.Kept.{Held};
 ghost use Rattle.dg_slot.specs.Fits.{may_seal};
-ghost use Rattle.dg_slot.specs.Jobs.{IsJob, Packets, page_from, outline_told, slot_of, slot_in, got_told};
+ghost use Rattle.dg_slot.specs.Jobs.{IsJob, Packets, page_from, outline_of_slot, slot_of, slot_in, got_of_job};
 ghost use Rattle.dg_volume.specs.Store.{Store};
 ghost use Rattle.dg_volume.specs.Stands.{is_lent, Mounted};
 ghost use Rattle.dg_volume.specs.Acts.{Acted, Stops};
@@ -24,7 +24,7 @@ use dg_nor::{Nor, Stopped};
 use dg_object::{PACKET_SIZE, PACKETS};
 use dg_slot::{OpenSlot, PageJob, Sealing};
 use dg_trickle::Trickle;
-use dg_volume::{Volume, a_lent_slot_is_filled, what_stands_behind_the_commits};
+use dg_volume::{Volume, a_lent_slot_is_filled, what_is_after_the_commits_does_not_count};
 use std::mem;
 
 impl Mote {
@@ -52,7 +52,7 @@ impl Mote {
             → Stops (on_packet m.mode m s now word (page_packet name.image name.version name.page packet bytes.now)).trail
             (N.device nor.old) (N.device nor.new)) }
     {
-        what_stands_behind_the_commits();
+        what_is_after_the_commits_does_not_count();
         a_lent_slot_is_filled();
         match &mut self.mode {
             Mode::Maintain(_) => Ok(self.overhear_packet(now, name)),
@@ -125,9 +125,9 @@ impl Mote {
 fn is_wanted(version: u32, job: &PageJob, name: PageName, packet: u8) -> bool
     requires { packet ≤ last_packet }
     ensures value { (c : List ℕ) (h : Held) (r : Receiving) → IsJob c job.now h r.packets
-        → (outline_told (slot_of job.now)).image ≡ r.image → version ≡ r.version → length h.complete ≡ r.page
+        → (outline_of_slot (slot_of job.now)).image ≡ r.image → version ≡ r.version → length h.complete ≡ r.page
         → result ≡ is_wanted r name.image name.version name.page packet }
-    ensures missing { result ≡ true → set.contains (got_told job.now) packet ≡ false }
+    ensures missing { result ≡ true → set.contains (got_of_job job.now) packet ≡ false }
 {
     job.image() == name.image
         && version == name.version
@@ -137,14 +137,14 @@ fn is_wanted(version: u32, job: &PageJob, name: PageName, packet: u8) -> bool
 
 /// Makes a page complete that is whole, where it fits: the answer says whether it does. The slot goes back.
 fn seal<N: Nor>(nor: &mut N, volume: &mut Volume, job: PageJob) -> Result<bool, Stopped>
-    requires whole { (q : ℕ) → q < packets → set.contains (got_told job) q ≡ true }
-    requires lent { is_lent volume.old (outline_told (slot_of job)).image ≡ true }
+    requires whole { (q : ℕ) → q < packets → set.contains (got_of_job job) q ≡ true }
+    requires lent { is_lent volume.old (outline_of_slot (slot_of job)).image ≡ true }
     ensures sealed { IfOk result (λ fits. (s : Store) (image : ℕ) (h : Held) (ps : Packets)
         → Mounted (N.device nor.old).image volume.old s → Fills (N.device nor.old).image s image job h ps
         → (fits ≡ may_seal image h (page_from ps))
         × Acted (sealing_trail s image h (page_from ps)) (N.device nor.old) (N.device nor.new) volume.new) }
-    ensures back { OnOk result (is_lent volume.new (outline_told (slot_of job)).image ≡ false) }
-    ensures others { (i : ℕ) → i ≢ (outline_told (slot_of job)).image → is_lent volume.new i ≡ is_lent volume.old i }
+    ensures back { OnOk result (is_lent volume.new (outline_of_slot (slot_of job)).image ≡ false) }
+    ensures others { (i : ℕ) → i ≢ (outline_of_slot (slot_of job)).image → is_lent volume.new i ≡ is_lent volume.old i }
     ensures same_reference { (N.device nor.new).references ≡ (N.device nor.old).references }
     ensures stopped { OnErr result ((s : Store) (image : ℕ) (h : Held) (ps : Packets)
         → Mounted (N.device nor.old).image volume.old s → Fills (N.device nor.old).image s image job h ps

@@ -112,7 +112,7 @@ pub fn requests_are_sets()
 /// A mote forwards an image of which it has some pages: its adverts tell how many, and it serves a request to itself
 /// exactly where it keeps that version and the page is complete, whether the image is whole or not (pipelining over
 /// hops, Hui and Culler, SenSys 2004).
-pub fn pages_are_handed_on_before_the_image_is_whole()
+pub fn pages_are_forwarded_before_the_image_is_whole()
     ensures advert { (m : MoteState) (s : Store) (now word : ℕ) (wide : Bool) (source : ℕ) (entries : List Entry) (order : Order)
         → (tick_of m s now word).sent ≡ Some (advert_by wide source entries order)
         → advert_by wide source entries order ≡ advert_of m.id m.wide s }

@@ -6,7 +6,7 @@ ghost use Rattle.dg_frame.specs.declared.Message.TheVariants as message;
 ghost use Rattle.dg_slot.specs.Layout.{slots, most_pages, packets, page_sector};
 ghost use Rattle.dg_slot.specs.Pages.{packet_in};
 ghost use Rattle.dg_slot.specs.Kept.{Held};
-ghost use Rattle.dg_slot.specs.Jobs.{IsJob, Packets, outline_told, done_told, slot_of};
+ghost use Rattle.dg_slot.specs.Jobs.{IsJob, Packets, outline_of_slot, done_of_slot, slot_of};
 ghost use Rattle.dg_object.specs.Object.{Row};
 ghost use Rattle.dg_volume.specs.Store.{Store};
 ghost use Rattle.dg_volume.specs.Stands.{Tells, Mounted, IsMounted, is_lent, room_of};
@@ -249,8 +249,8 @@ fn request_message(
     job: &PageJob,
     want: PageBits<PACKETS>,
 ) -> Message
-    ensures { result ≡ message.Request id server (outline_told (slot_of job.now)).image version (done_told (slot_of job.now))
-        want }
+    ensures { result ≡ message.Request id server (outline_of_slot (slot_of job.now)).image version
+        (done_of_slot (slot_of job.now)) want }
 {
     Message::Request {
         source: id,

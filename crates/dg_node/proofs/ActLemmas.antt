@@ -69,7 +69,7 @@ read_stops s t a b begins stands r =
 
 -- no fuse blows in a read
 read_whole : (a b : Device) → ReadStopped a b → a.blown ≡ false → b.blown ≡ true → ⊥
-read_whole a b r whole blown = ⊎_elim (λ was. both_ways a.blown whole was) (λ out. omega (arith, out.0)) (r.halts.blew blown)
+read_whole a b r whole blown = ⊎_elim (λ was. both_ways a.blown whole was) (λ out. omega (arith, out.0)) (r.halts.fired blown)
 
 begins_unless : {R : Type 0} (refusal : Option R) (t : Trail Store) (s : Store) → BeginsAt s t → BeginsAt s (trail_unless refusal t s)
 begins_unless None t s begins = begins

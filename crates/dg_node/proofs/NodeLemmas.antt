@@ -27,7 +27,7 @@ use Rattle.dg_volume.proofs.BeginLemmas.{boot_begins}
 use Rattle.dg_base.specs.declared.events.ImageVersion.{ImageVersion}
 use Rattle.dg_frame.specs.Spelling.{frame_of}
 use Rattle.dg_frame.specs.declared.Message.{Message}
-use Rattle.dg_boot.specs.Started.{Starts as BootStarts, Lacks}
+use Rattle.dg_boot.specs.Started.{Starts as BootStarts, NoImageFound}
 use Rattle.dg_boot.specs.declared.Started.{Started}
 use Rattle.dg_boot.specs.declared.BootFault.{BootFault}
 use Rattle.dg_boot.specs.declared.BootFault.TheVariants as fault
@@ -120,13 +120,13 @@ module _ (k : StartCause) (s : Store) (id : ℕ) (wide : Bool) (now word : ℕ) 
   start_stops : (before after : Option Node) (a b : Device) → Stops t a b → NodeDone Stopped None (boots k s id wide now word) (host a before) (host b after)
   start_stops before after a b stops = (subst (λ (x : Trail Store). Stops x a b) (sym (boot_trail (boot k s).runs t id wide now word)) stops, refl)
 
-  start_lacks : (before after : Option Node) (a b : Device) → Lacks (boot k s) a b → NodeDone NoImage None (boots k s id wide now word) (host a before) (host b after)
+  start_lacks : (before after : Option Node) (a b : Device) → NoImageFound (boot k s) a b → NodeDone NoImage None (boots k s id wide now word) (host a before) (host b after)
   start_lacks before after a b l =
       subst (λ (e : Effect). NodeDone NoImage None e (host a before) (host b after)) (sym (ap starts l.none))
       (record { none = refl; silent = refl; unsent = refl; ran = l.ran; stands = l.stands })
 
   -- it fails in one of three ways
-  pub start_fails : (f : BootFault) (before : Option Node) (a b : Device) → (f ≡ fault.Stopped → Stops t a b) → (f ≡ fault.NotAVolume → IsNoVolume a.image × Looked a b) → (f ≡ fault.NoImage → Lacks (boot k s) a b) → Stands a.image s
+  pub start_fails : (f : BootFault) (before : Option Node) (a b : Device) → (f ≡ fault.Stopped → Stops t a b) → (f ≡ fault.NotAVolume → IsNoVolume a.image × Looked a b) → (f ≡ fault.NoImage → NoImageFound (boot k s) a b) → Stands a.image s
       → NodeDone (power_end (Err f)) None (boots k s id wide now word) (host a before) (host b None)
   start_fails fault.Stopped before a b stops none lacks stands = start_stops before None a b (stops refl)
   start_fails fault.NotAVolume before a b stops none lacks stands = (none refl).0 s stands

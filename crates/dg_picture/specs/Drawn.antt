@@ -1,6 +1,6 @@
 -- What the call that draws a report does (docs/COMMANDS.md, "A picture of a report").
 use Rattle.std.specs.Prelude.{◌≡◌, ℕ, ◌<◌, List, length, Option, Result, Ok, Err, Vec}
-use Rattle.dg_base.specs.Outside.{Takes, Puts, PutsFront, AtEnd}
+use Rattle.dg_base.specs.Outside.{Takes, Puts, PutsPrefix, AtEnd}
 use Rattle.dg_script.specs.Sizes.{most_used_bytes}
 use Rattle.dg_picture.specs.Picture.{picture_of}
 use Rattle.dg_story.specs.Reading.{AreReports, FirstNoReport, HasMoreLines, begins_timed}
@@ -45,7 +45,7 @@ ReadOf (Err fault) before after = RefusesInput fault before after
 abbrev pub Drawn : Result (Unit {0}) PictureFault → (left_before left_after : Option (List ℕ))
     → (written_before written_after : Option (List ℕ)) → Type 0
 Drawn (Ok done) a b v w = (text : List ℕ) × DrawsAll a b text × Puts v w text
-Drawn (Err fault.WriteFault) a b v w = (text : List ℕ) × DrawsAll a b text × PutsFront v w text
+Drawn (Err fault.WriteFault) a b v w = (text : List ℕ) × DrawsAll a b text × PutsPrefix v w text
 Drawn (Err fault) a b v w = RefusesInput fault a b × (w ≡ v)
 
 -- the exit status of a fault

@@ -1,7 +1,7 @@
 //! The call that draws the report of a replay.
 ghost use Rattle.std.specs.Prelude.{◌≡◌, ◌≢◌, ◌<◌, ◌≤◌, List, ℕ, length, IfOk, MatchResult, Err};
 ghost use Rattle.dg_words.specs.Counts.{Rose};
-ghost use Rattle.dg_base.specs.Outside.{Takes, Puts, PutsFront, AtEnd};
+ghost use Rattle.dg_base.specs.Outside.{Takes, Puts, PutsPrefix, AtEnd};
 ghost use Rattle.dg_script.specs.Sizes.{most_used_bytes};
 ghost use Rattle.dg_story.specs.Reading.{FirstNoReport, HasMoreLines};
 ghost use Rattle.dg_picture.specs.Drawn.{Drawn, IsPicture, ReadOf, RefusesBytes};

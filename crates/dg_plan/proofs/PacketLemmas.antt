@@ -4,7 +4,7 @@ use Rattle.dg_bits.specs.Sets.{Numbers}
 use Rattle.dg_nor.specs.Chip.{Touches}
 use Rattle.dg_slot.specs.Layout.{header_sector, slot_end, page_sector}
 use Rattle.dg_slot.specs.Kept.{Held, KeepsImage}
-use Rattle.dg_slot.specs.Jobs.{outline_told, done_told, IsOpen, Packets}
+use Rattle.dg_slot.specs.Jobs.{outline_of_slot, done_of_slot, IsOpen, Packets}
 use Rattle.dg_slot.specs.declared.states.OpenSlot.{OpenSlot}
 use Rattle.dg_volume.specs.Sizes.{images}
 use Rattle.dg_volume.specs.Store.{Store, held}
@@ -37,22 +37,22 @@ none_kept c s i v h known none stands here version = none h version (keeps_held 
 
 -- ---- what a slot is, by the page that was asked for
 
-pub is_next : (c : List ℕ) (o : OpenSlot) (h : Held) (name : PageName) → h.version ≡ name.version → IsOpen c o h → done_told o ≡ name.page → done_told o < (outline_told o).pages → IsNext name h
+pub is_next : (c : List ℕ) (o : OpenSlot) (h : Held) (name : PageName) → h.version ≡ name.version → IsOpen c o h → done_of_slot o ≡ name.page → done_of_slot o < (outline_of_slot o).pages → IsNext name h
 is_next c o h name version opened page more = record { version = version; page = sym opened.opens.done ∙ page; more = omega (arith, opened.opens.done, opened.opens.pages, more) }
 
-pub is_elsewhere : (c : List ℕ) (o : OpenSlot) (h : Held) (name : PageName) (next : ℕ) → h.version ≡ name.version → IsOpen c o h → done_told o ≡ next → (next ≡ name.page → next ≡ (outline_told o).pages) → IsElsewhere name next h
+pub is_elsewhere : (c : List ℕ) (o : OpenSlot) (h : Held) (name : PageName) (next : ℕ) → h.version ≡ name.version → IsOpen c o h → done_of_slot o ≡ next → (next ≡ name.page → next ≡ (outline_of_slot o).pages) → IsElsewhere name next h
 is_elsewhere c o h name next version opened done whole = record { version = version; done = sym opened.opens.done ∙ done; whole = λ e. whole e ∙ opened.opens.pages }
 
 -- ---- a slot that was written
 
-written_by : (versions : Versions) (c m d : List ℕ) (s : Store) (i v : ℕ) (o : OpenSlot) → i < images → m ≡ c → (outline_told o).image ≡ i → Found c i v o → ((h : Held) → IsOpen m o h → IsOpen d o h) → Stands c s
+written_by : (versions : Versions) (c m d : List ℕ) (s : Store) (i v : ℕ) (o : OpenSlot) → i < images → m ≡ c → (outline_of_slot o).image ≡ i → Found c i v o → ((h : Held) → IsOpen m o h → IsOpen d o h) → Stands c s
     → (x : Option Held) → held s i ≡ x → IfSome x (KeepsImage d i)
 written_by versions c m d s i v o known same image found kept stands None here = tt
 written_by versions c m d s i v o known same image found kept stands (Some h) here =
     let opened = (kept_found versions c s i v o h known found stands here).1 in
     subst (λ (n : ℕ). KeepsImage d n h) image (kept h (subst (λ (x : List ℕ). IsOpen x o h) (sym same) opened)).keeps
 
-pub stands_written : (alone : Alone) (versions : Versions) (c m d : List ℕ) (s : Store) (i v : ℕ) (o : OpenSlot) → i < images → m ≡ c → (outline_told o).image ≡ i → Touches (header_sector i) (slot_end i) m d → Found c i v o
+pub stands_written : (alone : Alone) (versions : Versions) (c m d : List ℕ) (s : Store) (i v : ℕ) (o : OpenSlot) → i < images → m ≡ c → (outline_of_slot o).image ≡ i → Touches (header_sector i) (slot_end i) m d → Found c i v o
     → ((h : Held) → IsOpen m o h → IsOpen d o h) → Stands c s → Stands d s
 stands_written alone versions c m d s i v o known same image touches found kept stands =
     alone m d s i known touches (written_by versions c m d s i v o known same image found kept stands (held s i) refl) (subst (λ (x : List ℕ). Stands x s) (sym same) stands)
@@ -60,8 +60,8 @@ stands_written alone versions c m d s i v o known same image touches found kept 
 -- ---- the same where the header is read first
 
 -- the sector of the slot's next page is the one that was named
-pub same_sector : (o : OpenSlot) (name : PageName) → (outline_told o).image ≡ name.image → done_told o ≡ name.page → page_sector (outline_told o).image (done_told o) ≡ sector_named name
-same_sector o name image page = ap (λ (n : ℕ). page_sector n (done_told o)) image ∙ ap (page_sector name.image) page
+pub same_sector : (o : OpenSlot) (name : PageName) → (outline_of_slot o).image ≡ name.image → done_of_slot o ≡ name.page → page_sector (outline_of_slot o).image (done_of_slot o) ≡ sector_named name
+same_sector o name image page = ap (λ (n : ℕ). page_sector n (done_of_slot o)) image ∙ ap (page_sector name.image) page
 
 pub had_put : (c m : List ℕ) (j k : ℕ) (got : Numbers) (ps : Packets) → m ≡ c → j ≡ k → HadPut c k got ps → HadPut m j got ps
 had_put c m j k got ps same sector had = subst (λ (x : List ℕ). HadPut x j got ps) (sym same) (subst (λ (n : ℕ). HadPut c n got ps) (sym sector) had)

@@ -15,7 +15,7 @@ use Rattle.dg_slot.specs.Layout.{packets, most_pages, page_sector}
 use Rattle.dg_slot.specs.Pages.{page_in}
 use Rattle.dg_slot.specs.Kept.{Held, KeepsImage, with_page, kept_crc}
 use Rattle.dg_slot.specs.Fits.{may_seal}
-use Rattle.dg_slot.specs.Jobs.{outline_told, done_told, slot_of, sector_of, IsOpen, IsJob, Packets, packets_of, page_from, ArePut}
+use Rattle.dg_slot.specs.Jobs.{outline_of_slot, done_of_slot, slot_of, sector_of, IsOpen, IsJob, Packets, packets_of, page_from, ArePut}
 use Rattle.dg_slot.specs.declared.states.OpenSlot.{OpenSlot}
 use Rattle.dg_slot.specs.declared.states.PageJob.{PageJob}
 use Rattle.dg_volume.specs.Sizes.{images, golden_version}
@@ -95,22 +95,22 @@ pub record IsReady (c : List ℕ) (j : PageJob) (name : PageName) (h : Held) : T
   pub packets_there : Packets
   pub is_job : IsJob c j h packets_there
   pub page : page_from packets_there ≡ standing c name
-  pub image : (outline_told (slot_of j)).image ≡ name.image
+  pub image : (outline_of_slot (slot_of j)).image ≡ name.image
 
 pub ready : (all_put : AllPut) (put_page : PutPage) (c : List ℕ) (o : OpenSlot) (j : PageJob) (got : Numbers) (name : PageName) (h : Held) → length c ≡ chip_size → name.image < images → name.page < most_pages → slot_of j ≡ o → got ≡ below packets → Resumes o got j
-    → (outline_told o).image ≡ name.image → done_told o ≡ name.page → IsOpen c o h → IsReady c j name h
+    → (outline_of_slot o).image ≡ name.image → done_of_slot o ≡ name.page → IsOpen c o h → IsReady c j name h
 ready all_put put_page c o j got name h whole known few slot every resumes image page opened =
     let k = sector_named name in
     let in_chip : k < sectors = omega (arith, known, few) in
     let all = all_in got every in
     let put = all_put c k got whole in_chip all in
     let ps = packets_of (page_in c k) in
-    let sector : sector_of j ≡ k = ap (λ (x : OpenSlot). page_sector (outline_told x).image (done_told x)) slot ∙ same_sector o name image page in
+    let sector : sector_of j ≡ k = ap (λ (x : OpenSlot). page_sector (outline_of_slot x).image (done_of_slot x)) slot ∙ same_sector o name image page in
     record {
       packets_there = ps;
       is_job = resumes c h ps opened (subst (λ (n : ℕ). ArePut c n got ps) (sym sector) put);
       page = put_page c k got ps whole in_chip all put;
-      image = ap (λ (x : OpenSlot). (outline_told x).image) slot ∙ image;
+      image = ap (λ (x : OpenSlot). (outline_of_slot x).image) slot ∙ image;
     }
 
 -- ---- where the chip was only looked at before
@@ -144,5 +144,5 @@ stopped_before old mid new name s h looked x =
 
 -- ---- a slot with one page more
 
-pub keeps_more : (new : List ℕ) (o : OpenSlot) (i : ℕ) (h : Held) (p q : List ℕ) → (outline_told o).image ≡ i → p ≡ q → IsOpen new o (with_page h p) → KeepsImage new i (with_page h q)
-keeps_more new o i h p q image page opened = subst (λ (n : ℕ). KeepsImage new n (with_page h q)) image (subst (λ (x : List ℕ). KeepsImage new (outline_told o).image (with_page h x)) page opened.keeps)
+pub keeps_more : (new : List ℕ) (o : OpenSlot) (i : ℕ) (h : Held) (p q : List ℕ) → (outline_of_slot o).image ≡ i → p ≡ q → IsOpen new o (with_page h p) → KeepsImage new i (with_page h q)
+keeps_more new o i h p q image page opened = subst (λ (n : ℕ). KeepsImage new n (with_page h q)) image (subst (λ (x : List ℕ). KeepsImage new (outline_of_slot o).image (with_page h x)) page opened.keeps)

@@ -7,7 +7,8 @@ ghost use Rattle.dg_nor.specs.Device.{Ran, Halts, Halted};
 ghost use Rattle.dg_nor.specs.Reads.{Looked, ActStopped};
 ghost use Rattle.dg_slot.specs.Layout.{packets, page_sector};
 ghost use Rattle.dg_slot.specs.Kept.{Held};
-ghost use Rattle.dg_slot.specs.Jobs.{outline_told, done_told, slot_of, got_told, IsOpen, IsJob, Packets, put_packet, ArePut};
+ghost use Rattle.dg_slot.specs.Jobs.{outline_of_slot, done_of_slot, slot_of, got_of_job, IsOpen, IsJob, Packets, put_packet};
+ghost use Rattle.dg_slot.specs.Jobs.{ArePut};
 ghost use Rattle.dg_volume.specs.Sizes.{images};
 ghost use Rattle.dg_volume.specs.Store.{Store, held};
 ghost use Rattle.dg_volume.specs.Stands.{Stands};
@@ -149,16 +150,16 @@ fn put_in<N: Nor>(
     packet: u8,
     bytes: &PacketBytes,
 ) -> Result<(), Stopped>
-    requires more { done_told slot < (outline_told slot).pages }
+    requires more { done_of_slot slot < (outline_of_slot slot).pages }
     requires known { packet < packets }
     requires missing { set.contains got packet ≡ false }
     ensures put { OnOk result ((h : Held) (ps : Packets) → IsOpen (N.device nor.old).image slot h
-        → HadPut (N.device nor.old).image (page_sector (outline_told slot).image (done_told slot)) got ps
-        → ArePut (N.device nor.new).image (page_sector (outline_told slot).image (done_told slot)) (set.insert got packet)
+        → HadPut (N.device nor.old).image (page_sector (outline_of_slot slot).image (done_of_slot slot)) got ps
+        → ArePut (N.device nor.new).image (page_sector (outline_of_slot slot).image (done_of_slot slot)) (set.insert got packet)
         (put_packet ps packet bytes.now)) }
     ensures ran { OnOk result (Ran (erases (least got) + 1) (N.device nor.old) (N.device nor.new)) }
     ensures same_reference { (N.device nor.new).references ≡ (N.device nor.old).references }
-    ensures touches { let k = page_sector (outline_told slot).image (done_told slot) in
+    ensures touches { let k = page_sector (outline_of_slot slot).image (done_of_slot slot) in
         Touches k (k + 1) (N.device nor.old).image (N.device nor.new).image }
     ensures kept { (h : Held) → IsOpen (N.device nor.old).image slot h → IsOpen (N.device nor.new).image slot h }
     ensures stopped { OnErr result (Halted (erases (least got) + 1) (λ _ _. ⊤) (N.device nor.old) (N.device nor.new)) }
@@ -171,14 +172,14 @@ fn put_in<N: Nor>(
 
 /// The next page of a slot, of which these packets were put before. Where there are none, its sector is erased.
 fn job_of<N: Nor>(nor: &mut N, slot: OpenSlot, got: PageBits<PACKETS>) -> Result<PageJob, Stopped>
-    requires { done_told slot < (outline_told slot).pages }
+    requires { done_of_slot slot < (outline_of_slot slot).pages }
     ensures job { IfOk result (λ j. (h : Held) (ps : Packets) → IsOpen (N.device nor.old).image slot h
-        → HadPut (N.device nor.old).image (page_sector (outline_told slot).image (done_told slot)) got ps
+        → HadPut (N.device nor.old).image (page_sector (outline_of_slot slot).image (done_of_slot slot)) got ps
         → IsJob (N.device nor.new).image j h ps) }
-    ensures same { IfOk result (λ j. (slot_of j ≡ slot) × (got_told j ≡ got)) }
+    ensures same { IfOk result (λ j. (slot_of j ≡ slot) × (got_of_job j ≡ got)) }
     ensures ran { OnOk result (Ran (erases (least got)) (N.device nor.old) (N.device nor.new)) }
     ensures same_reference { (N.device nor.new).references ≡ (N.device nor.old).references }
-    ensures touches { let k = page_sector (outline_told slot).image (done_told slot) in
+    ensures touches { let k = page_sector (outline_of_slot slot).image (done_of_slot slot) in
         Touches k (k + 1) (N.device nor.old).image (N.device nor.new).image }
     ensures kept { (h : Held) → IsOpen (N.device nor.old).image slot h → IsOpen (N.device nor.new).image slot h }
     ensures stopped { OnErr result (Halts (erases (least got)) 0 (N.device nor.old) (N.device nor.new)) }

@@ -5,7 +5,7 @@ ghost use Rattle.dg_volume.specs.Stands.{Stands, IsNoVolume};
 ghost use Rattle.dg_volume.specs.Start.{boot};
 ghost use Rattle.dg_volume.specs.Acts.{Stops};
 ghost use Rattle.dg_nor.specs.Reads.{ActStopped};
-ghost use Rattle.dg_boot.specs.Started.{Starts, Lacks};
+ghost use Rattle.dg_boot.specs.Started.{Starts, NoImageFound};
 ghost use Rattle.dg_plan.specs.Plans.{planned, lists_of, chip_of, plan_device};
 ghost use Rattle.dg_plan.specs.Acts.{IsPlanOf};
 
@@ -22,7 +22,7 @@ pub fn start(plan: &mut Plan<'_>, kind: Kind) -> Result<Started, BootFault>
     ensures same_chip { chip_of plan.new ≡ chip_of plan.old }
     ensures no_volume { result ≡ Err BootFault.NotAVolume → IsNoVolume (planned plan.old) }
     ensures no_image { result ≡ Err BootFault.NoImage → (s : Store) → Stands (planned plan.old) s
-        → Lacks (boot kind s) (plan_device plan.old) (plan_device plan.new) }
+        → NoImageFound (boot kind s) (plan_device plan.old) (plan_device plan.new) }
     ensures cause { result ≡ Err BootFault.Stopped → ActStopped (plan_device plan.old) (plan_device plan.new) }
     ensures stopped { result ≡ Err BootFault.Stopped → (s : Store) → Stands (planned plan.old) s
         → Stops (boot kind s).trail (plan_device plan.old) (plan_device plan.new) }

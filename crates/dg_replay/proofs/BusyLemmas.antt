@@ -19,7 +19,7 @@ use Rattle.dg_rules.specs.World.{World}
 use Rattle.dg_world.specs.Worlds.{IsWorld}
 use Rattle.dg_world.specs.Boards.{WorldStands}
 use Rattle.dg_replay.specs.Boards.{StoppedIn, ItemStops, LineStops}
-use Rattle.dg_replay.specs.Items.{Ground, no_ground, Beginning, begin_by, motes_in, lacking_by, is_boards}
+use Rattle.dg_replay.specs.Items.{StartState, no_start_state, Beginning, begin_by, motes_in, lacking_by, is_boards}
 use Rattle.dg_replay.specs.Playing.{Seated, InWorld, Stood, Ready, ItemsPlayedAs, StopsInItem, PlayedAs}
 use Rattle.dg_replay.specs.declared.player.Player.{Player}
 use Rattle.dg_replay.specs.declared.stop.Stop.{Stop}
@@ -33,9 +33,9 @@ use Rattle.dg_replay.proofs.StandLemmas.{joined_next, stood_next, busy_runs, lin
 -- A line behind others has these items. It changes nothing of where the run begins, and needs no more boards.
 pub record HasItems (done : List Line) (line : Line) (items : List Item) : Type 0 where
   pub are : item_by (place_behind first_place done) line ≡ items
-  pub begins : (g : Ground) (b : Beginning) → (begin_by g b line).world ≡ b.world
+  pub begins : (g : StartState) (b : Beginning) → (begin_by g b line).world ≡ b.world
   pub plain : is_boards line ≡ false
-  pub counts : (b : Beginning) → (begin_by no_ground b line).motes ≡ b.motes
+  pub counts : (b : Beginning) → (begin_by no_start_state b line).motes ≡ b.motes
   pub motes : (place : Place) → (place_after place line).motes ≡ place.motes
   pub ready : (place : Place) → (place_after place line).ready ≡ place.ready
   pub enough : (boards : ℕ) → lacking_by boards line None ≡ None

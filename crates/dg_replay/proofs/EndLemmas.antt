@@ -4,7 +4,7 @@ use Rattle.std.specs.Prelude.{⊤, Option, Some, None, is_some, nat_lt, if◌the
 use Rattle.std.specs.Str.Lines.{lines}
 use Rattle.std.proofs.lemmas.List.{take-append-drop}
 use Rattle.std.proofs.lemmas.Bool.Decides.{nat_tests}
-use Rattle.dg_base.specs.Outside.{PutsFront, Puts}
+use Rattle.dg_base.specs.Outside.{PutsPrefix, Puts}
 use Rattle.dg_base.proofs.OutsideLemmas.{Puts-join}
 use Rattle.dg_base.specs.declared.answers.Status.{Status}
 use Rattle.dg_base.specs.declared.answers.Status.TheVariants as status
@@ -66,7 +66,7 @@ stop_ending NotAVolume over script W number initial now before after failed S G 
 -- boards end the replay, and the last line was not all written
 cut_at_end : {table : List Row} {S G : Saw} (result : Status) (script : Script) (over : Bool) (input : List ℕ) (at_end : Type 0) (number : ℕ) (initial now : List Device) (before mid after : Option (List ℕ)) (later reads worse : Type 0) → (later → worse) → FewBytesBehind number input
     → (c : Progress table script) (line : List ℕ) → BoardsEndIt c line → Puts before mid (played_text c.played) → InBounds (length initial) c.done (map item_played c.played) → (UsesBoards c.done → StandFor (motes_in c.done) c.ground.stores initial) → BoardsLeft status.WriteFault c initial now → IsLeft (span initial now before mid S G) c
-    → ((more : List ℕ) → ReportedBefore number c (played_text c.played ++ more)) → at_end ⊎ NextIsWhole input c.done c.rest → result ≡ status.WriteFault → PutsFront mid after line → later → ScriptReplayed table result script (ending_from (length initial) over script) (bytes_taken input at_end) (span initial now before after S G) (failures reads worse)
+    → ((more : List ℕ) → ReportedBefore number c (played_text c.played ++ more)) → at_end ⊎ NextIsWhole input c.done c.rest → result ≡ status.WriteFault → PutsPrefix mid after line → later → ScriptReplayed table result script (ending_from (length initial) over script) (bytes_taken input at_end) (span initial now before after S G) (failures reads worse)
 cut_at_end {table} {S = S} {G = G} result script over input at_end number initial now before mid after later reads worse widen near c line ends told limits stood boards left tells whole same cut rose =
     let k = cut.0 in
     let front = tells (take k line) in

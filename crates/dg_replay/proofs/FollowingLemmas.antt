@@ -17,7 +17,7 @@ use Rattle.dg_replay.specs.declared.halt.Halt.{Halt}
 use Rattle.dg_replay.specs.declared.halt.Halt.TheVariants.{ReadFault, TooLong, Stopped}
 use Rattle.dg_replay.specs.declared.player.Player.{Player}
 use Rattle.dg_replay.specs.declared.stop.Stop.{Stop}
-use Rattle.dg_replay.specs.Stages.{Basis, DoneSoFar, ReplayState, line_read, bytes_taken}
+use Rattle.dg_replay.specs.Stages.{Baseline, DoneSoFar, ReplayState, line_read, bytes_taken}
 use Rattle.dg_replay.specs.Untouched.{TextKeepsBytes}
 use Rattle.dg_replay.specs.declared.stop.Stop.TheVariants.{BadInput}
 use Rattle.dg_replay.proofs.BytesLemmas.{text_same}
@@ -54,7 +54,7 @@ next_halted (read_stop.Long line) halt bytes old new A F N P is h none long =
 -- what is played of a text, from a player that stands behind lines, and which boards keep their bytes
 abbrev pub TextPlays : Result (Unit {0}) Stop → (text : List ℕ) → (number : ℕ) → (a b : ReplayState) → (failed : Type 0) → Type 0
 TextPlays r text number a b failed = TextKeepsBytes a.player.place text a.boards b.boards
-    × ((basis : Basis) (so_far : DoneSoFar) → Stood a.player so_far.lines so_far.world basis.boards a.boards → TextAnswer basis r (line_read text number) so_far a b failed)
+    × ((basis : Baseline) (so_far : DoneSoFar) → Stood a.player so_far.lines so_far.world basis.boards a.boards → TextAnswer basis r (line_read text number) so_far a b failed)
 
 -- a line that was given was played
 pub given_next : (r : Result Bool Halt) (o : Option ℕ) (n : ℕ) (text bytes : List ℕ) (old new : Reading) (A F N : Type 0) (P : Result (Unit {0}) Stop → List ℕ → ℕ → Type 0) → o ≡ Some n → text ≡ new.text

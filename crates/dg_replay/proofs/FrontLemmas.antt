@@ -13,7 +13,7 @@ use Rattle.dg_script.specs.declared.fault.LineFault.{LineFault}
 use Rattle.dg_script.specs.declared.line.Line.{Line}
 use Rattle.dg_script.specs.declared.place.Place.{Place}
 use Rattle.dg_replay.specs.Ending.{up_to, whole_lines, used, has_unused_bytes, script_of, ending_from}
-use Rattle.dg_replay.specs.Fronts.{IsFront, BeginsAs, ReadsTo}
+use Rattle.dg_replay.specs.Prefixes.{IsWholeLines, BeginsAs, ReadsTo}
 use Rattle.dg_replay.specs.Replayed.{IsSettled, AreWhole}
 use Rattle.dg_replay.proofs.NextLineLemmas.{script_line, script_fault}
 use Rattle.dg_replay.proofs.WholeLemmas.{are_whole_lines}
@@ -67,7 +67,7 @@ no_lines : lines [] ≡ []
 no_lines = refl
 
 -- bytes that end in LF are lines of their own
-pub lines_front : (front xs : List ℕ) → IsFront front → lines (front ++ xs) ≡ lines front ++ lines xs
+pub lines_front : (front xs : List ℕ) → IsWholeLines front → lines (front ++ xs) ≡ lines front ++ lines xs
 lines_front front xs (inl none) =
     ap (λ (f : List ℕ). lines (f ++ xs)) none ∙ ap (λ (f : List ℕ). lines f ++ lines xs) (sym none)
 lines_front front xs (inr (before, is)) =
@@ -91,7 +91,7 @@ whole_before [] xs = feed_up (whole_lines xs)
 whole_before (c ∷ before) xs = ap (up_to c) (whole_before before xs) ∙ front_up c before (whole_lines xs)
 
 -- bytes that end in LF are whole lines, and those behind them add theirs
-pub whole_lines_front : (front xs : List ℕ) → IsFront front → whole_lines (front ++ xs) ≡ front ++ whole_lines xs
+pub whole_lines_front : (front xs : List ℕ) → IsWholeLines front → whole_lines (front ++ xs) ≡ front ++ whole_lines xs
 whole_lines_front front xs (inl none) = ap (λ (f : List ℕ). whole_lines (f ++ xs)) none ∙ ap (λ (f : List ℕ). f ++ whole_lines xs) (sym none)
 whole_lines_front front xs (inr (before, is)) =
     ap (λ (f : List ℕ). whole_lines (f ++ xs)) is
@@ -101,12 +101,12 @@ whole_lines_front front xs (inr (before, is)) =
     ∙ ap (λ (f : List ℕ). f ++ whole_lines xs) (sym is)
 
 -- bytes that are whole lines end in LF
-pub front_of_whole : (front : List ℕ) → whole_lines front ≡ front → IsFront front
-front_of_whole front whole = subst IsFront whole (are_whole_lines front).ended
+pub front_of_whole : (front : List ℕ) → whole_lines front ≡ front → IsWholeLines front
+front_of_whole front whole = subst IsWholeLines whole (are_whole_lines front).ended
 
 -- ---- the bytes that are used
 
-begins_used : (k : ℕ) (over : Bool) (front more : List ℕ) → IsFront front → length front ≤ k
+begins_used : (k : ℕ) (over : Bool) (front more : List ℕ) → IsWholeLines front → length front ≤ k
     → (rest : List (List ℕ)) × (lines (if over then whole_lines (take k (front ++ more)) else front ++ more) ≡ lines front ++ rest)
 begins_used k false front more is few = (lines more, lines_front front more is)
 begins_used k true front more is few =
@@ -118,7 +118,7 @@ begins_used k true front more is few =
     )
 
 -- whatever follows whole lines, and whether that is too much, they are the first lines of what is used
-pub used_begins : (front more : List ℕ) → IsFront front → length front ≤ most_used_bytes → (rest : List (List ℕ)) × (lines (used (front ++ more)) ≡ lines front ++ rest)
+pub used_begins : (front more : List ℕ) → IsWholeLines front → length front ≤ most_used_bytes → (rest : List (List ℕ)) × (lines (used (front ++ more)) ≡ lines front ++ rest)
 used_begins front more is few = begins_used most_used_bytes (has_unused_bytes (front ++ more)) front more is few
 
 -- ---- scripts
@@ -144,7 +144,7 @@ pub script_begins : (input : List ℕ) (texts rest : List (List ℕ)) → lines 
 unfolding script_of
 script_begins input texts rest are = ap (λ (ls : List (List ℕ)). script_from (not (has_unused_bytes input)) first_place 1 ls) are
 
-pub front_begins : (front more : List ℕ) → IsFront front → length front ≤ most_used_bytes → BeginsAs (script_from false first_place 1 (lines front)) (script_of (front ++ more))
+pub front_begins : (front more : List ℕ) → IsWholeLines front → length front ≤ most_used_bytes → BeginsAs (script_from false first_place 1 (lines front)) (script_of (front ++ more))
 front_begins front more is few =
     let u = used_begins front more is few in
     subst (λ (s : Script). BeginsAs (script_from false first_place 1 (lines front)) s) (sym (script_begins (front ++ more) (lines front) u.0 u.1))
@@ -180,7 +180,7 @@ reads_fault texts done place n text fault r spelled ends more =
 -- ---- what the bytes that were taken settle
 
 -- the lines of whole lines are those of every input that begins with these bytes
-pub reads_whole : (front ahead : List ℕ) (done : List Line) (place : Place) (n : ℕ) → IsFront front → length front ≤ most_used_bytes → ReadsTo (lines front) done place n → AreWhole (front ++ ahead) done
+pub reads_whole : (front ahead : List ℕ) (done : List Line) (place : Place) (n : ℕ) → IsWholeLines front → length front ≤ most_used_bytes → ReadsTo (lines front) done place n → AreWhole (front ++ ahead) done
 reads_whole front ahead done place n is few r = λ more.
     let input : List ℕ = front ++ (ahead ++ more) in
     let same : (front ++ ahead) ++ more ≡ input = append_assoc front ahead more in
@@ -194,7 +194,7 @@ reads_whole front ahead done place n is few r = λ more.
 fault_ends : (boards : ℕ) (a b : Bool) (done : List Line) (at : ℕ × LineFault) → ending_from boards a (record { lines = done; fault = Some at }) ≡ ending_from boards b (record { lines = done; fault = Some at })
 fault_ends boards a b done at = refl
 
-pub fault_script : (front ahead text : List ℕ) (texts : List (List ℕ)) (done : List Line) (place : Place) (n : ℕ) (fault : LineFault) → IsFront front → length front ≤ most_used_bytes → lines front ≡ texts ++ text ∷ []
+pub fault_script : (front ahead text : List ℕ) (texts : List (List ℕ)) (done : List Line) (place : Place) (n : ℕ) (fault : LineFault) → IsWholeLines front → length front ≤ most_used_bytes → lines front ≡ texts ++ text ∷ []
     → ReadsTo texts done place n → line_of place text ≡ Err fault → script_of (front ++ ahead) ≡ record { lines = done; fault = Some (n, fault) }
 fault_script front ahead text texts done place n fault is few parts r spelled =
     let u = used_begins front ahead is few in
@@ -202,7 +202,7 @@ fault_script front ahead text texts done place n fault is few parts r spelled =
     script_begins (front ++ ahead) texts (text ∷ u.0) all ∙ reads_fault texts done place n text fault r spelled (not (has_unused_bytes (front ++ ahead))) u.0
 
 -- a fault of a whole line settles how the script ends
-pub fault_settles : (boards : ℕ) (front ahead text : List ℕ) (texts : List (List ℕ)) (done : List Line) (place : Place) (n : ℕ) (fault : LineFault) → IsFront front → length front ≤ most_used_bytes → lines front ≡ texts ++ text ∷ []
+pub fault_settles : (boards : ℕ) (front ahead text : List ℕ) (texts : List (List ℕ)) (done : List Line) (place : Place) (n : ℕ) (fault : LineFault) → IsWholeLines front → length front ≤ most_used_bytes → lines front ≡ texts ++ text ∷ []
     → ReadsTo texts done place n → line_of place text ≡ Err fault → IsSettled boards (front ++ ahead)
 fault_settles boards front ahead text texts done place n fault is few parts r spelled = λ more.
     let there : Script = record { lines = done; fault = Some (n, fault) } in

@@ -24,7 +24,7 @@ use Rattle.dg_rules.specs.Golden.{GoldenNetwork, network_world, PlaysGolden, Fin
 use Rattle.dg_rules.specs.Begins.{PlaysFrom, StoresAgree, AreShaped, HoldsTo, HoldsToThen, PlaysBoards}
 use Rattle.dg_rules.specs.Promises.{StopsAgree}
 use Rattle.dg_script.specs.Items.{Item, Applies, item_by, place_behind, items_behind, items_of}
-use Rattle.dg_replay.specs.Items.{Ground, UsesBoards, BringsNone, IsNoFrame, Beginning, beginning_of, no_beginning, next_items}
+use Rattle.dg_replay.specs.Items.{StartState, UsesBoards, BringsNone, IsNoFrame, Beginning, beginning_of, no_beginning, next_items}
 use Rattle.dg_completion.specs.Completion.{IsEnough}
 use Rattle.dg_completion.specs.Ends.{EndsInRest, PagesCome, KeepsNewest, EndsLaw, EndsPipelineLaw}
 use Rattle.dg_completion.proofs.GrowLemmas.{all_append, all_times}
@@ -234,7 +234,7 @@ golden_finds law b left played u old new g lacks =
     let some : FindsImage (Goes lacks.ends.deed) = subst FindsImage lacks.ends.goes finds in
     some lacks.ends.none
 
-line_finds : (G H : Saw) → ImageIsFound → (g : Ground) (done : List Line) (line : Line) (played : List Played) (last world : Option World) (begun left : List Item) (text : List ℕ) (old new : List Device) → (UsesBoards done → ⊥) → LinesFit first_place done → IsSpelled (place_behind first_place done) line → map item_played played ≡ items_of done
+line_finds : (G H : Saw) → ImageIsFound → (g : StartState) (done : List Line) (line : Line) (played : List Played) (last world : Option World) (begun left : List Item) (text : List ℕ) (old new : List Device) → (UsesBoards done → ⊥) → LinesFit first_place done → IsSpelled (place_behind first_place done) line → map item_played played ≡ items_of done
     → RunsTo (beginning_of g done).world played last → item_by (place_behind first_place done) line ≡ begun ++ left → RunsFrom last begun world (line_told text G H) → InSome world (λ u. LacksImage u left old new) → ⊥
 line_finds G H law ground done line played None world begun left text old new alone fit spelled items run parts runs lacks = subst (λ (o : Option World). InSome o (λ u. LacksImage u left old new)) runs.1 lacks
 line_finds G H law ground done line played (Some w) world begun left text old new alone fit spelled items run parts (u, is, now, shown) lacks =

@@ -17,7 +17,7 @@ use Rattle.dg_rules.specs.Runs.{Played, Plays}
 use Rattle.dg_rules.specs.Golden.{GoldenNetwork, PlaysGolden}
 use Rattle.dg_rules.specs.Begins.{AreShaped, PlaysBoards}
 use Rattle.dg_script.specs.Items.{Item, place_behind, items_behind, items_of}
-use Rattle.dg_replay.specs.Items.{Ground, UsesBoards, Beginning, begin_by, begin_behind, beginning_of, with_link, with_narrow, lacking, no_beginning, next_items}
+use Rattle.dg_replay.specs.Items.{StartState, UsesBoards, Beginning, begin_by, begin_behind, beginning_of, with_link, with_narrow, lacking, no_beginning, next_items}
 use Rattle.dg_completion.proofs.GrowLemmas.{all_append}
 use Rattle.dg_replay.specs.Replayed.{RunsTo, item_played}
 use Rattle.dg_replay.proofs.ItemLemmas.{some_is}
@@ -37,12 +37,12 @@ pub record ByGolden (motes : ℕ) (table : List Row) (stores : List Store) : Typ
   pub table_is : table ≡ golden_row golden.name golden.content ∷ []
   pub stores_are : stores ≡ replicate motes (fresh golden.name golden.content golden.used)
 
-pub record ByBoards (g : Ground) (lines : List Line) (table : List Row) (stores : List Store) : Type 0 where
+pub record ByBoards (g : StartState) (lines : List Line) (table : List Row) (stores : List Store) : Type 0 where
   pub uses : UsesBoards lines
   pub table_is : table ≡ g.table
   pub stores_are : stores ≡ g.stores
 
-abbrev OpensBy : Ground → List Line → ℕ → List Row → List Store → Type 0
+abbrev OpensBy : StartState → List Line → ℕ → List Row → List Store → Type 0
 OpensBy g lines motes table stores = ByGolden motes table stores ⊎ ByBoards g lines table stores
 
 pub record Carries (motes : ℕ) (table : List Row) (stores : List Store) (b : Beginning) : Type 0 where
@@ -53,7 +53,7 @@ pub record Carries (motes : ℕ) (table : List Row) (stores : List Store) (b : B
   pub count : b.motes ≡ motes
 
 -- behind `golden` or `boards` the lines add links and narrow motes alone
-module _ (motes : ℕ) (table : List Row) (stores : List Store) (g : Ground) where
+module _ (motes : ℕ) (table : List Row) (stores : List Store) (g : StartState) where
   carries : (b : Beginning) (place : Place) (lines : List Line) → IsBehind place → place.motes ≡ motes → LinesFit place lines → Carries motes table stores b → Carries motes table stores (begin_behind g b lines)
   unfolding LinesFit begin_behind
   carries b place [] behind count h k = k
@@ -102,7 +102,7 @@ lacking_none boards place (Sweeps n ∷ lines) behind h = lacking_none boards (p
 -- ---- where a run begins
 
 -- it begins with golden or on the boards as they are, all its items are in their ranges, and so is the place behind them
-pub record Begun (g : Ground) (lines : List Line) (b : Beginning) (w : World) (items : List Item) (place : Place) : Type 0 where
+pub record Begun (g : StartState) (lines : List Line) (b : Beginning) (w : World) (items : List Item) (place : Place) : Type 0 where
   pub table : List Row
   pub stores : List Store
   pub opens : OpensBy g lines b.motes table stores
@@ -115,7 +115,7 @@ pub record Begun (g : Ground) (lines : List Line) (b : Beginning) (w : World) (i
   pub kept : IsKept b.motes place
 
 -- the line that opens the boards was read
-opened : (g : Ground) (all : List Line) (b : Beginning) (place : Place) (line : Line) (lines : List Line) (w : World) (table : List Row) (stores : List Store) → (begin_by g b line).motes ≡ b.motes → (begin_by g b line).world ≡ Some (first_world table [] none_narrow stores)
+opened : (g : StartState) (all : List Line) (b : Beginning) (place : Place) (line : Line) (lines : List Line) (w : World) (table : List Row) (stores : List Store) → (begin_by g b line).motes ≡ b.motes → (begin_by g b line).world ≡ Some (first_world table [] none_narrow stores)
     → (place_after place line).motes ≡ place.motes → (place_after place line).ready ≡ true → (place_after place line).links ≡ place.links → (place_after place line).cut ≡ None → b.motes ≡ place.motes → b.motes ≤ most_motes → place.links ≡ [] → 0 < place.motes → OpensBy g all b.motes table stores
     → LinesFit (place_after place line) lines → (begin_behind g (begin_by g b line) lines).world ≡ Some w
     → Begun g all (begin_behind g (begin_by g b line) lines) w (items_behind (place_after place line) lines) (place_behind (place_after place line) lines)
@@ -140,7 +140,7 @@ opened g all b place line lines w table stores same begins_so many ready alike u
     }
 
 -- before that line, where no more than the number of motes is known
-begins : (g : Ground) (all : List Line) (b : Beginning) (place : Place) (lines : List Line) (w : World) → (UsesBoards lines → UsesBoards all) → b.motes ≡ place.motes → b.motes ≤ most_motes → b.world ≡ None → place.ready ≡ false → place.links ≡ [] → place.cut ≡ None → LinesFit place lines
+begins : (g : StartState) (all : List Line) (b : Beginning) (place : Place) (lines : List Line) (w : World) → (UsesBoards lines → UsesBoards all) → b.motes ≡ place.motes → b.motes ≤ most_motes → b.world ≡ None → place.ready ≡ false → place.links ≡ [] → place.cut ≡ None → LinesFit place lines
     → (begin_behind g b lines).world ≡ Some w → Begun g all (begin_behind g b lines) w (items_behind place lines) (place_behind place lines)
 unfolding LinesFit begin_behind items_behind place_behind
 begins g all b place [] w among count few none before alone uncut h is = absurd (let e : None ≡ Some w = sym none ∙ is in cc)
@@ -172,7 +172,7 @@ all_rest P [] ys h = h
 all_rest P (x ∷ xs) ys h = all_rest P xs ys h.1
 
 -- What was played of a script begins with chips that are formatted or as they are, and what is left of the line that was begun is in its ranges.
-pub record ScriptRun (g : Ground) (lines : List Line) (b : Beginning) (left : List Item) (played : List Played) (v : World) : Type 0 where
+pub record ScriptRun (g : StartState) (lines : List Line) (b : Beginning) (left : List Item) (played : List Played) (v : World) : Type 0 where
   pub table : List Row
   pub stores : List Store
   pub opens : OpensBy g lines b.motes table stores
@@ -200,7 +200,7 @@ abbrev pub ran_network : {b : Beginning} {left : List Item} {played : List Playe
 ran_network {b = b} g = record { name = g.name; bytes = g.bytes; used = g.used; motes = b.motes; links = g.links; narrow = g.narrow }
 
 -- and one over the boards as they are
-pub record BoardsRun (g : Ground) (b : Beginning) (left : List Item) (played : List Played) (v : World) : Type 0 where
+pub record BoardsRun (g : StartState) (b : Beginning) (left : List Item) (played : List Played) (v : World) : Type 0 where
   pub links : List (ℕ × ℕ)
   pub narrow : List Bool
   pub plays : PlaysBoards g.table g.stores links narrow played v
@@ -214,10 +214,10 @@ next_in_range : (motes : ℕ) (done rest : List Line) → IsKept motes (place_be
 next_in_range motes done [] k h = tt
 next_in_range motes done (line ∷ rest) k h = line_in_range motes (place_behind first_place done) line k (first_fits _ line rest h)
 
-abbrev BegunBehind : Ground → Beginning → World → List Line → Type 0
+abbrev BegunBehind : StartState → Beginning → World → List Line → Type 0
 BegunBehind g b w done = Begun g done b w (items_of done) (place_behind first_place done)
 
-run_by : (g : Ground) (b : Beginning) (o : Option World) (done rest : List Line) (begun left : List Item) (played : List Played) (v : World) → b.world ≡ o → ((w : World) → b.world ≡ Some w → BegunBehind g b w done) → LinesFit (place_behind first_place done) rest
+run_by : (g : StartState) (b : Beginning) (o : Option World) (done rest : List Line) (begun left : List Item) (played : List Played) (v : World) → b.world ≡ o → ((w : World) → b.world ≡ Some w → BegunBehind g b w done) → LinesFit (place_behind first_place done) rest
     → next_items done rest ≡ begun ++ left → map item_played played ≡ items_of done ++ begun → RunsTo o played (Some v) → ScriptRun g done b left played v
 run_by g b None done rest begun left played v is begins_so next parts items (none, last) = absurd (let e : Some v ≡ None = last in cc)
 run_by g b (Some w) done rest begun left played v is begins_so next parts items (u, last, plays) =
@@ -241,12 +241,12 @@ run_by g b (Some w) done rest begun left played v is begins_so next parts items 
     }
 
 -- These lines were done, and the first items of the next one were played.
-pub script_run : (g : Ground) (done rest : List Line) (begun left : List Item) (played : List Played) (v : World) → LinesFit first_place done → LinesFit (place_behind first_place done) rest → next_items done rest ≡ begun ++ left
+pub script_run : (g : StartState) (done rest : List Line) (begun left : List Item) (played : List Played) (v : World) → LinesFit first_place done → LinesFit (place_behind first_place done) rest → next_items done rest ≡ begun ++ left
     → map item_played played ≡ items_of done ++ begun → RunsTo (beginning_of g done).world played (Some v) → ScriptRun g done (beginning_of g done) left played v
 script_run g done rest begun left played v fit next parts items run =
     run_by g (beginning_of g done) (beginning_of g done).world done rest begun left played v refl (λ w is. begins g done no_beginning first_place done w (λ h. h) refl (omega arith) refl refl refl refl fit is) next parts items run
 
-pub golden_of : (g : Ground) (lines : List Line) (b : Beginning) (left : List Item) (played : List Played) (v : World) (r : ScriptRun g lines b left played v) → ByGolden b.motes r.table r.stores → GoldenRun b left played v
+pub golden_of : (g : StartState) (lines : List Line) (b : Beginning) (left : List Item) (played : List Played) (v : World) (r : ScriptRun g lines b left played v) → ByGolden b.motes r.table r.stores → GoldenRun b left played v
 golden_of g lines b left played v r by =
     let same : first_world r.table r.links r.narrow r.stores ≡ first_world (golden_row by.golden.name by.golden.content ∷ []) r.links r.narrow (replicate b.motes (fresh by.golden.name by.golden.content by.golden.used)) =
     ap (λ (t : List Row). first_world t r.links r.narrow r.stores) by.table_is ∙ ap (first_world (golden_row by.golden.name by.golden.content ∷ []) r.links r.narrow) by.stores_are in
@@ -267,7 +267,7 @@ golden_of g lines b left played v r by =
       left_fits = r.left_fits;
     }
 
-pub boards_of : (g : Ground) (lines : List Line) (b : Beginning) (left : List Item) (played : List Played) (v : World) (r : ScriptRun g lines b left played v) → ByBoards g lines r.table r.stores → length g.stores ≡ b.motes → AreShaped g.stores → BoardsRun g b left played v
+pub boards_of : (g : StartState) (lines : List Line) (b : Beginning) (left : List Item) (played : List Played) (v : World) (r : ScriptRun g lines b left played v) → ByBoards g lines r.table r.stores → length g.stores ≡ b.motes → AreShaped g.stores → BoardsRun g b left played v
 boards_of g lines b left played v r by count shaped =
     let same : first_world r.table r.links r.narrow r.stores ≡ first_world g.table r.links r.narrow g.stores = ap (λ (t : List Row). first_world t r.links r.narrow r.stores) by.table_is ∙ ap (first_world g.table r.links r.narrow) by.stores_are in
     record {
@@ -284,7 +284,7 @@ boards_of g lines b left played v r by count shaped =
     }
 
 -- without a `boards` line it plays golden
-pub golden_run : (g : Ground) (done rest : List Line) (begun left : List Item) (played : List Played) (v : World) → (UsesBoards done → ⊥) → LinesFit first_place done → LinesFit (place_behind first_place done) rest → next_items done rest ≡ begun ++ left
+pub golden_run : (g : StartState) (done rest : List Line) (begun left : List Item) (played : List Played) (v : World) → (UsesBoards done → ⊥) → LinesFit first_place done → LinesFit (place_behind first_place done) rest → next_items done rest ≡ begun ++ left
     → map item_played played ≡ items_of done ++ begun → RunsTo (beginning_of g done).world played (Some v) → GoldenRun (beginning_of g done) left played v
 golden_run g done rest begun left played v alone fit next parts items run =
     let r = script_run g done rest begun left played v fit next parts items run in

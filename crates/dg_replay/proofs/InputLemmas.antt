@@ -13,7 +13,7 @@ use Rattle.dg_script.specs.declared.line.Line.{Line}
 use Rattle.dg_replay.specs.Boards.{BoardsStand}
 use Rattle.dg_replay.specs.Items.{lacking}
 use Rattle.dg_replay.specs.Ending.{script_of, has_unused_bytes, used, ending_of}
-use Rattle.dg_replay.specs.Fronts.{IsFront}
+use Rattle.dg_replay.specs.Prefixes.{IsWholeLines}
 use Rattle.dg_replay.specs.Following.{LineTaken, AllAsBefore, NextPlayed}
 use Rattle.dg_replay.specs.Near.{behind_lines}
 use Rattle.dg_replay.specs.Replayed.{Progress, IsSettled, AllRead, AllWhole, AreWhole}
@@ -32,7 +32,7 @@ use Rattle.dg_replay.proofs.FrontLemmas.{used_begins, script_begins, front_begin
 use Rattle.dg_replay.proofs.GoldenLemmas.{ImageIsFound}
 use Rattle.dg_replay.proofs.BytesLemmas.{untouched_done}
 use Rattle.dg_replay.proofs.LiftLemmas.{lifted, untouched_lifted, progress_whole, stops_here}
-use Rattle.dg_replay.proofs.LineByLine.{FrontPlayed, front_more, front_stopped, text_stopped, behind_more}
+use Rattle.dg_replay.proofs.LineByLine.{PrefixPlayed, front_more, front_stopped, text_stopped, behind_more}
 use Rattle.dg_replay.proofs.ReplayLemmas.{ready_of}
 use Rattle.dg_replay.proofs.NextLineLemmas.{at_line}
 use Rattle.dg_replay.proofs.SeenLemmas.{reached_seen}
@@ -72,15 +72,15 @@ lines_end {S = S} {G = G} a b c reads writes old new more number p q initial was
 -- ---- reads that stop
 
 -- the script of the lines that were read so far
-front_reached : {table : List Row} {S H : Saw} (front : List ℕ) (given : ℕ) (p : Player) (initial now : List Device) (before after : Option (List ℕ)) → FrontPlayed front given p initial now before after S H
+front_reached : {table : List Row} {S H : Saw} (front : List ℕ) (given : ℕ) (p : Player) (initial now : List Device) (before after : Option (List ℕ)) → PrefixPlayed front given p initial now before after S H
     → Reached table false (script_from false first_place 1 (lines front)) [] (given + 1) p (span initial now before after S H)
 front_reached {table} {S = S} {H = H} front given p initial now before after f =
     subst (λ (ls : List (List ℕ)). Reached table false (script_from false first_place 1 ls) [] (given + 1) p (span initial now before after S H)) (append-nil (lines front)) (f.reached table false [])
 
-whole_read : (front bytes : List ℕ) (done : List Line) → IsFront front → HasNoEnd bytes → AllRead (lines front) done → AllWhole (front ++ bytes) done
+whole_read : (front bytes : List ℕ) (done : List Line) → IsWholeLines front → HasNoEnd bytes → AllRead (lines front) done → AllWhole (front ++ bytes) done
 whole_read front bytes done is none all = subst (λ (xs : List ℕ). AllRead (lines xs) done) (sym (whole_of_taken front bytes is none)) all
 
-read_stopped : {table : List Row} {S H : Saw} (front bytes : List ℕ) (given : ℕ) (p : Player) (initial now : List Device) (before after : Option (List ℕ)) → IsFront front → length front ≤ most_used_bytes → HasNoEnd bytes
+read_stopped : {table : List Row} {S H : Saw} (front bytes : List ℕ) (given : ℕ) (p : Player) (initial now : List Device) (before after : Option (List ℕ)) → IsWholeLines front → length front ≤ most_used_bytes → HasNoEnd bytes
     → Reached table false (script_from false first_place 1 (lines front)) [] (given + 1) p (span initial now before after S H)
     → PlayedUpTo table (script_of (front ++ bytes)) initial before after (λ c. (c.begun ≡ []) × BoardsStand c.last initial now × AreWhole (front ++ bytes) c.done × AllWhole (front ++ bytes) c.done × IsLeft (span initial now before after S H) c)
 read_stopped front bytes given p initial now before after is few none r =
@@ -197,7 +197,7 @@ settled_by NoImage input at_end n same = tt
 settled_by NotAVolume input at_end n same = tt
 
 -- whatever follows whole lines
-module _ (table : List Row) (stop : Stop) (front rest : List ℕ) (is : IsFront front) (few : length front ≤ most_used_bytes) (number : ℕ) (initial now : List Device) (before after : Option (List ℕ)) (failed : Type 0) (S H : Saw)
+module _ (table : List Row) (stop : Stop) (front rest : List ℕ) (is : IsWholeLines front) (few : length front ≤ most_used_bytes) (number : ℕ) (initial now : List Device) (before after : Option (List ℕ)) (failed : Type 0) (S H : Saw)
     (all : (ends : Bool) (more : List (List ℕ)) → StopsThere table stop (script_from ends first_place 1 (lines front ++ more)) number (span initial now before after S H) failed) where
   in_more : (more : List ℕ) → StopsThere table stop (script_of (front ++ more)) number (span initial now before after S H) failed
   in_more more =
@@ -218,7 +218,7 @@ module _ (table : List Row) (stop : Stop) (front rest : List ℕ) (is : IsFront 
 
 -- it stops at a line that ends in LF
 stopped_whole : {S G : Saw} (law : ImageIsFound) (stop : Stop) (a c : Option (List ℕ)) (reads at_end : Type 0) (front line text rest : List ℕ) (given : ℕ) (p q : Player) (initial was now : List Device) (before mid after : Option (List ℕ)) (failed worse : Type 0) (H : Saw) → (failed → worse)
-    → FrontPlayed front given p initial was before mid S G → Takes a c ((front ++ line) ++ rest) → length ((front ++ line) ++ rest) ≤ most_used_bytes → length rest ≤ most_kept
+    → PrefixPlayed front given p initial was before mid S G → Takes a c ((front ++ line) ++ rest) → length ((front ++ line) ++ rest) ≤ most_used_bytes → length rest ≤ most_kept
     → IsLine text line → PlaysText (Err stop) text (given + 1) initial (replay_state p was mid G) (replay_state q now after H) failed → Comes a c (Err (Stopped stop)) at_end reads (span initial now before after S H) worse
 stopped_whole {S = S} law stop a c reads at_end front line text rest given p q initial was now before mid after failed worse H spread f taken fits near l answer =
     let whole : List ℕ = front ++ line in
@@ -237,7 +237,7 @@ stopped_whole {S = S} law stop a c reads at_end front line text rest given p q i
 
 -- it stops at the last line of an input that does not end in LF
 stopped_part : {S G : Saw} (law : ImageIsFound) (stop : Stop) (a c : Option (List ℕ)) (reads at_end : Type 0) (front line text : List ℕ) (given : ℕ) (p q : Player) (initial was now : List Device) (before mid after : Option (List ℕ)) (failed worse : Type 0) (H : Saw) → (failed → worse)
-    → FrontPlayed front given p initial was before mid S G → Takes a c (front ++ line) → length (front ++ line) ≤ most_used_bytes → at_end
+    → PrefixPlayed front given p initial was before mid S G → Takes a c (front ++ line) → length (front ++ line) ≤ most_used_bytes → at_end
     → IsLastLine text line → PlaysText (Err stop) text (given + 1) initial (replay_state p was mid G) (replay_state q now after H) failed → Comes a c (Err (Stopped stop)) at_end reads (span initial now before after S H) worse
 stopped_part {S = S} law stop a c reads at_end front line text given p q initial was now before mid after failed worse H spread f taken fits ended l answer =
     let input : List ℕ = front ++ line in

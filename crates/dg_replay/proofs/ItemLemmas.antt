@@ -23,7 +23,7 @@ use Rattle.dg_rules.specs.Steps.{WorldStep, DeclareStep, StepDoes, Ended, declar
 use Rattle.dg_rules.specs.Runs.{Played, Plays, ItemStep}
 use Rattle.dg_rules.proofs.SiteLemmas.{site_count}
 use Rattle.dg_script.specs.Items.{Item, Declares, Applies, place_behind, item_by, items_behind, items_of}
-use Rattle.dg_replay.specs.Items.{Ground, Beginning, begin_by, begin_behind, beginning_of, no_beginning, with_link, with_narrow, is_event, events_among}
+use Rattle.dg_replay.specs.Items.{StartState, Beginning, begin_by, begin_behind, beginning_of, no_beginning, with_link, with_narrow, is_event, events_among}
 use Rattle.dg_replay.specs.Replayed.{RunsTo, item_played, played_text}
 use Rattle.dg_replay.specs.Playing.{ItemsRun}
 
@@ -57,13 +57,13 @@ unfolding place_behind
 place_next place [] line = refl
 place_next place (l ∷ done) line = place_next (place_after place l) done line
 
-pub begin_next : (g : Ground) (b : Beginning) (done : List Line) (line : Line) → begin_behind g b (done ++ line ∷ []) ≡ begin_by g (begin_behind g b done) line
+pub begin_next : (g : StartState) (b : Beginning) (done : List Line) (line : Line) → begin_behind g b (done ++ line ∷ []) ≡ begin_by g (begin_behind g b done) line
 unfolding begin_behind
 begin_next g b [] line = refl
 begin_next g b (l ∷ done) line = begin_next g (begin_by g b l) done line
 
 -- how many motes there are does not depend on the boards
-pub motes_same : (g h : Ground) (b c : Beginning) (lines : List Line) → b.motes ≡ c.motes → (begin_behind g b lines).motes ≡ (begin_behind h c lines).motes
+pub motes_same : (g h : StartState) (b c : Beginning) (lines : List Line) → b.motes ≡ c.motes → (begin_behind g b lines).motes ≡ (begin_behind h c lines).motes
 unfolding begin_behind
 motes_same g h b c [] e = e
 motes_same g h b c (Nothing ∷ lines) e = motes_same g h b c lines e
@@ -174,7 +174,7 @@ unfolding NoEvents
 no_events_set f same None h = λ w is. absurd (let e : None ≡ Some w = is in cc)
 no_events_set f same (Some u) h = λ w is. ap (λ (z : World). z.events) (sym (some_is (f u) w is)) ∙ same u ∙ h u refl
 
-no_events_by : (g : Ground) (b : Beginning) (line : Line) → NoEvents b.world → NoEvents (begin_by g b line).world
+no_events_by : (g : StartState) (b : Beginning) (line : Line) → NoEvents b.world → NoEvents (begin_by g b line).world
 unfolding NoEvents
 no_events_by g b Nothing h = h
 no_events_by g b (Motes n) h = h
@@ -188,18 +188,18 @@ no_events_by g b (EventLine event) h = h
 no_events_by g b (Round x y) h = h
 no_events_by g b (Sweeps n) h = h
 
-no_events_behind : (g : Ground) (b : Beginning) (lines : List Line) → NoEvents b.world → NoEvents (begin_behind g b lines).world
+no_events_behind : (g : StartState) (b : Beginning) (lines : List Line) → NoEvents b.world → NoEvents (begin_behind g b lines).world
 unfolding begin_behind
 no_events_behind g b [] h = h
 no_events_behind g b (line ∷ lines) h = no_events_behind g (begin_by g b line) lines (no_events_by g b line h)
 
 -- no event was applied in it
-begins_with_none : (g : Ground) (lines : List Line) (w : World) → (beginning_of g lines).world ≡ Some w → w.events ≡ 0
+begins_with_none : (g : StartState) (lines : List Line) (w : World) → (beginning_of g lines).world ≡ Some w → w.events ≡ 0
 unfolding NoEvents
 begins_with_none g lines = no_events_behind g no_beginning lines (λ w is. absurd (let e : None ≡ Some w = is in cc))
 
 -- the events of a world to which a run leads from there are those that were played
-pub run_counts : (g : Ground) (lines : List Line) (played : List Played) (v : World) → RunsTo (beginning_of g lines).world played (Some v) → v.events ≡ events_among (map item_played played)
+pub run_counts : (g : StartState) (lines : List Line) (played : List Played) (v : World) → RunsTo (beginning_of g lines).world played (Some v) → v.events ≡ events_among (map item_played played)
 run_counts g lines played v run = by_beginning (beginning_of g lines).world (begins_with_none g lines) run
   where
     by_beginning : (o : Option World) → ((w : World) → o ≡ Some w → w.events ≡ 0) → RunsTo o played (Some v) → v.events ≡ events_among (map item_played played)

@@ -18,7 +18,7 @@ use Rattle.dg_script.specs.declared.line.Line.TheVariants.{Boards}
 use Rattle.dg_replay.specs.Boards.{EventNext, InSome, LacksImage, BoardsStand, StoppedIn}
 use Rattle.dg_replay.specs.Items.{motes_in, lacking, next_items}
 use Rattle.dg_replay.specs.Ending.{script_of}
-use Rattle.dg_replay.specs.Fronts.{IsFront, BeginsAs}
+use Rattle.dg_replay.specs.Prefixes.{IsWholeLines, BeginsAs}
 use Rattle.dg_replay.specs.Replayed.{Progress, Untouched, item_played, played_text, AtTooMany, BoardsLeft, AreWhole, NextIsWhole, DoneIsWhole}
 use Rattle.dg_replay.specs.Untouched.{IsElsewhere, FormatsNone}
 use Rattle.dg_replay.specs.Replaying.{PlayedUpTo, HasFew, ReportedBefore, IsLeft, StopsThere, StopsInTaken}
@@ -117,7 +117,7 @@ untouched_lifted {first = first} b c initial now kept = λ none m away.
 
 -- ---- its lines are whole
 
-module _ (front ahead : List ℕ) (is : IsFront front) (few : length front ≤ most_used_bytes) where
+module _ (front ahead : List ℕ) (is : IsWholeLines front) (few : length front ≤ most_used_bytes) where
   pub begins : (more : List ℕ) → BeginsAs (script_from false first_place 1 (lines front)) (script_of ((front ++ ahead) ++ more))
   begins more = subst (λ (xs : List ℕ). BeginsAs (script_from false first_place 1 (lines front)) (script_of xs)) (sym (append_assoc front ahead more)) (front_begins front (ahead ++ more) is few)
 

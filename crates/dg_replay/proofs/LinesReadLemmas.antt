@@ -15,7 +15,7 @@ use Rattle.dg_script.specs.Script.{Script, script_from}
 use Rattle.dg_script.specs.Sizes.{most_used_bytes}
 use Rattle.dg_script.specs.declared.line.Line.{Line}
 use Rattle.dg_replay.specs.Ending.{script_of}
-use Rattle.dg_replay.specs.Fronts.{IsFront}
+use Rattle.dg_replay.specs.Prefixes.{IsWholeLines}
 use Rattle.dg_replay.specs.Near.{behind_line, behind_lines}
 use Rattle.dg_replay.specs.Playing.{Stood}
 use Rattle.dg_replay.specs.Replaying.{TextAnswer, Reached, InputAnswer}
@@ -27,7 +27,7 @@ use Rattle.dg_replay.specs.declared.stop.Stop.{Stop}
 use Rattle.dg_replay.specs.Untouched.{TextKeepsBytes}
 use Rattle.dg_replay.proofs.EndLemmas.{script_all}
 use Rattle.dg_replay.proofs.FrontLemmas.{lines_front}
-use Rattle.dg_replay.proofs.LineByLine.{FrontPlayed, front_first, front_next}
+use Rattle.dg_replay.proofs.LineByLine.{PrefixPlayed, front_first, front_next}
 use Rattle.dg_replay.proofs.NearLemmas.{behind_next, none_behind, behind_endless}
 use Rattle.dg_replay.proofs.NextLineLemmas.{reached_next}
 
@@ -41,7 +41,7 @@ pub record LinesRead (left_old left_now : Option (List ℕ)) (reader : Reading) 
   pub numbered : number ≡ given + 1
   pub counted : reader.number ≡ given
   pub few : given ≤ reader.passed
-  pub played : FrontPlayed front given p initial now before after first saw
+  pub played : PrefixPlayed front given p initial now before after first saw
 
 -- nothing was read
 pub lines_first : {S : Saw} (left : Option (List ℕ)) (reader : Reading) (p : Player) (initial : List Device) (before : Option (List ℕ)) → reader.ahead ≡ [] → reader.passed ≡ 0 → reader.number ≡ 0 → p.place ≡ first_place
@@ -119,7 +119,7 @@ passes bytes old new at_end g =
 not_feed : (bytes : List ℕ) → HasNoEnd bytes → All (λ b. (b == 10) ≡ false) bytes
 not_feed bytes h k d within = ne_eqb (get_or bytes k d) 10 (h k d within)
 
-pub last_text : (front text line : List ℕ) → IsFront front → IsLastLine text line → lines (front ++ line) ≡ lines front ++ text ∷ []
+pub last_text : (front text line : List ℕ) → IsWholeLines front → IsLastLine text line → lines (front ++ line) ≡ lines front ++ text ∷ []
 last_text front text line is l =
     lines_front front line is
     ∙ ap (λ (ls : List (List ℕ)). lines front ++ ls) (lines-last line (not_feed line l.whole) (some_of line l.some) ∙ ap (λ (t : List ℕ). t ∷ []) (sym l.told))
@@ -143,7 +143,7 @@ at_number {table} {S = S} {H = H} script n m q initial now before after e r = su
 
 -- the last line was read and played
 last_whole : {S G H : Saw} (a c : Option (List ℕ)) (reads writes at_end : Type 0) (front line text : List ℕ) (given number : ℕ) (p q : Player) (initial was now : List Device) (before mid after : Option (List ℕ)) (failed : Type 0)
-    → FrontPlayed front given p initial was before mid S G → number ≡ given + 1 → Takes a c (front ++ line) → length (front ++ line) ≤ most_used_bytes → at_end
+    → PrefixPlayed front given p initial was before mid S G → number ≡ given + 1 → Takes a c (front ++ line) → length (front ++ line) ≤ most_used_bytes → at_end
     → IsLine text line → PlaysText (Ok tt) text (given + 1) initial (replay_state p was mid G) (replay_state q now after H) failed → Comes a c (Ok (q, number + 1)) at_end reads (span initial now before after S H) writes
 last_whole {S = S} {H = H} a c reads writes at_end front line text given number p q initial was now before mid after failed f numbered taken few ended l told =
     let input : List ℕ = front ++ line in
@@ -162,7 +162,7 @@ last_whole {S = S} {H = H} a c reads writes at_end front line text given number 
     )
 
 last_part : {S G H : Saw} (a c : Option (List ℕ)) (reads writes at_end : Type 0) (front line text : List ℕ) (given number : ℕ) (p q : Player) (initial was now : List Device) (before mid after : Option (List ℕ)) (failed : Type 0)
-    → FrontPlayed front given p initial was before mid S G → number ≡ given + 1 → Takes a c (front ++ line) → length (front ++ line) ≤ most_used_bytes → at_end
+    → PrefixPlayed front given p initial was before mid S G → number ≡ given + 1 → Takes a c (front ++ line) → length (front ++ line) ≤ most_used_bytes → at_end
     → IsLastLine text line → PlaysText (Ok tt) text (given + 1) initial (replay_state p was mid G) (replay_state q now after H) failed → Comes a c (Ok (q, number + 1)) at_end reads (span initial now before after S H) writes
 last_part {S = S} {H = H} a c reads writes at_end front line text given number p q initial was now before mid after failed f numbered taken few ended l told =
     let input : List ℕ = front ++ line in

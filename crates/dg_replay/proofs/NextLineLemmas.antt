@@ -2,8 +2,8 @@
 use Rattle.std.proofs.Common.{◌≡◌, ◌≢◌, ◌⊎◌, inl, inr, ℕ, ◌+◌, ◌≤◌, Bool, true, false, List, [], ◌∷◌, ◌++◌, length, map, take, drop, length-append, refl, append-nil, append_assoc, ap, sym, ◌∙◌, subst, arith}
 use Rattle.std.specs.Prelude.{Option, Some, None, Result, Ok, Err, IfSome, nat_lt, if◌then◌else◌}
 use Rattle.std.proofs.lemmas.List.{take-append-drop, take_at, take_all, length-map, map-append}
-use Rattle.dg_base.proofs.OutsideLemmas.{Puts-join, PutsFront-nil}
-use Rattle.dg_base.specs.Outside.{Puts, PutsFront}
+use Rattle.dg_base.proofs.OutsideLemmas.{Puts-join, PutsPrefix-nil}
+use Rattle.dg_base.specs.Outside.{Puts, PutsPrefix}
 use Rattle.dg_nor.specs.Device.{Device}
 use Rattle.dg_object.specs.Object.{Row}
 use Rattle.dg_script.specs.Lines.{line_of}
@@ -17,12 +17,12 @@ use Rattle.dg_rules.specs.Sizes.{most_events}
 use Rattle.dg_rules.specs.World.{World}
 use Rattle.dg_rules.specs.Runs.{Played, Plays}
 use Rattle.dg_script.specs.Items.{Item, item_by, place_behind, items_of}
-use Rattle.dg_replay.specs.Items.{Ground, no_ground, UsesBoards, is_boards, Beginning, begin_by, beginning_of, motes_in, lacking, lacking_by, next_items, events_among}
+use Rattle.dg_replay.specs.Items.{StartState, no_start_state, UsesBoards, is_boards, Beginning, begin_by, beginning_of, motes_in, lacking, lacking_by, next_items, events_among}
 use Rattle.dg_replay.specs.Boards.{EventNext, InSome, LacksImage}
 use Rattle.dg_replay.specs.Ending.{events_in, InBounds}
 use Rattle.dg_replay.specs.Replayed.{Progress, AtTooMany, RunsTo, item_played, played_text}
 use Rattle.dg_replay.specs.Playing.{InWorld, RunsOn, RunsFrom, LineBegun, IsOneTooMany}
-use Rattle.dg_replay.specs.Replaying.{TextPlayed, TextReported, Reached, PlayedFront}
+use Rattle.dg_replay.specs.Replaying.{TextPlayed, TextReported, Reached, PlayedPrefix}
 use Rattle.dg_replay.specs.Shown.{Saw, GoesOnSeen, stores_in, events_played}
 use Rattle.dg_replay.specs.Stages.{based_on, done_so_far, line_told, replay_state, span}
 use Rattle.dg_replay.specs.declared.player.Player.{Player}
@@ -86,12 +86,12 @@ lacking_next boards done line none one = lacking_append boards done (line ∷ []
 -- ---- events are counted
 
 -- a run to a world that has no more than a million has no more
-few_played : (ground : Ground) (done : List Line) (v : Option World) (ps : List Played) → RunsTo (beginning_of ground done).world ps v → IfSome v (λ u. u.events ≤ most_events) → events_among (map item_played ps) ≤ most_events
+few_played : (ground : StartState) (done : List Line) (v : Option World) (ps : List Played) → RunsTo (beginning_of ground done).world ps v → IfSome v (λ u. u.events ≤ most_events) → events_among (map item_played ps) ≤ most_events
 few_played ground done None ps run few = subst (λ (xs : List Played). events_among (map item_played xs) ≤ most_events) (sym (runs_from_none (beginning_of ground done).world ps run).1) (omega arith)
 few_played ground done (Some v) ps run few = subst (λ (k : ℕ). k ≤ most_events) (run_counts ground done ps v run) few
 
 -- a million were played, and the next item is an event
-pub too_many_played : (ground : Ground) (done : List Line) (v : Option World) (ps : List Played) (left : List Item) → RunsTo (beginning_of ground done).world ps v → InSome v (λ u. IsOneTooMany u left) → AtTooMany left ps
+pub too_many_played : (ground : StartState) (done : List Line) (v : Option World) (ps : List Played) (left : List Item) → RunsTo (beginning_of ground done).world ps v → InSome v (λ u. IsOneTooMany u left) → AtTooMany left ps
 too_many_played ground done None ps left run full = absurd full
 too_many_played ground done (Some v) ps left run full = record { events = sym (run_counts ground done ps v run) ∙ full.full; next = full.next }
 
@@ -152,7 +152,7 @@ lines_behind ends script texts text n p q done line spelled behind lines =
     ∙ ap (λ (x : Place). done ++ line ∷ (script_from ends x (n + 1) texts).lines) behind
     ∙ next_lines ends script texts text n p.place done line spelled lines
 
-pub few_next : (ground : Ground) (done : List Line) (v : Option World) (ps : List Played) (q : Player) (now : List Device) → RunsTo (beginning_of ground done).world ps v → InWorld q v now → events_among (map item_played ps) ≤ most_events
+pub few_next : (ground : StartState) (done : List Line) (v : Option World) (ps : List Played) (q : Player) (now : List Device) → RunsTo (beginning_of ground done).world ps v → InWorld q v now → events_among (map item_played ps) ≤ most_events
 few_next ground done v ps q now run kept = few_played ground done v ps run (few_in v q now kept)
 
 few_lines : (done : List Line) (ps : List Played) → map item_played ps ≡ items_of done → events_among (map item_played ps) ≤ most_events → events_in done ≤ most_events
@@ -192,7 +192,7 @@ reached_next ends script texts text n p q initial old now before mid after r kep
 
 -- more was told, and a front of it was written
 pub front_put : {table : List Row} (script : Script) {P : Progress table script → List ℕ → Type 0} (initial : List Device) (before mid after : Option (List ℕ)) (ps : List Played) (t : List ℕ) (came : Progress table script) → Puts before mid (played_text ps) → played_text came.played ≡ played_text ps ++ t
-    → PutsFront mid after t → InBounds (length initial) came.done (map item_played came.played) → (UsesBoards came.done → StandFor (motes_in came.done) came.ground.stores initial) → ((k : ℕ) → P came (played_text ps ++ take k t)) → PlayedFront table script initial before after P
+    → PutsPrefix mid after t → InBounds (length initial) came.done (map item_played came.played) → (UsesBoards came.done → StandFor (motes_in came.done) came.ground.stores initial) → ((k : ℕ) → P came (played_text ps ++ take k t)) → PlayedPrefix table script initial before after P
 front_put script initial before mid after ps t came told tells put limits stood there =
     let k = put.0 in
     record {
@@ -218,8 +218,8 @@ told_all done ps items =
     ap (λ (ls : List Line). played_text (take (length (items_of ls)) ps)) (take_all (length done) done (omega arith)) ∙ ap played_text (take_all (length (items_of done)) ps (omega (arith, count)))
 
 -- nothing more was written
-pub front_kept : (before after : Option (List ℕ)) (t : List ℕ) → after ≡ before → PutsFront before after t
-front_kept before after t none = subst (λ (o : Option (List ℕ)). PutsFront before o t) (sym none) (PutsFront-nil before t)
+pub front_kept : (before after : Option (List ℕ)) (t : List ℕ) → after ≡ before → PutsPrefix before after t
+front_kept before after t none = subst (λ (o : Option (List ℕ)). PutsPrefix before o t) (sym none) (PutsPrefix-nil before t)
 
 -- all of it was written
 pub all_put : (before mid after : Option (List ℕ)) (ps qs : List Played) (t : List ℕ) → Puts before mid (played_text ps) → played_text qs ≡ played_text ps ++ t → Puts mid after t → Puts before after (played_text qs)
@@ -296,7 +296,7 @@ run_of ends script texts text n p initial old before mid line r b = over (beginn
 pub over_tells : {G H : Saw} (o v : Option World) (ps : List Played) (items : List Item) (t : List ℕ) → (x : Over o ps items v t G H) → played_text (ps ++ x.now) ≡ played_text ps ++ t
 over_tells o v ps items t x = played_more ps x.now ∙ ap (λ (xs : List ℕ). played_text ps ++ xs) (sym x.reported)
 
-pub over_bounds : {G H : Saw} (boards : ℕ) (ground : Ground) (done : List Line) (v : Option World) (ps : List Played) (items : List Item) (t : List ℕ) → lacking boards done ≡ None → (x : Over (beginning_of ground done).world ps items v t G H) → InBounds boards done (map item_played (ps ++ x.now))
+pub over_bounds : {G H : Saw} (boards : ℕ) (ground : StartState) (done : List Line) (v : Option World) (ps : List Played) (items : List Item) (t : List ℕ) → lacking boards done ≡ None → (x : Over (beginning_of ground done).world ps items v t G H) → InBounds boards done (map item_played (ps ++ x.now))
 over_bounds boards ground done v ps items t none x =
     record { boards_enough = none; few_events = few_played ground done v (ps ++ x.now) x.run x.few }
 
@@ -312,9 +312,9 @@ choose (x ∷ xs) (y ∷ ys) = inl (λ e. cc)
 
 -- a line that has items changes nothing of where the run begins, and needs no boards
 pub record IsBusy (line : Line) : Type 0 where
-  pub begins : (g : Ground) (b : Beginning) → (begin_by g b line).world ≡ b.world
+  pub begins : (g : StartState) (b : Beginning) → (begin_by g b line).world ≡ b.world
   pub plain : is_boards line ≡ false
-  pub counts : (b : Beginning) → (begin_by no_ground b line).motes ≡ b.motes
+  pub counts : (b : Beginning) → (begin_by no_start_state b line).motes ≡ b.motes
   pub enough : (boards : ℕ) → lacking_by boards line None ≡ None
 
 no_items : {A : Type 0} (item : Item) (items : List Item) → [] ≡ item ∷ items → A
@@ -337,11 +337,11 @@ busy place (Sweeps n) item items e = record { begins = λ g b. refl; plain = ref
 pub items_with : (done : List Line) (line : Line) (begun : List Item) → item_by (place_behind first_place done) line ≡ begun → items_of (done ++ line ∷ []) ≡ items_of done ++ begun
 items_with done line begun parts = items_next done line ∙ ap (λ (xs : List Item). items_of done ++ xs) parts
 
-pub run_with : (ground : Ground) (done : List Line) (line : Line) (ps : List Played) (v : Option World) → IsBusy line → RunsTo (beginning_of ground done).world ps v → RunsTo (beginning_of ground (done ++ line ∷ [])).world ps v
+pub run_with : (ground : StartState) (done : List Line) (line : Line) (ps : List Played) (v : Option World) → IsBusy line → RunsTo (beginning_of ground done).world ps v → RunsTo (beginning_of ground (done ++ line ∷ [])).world ps v
 run_with ground done line ps v busy run =
     subst (λ (o : Option World). RunsTo o ps v) (sym (ap (λ (b : Beginning). b.world) (begin_next ground _ done line) ∙ busy.begins ground (beginning_of ground done))) run
 
-pub busy_seen : (H : Saw) (ground : Ground) (done : List Line) (line : Line) (ps : List Played) → IsBusy line → H (stores_in (beginning_of ground done).world) (events_played ps) → H (stores_in (beginning_of ground (done ++ line ∷ [])).world) (events_played ps)
+pub busy_seen : (H : Saw) (ground : StartState) (done : List Line) (line : Line) (ps : List Played) → IsBusy line → H (stores_in (beginning_of ground done).world) (events_played ps) → H (stores_in (beginning_of ground (done ++ line ∷ [])).world) (events_played ps)
 busy_seen H ground done line ps busy seen =
     subst (λ (o : Option World). H (stores_in o) (events_played ps)) (sym (ap (λ (b : Beginning). b.world) (begin_next ground _ done line) ∙ busy.begins ground (beginning_of ground done))) seen
 

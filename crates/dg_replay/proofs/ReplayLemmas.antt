@@ -23,7 +23,7 @@ use Rattle.dg_replay.specs.Ending.{events_in}
 use Rattle.dg_base.specs.declared.answers.Status.TheVariants as status
 use Rattle.dg_replay.specs.Replayed.{Progress, AtTooMany, NoImageThere, BoardStoppedThere, BoardsLeft, item_played, played_text}
 use Rattle.dg_replay.specs.Playing.{InWorld, Stood, Ready, Joined, RunsOn, RunsFrom, LineBegun, IsOneTooMany}
-use Rattle.dg_replay.specs.Replaying.{TextPlayed, TextCut, TextRead, NothingDone, TextAnswer, CutAtStop, CutAtTooMany, CutAtImage, Reached, PlayedFront, PlayedUpTo, HasFew, ReportedBefore, IsLeft, StopsThere}
+use Rattle.dg_replay.specs.Replaying.{TextPlayed, TextCut, TextRead, NothingDone, TextAnswer, CutAtStop, CutAtTooMany, CutAtImage, Reached, PlayedPrefix, PlayedUpTo, HasFew, ReportedBefore, IsLeft, StopsThere}
 use Rattle.dg_replay.specs.declared.player.Player.{Player}
 use Rattle.dg_replay.specs.declared.stop.Stop.{Stop}
 use Rattle.dg_replay.specs.Untouched.{TextKeepsBytes}
@@ -68,7 +68,7 @@ stopped_more motes line more left w initial now s = record { stopped = s.stopped
 
 -- memory ran out in a line
 memory_begun : {table : List Row} {S G H : Saw} (ends : Bool) (script : Script) (texts : List (List ℕ)) (text : List ℕ) (n : ℕ) (p : Player) (initial old now : List Device) (before mid after : Option (List ℕ)) (line : Line) (r : Reached table ends script (text ∷ texts) n p (span initial old before mid S G))
-    → TextKeepsBytes p.place text old now → line_of p.place text ≡ Ok line → (b : LineBegun r.done line r.last G H (λ v left t. BoardsStand v initial now)) → Choice b.begun b.left → after ≡ mid → PlayedFront table script initial before after (λ c text. BoardsStand c.last initial now × IsLeft (span initial now before after S H) c)
+    → TextKeepsBytes p.place text old now → line_of p.place text ≡ Ok line → (b : LineBegun r.done line r.last G H (λ v left t. BoardsStand v initial now)) → Choice b.begun b.left → after ≡ mid → PlayedPrefix table script initial before after (λ c text. BoardsStand c.last initial now × IsLeft (span initial now before after S H) c)
 memory_begun ends script texts text n p initial old now before mid after line r kept spelled b (inl within) none =
     let o = run_of ends script texts text n p initial old before mid line r b in
     front_put script initial before mid after r.played b.text (in_line ends script texts text n p initial old before mid line r spelled b o within) r.reported
@@ -120,7 +120,7 @@ told_line ends script texts text n p q initial old now before mid after r t on t
 
 -- a line was played, and what is reported of it was not all written
 cut_told : {table : List Row} {S G H : Saw} (ends : Bool) (script : Script) (texts : List (List ℕ)) (text : List ℕ) (n : ℕ) (p q : Player) (initial old now : List Device) (before mid after : Option (List ℕ))
-    → (r : Reached table ends script (text ∷ texts) n p (span initial old before mid S G)) → TextKeepsBytes p.place text old now → TextCut (based_on table initial) text (done_so_far r.done r.last) (replay_state p old mid G) (replay_state q now after H) → PlayedFront table script initial before after (λ c text. BoardsLeft status.WriteFault c initial now × ReportedBefore n c text × IsLeft (span initial now before after S H) c)
+    → (r : Reached table ends script (text ∷ texts) n p (span initial old before mid S G)) → TextKeepsBytes p.place text old now → TextCut (based_on table initial) text (done_so_far r.done r.last) (replay_state p old mid G) (replay_state q now after H) → PlayedPrefix table script initial before after (λ c text. BoardsLeft status.WriteFault c initial now × ReportedBefore n c text × IsLeft (span initial now before after S H) c)
 cut_told ends script texts text n p q initial old now before mid after r kept t =
     let to = t.played.to in
     let line = t.played.line in
@@ -156,7 +156,7 @@ told_begun ends script texts text n p initial old before mid line r spelled b o 
 cut_begun : {table : List Row} {S G H : Saw} (ends : Bool) (script : Script) (texts : List (List ℕ)) (text : List ℕ) (n : ℕ) (p : Player) (initial old now : List Device) (before mid after : Option (List ℕ)) (line : Line) (r : Reached table ends script (text ∷ texts) n p (span initial old before mid S G))
     → TextKeepsBytes p.place text old now → line_of p.place text ≡ Ok line → (b : LineBegun r.done line r.last G H (λ v left t. CutAtStop r.done line v left t (span initial now mid after G H) ⊎ (CutAtTooMany v left t (span initial now mid after G H) ⊎ CutAtImage v left t (span initial now mid after G H))))
     → CutAtStop r.done line b.world b.left b.text (span initial now mid after G H) ⊎ (CutAtTooMany b.world b.left b.text (span initial now mid after G H) ⊎ CutAtImage b.world b.left b.text (span initial now mid after G H))
-    → (InSome b.world (λ u. LacksImage u b.left initial now) → UsesBoards r.done) → PlayedFront table script initial before after (λ c text. BoardsLeft status.WriteFault c initial now × ReportedBefore n c text × IsLeft (span initial now before after S H) c)
+    → (InSome b.world (λ u. LacksImage u b.left initial now) → UsesBoards r.done) → PlayedPrefix table script initial before after (λ c text. BoardsLeft status.WriteFault c initial now × ReportedBefore n c text × IsLeft (span initial now before after S H) c)
 cut_begun ends script texts text n p initial old now before mid after line r kept spelled b (inl (some, stop, cut)) uses =
     let o = run_of ends script texts text n p initial old before mid line r b in
     let within = stop_within (place_behind first_place r.done) line (motes_in r.done) b.begun b.left b.world initial now b.parts stop in
@@ -266,7 +266,7 @@ many_begun {G = G} {H = H} ends script texts text n p initial old now before mid
 
 -- nothing was done behind the lines that were done
 nothing_more : {table : List Row} {S G H : Saw} (ends : Bool) (script : Script) (texts : List (List ℕ)) (n : ℕ) (p q : Player) (initial old now : List Device) (before mid after : Option (List ℕ))
-    → Reached table ends script texts n p (span initial old before mid S G) → NothingDone (replay_state p old mid G) (replay_state q now after H) → PlayedFront table script initial before after (λ c text. BoardsStand c.last initial now × IsLeft (span initial now before after S H) c)
+    → Reached table ends script texts n p (span initial old before mid S G) → NothingDone (replay_state p old mid G) (replay_state q now after H) → PlayedPrefix table script initial before after (λ c text. BoardsStand c.last initial now × IsLeft (span initial now before after S H) c)
 nothing_more ends script texts n p q initial old now before mid after r none =
     front_put script initial before mid after r.played [] (at_line ends script texts n p initial old before mid r) r.reported (sym (append-nil (played_text r.played))) (front_kept mid after [] none.written)
     (record { boards_enough = r.boards_enough; few_events = few_items r.done r.played r.items r.few })

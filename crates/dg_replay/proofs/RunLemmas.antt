@@ -15,7 +15,7 @@ use Rattle.dg_script.specs.declared.line.Line.{Line}
 use Rattle.dg_script.specs.declared.line.Line.TheVariants.{Boards}
 use Rattle.dg_world.specs.Boards.{BoardStopped}
 use Rattle.dg_replay.specs.Boards.{BoardsStand}
-use Rattle.dg_replay.specs.Items.{Ground, UsesBoards, is_boards, begin_behind, beginning_of, motes_in, lacking, next_items}
+use Rattle.dg_replay.specs.Items.{StartState, UsesBoards, is_boards, begin_behind, beginning_of, motes_in, lacking, next_items}
 use Rattle.dg_replay.specs.Ending.{Ending, Ends, Over, ending_from, ending_of, ending_line, status_of, script_of, has_unused_bytes, InBounds, InLimits}
 use Rattle.dg_replay.specs.Around.{Around, around}
 use Rattle.dg_replay.specs.Promised.{Headline}
@@ -132,7 +132,7 @@ pub no_items : [] ≡ items_of [] ++ []
 unfolding items_behind
 no_items = refl
 
-pub no_run : (g : Ground) → RunsTo (beginning_of g []).world [] None
+pub no_run : (g : StartState) → RunsTo (beginning_of g []).world [] None
 unfolding begin_behind
 no_run g = (refl, refl)
 

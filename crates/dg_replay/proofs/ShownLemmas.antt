@@ -12,7 +12,7 @@ use Rattle.dg_script.specs.declared.line.Line.{Line}
 use Rattle.dg_script.specs.declared.line.Line.TheVariants.{Nothing, Motes, Golden, Boards, Link, Narrow, Image, Cut, Happens as EventLine, Round, Sweeps}
 use Rattle.dg_rules.specs.Runs.{Played, Plays}
 use Rattle.dg_rules.specs.World.{World, Site, first_world, off_site}
-use Rattle.dg_replay.specs.Items.{Ground, Beginning, begin_by, begin_behind, beginning_of, no_beginning, with_link, with_narrow, is_event, events_among}
+use Rattle.dg_replay.specs.Items.{StartState, Beginning, begin_by, begin_behind, beginning_of, no_beginning, with_link, with_narrow, is_event, events_among}
 use Rattle.dg_replay.specs.Replayed.{RunsTo, item_played}
 use Rattle.dg_replay.specs.Playing.{IsDeclaration}
 use Rattle.dg_replay.specs.Shown.{Saw, events_played, stores_in, LeadTo, StaysSeen, Shows}
@@ -68,7 +68,7 @@ link_first link w i = record { table = i.table; links = i.links ++ link ∷ []; 
 narrow_first : (m : ℕ) (w : World) → IsFirst w → IsFirst (with_narrow m w)
 narrow_first m w i = record { table = i.table; links = i.links; narrow = slice_set i.narrow m true; stores = i.stores; is = ap (with_narrow m) i.is }
 
-first_by : (g : Ground) (b : Beginning) (line : Line) → IfSome b.world IsFirst → IfSome (begin_by g b line).world IsFirst
+first_by : (g : StartState) (b : Beginning) (line : Line) → IfSome b.world IsFirst → IfSome (begin_by g b line).world IsFirst
 first_by g b Nothing first = first
 first_by g b (Motes n) first = first
 first_by g b (Golden name used content) first = record { table = golden_row name content ∷ []; links = []; narrow = none_narrow; stores = replicate b.motes (fresh name content used); is = refl }
@@ -81,12 +81,12 @@ first_by g b (EventLine event) first = first
 first_by g b (Round x y) first = first
 first_by g b (Sweeps n) first = first
 
-first_behind : (g : Ground) (b : Beginning) (lines : List Line) → IfSome b.world IsFirst → IfSome (begin_behind g b lines).world IsFirst
+first_behind : (g : StartState) (b : Beginning) (lines : List Line) → IfSome b.world IsFirst → IfSome (begin_behind g b lines).world IsFirst
 unfolding begin_behind
 first_behind g b [] first = first
 first_behind g b (line ∷ lines) first = first_behind g (begin_by g b line) lines (first_by g b line first)
 
-pub begins_first : (g : Ground) (lines : List Line) → IfSome (beginning_of g lines).world IsFirst
+pub begins_first : (g : StartState) (lines : List Line) → IfSome (beginning_of g lines).world IsFirst
 begins_first g lines = first_behind g no_beginning lines tt
 
 -- ---- where events lead

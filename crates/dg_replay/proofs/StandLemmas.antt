@@ -24,7 +24,7 @@ use Rattle.dg_rules.specs.World.{World, Site, first_world}
 use Rattle.dg_rules.specs.Begins.{AreShaped}
 use Rattle.dg_world.specs.Mounted.{StandFor}
 use Rattle.dg_replay.specs.Boards.{BoardsStand}
-use Rattle.dg_replay.specs.Items.{Ground, no_ground, Beginning, begin_by, beginning_of, motes_in, no_beginning, golden_world, with_link, with_narrow, is_boards, UsesBoards, begin_behind}
+use Rattle.dg_replay.specs.Items.{StartState, no_start_state, Beginning, begin_by, beginning_of, motes_in, no_beginning, golden_world, with_link, with_narrow, is_boards, UsesBoards, begin_behind}
 use Rattle.dg_replay.specs.Replayed.{IsGround, RunsTo, item_played, played_text}
 use Rattle.dg_replay.specs.Playing.{IsDeclaration, Seated, InWorld, Joined, Stood, ItemsRun, ItemsBegun, LineRuns, LineBegun, Grounded}
 use Rattle.dg_replay.specs.Shown.{Saw, events_played, stores_in, StaysSeen, Shows}
@@ -36,7 +36,7 @@ use Rattle.dg_replay.proofs.ShownLemmas.{declared_none, first_stores, begins_fir
 -- ---- where a replay stands
 
 -- how many motes there are behind a line
-motes_next : (g : Ground) (place : Place) (b : Beginning) (line : Line) → place.motes ≡ b.motes → (place_after place line).motes ≡ (begin_by g b line).motes
+motes_next : (g : StartState) (place : Place) (b : Beginning) (line : Line) → place.motes ≡ b.motes → (place_after place line).motes ≡ (begin_by g b line).motes
 motes_next g place b Nothing e = e
 motes_next g place b (Motes n) e = refl
 motes_next g place b (Golden name used content) e = e
@@ -99,7 +99,7 @@ stood_next p q done line w v initial old now links s place seats cut_fits world 
       place = place ∙ ap (λ (at : Place). place_after at line) s.place ∙ sym (place_next first_place done line);
       links = subst (λ (at : Place). Joined at) (sym place) links;
       cut_fits = subst (λ (at : Place). IfSome at.cut FitsCut) (sym place) cut_fits;
-      motes = ap (λ (at : Place). at.motes) place ∙ motes_next no_ground p.place (beginning_of no_ground done) line s.motes ∙ ap (λ (b : Beginning). b.motes) (sym (begin_next no_ground no_beginning done line));
+      motes = ap (λ (at : Place). at.motes) place ∙ motes_next no_start_state p.place (beginning_of no_start_state done) line s.motes ∙ ap (λ (b : Beginning). b.motes) (sym (begin_next no_start_state no_beginning done line));
       early = λ e. early_next p.place done line s.early (sym (ap (λ (at : Place). at.events) place) ∙ e);
       world = world;
       boards = boards;
@@ -108,11 +108,11 @@ stood_next p q done line w v initial old now links s place seats cut_fits world 
 -- ---- runs
 
 -- the run from where the lines begin with one more line, which changes nothing of it
-same_run : (g : Ground) (done : List Line) (line : Line) (played : List Played) (v : Option World) → (begin_by g (beginning_of g done) line).world ≡ (beginning_of g done).world → RunsTo (beginning_of g done).world played v → RunsTo (beginning_of g (done ++ line ∷ [])).world played v
+same_run : (g : StartState) (done : List Line) (line : Line) (played : List Played) (v : Option World) → (begin_by g (beginning_of g done) line).world ≡ (beginning_of g done).world → RunsTo (beginning_of g done).world played v → RunsTo (beginning_of g (done ++ line ∷ [])).world played v
 same_run g done line played v same r =
     subst (λ (b : Beginning). RunsTo b.world played v) (sym (begin_next g no_beginning done line)) (subst (λ (o : Option World). RunsTo o played v) (sym same) r)
 
-same_world : (g : Ground) (done : List Line) (line : Line) → (begin_by g (beginning_of g done) line).world ≡ (beginning_of g done).world → (beginning_of g (done ++ line ∷ [])).world ≡ (beginning_of g done).world
+same_world : (g : StartState) (done : List Line) (line : Line) → (begin_by g (beginning_of g done) line).world ≡ (beginning_of g done).world → (beginning_of g (done ++ line ∷ [])).world ≡ (beginning_of g done).world
 same_world g done line same = ap (λ (b : Beginning). b.world) (begin_next g no_beginning done line) ∙ same
 
 -- the items with a line that has none
@@ -129,12 +129,12 @@ uses_next (l ∷ done) line plain uses = by_first (is_boards l) uses (uses_next 
     by_first false e f = f e
 
 -- the ground behind a line that neither says how many motes there are nor uses boards as they are
-pub grounded_next : {table : List Row} {initial : List Device} (g : Ground) (done : List Line) (line : Line) → is_boards line ≡ false → ((b : Beginning) → (begin_by no_ground b line).motes ≡ b.motes) → Grounded table initial g done → Grounded table initial g (done ++ line ∷ [])
+pub grounded_next : {table : List Row} {initial : List Device} (g : StartState) (done : List Line) (line : Line) → is_boards line ≡ false → ((b : Beginning) → (begin_by no_start_state b line).motes ≡ b.motes) → Grounded table initial g done → Grounded table initial g (done ++ line ∷ [])
 grounded_next {table} {initial} g done line plain same h = λ uses.
-    let e : motes_in (done ++ line ∷ []) ≡ motes_in done = ap (λ (b : Beginning). b.motes) (begin_next no_ground no_beginning done line) ∙ same (beginning_of no_ground done) in
+    let e : motes_in (done ++ line ∷ []) ≡ motes_in done = ap (λ (b : Beginning). b.motes) (begin_next no_start_state no_beginning done line) ∙ same (beginning_of no_start_state done) in
     subst (λ (n : ℕ). IsGround g table n × StandFor n g.stores initial) (sym e) (h (uses_next done line plain uses))
 
-stays_by : (g : Ground) (b : Beginning) (line : Line) (w : World) → b.world ≡ Some w → (u : World) × ((begin_by g b line).world ≡ Some u)
+stays_by : (g : StartState) (b : Beginning) (line : Line) (w : World) → b.world ≡ Some w → (u : World) × ((begin_by g b line).world ≡ Some u)
 stays_by g b Nothing w e = (w, e)
 stays_by g b (Motes n) w e = (w, e)
 stays_by g b (Golden name used content) w e = (_, refl)
@@ -147,12 +147,12 @@ stays_by g b (EventLine event) w e = (w, e)
 stays_by g b (Round x y) w e = (w, e)
 stays_by g b (Sweeps n) w e = (w, e)
 
-stays : (g : Ground) (b : Beginning) (lines : List Line) (w : World) → b.world ≡ Some w → (u : World) × ((begin_behind g b lines).world ≡ Some u)
+stays : (g : StartState) (b : Beginning) (lines : List Line) (w : World) → b.world ≡ Some w → (u : World) × ((begin_behind g b lines).world ≡ Some u)
 unfolding begin_behind
 stays g b [] w e = (w, e)
 stays g b (line ∷ lines) w e = let s = stays_by g b line w e in stays g (begin_by g b line) lines s.0 s.1
 
-uses_some : (g : Ground) (b : Beginning) (lines : List Line) → UsesBoards lines → (u : World) × ((begin_behind g b lines).world ≡ Some u)
+uses_some : (g : StartState) (b : Beginning) (lines : List Line) → UsesBoards lines → (u : World) × ((begin_behind g b lines).world ≡ Some u)
 unfolding begin_behind
 uses_some g b [] uses = absurd (cc)
 uses_some g b (Nothing ∷ lines) uses = uses_some g b lines uses
@@ -172,14 +172,14 @@ run_none None played u e r = cc
 run_none (Some w) played u e r = let f : None ≡ Some r.0 = r.1 in cc
 
 -- where no world is there yet, no boards are used as they are
-pub grounded_motes : {table : List Row} {initial : List Device} (g : Ground) (done : List Line) (n : ℕ) (played : List Played) → RunsTo (beginning_of g done).world played None → Grounded table initial g (done ++ Motes n ∷ [])
+pub grounded_motes : {table : List Row} {initial : List Device} (g : StartState) (done : List Line) (n : ℕ) (played : List Played) → RunsTo (beginning_of g done).world played None → Grounded table initial g (done ++ Motes n ∷ [])
 grounded_motes g done n played r = λ uses.
     let some = uses_some g no_beginning done (uses_next done (Motes n) refl uses) in absurd (run_none (beginning_of g done).world played some.0 some.1 r)
 
 -- a line without items
-pub silent_runs : {table : List Row} {initial : List Device} {F G : Saw} (done : List Line) (line : Line) (w : Option World) → item_by (place_behind first_place done) line ≡ [] → ((g : Ground) → (begin_by g (beginning_of g done) line).world ≡ (beginning_of g done).world)
-    → ((g : Ground) (played : List Played) → RunsTo (beginning_of g done).world played w → Grounded table initial g done → Grounded table initial g (done ++ line ∷ []))
-    → ((g : Ground) (played : List Played) → RunsTo (beginning_of g done).world played w → F (stores_in (beginning_of g done).world) (events_played played) → G (stores_in (beginning_of g done).world) (events_played played)) → LineRuns table initial done line w w (line_told [] F G)
+pub silent_runs : {table : List Row} {initial : List Device} {F G : Saw} (done : List Line) (line : Line) (w : Option World) → item_by (place_behind first_place done) line ≡ [] → ((g : StartState) → (begin_by g (beginning_of g done) line).world ≡ (beginning_of g done).world)
+    → ((g : StartState) (played : List Played) → RunsTo (beginning_of g done).world played w → Grounded table initial g done → Grounded table initial g (done ++ line ∷ []))
+    → ((g : StartState) (played : List Played) → RunsTo (beginning_of g done).world played w → F (stores_in (beginning_of g done).world) (events_played played) → G (stores_in (beginning_of g done).world) (events_played played)) → LineRuns table initial done line w w (line_told [] F G)
 silent_runs {F = F} {G = G} done line w none same ground shown = λ g played before items r. record {
   on = record {
     ground = g;
@@ -194,8 +194,8 @@ silent_runs {F = F} {G = G} done line w none same ground shown = λ g played bef
 }
 
 -- a line with items
-pub busy_runs : {table : List Row} {initial : List Device} {F G : Saw} (done : List Line) (line : Line) (u z : World) (items : List Item) (text : List ℕ) → item_by (place_behind first_place done) line ≡ items → ((g : Ground) → (begin_by g (beginning_of g done) line).world ≡ (beginning_of g done).world)
-    → is_boards line ≡ false → ((b : Beginning) → (begin_by no_ground b line).motes ≡ b.motes) → (x : ItemsRun u items z text) → Shows F G u x.played → LineRuns table initial done line (Some u) (Some z) (line_told text F G)
+pub busy_runs : {table : List Row} {initial : List Device} {F G : Saw} (done : List Line) (line : Line) (u z : World) (items : List Item) (text : List ℕ) → item_by (place_behind first_place done) line ≡ items → ((g : StartState) → (begin_by g (beginning_of g done) line).world ≡ (beginning_of g done).world)
+    → is_boards line ≡ false → ((b : Beginning) → (begin_by no_start_state b line).motes ≡ b.motes) → (x : ItemsRun u items z text) → Shows F G u x.played → LineRuns table initial done line (Some u) (Some z) (line_told text F G)
 busy_runs {F = F} {G = G} done line u z items text are same plain counts x shown = λ g played first before r. record {
   on = record {
     ground = g;
@@ -219,7 +219,7 @@ placed_from F G o v w stores played r is are placed f =
 
 pub golden_runs : {table : List Row} {initial : List Device} {F G : Saw} (done : List Line) (name : List ℕ) (used : ℕ) (content : List ℕ) (motes : ℕ) → motes ≡ motes_in done → (F [] [] → G (replicate motes (fresh name content used)) []) → LineRuns table initial done (Golden name used content) None (Some (golden_world motes name used content)) (line_told [] F G)
 golden_runs {F = F} {G = G} done name used content motes is placed = λ g played before items r.
-    let many : (beginning_of g done).motes ≡ motes = motes_same g no_ground no_beginning no_beginning done refl ∙ sym is in
+    let many : (beginning_of g done).motes ≡ motes = motes_same g no_start_state no_beginning no_beginning done refl ∙ sym is in
     record {
       on = record {
         ground = g;
@@ -243,8 +243,8 @@ golden_runs {F = F} {G = G} done name used content motes is placed = λ g played
 -- the boards are used as they are, and held against any table
 pub boards_runs : {initial : List Device} {F G : Saw} (done : List Line) (table : List Row) (stores : List Store) → StandFor (motes_in done) stores initial → AreShaped stores → (F [] [] → G stores []) → LineRuns table initial done Boards None (Some (first_world table [] none_narrow stores)) (line_told [] F G)
 boards_runs {initial} {F} {G} done table stores stand shaped placed = λ g played before items r.
-    let ground : Ground = record { stores = stores; table = table } in
-    let count : motes_in (done ++ Boards ∷ []) ≡ motes_in done = ap (λ (b : Beginning). b.motes) (begin_next no_ground no_beginning done Boards) in
+    let ground : StartState = record { stores = stores; table = table } in
+    let count : motes_in (done ++ Boards ∷ []) ≡ motes_in done = ap (λ (b : Beginning). b.motes) (begin_next no_start_state no_beginning done Boards) in
     record {
       on = record {
         ground = ground;
@@ -332,7 +332,7 @@ seen_set f s F G o v ps all is stays seen =
 
 -- behind such a line, the same was played from a world of which it says that
 set_runs : {table : List Row} {initial : List Device} {F G : Saw} (f : World → World) → Sets f → (done : List Line) (line : Line) (w : World) → AllByRecursion IsDeclaration (items_of done) → item_by (place_behind first_place done) line ≡ []
-    → ((g : Ground) (b : Beginning) → (begin_by g b line).world ≡ option_map f b.world) → is_boards line ≡ false → ((b : Beginning) → (begin_by no_ground b line).motes ≡ b.motes) → StaysSeen F G → LineRuns table initial done line (Some w) (Some (f w)) (line_told [] F G)
+    → ((g : StartState) (b : Beginning) → (begin_by g b line).world ≡ option_map f b.world) → is_boards line ≡ false → ((b : Beginning) → (begin_by no_start_state b line).motes ≡ b.motes) → StaysSeen F G → LineRuns table initial done line (Some w) (Some (f w)) (line_told [] F G)
 set_runs {F = F} {G = G} f s done line w all none begins plain counts stays = λ g played before items r.
     let declared : AllByRecursion IsDeclaration (map item_played played) = subst (λ (xs : List Item). AllByRecursion IsDeclaration xs) (sym items) all in
     record {

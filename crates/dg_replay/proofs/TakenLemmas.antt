@@ -11,7 +11,7 @@ use Rattle.dg_script.specs.declared.place.Place.{Place}
 use Rattle.dg_script.specs.declared.line.Line.{Line}
 use Rattle.dg_script.specs.declared.line.Line.TheVariants.{Nothing, Motes, Golden, Boards, Link, Narrow, Image, Cut, Happens as EventLine, Round, Sweeps}
 use Rattle.dg_script.specs.Items.{Item}
-use Rattle.dg_replay.specs.Items.{Ground, no_ground, Beginning, begin_by, begin_behind, motes_in, next_items}
+use Rattle.dg_replay.specs.Items.{StartState, no_start_state, Beginning, begin_by, begin_behind, motes_in, next_items}
 use Rattle.dg_world.specs.Boards.{BoardStopped}
 use Rattle.dg_replay.specs.Ending.{whole_lines, used, has_unused_bytes, script_of, ending_from}
 use Rattle.dg_replay.specs.Replayed.{IsSettled, AreWhole, DoneIsWhole}
@@ -63,7 +63,7 @@ none_whole input = λ more. ((script_of (input ++ more)).lines, refl)
 
 -- ---- how many motes there are
 
-counted_stays : (g : Ground) (b : Beginning) (place : Place) (lines : List Line) → 0 < place.motes → LinesFit place lines → (begin_behind g b lines).motes ≡ b.motes
+counted_stays : (g : StartState) (b : Beginning) (place : Place) (lines : List Line) → 0 < place.motes → LinesFit place lines → (begin_behind g b lines).motes ≡ b.motes
 unfolding LinesFit begin_behind
 counted_stays g b place [] some h = refl
 counted_stays g b place (Nothing ∷ lines) some h = counted_stays g b place lines some h.3
@@ -88,8 +88,8 @@ counted_once [] rest h some = absurd (omega (arith, some))
 counted_once (Nothing ∷ done) rest h some = counted_once done rest h.3 some
 counted_once (Motes n ∷ done) rest h some =
     let there : Place = place_after first_place (Motes n) in
-    counted_stays no_ground (record { motes = n; world = None }) there (done ++ rest) (omega (arith, h.1)) h.3
-    ∙ sym (counted_stays no_ground (record { motes = n; world = None }) there done (omega (arith, h.1)) (front_fits there done rest h.3))
+    counted_stays no_start_state (record { motes = n; world = None }) there (done ++ rest) (omega (arith, h.1)) h.3
+    ∙ sym (counted_stays no_start_state (record { motes = n; world = None }) there done (omega (arith, h.1)) (front_fits there done rest h.3))
 counted_once (Golden name used content ∷ done) rest h some = none_yet (second_at first_place h.0.fits).1
 counted_once (Boards ∷ done) rest h some = none_yet (second_at first_place h.0.fits).1
 counted_once (Link x y ∷ done) rest h some = none_yet (link_at first_place x y h.0).0.1

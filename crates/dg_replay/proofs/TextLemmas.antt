@@ -1,7 +1,7 @@
 -- What comes of one text of a script.
 use Rattle.std.proofs.Common.{◌≡◌, ◌≢◌, ◌⊎◌, inl, inr, ℕ, List, [], refl, sym, subst}
 use Rattle.std.specs.Prelude.{Option, Result, Ok, Err, OnOk, OnErr}
-use Rattle.dg_base.specs.Outside.{Puts, PutsFront}
+use Rattle.dg_base.specs.Outside.{Puts, PutsPrefix}
 use Rattle.dg_nor.specs.Device.{Device}
 use Rattle.dg_object.specs.Object.{Row}
 use Rattle.dg_script.specs.Lines.{line_of}
@@ -31,7 +31,7 @@ begun_then f b = record { begun = b.begun; left = b.left; parts = b.parts; world
 -- a line was played, and what is reported of it was written, or a front of it
 pub told_as : (table : List Row) (r : Result (Unit {0}) Stop) (text : List ℕ) (number : ℕ) (p q : Player) (done : List Line) (w : Option World) (initial old new : List Device) (before after : Option (List ℕ)) (failed : Type 0) (F G : Saw) (line : Line) (told : List ℕ)
     → line_of p.place text ≡ Ok line → PlayedLine (based_on table initial) q (done_so_far done w) line (told_so_far [] F) (boards_told new (told_so_far told G)) → q.place ≡ place_after p.place line
-    → OnOk r (Puts before after told) → OnErr r (PutsFront before after told × (told ≢ [])) → OnErr r ((r ≡ Err WriteFault) × failed)
+    → OnOk r (Puts before after told) → OnErr r (PutsPrefix before after told × (told ≢ [])) → OnErr r ((r ≡ Err WriteFault) × failed)
     → TextAnswer (based_on table initial) r (line_read text number) (done_so_far done w) (replay_state p old before F) (replay_state q new after G) failed
 told_as table (Ok u) text number p q done w initial old new before after failed F G line told spelled to behind ok cut cause =
     record { played = record { line = line; spelled = spelled; reported = told; to = to; behind = behind }; written = ok }
@@ -67,7 +67,7 @@ begun_as table NoImage result text number p q done w initial old new before afte
       inr (record {
         line = line;
         spelled = spelled;
-        there = begun_then (λ v left t h. inr (inr (subst (λ (xs : List ℕ). xs ≢ []) h.1 some, h.0, subst (λ (xs : List ℕ). PutsFront before after xs) h.1 cut))) played;
+        there = begun_then (λ v left t h. inr (inr (subst (λ (xs : List ℕ). xs ≢ []) h.1 some, h.0, subst (λ (xs : List ℕ). PutsPrefix before after xs) h.1 cut))) played;
       }),
     )
 begun_as table FlashFault result text number p q done w initial old new before after failed F G line told spelled played (inl (is, put)) =
@@ -84,7 +84,7 @@ begun_as table FlashFault result text number p q done w initial old new before a
       inr (record {
         line = line;
         spelled = spelled;
-        there = begun_then (λ v left t h. inl (subst (λ (xs : List ℕ). xs ≢ []) h.1 some, h.0, subst (λ (xs : List ℕ). PutsFront before after xs) h.1 cut)) played.1;
+        there = begun_then (λ v left t h. inl (subst (λ (xs : List ℕ). xs ≢ []) h.1 some, h.0, subst (λ (xs : List ℕ). PutsPrefix before after xs) h.1 cut)) played.1;
       }),
     )
 begun_as table TooMany result text number p q done w initial old new before after failed F G line told spelled played (inl (is, put)) =
@@ -101,7 +101,7 @@ begun_as table TooMany result text number p q done w initial old new before afte
       inr (record {
         line = line;
         spelled = spelled;
-        there = begun_then (λ v left t h. inr (inl (h.0, h.1, subst (λ (xs : List ℕ). PutsFront before after xs) h.2 cut))) played;
+        there = begun_then (λ v left t h. inr (inl (h.0, h.1, subst (λ (xs : List ℕ). PutsPrefix before after xs) h.2 cut))) played;
       }),
     )
 begun_as table (BadInput n f) result text number p q done w initial old new before after failed F G line told spelled played written = absurd played

@@ -11,7 +11,7 @@ use Rattle.dg_script.specs.LineReading.{HasNoEnd}
 use Rattle.dg_script.specs.Places.{first_place}
 use Rattle.dg_script.specs.Script.{script_from}
 use Rattle.dg_replay.specs.Ending.{up_to, whole_lines, used}
-use Rattle.dg_replay.specs.Fronts.{IsFront}
+use Rattle.dg_replay.specs.Prefixes.{IsWholeLines}
 use Rattle.dg_replay.specs.Replayed.{AllRead}
 use Rattle.dg_replay.specs.Replaying.{Reached}
 use Rattle.dg_replay.specs.Shown.{Saw}
@@ -29,10 +29,10 @@ whole_of_none (c ∷ bytes) h =
     ∙ ap (λ (b : Bool). if b then c ∷ [] else []) (ne_eqb c 10 (All-head (λ x. x ≢ 10) c bytes h))
 
 -- the whole lines among the bytes that were taken are those that were played
-pub whole_of_taken : (front ahead : List ℕ) → IsFront front → HasNoEnd ahead → whole_lines (front ++ ahead) ≡ front
+pub whole_of_taken : (front ahead : List ℕ) → IsWholeLines front → HasNoEnd ahead → whole_lines (front ++ ahead) ≡ front
 whole_of_taken front ahead is none = whole_lines_front front ahead is ∙ ap (λ (xs : List ℕ). front ++ xs) (whole_of_none ahead none) ∙ append-nil front
 
-cut_whole : (k : ℕ) (front ahead : List ℕ) → IsFront front → length front ≤ k → HasNoEnd (take (k - length front) ahead) → whole_lines (take k (front ++ ahead)) ≡ front
+cut_whole : (k : ℕ) (front ahead : List ℕ) → IsWholeLines front → length front ≤ k → HasNoEnd (take (k - length front) ahead) → whole_lines (take k (front ++ ahead)) ≡ front
 cut_whole k front ahead is few none =
     let left : ℕ = k - length front in
     let sum : k ≡ length front + left = omega (arith, few) in
@@ -40,7 +40,7 @@ cut_whole k front ahead is few none =
     ap whole_lines cut ∙ whole_of_taken front (take left ahead) is none
 
 -- where there are more bytes than are used
-pub over_used : (front ahead : List ℕ) → IsFront front → length front ≤ most_used_bytes → most_used_bytes < length (front ++ ahead) → HasNoEnd (take (most_used_bytes - length front) ahead) → used (front ++ ahead) ≡ front
+pub over_used : (front ahead : List ℕ) → IsWholeLines front → length front ≤ most_used_bytes → most_used_bytes < length (front ++ ahead) → HasNoEnd (take (most_used_bytes - length front) ahead) → used (front ++ ahead) ≡ front
 over_used front ahead is few over none =
     ap (λ (b : Bool). if b then whole_lines (take most_used_bytes (front ++ ahead)) else front ++ ahead) (is_over-true (front ++ ahead) over)
     ∙ cut_whole most_used_bytes front ahead is few none

@@ -1,7 +1,7 @@
 -- The way of a line: it is played where the player stands, then the place goes on behind it, and what is reported of it is written.
 use Rattle.std.proofs.Common.{◌≡◌, ◌≢◌, ◌⊎◌, inl, inr, ℕ, ◌+◌, ◌≤◌, Bool, List, [], ◌++◌, length, Ok, Err, Some, refl, sym, ◌∙◌, subst}
 use Rattle.std.specs.Prelude.{Option, Result, OnOk, OnErr}
-use Rattle.dg_base.specs.Outside.{Puts, PutsFront, Takes, AtEnd}
+use Rattle.dg_base.specs.Outside.{Puts, PutsPrefix, Takes, AtEnd}
 use Rattle.dg_base.specs.declared.answers.Status.{Status}
 use Rattle.dg_base.specs.declared.answers.Status.TheVariants as status
 use Rattle.dg_base.specs.declared.events.Cut.{Cut as CutOfPower}
@@ -29,7 +29,7 @@ use Rattle.dg_replay.specs.declared.halt.Halt.TheVariants.{Stopped}
 use Rattle.dg_replay.specs.declared.player.Player.{Player}
 use Rattle.dg_replay.specs.declared.stop.Stop.{Stop}
 use Rattle.dg_replay.specs.Shown.{Saw, StaysSeen}
-use Rattle.dg_replay.specs.Stages.{Basis, based_on, DoneSoFar, done_so_far, Told, told_so_far, boards_told, ReplayState, replay_state, span, bytes_taken, failures}
+use Rattle.dg_replay.specs.Stages.{Baseline, based_on, DoneSoFar, done_so_far, Told, told_so_far, boards_told, ReplayState, replay_state, span, bytes_taken, failures}
 use Rattle.dg_replay.specs.declared.stop.Stop.TheVariants.{Memory, WriteFault}
 use Rattle.dg_replay.specs.Untouched.{LineKeepsBytes}
 use Rattle.dg_replay.proofs.BytesLemmas.{text_keeps, text_same}
@@ -55,7 +55,7 @@ passed_played table p place done w line passed report_before told initial now be
 
 -- what is promised of a line that is played where the player stands
 abbrev pub LinePlays : Result (Unit {0}) Stop → (p q : Player) → Line → (report_before told : Told) → (old now : List Device) → Type 0
-LinePlays r p q line report_before told old now = (basis : Basis) (so_far : DoneSoFar) → Stood p so_far.lines so_far.world basis.boards old → PlayedAs basis r q so_far line (boards_told old report_before) (boards_told now told)
+LinePlays r p q line report_before told old now = (basis : Baseline) (so_far : DoneSoFar) → Stood p so_far.lines so_far.world basis.boards old → PlayedAs basis r q so_far line (boards_told old report_before) (boards_told now told)
 
 -- no line was found
 pub text_unread : (stop : Stop) (text : List ℕ) (number : ℕ) (p : Player) (old : List Device) (before : Option (List ℕ)) (failed : Type 0) (F : Saw) → NotFound p.place text number stop → TextPlays (Err stop) text number (replay_state p old before F) (replay_state p old before F) failed
@@ -64,7 +64,7 @@ text_unread stop text number p old before failed F missing = (text_same p.place 
 -- a line was played, its place went on, and what is reported of it was written, or a front of it
 pub text_played : (r : Result (Unit {0}) Stop) (text : List ℕ) (number : ℕ) (p q : Player) (place : Place) (old now : List Device) (line passed : Line) (cleared told shown : List ℕ) (before after : Option (List ℕ)) (failed : Type 0) (F G : Saw)
     → line_of p.place text ≡ Ok line → cleared ≡ [] → shown ≡ told → LinePlays (Ok tt) p (gone_on q passed) line (told_so_far cleared F) (told_so_far told G) old now → place_after q.place passed ≡ place_after p.place line → place ≡ place_after q.place passed
-    → OnOk r (Puts before after shown) → OnErr r (PutsFront before after shown × (shown ≢ [])) → OnErr r ((r ≡ Err WriteFault) × failed)
+    → OnOk r (Puts before after shown) → OnErr r (PutsPrefix before after shown × (shown ≢ [])) → OnErr r ((r ≡ Err WriteFault) × failed)
     → LineKeepsBytes p.place line old now → TextPlays r text number (replay_state p old before F) (replay_state (record q { place = place }) now after G) failed
 text_played r text number p q place old now line passed cleared told shown before after failed F G spelled clear same plays behind at ok cut cause kept = (
   text_keeps p.place text line old now spelled kept,

@@ -16,7 +16,7 @@ use Rattle.dg_rules.specs.World.{World, first_world}
 
 -- What a script does not say itself: what the boards of its motes stand for where they are used as they are, and the table
 -- of images that all is held against then. A script with golden looks at neither.
-pub record Ground : Type 0 where
+pub record StartState : Type 0 where
   pub stores : List Store
   pub table : List Row
 
@@ -39,7 +39,7 @@ with_link link w = record w { links = w.links ++ link ∷ [] }
 abbrev pub with_narrow : ℕ → World → World
 with_narrow m w = record w { narrow = slice_set w.narrow m true }
 
-abbrev pub begin_by : Ground → Beginning → Line → Beginning
+abbrev pub begin_by : StartState → Beginning → Line → Beginning
 begin_by g b Nothing = b
 begin_by g b (Motes n) = record b { motes = n }
 begin_by g b (Golden name used content) = record b { world = Some (golden_world b.motes name used content) }
@@ -52,23 +52,23 @@ begin_by g b (EventLine event) = b
 begin_by g b (Round x y) = b
 begin_by g b (Sweeps n) = b
 
-unfoldable pub begin_behind : Ground → Beginning → List Line → Beginning
+unfoldable pub begin_behind : StartState → Beginning → List Line → Beginning
 begin_behind g b [] = b
 begin_behind g b (line ∷ lines) = begin_behind g (begin_by g b line) lines
 
 abbrev pub no_beginning : Beginning
 no_beginning = record { motes = 0; world = None }
 
-abbrev pub beginning_of : Ground → List Line → Beginning
+abbrev pub beginning_of : StartState → List Line → Beginning
 beginning_of g lines = begin_behind g no_beginning lines
 
 -- where nothing is known of the boards
-abbrev pub no_ground : Ground
-no_ground = record { stores = []; table = [] }
+abbrev pub no_start_state : StartState
+no_start_state = record { stores = []; table = [] }
 
 -- how many motes there are by these lines
 abbrev pub motes_in : List Line → ℕ
-motes_in lines = (beginning_of no_ground lines).motes
+motes_in lines = (beginning_of no_start_state lines).motes
 
 -- the boards are used as they are
 abbrev pub is_boards : Line → Bool

@@ -2,7 +2,7 @@ pub mod Items
 pub mod Boards
 pub mod Ending
 pub mod WholeLines
-pub mod Fronts
+pub mod Prefixes
 pub mod Near
 pub mod Around
 pub mod Shown

@@ -30,10 +30,10 @@ use Rattle.dg_world.specs.Boards.{WorldStands, BoardStopped}
 use Rattle.dg_replay.specs.Boards.{BoardsStand, ItemStops, StoppedIn, EventNext, InSome, NoVolumeIn}
 use Rattle.dg_replay.specs.Boards.{LacksImage}
 use Rattle.dg_script.specs.Items.{Item, Declares, Applies, item_by, items_of, place_behind}
-use Rattle.dg_replay.specs.Items.{Ground, UsesBoards, beginning_of, motes_in, lacking_by}
+use Rattle.dg_replay.specs.Items.{StartState, UsesBoards, beginning_of, motes_in, lacking_by}
 use Rattle.dg_replay.specs.Replayed.{IsGround, item_played, played_text, RunsTo}
 use Rattle.dg_replay.specs.Shown.{Saw, Shows, StaysSeen, GoesOnSeen}
-use Rattle.dg_replay.specs.Stages.{Basis, based_on, DoneSoFar, Told, LineTold, line_told, BoardsTold}
+use Rattle.dg_replay.specs.Stages.{Baseline, based_on, DoneSoFar, Told, LineTold, line_told, BoardsTold}
 use Rattle.dg_replay.specs.declared.player.Player.{Player}
 use Rattle.dg_replay.specs.declared.stop.Stop.{Stop}
 use Rattle.dg_replay.specs.declared.stop.Stop.TheVariants.{Memory, BadInput, WriteFault, FlashFault, TooMany, NoBoard, NoImage}
@@ -168,7 +168,7 @@ gone_on p line = record p { place = place_after p.place line }
 -- ---- a line
 
 -- Where the boards are used as they are by these lines, they stood for the ground's stores, which are held against this table.
-abbrev pub Grounded : (table : List Row) → (initial : List Device) → Ground → List Line → Type 0
+abbrev pub Grounded : (table : List Row) → (initial : List Device) → StartState → List Line → Type 0
 Grounded table initial g done = UsesBoards done → IsGround g table (motes_in done) × StandFor (motes_in done) g.stores initial
 
 -- The run after a line: its items are those of the lines up to this one, and it reports this text after what was reported
@@ -177,7 +177,7 @@ pub record RunsOn (table : List Row) (initial : List Device) (done : List Line) 
     (text : List ℕ) (played : List Played) : Type 0 where
   pub now : List Played
   pub items : map item_played now ≡ items_of (done ++ line ∷ [])
-  pub ground : Ground
+  pub ground : StartState
   pub grounded : Grounded table initial ground (done ++ line ∷ [])
   pub run : RunsTo (beginning_of ground (done ++ line ∷ [])).world now v
   pub reported : played_text now ≡ played_text played ++ text
@@ -185,7 +185,7 @@ pub record RunsOn (table : List Row) (initial : List Device) (done : List Line) 
   pub on : (text ≡ []) ⊎ ((more : List Played) × (now ≡ played ++ more))
 
 -- A line goes on with such a run, and a watcher that saw what was played before sees what was played then.
-pub record GoesOn (basis : Basis) (done : List Line) (line : Line) (v : Option World) (told : LineTold) (g : Ground)
+pub record GoesOn (basis : Baseline) (done : List Line) (line : Line) (v : Option World) (told : LineTold) (g : StartState)
     (played : List Played) : Type 0 where
   pub on : RunsOn basis.table basis.boards done line v told.text played
   pub shown : GoesOnSeen told.before told.after (beginning_of g done).world played
@@ -195,12 +195,12 @@ pub record GoesOn (basis : Basis) (done : List Line) (line : Line) (v : Option W
 -- items from a world that has it.
 abbrev pub LineRuns : (table : List Row) → (initial : List Device) → (done : List Line) → (line : Line)
     → (w v : Option World) → (told : LineTold) → Type 0
-LineRuns table initial done line w v told = (g : Ground) (played : List Played) → Grounded table initial g done
+LineRuns table initial done line w v told = (g : StartState) (played : List Played) → Grounded table initial g done
     → map item_played played ≡ items_of done → RunsTo (beginning_of g done).world played w
     → GoesOn (based_on table initial) done line v told g played
 
 -- A line was played after others, and this is told of it.
-pub record PlayedLine (basis : Basis) (q : Player) (behind : DoneSoFar) (line : Line) (before : Told)
+pub record PlayedLine (basis : Baseline) (q : Player) (behind : DoneSoFar) (line : Line) (before : Told)
     (b : BoardsTold) : Type 0 where
   pub world : Option World
   pub text : List ℕ
@@ -236,7 +236,7 @@ pub record LacksBoards (line : Line) (motes boards : ℕ) (initial old new : Lis
 
 -- What playing a line answers, from a player and boards that stand for the world after other lines. The boards and what is
 -- told were a before it, and are b then.
-abbrev pub PlayedAs : Basis → Result (Unit {0}) Stop → Player → (behind : DoneSoFar) → Line → (a b : BoardsTold) → Type 0
+abbrev pub PlayedAs : Baseline → Result (Unit {0}) Stop → Player → (behind : DoneSoFar) → Line → (a b : BoardsTold) → Type 0
 PlayedAs basis (Ok u) q behind line a b = PlayedLine basis q behind line a.told b
 PlayedAs basis (Err Memory) q behind line a b =
     LineBegun behind.lines line behind.world a.told.saw b.told.saw (λ v left text. BoardsStand v basis.boards b.boards)

@@ -30,7 +30,7 @@ use Rattle.dg_volume.specs.Stands.{IsVolume}
 use Rattle.dg_world.specs.Mounted.{StandFor}
 use Rattle.dg_world.specs.Boards.{BoardStopped}
 use Rattle.dg_replay.specs.Boards.{BoardsStand, StoppedIn, EventNext, InSome, NoVolumeIn, LacksImage}
-use Rattle.dg_replay.specs.Items.{Ground, UsesBoards, beginning_of, motes_in, next_items, events_among}
+use Rattle.dg_replay.specs.Items.{StartState, UsesBoards, beginning_of, motes_in, next_items, events_among}
 use Rattle.dg_replay.specs.Around.{Around}
 use Rattle.dg_replay.specs.Shown.{Saw, stores_in, events_played}
 use Rattle.dg_replay.specs.Stages.{BytesTaken, bytes_taken}
@@ -51,7 +51,7 @@ RunsTo (Some w) played last = (v : World) × (last ≡ Some v) × Plays w played
 
 -- what the boards of this many motes stand for where they are used as they are, held against this table: a store for each,
 -- in its shape
-pub record IsGround (g : Ground) (table : List Row) (motes : ℕ) : Type 0 where
+pub record IsGround (g : StartState) (table : List Row) (motes : ℕ) : Type 0 where
   pub held : g.table ≡ table
   pub count : length g.stores ≡ motes
   pub shaped : AreShaped g.stores
@@ -59,7 +59,7 @@ pub record IsGround (g : Ground) (table : List Row) (motes : ℕ) : Type 0 where
 -- How far a replay came in a script, all of which is held against a table where it uses the boards as they are.
 pub record Progress (table : List Row) (script : Script) : Type 0 where
   -- what the script does not say, which counts where the boards are used as they are
-  pub ground : Ground
+  pub ground : StartState
   -- the lines that were done, and those after them
   pub done : List Line
   pub rest : List Line
@@ -111,7 +111,7 @@ pub record IsWholeReport {table : List Row} {script : Script} (ending : Ending) 
   pub reported : text ≡ played_text c.played ++ closing ending c.last
 
 -- a front of the lines that are reported before the end
-pub record IsFrontOfLines (played : List Played) (text : List ℕ) : Type 0 where
+pub record IsPrefixOfLines (played : List Played) (text : List ℕ) : Type 0 where
   pub more : List ℕ
   pub front : text ++ more ≡ played_text played
 
@@ -129,7 +129,7 @@ BoardsEndIt c line = ((more : List Line) × (c.rest ≡ Boards ∷ more) × (lin
     ⊎ (UsesBoards c.done × EventNext c.left × (line ≡ no_image_line))
 
 -- a front of the report, whose end may have begun
-pub record IsFrontOfReport {table : List Row} {script : Script} (ending : Ending) (c : Progress table script)
+pub record IsPrefixOfReport {table : List Row} {script : Script} (ending : Ending) (c : Progress table script)
     (text : List ℕ) : Type 0 where
   pub more : List ℕ
   pub front : ((text ++ more) ≡ played_text c.played)
@@ -148,8 +148,8 @@ Wrote BadInput ending c text = IsWholeReport ending c text
 Wrote TooLong ending c text = IsWholeReport ending c text
 Wrote TooMany ending c text = IsWholeReport ending c text
 Wrote NoBoard ending c text = IsWholeReport ending c text
-Wrote Memory ending c text = IsFrontOfLines c.played text
-Wrote WriteFault ending c text = IsFrontOfReport ending c text
+Wrote Memory ending c text = IsPrefixOfLines c.played text
+Wrote WriteFault ending c text = IsPrefixOfReport ending c text
 Wrote FlashFault ending c text = (text ≡ played_text c.played) × StopsAt ending c.rest
 Wrote ReadFault ending c text = (text ≡ played_text c.played) × (c.begun ≡ [])
 Wrote NotAVolume ending c text = text ≡ played_text c.played ++ no_volume_line
@@ -241,7 +241,7 @@ abbrev pub RestsOnTaken : {table : List Row} {script : Script} → Status → (b
 RestsOnTaken Memory boards taken c text = taken.at_end ⊎ DoneIsWhole taken.bytes c.done c.rest c.begun
 RestsOnTaken ReadFault boards taken c text = AreWhole taken.bytes c.done × AllWhole taken.bytes c.done
 RestsOnTaken WriteFault boards taken c text = taken.at_end ⊎ (IsSettled boards taken.bytes
-    ⊎ ((DoneIsWhole taken.bytes c.done c.rest c.begun × IsFrontOfLines c.played text)
+    ⊎ ((DoneIsWhole taken.bytes c.done c.rest c.begun × IsPrefixOfLines c.played text)
     ⊎ ((line : List ℕ) × BoardsEndIt c line × NextIsWhole taken.bytes c.done c.rest)))
 RestsOnTaken FlashFault boards taken c text = taken.at_end ⊎ NextIsWhole taken.bytes c.done c.rest
 RestsOnTaken NotAVolume boards taken c text = taken.at_end ⊎ NextIsWhole taken.bytes c.done c.rest

@@ -2,7 +2,7 @@
 use Rattle.std.specs.Prelude.{◌≡◌, ◌≢◌, ◌⊎◌, ℕ, ◌+◌, ◌<◌, ◌≤◌, Bool, true, false, List, [], ◌∷◌, ◌++◌, length, map, Option, Some}
 use Rattle.std.specs.Prelude.{None, Result, Ok, Err}
 use Rattle.std.specs.List.{AllByRecursion}
-use Rattle.dg_base.specs.Outside.{Puts, PutsFront}
+use Rattle.dg_base.specs.Outside.{Puts, PutsPrefix}
 use Rattle.dg_nor.specs.Device.{Device}
 use Rattle.dg_script.specs.Fitting.{StandsAt, FitsLine, IsPlayed, UsesBoard}
 use Rattle.dg_script.specs.declared.place.Place.{Place}
@@ -22,7 +22,7 @@ use Rattle.dg_rules.specs.Runs.{Played}
 use Rattle.dg_script.specs.Items.{Item, items_of}
 use Rattle.dg_world.specs.Boards.{BoardStopped}
 use Rattle.dg_replay.specs.Boards.{BoardsStand, StoppedIn, InSome, NoVolumeIn, LacksImage}
-use Rattle.dg_replay.specs.Items.{Ground, UsesBoards, beginning_of, motes_in, lacking}
+use Rattle.dg_replay.specs.Items.{StartState, UsesBoards, beginning_of, motes_in, lacking}
 use Rattle.dg_replay.specs.Ending.{Ending, NoBoards, TooManyEvents, FaultAt, script_of, events_in, InBounds, ending_line}
 use Rattle.dg_replay.specs.Near.{behind_lines, FewBytesBehind}
 use Rattle.dg_replay.specs.Untouched.{KeepBytes, FormatsNone}
@@ -33,8 +33,8 @@ use Rattle.dg_replay.specs.Replayed.{NextIsWhole}
 use Rattle.dg_replay.specs.Replayed.{DoneIsWhole, RestsOnTaken, ReadsNear, NoVolumeThere, NoImageThere, no_volume_line}
 use Rattle.dg_replay.specs.Replayed.{no_image_line}
 use Rattle.dg_replay.specs.Shown.{Saw, StaysSeen, stores_in, events_played}
-use Rattle.dg_replay.specs.Stages.{Basis, DoneSoFar, ReplayState, LineRead, Span, BytesTaken, Failures, told_so_far, boards_told}
-use Rattle.dg_replay.specs.Stages.{span_between}
+use Rattle.dg_replay.specs.Stages.{Baseline, DoneSoFar, ReplayState, LineRead, Span, BytesTaken, Failures, told_so_far}
+use Rattle.dg_replay.specs.Stages.{boards_told, span_between}
 use Rattle.dg_replay.specs.Playing.{Stood, PlayedLine, LineBegun, IsOneTooMany, LacksBoards, Grounded}
 use Rattle.dg_replay.specs.declared.player.Player.{Player}
 use Rattle.dg_script.specs.declared.line.Line.{Line}
@@ -48,7 +48,7 @@ use Rattle.dg_replay.specs.declared.stop.Stop.TheVariants.{Memory, BadInput, Wri
 use Rattle.dg_replay.specs.declared.stop.Stop.TheVariants.{NotAVolume}
 
 -- The line that a text spells was played, from a player and boards that stand for the world after some lines.
-pub record TextPlayed (basis : Basis) (text : List ℕ) (so_far : DoneSoFar) (a b : ReplayState) : Type 0 where
+pub record TextPlayed (basis : Baseline) (text : List ℕ) (so_far : DoneSoFar) (a b : ReplayState) : Type 0 where
   pub line : Line
   pub spelled : line_of a.player.place text ≡ Ok line
   pub reported : List ℕ
@@ -56,14 +56,14 @@ pub record TextPlayed (basis : Basis) (text : List ℕ) (so_far : DoneSoFar) (a 
   pub behind : b.player.place ≡ place_after a.player.place line
 
 -- and what is reported of it was written
-pub record TextReported (basis : Basis) (text : List ℕ) (behind : DoneSoFar) (a b : ReplayState) : Type 0 where
+pub record TextReported (basis : Baseline) (text : List ℕ) (behind : DoneSoFar) (a b : ReplayState) : Type 0 where
   pub played : TextPlayed basis text behind a b
   pub written : Puts a.written b.written played.reported
 
 -- or a front of it
-pub record TextCut (basis : Basis) (text : List ℕ) (behind : DoneSoFar) (a b : ReplayState) : Type 0 where
+pub record TextCut (basis : Baseline) (text : List ℕ) (behind : DoneSoFar) (a b : ReplayState) : Type 0 where
   pub played : TextPlayed basis text behind a b
-  pub written : PutsFront a.written b.written played.reported
+  pub written : PutsPrefix a.written b.written played.reported
 
 -- nothing was done
 pub record NothingDone (a b : ReplayState) : Type 0 where
@@ -98,22 +98,22 @@ NotFound place text number stop =
 -- was not all written
 abbrev pub CutAtStop : (done : List Line) → Line → Option World → (left : List Item) → (text : List ℕ) → Span → Type 0
 CutAtStop done line v left text s =
-    (text ≢ []) × StoppedIn (motes_in done) (line ∷ []) left v s.initial s.now × PutsFront s.before s.after text
+    (text ≢ []) × StoppedIn (motes_in done) (line ∷ []) left v s.initial s.now × PutsPrefix s.before s.after text
 
 -- the same where an event was not played, since there were a million before it
 abbrev pub CutAtTooMany : Option World → (left : List Item) → (text : List ℕ) → Span → Type 0
 CutAtTooMany v left text s =
-    InSome v (λ u. IsOneTooMany u left) × BoardsStand v s.initial s.now × PutsFront s.before s.after text
+    InSome v (λ u. IsOneTooMany u left) × BoardsStand v s.initial s.now × PutsPrefix s.before s.after text
 
 -- the same where an event found no image to start, which no script with golden meets
 abbrev pub CutAtImage : Option World → (left : List Item) → (text : List ℕ) → Span → Type 0
 CutAtImage v left text s =
-    (text ≢ []) × InSome v (λ u. LacksImage u left s.initial s.now) × PutsFront s.before s.after text
+    (text ≢ []) × InSome v (λ u. LacksImage u left s.initial s.now) × PutsPrefix s.before s.after text
 
 -- all of it was written, or a front
 abbrev pub BegunWrittenOr : Stop → Stop → (text : List ℕ) → (before after : Option (List ℕ)) → (write_failed : Type 0) → Type 0
 BegunWrittenOr stop result text before after failed =
-    ((result ≡ stop) × Puts before after text) ⊎ ((result ≡ WriteFault) × failed × (text ≢ []) × PutsFront before after text)
+    ((result ≡ stop) × Puts before after text) ⊎ ((result ≡ WriteFault) × failed × (text ≢ []) × PutsPrefix before after text)
 
 -- what comes of writing what is reported of a line that the replay did not end, and why it stops then
 abbrev pub BegunWritten : Stop → Stop → (text : List ℕ) → (before after : Option (List ℕ)) → (write_failed : Type 0) → Type 0
@@ -130,7 +130,7 @@ BegunAndCut initial behind a b line = LineBegun behind.lines line behind.world a
 
 -- What playing the text of a line answers after some lines. The player, the boards and what was written were a before it,
 -- and are b then.
-abbrev pub TextAnswer : Basis → Result (Unit {0}) Stop → LineRead → (behind : DoneSoFar) → (a b : ReplayState)
+abbrev pub TextAnswer : Baseline → Result (Unit {0}) Stop → LineRead → (behind : DoneSoFar) → (a b : ReplayState)
     → (write_failed : Type 0) → Type 0
 TextAnswer basis (Ok u) read behind a b failed = TextReported basis read.text behind a b
 TextAnswer basis (Err Memory) read behind a b failed = NothingDone a b
@@ -166,7 +166,7 @@ pub record Reached (table : List Row) (ends : Bool) (script : Script) (texts : L
   pub fault : (script_from ends p.place number texts).fault ≡ script.fault
   pub numbered : number ≡ length done + 1
   pub items : map item_played played ≡ items_of done
-  pub ground : Ground
+  pub ground : StartState
   pub run : RunsTo (beginning_of ground done).world played last
   pub grounded : Grounded table s.initial ground done
   pub reported : Puts s.before s.after (played_text played)
@@ -187,7 +187,7 @@ seen_of from played = λ stores events. (stores ≡ stores_in from) × (events �
 
 -- A script was played so far, what was written is a front of what is reported of that, and P holds of how far,
 -- and of what was written.
-pub record PlayedFront (table : List Row) (script : Script) (initial : List Device) (before after : Option (List ℕ))
+pub record PlayedPrefix (table : List Row) (script : Script) (initial : List Device) (before after : Option (List ℕ))
     (P : Progress table script → List ℕ → Type 0) : Type 0 where
   pub came : Progress table script
   pub text : List ℕ
@@ -225,12 +225,12 @@ pub record ReportedBefore {table : List Row} {script : Script} (line : ℕ) (c :
 abbrev pub StopsAtText : (table : List Row) → Stop → (script : Script) → (W : Progress table script → Type 0)
     → (number : ℕ) → Span → (write_failed : Type 0) → Type 0
 StopsAtText table Memory script W number s failed =
-    PlayedFront table script s.initial s.before s.after (λ c text. BoardsStand c.last s.initial s.now × W c)
+    PlayedPrefix table script s.initial s.before s.after (λ c text. BoardsStand c.last s.initial s.now × W c)
 StopsAtText table (BadInput line fault) script W number s failed = (line ≡ number)
     × PlayedUpTo table script s.initial s.before s.after (λ c. (c.rest ≡ []) × (script.fault ≡ Some (line, fault))
     × BoardsStand c.last s.initial s.now × HasFew script s.initial × W c)
 StopsAtText table WriteFault script W number s failed = failed
-    × PlayedFront table script s.initial s.before s.after (λ c text. BoardsLeft status.WriteFault c s.initial s.now
+    × PlayedPrefix table script s.initial s.before s.after (λ c text. BoardsLeft status.WriteFault c s.initial s.now
     × ReportedBefore number c text × W c)
 StopsAtText table FlashFault script W number s failed =
     PlayedUpTo table script s.initial s.before s.after
@@ -310,13 +310,13 @@ pub record ReadyToEnd (table : List Row) (script : Script) (ending : Ending) (pi
 abbrev pub EndsWith : Status → Status → List ℕ → (before after : Option (List ℕ)) → (write_failed : Type 0) → Type 0
 EndsWith result wanted piece before after failed =
     ((result ≡ wanted) × Puts before after piece)
-    ⊎ ((result ≡ status.WriteFault) × PutsFront before after piece × failed)
+    ⊎ ((result ≡ status.WriteFault) × PutsPrefix before after piece × failed)
     ⊎ ((result ≡ status.Memory) × (after ≡ before))
 
 -- the same where it asks for no memory
 abbrev pub EndsWritten : Status → Status → List ℕ → (before after : Option (List ℕ)) → (write_failed : Type 0) → Type 0
 EndsWritten result wanted piece before after failed =
-    ((result ≡ wanted) × Puts before after piece) ⊎ ((result ≡ status.WriteFault) × PutsFront before after piece × failed)
+    ((result ≡ wanted) × Puts before after piece) ⊎ ((result ≡ status.WriteFault) × PutsPrefix before after piece × failed)
 
 -- how a replay that stopped ends
 abbrev pub StopEnds : Stop → Status → (before after : Option (List ℕ)) → (write_failed : Type 0) → Type 0

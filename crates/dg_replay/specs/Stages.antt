@@ -9,11 +9,11 @@ use Rattle.dg_replay.specs.Shown.{Saw}
 use Rattle.dg_replay.specs.declared.player.Player.{Player}
 
 -- What a replay is held against: a table of images, and the boards as they were when it began.
-pub record Basis : Type 0 where
+pub record Baseline : Type 0 where
   pub table : List Row
   pub boards : List Device
 
-abbrev pub based_on : (table : List Row) (boards : List Device) → Basis
+abbrev pub based_on : (table : List Row) (boards : List Device) → Baseline
 based_on table boards = record { table = table; boards = boards }
 
 -- What was done so far: these lines, which lead to this world, None before the boards are used.

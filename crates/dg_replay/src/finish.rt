@@ -1,7 +1,7 @@
 //! The end of a report.
 ghost use Rattle.std.specs.Prelude.{◌≡◌, ◌≢◌, ◌⊎◌, ◌≤◌, ◌++◌, List, map, OnOk};
 ghost use Rattle.dg_words.specs.Counts.{Rose};
-ghost use Rattle.dg_base.specs.Outside.{Puts, PutsFront};
+ghost use Rattle.dg_base.specs.Outside.{Puts, PutsPrefix};
 ghost use Rattle.dg_nor.specs.Device.{Device};
 ghost use Rattle.dg_script.specs.Report.{report_text};
 ghost use Rattle.dg_rules.specs.World.{World as RuleWorld};
@@ -24,7 +24,7 @@ pub fn end_with<K: Sink>(out: &mut K, piece: &[u8], status: Status) -> Status
         (Rose (K.faults out.old) (K.faults out.new)) }
     ensures written { ((result ≡ status) × Puts (K.written out.old) (K.written out.new) piece.now
         × (K.faults out.new ≡ K.faults out.old))
-        ⊎ ((result ≡ Status.WriteFault) × PutsFront (K.written out.old) (K.written out.new) piece.now
+        ⊎ ((result ≡ Status.WriteFault) × PutsPrefix (K.written out.old) (K.written out.new) piece.now
         × Rose (K.faults out.old) (K.faults out.new)) }
     ensures counts { K.faults out.old ≤ K.faults out.new }
     ensures unfailed { result ≢ Status.WriteFault → K.faults out.new ≡ K.faults out.old }

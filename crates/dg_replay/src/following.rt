@@ -6,7 +6,7 @@ ghost use Rattle.dg_object.specs.Object.{Row};
 ghost use Rattle.dg_replay.specs.Following.{HaltedAs, NextPlayed, AllAsBefore};
 ghost use Rattle.dg_replay.specs.Playing.{Stood, Ready};
 ghost use Rattle.dg_replay.specs.Replaying.{TextAnswer, InputAnswer};
-ghost use Rattle.dg_replay.specs.Stages.{Basis, DoneSoFar, replay_state, line_read, span, bytes_taken, failures};
+ghost use Rattle.dg_replay.specs.Stages.{Baseline, DoneSoFar, replay_state, line_read, span, bytes_taken, failures};
 ghost use Rattle.dg_replay.specs.Untouched.{TextKeepsBytes};
 
 use crate::halt::Halt;
@@ -54,7 +54,7 @@ fn play_next<S: Source, K: Sink, N: Nor, W: Watcher<N>>(
         (replay_state player.old (map N.device boards.old.items) (K.written out.old) (W.saw watcher.old))
         (replay_state player.new (map N.device boards.new.items) (K.written out.new) (W.saw watcher.new)))
         (λ r text. TextKeepsBytes player.old.place text (map N.device boards.old.items) (map N.device boards.new.items)
-        × ((basis : Basis) (behind : DoneSoFar)
+        × ((basis : Baseline) (behind : DoneSoFar)
         → Stood player.old behind.lines behind.world basis.boards (map N.device boards.old.items)
         → TextAnswer basis r (line_read text (reader.old.number + 1)) behind
         (replay_state player.old (map N.device boards.old.items) (K.written out.old) (W.saw watcher.old))

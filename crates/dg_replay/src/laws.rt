@@ -6,7 +6,7 @@ ghost use Rattle.dg_script.specs.Places.{first_place};
 ghost use Rattle.dg_script.specs.Script.{script_from};
 ghost use Rattle.dg_script.specs.Sizes.{most_used_bytes};
 ghost use Rattle.dg_replay.specs.Ending.{script_of, whole_lines};
-ghost use Rattle.dg_replay.specs.Fronts.{BeginsAs};
+ghost use Rattle.dg_replay.specs.Prefixes.{BeginsAs};
 ghost use Rattle.dg_replay.specs.Replayed.{Progress};
 ghost use Rattle.dg_replay.specs.Promised.{Headline};
 ghost use Rattle.dg_replay.specs.WholeLines.{AreWholeLines};

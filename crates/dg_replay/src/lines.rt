@@ -1,7 +1,7 @@
 //! Reads the text of a line, and writes what is reported of one that was played.
 ghost use Rattle.std.specs.Prelude.{◌≡◌, ◌≢◌, ◌≤◌, [], OnOk, OnErr, MatchResult, Err};
 ghost use Rattle.dg_words.specs.Counts.{Rose};
-ghost use Rattle.dg_base.specs.Outside.{Puts, PutsFront};
+ghost use Rattle.dg_base.specs.Outside.{Puts, PutsPrefix};
 ghost use Rattle.dg_replay.specs.Replaying.{LineFound, NotFound, StopsAtLine, BegunWritten};
 
 use crate::stop::Stop;
@@ -13,7 +13,7 @@ use std::alloc::Global;
 #[inline(never)]
 pub fn put_piece<K: Sink>(out: &mut K, piece: &[u8]) -> Result<(), Stop>
     ensures ok { OnOk result (Puts (K.written out.old) (K.written out.new) piece.now) }
-    ensures front { OnErr result (PutsFront (K.written out.old) (K.written out.new) piece.now) }
+    ensures front { OnErr result (PutsPrefix (K.written out.old) (K.written out.new) piece.now) }
     ensures cause { OnErr result ((result ≡ Err Stop.WriteFault) × Rose (K.faults out.old) (K.faults out.new)) }
     ensures counts { K.faults out.old ≤ K.faults out.new }
     ensures unfailed { result ≢ Err Stop.WriteFault → K.faults out.new ≡ K.faults out.old }
@@ -27,7 +27,7 @@ pub fn put_piece<K: Sink>(out: &mut K, piece: &[u8]) -> Result<(), Stop>
 /// Writes what is reported of a line, in one piece, where it is something.
 pub fn write_text<K: Sink>(out: &mut K, text: &[u8]) -> Result<(), Stop>
     ensures ok { OnOk result (Puts (K.written out.old) (K.written out.new) text.now) }
-    ensures front { OnErr result (PutsFront (K.written out.old) (K.written out.new) text.now × (text.now ≢ [])) }
+    ensures front { OnErr result (PutsPrefix (K.written out.old) (K.written out.new) text.now × (text.now ≢ [])) }
     ensures cause { OnErr result ((result ≡ Err Stop.WriteFault) × Rose (K.faults out.old) (K.faults out.new)) }
     ensures counts { K.faults out.old ≤ K.faults out.new }
     ensures unfailed { result ≢ Err Stop.WriteFault → K.faults out.new ≡ K.faults out.old }

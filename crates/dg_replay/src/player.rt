@@ -5,7 +5,7 @@ ghost use Rattle.dg_script.specs.Fitting.{IsGolden};
 ghost use Rattle.dg_script.specs.Places.{first_place, place_after};
 ghost use Rattle.dg_replay.specs.Playing.{Stood, MayPlay, gone_on, Counted, PlayedAs, FormattedAs, MountedAs, mount_stop};
 ghost use Rattle.dg_replay.specs.Shown.{StaysSeen};
-ghost use Rattle.dg_replay.specs.Stages.{Basis, DoneSoFar, told_so_far, boards_told};
+ghost use Rattle.dg_replay.specs.Stages.{Baseline, DoneSoFar, told_so_far, boards_told};
 ghost use Rattle.dg_replay.specs.Untouched.{KeepBytes, LineKeepsBytes};
 
 use crate::items::{LineReport, play_event, play_image, play_round, play_sweeps};
@@ -108,7 +108,7 @@ fn play_golden<N: Nor, W: Watcher<N>>(
     requires fits { IsGolden name.now used content.now }
     requires counted { Counted player.old.place.motes (length boards.old.items) }
     requires unready { player.old.place.ready ≡ false }
-    ensures played { (basis : Basis) (behind : DoneSoFar) (text : List ℕ)
+    ensures played { (basis : Baseline) (behind : DoneSoFar) (text : List ℕ)
         → Stood player.old behind.lines behind.world basis.boards (map N.device boards.old.items)
         → PlayedAs basis result (gone_on player.new (Line.Golden name.now used content.now)) behind
         (Line.Golden name.now used content.now)
@@ -168,7 +168,7 @@ fn play_boards<N: Nor, W: Watcher<N>>(
 ) -> Result<(), Stop>
     requires counted { Counted player.old.place.motes (length boards.old.items) }
     requires unready { player.old.place.ready ≡ false }
-    ensures played { (basis : Basis) (behind : DoneSoFar) (text : List ℕ)
+    ensures played { (basis : Baseline) (behind : DoneSoFar) (text : List ℕ)
         → Stood player.old behind.lines behind.world basis.boards (map N.device boards.old.items)
         → PlayedAs basis result (gone_on player.new Line.Boards) behind Line.Boards
         (boards_told (map N.device boards.old.items) (told_so_far text (W.saw watcher.old)))
@@ -210,7 +210,7 @@ pub fn play_line<N: Nor, W: Watcher<N>>(
     watcher: &mut W,
 ) -> Result<(), Stop>
     requires may { MayPlay line.old player.old (map N.device boards.old.items) }
-    ensures played { (basis : Basis) (behind : DoneSoFar)
+    ensures played { (basis : Baseline) (behind : DoneSoFar)
         → Stood player.old behind.lines behind.world basis.boards (map N.device boards.old.items)
         → PlayedAs basis result (gone_on player.new line.new) behind line.old
         (boards_told (map N.device boards.old.items) (told_so_far line_report.old.text.items (W.saw watcher.old)))

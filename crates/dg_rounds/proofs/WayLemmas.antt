@@ -7,7 +7,7 @@ use Rattle.std.proofs.lemmas.Option.{same_Some}
 use Rattle.std.proofs.lemmas.List.{length-set, get_or-set_same, get_or-set_other, get_or-replicate, get_or_past, length-replicate}
 use Rattle.std.proofs.lemmas.List.Elements.{Contains-append_left, Contains-append_right, Contains-append_cases}
 use Rattle.std.proofs.lemmas.List.Sums.{sum_by-set, count_by-le-length}
-use Rattle.dg_rounds.specs.Ways.{IsLinked, Way, here, more, IsLevel}
+use Rattle.dg_rounds.specs.LinkPaths.{IsLinked, LinkPath, here, more, IsLevel}
 use Rattle.dg_rounds.specs.Marks.{mark_of, unmarked, Marks, Spreads}
 
 abbrev pub nothing : Option ℕ
@@ -140,14 +140,14 @@ spreads_more links p q level old mid between new r t lp lq s h k =
 
 -- all motes that are so many links away or fewer are marked, and no others
 pub record Reached (links : List (ℕ × ℕ)) (from level : ℕ) (levels : List (Option ℕ)) : Type 0 where
-  pub sound : (m n : ℕ) → mark_of levels m ≡ Some n → (n ≤ level) × Way links from n m
-  pub complete : (m n : ℕ) → n ≤ level → Way links from n m → (k : ℕ) × (mark_of levels m ≡ Some k) × (k ≤ n)
+  pub sound : (m n : ℕ) → mark_of levels m ≡ Some n → (n ≤ level) × LinkPath links from n m
+  pub complete : (m n : ℕ) → n ≤ level → LinkPath links from n m → (k : ℕ) × (mark_of levels m ≡ Some k) × (k ≤ n)
 
 of_some : (o : Option ℕ) → IsSome o → (k : ℕ) × (o ≡ Some k)
 of_some None some = absurd cc
 of_some (Some k) some = (k, refl)
 
-no_way : (links : List (ℕ × ℕ)) (from n m : ℕ) → Way links from n m → n ≡ 0 → m ≡ from
+no_way : (links : List (ℕ × ℕ)) (from n m : ℕ) → LinkPath links from n m → n ≡ 0 → m ≡ from
 no_way links from n m here e = refl
 no_way links from n m (more k mid to w l) e = absurd (omega arith)
 
@@ -164,8 +164,8 @@ reached_first links from motes l =
       complete = λ m n h w. (0, ap (mark_of (slice_set (replicate motes nothing) from (Some 0))) (no_way links from n m w (omega arith)) ∙ start, omega arith);
     }
   where
-    at_start : (m n : ℕ) → m ≡ from → n ≡ 0 → Way links from n m
-    at_start m n same none = subst (λ x. Way links from x m) (sym none) (subst (λ x. Way links from 0 x) (sym same) here)
+    at_start : (m n : ℕ) → m ≡ from → n ≡ 0 → LinkPath links from n m
+    at_start m n same none = subst (λ x. LinkPath links from x m) (sym none) (subst (λ x. LinkPath links from 0 x) (sym same) here)
 
     none_at : (m : ℕ) → get_or (replicate motes nothing) m nothing ≡ nothing
     none_at m = elim (cases_lt m motes) [
@@ -201,12 +201,12 @@ pub reached_more : (links : List (ℕ × ℕ)) (from level : ℕ) (old new : Lis
 reached_more links from level old new reached s = record {
   sound = λ m n e. ⊎_elim
       (λ o. let w = reached.sound m n o in (omega (arith, w.0), w.1))
-      (λ w. let near = reached.sound w.1.0 level w.1.1 in (omega (arith, w.0), subst (λ x. Way links from x m) (sym (w.0 ∙ add-one level)) (more level w.1.0 m near.1 w.1.2)))
+      (λ w. let near = reached.sound w.1.0 level w.1.1 in (omega (arith, w.0), subst (λ x. LinkPath links from x m) (sym (w.0 ∙ add-one level)) (more level w.1.0 m near.1 w.1.2)))
       (s.marked m n e);
   complete = λ m n h w. complete m n w h;
 }
   where
-    complete : (m n : ℕ) → Way links from n m → n ≤ level + 1 → (k : ℕ) × (mark_of new m ≡ Some k) × (k ≤ n)
+    complete : (m n : ℕ) → LinkPath links from n m → n ≤ level + 1 → (k : ℕ) × (mark_of new m ≡ Some k) × (k ≤ n)
     complete m n here h = let t = reached.complete m 0 (omega arith) here in (t.0, s.kept m t.0 t.1, t.2)
     complete m n (more k mid to w l) h =
         let t = reached.complete mid k (omega arith) w in
@@ -215,7 +215,7 @@ reached_more links from level old new reached s = record {
 
 -- where nothing more is marked, every way is found
 all_found : (links : List (ℕ × ℕ)) (from level : ℕ) (levels : List (Option ℕ)) → Reached links from level levels → Spreads (IsLinked links) level levels levels
-    → (n m : ℕ) → Way links from n m → (k : ℕ) × (mark_of levels m ≡ Some k) × (k ≤ n)
+    → (n m : ℕ) → LinkPath links from n m → (k : ℕ) × (mark_of levels m ≡ Some k) × (k ≤ n)
 all_found links from level levels reached s n m here = reached.complete m 0 (omega arith) here
 all_found links from level levels reached s n m (more j mid to w l) =
     let t = all_found links from level levels reached s j mid w in

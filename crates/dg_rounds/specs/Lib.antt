@@ -1,5 +1,5 @@
 pub mod Rounds
 pub mod Left
-pub mod Ways
+pub mod LinkPaths
 pub mod Marks
 pub mod Turns

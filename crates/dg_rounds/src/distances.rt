@@ -1,7 +1,7 @@
 //! How far motes are from one of them, and how many sweeps are enough.
 ghost use Rattle.std.specs.Prelude.{◌≡◌, ℕ, ◌+◌, ◌-◌, ◌<◌, ◌≤◌, All, IfOk, IsTrue, Option, Some, None, false, length, vec_len};
 ghost use Rattle.std.specs.Prelude.{slice_index_or, slice_set};
-ghost use Rattle.dg_rounds.specs.Ways.{IsLevel, IsLinked};
+ghost use Rattle.dg_rounds.specs.LinkPaths.{IsLevel, IsLinked};
 ghost use Rattle.dg_rounds.specs.Marks.{Marks, Spreads, unmarked};
 
 use std::alloc::{AllocError, Global};

@@ -216,7 +216,7 @@ module _ (laws : StepLaws) (past : Past) (w : World) (agrees : WorldAgrees w) (s
 
     -- what an event that brings the frame may change
     abbrev Brought : Bool → SmallMote → Type 0
-    Brought blew new = SmallIsOn (small_mote Listener) × (mid : SmallMote) × LegalFrame past blew m (wide_at w m) (Some bytes) (small_mote Listener) mid × (new ≡ off_after blew mid) × (w.table ≡ w.table)
+    Brought fired new = SmallIsOn (small_mote Listener) × (mid : SmallMote) × LegalFrame past fired m (wide_at w m) (Some bytes) (small_mote Listener) mid × (new ≡ off_after fired mid) × (w.table ≡ w.table)
 
     record Hears : Type 0 where
       pub whole : (runs : Option Running) → ◌≡◌ {A = Option (Option Running)} (Some (Some (record { image_version = r.image_version; mote = (heard_of r.mote Listener.store Now word bytes).mote }))) (Some runs) → Brought false (mote (last Heard) runs)
@@ -301,9 +301,9 @@ module _ (laws : StepLaws) (past : Past) (w : World) (agrees : WorldAgrees w) (s
     held_old : holds (small_mote Here) image ≡ option_map holding (held Here.store row.image)
     held_old = holds_at Here image ∙ ap (λ (i : ℕ). option_map holding (held Here.store i)) (sym fact.image_is)
 
-    inject_is_legal : (blew : Bool) (h : Option Holding) → ((blew ≡ false) × (h ≡ Some (whole row))) ⊎ ((blew ≡ true) × CutHolding (option_map holding (held Here.store row.image)) row h)
-        → LegalInject w.declared w.table More blew (record { image = image; version = version }) (small_mote Here) (taking (small_mote Here) image h)
-    inject_is_legal blew h how = record {
+    inject_is_legal : (fired : Bool) (h : Option Holding) → ((fired ≡ false) × (h ≡ Some (whole row))) ⊎ ((fired ≡ true) × CutHolding (option_map holding (held Here.store row.image)) row h)
+        → LegalInject w.declared w.table More fired (record { image = image; version = version }) (small_mote Here) (taking (small_mote Here) image h)
+    inject_is_legal fired h how = record {
       known = let low = (refused_not Here.store row none).0 in let same = fact.image_is in omega (arith, low, same);
       row = row;
       is_declared = known;
@@ -353,14 +353,14 @@ module _ (laws : StepLaws) (past : Past) (w : World) (agrees : WorldAgrees w) (s
 
   -- ---- every step
 
-  legal_world : (x : Step) (d : Deed) (y : Site) (blew : Bool) → mote_of x.event < length w.sites
-      → LegalAt (step_facts past w.declared blew (wide_at w (mote_of x.event)) (brought w x.event)) w.table x.event (small_mote (site w (mote_of x.event))) (small_mote y) d.table
-      → LegalStep (step_facts past w.declared blew (wide_at w (mote_of x.event)) (brought w x.event)) x.event (mote_of x.event) (small w) (small (ended_world w x d y))
-  legal_world x d y blew here there =
+  legal_world : (x : Step) (d : Deed) (y : Site) (fired : Bool) → mote_of x.event < length w.sites
+      → LegalAt (step_facts past w.declared fired (wide_at w (mote_of x.event)) (brought w x.event)) w.table x.event (small_mote (site w (mote_of x.event))) (small_mote y) d.table
+      → LegalStep (step_facts past w.declared fired (wide_at w (mote_of x.event)) (brought w x.event)) x.event (mote_of x.event) (small w) (small (ended_world w x d y))
+  legal_world x d y fired here there =
       let m = mote_of x.event in
       let mid : World = record (counted w (dt_of x.event)) { table = d.table } in
       record {
-        there = subst₂ (λ (a b : SmallMote). LegalAt (step_facts past w.declared blew (wide_at w (mote_of x.event)) (brought w x.event)) w.table x.event a b d.table) (sym (small_at w m)) (sym (small_there mid m y here)) there;
+        there = subst₂ (λ (a b : SmallMote). LegalAt (step_facts past w.declared fired (wide_at w (mote_of x.event)) (brought w x.event)) w.table x.event a b d.table) (sym (small_at w m)) (sym (small_there mid m y here)) there;
         others = λ j other. small_other mid m j y other;
         count = small_count mid m y;
       }

@@ -58,13 +58,13 @@ module _ (laws : ChangeLaws) (table : List Row) (past : Past) (m : ℕ) (x : Sit
 
   -- this store may be left, by whether the power was cut, where the frame is read so
   abbrev May : Result Message FrameFault → Bool → Store → Type 0
-  May r blew t = LegalMessage (Came m bytes past) blew m wide r (small_mote x) (mote t x.runs) × IsCalm x.store t
+  May r fired t = LegalMessage (Came m bytes past) fired m wide r (small_mote x) (mote t x.runs) × IsCalm x.store t
 
   pub record Ends (r : Result Message FrameFault) : Type 0 where
     pub cut : Through (May r true) Step
     pub whole : May r false (last Step)
 
-  rests_ends : (r : Result Message FrameFault) → ((blew : Bool) → May r blew x.store) → Step ≡ resting x.store 0 → Ends r
+  rests_ends : (r : Result Message FrameFault) → ((fired : Bool) → May r fired x.store) → Step ≡ resting x.store 0 → Ends r
   rests_ends r may rests = record {
     cut = subst (Through (May r true)) (sym rests) (Through-resting (May r true) x.store 0 (may true));
     whole = subst (λ (t : Trail Store). May r false (last t)) (sym rests) (subst (May r false) (sym (last-resting x.store 0)) (may false));
@@ -82,25 +82,25 @@ module _ (laws : ChangeLaws) (table : List Row) (past : Past) (m : ℕ) (x : Sit
 
   -- the wide kind, or the narrow one
   advert_ends : (kind : Bool) (source : ℕ) (entries : List Entry) (order : Order) (r : Result Message FrameFault) → message_of bytes n.wide ≡ Ok (advert_by kind source entries order)
-      → ((blew : Bool) (t : Store) → TakesAdvert entries order blew x.store t → May r blew t) → Ends r
+      → ((fired : Bool) (t : Store) → TakesAdvert entries order fired x.store t → May r fired t) → Ends r
   advert_ends kind source entries order r is may =
       let known = laws.adverts n x.store now word bytes kind source entries order is in
       record { cut = Through-map (TakesAdvert entries order true x.store) (May r true) (may true) Step known.0; whole = may false (last Step) known.1 }
 
   ends_by : (r : Result Message FrameFault) → message_of bytes n.wide ≡ r → Ends r
-  ends_by (Err fault) is = rests_ends (Err fault) (λ blew. (refl, calm_here)) (refused_trail laws n x.store now word bytes fault is)
+  ends_by (Err fault) is = rests_ends (Err fault) (λ fired. (refl, calm_here)) (refused_trail laws n x.store now word bytes fault is)
   ends_by (Ok (Advert source entries order)) is =
-      advert_ends false source entries order (Ok (Advert source entries order)) is (λ blew t h. (advert_legal blew entries order x t h, takes_calm entries order blew t h))
+      advert_ends false source entries order (Ok (Advert source entries order)) is (λ fired t h. (advert_legal fired entries order x t h, takes_calm entries order fired t h))
   ends_by (Ok (Request source to image version page want)) is =
-      rests_ends (Ok (Request source to image version page want)) (λ blew. (refl, calm_here)) (laws.requests n x.store now word bytes source to image version page want is)
+      rests_ends (Ok (Request source to image version page want)) (λ fired. (refl, calm_here)) (laws.requests n x.store now word bytes source to image version page want is)
   ends_by (Ok (Wide source entries order)) is =
-      advert_ends true source entries order (Ok (Wide source entries order)) is (λ blew t h. (advert_legal blew entries order x t h, takes_calm entries order blew t h))
+      advert_ends true source entries order (Ok (Wide source entries order)) is (λ fired t h. (advert_legal fired entries order x t h, takes_calm entries order fired t h))
   ends_by (Ok (Packet source image version page q content)) is =
       let r : Result Message FrameFault = Ok (Packet source image version page q content) in
       let Q : Store → Type 0 = λ t. (t ≡ x.store) ⊎ Completes n.mode image version page q x.store t in
       let known : Through Q Step = laws.packets n x.store now word bytes source image version page q content is in
-      let may : (blew : Bool) (t : Store) → Q t → May r blew t =
-      λ blew t c. (packet_legal past m wide bytes x source image version page q content (ap (message_of bytes) (sym same) ∙ is) table n.mode agrees there t c, completes_calm image version page q t c) in
+      let may : (fired : Bool) (t : Store) → Q t → May r fired t =
+      λ fired t c. (packet_legal past m wide bytes x source image version page q content (ap (message_of bytes) (sym same) ∙ is) table n.mode agrees there t c, completes_calm image version page q t c) in
       record { cut = Through-map Q (May r true) (may true) Step known; whole = may false (last Step) (Through-last Q Step known) }
 
   pub heard_ends : Ends (message_of bytes wide)

@@ -133,7 +133,7 @@ module _ (ends : (k : StartCause) (s : Store) → Boots s (boot k s)) (table : L
       other)
       way
 
-  -- where a cut blew in it
+  -- where a cut fired in it
   pub cut_start : (k : StartCause) (may : ImageVersion → Type 0) → ((r : Runs) → (boot k x.store).runs ≡ Some r → may (image_version_of r)) → Through (λ s. CutStart may (small_mote x) (mote s None)) (boot k x.store).trail
   cut_start k may chosen =
       let b = boot k x.store in

@@ -38,8 +38,8 @@ older_holding : (o : Option Held) (version : ℕ) → IfSome o (λ h. h.version 
 older_holding None version older = tt
 older_holding (Some h) version older = older
 
-pub advert_legal : (blew : Bool) (entries : List Entry) (order : Order) (x : Site) (t : Store) → TakesAdvert entries order blew x.store t → LegalAdvert blew entries order (small_mote x) (mote t x.runs)
-advert_legal blew entries order x t h =
+pub advert_legal : (fired : Bool) (entries : List Entry) (order : Order) (x : Site) (t : Store) → TakesAdvert entries order fired x.store t → LegalAdvert fired entries order (small_mote x) (mote t x.runs)
+advert_legal fired entries order x t h =
     let i = h.image in
     let f : Option Held → Option Holding = option_map holding in
     let old : holds (small_mote x) i ≡ f (held x.store i) = holds_at x i in

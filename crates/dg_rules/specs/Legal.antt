@@ -55,7 +55,7 @@ CutHolding old row (Some new) =
     (old ≡ Some new)
     ⊎ ((new.version ≡ row.version) × ((h : Holding) → old ≡ Some h → h.version ≡ row.version → h.pages ≤ new.pages))
 
-pub record LegalInject (declared table after : List Row) (blew : Bool) (image_version : ImageVersion)
+pub record LegalInject (declared table after : List Row) (fired : Bool) (image_version : ImageVersion)
     (old new : SmallMote) : Type 0 where
   pub known : 1 ≤ image_version.image
   pub row : Row
@@ -64,11 +64,11 @@ pub record LegalInject (declared table after : List Row) (blew : Bool) (image_ve
   pub before : MayInject (holds old image_version.image) row
   pub held : Option Holding
   pub change : new ≡ taking old image_version.image held
-  pub how : ((blew ≡ false) × (held ≡ Some (whole row))) ⊎ ((blew ≡ true) × CutHolding (holds old image_version.image) row held)
+  pub how : ((fired ≡ false) × (held ≡ Some (whole row))) ⊎ ((fired ≡ true) × CutHolding (holds old image_version.image) row held)
 
-pub record LegalOrder (blew : Bool) (order : Order) (old new : SmallMote) : Type 0 where
+pub record LegalOrder (fired : Bool) (order : Order) (old new : SmallMote) : Type 0 where
   pub larger : old.order.number < order.number
-  pub change : (new ≡ record old { order = order }) ⊎ ((blew ≡ true) × (new ≡ old))
+  pub change : (new ≡ record old { order = order }) ⊎ ((fired ≡ true) × (new ≡ old))
 
 abbrev pub IsGoldenImageVersion : ImageVersion → Type 0
 IsGoldenImageVersion image_version = (image_version.image ≡ 0) × (image_version.version ≡ golden_version)
@@ -111,7 +111,7 @@ abbrev pub IsOlder : Option Holding → ℕ → Type 0
 IsOlder None version = Unit {0}
 IsOlder (Some h) version = h.version < version
 
-pub record LegalAdvert (blew : Bool) (entries : List Entry) (order : Order) (old new : SmallMote) : Type 0 where
+pub record LegalAdvert (fired : Bool) (entries : List Entry) (order : Order) (old new : SmallMote) : Type 0 where
   pub kept_order : Order
   pub order_change : (kept_order ≡ old.order) ⊎ ((kept_order ≡ order) × (old.order.number < order.number))
   pub image : ℕ
@@ -119,7 +119,7 @@ pub record LegalAdvert (blew : Bool) (entries : List Entry) (order : Order) (old
   pub held : Option Holding
   pub held_change : (held ≡ holds old image) ⊎ ((1 ≤ (entry_for entries image).have)
       × IsOlder (holds old image) (entry_for entries image).version
-      × ((held ≡ Some (record { version = (entry_for entries image).version; pages = 0 })) ⊎ ((blew ≡ true) × (held ≡ None))))
+      × ((held ≡ Some (record { version = (entry_for entries image).version; pages = 0 })) ⊎ ((fired ≡ true) × (held ≡ None))))
   pub change : new ≡ taking (record old { order = kept_order }) image held
 
 -- a page more is kept where all of its packets came
@@ -134,13 +134,13 @@ abbrev pub off_after : Bool → SmallMote → SmallMote
 off_after true x = record x { runs = None }
 off_after false x = x
 
-abbrev pub LegalMessage : Past → (blew : Bool) → ℕ → (wide : Bool) → Result Message FrameFault → SmallMote → SmallMote → Type 0
-LegalMessage past blew m wide (Err fault) old new = new ≡ old
-LegalMessage past blew m wide (Ok (Advert source entries order)) old new = LegalAdvert blew entries order old new
-LegalMessage past blew m wide (Ok (Request source to image version page want)) old new = new ≡ old
-LegalMessage past blew m wide (Ok (Packet source image version page q bytes)) old new =
+abbrev pub LegalMessage : Past → (fired : Bool) → ℕ → (wide : Bool) → Result Message FrameFault → SmallMote → SmallMote → Type 0
+LegalMessage past fired m wide (Err fault) old new = new ≡ old
+LegalMessage past fired m wide (Ok (Advert source entries order)) old new = LegalAdvert fired entries order old new
+LegalMessage past fired m wide (Ok (Request source to image version page want)) old new = new ≡ old
+LegalMessage past fired m wide (Ok (Packet source image version page q bytes)) old new =
     LegalPacket (AllCame m wide image version page past) image version page old new
-LegalMessage past blew m wide (Ok (Wide source entries order)) old new = LegalAdvert blew entries order old new
+LegalMessage past fired m wide (Ok (Wide source entries order)) old new = LegalAdvert fired entries order old new
 
 -- ---- a step
 
@@ -158,42 +158,42 @@ LegalReset table false old new = LegalStart table old new
 LegalReset table true old new = CutStart (MayStart table old) old new
 
 -- the frame that an event brings is the last of those that came, and its mote reads it as a wide one, or as a narrow one
-abbrev pub LegalFrame : Past → (blew : Bool) → ℕ → (wide : Bool) → Option (List ℕ) → SmallMote → SmallMote → Type 0
-LegalFrame past blew m wide None old new = ⊥
-LegalFrame past blew m wide (Some bytes) old new = LegalMessage (Came m bytes past) blew m wide (message_of bytes wide) old new
+abbrev pub LegalFrame : Past → (fired : Bool) → ℕ → (wide : Bool) → Option (List ℕ) → SmallMote → SmallMote → Type 0
+LegalFrame past fired m wide None old new = ⊥
+LegalFrame past fired m wide (Some bytes) old new = LegalMessage (Came m bytes past) fired m wide (message_of bytes wide) old new
 
 -- What is known of a step beside the small state: the past, what is declared, whether its cut fired, whether its mote is wide,
 -- and the frame that it brings.
 pub record StepFacts : Type 0 where
   pub past : Past
   pub declared : List Row
-  pub blew : Bool
+  pub fired : Bool
   pub wide : Bool
   pub frame : Option (List ℕ)
 
-abbrev pub step_facts : Past → (declared : List Row) → (blew wide : Bool) → (frame : Option (List ℕ)) → StepFacts
-step_facts past declared blew wide frame =
-    record { past = past; declared = declared; blew = blew; wide = wide; frame = frame }
+abbrev pub step_facts : Past → (declared : List Row) → (fired wide : Bool) → (frame : Option (List ℕ)) → StepFacts
+step_facts past declared fired wide frame =
+    record { past = past; declared = declared; fired = fired; wide = wide; frame = frame }
 
 -- What an event that is not refused may change at its mote, from one table to another. A cut that fired makes the mote off.
 abbrev pub LegalAt : StepFacts → List Row → Event → SmallMote → SmallMote → List Row → Type 0
-LegalAt f table (Tick m dt word) old new after = SmallIsOn old × LegalTick table f.blew old new × (after ≡ table)
-LegalAt f table (Reset m dt word) old new after = LegalReset table f.blew old new × (after ≡ table)
+LegalAt f table (Tick m dt word) old new after = SmallIsOn old × LegalTick table f.fired old new × (after ≡ table)
+LegalAt f table (Reset m dt word) old new after = LegalReset table f.fired old new × (after ≡ table)
 LegalAt f table (Inject m image version dt word) old new after =
-    (mid : SmallMote) × LegalInject f.declared table after f.blew (record { image = image; version = version }) old mid
-    × (new ≡ off_after f.blew mid)
+    (mid : SmallMote) × LegalInject f.declared table after f.fired (record { image = image; version = version }) old mid
+    × (new ≡ off_after f.fired mid)
 LegalAt f table (OrderEvent m number image version dt word) old new after =
-    (mid : SmallMote) × LegalOrder f.blew (record { number = number; image = image; version = version }) old mid
-    × (new ≡ off_after f.blew mid) × (after ≡ table)
+    (mid : SmallMote) × LegalOrder f.fired (record { number = number; image = image; version = version }) old mid
+    × (new ≡ off_after f.fired mid) × (after ≡ table)
 LegalAt f table (Hear m dt word number) old new after =
-    SmallIsOn old × (mid : SmallMote) × LegalFrame f.past f.blew m f.wide f.frame old mid
-    × (new ≡ off_after f.blew mid) × (after ≡ table)
+    SmallIsOn old × (mid : SmallMote) × LegalFrame f.past f.fired m f.wide f.frame old mid
+    × (new ≡ off_after f.fired mid) × (after ≡ table)
 LegalAt f table (Last from m dt word) old new after =
-    SmallIsOn old × (mid : SmallMote) × LegalFrame f.past f.blew m f.wide f.frame old mid
-    × (new ≡ off_after f.blew mid) × (after ≡ table)
+    SmallIsOn old × (mid : SmallMote) × LegalFrame f.past f.fired m f.wide f.frame old mid
+    × (new ≡ off_after f.fired mid) × (after ≡ table)
 LegalAt f table (Frame m dt word bytes) old new after =
-    SmallIsOn old × (mid : SmallMote) × LegalFrame f.past f.blew m f.wide f.frame old mid
-    × (new ≡ off_after f.blew mid) × (after ≡ table)
+    SmallIsOn old × (mid : SmallMote) × LegalFrame f.past f.fired m f.wide f.frame old mid
+    × (new ≡ off_after f.fired mid) × (after ≡ table)
 
 -- An event that is not refused changes only what its kind allows, at its mote alone.
 pub record LegalStep (facts : StepFacts) (event : Event) (mote : ℕ) (old new : Small) : Type 0 where

@@ -2,7 +2,7 @@
 use Rattle.std.proofs.Common.{◌≡◌, ℕ, zero, suc, ◌<◌, ◌≤◌, List, [], ◌∷◌, ◌++◌, length, take, drop, get_or, append_assoc, Result, Ok, Err, OnErr, refl, sym, ap, ◌∙◌, subst, arith}
 use Rattle.std.proofs.lemmas.List.{length-take, take-append-le}
 use Rattle.std.proofs.Math.Seq.{take-append_seam}
-use Rattle.dg_script.specs.Spelling.{field_text, fields_text, IsFrontOf}
+use Rattle.dg_script.specs.Spelling.{field_text, fields_text, IsPrefixOf}
 use Rattle.dg_script.specs.declared.spelling.Field.{Field}
 
 -- where an answer is an error, one fact follows from another
@@ -16,13 +16,13 @@ any_err (Ok x) h = tt
 any_err (Err e) h = h
 
 -- nothing was appended
-pub front_none : (before after text : List ℕ) → after ≡ before → IsFrontOf after (before ++ text)
+pub front_none : (before after text : List ℕ) → after ≡ before → IsPrefixOf after (before ++ text)
 front_none before after text e =
-    let P : List ℕ → Type 0 = λ xs. IsFrontOf xs (before ++ text) in
+    let P : List ℕ → Type 0 = λ xs. IsPrefixOf xs (before ++ text) in
     subst P (sym e) (take-append_seam before text)
 
 -- a front of the first part
-pub front_first : (whole after more : List ℕ) → IsFrontOf after whole → IsFrontOf after (whole ++ more)
+pub front_first : (whole after more : List ℕ) → IsPrefixOf after whole → IsPrefixOf after (whole ++ more)
 front_first whole after more h =
     let short : length after ≤ length whole = omega (arith, ap length h, length-take (length after) whole) in
     take-append-le (length after) whole more short ∙ h
@@ -38,7 +38,7 @@ fields_split (f ∷ fs) (suc i) d h =
 
 -- the fields up to one of them, and a front of that one
 pub front_at : (before mid after : List ℕ) (fields : List Field) (i : ℕ) (d : Field) → i < length fields → mid ≡ before ++ fields_text (take i fields)
-    → IsFrontOf after (mid ++ 32 ∷ field_text (get_or fields i d)) → IsFrontOf after (before ++ fields_text fields)
+    → IsPrefixOf after (mid ++ 32 ∷ field_text (get_or fields i d)) → IsPrefixOf after (before ++ fields_text fields)
 front_at before mid after fields i d h there front =
     let here = 32 ∷ field_text (get_or fields i d) in
     let behind = fields_text (drop (suc i) fields) in
@@ -47,5 +47,5 @@ front_at before mid after fields i d h there front =
     ∙ ap (λ (xs : List ℕ). xs ++ (here ++ behind)) there
     ∙ append_assoc before (fields_text (take i fields)) (here ++ behind)
     ∙ ap (λ (xs : List ℕ). before ++ xs) (sym (fields_split fields i d h)) in
-    let P : List ℕ → Type 0 = λ xs. IsFrontOf after xs in
+    let P : List ℕ → Type 0 = λ xs. IsPrefixOf after xs in
     subst P whole (front_first (mid ++ here) after behind front)

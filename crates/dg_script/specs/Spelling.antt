@@ -77,5 +77,5 @@ IsShort (Round a b) = Unit {0}
 IsShort (Sweeps n) = Unit {0}
 
 -- some bytes are a front of others
-abbrev pub IsFrontOf : (front whole : List ℕ) → Type 0
-IsFrontOf front whole = take (length front) whole ≡ front
+abbrev pub IsPrefixOf : (front whole : List ℕ) → Type 0
+IsPrefixOf front whole = take (length front) whole ≡ front

@@ -1,6 +1,6 @@
 //! Writes the lines of a report.
 ghost use Rattle.std.specs.Prelude.{◌≡◌, ◌++◌, ◌≤◌, length, OnOk, OnErr};
-ghost use Rattle.dg_script.specs.Spelling.{IsFrontOf};
+ghost use Rattle.dg_script.specs.Spelling.{IsPrefixOf};
 ghost use Rattle.dg_script.specs.Report.{report_line};
 
 use crate::report::{Cause, Report};
@@ -12,7 +12,7 @@ use std::alloc::AllocError;
 #[tactic(auto, unfolding(crate::specs::Report::report_line))]
 pub fn write_report(report: &Report, out: &mut Vec<u8>) -> Result<(), AllocError>
     ensures ok { OnOk result (out.new.items ≡ out.old.items ++ report_line report.now) }
-    ensures err { OnErr result (IsFrontOf out.new.items (out.old.items ++ (report_line report.now))) }
+    ensures err { OnErr result (IsPrefixOf out.new.items (out.old.items ++ (report_line report.now))) }
     ensures kept { length out.old.items ≤ length out.new.items }
 {
     push_line_of! { out, *report;

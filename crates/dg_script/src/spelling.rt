@@ -1,6 +1,6 @@
 //! Writes lines of fields.
 ghost use Rattle.std.specs.Prelude.{◌≡◌, ◌∷◌, ◌++◌, ◌+◌, ◌<◌, [], ◌≤◌, length, decimal, OnOk, OnErr};
-ghost use Rattle.dg_script.specs.Spelling.{content_text, field_text, fields_text, IsFrontOf};
+ghost use Rattle.dg_script.specs.Spelling.{content_text, field_text, fields_text, IsPrefixOf};
 
 use dg_base::{push_hex, push_u32};
 use std::alloc::AllocError;
@@ -25,7 +25,7 @@ pub enum Field<'a> {
 // Appends a content.
 fn push_content(out: &mut Vec<u8>, bytes: &[u8]) -> Result<(), AllocError>
     ensures ok { OnOk result (out.new.items ≡ out.old.items ++ content_text bytes.now) }
-    ensures err { OnErr result (IsFrontOf out.new.items (out.old.items ++ (content_text bytes.now))) }
+    ensures err { OnErr result (IsPrefixOf out.new.items (out.old.items ++ (content_text bytes.now))) }
     ensures kept { length out.old.items ≤ length out.new.items }
 {
     out.extend_from_slice(b"hex:")?;
@@ -58,7 +58,7 @@ fn push_digit(out: &mut Vec<u8>, n: u8) -> Result<(), AllocError>
 #[tactic(auto, using(crate::proofs::FrontLemmas::front_none))]
 fn push_field(out: &mut Vec<u8>, field: Field) -> Result<(), AllocError>
     ensures ok { OnOk result (out.new.items ≡ out.old.items ++ field_text field.entry) }
-    ensures err { OnErr result (IsFrontOf out.new.items (out.old.items ++ (field_text field.entry))) }
+    ensures err { OnErr result (IsPrefixOf out.new.items (out.old.items ++ (field_text field.entry))) }
     ensures kept { length out.old.items ≤ length out.new.items }
 {
     match field {
@@ -74,7 +74,7 @@ fn push_field(out: &mut Vec<u8>, field: Field) -> Result<(), AllocError>
 // Appends a field after a space.
 fn push_behind(out: &mut Vec<u8>, field: Field) -> Result<(), AllocError>
     ensures ok { OnOk result (out.new.items ≡ out.old.items ++ 32 ∷ field_text field.entry) }
-    ensures err { OnErr result (IsFrontOf out.new.items (out.old.items ++ (32 ∷ field_text field.entry))) }
+    ensures err { OnErr result (IsPrefixOf out.new.items (out.old.items ++ (32 ∷ field_text field.entry))) }
     ensures kept { length out.old.items ≤ length out.new.items }
 {
     out.push(b' ')?;
@@ -84,7 +84,7 @@ fn push_behind(out: &mut Vec<u8>, field: Field) -> Result<(), AllocError>
 // Appends fields, each after a space.
 fn push_fields(out: &mut Vec<u8>, fields: &[Field]) -> Result<(), AllocError>
     ensures ok { OnOk result (out.new.items ≡ out.old.items ++ fields_text fields.now) }
-    ensures err { OnErr result (IsFrontOf out.new.items (out.old.items ++ (fields_text fields.now))) }
+    ensures err { OnErr result (IsPrefixOf out.new.items (out.old.items ++ (fields_text fields.now))) }
     ensures kept { length out.old.items ≤ length out.new.items }
 {
     for field in fields {
@@ -96,7 +96,7 @@ fn push_fields(out: &mut Vec<u8>, fields: &[Field]) -> Result<(), AllocError>
 /// Appends a word, the fields after it, and LF. Where memory runs out, a prefix of them was appended.
 pub fn push_line(out: &mut Vec<u8>, word: &[u8], fields: &[Field]) -> Result<(), AllocError>
     ensures ok { OnOk result (out.new.items ≡ out.old.items ++ (word.now ++ fields_text fields.now ++ 10 ∷ [])) }
-    ensures err { OnErr result (IsFrontOf out.new.items (out.old.items ++ (word.now ++ fields_text fields.now ++ 10 ∷ []))) }
+    ensures err { OnErr result (IsPrefixOf out.new.items (out.old.items ++ (word.now ++ fields_text fields.now ++ 10 ∷ []))) }
     ensures kept { length out.old.items ≤ length out.new.items }
 {
     out.extend_from_slice(word)?;

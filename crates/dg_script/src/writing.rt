@@ -3,7 +3,7 @@ ghost use Rattle.std.specs.Prelude.{◌≡◌, ◌∷◌, ◌++◌, [], Ok, ◌�
 ghost use Rattle.dg_script.specs.Sizes.{most_motes};
 ghost use Rattle.dg_script.specs.Lines.{line_of};
 ghost use Rattle.dg_script.specs.Fitting.{FitsLine, StandsAt, IsPlayed};
-ghost use Rattle.dg_script.specs.Spelling.{line_text, IsShort, IsFrontOf};
+ghost use Rattle.dg_script.specs.Spelling.{line_text, IsShort, IsPrefixOf};
 ghost use Rattle.dg_script.specs.declared.place.Place.{Place};
 
 use crate::line::Line;
@@ -21,7 +21,7 @@ pub fn write_line(line: &Line, out: &mut Vec<u8>) -> Result<(), AllocError>
     requires fits { FitsLine most_motes line.now }
     requires short { IsShort line.now }
     ensures ok { OnOk result (out.new.items ≡ out.old.items ++ (line_text line.now ++ 10 ∷ [])) }
-    ensures err { OnErr result (IsFrontOf out.new.items (out.old.items ++ (line_text line.now ++ 10 ∷ []))) }
+    ensures err { OnErr result (IsPrefixOf out.new.items (out.old.items ++ (line_text line.now ++ 10 ∷ []))) }
     ensures kept { length out.old.items ≤ length out.new.items }
     ensures reads_back { (place : Place) → StandsAt place line.now → FitsLine place.motes line.now → IsPlayed line.now
         → line_of place (line_text line.now) ≡ Ok line.now }

@@ -24,7 +24,7 @@ use Rattle.dg_mote.specs.Timely.{Timely}
 use Rattle.dg_mote.specs.declared.mote.Heard.{Heard}
 use Rattle.dg_mote.specs.declared.mote.Mote.{Mote}
 use Rattle.dg_serial.specs.Line.{line_of, IsOnLine}
-use Rattle.dg_serial_base.specs.Based.{IsFront}
+use Rattle.dg_serial_base.specs.Based.{IsWholeLines}
 use Rattle.dg_serial_base.specs.Deeds.{Base, At, Deed, Hears, Ticks, powered, moment_at, draw_at, effect_of, after_deed, sent_too, said}
 use Rattle.dg_serial_base.specs.inner.Standing.{Outset, code_at, DeedLeft, deed_left, IsLeft, LeavesNone, StopsOn, FailedBy, EffectEnds, IsTime, Stood, IsStood, one_if, DoneOne, LacksIn, StopsInDeed, DeedFails, DeedEnds, SendFails, StoppedBy, AreOnLine, DeedsHalted, CompletedOn}
 use Rattle.dg_serial_base.specs.declared.running.Running.{Running}
@@ -215,7 +215,7 @@ module _ (a : Outset) (done : List Deed) (d : Deed) (before : At) (old now : Opt
   send_fails stop.Write left frame one w =
       let x = puts_front_then a.written old now (said before) (line_of (one_if left.frame)) put w in
       halts_behind stop.Write left frame one
-      (x.text, x.put, subst (IsFront x.text) (sym (said_then one.there left.frame one.sent)) x.front, one.stood.mote.mounted.stands)
+      (x.text, x.put, subst (IsWholeLines x.text) (sym (said_then one.there left.frame one.sent)) x.front, one.stood.mote.mounted.stands)
   send_fails stop.Memory left frame one w =
       halts_behind stop.Memory left frame one
       (said before, w ∙ put, (line_of (one_if left.frame), sym (said_then one.there left.frame one.sent)), one.stood.mote.mounted.stands)

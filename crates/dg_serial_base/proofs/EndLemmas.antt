@@ -2,7 +2,7 @@
 use Rattle.std.proofs.Common.{◌≡◌, ◌≢◌, ℕ, ◌+◌, ◌≤◌, ◌<◌, List, [], ◌++◌, length, take, refl, ap, sym, ◌∙◌, subst, inl, inr, append-nil, arith}
 use Rattle.std.specs.Prelude.{Option, Some, None, Result, Ok, Err, map}
 use Rattle.dg_words.specs.Counts.{Rose}
-use Rattle.dg_base.specs.Outside.{Takes, Puts, PutsFront, AtEnd}
+use Rattle.dg_base.specs.Outside.{Takes, Puts, PutsPrefix, AtEnd}
 use Rattle.dg_base.specs.Sizes.{most_input}
 use Rattle.dg_base.specs.declared.answers.Status.{Status}
 use Rattle.dg_base.specs.declared.answers.Status.TheVariants as status
@@ -88,7 +88,7 @@ module _ (back : BackLaw) (b : Base) (s : Store) (before after : Outside) (now :
       }
 
   -- a last line that could not be written
-  front_ends : (input : List ℕ) → Takes left_old left_new input → length input ≤ most_input + 1 → (c : Came b s input) → Stands new.image c.there.store → (wanted : Status) → ClosesBy c (closing wanted) → Puts first now (said c.there) → PutsFront now last (closing wanted)
+  front_ends : (input : List ℕ) → Takes left_old left_new input → length input ≤ most_input + 1 → (c : Came b s input) → Stands new.image c.there.store → (wanted : Status) → ClosesBy c (closing wanted) → Puts first now (said c.there) → PutsPrefix now last (closing wanted)
       → Ends status.WriteFault
   front_ends input taken few c stands wanted closes put front =
       let x = puts_front_then first now last (said c.there) (closing wanted) put front in

@@ -4,8 +4,8 @@ use Rattle.std.specs.Prelude.{Option, Some, None}
 use Rattle.std.proofs.lemmas.List.{take-append-drop}
 use Rattle.dg_base.specs.Sizes.{longest_frame}
 use Rattle.dg_serial.specs.Line.{IsOnLine}
-use Rattle.dg_base.specs.Outside.{followed_by, Puts, PutsFront}
-use Rattle.dg_serial_base.specs.Based.{IsFront}
+use Rattle.dg_base.specs.Outside.{followed_by, Puts, PutsPrefix}
+use Rattle.dg_serial_base.specs.Based.{IsWholeLines}
 
 -- a frame with some bytes, and no more than a frame may have, is one that fits the line
 pub on_line : (frame : List ℕ) → 1 ≤ length frame → length frame ≤ longest_frame → IsOnLine frame
@@ -26,9 +26,9 @@ puts_then a b c x y p q = q ∙ ap (λ (o : Option (List ℕ)). followed_by o y)
 pub record Fronted (a c : Option (List ℕ)) (whole : List ℕ) : Type 0 where
   pub text : List ℕ
   pub put : Puts a c text
-  pub front : IsFront text whole
+  pub front : IsWholeLines text whole
 
-pub puts_front_then : (a b c : Option (List ℕ)) (x y : List ℕ) → Puts a b x → PutsFront b c y → Fronted a c (x ++ y)
+pub puts_front_then : (a b c : Option (List ℕ)) (x y : List ℕ) → Puts a b x → PutsPrefix b c y → Fronted a c (x ++ y)
 puts_front_then a b c x y p q =
     record {
       text = x ++ take q.0 y;

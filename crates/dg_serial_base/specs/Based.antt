@@ -33,8 +33,8 @@ closing status.NoImage = codes "noimage" ++ 10 ∷ []
 closing status.TooLong = codes "toolong" ++ 10 ∷ []
 closing answer = []
 
-abbrev pub IsFront : (front whole : List ℕ) → Type 0
-IsFront front whole = (more : List ℕ) × (front ++ more ≡ whole)
+abbrev pub IsWholeLines : (front whole : List ℕ) → Type 0
+IsWholeLines front whole = (more : List ℕ) × (front ++ more ≡ whole)
 
 abbrev pub HasMote : At → Type 0
 HasMote a = (m : MoteState) × (a.mote ≡ Some m)
@@ -69,9 +69,9 @@ WroteBy status.ReadFault {b} {s} {input} c text left = PlayedAll c × (text ≡ 
 WroteBy status.TooLong {b} {s} {input} c text left =
     PlayedAll c × (text ≡ said c.there ++ closing status.TooLong) × (most_input < length input)
 WroteBy status.NoImage {b} {s} {input} c text left = (c.there.mote ≡ None) × (text ≡ said c.there ++ closing status.NoImage)
-WroteBy status.Memory {b} {s} {input} c text left = IsFront text (said c.there)
+WroteBy status.Memory {b} {s} {input} c text left = IsWholeLines text (said c.there)
 WroteBy status.WriteFault {b} {s} {input} c text left =
-    (line : List ℕ) × ClosesBy c line × IsFront text (said c.there ++ line)
+    (line : List ℕ) × ClosesBy c line × IsWholeLines text (said c.there ++ line)
 WroteBy answer {b} {s} {input} c text left = ⊥
 
 -- The chip stopped as the power came, or in the next deed.
@@ -101,7 +101,7 @@ pub record Based (answer : Status) (b : Base) (s : Store) (before now : Outside)
 -- what it answers where the chip is not a volume
 abbrev pub RefusedBy : Status → (text : List ℕ) → (old new : Device) → Type 0
 RefusedBy status.NotAVolume text old new = (text ≡ closing status.NotAVolume) × Looked old new
-RefusedBy status.WriteFault text old new = IsFront text (closing status.NotAVolume) × Looked old new
+RefusedBy status.WriteFault text old new = IsWholeLines text (closing status.NotAVolume) × Looked old new
 RefusedBy status.FlashFault text old new = (text ≡ []) × ReadStopped old new
 RefusedBy answer text old new = ⊥
 

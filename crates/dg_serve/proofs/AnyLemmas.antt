@@ -38,7 +38,7 @@ use Rattle.dg_serve.specs.Promised.{event_item, item_played, RunOf, StoresConsis
 use Rattle.dg_serve.specs.Traces.{IsScript, trace, trace_lines}
 use Rattle.dg_serve.specs.Services.{Part, Begins, Looks, Ticks, Moment, Course, course}
 use Rattle.dg_serve.specs.Endings.{StoresOf, FindsNoImage, Remains, remains, EndsInNext, event_of}
-use Rattle.dg_serve.specs.Served.{Outside, LeftBy, Wrote, Began}
+use Rattle.dg_serve.specs.Served.{Outside, BoardsAfter, Wrote, Began}
 use Rattle.dg_serve.specs.declared.stop.Stop.{Stop}
 use Rattle.dg_serve.specs.declared.stop.Stop.TheVariants as stop
 use Rattle.dg_serve.proofs.EventLemmas.{same_of}
@@ -168,7 +168,7 @@ next_finds laws motes s left old new k fits n =
 
 -- a service ends so only where its last part did
 pub ends_found : (why : Option Stop) (answer : Status) (profile : NetProfile) (boards : ℕ) (s : Moment) (c : Course) (last : Moment) (first : List Device) (after : Outside) (text : List ℕ)
-    → Wrote why answer profile boards c.events text → LeftBy why profile.motes s c last first after → (EndsInNext stop.NoImage last c.left first (remains after.boards after.inboxes after.clock) → ⊥) → answer ≡ status.NoImage → ⊥
+    → Wrote why answer profile boards c.events text → BoardsAfter why profile.motes s c last first after → (EndsInNext stop.NoImage last c.left first (remains after.boards after.inboxes after.clock) → ⊥) → answer ≡ status.NoImage → ⊥
 ends_found None answer profile boards s c last first after text wrote ends never is = let e = wrote.0 in absurd cc
 ends_found (Some stop.Memory) answer profile boards s c last first after text wrote ends never is = let e = wrote.0 in absurd cc
 ends_found (Some stop.Write) answer profile boards s c last first after text wrote ends never is = let e = wrote.0 in absurd cc

@@ -7,7 +7,7 @@ use Rattle.std.proofs.lemmas.List.{take_all, with_items_is}
 use Rattle.std.proofs.lemmas.List.{get_or-set_other}
 use Rattle.dg_words.specs.Counts.{Rose}
 use Rattle.dg_base.specs.Clock.{Answers}
-use Rattle.dg_base.specs.Outside.{Puts, PutsFront}
+use Rattle.dg_base.specs.Outside.{Puts, PutsPrefix}
 use Rattle.dg_base.specs.declared.events.Event.{Event}
 use Rattle.dg_base.specs.declared.events.Event.TheVariants.{Tick, Hear, Last, Reset, Inject, Order, Frame}
 use Rattle.dg_mote.specs.Motes.{sent_in}
@@ -199,7 +199,7 @@ module _ (motes : ℕ) (links : List (ℕ × ℕ)) (event : Event) (out : Outbox
   volume_is a reset was = subst (λ (d : Device). IsVolume d.image) (same_of (slice_get p.boards (mote_of event)) h.set.played.before a h.set.played.was was) (h.set.played.powers reset).ends
 
   -- where its line was not written
-  pub untold_ends : PutsFront p.written q.written (event_lines (event ∷ [])) → q.inboxes ≡ p.inboxes → q.failures ≡ p.failures → p.faults ≤ q.faults → Rose p.faults q.faults → q.port ≡ p.port → AppliedPartly stop.Write motes links event p q
+  pub untold_ends : PutsPrefix p.written q.written (event_lines (event ∷ [])) → q.inboxes ≡ p.inboxes → q.failures ≡ p.failures → p.faults ≤ q.faults → Rose p.faults q.faults → q.port ≡ p.port → AppliedPartly stop.Write motes links event p q
   untold_ends front link failures rise rose port = record {
     text = take front.0 (event_lines (event ∷ []));
     put = front.2;

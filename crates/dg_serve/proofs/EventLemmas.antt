@@ -19,7 +19,7 @@ use Rattle.dg_script.specs.declared.report.Report.{Report}
 use Rattle.dg_world.specs.Airs.{sent_now}
 use Rattle.dg_world.specs.Cuts.{IsStopped, StepFoundNoImage}
 use Rattle.dg_world.specs.Worlds.{SiteStands}
-use Rattle.dg_world.specs.Stepped.{StepDone, station}
+use Rattle.dg_world.specs.Stepped.{StepDone, board_state}
 use Rattle.dg_world.specs.Alone.{uncut, IsReset}
 use Rattle.dg_node.specs.declared.node.Node.{Node}
 use Rattle.dg_world.proofs.PlaceLemmas.{is_or}
@@ -73,11 +73,11 @@ handed_told w links motes mote frame (Some boxes) e = ap Some (handed_same w lin
 abbrev pub behind : (motes : ℕ) → Moment → World → Moment
 behind motes s w = record s { world = w; inboxes = option_map (handed w motes (new_frames s.world w)) s.inboxes }
 
-pub steps_on : (motes : ℕ) (s : Moment) (event : Event) (u : Option Node) (frame : Option (List ℕ)) (b : Device) (told : List Report) → (d : StepDone s.world (uncut event) true frame [] (station b u told)) → Steps motes s event (behind motes s d.world)
+pub steps_on : (motes : ℕ) (s : Moment) (event : Event) (u : Option Node) (frame : Option (List ℕ)) (b : Device) (told : List Report) → (d : StepDone s.world (uncut event) true frame [] (board_state b u told)) → Steps motes s event (behind motes s d.world)
 steps_on motes s event u frame b told d = record { reports = d.reports; step = d.step; same_reading = refl; same_clock = refl; same_draws = refl; inboxes = refl }
 
 -- its frame, as the world tells it
-pub frames_of : (s : Moment) (event : Event) (u : Option Node) (frame : Option (List ℕ)) (b : Device) (told : List Report) → (d : StepDone s.world (uncut event) true frame [] (station b u told)) → new_frames s.world d.world ≡ sent_now (mote_of event) frame
+pub frames_of : (s : Moment) (event : Event) (u : Option Node) (frame : Option (List ℕ)) (b : Device) (told : List Report) → (d : StepDone s.world (uncut event) true frame [] (board_state b u told)) → new_frames s.world d.world ≡ sent_now (mote_of event) frame
 frames_of s event u frame b told d = ap (drop (length s.world.sent)) d.sent ∙ frames_sent s.world.sent (sent_now (mote_of event) frame)
 
 -- What is known of a mote at whose board an event is.
@@ -127,7 +127,7 @@ module _ (links : List (ℕ × ℕ)) (motes begun on ahead : ℕ) (event : Event
 
   -- ---- it was done
 
-  module _ (frame : Option (List ℕ)) (told : List Report) (d : StepDone s.world (uncut event) true frame [] (station after u told)) (volume : (a : Device) → slice_get first (mote_of event) ≡ Some a → IsVolume a.image) (timely : WorldTimely d.world) (moment : p.service.timeline.moment ≡ s.world.moment + dt_of event) where
+  module _ (frame : Option (List ℕ)) (told : List Report) (d : StepDone s.world (uncut event) true frame [] (board_state after u told)) (volume : (a : Device) → slice_get first (mote_of event) ≡ Some a → IsVolume a.image) (timely : WorldTimely d.world) (moment : p.service.timeline.moment ≡ s.world.moment + dt_of event) where
     site_here : site d.world (mote_of event) ≡ d.here
     site_here = ap (λ (xs : List Site). get_or xs (mote_of event) no_site) d.sites ∙ get_or-set_same s.world.sites (mote_of event) d.here no_site (omega (arith, h.known, h.stands.sites))
 

@@ -17,7 +17,7 @@ use Rattle.dg_script.specs.declared.line.Line.TheVariants.{Happens as EventLine}
 use Rattle.dg_serve.specs.Services.{Part, Moment, PartDone, PartsDone, course}
 use Rattle.dg_serve.specs.Traces.{UnwrittenLast, event_lines}
 use Rattle.dg_serve.specs.Endings.{Remains, remains, EndsInNext, LosesFrame, FoundBy, PartlyHanded, StopLeaves}
-use Rattle.dg_serve.specs.Standings.{Standing, Ready, IsBelow, IsEventAt, IsPartAt, Went, CountsBy, PartsHalted, GoesOn, stretch}
+use Rattle.dg_serve.specs.Standings.{Standing, Ready, IsBelow, IsEventAt, IsPartAt, ServedParts, CountsBy, PartsHalted, GoesOn, stretch}
 use Rattle.dg_serve.specs.declared.stop.Stop.{Stop}
 use Rattle.dg_serve.specs.declared.stop.Stop.TheVariants as stop
 use Rattle.dg_serve.proofs.RunLemmas.{all_front, all_back, all_both}
@@ -52,7 +52,7 @@ lines_then es fs = ap (λ ls. flat_map (λ l. line_text l ++ 10 ∷ []) ls) (map
 
 -- ---- parts that were done
 
-pub went_none : (motes begun : ℕ) (links : List (ℕ × ℕ)) (p : Standing) → Ready motes begun p → Went motes begun begun links [] p p
+pub went_none : (motes begun : ℕ) (links : List (ℕ × ℕ)) (p : Standing) → Ready motes begun p → ServedParts motes begun begun links [] p p
 went_none motes begun links p ready = record {
   events = [];
   put = puts_none p.written;
@@ -85,7 +85,7 @@ pub below_more : (mid on : ℕ) (es : List Event) → mid ≤ on → AllByRecurs
 below_more mid on [] order h = tt
 below_more mid on (e ∷ es) order h = (let k = h.0 in omega (arith, k, order), below_more mid on es order h.1)
 
-pub went_then : (motes begun mid on : ℕ) (links : List (ℕ × ℕ)) (ps qs : List Part) (p q r : Standing) → mid ≤ on → Went motes begun mid links ps p q → Went motes mid on links qs q r → Went motes begun on links (ps ++ qs) p r
+pub went_then : (motes begun mid on : ℕ) (links : List (ℕ × ℕ)) (ps qs : List Part) (p q r : Standing) → mid ≤ on → ServedParts motes begun mid links ps p q → ServedParts motes mid on links qs q r → ServedParts motes begun on links (ps ++ qs) p r
 went_then motes begun mid on links ps qs p q r order a b = record {
   events = a.events ++ b.events;
   put = subst (λ l. Puts p.written r.written l) (sym (lines_then a.events b.events)) (Puts-join p.written q.written r.written (event_lines a.events) (event_lines b.events) a.put b.put);
@@ -107,8 +107,8 @@ went_then motes begun mid on links ps qs p q r order a b = record {
   reached = omega (arith, a.reached, b.reached);
 }
 
-pub went_as : (motes begun on : ℕ) (links : List (ℕ × ℕ)) (ps qs : List Part) (p q : Standing) → ps ≡ qs → Went motes begun on links ps p q → Went motes begun on links qs p q
-went_as motes begun on links ps qs p q e a = subst (λ l. Went motes begun on links l p q) e a
+pub went_as : (motes begun on : ℕ) (links : List (ℕ × ℕ)) (ps qs : List Part) (p q : Standing) → ps ≡ qs → ServedParts motes begun on links ps p q → ServedParts motes begun on links qs p q
+went_as motes begun on links ps qs p q e a = subst (λ l. ServedParts motes begun on links l p q) e a
 
 -- ---- parts of which some were done
 
@@ -228,7 +228,7 @@ untold_then es fs text u =
     }
 
 -- some parts were done, and then a stop came in others
-pub went_halts : (why : Stop) (motes begun mid : ℕ) (links : List (ℕ × ℕ)) (ps qs : List Part) (p q r : Standing) → mid ≤ motes → Went motes begun mid links ps p q → PartsHalted why motes mid links qs q r → PartsHalted why motes begun links (ps ++ qs) p r
+pub went_halts : (why : Stop) (motes begun mid : ℕ) (links : List (ℕ × ℕ)) (ps qs : List Part) (p q r : Standing) → mid ≤ motes → ServedParts motes begun mid links ps p q → PartsHalted why motes mid links qs q r → PartsHalted why motes begun links (ps ++ qs) p r
 went_halts why motes begun mid links ps qs p q r order a h = record {
   events = a.events ++ h.events;
   done = ps ++ h.done;
@@ -257,6 +257,6 @@ went_halts why motes begun mid links ps qs p q r order a h = record {
 }
 
 -- parts, and then others, each done or stopped in
-pub goes_then : (x : Result (Unit {0}) Stop) (motes begun mid on : ℕ) (links : List (ℕ × ℕ)) (ps qs : List Part) (p q r : Standing) → mid ≤ on → mid ≤ motes → Went motes begun mid links ps p q → GoesOn x motes links (stretch mid on qs) q r → GoesOn x motes links (stretch begun on (ps ++ qs)) p r
+pub goes_then : (x : Result (Unit {0}) Stop) (motes begun mid on : ℕ) (links : List (ℕ × ℕ)) (ps qs : List Part) (p q r : Standing) → mid ≤ on → mid ≤ motes → ServedParts motes begun mid links ps p q → GoesOn x motes links (stretch mid on qs) q r → GoesOn x motes links (stretch begun on (ps ++ qs)) p r
 goes_then (Ok u) motes begun mid on links ps qs p q r order within a b = went_then motes begun mid on links ps qs p q r order a b
 goes_then (Err why) motes begun mid on links ps qs p q r order within a b = went_halts why motes begun mid links ps qs p q r within a b

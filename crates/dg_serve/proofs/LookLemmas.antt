@@ -7,7 +7,7 @@ use Rattle.dg_script.specs.Ranges.{IsFrame}
 use Rattle.dg_nor.specs.Device.{Device}
 use Rattle.dg_serve.specs.Services.{Looks, Moment, course}
 use Rattle.dg_serve.specs.Endings.{BoardsStand, remains, StopLeaves}
-use Rattle.dg_serve.specs.Standings.{Standing, Ready, BoardsAreUsed, BoardsAreCalm, Went, PartsHalted, GoesOn, stretch, ReceivedAt, FailuresBy}
+use Rattle.dg_serve.specs.Standings.{Standing, Ready, BoardsAreUsed, BoardsAreCalm, ServedParts, PartsHalted, GoesOn, stretch, ReceivedAt, FailuresBy}
 use Rattle.dg_serve.specs.declared.stop.Stop.{Stop}
 use Rattle.dg_serve.specs.declared.stop.Stop.TheVariants as stop
 use Rattle.dg_serve.proofs.BoardLemmas.{used_same, all_calm}
@@ -17,8 +17,8 @@ use Rattle.dg_serve.proofs.TurnLemmas.{puts_none}
 
 -- ---- a look that found none
 
-none_came_at : (motes mote : ℕ) (links : List (ℕ × ℕ)) (p q : Standing) → Ready motes motes p → IsEmptyAt mote p.inboxes → q ≡ p → Went motes motes motes links (Looks mote ∷ []) p q
-none_came_at motes mote links p q ready none same = subst (λ x. Went motes motes motes links (Looks mote ∷ []) p x) (sym same) (record {
+none_came_at : (motes mote : ℕ) (links : List (ℕ × ℕ)) (p q : Standing) → Ready motes motes p → IsEmptyAt mote p.inboxes → q ≡ p → ServedParts motes motes motes links (Looks mote ∷ []) p q
+none_came_at motes mote links p q ready none same = subst (λ x. ServedParts motes motes motes links (Looks mote ∷ []) p x) (sym same) (record {
   events = [];
   put = puts_none p.written p.written refl;
   run = λ first s st. (
@@ -45,7 +45,7 @@ same_standing p i a n o e f h k =
     ap (λ (x : Option Inboxes). record p { inboxes = x; addressees = a; failures = n; port = o }) e ∙ ap (λ (x : ℕ). record p { addressees = x; failures = n; port = o }) f ∙ ap (λ (x : ℕ). record p { failures = x; port = o }) h ∙ ap (λ (x : Option ℕ). record p { port = x }) k
 
 pub none_came : (motes mote : ℕ) (links : List (ℕ × ℕ)) (p : Standing) (i : Option Inboxes) (a n : ℕ) (o : Option ℕ) → i ≡ p.inboxes → a ≡ p.addressees → n ≡ p.failures → o ≡ p.port → Ready motes motes p → IsEmptyAt mote p.inboxes
-    → Went motes motes motes links (Looks mote ∷ []) p (record p { inboxes = i; addressees = a; failures = n; port = o })
+    → ServedParts motes motes motes links (Looks mote ∷ []) p (record p { inboxes = i; addressees = a; failures = n; port = o })
 none_came motes mote links p i a n o e f h k ready none = none_came_at motes mote links p (record p { inboxes = i; addressees = a; failures = n; port = o }) ready none (same_standing p i a n o e f h k)
 
 -- ---- a look that failed

@@ -14,7 +14,7 @@ use Rattle.dg_netcfg.specs.declared.profile.ProfileFault.TheVariants as fault
 use Rattle.dg_script.specs.Sizes.{most_used_bytes}
 use Rattle.dg_serve.specs.Served.{Outside, Hindered, Served, TooFewBoards}
 use Rattle.dg_serve.specs.Traces.{last_line}
-use Rattle.dg_serve.specs.Networks.{Opening, Over, FaultAt, TooFew, Serves, by_boards, by_profile, opening_of, over_line, fault_line, TellsAlone, DoneBy, AroundService, around_service, NotRead, WasRead, NetworkServed}
+use Rattle.dg_serve.specs.Networks.{Opening, Over, FaultAt, TooFew, Serves, by_boards, by_profile, opening_of, over_line, fault_line, WritesOneLine, DoneBy, AroundService, around_service, NotRead, WasRead, NetworkServed}
 use Rattle.dg_serve.specs.Spelled.{no_profile_of, SpellsNone, Spells, ReadsProfile, ReadsNone, NetworkRead, TellsLine, TellsNone}
 use Rattle.dg_serve.specs.declared.network.NoProfile.{NoProfile}
 use Rattle.dg_serve.specs.declared.network.NoProfile.TheVariants as none
@@ -114,7 +114,7 @@ served_by profile n answer seed turns a b count read enough few = record {
 same_outside : (before : Outside) (w : Option (List ℕ)) (f : ℕ) → w ≡ before.written → f ≡ before.faults → record before { written = w; faults = f } ≡ before
 same_outside before w f e g = ap (λ (x : Option (List ℕ)). record before { written = x; faults = f }) e ∙ ap (λ (k : ℕ). record before { faults = k }) g
 
-alone : (answer of : Status) (line : List ℕ) (before : Outside) (w : Option (List ℕ)) (f : ℕ) → TellsLine answer of line before.written w before.faults f → TellsAlone answer of line before (record before { written = w; faults = f })
+alone : (answer of : Status) (line : List ℕ) (before : Outside) (w : Option (List ℕ)) (f : ℕ) → TellsLine answer of line before.written w before.faults f → WritesOneLine answer of line before (record before { written = w; faults = f })
 alone answer of line before w f told = record { boards = refl; clock = refl; link = refl; port = refl; failures = refl; written = told }
 
 pub none_served : (why : NoProfile) (answer : Status) (seed turns : ℕ) (left_before left_after : Option (List ℕ)) (reads_before reads_after : ℕ) (before : Outside) (w : Option (List ℕ)) (f : ℕ) → NetworkRead (Err why) left_before left_after reads_before reads_after
@@ -187,7 +187,7 @@ few_rises answer profile before after h = (told h.written, omega (arith, h.failu
     told (inr (inl x)) = x.4
     told (inr (inr x)) = omega (arith, x.2)
 
-alone_rises : (answer of : Status) (line : List ℕ) (before after : Outside) → TellsAlone answer of line before after → Rises before after
+alone_rises : (answer of : Status) (line : List ℕ) (before after : Outside) → WritesOneLine answer of line before after → Rises before after
 alone_rises answer of line before after h = (told h.written, omega (arith, h.failures))
   where
     told : TellsLine answer of line before.written after.written before.faults after.faults → before.faults ≤ after.faults
@@ -234,7 +234,7 @@ long_apart e = cc
 bad_apart : status.BadInput ≢ status.LinkFault
 bad_apart e = cc
 
-alone_unlinked : (answer of : Status) (line : List ℕ) (before after : Outside) → of ≢ status.LinkFault → TellsAlone answer of line before after → answer ≡ status.LinkFault → ⊥
+alone_unlinked : (answer of : Status) (line : List ℕ) (before after : Outside) → of ≢ status.LinkFault → WritesOneLine answer of line before after → answer ≡ status.LinkFault → ⊥
 alone_unlinked answer of line before after other h e = told h.written
   where
     told : TellsLine answer of line before.written after.written before.faults after.faults → ⊥

@@ -21,8 +21,8 @@ use Rattle.dg_seed.specs.Draws.{first_generator}
 use Rattle.dg_serve.specs.Services.{Moment, Course, course, plan}
 use Rattle.dg_serve.specs.Endings.{StoresOf, begins}
 use Rattle.dg_serve.specs.Traces.{UnwrittenLast, trace, lines_text, head_lines, event_lines, last_line}
-use Rattle.dg_serve.specs.Standings.{Standing, StandsFor, IsBelow, Ready, BoardEndures, BoardIsCalm, BoardsAreUsed, Went, PartsHalted, GoesOn, stretch}
-use Rattle.dg_serve.specs.Served.{Outside, IsAtVolume, LeftBy, WroteLast, Wrote, MotesEndure, Causes, Began, Hindered, Served, TooFewBoards, outside}
+use Rattle.dg_serve.specs.Standings.{Standing, StandsFor, IsBelow, Ready, BoardEndures, BoardIsCalm, BoardsAreUsed, ServedParts, PartsHalted, GoesOn, stretch}
+use Rattle.dg_serve.specs.Served.{Outside, IsAtVolume, BoardsAfter, WroteLast, Wrote, MotesEndure, Causes, Began, Hindered, Served, TooFewBoards, outside}
 use Rattle.dg_serve.specs.Ran.{status_of, IsOpened, WroteBy, ServiceRan, RanTo, LineWritten, TellsStop, TellsTooFew}
 use Rattle.dg_serve.specs.declared.stop.Stop.{Stop}
 use Rattle.dg_serve.specs.declared.stop.Stop.TheVariants as stop
@@ -68,7 +68,7 @@ module _ (profile : NetProfile) (seed turns : ℕ) (b : Outside) (p q : Standing
   stands_opened : (table : List Row) (stores : List Store) → StoresOf profile.motes p.boards stores → StandsFor profile.motes 0 profile.links 0 p.boards (begins table profile.links stores p.service.timeline.reading p.clock seed (option_map (emptied profile.motes) b.inboxes)) p
   stands_opened table stores of = stands_first profile.motes profile.links table stores p.service.timeline.reading p.clock (first_generator seed) (option_map (emptied profile.motes) b.inboxes) p of o.moment refl o.draws refl o.inboxes
 
-  ran_all : Went profile.motes 0 profile.motes profile.links (plan profile.motes turns) p q → ServiceRan None profile seed turns (record b { boards = p.boards }) (outside_of q)
+  ran_all : ServedParts profile.motes 0 profile.motes profile.links (plan profile.motes turns) p q → ServiceRan None profile seed turns (record b { boards = p.boards }) (outside_of q)
   ran_all w = record {
     origin = p.service.timeline.reading;
     clock = p.clock;
@@ -147,7 +147,7 @@ hindered_to (Err e) why profile seed turns before after is boards h =
 abbrev told_after : Outside → Option (List ℕ) → ℕ → Outside
 told_after mid v g = record mid { written = v; faults = g }
 
-pub left_same : (why : Option Stop) (motes : ℕ) (s : Moment) (c : Course) (last : Moment) (first : List Device) (mid : Outside) (v : Option (List ℕ)) (g : ℕ) → LeftBy why motes s c last first mid → LeftBy why motes s c last first (told_after mid v g)
+pub left_same : (why : Option Stop) (motes : ℕ) (s : Moment) (c : Course) (last : Moment) (first : List Device) (mid : Outside) (v : Option (List ℕ)) (g : ℕ) → BoardsAfter why motes s c last first mid → BoardsAfter why motes s c last first (told_after mid v g)
 left_same None motes s c last first mid v g l = l
 left_same (Some why) motes s c last first mid v g l = l
 

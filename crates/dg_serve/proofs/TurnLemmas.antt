@@ -22,7 +22,7 @@ use Rattle.dg_node.specs.declared.node.Node.{Node}
 use Rattle.dg_serve.specs.Services.{Part, Begins, Looks, Ticks, Moment, Steps, EventApplied, PartDone, course}
 use Rattle.dg_serve.specs.Traces.{event_lines}
 use Rattle.dg_serve.specs.Endings.{BoardsStand, FindsNoImage, FindsNoVolume, EventEnds, remains, EndsInNext, TakesFor, FoundBy, HandedToFirst, PartlyHanded, StopLeaves, event_of}
-use Rattle.dg_serve.specs.Standings.{Standing, StandsFor, StandsForSome, Ready, IsUnderWay, EventAsks, BoardsAreUsed, BoardsAreCalm, Went, PartsHalted, GoesOn, stretch, AppliedAt, NotApplied, HandedThen, AppliedPartly, ApplyEnds, begun_before, begun_behind}
+use Rattle.dg_serve.specs.Standings.{Standing, StandsFor, StandsForSome, Ready, IsUnderWay, EventAsks, BoardsAreUsed, BoardsAreCalm, ServedParts, PartsHalted, GoesOn, stretch, AppliedAt, NotApplied, HandedThen, AppliedPartly, ApplyEnds, begun_before, begun_behind}
 use Rattle.dg_serve.specs.declared.stop.Stop.{Stop}
 use Rattle.dg_serve.specs.declared.stop.Stop.TheVariants as stop
 use Rattle.dg_serve.proofs.BoardLemmas.{got_within}
@@ -173,7 +173,7 @@ module _ (motes begun on : ℕ) (links : List (ℕ × ℕ)) (part : Part) (event
   new_volumes told = subst (λ bs. (k : ℕ) (a : Device) → begun ≤ k → k < on → slice_get bs k ≡ Some a → IsVolume a.image) d.boards (h.new_volumes dt word m.boards told)
 
   -- it was done
-  pub part_went : Ready motes begun p → AppliedAt motes links (event dt word) m q → q.reached ≡ m.reached → Went motes begun on links (part ∷ []) p q
+  pub part_went : Ready motes begun p → AppliedAt motes links (event dt word) m q → q.reached ≡ m.reached → ServedParts motes begun on links (part ∷ []) p q
   part_went ready e reached = record {
     events = event dt word ∷ [];
     put = subst (λ (o : Option (List ℕ)). Puts o q.written (event_lines (event dt word ∷ []))) d.written e.put;

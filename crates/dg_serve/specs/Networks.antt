@@ -47,7 +47,7 @@ fault_line fault = codes "profile " ++ profile_fault_text fault ++ 10 ∷ []
 -- ---- what was done
 
 -- Nothing was done but to write this line, or a front of it, since a write failed; or memory ran out, and nothing was written.
-pub record TellsAlone (answer of : Status) (line : List ℕ) (before after : Outside) : Type 0 where
+pub record WritesOneLine (answer of : Status) (line : List ℕ) (before after : Outside) : Type 0 where
   pub boards : after.boards ≡ before.boards
   pub clock : after.clock ≡ before.clock
   pub link : after.inboxes ≡ before.inboxes
@@ -57,8 +57,8 @@ pub record TellsAlone (answer of : Status) (line : List ℕ) (before after : Out
       ⊎ ((answer ≡ status.Memory) × (after.written ≡ before.written) × (after.faults ≡ before.faults))
 
 abbrev pub DoneBy : Opening → (answer : Status) → (seed turns : ℕ) → (before after : Outside) → Type 0
-DoneBy Over answer seed turns before after = TellsAlone answer status.TooLong over_line before after
-DoneBy (FaultAt fault) answer seed turns before after = TellsAlone answer status.BadInput (fault_line fault) before after
+DoneBy Over answer seed turns before after = WritesOneLine answer status.TooLong over_line before after
+DoneBy (FaultAt fault) answer seed turns before after = WritesOneLine answer status.BadInput (fault_line fault) before after
 DoneBy (TooFew profile) answer seed turns before after = TooFewBoards answer profile before after
 DoneBy (Serves profile) answer seed turns before after = Served answer profile seed turns before after
 

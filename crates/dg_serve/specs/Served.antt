@@ -50,17 +50,17 @@ abbrev pub AtPort : NetProfile → (before after : Outside) → Type 0
 AtPort profile before after = after.port ≡ option_map (λ port. profile.port) before.port
 
 -- how the boards, the link and the clock are left, by why the service ended before its turns were over, if it did
-abbrev pub LeftBy : Option Stop → (motes : ℕ) → Moment → Course → (last : Moment) → List Device → Outside → Type 0
-LeftBy None motes s c last first after =
+abbrev pub BoardsAfter : Option Stop → (motes : ℕ) → Moment → Course → (last : Moment) → List Device → Outside → Type 0
+BoardsAfter None motes s c last first after =
     BoardsStand last.world first after.boards × (after.inboxes ≡ last.inboxes) × (after.clock ≡ last.clock)
-LeftBy (Some why) motes s c last first after =
+BoardsAfter (Some why) motes s c last first after =
     StopLeaves why motes s c last first (remains after.boards after.inboxes after.clock)
 
 -- From this moment on the service came as far as this.
 pub record Came (why : Option Stop) (motes : ℕ) (s : Moment) (c : Course) (first : List Device) (after : Outside) : Type 0 where
   pub last : Moment
   pub serves : PartsDone motes s c.done c.events last
-  pub ends : LeftBy why motes s c last first after
+  pub ends : BoardsAfter why motes s c last first after
 
 -- The bytes are the trace and the last line of the status. Only where that line could not be written they are the trace and a
 -- front of it.

@@ -137,7 +137,7 @@ IsPartAt mote (Looks m) = m ≡ mote
 IsPartAt mote (Ticks m) = m ≡ mote
 
 -- These parts were done. Then the power of the first `on` motes came.
-pub record Went (motes begun on : ℕ) (links : List (ℕ × ℕ)) (parts : List Part) (p q : Standing) : Type 0 where
+pub record ServedParts (motes begun on : ℕ) (links : List (ℕ × ℕ)) (parts : List Part) (p q : Standing) : Type 0 where
   pub events : List Event
   pub put : Puts p.written q.written (event_lines events)
   pub run : (first : List Device) (s : Moment) → StandsFor motes begun links 0 first s p
@@ -202,7 +202,7 @@ stretch begun on parts = record { begun = begun; on = on; parts = parts }
 
 -- how a call ends that does these parts
 abbrev pub GoesOn : Result (Unit {0}) Stop → (motes : ℕ) → List (ℕ × ℕ) → Stretch → Standing → Standing → Type 0
-GoesOn (Ok u) motes links x p q = Went motes x.begun x.on links x.parts p q
+GoesOn (Ok u) motes links x p q = ServedParts motes x.begun x.on links x.parts p q
 GoesOn (Err why) motes links x p q = PartsHalted why motes x.begun links x.parts p q
 
 -- it stands for some moment

@@ -1,7 +1,7 @@
 //! What a service writes: its trace, which is a script, and the last line of its status.
 ghost use Rattle.std.specs.Prelude.{◌≡◌, ◌≤◌, ◌++◌, ◌∷◌, [], OnOk, OnErr, IfErr};
 ghost use Rattle.dg_words.specs.Counts.{Rose};
-ghost use Rattle.dg_base.specs.Outside.{Puts, PutsFront};
+ghost use Rattle.dg_base.specs.Outside.{Puts, PutsPrefix};
 ghost use Rattle.dg_netcfg.specs.Readings.{IsAllowed};
 ghost use Rattle.dg_script.specs.Sizes.{most_motes};
 ghost use Rattle.dg_script.specs.Fitting.{FitsLine};
@@ -18,7 +18,7 @@ use std::alloc::AllocError;
 /// Writes a text.
 pub fn put<K: Sink>(text: &[u8], out: &mut K) -> Result<(), Stop>
     ensures ok { OnOk result (Puts (K.written out.old) (K.written out.new) text.now) }
-    ensures err { OnErr result (PutsFront (K.written out.old) (K.written out.new) text.now) }
+    ensures err { OnErr result (PutsPrefix (K.written out.old) (K.written out.new) text.now) }
     ensures cause { IfErr result (λ why. why ≡ Stop.Write) }
     ensures counts { K.faults out.old ≤ K.faults out.new }
     ensures failed { OnErr result (Rose (K.faults out.old) (K.faults out.new)) }

@@ -3,7 +3,7 @@ use Rattle.std.proofs.Common.{◌≡◌, ℕ, List, [], ◌∷◌, set, sym, sub
 use Rattle.std.specs.Prelude.{Bool, slice_get, Some, Result, Ok, Err, IsErrAnd}
 use Rattle.dg_nor.specs.Device.{Device}
 use Rattle.dg_serve.specs.Services.{Looks}
-use Rattle.dg_serve.specs.Standings.{Standing, Went, PartsHalted, GoesOn, stretch}
+use Rattle.dg_serve.specs.Standings.{Standing, ServedParts, PartsHalted, GoesOn, stretch}
 use Rattle.dg_serve.specs.declared.stop.Stop.{Stop}
 use Rattle.dg_single.specs.Overs.{over, went_so}
 use Rattle.dg_single.proofs.PlaceLemmas.{put_same}
@@ -16,5 +16,5 @@ look_exit motes mote links p q (Err e) why is h = subst (λ (w : Stop). PartsHal
 pub halts_over : (motes mote : ℕ) (links : List (ℕ × ℕ)) (p : Standing) (boards : List Device) (d : Device) → slice_get boards mote ≡ Some d → (q : Standing) (why : Stop) → PartsHalted why motes motes links (Looks mote ∷ []) p (over q boards) → PartsHalted why motes motes links (Looks mote ∷ []) p (over q (set boards mote d))
 halts_over motes mote links p boards d was q why h = subst (λ bs. PartsHalted why motes motes links (Looks mote ∷ []) p (over q bs)) (sym (put_same boards mote d was)) h
 
-pub none_over : (motes mote : ℕ) (links : List (ℕ × ℕ)) (p : Standing) (boards : List Device) (d : Device) → slice_get boards mote ≡ Some d → (q : Standing) → Went motes motes motes links (Looks mote ∷ []) p (over q boards) → Went motes motes motes links (Looks mote ∷ []) p (over q (set boards mote d))
-none_over motes mote links p boards d was q h = subst (λ bs. Went motes motes motes links (Looks mote ∷ []) p (over q bs)) (sym (put_same boards mote d was)) h
+pub none_over : (motes mote : ℕ) (links : List (ℕ × ℕ)) (p : Standing) (boards : List Device) (d : Device) → slice_get boards mote ≡ Some d → (q : Standing) → ServedParts motes motes motes links (Looks mote ∷ []) p (over q boards) → ServedParts motes motes motes links (Looks mote ∷ []) p (over q (set boards mote d))
+none_over motes mote links p boards d was q h = subst (λ bs. ServedParts motes motes motes links (Looks mote ∷ []) p (over q bs)) (sym (put_same boards mote d was)) h

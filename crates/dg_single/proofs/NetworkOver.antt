@@ -10,7 +10,7 @@ use Rattle.dg_netcfg.specs.declared.profile.ProfileFault.{ProfileFault}
 use Rattle.dg_netcfg.specs.declared.profile.ProfileFault.TheVariants as fault
 use Rattle.dg_nor.specs.Device.{Device}
 use Rattle.dg_script.specs.Sizes.{most_used_bytes}
-use Rattle.dg_serve.specs.Networks.{TellsAlone, AroundService, around_service, over_line, fault_line}
+use Rattle.dg_serve.specs.Networks.{WritesOneLine, AroundService, around_service, over_line, fault_line}
 use Rattle.dg_serve.specs.Served.{Outside}
 use Rattle.dg_serve.specs.Spelled.{NetworkRead, TellsLine, TellsNone}
 use Rattle.dg_serve.specs.declared.network.NoProfile.{NoProfile}
@@ -50,7 +50,7 @@ pub served_here : (mote : ℕ) (profile : NetProfile) (answer : Status) (seed tu
 served_here mote profile answer seed turns before after h s = subst (λ (o : MoteOpening). MoteDoneBy o answer mote seed turns before after) (sym (here_by mote profile h)) s
 
 -- nothing was done but to tell why
-alone : (answer of : Status) (line : List ℕ) (mote : ℕ) (before : Outside) (d : Device) (w : Option (List ℕ)) (f : ℕ) → slice_get before.boards mote ≡ Some d → TellsLine answer of line before.written w before.faults f → TellsAlone answer of line before (record before { written = w; faults = f; boards = set before.boards mote d })
+alone : (answer of : Status) (line : List ℕ) (mote : ℕ) (before : Outside) (d : Device) (w : Option (List ℕ)) (f : ℕ) → slice_get before.boards mote ≡ Some d → TellsLine answer of line before.written w before.faults f → WritesOneLine answer of line before (record before { written = w; faults = f; boards = set before.boards mote d })
 alone answer of line mote before d w f was told = record { boards = put_same before.boards mote d was; clock = refl; link = refl; port = refl; failures = refl; written = told }
 
 pub refused_here : (mote : ℕ) (profile : NetProfile) (answer : Status) (seed turns : ℕ) (before : Outside) (d : Device) (w : Option (List ℕ)) (f : ℕ) → profile.motes ≤ mote → slice_get before.boards mote ≡ Some d → TellsNone (none.Fault fault.Id) answer before.written w before.faults f

@@ -7,7 +7,7 @@ use Rattle.dg_nor.specs.Device.{Device}
 use Rattle.dg_volume.specs.Stands.{IsVolume}
 use Rattle.dg_seed.specs.Draws.{generator_of}
 use Rattle.dg_serve.specs.Services.{Part, Begins, Moment}
-use Rattle.dg_serve.specs.Standings.{Standing, StandsFor, Ready, Went}
+use Rattle.dg_serve.specs.Standings.{Standing, StandsFor, Ready, ServedParts}
 use Rattle.dg_serve.proofs.BoardLemmas.{get_set_same, got_within}
 use Rattle.dg_serve.proofs.EventLemmas.{same_of}
 use Rattle.dg_serve.proofs.LoopLemmas.{still_under_way}
@@ -81,7 +81,7 @@ ready_more motes low high p rises r = record { motes_are = r.motes_are; boards =
 
 -- once its mote began
 pub under_way : (x : Seat) (d e : Device) (p q : Standing) (limit : ℕ) → x.mote < x.motes → ReadyOver x 0 d p → p.service.timeline.moment ≡ 0 → q.service.timeline.moment < limit
-    → ((boards : List Device) → Owns x.motes x.mote d boards → Went x.motes x.mote (x.mote + 1) x.links (Begins x.mote ∷ []) (over p boards) (over q (set boards x.mote e)))
+    → ((boards : List Device) → Owns x.motes x.mote d boards → ServedParts x.motes x.mote (x.mote + 1) x.links (Begins x.mote ∷ []) (over p boards) (over q (set boards x.mote e)))
     → IsUnderWayOver x limit e q
 under_way x d e p q limit known ready moment early goes =
     let boards : List Device = replicate x.motes d in
@@ -104,7 +104,7 @@ under_way x d e p q limit known ready moment early goes =
     }
 
 -- and it stays so
-pub still_over : (x : Seat) (parts : List Part) (limit more : ℕ) (d e : Device) (p q : Standing) (way : IsUnderWayOver x limit d p) → Went x.motes x.motes x.motes x.links parts (over p way.boards) (over q (set way.boards x.mote e)) → q.service.timeline.moment < more → IsUnderWayOver x more e q
+pub still_over : (x : Seat) (parts : List Part) (limit more : ℕ) (d e : Device) (p q : Standing) (way : IsUnderWayOver x limit d p) → ServedParts x.motes x.motes x.motes x.links parts (over p way.boards) (over q (set way.boards x.mote e)) → q.service.timeline.moment < more → IsUnderWayOver x more e q
 still_over x parts limit more d e p q way went early = record {
   boards = set way.boards x.mote e;
   owns = owns_next x.motes x.mote d e way.boards way.owns;

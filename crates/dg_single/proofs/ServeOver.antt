@@ -20,7 +20,7 @@ use Rattle.dg_seed.specs.Draws.{first_generator}
 use Rattle.dg_serve.specs.Services.{Begins, Moment, course}
 use Rattle.dg_serve.specs.Endings.{StoresOf, begins, remains}
 use Rattle.dg_serve.specs.Traces.{trace, lines_text, head_lines, event_lines, last_line}
-use Rattle.dg_serve.specs.Standings.{Standing, StandsFor, IsBelow, IsEventAt, IsPartAt, Went, PartsHalted}
+use Rattle.dg_serve.specs.Standings.{Standing, StandsFor, IsBelow, IsEventAt, IsPartAt, ServedParts, PartsHalted}
 use Rattle.dg_serve.specs.Served.{Outside, IsAtVolume, WroteLast, Wrote, Causes, Hindered, outside}
 use Rattle.dg_serve.specs.Ran.{status_of, IsOpened, CountedBy, LineWritten, TellsStop}
 use Rattle.dg_serve.specs.declared.stop.Stop.{Stop}
@@ -72,13 +72,13 @@ module _ (profile : NetProfile) (mote seed turns : ℕ) (b : Outside) (p q : Sta
       (stands_first profile.motes profile.links table stores p.service.timeline.reading p.clock (first_generator seed) (option_map (emptied profile.motes) b.inboxes) p of o.moment refl o.draws refl o.inboxes)
 
   -- and of those behind it
-  stands_begun : (mid : Standing) (w : Went profile.motes mote (mote + 1) profile.links (Begins mote ∷ []) p mid) → (s : Moment) → OthersAreVolumes profile.motes mote p.boards → StandsFor profile.motes (mote + 1) profile.links 0 p.boards s mid → StandsFor profile.motes profile.motes profile.links 0 p.boards s mid
+  stands_begun : (mid : Standing) (w : ServedParts profile.motes mote (mote + 1) profile.links (Begins mote ∷ []) p mid) → (s : Moment) → OthersAreVolumes profile.motes mote p.boards → StandsFor profile.motes (mote + 1) profile.links 0 p.boards s mid → StandsFor profile.motes profile.motes profile.links 0 p.boards s mid
   stands_begun mid w s others st =
       more_on profile.motes (mote + 1) profile.motes profile.links p.boards s mid (omega (arith, known)) (omega arith)
       (λ m a low high was. others m a high (λ e. omega (arith, e, low)) was) (λ m low. w.ready.off m low) st
 
   -- its board is a volume
-  own_volume : (mid : Standing) → Went profile.motes mote (mote + 1) profile.links (Begins mote ∷ []) p mid → (a : Device) → slice_get p.boards mote ≡ Some a → IsVolume a.image
+  own_volume : (mid : Standing) → ServedParts profile.motes mote (mote + 1) profile.links (Begins mote ∷ []) p mid → (a : Device) → slice_get p.boards mote ≡ Some a → IsVolume a.image
   own_volume mid w a was = w.volumes mote a (omega arith) (omega arith) was
 
   ran_all : BeganAndGoes (Ok tt) (seat profile.motes mote profile.links) turns p q → MoteRan None profile mote seed turns (record b { boards = p.boards }) (outside_of q)

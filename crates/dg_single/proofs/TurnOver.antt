@@ -4,7 +4,7 @@ use Rattle.std.specs.Prelude.{Result, Ok, Err, IsErrAnd}
 use Rattle.std.proofs.lemmas.Grind.{flat_map-append}
 use Rattle.dg_nor.specs.Device.{Device}
 use Rattle.dg_serve.specs.Services.{Begins, Looks, Ticks}
-use Rattle.dg_serve.specs.Standings.{Standing, Went, PartsHalted, GoesOn, stretch}
+use Rattle.dg_serve.specs.Standings.{Standing, ServedParts, PartsHalted, GoesOn, stretch}
 use Rattle.dg_serve.specs.declared.stop.Stop.{Stop}
 use Rattle.dg_serve.proofs.GoLemmas.{went_none, went_then, went_as, went_halts, halts_as, goes_then}
 use Rattle.dg_serve.proofs.LoopLemmas.{halts_exit}
@@ -46,7 +46,7 @@ may_tick x d e p q way goes =
 pub record Turned (x : Seat) (n : ℕ) (p q : Standing) : Type 0 where
   pub ticks : List Bool
   pub count : length ticks ≡ n
-  pub went : Went x.motes x.motes x.motes x.links (turns_of x.mote ticks) p q
+  pub went : ServedParts x.motes x.motes x.motes x.links (turns_of x.mote ticks) p q
 
 abbrev pub TurnedOver : Seat → ℕ → (d e : Device) → (p q : Standing) → Type 0
 TurnedOver x n d e p q = (boards : List Device) → Owns x.motes x.mote d boards → Turned x n (over p boards) (over q (set boards x.mote e))
@@ -56,7 +56,7 @@ none_turned x limit d p way boards owns = record {
   ticks = [];
   count = refl;
   went =
-      subst (λ bs. Went x.motes x.motes x.motes x.links [] (over p boards) (over p bs)) (sym (put_same boards x.mote d owns.is))
+      subst (λ bs. ServedParts x.motes x.motes x.motes x.links [] (over p boards) (over p bs)) (sym (put_same boards x.mote d owns.is))
       (went_none x.motes x.motes x.links (over p boards) (ready_over x.motes x.motes p way.boards boards way.way.ready owns.enough));
 }
 
@@ -75,7 +75,7 @@ turned_next x n d e f p q s turned goes boards owns =
       ticks = a.ticks ++ b.0 ∷ [];
       count = one_tick_more a.ticks b.0 n a.count;
       went = went_as x.motes x.motes x.motes x.links (turns_of x.mote a.ticks ++ turn_of x.mote b.0) (turns_of x.mote (a.ticks ++ b.0 ∷ [])) (over p boards) (over s (set boards x.mote f)) (one_turn_more x.mote a.ticks b.0)
-          (subst (λ bs. Went x.motes x.motes x.motes x.links (turns_of x.mote a.ticks ++ turn_of x.mote b.0) (over p boards) (over s bs)) (set_again boards x.mote e f)
+          (subst (λ bs. ServedParts x.motes x.motes x.motes x.links (turns_of x.mote a.ticks ++ turn_of x.mote b.0) (over p boards) (over s bs)) (set_again boards x.mote e f)
           (went_then x.motes x.motes x.motes x.motes x.links (turns_of x.mote a.ticks) (turn_of x.mote b.0) (over p boards) (over q next) (over s (set next x.mote f)) (omega arith) a.went b.1));
     }
 

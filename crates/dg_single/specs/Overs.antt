@@ -3,7 +3,7 @@
 use Rattle.std.specs.Prelude.{◌≡◌, ◌⊎◌, ℕ, ◌+◌, ◌^◌, ◌≤◌, Bool, List, [], ◌∷◌, length, slice_get, slice_set, Some, Result}
 use Rattle.std.specs.Prelude.{Ok, Err}
 use Rattle.dg_nor.specs.Device.{Device}
-use Rattle.dg_serve.specs.Standings.{Standing, Stretch, Ready, IsUnderWay, GoesOn, stretch, Went, PartsHalted}
+use Rattle.dg_serve.specs.Standings.{Standing, Stretch, Ready, IsUnderWay, GoesOn, stretch, ServedParts, PartsHalted}
 use Rattle.dg_serve.specs.declared.stop.Stop.{Stop}
 use Rattle.dg_serve.specs.Services.{Begins}
 use Rattle.dg_single.specs.Plans.{turn_of, turns_of}
@@ -70,7 +70,7 @@ pub record TurnsGo (r : Result (Unit {0}) Stop) (x : Seat) (turns : ℕ) (p q : 
 -- The power of the mote came, and then this many turns were played.
 pub record BeganAndGoes (r : Result (Unit {0}) Stop) (x : Seat) (turns : ℕ) (p q : Standing) : Type 0 where
   pub between : Standing
-  pub begins : Went x.motes x.mote (x.mote + 1) x.links (Begins x.mote ∷ []) p between
+  pub begins : ServedParts x.motes x.mote (x.mote + 1) x.links (Begins x.mote ∷ []) p between
   pub turns_go : TurnsGo r x turns between q
 
 -- or a stop came first

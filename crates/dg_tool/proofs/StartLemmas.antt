@@ -20,7 +20,7 @@ use Rattle.dg_volume.specs.Start.{Boot, Runs}
 use Rattle.dg_volume.specs.declared.volume.Volume.{Volume}
 use Rattle.dg_volume.specs.declared.volume.FormatFault.{FormatFault}
 use Rattle.dg_volume.specs.declared.volume.FormatFault.TheVariants as format
-use Rattle.dg_boot.specs.Started.{Starts, Lacks}
+use Rattle.dg_boot.specs.Started.{Starts, NoImageFound}
 use Rattle.dg_boot.specs.declared.Started.{Started}
 use Rattle.dg_boot.specs.declared.BootFault.{BootFault}
 use Rattle.dg_boot.specs.declared.BootFault.TheVariants as boot_fault
@@ -71,7 +71,7 @@ module _ (s : Store) (a b : Device) where
   pub boot_wants : (told : Started) → Starts (power_boot s) a b told → StartDone (Err ends.Memory)
   boot_wants told h = by_runs (Err ends.Memory) (Some h.runs) h.chosen (memory_store (Booted (power_boot s)) (Stops (power_boot s).trail) a b (start_by (Some h.runs)) (booted (power_boot s) a b told h))
 
-  boot_lacks : Lacks (power_boot s) a b → StartDone (Err ends.NoImage)
+  boot_lacks : NoImageFound (power_boot s) a b → StartDone (Err ends.NoImage)
   boot_lacks h = by_runs (Err ends.NoImage) None h.none (image_store (Booted (power_boot s)) (Stops (power_boot s).trail) a b (record {
     went = record { ran = h.ran; stands = h.stands };
     memory = subst (λ (x : Option Runs). IfSome x (λ r. program b.image (length r.pages) ≡ r.pages)) (sym h.none) tt;
@@ -95,7 +95,7 @@ module _ {N : Type 0} (f : N → Device) (items : List N) (x y : N) (some : 0 < 
   stops_chip volume none (Some s) is = volume s is
 
   pub boot_fails : (fault : BootFault) → (fault ≡ boot_fault.Stopped → (s : Store) → Stands was.image s → Stops (power_boot s).trail was (f y)) → (fault ≡ boot_fault.Stopped → IsNoVolume was.image → ReadStopped was (f y)) → (fault ≡ boot_fault.Stopped → ActStopped was (f y))
-      → (fault ≡ boot_fault.NotAVolume → IsNoVolume was.image × Looked was (f y)) → (fault ≡ boot_fault.NoImage → (s : Store) → Stands was.image s → Lacks (power_boot s) was (f y)) → (fault ≡ boot_fault.NoImage → IsVolume was.image) → BootComes (Err (end_of_boot fault))
+      → (fault ≡ boot_fault.NotAVolume → IsNoVolume was.image × Looked was (f y)) → (fault ≡ boot_fault.NoImage → (s : Store) → Stands was.image s → NoImageFound (power_boot s) was (f y)) → (fault ≡ boot_fault.NoImage → IsVolume was.image) → BootComes (Err (end_of_boot fault))
   boot_fails boot_fault.Stopped volume none cause other lacks found =
       boot_board (Err ends.FlashFault) (stopped_board (λ s. start_by (power_boot s).runs) (BootedOn power_boot) (VerbStopsOn (λ s. (power_boot s).trail)) was (f y) (λ s. boot_needs (power_boot s).runs) (stops_chip (volume refl) (none refl)) (record { stopped = (cause refl).stopped; cause = (cause refl).cause }))
   boot_fails boot_fault.NotAVolume volume none cause other lacks found =

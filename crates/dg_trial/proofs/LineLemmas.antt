@@ -5,7 +5,7 @@ use Rattle.std.proofs.lemmas.Bool.{cases_eq, cases_lt, cond_both, eqb-true}
 use Rattle.std.proofs.lemmas.List.Sums.{sum_by-cons, sum_by-append}
 use Rattle.dg_base.specs.declared.events.Event.{Event}
 use Rattle.dg_rounds.specs.Rounds.{times, sweep, round, paced, passed}
-use Rattle.dg_rounds.specs.Ways.{Way, here, more}
+use Rattle.dg_rounds.specs.LinkPaths.{LinkPath, here, more}
 use Rattle.dg_rules.specs.Events.{mote_of}
 use Rattle.dg_completion.specs.Met.{most_commits, commits_at}
 use Rattle.dg_completion.proofs.GrowLemmas.{all_append, all_replicate, all_times}
@@ -30,7 +30,7 @@ line_contains (suc (suc n)) m h = elim (cases_eq n m) [
     ]
 
 -- each mote is as many links from the first one as its number says
-pub way_to : (n m : ℕ) → m < n → Way (line_links n) 0 m m
+pub way_to : (n m : ℕ) → m < n → LinkPath (line_links n) 0 m m
 way_to n zero h = here
 way_to n (suc m) h =
     let e : m + 1 ≡ suc m = omega arith in

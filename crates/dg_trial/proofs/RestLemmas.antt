@@ -13,7 +13,7 @@ use Rattle.dg_volume.specs.Changes.{is_version}
 use Rattle.dg_volume.specs.Trails.{done_of}
 use Rattle.dg_base.specs.declared.events.Event.{Event}
 use Rattle.dg_rounds.specs.Rounds.{times, sweep, rounds_of}
-use Rattle.dg_rounds.specs.Ways.{Way}
+use Rattle.dg_rounds.specs.LinkPaths.{LinkPath}
 use Rattle.dg_script.specs.Places.{none_narrow}
 use Rattle.dg_rules.specs.World.{World, Site, is_wide_mote, wide_at, store_at, no_site}
 use Rattle.dg_rules.specs.Premises.{WorldAgrees}
@@ -73,8 +73,8 @@ module _ (name bytes : List ℕ) where
     keeps : KeepsWhole w image 0
     keeps = record { there = omega (arith, count, some); pages = whole }
 
-    way : (m : ℕ) → m < length w.sites → Way w.links 0 m m
-    way m h = subst (λ (ls : List (ℕ × ℕ)). Way ls 0 m m) (sym links) (way_to motes m (omega (arith, h, count)))
+    way : (m : ℕ) → m < length w.sites → LinkPath w.links 0 m m
+    way m h = subst (λ (ls : List (ℕ × ℕ)). LinkPath ls 0 m m) (sym links) (way_to motes m (omega (arith, h, count)))
 
     reaches : ReachesAll w image
     reaches = record { holder = 0; keeps = keeps; ways = λ m h. (m, way m h) }

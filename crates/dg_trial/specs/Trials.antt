@@ -2,7 +2,7 @@
 use Rattle.std.specs.Prelude.{◌≡◌, ◌⊎◌, ℕ, ◌<◌, ◌≤◌, nat_le, Bool, false, List, [], ◌∷◌, ◌++◌, length, codes, slice_get, count_by}
 use Rattle.std.specs.Prelude.{Option, Some}
 use Rattle.std.specs.Fmt.{decimal}
-use Rattle.dg_base.specs.Outside.{Puts, PutsFront}
+use Rattle.dg_base.specs.Outside.{Puts, PutsPrefix}
 use Rattle.dg_base.specs.declared.answers.Status.{Status}
 use Rattle.dg_base.specs.declared.answers.Status.TheVariants.{Done, Memory, WriteFault, FlashFault, NoBoard}
 use Rattle.dg_nor.specs.Device.{Device}
@@ -125,7 +125,7 @@ pub record TrialComplete (motes pages seed : ℕ) (a b : Outside) : Type 0 where
 pub record TrialCut (motes pages seed : ℕ) (a b : Outside) : Type 0 where
   pub boards : motes ≤ length a.boards
   pub played : TrialPlayed motes pages seed a.boards b.boards
-  pub written : PutsFront a.output.written b.output.written (trial_text motes pages seed played.last)
+  pub written : PutsPrefix a.output.written b.output.written (trial_text motes pages seed played.last)
 
 -- the line of a trial in which every mote keeps the image whole. Its numbers are those of the motes and the pages
 abbrev pub TellsWhole : (motes pages : ℕ) → (before after : Option (List ℕ)) → Type 0
@@ -139,7 +139,7 @@ TrialEnds NoBoard motes pages seed a b =
     TrialLacksBoards motes a.boards b.boards × Puts a.output.written b.output.written (no_board_line motes (length a.boards))
 TrialEnds WriteFault motes pages seed a b =
     TrialCut motes pages seed a b ⊎ (TrialLacksBoards motes a.boards b.boards
-    × PutsFront a.output.written b.output.written (no_board_line motes (length a.boards)))
+    × PutsPrefix a.output.written b.output.written (no_board_line motes (length a.boards)))
 TrialEnds FlashFault motes pages seed a b =
     (motes ≤ length a.boards) × TrialBoardStops motes pages seed a.boards b.boards × (b.output.written ≡ a.output.written)
 TrialEnds Memory motes pages seed a b = Unplayed motes pages seed a.boards b.boards × (b.output.written ≡ a.output.written)

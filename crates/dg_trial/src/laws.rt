@@ -3,7 +3,7 @@ ghost use Rattle.dg_trial.specs.Playing.{PartsGoOnLaw};
 ghost use Rattle.dg_trial.specs.Trials.{WholeLaw};
 
 use dg_completion::{
-    a_free_event_can_be_applied, a_free_event_keeps_a_good_world, distances_are_ways,
+    a_free_event_can_be_applied, a_free_event_keeps_a_good_world, distances_are_paths,
     enough_sweeps_complete, sweeps_are_a_rest,
 };
 use dg_rules::{agreement_is_kept, golden_is_found, scripts_with_golden};
@@ -27,6 +27,6 @@ pub fn trials_end_whole()
     a_free_event_can_be_applied();
     a_free_event_keeps_a_good_world();
     sweeps_are_a_rest();
-    distances_are_ways();
+    distances_are_paths();
     enough_sweeps_complete();
 }

@@ -19,7 +19,7 @@ use Rattle.dg_slot.specs.Kept.{Held, HasDescriptor, held_begun, with_page}
 use Rattle.dg_slot.specs.Fits.{may_seal}
 use Rattle.dg_volume.specs.Sizes.{images}
 use Rattle.dg_volume.specs.Store.{Store, held, held_whole, golden_row, fresh}
-use Rattle.dg_volume.specs.Changes.{keeping, paged, is_version, is_other, inject_refusal, refusal_by, FitAll}
+use Rattle.dg_volume.specs.Changes.{keeping, paged, is_version, differs_from_kept, inject_refusal, refusal_by, FitAll}
 use Rattle.dg_volume.specs.Trails.{fill_trail, inject_trail, done_of}
 use Rattle.dg_volume.specs.Consistent.{FitFirst, IsSoundSoFar, IsSoundApp, Consistent}
 use Rattle.dg_volume.specs.declared.volume.InjectFault.{InjectFault}
@@ -124,19 +124,19 @@ refused_by s row e =
     (λ _. cond_both (row.image == 0) (Some Reserved) (refusal_by (held s row.image) s row) P (λ _ f. cc) (λ _ f. f)))
     e
 
-not_taken_by : (s : Store) (row : Row) (o : Option Held) (h : Held) → o ≡ Some h → h.version ≡ row.version → refusal_by o s row ≡ None → is_other h row ≡ false
+not_taken_by : (s : Store) (row : Row) (o : Option Held) (h : Held) → o ≡ Some h → h.version ≡ row.version → refusal_by o s row ≡ None → differs_from_kept h row ≡ false
 not_taken_by s row None h is version e = cc
 not_taken_by s row (Some g) h is version e =
     let same : g ≡ h = same_Some g h is in
-    subst (λ (x : Held). is_other x row ≡ false) same
-    (cond_both (nat_lt row.version g.version) (Some (Stale g.version)) _ (λ (o : Option InjectFault). o ≡ None → is_other g row ≡ false) (λ _ f. cc)
-    (λ _. cond_both (g.version == row.version) (if is_other g row then Some Taken else None) _ (λ (o : Option InjectFault). o ≡ None → is_other g row ≡ false)
-    (λ _. not_other (is_other g row))
+    subst (λ (x : Held). differs_from_kept x row ≡ false) same
+    (cond_both (nat_lt row.version g.version) (Some (Stale g.version)) _ (λ (o : Option InjectFault). o ≡ None → differs_from_kept g row ≡ false) (λ _ f. cc)
+    (λ _. cond_both (g.version == row.version) (if differs_from_kept g row then Some Taken else None) _ (λ (o : Option InjectFault). o ≡ None → differs_from_kept g row ≡ false)
+    (λ _. not_other (differs_from_kept g row))
     (λ test f. let v : g.version ≡ row.version = ap (λ (x : Held). x.version) same ∙ version in absurd (other_version g.version row.version v test)))
     e)
 
 -- a page that is kept in this version is another's, or the row's
-not_taken : (s : Store) (row : Row) (h : Held) → held s row.image ≡ Some h → h.version ≡ row.version → inject_refusal s row ≡ None → is_other h row ≡ false
+not_taken : (s : Store) (row : Row) (h : Held) → held s row.image ≡ Some h → h.version ≡ row.version → inject_refusal s row ≡ None → differs_from_kept h row ≡ false
 not_taken s row h here version e = not_taken_by s row (held s row.image) h here version (refused_by s row e)
 
 rest_fit : NextFits → (s : Store) (row : Row) (o : Option Held) → held s row.image ≡ o → is_version o row.version ≡ true → inject_refusal s row ≡ None → IsRow row → row.image < length s.kept → FitAll row.image (drop (done_of o) (object row)) s

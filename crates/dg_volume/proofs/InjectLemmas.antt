@@ -13,14 +13,14 @@ use Rattle.dg_nor.proofs.TrailLemmas.{last-joined, last-resting, last-stepping}
 use Rattle.dg_object.specs.Object.{Row, Outline, IsRow, object, profile}
 use Rattle.dg_slot.specs.Layout.{most_bytes}
 use Rattle.dg_slot.specs.Kept.{Held, held_begun}
-use Rattle.dg_slot.specs.Jobs.{Opens, IsOpen, outline_told}
+use Rattle.dg_slot.specs.Jobs.{Opens, IsOpen, outline_of_slot}
 use Rattle.dg_slot.specs.declared.states.OpenSlot.{OpenSlot}
 use Rattle.dg_volume.specs.Sizes.{images}
 use Rattle.dg_volume.specs.Store.{Store, held, IsNear}
 use Rattle.dg_volume.specs.Told.{told, told_held}
 use Rattle.dg_volume.specs.Stands.{Stands, Mounted, MountedBut, Tells, kept_at}
 use Rattle.dg_volume.specs.declared.volume.Kept.{Kept}
-use Rattle.dg_volume.specs.Changes.{spent, keeping, is_version, is_other, other_profile, refusal_by, inject_refusal, UnlessInjectRefused, SameProfile, FitAll}
+use Rattle.dg_volume.specs.Changes.{spent, keeping, is_version, differs_from_kept, other_profile, refusal_by, inject_refusal, UnlessInjectRefused, SameProfile, FitAll}
 use Rattle.dg_volume.specs.Trails.{BeginsAt, committing, drop_trail, take_trail, fill_trail, inject_by, inject_trail, done_of}
 use Rattle.dg_volume.specs.Acts.{Acted, Stops}
 use Rattle.dg_volume.specs.Injecting.{InjectEnds}
@@ -125,10 +125,10 @@ refusal_is s row is some =
     let most = is.fits in
     cond-false (n == 0) _ _ (grind (arith, nat_tests)) ∙ cond-false (nat_lt most_bytes n) _ _ (grind (arith, nat_tests)) ∙ cond-false (row.image == 0) _ _ (grind (arith, nat_tests))
 
-kept_by : (s : Store) (row : Row) (h : Held) → h.version ≡ row.version → refusal_by (Some h) s row ≡ cond (is_other h row) (Some Taken) None
+kept_by : (s : Store) (row : Row) (h : Held) → h.version ≡ row.version → refusal_by (Some h) s row ≡ cond (differs_from_kept h row) (Some Taken) None
 kept_by s row h same = cond-false (nat_lt row.version h.version) _ _ (grind (arith, nat_tests)) ∙ cond-true (h.version == row.version) _ _ (grind (arith, nat_tests))
 
-pub kept_refusal : (s : Store) (row : Row) (h : Held) → IsRow row → 1 ≤ row.image → held s row.image ≡ Some h → h.version ≡ row.version → inject_refusal s row ≡ cond (is_other h row) (Some Taken) None
+pub kept_refusal : (s : Store) (row : Row) (h : Held) → IsRow row → 1 ≤ row.image → held s row.image ≡ Some h → h.version ≡ row.version → inject_refusal s row ≡ cond (differs_from_kept h row) (Some Taken) None
 kept_refusal s row h is some here same = refusal_is s row is some ∙ ap (λ (o : Option Held). refusal_by o s row) here ∙ kept_by s row h same
 
 refusal_split : (b : Bool) (x : Option InjectFault) → x ≡ cond b (Some Taken) None → (x ≡ None) ⊎ (x ≡ Some Taken)
@@ -136,13 +136,13 @@ refusal_split true x e = inr e
 refusal_split false x e = inl e
 
 pub kept_split : (s : Store) (row : Row) (h : Held) → IsRow row → 1 ≤ row.image → held s row.image ≡ Some h → h.version ≡ row.version → (inject_refusal s row ≡ None) ⊎ (inject_refusal s row ≡ Some Taken)
-kept_split s row h is some here same = refusal_split (is_other h row) _ (kept_refusal s row h is some here same)
+kept_split s row h is some here same = refusal_split (differs_from_kept h row) _ (kept_refusal s row h is some here same)
 
-pub kept_free : (s : Store) (row : Row) (h : Held) → IsRow row → 1 ≤ row.image → held s row.image ≡ Some h → h.version ≡ row.version → is_other h row ≡ false → inject_refusal s row ≡ None
-kept_free s row h is some here same free = kept_refusal s row h is some here same ∙ cond-false (is_other h row) _ _ free
+pub kept_free : (s : Store) (row : Row) (h : Held) → IsRow row → 1 ≤ row.image → held s row.image ≡ Some h → h.version ≡ row.version → differs_from_kept h row ≡ false → inject_refusal s row ≡ None
+kept_free s row h is some here same free = kept_refusal s row h is some here same ∙ cond-false (differs_from_kept h row) _ _ free
 
-pub kept_taken : (s : Store) (row : Row) (h : Held) → IsRow row → 1 ≤ row.image → held s row.image ≡ Some h → h.version ≡ row.version → is_other h row ≡ true → inject_refusal s row ≡ Some Taken
-kept_taken s row h is some here same other = kept_refusal s row h is some here same ∙ cond-true (is_other h row) _ _ other
+pub kept_taken : (s : Store) (row : Row) (h : Held) → IsRow row → 1 ≤ row.image → held s row.image ≡ Some h → h.version ≡ row.version → differs_from_kept h row ≡ true → inject_refusal s row ≡ Some Taken
+kept_taken s row h is some here same other = kept_refusal s row h is some here same ∙ cond-true (differs_from_kept h row) _ _ other
 
 -- ---- the profile that is kept
 
@@ -151,7 +151,7 @@ or_front true b c h = h
 or_front false true c h = h
 or_front false false c h = refl
 
-profile_of_free : (h : Held) (row : Row) → is_other h row ≡ false → other_profile h row ≡ false
+profile_of_free : (h : Held) (row : Row) → differs_from_kept h row ≡ false → other_profile h row ≡ false
 profile_of_free h row free = or_front (not (h.pages == (profile row).pages)) (not (h.crc == (profile row).crc)) _ free
 
 some_same : (a b : Held) → ◌≡◌ {A = Option Held} (Some a) (Some b) → a ≡ b
@@ -162,9 +162,9 @@ same_profile_kept s row k here fits h is same = subst (λ (x : Held). other_prof
 
 -- what is not refused is not of another profile
 pub same_profile_free : (s : Store) (row : Row) → IsRow row → 1 ≤ row.image → inject_refusal s row ≡ None → SameProfile (held s row.image) row
-same_profile_free s row is some none h here same = by (is_other h row) refl
+same_profile_free s row is some none h here same = by (differs_from_kept h row) refl
   where
-    by : (b : Bool) → is_other h row ≡ b → other_profile h row ≡ false
+    by : (b : Bool) → differs_from_kept h row ≡ b → other_profile h row ≡ false
     by false e = profile_of_free h row e
     by true e = absurd (no (sym none ∙ kept_taken s row h is some here same e))
       where
@@ -258,20 +258,20 @@ pub record Begun (s : Store) (row : Row) (a b : Device) (v w : Volume) : Type 0 
   pub mounted : Mounted b.image w (last (take_trail s (profile row)))
   pub here : held (last (take_trail s (profile row))) row.image ≡ Some (held_begun (profile row))
 
-begun_by : (s : Store) (row : Row) (a b : Device) (v w : Volume) (slot : OpenSlot) → row.image < images → Acted (take_trail s (profile row)) a b v → outline_told slot ≡ profile row → IsOpen b.image slot (held_begun (profile row))
-    → ((c : List ℕ) (t : Store) (h : Held) → MountedBut (λ i. i ≡ (outline_told slot).image) c v t → held t (outline_told slot).image ≡ Some h → Opens slot h → Mounted c w t) → Begun s row a b v w
+begun_by : (s : Store) (row : Row) (a b : Device) (v w : Volume) (slot : OpenSlot) → row.image < images → Acted (take_trail s (profile row)) a b v → outline_of_slot slot ≡ profile row → IsOpen b.image slot (held_begun (profile row))
+    → ((c : List ℕ) (t : Store) (h : Held) → MountedBut (λ i. i ≡ (outline_of_slot slot).image) c v t → held t (outline_of_slot slot).image ≡ Some h → Opens slot h → Mounted c w t) → Begun s row a b v w
 begun_by s row a b v w slot known acted same opened back =
     let x = last (take_trail s (profile row)) in
     let here : held x row.image ≡ Some (held_begun (profile row)) = take_held b.image v s (profile row) known acted.mounted in
-    let image : (outline_told slot).image ≡ row.image = ap (λ (p : Outline). p.image) same in
+    let image : (outline_of_slot slot).image ≡ row.image = ap (λ (p : Outline). p.image) same in
     record {
       acted = acted;
-      mounted = back b.image x (held_begun (profile row)) (but_one (λ i. i ≡ (outline_told slot).image) b.image v x acted.mounted) (subst (λ (n : ℕ). held x n ≡ Some (held_begun (profile row))) (sym image) here) opened.opens;
+      mounted = back b.image x (held_begun (profile row)) (but_one (λ i. i ≡ (outline_of_slot slot).image) b.image v x acted.mounted) (subst (λ (n : ℕ). held x n ≡ Some (held_begun (profile row))) (sym image) here) opened.opens;
       here = here;
     }
 
-pub begun_anew : (s : Store) (row : Row) (q : Outline) (a b : Device) (v w : Volume) (slot : OpenSlot) → row.image < images → q ≡ profile row → Acted (take_trail s q) a b v → outline_told slot ≡ q → IsOpen b.image slot (held_begun q)
-    → ((c : List ℕ) (t : Store) (h : Held) → MountedBut (λ i. i ≡ (outline_told slot).image) c v t → held t (outline_told slot).image ≡ Some h → Opens slot h → Mounted c w t) → Begun s row a b v w
+pub begun_anew : (s : Store) (row : Row) (q : Outline) (a b : Device) (v w : Volume) (slot : OpenSlot) → row.image < images → q ≡ profile row → Acted (take_trail s q) a b v → outline_of_slot slot ≡ q → IsOpen b.image slot (held_begun q)
+    → ((c : List ℕ) (t : Store) (h : Held) → MountedBut (λ i. i ≡ (outline_of_slot slot).image) c v t → held t (outline_of_slot slot).image ≡ Some h → Opens slot h → Mounted c w t) → Begun s row a b v w
 begun_anew s row q a b v w slot known e acted same opened back =
     begun_by s row a b v w slot known (subst (λ (p : Outline). Acted (take_trail s p) a b v) e acted) (same ∙ e) (subst (λ (p : Outline). IsOpen b.image slot (held_begun p)) e opened) back
 

@@ -11,7 +11,7 @@ use Rattle.dg_slot.specs.Layout.{page_size, packets, page_operations}
 use Rattle.dg_slot.specs.Kept.{Held, KeepsImage, with_page, kept_crc}
 use Rattle.dg_slot.specs.Pages.{slot_pages}
 use Rattle.dg_slot.specs.Fits.{may_seal, first_fits}
-use Rattle.dg_slot.specs.Jobs.{IsOpen, outline_told, packets_of, page_from, seal_trail, SlotStops, Seals}
+use Rattle.dg_slot.specs.Jobs.{IsOpen, outline_of_slot, packets_of, page_from, seal_trail, SlotStops, Seals}
 use Rattle.dg_slot.specs.declared.states.Sealing.{Sealing}
 use Rattle.dg_slot.specs.declared.states.Sealing.TheVariants.{Sealed, Bad, Unfit}
 use Rattle.dg_slot.specs.declared.states.OpenSlot.{OpenSlot}
@@ -26,7 +26,7 @@ one_open c o h g a b =
     let pages : h.pages ≡ g.pages = sym a.opens.pages ∙ b.opens.pages in
     let crc : h.crc ≡ g.crc = sym a.opens.crc ∙ b.opens.crc in
     let count : length h.complete ≡ length g.complete = sym a.opens.done ∙ b.opens.done in
-    let complete : h.complete ≡ g.complete = a.keeps.stored ∙ ap (slot_pages c (outline_told o).image) count ∙ sym b.keeps.stored in
+    let complete : h.complete ≡ g.complete = a.keeps.stored ∙ ap (slot_pages c (outline_of_slot o).image) count ∙ sym b.keeps.stored in
     ap (λ (n : ℕ). record { version = n; pages = h.pages; crc = h.crc; complete = h.complete }) version
     ∙ ap (λ (n : ℕ). record { version = g.version; pages = n; crc = h.crc; complete = h.complete }) pages
     ∙ ap (λ (n : ℕ). record { version = g.version; pages = g.pages; crc = n; complete = h.complete }) crc
@@ -79,11 +79,11 @@ gate_stops_here image h page a b c may ran stops =
     stops_page image h page a c (Halted_second {m = packets + 1} {n = 1} {may = PageMay image h page} May ran (λ k within x. at_gate image h page k c.image within x) here)
 
 -- the job tells the slot, and its packets make the page
-pub gate_stops : (o p : OpenSlot) (h : Held) (page : List ℕ) (a b c : Device) → p ≡ o → length page ≡ page_size → may_seal (outline_told o).image h page ≡ true → Ran (packets + 1) a b
-    → SlotStops (outline_told p).image (seal_trail (outline_told p).image h (page_from (packets_of page))) b c → SlotStops (outline_told o).image (page_trail h page) a c
+pub gate_stops : (o p : OpenSlot) (h : Held) (page : List ℕ) (a b c : Device) → p ≡ o → length page ≡ page_size → may_seal (outline_of_slot o).image h page ≡ true → Ran (packets + 1) a b
+    → SlotStops (outline_of_slot p).image (seal_trail (outline_of_slot p).image h (page_from (packets_of page))) b c → SlotStops (outline_of_slot o).image (page_trail h page) a c
 gate_stops o p h page a b c same long may ran stops =
-    let image = (outline_told o).image in
-    let here = subst (λ (x : OpenSlot). SlotStops (outline_told x).image (seal_trail (outline_told x).image h (page_from (packets_of page))) b c) same stops in
+    let image = (outline_of_slot o).image in
+    let here = subst (λ (x : OpenSlot). SlotStops (outline_of_slot x).image (seal_trail (outline_of_slot x).image h (page_from (packets_of page))) b c) same stops in
     gate_stops_here image h page a b c may ran (subst (λ (l : List ℕ). SlotStops image (seal_trail image h l) b c) (packets_make page long) here)
 
 pub halted_page : (image : ℕ) (h : Held) (page : List ℕ) (a b : Device) → SlotStops image (page_trail h page) a b → Halted page_operations (λ _ _. ⊤) a b
@@ -107,9 +107,9 @@ sealed_by image h page b c (Sealed o) may seals = record { slot = o; is = refl; 
 sealed_by image h page b c (Bad kept found o) may seals = absurd (seals.2 (seals.1 ∙ may_crc image h page may ∙ sym seals.0))
 sealed_by image h page b c (Unfit o) may seals = absurd (true≢false (sym may ∙ seals.1))
 
-pub sealed_to : (o p : OpenSlot) (h : Held) (page : List ℕ) (b c : Device) (answer : Sealing) → p ≡ o → length page ≡ page_size → may_seal (outline_told o).image h page ≡ true
-    → Seals (outline_told p).image h (page_from (packets_of page)) b c answer → SealedTo h page b c answer
+pub sealed_to : (o p : OpenSlot) (h : Held) (page : List ℕ) (b c : Device) (answer : Sealing) → p ≡ o → length page ≡ page_size → may_seal (outline_of_slot o).image h page ≡ true
+    → Seals (outline_of_slot p).image h (page_from (packets_of page)) b c answer → SealedTo h page b c answer
 sealed_to o p h page b c answer same long may seals =
-    let image = (outline_told o).image in
-    let here = subst (λ (x : OpenSlot). Seals (outline_told x).image h (page_from (packets_of page)) b c answer) same seals in
+    let image = (outline_of_slot o).image in
+    let here = subst (λ (x : OpenSlot). Seals (outline_of_slot x).image h (page_from (packets_of page)) b c answer) same seals in
     sealed_by image h page b c answer may (subst (λ (l : List ℕ). Seals image h l b c answer) (packets_make page long) here)

@@ -9,7 +9,7 @@ use Rattle.dg_nor.proofs.TrailLemmas.{operations-stepping, operations-resting, l
 use Rattle.dg_slot.specs.Layout.{header_sector, slot_end, page_operations}
 use Rattle.dg_slot.specs.Kept.{Held, KeepsImage, with_page}
 use Rattle.dg_slot.specs.Fits.{may_seal}
-use Rattle.dg_slot.specs.Jobs.{Opens, IsOpen, outline_told, seal_trail, SlotStops}
+use Rattle.dg_slot.specs.Jobs.{Opens, IsOpen, outline_of_slot, seal_trail, SlotStops}
 use Rattle.dg_slot.specs.declared.states.OpenSlot.{OpenSlot}
 use Rattle.dg_volume.specs.Sizes.{images}
 use Rattle.dg_volume.specs.Store.{Store, held, IsNear}
@@ -52,8 +52,8 @@ pub page_counts : (c d : List ℕ) (v : Volume) (s : Store) (i : ℕ) (h : Held)
 page_counts c d v s i h page not_golden known here touches keeps m =
     subst (MountedBut (λ j. j ≡ i) d v) (sym (paged_is s i h page here)) (slot_counts c d v s i h (with_page h page) not_golden known here refl touches keeps m)
 
-pub page_mounted : (c d : List ℕ) (v w : Volume) (s : Store) (i : ℕ) (h : Held) (page : List ℕ) (o : OpenSlot) → 1 ≤ i → i < images → (outline_told o).image ≡ i → held s i ≡ Some h → Touches (header_sector i) (slot_end i) c d
-    → IsOpen d o (with_page h page) → Mounted c v s → ((t : Store) (g : Held) → MountedBut (λ j. j ≡ (outline_told o).image) d v t → held t (outline_told o).image ≡ Some g → Opens o g → Mounted d w t) → Mounted d w (paged i page s)
+pub page_mounted : (c d : List ℕ) (v w : Volume) (s : Store) (i : ℕ) (h : Held) (page : List ℕ) (o : OpenSlot) → 1 ≤ i → i < images → (outline_of_slot o).image ≡ i → held s i ≡ Some h → Touches (header_sector i) (slot_end i) c d
+    → IsOpen d o (with_page h page) → Mounted c v s → ((t : Store) (g : Held) → MountedBut (λ j. j ≡ (outline_of_slot o).image) d v t → held t (outline_of_slot o).image ≡ Some g → Opens o g → Mounted d w t) → Mounted d w (paged i page s)
 page_mounted c d v w s i h page o not_golden known image here touches opened m back =
     let g = with_page h page in
     let t = paged i page s in

@@ -15,7 +15,7 @@ use Rattle.dg_slot.specs.Kept.{Held, with_page, held_begun, crc_by, kept_crc}
 use Rattle.dg_slot.specs.Fits.{describes, first_fits, may_seal}
 use Rattle.dg_volume.specs.Store.{Store, held, held_to}
 use Rattle.dg_volume.specs.Ends.{PartOf}
-use Rattle.dg_volume.specs.Changes.{paged, FitsNext, FitAll, is_other, other_first, same_bytes}
+use Rattle.dg_volume.specs.Changes.{paged, FitsNext, FitAll, differs_from_kept, other_first, same_bytes}
 use Rattle.dg_volume.proofs.RowLemmas.{length-held_to, beyond}
 
 pub part_begun : (row : Row) → PartOf row (held_begun (profile row))
@@ -37,7 +37,7 @@ first_by : (pages : List (List ℕ)) (first : List ℕ) → other_first pages fi
 first_by [] first e some = absurd (omega (arith, some))
 first_by (page ∷ pages) first e some = same_text page first (sym (not_false (same_bytes page first) e))
 
-pub part_of : (row : Row) (h : Held) → h.version ≡ row.version → is_other h row ≡ false → PartOf row h
+pub part_of : (row : Row) (h : Held) → h.version ≡ row.version → differs_from_kept h row ≡ false → PartOf row h
 part_of row h version e =
     let x = or_false (h.pages == (profile row).pages) (h.crc == (profile row).crc) (other_first h.complete (page_of_row row 0)) e in
     record {

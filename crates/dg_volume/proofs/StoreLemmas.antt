@@ -19,7 +19,7 @@ use Rattle.dg_control.specs.declared.snapshot.SlotState.{SlotState}
 use Rattle.dg_control.specs.declared.snapshot.SlotState.TheVariants.{Dirty, Live}
 use Rattle.dg_control.specs.declared.snapshot.Snapshot.{Snapshot}
 use Rattle.dg_slot.specs.Layout.{header_sector, program_sector}
-use Rattle.dg_slot.specs.Header.{Heads, gates_of}
+use Rattle.dg_slot.specs.Header.{EncodesHeader, gates_of}
 use Rattle.dg_slot.specs.Pages.{page_in, program, slot_pages}
 use Rattle.dg_slot.specs.Kept.{Held, KeepsImage}
 use Rattle.dg_volume.specs.Sizes.{images}
@@ -31,17 +31,17 @@ use Rattle.dg_volume.specs.declared.volume.Volume.{Volume}
 
 -- ---- one reading of a header
 
-pages_read : (first gates : List ℕ) (image version pages crc done : ℕ) → Heads first gates image version pages crc done → get_or first 3 0 ≡ pages
+pages_read : (first gates : List ℕ) (image version pages crc done : ℕ) → EncodesHeader first gates image version pages crc done → get_or first 3 0 ≡ pages
 pages_read first gates image version pages crc done h = ap (λ x. get_or x 3 0) h.spelled
 
-crc_read : (first gates : List ℕ) (image version pages crc done : ℕ) → Heads first gates image version pages crc done → from_be_bytes w16 (drop 8 first) ≡ crc
+crc_read : (first gates : List ℕ) (image version pages crc done : ℕ) → EncodesHeader first gates image version pages crc done → from_be_bytes w16 (drop 8 first) ≡ crc
 crc_read first gates image version pages crc done h = ap (λ x. from_be_bytes w16 (drop 8 x)) h.spelled ∙ from_be_bytes-to_be_bytes_2 crc h.crc_fits
 
 cleared_in : (n : ℕ) → n ≤ 72 → sum_by (λ gate. count_zeros w8 gate) (gates_of n) ≡ n
 unfolding gates_of
 cleared_in n h = zeros_are 9 n h
 
-done_read : (first gates : List ℕ) (image version pages crc done : ℕ) → Heads first gates image version pages crc done → sum_by (λ gate. count_zeros w8 gate) gates ≡ done
+done_read : (first gates : List ℕ) (image version pages crc done : ℕ) → EncodesHeader first gates image version pages crc done → sum_by (λ gate. count_zeros w8 gate) gates ≡ done
 done_read first gates image version pages crc done h =
     let in_range : done ≤ 72 = omega (arith, h.within, h.most) in
     ap (λ x. sum_by (λ gate. count_zeros w8 gate) x) h.cleared ∙ cleared_in done in_range

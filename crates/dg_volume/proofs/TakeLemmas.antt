@@ -15,7 +15,7 @@ use Rattle.dg_control.specs.declared.snapshot.SlotState.TheVariants.{Dirty, Live
 use Rattle.dg_slot.specs.Layout.{header_sector, slot_end}
 use Rattle.dg_object.specs.Object.{Outline}
 use Rattle.dg_slot.specs.Kept.{Held, KeepsImage, held_begun}
-use Rattle.dg_slot.specs.Jobs.{IsOpen, outline_told}
+use Rattle.dg_slot.specs.Jobs.{IsOpen, outline_of_slot}
 use Rattle.dg_slot.specs.declared.states.OpenSlot.{OpenSlot}
 use Rattle.dg_volume.specs.Sizes.{images, golden_version, control_sectors}
 use Rattle.dg_volume.specs.Store.{Store, held, IsNear}
@@ -112,7 +112,7 @@ pub header_free : (c d : List ℕ) (v : Volume) (s : Store) (i j : ℕ) → i < 
 header_free c d v s i j known same none touches m =
     slot_free c d v s i known (none_held v s i known m.tells none) (Touches_wider (header_sector j) (header_sector j + 1) (header_sector i) (slot_end i) touches (omega arith) (omega arith)) m
 
-pub begun_stands : (c : List ℕ) (o : OpenSlot) (p : Outline) → outline_told o ≡ p → IsOpen c o (held_begun p) → KeepsImage c p.image (held_begun p)
+pub begun_stands : (c : List ℕ) (o : OpenSlot) (p : Outline) → outline_of_slot o ≡ p → IsOpen c o (held_begun p) → KeepsImage c p.image (held_begun p)
 begun_stands c o p same opened = subst (λ (q : Outline). KeepsImage c q.image (held_begun p)) same opened.keeps
 
 abbrev begun_store : Store → Outline → Store

@@ -8,7 +8,7 @@ ghost use Rattle.dg_nor.specs.Reads.{ActStopped};
 ghost use Rattle.dg_object.specs.Object.{IsRow, row_of, pages_for};
 ghost use Rattle.dg_slot.specs.Layout.{most_bytes, page_operations, header_sector, slot_end};
 ghost use Rattle.dg_slot.specs.Kept.{Held, KeepsImage};
-ghost use Rattle.dg_slot.specs.Jobs.{IsOpen, outline_told};
+ghost use Rattle.dg_slot.specs.Jobs.{IsOpen, outline_of_slot};
 ghost use Rattle.dg_control.specs.Places.{place_in};
 ghost use Rattle.dg_control.specs.Store.{current, HasForm, IsOrderlyChip};
 ghost use Rattle.dg_volume.specs.Sizes.{control_sectors, places, most_room, old_form, new_form};
@@ -101,7 +101,7 @@ fn fill_golden<N: Nor>(
     requires fits { length golden.now ≤ most_bytes }
     requires named { IsTrue (spells_name name.now) }
     requires open { IsOpen (N.device nor.old).image slot (held_to (golden_row name.now golden.now) 0) }
-    requires golden { (outline_told slot).image ≡ 0 }
+    requires golden { (outline_of_slot slot).image ≡ 0 }
     ensures kept { OnOk result (KeepsImage (N.device nor.new).image 0 (held_whole (golden_row name.now golden.now))) }
     ensures ran { OnOk result (Ran (page_operations * pages_for (length golden.now)) (N.device nor.old) (N.device nor.new)) }
     ensures same_reference { (N.device nor.new).references ≡ (N.device nor.old).references }
@@ -128,10 +128,10 @@ fn fill_golden_page<N: Nor>(
     requires fits { length golden.now ≤ most_bytes }
     requires named { IsTrue (spells_name name.now) }
     requires open { IsOpen (N.device nor.old).image slot (held_to (golden_row name.now golden.now) p) }
-    requires golden { (outline_told slot).image ≡ 0 }
+    requires golden { (outline_of_slot slot).image ≡ 0 }
     requires page { p < pages_for (length golden.now) }
     ensures open { IfOk result (λ o. IsOpen (N.device nor.new).image o (held_to (golden_row name.now golden.now) (p + 1))) }
-    ensures same { IfOk result (λ o. outline_told o ≡ outline_told slot) }
+    ensures same { IfOk result (λ o. outline_of_slot o ≡ outline_of_slot slot) }
     ensures ran { OnOk result (Ran page_operations (N.device nor.old) (N.device nor.new)) }
     ensures same_reference { (N.device nor.new).references ≡ (N.device nor.old).references }
     ensures touches { Touches (header_sector 0) (slot_end 0) (N.device nor.old).image (N.device nor.new).image }

@@ -12,7 +12,7 @@ ghost use Rattle.dg_volume.specs.Sizes.{images};
 ghost use Rattle.dg_volume.specs.Store.{Store};
 ghost use Rattle.dg_volume.specs.Told.{told_held};
 ghost use Rattle.dg_volume.specs.Stands.{kept_at, NothingLent, Mounted, IsMounted, Tells};
-ghost use Rattle.dg_volume.specs.Changes.{inject_refusal, is_other, other_profile};
+ghost use Rattle.dg_volume.specs.Changes.{inject_refusal, differs_from_kept, other_profile};
 ghost use Rattle.dg_volume.specs.Filling.{new_row};
 ghost use Rattle.dg_volume.specs.Injecting.{InjectEnds};
 ghost use Rattle.dg_volume.specs.Acts.{TouchesBut};
@@ -78,7 +78,7 @@ impl Volume {
         };
         match self.kept(image) {
             Some(kept) if kept.version == version => self.resume(nor, &new, &kept),
-            _ => self.begin_anew(nor, &new),
+            _ => self.begin_from_start(nor, &new),
         }
     }
 
@@ -108,7 +108,7 @@ impl Volume {
         ensures touches { Touches (header_sector new.now.image) (slot_end new.now.image) (N.device nor.old).image
             (N.device nor.new).image }
     {
-        if is_other(nor, new, kept)? {
+        if differs_from_kept(nor, new, kept)? {
             return Err(InjectFault::Taken);
         }
         a_row_is_filled_page_by_page();
@@ -117,7 +117,7 @@ impl Volume {
     }
 
     /// Takes the slot for a version that is not kept, and fills all of its pages.
-    fn begin_anew<N: Nor>(
+    fn begin_from_start<N: Nor>(
         &mut self,
         nor: &mut N,
         new: &NewImage<'_>,
@@ -152,7 +152,7 @@ impl Volume {
     }
 }
 
-/// Why an image is refused, if it is, wherever its version is not the one that is kept. Of that one [`is_other`] tells.
+/// Why an image is refused, if it is, wherever its version is not the one that is kept. Of that one [`differs_from_kept`] tells.
 pub fn injection_fault(
     kept: Option<Kept>,
     image: u8,
@@ -184,10 +184,14 @@ pub fn injection_fault(
 
 /// Whether what is kept of a version is another image: it has another profile, or another page 0. `Stopped` where the board
 /// stops as that page is read.
-pub fn is_other<N: Nor>(nor: &mut N, new: &NewImage<'_>, kept: &Kept) -> Result<bool, Stopped>
+pub fn differs_from_kept<N: Nor>(
+    nor: &mut N,
+    new: &NewImage<'_>,
+    kept: &Kept,
+) -> Result<bool, Stopped>
     ensures other { IfOk result (λ other. (h : Held) → KeepsImage (N.device nor.old).image new.now.image h
         → told_held h ≡ kept.now
-        → other ≡ is_other h (new_row new.now)) }
+        → other ≡ differs_from_kept h (new_row new.now)) }
     ensures unread { OnErr result ((h : Held) → told_held h ≡ kept.now → other_profile h (new_row new.now) ≡ false) }
     ensures awake { result ≡ Ok false → 1 ≤ kept.now.done → (N.device nor.old).stopped ≡ false }
     ensures ends { ReadEnds result (N.device nor.old) (N.device nor.new) }

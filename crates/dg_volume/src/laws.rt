@@ -104,7 +104,7 @@ pub fn trails_of_one_stage()
 
 /// What other crates write stays out of what a chip stands for: blank program memory is free, and the slot of a kept
 /// image counts only by what it keeps.
-pub fn what_stands_behind_the_commits()
+pub fn what_is_after_the_commits_does_not_count()
     ensures memory { (c d : List ℕ) (v : Volume) (s : Store) → s.app ≡ None → Touches (program_sector 0) program_end c d
         → Mounted c v s → Mounted d v s }
     ensures same { (c d : List ℕ) (v : Volume) (s : Store) (i : ℕ) (h : Held) → 1 ≤ i → i < images → held s i ≡ Some h

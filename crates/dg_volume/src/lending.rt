@@ -3,7 +3,7 @@ ghost use Rattle.std.specs.Prelude.{◌≡◌, ◌≢◌, ◌↔◌, ◌⊎◌, 
 ghost use Rattle.dg_object.specs.Records.{outline_of};
 ghost use Rattle.dg_slot.specs.Layout.{slots, most_pages};
 ghost use Rattle.dg_slot.specs.Kept.{Held};
-ghost use Rattle.dg_slot.specs.Jobs.{Opens, IsOpen, outline_told, done_told};
+ghost use Rattle.dg_slot.specs.Jobs.{Opens, IsOpen, outline_of_slot, done_of_slot};
 ghost use Rattle.dg_volume.specs.Sizes.{images};
 ghost use Rattle.dg_volume.specs.Store.{Store, held};
 ghost use Rattle.dg_volume.specs.Told.{kept_told};
@@ -19,7 +19,7 @@ impl Volume {
         requires known_image { image < images }
         // it stands for some chip
         requires mounted { (c : List ℕ) × IsMounted c self.old }
-        ensures lends { IfSome result (λ o. ((outline_told o).image ≡ image)
+        ensures lends { IfSome result (λ o. ((outline_of_slot o).image ≡ image)
             × ((c : List ℕ) (s : Store) (h : Held) → Mounted c self.old s → held s image ≡ Some h → IsOpen c o h)) }
         ensures none { IsNone result ↔ ((kept_at self.old image ≡ None) ⊎ (is_lent self.old image ≡ true)) }
         // it tells what the volume tells of the image
@@ -44,14 +44,14 @@ impl Volume {
 
     /// Takes a lent slot back, perhaps with more pages done.
     pub fn put_back(&mut self, slot: OpenSlot)
-        requires { is_lent self.old (outline_told slot).image ≡ true }
-        ensures mounted { (c : List ℕ) (s : Store) (h : Held) → MountedBut (λ i. i ≡ (outline_told slot).image) c self.old s
-            → held s (outline_told slot).image ≡ Some h → Opens slot h → Mounted c self.new s }
+        requires { is_lent self.old (outline_of_slot slot).image ≡ true }
+        ensures mounted { (c : List ℕ) (s : Store) (h : Held) → MountedBut (λ i. i ≡ (outline_of_slot slot).image) c self.old s
+            → held s (outline_of_slot slot).image ≡ Some h → Opens slot h → Mounted c self.new s }
         ensures control { control_of self.new ≡ control_of self.old }
-        ensures kept { kept_at self.new (outline_told slot).image ≡ Some (kept_told slot) }
-        ensures others_kept { (i : ℕ) → i ≢ (outline_told slot).image → kept_at self.new i ≡ kept_at self.old i }
-        ensures back { is_lent self.new (outline_told slot).image ≡ false }
-        ensures others { (i : ℕ) → i ≢ (outline_told slot).image → is_lent self.new i ≡ is_lent self.old i }
+        ensures kept { kept_at self.new (outline_of_slot slot).image ≡ Some (kept_told slot) }
+        ensures others_kept { (i : ℕ) → i ≢ (outline_of_slot slot).image → kept_at self.new i ≡ kept_at self.old i }
+        ensures back { is_lent self.new (outline_of_slot slot).image ≡ false }
+        ensures others { (i : ℕ) → i ≢ (outline_of_slot slot).image → is_lent self.new i ≡ is_lent self.old i }
     {
         let profile = slot.profile();
         let index = usize::from(profile.image);
@@ -72,13 +72,13 @@ fn open_slot(image: u8, kept: &Kept) -> OpenSlot
     requires some_pages { 2 ≤ kept.now.pages }
     requires most_pages { kept.now.pages ≤ most_pages }
     requires within { kept.now.done ≤ kept.now.pages }
-    ensures told { outline_told result ≡ record {
+    ensures told { outline_of_slot result ≡ record {
       image = image;
       version = kept.now.version;
       pages = kept.now.pages;
       crc = kept.now.crc;
     } }
-    ensures done { done_told result ≡ kept.now.done }
+    ensures done { done_of_slot result ≡ kept.now.done }
 {
     let profile = Profile {
         image,

@@ -5,7 +5,7 @@ ghost use Rattle.dg_nor.specs.Device.{Ran, Halted};
 ghost use Rattle.dg_slot.specs.Layout.{page_operations, header_sector, slot_end};
 ghost use Rattle.dg_slot.specs.Kept.{Held, with_page};
 ghost use Rattle.dg_slot.specs.Fits.{may_seal};
-ghost use Rattle.dg_slot.specs.Jobs.{IsOpen, outline_told, SlotStops};
+ghost use Rattle.dg_slot.specs.Jobs.{IsOpen, outline_of_slot, SlotStops};
 ghost use Rattle.dg_volume.specs.Filling.{page_trail};
 
 use crate::layout::PAGE_SIZE;
@@ -19,17 +19,17 @@ pub(crate) fn fill_next<N: Nor>(
     page: &[u8; PAGE_SIZE],
 ) -> Result<OpenSlot, Stopped>
     requires fits { (h : Held) × IsOpen (N.device nor.old).image slot h × (length h.complete < h.pages)
-        × (may_seal (outline_told slot).image h page.now ≡ true) }
+        × (may_seal (outline_of_slot slot).image h page.now ≡ true) }
     ensures sealed { IfOk result (λ o. (h : Held) → IsOpen (N.device nor.old).image slot h
         → IsOpen (N.device nor.new).image o (with_page h page.now)) }
-    ensures same { IfOk result (λ o. outline_told o ≡ outline_told slot) }
+    ensures same { IfOk result (λ o. outline_of_slot o ≡ outline_of_slot slot) }
     ensures ran { OnOk result (Ran page_operations (N.device nor.old) (N.device nor.new)) }
     ensures awake { OnOk result ((N.device nor.old).stopped ≡ false) }
     ensures same_reference { (N.device nor.new).references ≡ (N.device nor.old).references }
-    ensures touches { Touches (header_sector (outline_told slot).image) (slot_end (outline_told slot).image)
+    ensures touches { Touches (header_sector (outline_of_slot slot).image) (slot_end (outline_of_slot slot).image)
         (N.device nor.old).image (N.device nor.new).image }
     ensures stops { OnErr result ((h : Held) → IsOpen (N.device nor.old).image slot h
-        → SlotStops (outline_told slot).image (page_trail h page.now) (N.device nor.old) (N.device nor.new)) }
+        → SlotStops (outline_of_slot slot).image (page_trail h page.now) (N.device nor.old) (N.device nor.new)) }
     ensures stopped { OnErr result (Halted page_operations (λ _ _. ⊤) (N.device nor.old) (N.device nor.new)) }
 {
     let mut job = slot.begin_page(nor)?;

@@ -6,7 +6,7 @@ ghost use Rattle.dg_object.specs.Object.{Outline};
 ghost use Rattle.dg_object.specs.Records.{outline_of};
 ghost use Rattle.dg_slot.specs.Layout.{header_sector, slot_end};
 ghost use Rattle.dg_slot.specs.Kept.{Held, KeepsImage, held_begun};
-ghost use Rattle.dg_slot.specs.Jobs.{IsOpen, outline_told};
+ghost use Rattle.dg_slot.specs.Jobs.{IsOpen, outline_of_slot};
 ghost use Rattle.dg_volume.specs.Sizes.{images, control_sectors, most_take_commits, new_form};
 ghost use Rattle.dg_volume.specs.Store.{Store};
 ghost use Rattle.dg_volume.specs.Told.{told, told_held};
@@ -44,7 +44,7 @@ impl Volume {
         requires not_lent { is_lent self.old image ≡ false }
         ensures acted { OnOk result ((s : Store) → Mounted (N.device nor.old).image self.old s
             → Acted (take_trail s (outline_of profile.now)) (N.device nor.old) (N.device nor.new) self.new) }
-        ensures open { IfOk result (λ o. (outline_told o ≡ outline_of profile.now)
+        ensures open { IfOk result (λ o. (outline_of_slot o ≡ outline_of profile.now)
             × IsOpen (N.device nor.new).image o (held_begun (outline_of profile.now)) × (is_lent self.new image ≡ true)) }
         ensures form { OnOk result (form_of self.new ≡ new_form) }
         ensures awake { OnOk result ((N.device nor.old).stopped ≡ false) }
@@ -103,7 +103,7 @@ impl Volume {
         requires room { most_take_commits ≤ room_of self.old }
         ensures acted { OnOk result ((s : Store) → Mounted (N.device nor.old).image self.old s
             → Acted (take_trail s (outline_of profile.now)) (N.device nor.old) (N.device nor.new) self.new) }
-        ensures open { IfOk result (λ o. (outline_told o ≡ outline_of profile.now)
+        ensures open { IfOk result (λ o. (outline_of_slot o ≡ outline_of profile.now)
             × IsOpen (N.device nor.new).image o (held_begun (outline_of profile.now))
             × (is_lent self.new profile.now.image ≡ true)) }
         ensures form { OnOk result (form_of self.new ≡ new_form) }
@@ -151,7 +151,7 @@ impl Volume {
         requires room { 1 ≤ room_of self.old }
         ensures acted { OnOk result ((s : Store) → Mounted (N.device nor.old).image self.old s
             → Acted (open_trail s (outline_of profile.now)) (N.device nor.old) (N.device nor.new) self.new) }
-        ensures open { IfOk result (λ o. (outline_told o ≡ outline_of profile.now)
+        ensures open { IfOk result (λ o. (outline_of_slot o ≡ outline_of profile.now)
             × IsOpen (N.device nor.new).image o (held_begun (outline_of profile.now))
             × (is_lent self.new profile.now.image ≡ true)) }
         ensures form { OnOk result (form_of self.new ≡ new_form) }

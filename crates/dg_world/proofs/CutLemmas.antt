@@ -105,7 +105,7 @@ made_within : (n k : ℕ) (o : Option ℕ) → Some k ≡ more n o → n ≤ k
 made_within n k None h = cc
 made_within n k (Some m) h = let e : k ≡ m + n = same_Some k (m + n) h in omega (arith, e)
 
--- the board itself stopped, whether the cut blew or not
+-- the board itself stopped, whether the cut fired or not
 stopped_itself : (cut : PowerCut) (w : RuleWorld) (m : ℕ) (does : Does) (a b x y : Device) (before : Option ChipReport) → b.stopped ≡ true → IsFused cut a b x y → EventStopped does (store_at w m) x y before → IsStopped w m does (Some cut) b
 stopped_itself cut w m does a b x y before stopped f s = record {
   stopped = stopped;
@@ -117,10 +117,10 @@ stopped_itself cut w m does a b x y before stopped f s = record {
 
 fused_stopped : (cut : PowerCut) (w : RuleWorld) (m : ℕ) (does : Does) (v u : Option Node) (a b x y : Device) (before : Option ChipReport) (blown stopped : Bool) → y.blown ≡ blown → b.stopped ≡ stopped → IsFused cut a b x y → EventStopped does (store_at w m) x y before
     → EventPlayed (ended (blown && not stopped) (Err (Stopped before))) w m does (Some cut) (host a v) (host b u)
-fused_stopped cut w m does v u a b x y before true false blew awake f s =
+fused_stopped cut w m does v u a b x y before true false fired awake f s =
     let endures = fused_halts cut a b x y f s.stops.halts in
-    record { ends = blown_deed cut w m does a b x y before f blew s; endures = endures; count = endures.calm awake }
-fused_stopped cut w m does v u a b x y before true true blew stopped f s = record { ends = stopped_itself cut w m does a b x y before stopped f s; endures = fused_halts cut a b x y f s.stops.halts; count = tt }
+    record { ends = blown_deed cut w m does a b x y before f fired s; endures = endures; count = endures.calm awake }
+fused_stopped cut w m does v u a b x y before true true fired stopped f s = record { ends = stopped_itself cut w m does a b x y before stopped f s; endures = fused_halts cut a b x y f s.stops.halts; count = tt }
 fused_stopped cut w m does v u a b x y before false stopped whole is f s =
     record { ends = stopped_itself cut w m does a b x y before (f.stopped whole s.stops.halts.stopped) f s; endures = fused_halts cut a b x y f s.stops.halts; count = tt }
 

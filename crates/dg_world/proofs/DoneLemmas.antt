@@ -33,7 +33,7 @@ use Rattle.dg_world.specs.inner.OutcomeEndings.{outcome_frame, outcome_lines}
 use Rattle.dg_world.specs.inner.CutEnds.{EventIsWhole, EventIsCut, EventPlayed}
 use Rattle.dg_node.specs.Hosts.{host}
 use Rattle.dg_world.specs.inner.Steps.{CutChangesAre, Stepped}
-use Rattle.dg_world.specs.Stepped.{StepDone, station}
+use Rattle.dg_world.specs.Stepped.{StepDone, board_state}
 use Rattle.dg_node.specs.declared.report.ChipReport.{ChipReport}
 use Rattle.dg_node.specs.declared.node.Node.{Node}
 use Rattle.dg_world.specs.declared.outcome.Outcome.{Outcome}
@@ -97,7 +97,7 @@ none_sent w m (Some frame) e = absurd cc
 
 pub refused_done : (w : RuleWorld) (x : Step) (reported : Bool) (v u : Option Node) (frame : Option (List ℕ)) (why : Cause) (a b : Device) (start end : List Report) → mote_of x.event < length w.sites
     → SiteStands a v (site w (mote_of x.event)) → does w x.event ≡ Refuses why → b.image ≡ a.image → u ≡ v → frame ≡ outcome_frame (Refused why) → end ≡ start ++ filter (is_reported reported) (outcome_lines (mote_of x.event) (Refused why))
-    → StepDone w x reported frame start (station b u end)
+    → StepDone w x reported frame start (board_state b u end)
 refused_done w x reported v u frame why a b start end known stands is same at none told =
     let here = site w (mote_of x.event) in
     let P : List ℕ → Option Node → Type 0 = λ c o. MoteStands c o here.store here.runs in
@@ -120,7 +120,7 @@ refused_done w x reported v u frame why a b start end known stands is same at no
     }
 
 pub whole_done : (w : RuleWorld) (x : Step) (reported : Bool) (u : Option Node) (frame : Option (List ℕ)) (outcome : EventOutcome) (b : Device) (start end : List Report)
-    → EventIsWhole w (mote_of x.event) (does w x.event) x.cut u b.image outcome → frame ≡ outcome_frame outcome → end ≡ start ++ filter (is_reported reported) (outcome_lines (mote_of x.event) outcome) → StepDone w x reported frame start (station b u end)
+    → EventIsWhole w (mote_of x.event) (does w x.event) x.cut u b.image outcome → frame ≡ outcome_frame outcome → end ≡ start ++ filter (is_reported reported) (outcome_lines (mote_of x.event) outcome) → StepDone w x reported frame start (board_state b u end)
 whole_done w x reported u frame outcome b start end is sends told =
     let m = mote_of x.event in
     let d = is.deed in
@@ -148,7 +148,7 @@ whole_done w x reported u frame outcome b start end is sends told =
     }
 
 pub cut_done : (w : RuleWorld) (x : Step) (reported : Bool) (before : Option ChipReport) (b c : Device) (start mid end : List Report) → (is : EventIsCut w (mote_of x.event) (does w x.event) x.cut b.image before)
-    → CutChangesAre (mote_of x.event) before is.leaves.store start mid → end ≡ mid ++ Off (mote_of x.event) ∷ [] → c.image ≡ b.image → StepDone w x reported None start (station c None end)
+    → CutChangesAre (mote_of x.event) before is.leaves.store start mid → end ≡ mid ++ Off (mote_of x.event) ∷ [] → c.image ≡ b.image → StepDone w x reported None start (board_state c None end)
 cut_done w x reported before b c start mid end is lines off same =
     let m = mote_of x.event in
     let d = is.deed in
@@ -176,7 +176,7 @@ cut_done w x reported before b c start mid end is lines off same =
 
 pub step_outcome : (w : RuleWorld) (x : Step) (reported : Bool) (v u : Option Node) (frame : Option (List ℕ)) (outcome : EventOutcome) (a b : Device) (start end : List Report) → mote_of x.event < length w.sites → SiteStands a v (site w (mote_of x.event))
     → EventPlayed (Ok (Whole outcome)) w (mote_of x.event) (does w x.event) x.cut (host a v) (host b u) → frame ≡ outcome_frame outcome → end ≡ start ++ filter (is_reported reported) (outcome_lines (mote_of x.event) outcome)
-    → Stepped (Ok frame) w x reported (station a v start) (station b u end)
+    → Stepped (Ok frame) w x reported (board_state a v start) (board_state b u end)
 step_outcome w x reported v u frame (Refused why) a b start end known stands p sends told =
     record { ends = refused_done w x reported v u frame why a b start end known stands p.ends.0 p.ends.1 p.ends.2 sends told; endures = p.endures; count = p.count }
 step_outcome w x reported v u frame Unreported a b start end known stands p sends told = record { ends = whole_done w x reported u frame Unreported b start end p.ends sends told; endures = p.endures; count = p.count }
@@ -200,7 +200,7 @@ cut_itself None = tt
 cut_itself (Some c) = omega arith
 
 pub step_cut : {T : Type 0} (w : RuleWorld) (x : Step) (reported : Bool) (v u : Option Node) (before : Option ChipReport) (q : Result T Fault) (y : T) (a b c : Device) (start mid end : List Report) → (p : EventPlayed (Ok (Cut before)) w (mote_of x.event) (does w x.event) x.cut (host a v) (host b u))
-    → q ≡ Ok y → ReadAndTold q (mote_of x.event) before p.ends.leaves.store b c start mid → end ≡ mid ++ Off (mote_of x.event) ∷ [] → Stepped (Ok None) w x reported (station a v start) (station c None end)
+    → q ≡ Ok y → ReadAndTold q (mote_of x.event) before p.ends.leaves.store b c start mid → end ≡ mid ++ Off (mote_of x.event) ∷ [] → Stepped (Ok None) w x reported (board_state a v start) (board_state c None end)
 step_cut {T} w x reported v u before q y a b c start mid end p is told off =
     let l : ReadAndTold (Ok y) (mote_of x.event) before p.ends.leaves.store b c start mid = subst (λ (z : Result T Fault). ReadAndTold z (mote_of x.event) before p.ends.leaves.store b c start mid) is told in
     record {
@@ -210,7 +210,7 @@ step_cut {T} w x reported v u before q y a b c start mid end p is told off =
     }
 
 cut_halts : (T : Type 0) (f : Fault) (w : RuleWorld) (x : Step) (reported : Bool) (v u o : Option Node) (before k : Option ChipReport) (a b c : Device) (start end : List Report) → (p : EventPlayed (Ok (Cut before)) w (mote_of x.event) (does w x.event) x.cut (host a v) (host b u))
-    → ReadAndTold {T = T} (Err f) (mote_of x.event) before p.ends.leaves.store b c start end → Stepped (Err (halt_of f k)) w x reported (station a v start) (station c o end)
+    → ReadAndTold {T = T} (Err f) (mote_of x.event) before p.ends.leaves.store b c start end → Stepped (Err (halt_of f k)) w x reported (board_state a v start) (board_state c o end)
 cut_halts T fault.Stopped w x reported v u o before k a b c start end p lines = record {
   ends = (
     record {
@@ -230,22 +230,22 @@ cut_halts T fault.NotAVolume w x reported v u o before k a b c start end p lines
 cut_halts T fault.NoImage w x reported v u o before k a b c start end p lines = absurd lines.0
 
 pub step_cut_halts : {T : Type 0} (r : Result (Unit {0}) Fault) (q : Result T Fault) (t : Outcome) (f : Fault) (w : RuleWorld) (x : Step) (reported : Bool) (v u o : Option Node) (before : Option ChipReport) (a b c : Device) (start end : List Report) → IsErrAnd r (λ e. e ≡ f) → q ≡ Err f
-    → (p : EventPlayed (Ok (Cut before)) w (mote_of x.event) (does w x.event) x.cut (host a v) (host b u)) → ReadAndTold q (mote_of x.event) before p.ends.leaves.store b c start end → Stepped (stepped r t) w x reported (station a v start) (station c o end)
+    → (p : EventPlayed (Ok (Cut before)) w (mote_of x.event) (does w x.event) x.cut (host a v) (host b u)) → ReadAndTold q (mote_of x.event) before p.ends.leaves.store b c start end → Stepped (stepped r t) w x reported (board_state a v start) (board_state c o end)
 step_cut_halts {T} (Ok y) q t f w x reported v u o before a b c start end is e p lines = absurd is
 step_cut_halts {T} (Err y) q t f w x reported v u o before a b c start end is e p lines =
-    let P : Fault → Type 0 = λ z. Stepped (Err (halt_of z t.before)) w x reported (station a v start) (station c o end) in
+    let P : Fault → Type 0 = λ z. Stepped (Err (halt_of z t.before)) w x reported (board_state a v start) (board_state c o end) in
     subst P (sym is) (cut_halts T f w x reported v u o before t.before a b c start end p (subst (λ (z : Result T Fault). ReadAndTold z (mote_of x.event) before p.ends.leaves.store b c start end) e lines))
 
-pub step_halts : (h : Halt) (w : RuleWorld) (x : Step) (reported : Bool) (v u : Option Node) (a b : Device) (told : List Report) → EventPlayed (Err h) w (mote_of x.event) (does w x.event) x.cut (host a v) (host b u) → Stepped (Err h) w x reported (station a v told) (station b u told)
+pub step_halts : (h : Halt) (w : RuleWorld) (x : Step) (reported : Bool) (v u : Option Node) (a b : Device) (told : List Report) → EventPlayed (Err h) w (mote_of x.event) (does w x.event) x.cut (host a v) (host b u) → Stepped (Err h) w x reported (board_state a v told) (board_state b u told)
 step_halts (Stopped k) w x reported v u a b told p = record { ends = (p.ends, refl); endures = p.endures; count = tt }
 step_halts NotAVolume w x reported v u a b told p = absurd p.ends
 step_halts NoImage w x reported v u a b told p = record { ends = (p.ends, refl); endures = p.endures; count = p.count }
 
 pub step_fails : (r : Result (Unit {0}) Fault) (f : Fault) (t : Outcome) (w : RuleWorld) (x : Step) (reported : Bool) (v u : Option Node) (a b : Device) (told : List Report) → IsErrAnd r (λ e. e ≡ f)
-    → EventPlayed (Err (halt_of f t.before)) w (mote_of x.event) (does w x.event) x.cut (host a v) (host b u) → Stepped (stepped r t) w x reported (station a v told) (station b u told)
+    → EventPlayed (Err (halt_of f t.before)) w (mote_of x.event) (does w x.event) x.cut (host a v) (host b u) → Stepped (stepped r t) w x reported (board_state a v told) (board_state b u told)
 step_fails (Ok y) f t w x reported v u a b told is p = absurd is
 step_fails (Err e) f t w x reported v u a b told is p =
-    let P : Fault → Type 0 = λ z. Stepped (Err (halt_of z t.before)) w x reported (station a v told) (station b u told) in
+    let P : Fault → Type 0 = λ z. Stepped (Err (halt_of z t.before)) w x reported (board_state a v told) (board_state b u told) in
     subst P (sym is) (step_halts (halt_of f t.before) w x reported v u a b told p)
 
 -- the mote of a step that fits is one of the world

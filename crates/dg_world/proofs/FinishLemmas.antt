@@ -32,7 +32,7 @@ use Rattle.dg_node.specs.declared.report.ChipReport.{ChipReport}
 use Rattle.dg_node.specs.declared.node.Node.{Node}
 use Rattle.dg_world.specs.declared.world.World.{World}
 use Rattle.dg_world.proofs.BoardLemmas.{Used, same_some}
-use Rattle.dg_world.proofs.FormatLemmas.{same_err, first_more, unused, is_now, is_other}
+use Rattle.dg_world.proofs.FormatLemmas.{same_err, first_more, unused, is_now, differs_from_kept}
 use Rattle.dg_world.proofs.ChipReportLemmas.{range_more, same_over}
 
 -- ---- the lines of one mote
@@ -101,7 +101,7 @@ read_more n old now new d e to used kept same =
             let p : d ≡ a = same_some d a (sym (unused n old now new d e to.first used) ∙ ap (slice_get old) (sym at) ∙ here) in
             let q : b ≡ e = same_some b e (sym there ∙ ap (slice_get new) at ∙ is_now n now new d e used) in
             ap (λ (x : Device). x.image) q ∙ same ∙ ap (λ (x : Device). x.image) p
-        | inr other ↦ to.images m a b here (sym (is_other n m now new d e used other) ∙ there)
+        | inr other ↦ to.images m a b here (sym (differs_from_kept n m now new d e used other) ∙ there)
       ];
     }
 

@@ -35,8 +35,8 @@ unused n old now new d e first used = sym (first.others n (omega arith)) ∙ use
 pub is_now : (n : ℕ) (now new : List Device) (d e : Device) → Used n now new d e → slice_get new n ≡ Some e
 is_now n now new d e used = ap (λ (ds : List Device). slice_get ds n) used.after ∙ get_same now n d e used.before
 
-pub is_other : (n m : ℕ) (now new : List Device) (d e : Device) → Used n now new d e → m ≢ n → slice_get new m ≡ slice_get now m
-is_other n m now new d e used other = ap (λ (ds : List Device). slice_get ds m) used.after ∙ get_other now n m e other
+pub differs_from_kept : (n m : ℕ) (now new : List Device) (d e : Device) → Used n now new d e → m ≢ n → slice_get new m ≡ slice_get now m
+differs_from_kept n m now new d e used other = ap (λ (ds : List Device). slice_get ds m) used.after ∙ get_other now n m e other
 
 endures_more : (n m : ℕ) (old now new : List Device) (d e a b : Device) → FirstBoards n old now → Used n now new d e → Endures (beneath_of d) (beneath_of e)
     → slice_get old m ≡ Some a → slice_get new m ≡ Some b → Endures (beneath_of a) (beneath_of b)
@@ -46,7 +46,7 @@ endures_more n m old now new d e a b first used kept here there =
           let p : a ≡ d = same_some a d (sym here ∙ ap (slice_get old) same ∙ unused n old now new d e first used) in
           let q : b ≡ e = same_some b e (sym there ∙ ap (slice_get new) same ∙ is_now n now new d e used) in
           subst (λ (x : Device). Endures (beneath_of a) (beneath_of x)) (sym q) (subst (λ (x : Device). Endures (beneath_of x) (beneath_of e)) (sym p) kept)
-      | inr other ↦ first.endures m a b here (sym (is_other n m now new d e used other) ∙ there)
+      | inr other ↦ first.endures m a b here (sym (differs_from_kept n m now new d e used other) ∙ there)
     ]
 
 -- no count rose before, nor does that of the board that is used next
@@ -57,7 +57,7 @@ calm_more n old now new d e first used calm stays = λ m a b here there.
           let p : d ≡ a = same_some d a (sym (unused n old now new d e first used) ∙ ap (slice_get old) (sym same) ∙ here) in
           let q : b ≡ e = same_some b e (sym there ∙ ap (slice_get new) same ∙ is_now n now new d e used) in
           ap (λ (x : Device). x.faults) q ∙ stays ∙ ap (λ (x : Device). x.faults) p
-      | inr other ↦ calm m a b here (sym (is_other n m now new d e used other) ∙ there)
+      | inr other ↦ calm m a b here (sym (differs_from_kept n m now new d e used other) ∙ there)
     ]
 
 -- one board more was used
@@ -65,7 +65,7 @@ pub first_more : (n : ℕ) (old now new : List Device) (d e : Device) → FirstB
 first_more n old now new d e first used kept =
     record {
       count = ap length used.after ∙ length-set now n e ∙ first.count;
-      others = λ m h. let other : m ≢ n = omega (arith, h) in is_other n m now new d e used other ∙ first.others m (omega (arith, h));
+      others = λ m h. let other : m ≢ n = omega (arith, h) in differs_from_kept n m now new d e used other ∙ first.others m (omega (arith, h));
       counts = λ m a b here there. (endures_more n m old now new d e a b first used kept here there).faults;
       endures = λ m a b here there. endures_more n m old now new d e a b first used kept here there;
     }
@@ -81,11 +81,11 @@ formatted_more n s old now new d e to used kept awake stays stands form =
       boards = first_more n old now new d e to.boards used kept;
       formatted = λ m x h here. elim (cases_eq m n) [
         | inl same ↦ subst (λ (y : Device). Stands y.image s) (same_some e x (sym (is_now n now new d e used) ∙ ap (slice_get new) (sym same) ∙ here)) stands
-        | inr other ↦ to.formatted m x (omega (arith, h, other)) (sym (is_other n m now new d e used other) ∙ here)
+        | inr other ↦ to.formatted m x (omega (arith, h, other)) (sym (differs_from_kept n m now new d e used other) ∙ here)
       ];
       written = λ m x h here. elim (cases_eq m n) [
         | inl same ↦ subst (λ (y : Device). HasForm y.image new_form) (same_some e x (sym (is_now n now new d e used) ∙ ap (slice_get new) (sym same) ∙ here)) form
-        | inr other ↦ to.written m x (omega (arith, h, other)) (sym (is_other n m now new d e used other) ∙ here)
+        | inr other ↦ to.written m x (omega (arith, h, other)) (sym (differs_from_kept n m now new d e used other) ∙ here)
       ];
       awake = λ m x h here. elim (cases_eq m n) [
         | inl same ↦ subst (λ (y : Device). y.stopped ≡ false) (same_some d x (sym (unused n old now new d e to.boards used) ∙ ap (slice_get old) (sym same) ∙ here)) awake
@@ -105,9 +105,9 @@ format_stopped n motes s old now new d e to used stopped known =
       is = is_now n now new d e used;
       stopped = stopped.stopped;
       cause = stopped.cause;
-      formatted = λ m x h here. let other : m ≢ n = omega (arith, h) in to.formatted m x h (sym (is_other n m now new d e used other) ∙ here);
+      formatted = λ m x h here. let other : m ≢ n = omega (arith, h) in to.formatted m x h (sym (differs_from_kept n m now new d e used other) ∙ here);
       awake = to.awake;
-      behind = λ m h. let other : m ≢ n = omega (arith, h) in is_other n m now new d e used other ∙ to.boards.others m (omega (arith, h));
+      behind = λ m h. let other : m ≢ n = omega (arith, h) in differs_from_kept n m now new d e used other ∙ to.boards.others m (omega (arith, h));
     }
 
 pub board_of : (board : ℕ) (e : FormatStopped) (motes : ℕ) (chip : Store) (old new : List Device) → (let x : Result (Unit {0}) FormatStopped = Err (record { board = board }) in x ≡ Err e) → FormatStops board motes chip old new → FormatStops e.board motes chip old new

@@ -100,7 +100,7 @@ module _ (w : RuleWorld) (known : Bool) (u : Option Node) (c d : List ℕ) where
   step_sees (Inject m image version dt word) t x refused = inject_sees m image version dt word t.orderly (outcome_of t) x refused
   step_sees (OrderEvent m number image version dt word) t x refused = order_sees m number image version dt word t.orderly (outcome_of t) x refused
 
-  -- behind a cut that blew: the board was looked at, or was neither known nor made so
+  -- behind a cut that fired: the board was looked at, or was neither known nor made so
   pub cut_sees : (e : Event) (o : Option Bool) → SeesCut w e known o d → StepSees w e known o u c d
   cut_sees e (Some o) x = x
   cut_sees e None x = λ off. (λ is. absurd (x.0 is), x.1)

@@ -13,7 +13,7 @@ use Rattle.dg_world.specs.Mounted.{StandFor, MountedTo, MountStops, NoVolumeAt}
 use Rattle.dg_world.specs.declared.mount.MountStopped.{MountStopped}
 use Rattle.dg_world.specs.declared.mount.MountStopped.TheVariants.{Flash, NotAVolume}
 use Rattle.dg_world.proofs.BoardLemmas.{Used, same_some}
-use Rattle.dg_world.proofs.FormatLemmas.{unused, is_now, is_other, calm_more}
+use Rattle.dg_world.proofs.FormatLemmas.{unused, is_now, differs_from_kept, calm_more}
 use Rattle.dg_world.proofs.FinishLemmas.{ReadTo, read_more}
 
 -- the first n boards are volumes, and were not stopped
@@ -31,7 +31,7 @@ mounted_more n old now new d e to used kept same awake stays volume =
       read = read_more n old now new d e to.read used kept same;
       volumes = λ m x h here. elim (cases_eq m n) [
         | inl at ↦ subst (λ (y : Device). IsVolume y.image) (same_some e x (sym (is_now n now new d e used) ∙ ap (slice_get new) (sym at) ∙ here)) volume
-        | inr other ↦ to.volumes m x (omega (arith, h, other)) (sym (is_other n m now new d e used other) ∙ here)
+        | inr other ↦ to.volumes m x (omega (arith, h, other)) (sym (differs_from_kept n m now new d e used other) ∙ here)
       ];
       awake = λ m x h here. elim (cases_eq m n) [
         | inl at ↦ subst (λ (y : Device). y.stopped ≡ false) (same_some d x (sym (unused n old now new d e to.read.first used) ∙ ap (slice_get old) (sym at) ∙ here)) awake
@@ -44,9 +44,9 @@ mounted_more n old now new d e to used kept same awake stays volume =
 
 mounted_to : (n : ℕ) (old now new : List Device) (d e : Device) → AreMounted n old now → Used n now new d e → MountedTo n old new
 mounted_to n old now new d e to used = record {
-  volumes = λ m x h here. let other : m ≢ n = omega (arith, h) in to.volumes m x h (sym (is_other n m now new d e used other) ∙ here);
+  volumes = λ m x h here. let other : m ≢ n = omega (arith, h) in to.volumes m x h (sym (differs_from_kept n m now new d e used other) ∙ here);
   awake = to.awake;
-  behind = λ m h. let other : m ≢ n = omega (arith, h) in is_other n m now new d e used other ∙ to.read.first.others m (omega (arith, h));
+  behind = λ m h. let other : m ≢ n = omega (arith, h) in differs_from_kept n m now new d e used other ∙ to.read.first.others m (omega (arith, h));
 }
 
 pub mount_stops : (n motes : ℕ) (old now new : List Device) (d e : Device) → AreMounted n old now → Used n now new d e → ReadStopped d e → n < motes → MountStops n motes old new

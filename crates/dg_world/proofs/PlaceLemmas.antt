@@ -39,7 +39,7 @@ use Rattle.dg_world.specs.Applied.{OneBoard, Applied, FlashAt, RunEnded}
 use Rattle.dg_world.specs.inner.Outcomes.{fault_of}
 use Rattle.dg_world.specs.Deployments.{Deployment, deployed}
 use Rattle.dg_world.specs.Cuts.{IsStopped, StepFoundNoImage}
-use Rattle.dg_world.specs.Stepped.{StepDone, station}
+use Rattle.dg_world.specs.Stepped.{StepDone, board_state}
 use Rattle.dg_world.specs.inner.Steps.{Stepped}
 use Rattle.dg_world.specs.declared.air.Air.{Air}
 use Rattle.dg_world.specs.declared.images.Images.{Images}
@@ -124,7 +124,7 @@ pub record KnownKeeps (v u : World) (i : ℕ) (b : Device) : Type 0 where
   pub others : (k : ℕ) → k ≢ i → known_of u k ≡ known_of v k
   pub here : known_of u i ≡ true → IsOrderlyChip b.image
 
-module _ (v u : World) (bs : List Device) (w : RuleWorld) (x : Step) (reported : Bool) (i : ℕ) (runs : Option Node) (frame : Option (List ℕ)) (b : Device) (start end : List Report) (is : IsWorld v bs w) (at : i ≡ mote_of x.event) (known : i < length w.sites) (moves : Moves v u i (w.moment + dt_of x.event) runs frame) (keeps : KnownKeeps v u i b) (s : StepDone w x reported frame start (station b runs end)) where
+module _ (v u : World) (bs : List Device) (w : RuleWorld) (x : Step) (reported : Bool) (i : ℕ) (runs : Option Node) (frame : Option (List ℕ)) (b : Device) (start end : List Report) (is : IsWorld v bs w) (at : i ≡ mote_of x.event) (known : i < length w.sites) (moves : Moves v u i (w.moment + dt_of x.event) runs frame) (keeps : KnownKeeps v u i b) (s : StepDone w x reported frame start (board_state b runs end)) where
   sites_are : s.world.sites ≡ set w.sites i s.here
   sites_are = s.sites ∙ ap (λ (j : ℕ). set w.sites j s.here) (sym at)
 
@@ -284,7 +284,7 @@ ApplyEnds (Err world_fault.Memory) w x reported a b = ⊥
 ApplyEnds (Err world_fault.TooMany) w x reported a b = ⊥
 
 pub halts_at : (h : Halt) (f : WorldFault) (v u : World) (bs : List Device) (w : RuleWorld) (x : Step) (reported : Bool) (was runs : Option Node) (i mote : ℕ) (a b : Device) (start end : List Report) → f ≡ fault_of h mote → i ≡ mote → IsWorld v bs w → i ≡ mote_of x.event → i < length w.sites
-    → slice_get bs i ≡ Some a → Stepped (Err h) w x reported (station a was start) (station b runs end) → ApplyEnds (Err f) w x reported (deployed v bs start) (deployed u (set bs i b) end)
+    → slice_get bs i ≡ Some a → Stepped (Err h) w x reported (board_state a was start) (board_state b runs end) → ApplyEnds (Err f) w x reported (deployed v bs start) (deployed u (set bs i b) end)
 halts_at (Stopped k) f v u bs w x reported was runs i mote a b start end is_fault same is at known here s =
     let P : WorldFault → Type 0 = λ y. ApplyEnds (Err y) w x reported (deployed v bs start) (deployed u (set bs i b) end) in
     subst P (sym is_fault) (subst (λ (j : ℕ). FlashAt w x j bs (set bs i b)) same (flashed v bs w x i a b is at known here s.endures s.ends.0), s.ends.1)
@@ -295,13 +295,13 @@ halts_at NoImage f v u bs w x reported was runs i mote a b start end is_fault sa
 
 -- the same over boards that are given by an equation
 pub applied_at : (v u : World) (bs cs : List Device) (w : RuleWorld) (x : Step) (reported : Bool) (i : ℕ) (was runs : Option Node) (frame : Option (List ℕ)) (a b : Device) (start end : List Report) → cs ≡ set bs i b → IsWorld v bs w → i ≡ mote_of x.event → i < length w.sites → v.events < most_events → dt_of x.event < 2 ^ 32
-    → Moves v u i (w.moment + dt_of x.event) runs frame → KnownKeeps v u i b → slice_get bs i ≡ Some a → (s : Stepped (Ok frame) w x reported (station a was start) (station b runs end)) → ((z : RuleWorld) (reports : List Report) → WorldStep w x z reports → WorldTimely z) → Applied w x reported (deployed v bs start) (deployed u cs end)
+    → Moves v u i (w.moment + dt_of x.event) runs frame → KnownKeeps v u i b → slice_get bs i ≡ Some a → (s : Stepped (Ok frame) w x reported (board_state a was start) (board_state b runs end)) → ((z : RuleWorld) (reports : List Report) → WorldStep w x z reports → WorldTimely z) → Applied w x reported (deployed v bs start) (deployed u cs end)
 applied_at v u bs cs w x reported i was runs frame a b start end e is at known few short moves keeps here s timely =
     subst (λ (ds : List Device). Applied w x reported (deployed v bs start) (deployed u ds end)) (sym e)
     (applied v u bs w x reported i runs frame b start end is at known moves keeps s.ends a few short (timely s.ends.world s.ends.reports s.ends.step) here s.endures s.count)
 
 pub halts_there : (h : Halt) (f : WorldFault) (v u : World) (bs cs : List Device) (w : RuleWorld) (x : Step) (reported : Bool) (was runs : Option Node) (i mote : ℕ) (a b : Device) (start end : List Report) → cs ≡ set bs i b → f ≡ fault_of h mote → i ≡ mote → IsWorld v bs w → i ≡ mote_of x.event → i < length w.sites
-    → slice_get bs i ≡ Some a → Stepped (Err h) w x reported (station a was start) (station b runs end) → ApplyEnds (Err f) w x reported (deployed v bs start) (deployed u cs end)
+    → slice_get bs i ≡ Some a → Stepped (Err h) w x reported (board_state a was start) (board_state b runs end) → ApplyEnds (Err f) w x reported (deployed v bs start) (deployed u cs end)
 halts_there h f v u bs cs w x reported was runs i mote a b start end e is_fault same is at known here s =
     subst (λ (ds : List Device). ApplyEnds (Err f) w x reported (deployed v bs start) (deployed u ds end)) (sym e) (halts_at h f v u bs w x reported was runs i mote a b start end is_fault same is at known here s)
 

@@ -7,7 +7,7 @@ use Rattle.dg_slot.specs.Kept.{Held}
 use Rattle.dg_control.specs.declared.snapshot.Order.{Order}
 use Rattle.dg_object.specs.Sizes.{most_bytes}
 use Rattle.dg_volume.specs.Store.{Store, held}
-use Rattle.dg_volume.specs.Changes.{is_other, refusal_by, order_refusal}
+use Rattle.dg_volume.specs.Changes.{differs_from_kept, refusal_by, order_refusal}
 use Rattle.dg_volume.specs.declared.volume.InjectFault.{InjectFault}
 use Rattle.dg_volume.specs.declared.volume.InjectFault.TheVariants as inject
 use Rattle.dg_volume.specs.declared.volume.OrderFault.{OrderFault}
@@ -67,9 +67,9 @@ module _ (w : RuleWorld) (m now word : ℕ) (row : Row) (s : Store) where
   by_other true unseen = not_true unseen
   by_other false unseen = absurd unseen
 
-  by_image_version : {A : Type 0} (h : Held) (older same : Bool) → Unseen (cond older (Some (inject.Stale h.version)) (cond same (cond (is_other h row) (Some inject.Taken) None) (cond (ltb s.room 2) (Some (inject.Worn s.room)) None))) → A
+  by_image_version : {A : Type 0} (h : Held) (older same : Bool) → Unseen (cond older (Some (inject.Stale h.version)) (cond same (cond (differs_from_kept h row) (Some inject.Taken) None) (cond (ltb s.room 2) (Some (inject.Worn s.room)) None))) → A
   by_image_version h true same unseen = not_true unseen
-  by_image_version h false true unseen = by_other (is_other h row) unseen
+  by_image_version h false true unseen = by_other (differs_from_kept h row) unseen
   by_image_version h false false unseen = by_room (ltb s.room 2) unseen
 
   by_kept : {A : Type 0} (o : Option Held) → Unseen (refusal_by o s row) → A

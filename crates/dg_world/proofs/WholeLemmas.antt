@@ -12,7 +12,7 @@ use Rattle.dg_world.specs.inner.Sees.{EventSees, EventReads}
 use Rattle.dg_world.specs.inner.Contexts.{AppliesIn}
 use Rattle.dg_world.specs.Applying.{step_of}
 use Rattle.dg_world.specs.inner.Steps.{StepDid}
-use Rattle.dg_world.specs.Stepped.{Station, station}
+use Rattle.dg_world.specs.Stepped.{BoardState, board_state}
 use Rattle.dg_world.specs.inner.Outcomes.{outcome_of, halt_of, as_outcome}
 use Rattle.dg_world.specs.inner.EventOutcomes.{Whole}
 use Rattle.dg_world.specs.inner.OutcomeEndings.{outcome_lines, OutcomeEnds}
@@ -27,7 +27,7 @@ use Rattle.dg_world.proofs.KnownLemmas.{step_sees, outcome_refused, refused_outc
 use Rattle.dg_world.proofs.OutcomeLemmas.{frame_told}
 
 -- what the clauses of `apply_event` say
-pub record AppliedSo (r : Result (Unit {0}) Fault) (o : EventContext) (event : Event) (t : Outcome) (a b : Station) : Type 0 where
+pub record AppliedSo (r : Result (Unit {0}) Fault) (o : EventContext) (event : Event) (t : Outcome) (a b : BoardState) : Type 0 where
   pub ends : (w : RuleWorld) → AppliesIn o w event a.board a.runs → OutcomeEnds (as_outcome r t) w (mote_of event) (does w event) (host a.board a.runs) (host b.board b.runs)
   pub unseen : (w : RuleWorld) → AppliesIn o w event a.board a.runs → RefusesUnseen (does w event) → (b.board ≡ a.board) × OnErr r ⊥
   pub sees : OnOk r (EventSees event t b.runs a.board.image b.board.image)
@@ -39,7 +39,7 @@ done = Ok tt
 abbrev failed : Fault → Result (Unit {0}) Fault
 failed f = Err f
 
-module _ (o : EventContext) (event : Event) (t : Outcome) (a b : Station) (cut : Option PowerCut) (none : cut ≡ None) where
+module _ (o : EventContext) (event : Event) (t : Outcome) (a b : BoardState) (cut : Option PowerCut) (none : cut ≡ None) where
   -- its lines were told
   pub whole_did : AppliedSo done o event t a b → o.mote ≡ mote_of event → b.reported ≡ a.reported ++ filter (is_reported o.reported) (outcome_lines o.mote (outcome_of t)) → StepDid done o (step_of event cut) t a b
   whole_did h here told =
@@ -60,7 +60,7 @@ module _ (o : EventContext) (event : Event) (t : Outcome) (a b : Station) (cut :
       }
 
   -- its fault is handed on, and nothing is told
-  pub whole_failed : (r : Result (Unit {0}) Fault) (f : Fault) → IsErrAnd r (λ e. e ≡ f) → AppliedSo (failed f) o event t a b → StepDid r o (step_of event cut) t a (station b.board b.runs a.reported)
+  pub whole_failed : (r : Result (Unit {0}) Fault) (f : Fault) → IsErrAnd r (λ e. e ≡ f) → AppliedSo (failed f) o event t a b → StepDid r o (step_of event cut) t a (board_state b.board b.runs a.reported)
   whole_failed (Ok u) f is h = absurd is
   whole_failed (Err e) f is h =
       let x = step_of event cut in

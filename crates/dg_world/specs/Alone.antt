@@ -14,7 +14,7 @@ use Rattle.dg_base.specs.declared.events.Event.TheVariants.{Tick, Hear, Last, Re
 use Rattle.dg_base.specs.declared.events.Step.{Step}
 use Rattle.dg_script.specs.declared.report.Report.{Report}
 use Rattle.dg_world.specs.Cuts.{IsStopped, StepFoundNoImage}
-use Rattle.dg_world.specs.Stepped.{StepDone, station}
+use Rattle.dg_world.specs.Stepped.{StepDone, board_state}
 use Rattle.dg_world.specs.declared.outcome.Fault.{Fault}
 use Rattle.dg_world.specs.declared.outcome.Fault.TheVariants as fault
 use Rattle.dg_node.specs.declared.node.Node.{Node}
@@ -47,7 +47,7 @@ uncut event = record { event = event; cut = None }
 pub record AloneDone (w : RuleWorld) (event : Event) (u : Option Node) (frame : Option (List ℕ)) (new : Device) : Type
     0 where
   pub reported : List Report
-  pub done : StepDone w (uncut event) true frame [] (station new u reported)
+  pub done : StepDone w (uncut event) true frame [] (board_state new u reported)
 
 -- What the event answers from a board that stood for the mote's store.
 abbrev pub AloneEnds : Result Outbox Fault → RuleWorld → Event → Option Node → Device → Type 0

@@ -16,18 +16,18 @@ use Rattle.dg_world.specs.Worlds.{MoteStands}
 use Rattle.dg_node.specs.declared.node.Node.{Node}
 
 -- a board with what the mote there runs, and what was reported so far
-pub record Station : Type 0 where
+pub record BoardState : Type 0 where
   pub board : Device
   pub runs : Option Node
   pub reported : List Report
 
-abbrev pub station : Device → Option Node → List Report → Station
-station board runs report = record { board = board; runs = runs; reported = report }
+abbrev pub board_state : Device → Option Node → List Report → BoardState
+board_state board runs report = record { board = board; runs = runs; reported = report }
 
 -- A step was done at its board, which stood for the mote's store: what the rules allow, where the mote and the board are then,
--- what was reported, and what was sent. The station of the mote is b.
+-- what was reported, and what was sent. The board_state of the mote is b.
 pub record StepDone (w : RuleWorld) (x : Step) (reported : Bool) (frame : Option (List ℕ)) (report_before : List Report)
-    (b : Station) : Type 0 where
+    (b : BoardState) : Type 0 where
   pub world : RuleWorld
   pub reports : List Report
   pub step : WorldStep w x world reports

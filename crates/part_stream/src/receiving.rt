@@ -1,6 +1,6 @@
 //! A page is received into its slot.
 ghost use Rattle.std.specs.Prelude.{◌≡◌, IfOk};
-ghost use Rattle.dg_slot.specs.Jobs.{outline_told};
+ghost use Rattle.dg_slot.specs.Jobs.{outline_of_slot};
 
 use crate::stream::next_packet;
 use anyhow::{Result, bail};
@@ -11,7 +11,7 @@ use dg_slot::{OpenSlot, Sealing};
 /// Erases the sector of the next page, puts its packets as they come, and makes it complete where it fits. A slot of which all
 /// pages are complete is handed back.
 pub fn receive_page<N: Nor>(chip: &mut N, slot: OpenSlot) -> Result<OpenSlot>
-    ensures { IfOk result (λ o. outline_told o ≡ outline_told slot) }
+    ensures { IfOk result (λ o. outline_of_slot o ≡ outline_of_slot slot) }
 {
     let page = slot.done();
     if page >= slot.profile().pages {

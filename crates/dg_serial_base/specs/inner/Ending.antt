@@ -1,7 +1,7 @@
 -- How a base mote that ended tells it, and how its line went (docs/COMMANDS.md, "Base").
 use Rattle.std.specs.Prelude.{◌≡◌, ◌⊎◌, ℕ, ◌≤◌, List, [], Option, Result, Ok, Err}
 use Rattle.dg_words.specs.Counts.{Rose}
-use Rattle.dg_base.specs.Outside.{Puts, PutsFront}
+use Rattle.dg_base.specs.Outside.{Puts, PutsPrefix}
 use Rattle.dg_base.specs.declared.answers.Status.{Status}
 use Rattle.dg_base.specs.declared.answers.Status.TheVariants as status
 use Rattle.dg_volume.specs.Store.{Store}
@@ -17,7 +17,7 @@ use Rattle.dg_serial_base.specs.declared.stop.Stop.TheVariants as stop
 abbrev pub TellsStatus : (answer wanted : Status) → (line : List ℕ) → (before now : Option (List ℕ)) → (old new : ℕ) → Type 0
 TellsStatus answer wanted line before now old new =
     ((answer ≡ wanted) × Puts before now line × (new ≡ old))
-    ⊎ ((answer ≡ status.WriteFault) × PutsFront before now line × Rose old new × (old ≤ new))
+    ⊎ ((answer ≡ status.WriteFault) × PutsPrefix before now line × Rose old new × (old ≤ new))
 
 -- a status without a last line
 abbrev pub IsTold : (answer wanted : Status) → (before now : Option (List ℕ)) → (old new : ℕ) → Type 0

@@ -3,7 +3,7 @@ use Rattle.std.specs.Prelude.{◌≡◌, ◌⊎◌, ℕ, ◌+◌, ◌*◌, ◌<�
 use Rattle.std.specs.Prelude.{Result, Ok, Err}
 use Rattle.std.specs.List.{AllByRecursion}
 use Rattle.dg_words.specs.Counts.{Rose}
-use Rattle.dg_base.specs.Outside.{Takes, Puts, PutsFront, AtEnd}
+use Rattle.dg_base.specs.Outside.{Takes, Puts, PutsPrefix, AtEnd}
 use Rattle.dg_base.specs.Sizes.{most_input}
 use Rattle.dg_nor.specs.Device.{Device}
 use Rattle.dg_nor.specs.Trail.{last}
@@ -22,7 +22,7 @@ use Rattle.dg_seed.specs.Draws.{generator_of, generator_after}
 use Rattle.dg_serial.specs.Line.{IsOnLine}
 use Rattle.dg_serial.specs.Reading.{Reading, reading_behind}
 use Rattle.dg_serial_base.specs.Deeds.{Base, At, Deed, deeds_of, powered, power_effect, effect_of, DeedsRun, said}
-use Rattle.dg_serial_base.specs.Based.{IsFront}
+use Rattle.dg_serial_base.specs.Based.{IsWholeLines}
 use Rattle.dg_serial_base.specs.declared.timeline.Timeline.{Timeline}
 use Rattle.dg_serial_base.specs.declared.running.Running.{Running}
 use Rattle.dg_serial_base.specs.declared.stop.Stop.{Stop}
@@ -204,7 +204,7 @@ DeedEnds (Err why) b s done d before left = DeedFails why b s done d before left
 
 -- a frame was written, or a front of it
 abbrev pub SendFails : Stop → (text : List ℕ) (before now : Option (List ℕ)) → Type 0
-SendFails stop.Write text before now = PutsFront before now text
+SendFails stop.Write text before now = PutsPrefix before now text
 SendFails stop.Memory text before now = now ≡ before
 SendFails stop.Flash text before now = ⊥
 SendFails stop.NoImage text before now = ⊥
@@ -246,9 +246,9 @@ ReadCounts (Err why) old new = ReadsBy why old new
 -- why the mote goes no further, and what was written by then
 abbrev pub StoppedBy : Stop → (b : Base) (there : At) (rest : List Deed) (first now : Option (List ℕ)) → Device → Type 0
 StoppedBy stop.Memory b there rest first now new =
-    (text : List ℕ) × Puts first now text × IsFront text (said there) × Stands new.image there.store
+    (text : List ℕ) × Puts first now text × IsWholeLines text (said there) × Stands new.image there.store
 StoppedBy stop.Write b there rest first now new =
-    (text : List ℕ) × Puts first now text × IsFront text (said there) × Stands new.image there.store
+    (text : List ℕ) × Puts first now text × IsWholeLines text (said there) × Stands new.image there.store
 StoppedBy stop.NoImage b there rest first now new =
     (there.mote ≡ None) × Puts first now (said there) × Stands new.image there.store
 StoppedBy stop.Flash b there rest first now new =

@@ -10,7 +10,7 @@ use Rattle.dg_base.specs.declared.events.Step.{Step}
 use Rattle.dg_rules.specs.Changes.{changes}
 use Rattle.dg_script.specs.declared.report.Report.{Report}
 use Rattle.dg_script.specs.Ranges.{StepInRange}
-use Rattle.dg_world.specs.Stepped.{StepDone, Station}
+use Rattle.dg_world.specs.Stepped.{StepDone, BoardState}
 use Rattle.dg_world.specs.inner.Sees.{StepSees}
 use Rattle.dg_world.specs.Known.{OrderTakes, InjectTakes}
 use Rattle.dg_world.specs.inner.Contexts.{AppliesIn}
@@ -54,7 +54,7 @@ CutRead (Err fault.NotAVolume) old new = ⊥
 CutRead (Err fault.NoImage) old new = ⊥
 
 abbrev pub StepEnds : Result (Option (List ℕ)) Halt → RuleWorld → Step → (reported : Bool) → (report_before : List Report)
-    → Station
+    → BoardState
     → Type 0
 StepEnds (Ok frame) w x reported report_before b = StepDone w x reported frame report_before b
 StepEnds (Err (Stopped before)) w x reported report_before b = IsStopped w (mote_of x.event) (does w x.event) x.cut b.board
@@ -63,15 +63,16 @@ StepEnds (Err NoImage) w x reported report_before b = StepFoundNoImage (does w x
     × (b.reported ≡ report_before)
 StepEnds (Err NotAVolume) w x reported report_before b = ⊥
 
--- The step ended so at its board, whose count did not fall, and stays unless the board stopped. The station of its mote was a
+-- The step ended so at its board, whose count did not fall, and stays unless the board stopped. The board_state of its mote was a
 -- and is b.
-pub record Stepped (r : Result (Option (List ℕ)) Halt) (w : RuleWorld) (x : Step) (reported : Bool) (a b : Station) : Type 0 where
+pub record Stepped (r : Result (Option (List ℕ)) Halt) (w : RuleWorld) (x : Step) (reported : Bool) (a b : BoardState)
+    : Type 0 where
   pub ends : StepEnds r w x reported a.reported b
   pub endures : Endures (beneath_of a.board) (beneath_of b.board)
   pub count : CountStays r a.board b.board
 
--- What a step did at the station of its mote that answers r and has this outcome.
-pub record StepDid (r : Result (Unit {0}) Fault) (o : EventContext) (x : Step) (t : Outcome) (a b : Station) : Type 0 where
+-- What a step did at the board_state of its mote that answers r and has this outcome.
+pub record StepDid (r : Result (Unit {0}) Fault) (o : EventContext) (x : Step) (t : Outcome) (a b : BoardState) : Type 0 where
   pub steps : (w : RuleWorld) → StepInRange (length w.sites) x → AppliesIn o w x.event a.board a.runs
       → Stepped (stepped r t) w x o.reported a b
   pub sees : OnOk r ((w : RuleWorld) → AppliesIn o w x.event a.board a.runs

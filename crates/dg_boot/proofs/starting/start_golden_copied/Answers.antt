@@ -1,6 +1,6 @@
 use Rattle.std.proofs.Common.{sym, subst, ◌∙◌}
 use Rattle.dg_volume.specs.Start.{Boot, golden_copied}
-use Rattle.dg_boot.specs.Started.{Lacks}
+use Rattle.dg_boot.specs.Started.{NoImageFound}
 use Rattle.dg_boot.specs.Ends.{BootOutcome}
 use Rattle.dg_boot.proofs.BeginLemmas.{copied_begins}
 use Rattle.dg_boot.proofs.BootLemmas.{stopped_boots, read_stops, lacks_read, boots_looked, mounted_looked}
@@ -15,7 +15,7 @@ returns-in_err-is_image_sound-clause-boots g c s m =
 pub returns-then-not-branch-clause-boots : goal.returns-then-not-branch-clause-boots
 returns-then-not-branch-clause-boots g c s m =
     let unsound = sym (c.in_ok-is_image_sound.ensures.sound s m) ∙ c.if-not-branch.true in
-    subst (λ (b : Boot). Lacks b (g.N.Nor.device c.args.nor.now) (g.N.Nor.device c.is_image_sound.new.nor)) (sym (copied_lacks s c.args.three unsound)) (lacks_read s _ _ c.args.volume c.in_ok-is_image_sound.ensures.ends m)
+    subst (λ (b : Boot). NoImageFound b (g.N.Nor.device c.args.nor.now) (g.N.Nor.device c.is_image_sound.new.nor)) (sym (copied_lacks s c.args.three unsound)) (lacks_read s _ _ c.args.volume c.in_ok-is_image_sound.ensures.ends m)
 
 pub returns-clause-boots : goal.returns-clause-boots
 returns-clause-boots g c s m =

@@ -1,7 +1,7 @@
 use Rattle.std.proofs.Common.{◌≡◌, ℕ, true, false, List, drop, length, Ok, Err, refl, sym, ap, subst, ◌∙◌, arith}
 use Rattle.dg_object.specs.Object.{object}
 use Rattle.dg_boot.proofs.BootLemmas.{read_stops}
-use Rattle.dg_volume.specs.Changes.{is_other, FitAll}
+use Rattle.dg_volume.specs.Changes.{differs_from_kept, FitAll}
 use Rattle.dg_volume.specs.Stands.{Mounted}
 use Rattle.dg_volume.specs.declared.volume.Kept.{Kept}
 use Rattle.dg_volume.specs.declared.volume.InjectFault.TheVariants as inject
@@ -25,7 +25,7 @@ returns-then-other g c = record {
       let keeps = keeps_told _ c.args.volume.now s row.image c.args.kept.now c.requires.known_image mounted c.requires.kept in
       let h = keeps.kept in
       let same = ap (λ (k : Kept). k.version) keeps.told ∙ c.requires.same_version in
-      let other : is_other h row ≡ true = sym (c.in_ok-other.ensures.other h keeps.stands keeps.told) ∙ c.if-other.true in
+      let other : differs_from_kept h row ≡ true = sym (c.in_ok-other.ensures.other h keeps.stands keeps.told) ∙ c.if-other.true in
       received_refused c.args.root.now s row _ _ inject.Taken refusals.Taken (kept_taken s row h is c.requires.not_golden keeps.here same other) refl c.in_ok-other.ensures.ends;
 }
 
@@ -42,7 +42,7 @@ receive_rest-requires-clause-within g c =
     let h = keeps.kept in
     let same = ap (λ (k : Kept). k.version) keeps.told ∙ c.requires.same_version in
     let looked = c.in_ok-other.ensures.ends in
-    let free : is_other h row ≡ false = sym (c.in_ok-other.ensures.other h keeps.stands keeps.told) ∙ c.if-other.false in
+    let free : differs_from_kept h row ≡ false = sym (c.in_ok-other.ensures.other h keeps.stands keeps.told) ∙ c.if-other.false in
     let count : c.args.kept.now.done ≡ length h.complete = sym (ap (λ (k : Kept). k.done) keeps.told) in
     let part = part_of row h same free in
     omega (arith, count, keeps.stands.header.within, part.pages)
@@ -56,7 +56,7 @@ receive_rest-requires-clause-fit g c = λ s there.
     let h = keeps.kept in
     let same = ap (λ (k : Kept). k.version) keeps.told ∙ c.requires.same_version in
     let looked = c.in_ok-other.ensures.ends in
-    let free : is_other h row ≡ false = sym (c.in_ok-other.ensures.other h keeps.stands keeps.told) ∙ c.if-other.false in
+    let free : differs_from_kept h row ≡ false = sym (c.in_ok-other.ensures.other h keeps.stands keeps.told) ∙ c.if-other.false in
     let count : c.args.kept.now.done ≡ length h.complete = sym (ap (λ (k : Kept). k.done) keeps.told) in
     subst (λ (n : ℕ). FitAll row.image (drop n (object row)) s) (sym count) (c.a_row_is_filled_page_by_page.ensures.part row h s is (part_of row h same free) (omega (arith, c.requires.known_image, mounted.stands.contains.count)) keeps.here)
 
@@ -75,7 +75,7 @@ returns-in_err-receive_rest g c = record {
       let h = keeps.kept in
       let same = ap (λ (k : Kept). k.version) keeps.told ∙ c.requires.same_version in
       let looked = c.in_ok-other.ensures.ends in
-      let free : is_other h row ≡ false = sym (c.in_ok-other.ensures.other h keeps.stands keeps.told) ∙ c.if-other.false in
+      let free : differs_from_kept h row ≡ false = sym (c.in_ok-other.ensures.other h keeps.stands keeps.told) ∙ c.if-other.false in
       let count : c.args.kept.now.done ≡ length h.complete = sym (ap (λ (k : Kept). k.done) keeps.told) in
       let n = c.args.kept.now.done in
       let root = c.args.root.now in
@@ -99,7 +99,7 @@ returns g c = record {
       let h = keeps.kept in
       let same = ap (λ (k : Kept). k.version) keeps.told ∙ c.requires.same_version in
       let looked = c.in_ok-other.ensures.ends in
-      let free : is_other h row ≡ false = sym (c.in_ok-other.ensures.other h keeps.stands keeps.told) ∙ c.if-other.false in
+      let free : differs_from_kept h row ≡ false = sym (c.in_ok-other.ensures.other h keeps.stands keeps.told) ∙ c.if-other.false in
       let count : c.args.kept.now.done ≡ length h.complete = sym (ap (λ (k : Kept). k.done) keeps.told) in
       let n = c.args.kept.now.done in
       let root = c.args.root.now in

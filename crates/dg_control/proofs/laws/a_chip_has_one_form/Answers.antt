@@ -1,7 +1,7 @@
 use Rattle.std.proofs.Common.{inl, inr, ⊎_elim, sym, subst, ◌∙◌}
 use Rattle.dg_ledger.specs.Ledger.{count_of}
 use Rattle.dg_nor.specs.Chip.{sector}
-use Rattle.dg_control.specs.Places.{LastTells}
+use Rattle.dg_control.specs.Places.{LastHolds}
 use Rattle.dg_control.specs.Store.{current}
 use Rattle.dg_control.proofs.PlaceLemmas.{in_form}
 use Rattle.dg_control.proofs.PlacesLemmas.{told_of}
@@ -18,8 +18,8 @@ pub returns-clause-known : goal.returns-clause-known
 returns-clause-known c chip s room is =
     let x = told_of (sector chip (current is.generation)) s is.form is.told in
     ⊎_elim
-    (λ old. inl (record { generation = is.generation; counted = is.counted; snapshot = s; told = subst (LastTells (sector chip (current is.generation)) s) (sym x.in_form ∙ old) is.told }))
-    (λ new. inr (record { generation = is.generation; counted = is.counted; snapshot = s; told = subst (LastTells (sector chip (current is.generation)) s) (sym x.in_form ∙ new) is.told }))
+    (λ old. inl (record { generation = is.generation; counted = is.counted; snapshot = s; told = subst (LastHolds (sector chip (current is.generation)) s) (sym x.in_form ∙ old) is.told }))
+    (λ new. inr (record { generation = is.generation; counted = is.counted; snapshot = s; told = subst (LastHolds (sector chip (current is.generation)) s) (sym x.in_form ∙ new) is.told }))
     (in_form x.written).known
 
 pub returns-clause-two : goal.returns-clause-two

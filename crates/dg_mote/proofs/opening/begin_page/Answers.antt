@@ -15,7 +15,7 @@ returns-clause-begun g c = if_ok3 c.begin_page.result c.begin_page.ensures.begun
     let o = c.in_ok-slot.slot in
     let opened = c.in_ok-slot.ensures.opened s m may in
     let erased : PageErased b.image d.image o = record { touches = c.begin_page.ensures.touches; kept = λ h x. c.begin_page.ensures.kept h x } in
-    ask_begun c.what_stands_behind_the_commits.ensures.same s c.args.image c.args.entry a b d c.open.new.volume o job may opened.0 opened.1 erased ran same.0 begun)
+    ask_begun c.what_is_after_the_commits_does_not_count.ensures.same s c.args.image c.args.entry a b d c.open.new.volume o job may opened.0 opened.1 erased ran same.0 begun)
 
 pub returns-clause-stopped : goal.returns-clause-stopped
 returns-clause-stopped g c = on_err c.begin_page.result c.begin_page.ensures.stopped (λ halts s m may.
@@ -25,4 +25,4 @@ returns-clause-stopped g c = on_err c.begin_page.result c.begin_page.ensures.sto
     let o = c.in_ok-slot.slot in
     let opened = c.in_ok-slot.ensures.opened s m may in
     let erased : PageErased b.image d.image o = record { touches = c.begin_page.ensures.touches; kept = λ h x. c.begin_page.ensures.kept h x } in
-    ask_stops_then c.what_stands_behind_the_commits.ensures.same c.a_lent_slot_is_filled.ensures.filling_stopped s c.args.image c.args.entry a b d c.open.new.volume o may opened.0 opened.1 erased halts)
+    ask_stops_then c.what_is_after_the_commits_does_not_count.ensures.same c.a_lent_slot_is_filled.ensures.filling_stopped s c.args.image c.args.entry a b d c.open.new.volume o may opened.0 opened.1 erased halts)

@@ -1,6 +1,6 @@
 use Rattle.std.proofs.Common.{◌≡◌, ℕ, List, Option, Some, Err, IfSome, sym, ap, subst, ◌∙◌}
 use Rattle.dg_slot.specs.Kept.{Held}
-use Rattle.dg_slot.specs.Jobs.{IsOpen, outline_told}
+use Rattle.dg_slot.specs.Jobs.{IsOpen, outline_of_slot}
 use Rattle.dg_slot.specs.declared.states.OpenSlot.{OpenSlot}
 use Rattle.dg_volume.specs.Stands.{Mounted}
 use Rattle.dg_volume.specs.Store.{Store, held}
@@ -12,7 +12,7 @@ returns-then-keeps_version-clause-opened g c s m may =
     let a = g.N.Nor.device c.args.nor.now in
     let i = c.args.image in
     let e = sym (c.keeps_version.ensures (held s i) (c.kept.ensures ∙ m.tells.kept i may.known (λ x. x))) ∙ c.if-keeps_version.true in
-    let lends = subst (λ (x : Option OpenSlot). IfSome x (λ o. ((outline_told o).image ≡ i) × ((d : List ℕ) (t : Store) (h : Held) → Mounted d c.args.volume.now t → held t i ≡ Some h → IsOpen d o h))) c.unwrap.ensures c.slot.ensures.lends in
+    let lends = subst (λ (x : Option OpenSlot). IfSome x (λ o. ((outline_of_slot o).image ≡ i) × ((d : List ℕ) (t : Store) (h : Held) → Mounted d c.args.volume.now t → held t i ≡ Some h → IsOpen d o h))) c.unwrap.ensures c.slot.ensures.lends in
     opened_kept s i c.args.entry a c.slot.new.self c.unwrap.result may e (c.slot.ensures.mounted a.image s m) lends.0 (λ h here. lends.1 a.image s h m here)
 
 pub returns-in-Ok-clause-opened : goal.returns-in-Ok-clause-opened

@@ -7,7 +7,7 @@ use Rattle.dg_nor.specs.Device.{Ran, Halts}
 use Rattle.dg_nor.proofs.ChipLemmas.{Touches-same}
 use Rattle.dg_nor.proofs.DeviceLemmas.{OnErr_from, Ran-none}
 use Rattle.dg_slot.specs.Layout.{page_sector}
-use Rattle.dg_slot.specs.Jobs.{outline_told, done_told, IsJob, Packets, ArePut}
+use Rattle.dg_slot.specs.Jobs.{outline_of_slot, done_of_slot, IsJob, Packets, ArePut}
 use Rattle.dg_slot.specs.declared.states.OpenSlot.{OpenSlot}
 use Rattle.dg_plan.specs.Packets.{erases}
 use Rattle.dg_plan.proofs.packets.job_of.Goals as goal
@@ -35,7 +35,7 @@ returns-in-Some-clause-job g c = λ h ps opened had.
     let image = (g.N.Nor.device c.args.nor.now).image in
     let put = had.some (not_empty c.args.got c.in-Some.field-0 c.in-Some.ensures.cases.member) in
     c.resume_page.ensures.resumed image h ps opened
-    (subst (λ (o : OpenSlot). ArePut image (page_sector (outline_told o).image (done_told o)) c.args.got ps) (sym c.resume_page.ensures.same) put)
+    (subst (λ (o : OpenSlot). ArePut image (page_sector (outline_of_slot o).image (done_of_slot o)) c.args.got ps) (sym c.resume_page.ensures.same) put)
 
 pub returns-in-Some-clause-ran : goal.returns-in-Some-clause-ran
 returns-in-Some-clause-ran g c =

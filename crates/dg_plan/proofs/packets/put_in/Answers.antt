@@ -5,7 +5,7 @@ use Rattle.dg_nor.specs.Chip.{Touches}
 use Rattle.dg_nor.proofs.ChipLemmas.{Touches_then}
 use Rattle.dg_nor.proofs.DeviceLemmas.{OnErr_from, Ran_then, Halts_first, Halts_second}
 use Rattle.dg_slot.specs.Layout.{page_sector}
-use Rattle.dg_slot.specs.Jobs.{outline_told, done_told, sector_of, IsOpen, put_packet, ArePut}
+use Rattle.dg_slot.specs.Jobs.{outline_of_slot, done_of_slot, sector_of, IsOpen, put_packet, ArePut}
 use Rattle.dg_slot.specs.declared.states.OpenSlot.{OpenSlot}
 use Rattle.dg_plan.specs.Packets.{erases}
 use Rattle.dg_plan.proofs.packets.put_in.Goals as goal
@@ -23,7 +23,7 @@ pub returns-in_err-put-clause-touches : goal.returns-in_err-put-clause-touches
 returns-in_err-put-clause-touches g c =
     let mid = (g.N.Nor.device c.job_of.new.nor).image in
     let new = (g.N.Nor.device c.put.new.nor).image in
-    let At : OpenSlot → Type 0 = λ o. Touches (page_sector (outline_told o).image (done_told o)) (page_sector (outline_told o).image (done_told o) + 1) mid new in
+    let At : OpenSlot → Type 0 = λ o. Touches (page_sector (outline_of_slot o).image (done_of_slot o)) (page_sector (outline_of_slot o).image (done_of_slot o) + 1) mid new in
     Touches_then c.job_of.ensures.touches (subst At c.in_ok-job.ensures.same.0 c.put.ensures.touches)
 
 pub returns-in_err-put-clause-kept : goal.returns-in_err-put-clause-kept
@@ -46,7 +46,7 @@ returns-clause-put g c = λ h ps opened had.
     let filled = c.in_ok-put.ensures.put h ps (c.in_ok-job.ensures.job h ps opened had) in
     let slots = c.put.ensures.same_slot ∙ c.in_ok-job.ensures.same.0 in
     let gots = c.in_ok-put.ensures.got ∙ ap (λ (s : Numbers). set.insert s q) c.in_ok-job.ensures.same.1 in
-    subst (λ (o : OpenSlot). ArePut new (page_sector (outline_told o).image (done_told o)) (set.insert c.args.got q) next) slots
+    subst (λ (o : OpenSlot). ArePut new (page_sector (outline_of_slot o).image (done_of_slot o)) (set.insert c.args.got q) next) slots
     (subst (λ (s : Numbers). ArePut new (sector_of j) s next) gots (c.packets_stand_in_their_sector.ensures.job new j h next filled))
 
 pub returns-clause-ran : goal.returns-clause-ran
@@ -59,7 +59,7 @@ pub returns-clause-touches : goal.returns-clause-touches
 returns-clause-touches g c =
     let mid = (g.N.Nor.device c.job_of.new.nor).image in
     let new = (g.N.Nor.device c.put.new.nor).image in
-    let At : OpenSlot → Type 0 = λ o. Touches (page_sector (outline_told o).image (done_told o)) (page_sector (outline_told o).image (done_told o) + 1) mid new in
+    let At : OpenSlot → Type 0 = λ o. Touches (page_sector (outline_of_slot o).image (done_of_slot o)) (page_sector (outline_of_slot o).image (done_of_slot o) + 1) mid new in
     Touches_then c.job_of.ensures.touches (subst At c.in_ok-job.ensures.same.0 c.put.ensures.touches)
 
 pub returns-clause-kept : goal.returns-clause-kept

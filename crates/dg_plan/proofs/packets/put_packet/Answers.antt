@@ -5,7 +5,7 @@ use Rattle.dg_bits.specs.Sets.{least}
 use Rattle.dg_nor.specs.Chip.{Touches}
 use Rattle.dg_object.specs.Object.{Outline}
 use Rattle.dg_slot.specs.Layout.{most_pages, header_sector, slot_end}
-use Rattle.dg_slot.specs.Jobs.{outline_told, done_told, IsOpen, put_packet, ArePut}
+use Rattle.dg_slot.specs.Jobs.{outline_of_slot, done_of_slot, IsOpen, put_packet, ArePut}
 use Rattle.dg_volume.specs.Stands.{Stands}
 use Rattle.dg_plan.specs.Packets.{erases, sector_named}
 use Rattle.dg_plan.proofs.PlanLemmas.{looked_ran, looked_halted, read_halted}
@@ -128,7 +128,7 @@ returns-in-Ok-clause-next g c = λ s h st here.
     let found = rw c.in-Ok-Some.field-0-is at c.in-Ok-Some.ensures.open in
     let k = kept_found c.a_slot_is_written_alone.ensures.version old s name.image name.version o h c.requires.known_image found st here in
     let pages = ap (λ (p : Outline). p.pages) c.profile.ensures in
-    let more : done_told o < (outline_told o).pages = omega (arith, pages, c.done-next.ensures, c.if-next-profile.false, o.within) in
+    let more : done_of_slot o < (outline_of_slot o).pages = omega (arith, pages, c.done-next.ensures, c.if-next-profile.false, o.within) in
     is_next old o h name k.0 k.1 (sym c.done-next.ensures ∙ c.if-next-name.false) more
 
 pub returns-in-Ok-clause-same_reference : goal.returns-in-Ok-clause-same_reference
@@ -158,8 +158,8 @@ returns-in-Ok-clause-stands g c = λ s st.
     let told = rw c.in-Ok-Some.field-0-is at c.in-Ok-Some.ensures.told in
     let image = told.0 in
     let pages = ap (λ (p : Outline). p.pages) c.profile.ensures in
-    let few : done_told o < most_pages = omega (arith, pages, c.done-next.ensures, c.if-next-profile.false, o.within, o.profile.few_pages) in
-    let touches = subst (λ (n : ℕ). Touches (header_sector n) (slot_end n) mid new) image (c.a_slot_holds_its_sectors.ensures.page mid new (outline_told o).image (done_told o) few c.put_in.ensures.touches) in
+    let few : done_of_slot o < most_pages = omega (arith, pages, c.done-next.ensures, c.if-next-profile.false, o.within, o.profile.few_pages) in
+    let touches = subst (λ (n : ℕ). Touches (header_sector n) (slot_end n) mid new) image (c.a_slot_holds_its_sectors.ensures.page mid new (outline_of_slot o).image (done_of_slot o) few c.put_in.ensures.touches) in
     stands_written c.a_slot_is_written_alone.ensures.same c.a_slot_is_written_alone.ensures.version old mid new s name.image name.version o c.requires.known_image looked.same_image image touches found c.put_in.ensures.kept st
 
 pub returns-in-Err-put_in-clause-stands : goal.returns-in-Err-put_in-clause-stands
@@ -174,6 +174,6 @@ returns-in-Err-put_in-clause-stands g c = λ s st.
     let told = rw c.in-Ok-Some.field-0-is at c.in-Ok-Some.ensures.told in
     let image = told.0 in
     let pages = ap (λ (p : Outline). p.pages) c.profile.ensures in
-    let few : done_told o < most_pages = omega (arith, pages, c.done-next.ensures, c.if-next-profile.false, o.within, o.profile.few_pages) in
-    let touches = subst (λ (n : ℕ). Touches (header_sector n) (slot_end n) mid new) image (c.a_slot_holds_its_sectors.ensures.page mid new (outline_told o).image (done_told o) few c.put_in.ensures.touches) in
+    let few : done_of_slot o < most_pages = omega (arith, pages, c.done-next.ensures, c.if-next-profile.false, o.within, o.profile.few_pages) in
+    let touches = subst (λ (n : ℕ). Touches (header_sector n) (slot_end n) mid new) image (c.a_slot_holds_its_sectors.ensures.page mid new (outline_of_slot o).image (done_of_slot o) few c.put_in.ensures.touches) in
     stands_written c.a_slot_is_written_alone.ensures.same c.a_slot_is_written_alone.ensures.version old mid new s name.image name.version o c.requires.known_image looked.same_image image touches found c.put_in.ensures.kept st

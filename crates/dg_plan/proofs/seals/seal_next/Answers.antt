@@ -6,7 +6,7 @@ use Rattle.dg_nor.proofs.ReadLemmas.{Looked-none}
 use Rattle.dg_object.specs.Object.{Outline}
 use Rattle.dg_slot.specs.Layout.{most_pages, header_sector}
 use Rattle.dg_slot.specs.Fits.{may_seal}
-use Rattle.dg_slot.specs.Jobs.{outline_told, done_told, slot_of, SlotStops, seal_trail}
+use Rattle.dg_slot.specs.Jobs.{outline_of_slot, done_of_slot, slot_of, SlotStops, seal_trail}
 use Rattle.dg_volume.specs.Stands.{Stands}
 use Rattle.dg_plan.specs.Packets.{standing}
 use Rattle.dg_plan.proofs.PacketLemmas.{is_next, is_elsewhere}
@@ -75,7 +75,7 @@ returns-in-Ok-Sealed-clause-sealed g c = λ s m.
     let pages = ap (λ (p : Outline). p.pages) c.profile-2.ensures in
     let version = ap (λ (p : Outline). p.version) c.profile.ensures in
     let page = sym c.done-next.ensures ∙ c.if-next-name.false in
-    let more : done_told o < (outline_told o).pages = omega (arith, pages, c.done-next.ensures, c.if-next-profile.false, o.within) in
+    let more : done_of_slot o < (outline_of_slot o).pages = omega (arith, pages, c.done-next.ensures, c.if-next-profile.false, o.within) in
     let few : name.page < most_pages = omega (arith, more, page, o.profile.few_pages) in
     let p = standing old name in
     let x = held_told old v s i _ c.requires.known_image m c.in-Some.ensures.told in
@@ -86,7 +86,7 @@ returns-in-Ok-Sealed-clause-sealed g c = λ s m.
     let low = not_golden old s i h m.stands here next.more in
     let ready = ready c.packets_stand_in_their_sector.ensures.all c.packets_stand_in_their_sector.ensures.page old o j c.all.result name h (g.met.N.Nor.is_chip c.args.nor.now).cells c.requires.known_image few c.resume_page-job.ensures.same c.all.ensures c.resume_page-job.ensures.resumed c.in-Some.ensures.lends.0 page opened in
     let answer = rw c.in-Ok-Sealed.field-0-is at (c.in-Ok-Sealed.ensures.sealed h ready.packets_there ready.is_job) in
-    let fits : may_seal i h p ≡ true = subst (λ (n : ℕ). may_seal n h p ≡ true) ready.image (subst (λ (q : List ℕ). may_seal (outline_told (slot_of j)).image h q ≡ true) ready.page answer.0) in
+    let fits : may_seal i h p ≡ true = subst (λ (n : ℕ). may_seal n h p ≡ true) ready.image (subst (λ (q : List ℕ). may_seal (outline_of_slot (slot_of j)).image h q ≡ true) ready.page answer.0) in
     let touches = c.a_slot_holds_its_sectors.ensures.header old new i (subst (λ (n : ℕ). Touches (header_sector n) (header_sector n + 1) old new) ready.image c.seal.ensures.touches) in
     let but = c.a_lent_slot_is_filled.ensures.lent old v s i m in
     let same = rw c.in-Ok-Sealed.field-0-is at c.in-Ok-Sealed.ensures.same in
@@ -110,7 +110,7 @@ returns-in-Ok-Bad-clause-bad g c = λ kept found r s h m here.
     let pages = ap (λ (p : Outline). p.pages) c.profile-2.ensures in
     let version = ap (λ (p : Outline). p.version) c.profile.ensures in
     let page = sym c.done-next.ensures ∙ c.if-next-name.false in
-    let more : done_told o < (outline_told o).pages = omega (arith, pages, c.done-next.ensures, c.if-next-profile.false, o.within) in
+    let more : done_of_slot o < (outline_of_slot o).pages = omega (arith, pages, c.done-next.ensures, c.if-next-profile.false, o.within) in
     let few : name.page < most_pages = omega (arith, more, page, o.profile.few_pages) in
     let p = standing old name in
     let opened = c.in-Some.ensures.lends.1 old s h m here in
@@ -134,7 +134,7 @@ returns-in-Ok-Unfit-clause-unfit g c = λ r s h m here.
     let pages = ap (λ (p : Outline). p.pages) c.profile-2.ensures in
     let version = ap (λ (p : Outline). p.version) c.profile.ensures in
     let page = sym c.done-next.ensures ∙ c.if-next-name.false in
-    let more : done_told o < (outline_told o).pages = omega (arith, pages, c.done-next.ensures, c.if-next-profile.false, o.within) in
+    let more : done_of_slot o < (outline_of_slot o).pages = omega (arith, pages, c.done-next.ensures, c.if-next-profile.false, o.within) in
     let few : name.page < most_pages = omega (arith, more, page, o.profile.few_pages) in
     let p = standing old name in
     let opened = c.in-Some.ensures.lends.1 old s h m here in
@@ -142,9 +142,9 @@ returns-in-Ok-Unfit-clause-unfit g c = λ r s h m here.
     let low = not_golden old s i h m.stands here next.more in
     let ready = ready c.packets_stand_in_their_sector.ensures.all c.packets_stand_in_their_sector.ensures.page old o j c.all.result name h (g.met.N.Nor.is_chip c.args.nor.now).cells c.requires.known_image few c.resume_page-job.ensures.same c.all.ensures c.resume_page-job.ensures.resumed c.in-Some.ensures.lends.0 page opened in
     let answer = rw c.in-Ok-Unfit.field-0-is at (c.in-Ok-Unfit.ensures.sealed h ready.packets_there ready.is_job) in
-    let fits = subst (λ (n : ℕ). may_seal n h p ≡ false) ready.image (subst (λ (q : List ℕ). may_seal (outline_told (slot_of j)).image h q ≡ false) ready.page answer.1) in
+    let fits = subst (λ (n : ℕ). may_seal n h p ≡ false) ready.image (subst (λ (q : List ℕ). may_seal (outline_of_slot (slot_of j)).image h q ≡ false) ready.page answer.1) in
     let none = c.in-Ok-Unfit.ensures.unfit _ (ap Rattle.std.specs.Prelude.Ok c.in-Ok-Unfit.field-0-is) in
-    (sym page ∙ ap done_told (sym c.resume_page-job.ensures.same) ∙ none, fits)
+    (sym page ∙ ap done_of_slot (sym c.resume_page-job.ensures.same) ∙ none, fits)
 
 pub returns-in-Err-clause-stopped : goal.returns-in-Err-clause-stopped
 returns-in-Err-clause-stopped g c = λ r s h m here.
@@ -158,7 +158,7 @@ returns-in-Err-clause-stopped g c = λ r s h m here.
     let pages = ap (λ (p : Outline). p.pages) c.profile-2.ensures in
     let version = ap (λ (p : Outline). p.version) c.profile.ensures in
     let page = sym c.done-next.ensures ∙ c.if-next-name.false in
-    let more : done_told o < (outline_told o).pages = omega (arith, pages, c.done-next.ensures, c.if-next-profile.false, o.within) in
+    let more : done_of_slot o < (outline_of_slot o).pages = omega (arith, pages, c.done-next.ensures, c.if-next-profile.false, o.within) in
     let few : name.page < most_pages = omega (arith, more, page, o.profile.few_pages) in
     let p = standing old name in
     let opened = c.in-Some.ensures.lends.1 old s h m here in
@@ -170,7 +170,7 @@ returns-in-Err-clause-stopped g c = λ r s h m here.
     let stops = c.in-Err.ensures.stopped h ready.packets_there ready.is_job in
     let at : SlotStops i (seal_trail i h p) (g.N.Nor.device c.args.nor.now) (g.N.Nor.device c.seal.new.nor) =
     subst (λ (n : ℕ). SlotStops n (seal_trail n h p) (g.N.Nor.device c.args.nor.now) (g.N.Nor.device c.seal.new.nor)) ready.image
-    (subst (λ (q : List ℕ). SlotStops (outline_told (slot_of j)).image (seal_trail (outline_told (slot_of j)).image h q) (g.N.Nor.device c.args.nor.now) (g.N.Nor.device c.seal.new.nor)) ready.page stops) in
+    (subst (λ (q : List ℕ). SlotStops (outline_of_slot (slot_of j)).image (seal_trail (outline_of_slot (slot_of j)).image h q) (g.N.Nor.device c.args.nor.now) (g.N.Nor.device c.seal.new.nor)) ready.page stops) in
     c.a_lent_slot_is_filled.ensures.seal_stopped (g.N.Nor.device c.args.nor.now) (g.N.Nor.device c.seal.new.nor) v s i h p low c.requires.known_image here touches but at
 
 pub returns-in-Err-clause-looked : goal.returns-in-Err-clause-looked
@@ -190,7 +190,7 @@ returns-in-Ok-Bad-clause-looked g c = λ e r ne.
     let pages = ap (λ (p : Outline). p.pages) c.profile-2.ensures in
     let version = ap (λ (p : Outline). p.version) c.profile.ensures in
     let page = sym c.done-next.ensures ∙ c.if-next-name.false in
-    let more : done_told o < (outline_told o).pages = omega (arith, pages, c.done-next.ensures, c.if-next-profile.false, o.within) in
+    let more : done_of_slot o < (outline_of_slot o).pages = omega (arith, pages, c.done-next.ensures, c.if-next-profile.false, o.within) in
     let few : name.page < most_pages = omega (arith, more, page, o.profile.few_pages) in
     let p = standing old name in
     let x = held_told old v s i _ c.requires.known_image m c.in-Some.ensures.told in
@@ -217,7 +217,7 @@ returns-in-Ok-Unfit-clause-looked g c = λ e r ne.
     let pages = ap (λ (p : Outline). p.pages) c.profile-2.ensures in
     let version = ap (λ (p : Outline). p.version) c.profile.ensures in
     let page = sym c.done-next.ensures ∙ c.if-next-name.false in
-    let more : done_told o < (outline_told o).pages = omega (arith, pages, c.done-next.ensures, c.if-next-profile.false, o.within) in
+    let more : done_of_slot o < (outline_of_slot o).pages = omega (arith, pages, c.done-next.ensures, c.if-next-profile.false, o.within) in
     let few : name.page < most_pages = omega (arith, more, page, o.profile.few_pages) in
     let p = standing old name in
     let x = held_told old v s i _ c.requires.known_image m c.in-Some.ensures.told in

@@ -2,7 +2,7 @@ use Rattle.std.proofs.Common.{◌≡◌, ◌+◌, ◌<◌, ◌++◌, length, tak
 use Rattle.std.proofs.lemmas.List.{take_at}
 use Rattle.std.specs.Prelude.{slice_set}
 use Rattle.dg_rounds.specs.Marks.{mark_of, unmarked, Spreads}
-use Rattle.dg_rounds.specs.Ways.{IsLevel, IsLinked}
+use Rattle.dg_rounds.specs.LinkPaths.{IsLevel, IsLinked}
 use Rattle.dg_rounds.proofs.WayLemmas.{Reached, nothing, reached_first, unmarked_first, reached_more, are_levels}
 use Rattle.dg_rounds.proofs.distances.levels.Goals as goal
 

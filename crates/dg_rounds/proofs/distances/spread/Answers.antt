@@ -1,7 +1,7 @@
 use Rattle.std.proofs.Common.{ℕ, ◌<◌, ◌||◌, length, get_or, take, sym, subst, arith}
 use Rattle.std.proofs.lemmas.List.{take_more}
 use Rattle.std.proofs.lemmas.List.Elements.{All-get_or}
-use Rattle.dg_rounds.specs.Ways.{IsLinked}
+use Rattle.dg_rounds.specs.LinkPaths.{IsLinked}
 use Rattle.dg_rounds.specs.Marks.{Spreads}
 use Rattle.dg_rounds.proofs.WayLemmas.{spreads_more, told_more, marks_at, marks_length}
 use Rattle.dg_rounds.proofs.distances.spread.Goals as goal

@@ -1,5 +1,5 @@
 use Rattle.std.proofs.Common.{◌≡◌, ◌<◌, true, false, take}
-use Rattle.dg_rounds.specs.Ways.{IsLinked}
+use Rattle.dg_rounds.specs.LinkPaths.{IsLinked}
 use Rattle.dg_rounds.specs.Marks.{Spreads, unmarked}
 use Rattle.dg_rounds.proofs.distances.spread.Given as goal
 

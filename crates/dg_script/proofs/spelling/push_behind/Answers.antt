@@ -1,5 +1,5 @@
 use Rattle.std.proofs.Common.{rules, ◌≡◌, [], ◌∷◌, ◌++◌, append_assoc, ◌∙◌, subst, ap, List, ℕ}
-use Rattle.dg_script.specs.Spelling.{field_text, IsFrontOf}
+use Rattle.dg_script.specs.Spelling.{field_text, IsPrefixOf}
 use Rattle.dg_script.proofs.FrontLemmas.{on_err}
 use Rattle.dg_script.proofs.spelling.push_behind.Goals as goal
 
@@ -11,5 +11,5 @@ returns-clause-err c =
     let text = field_text c.args.field in
     let there : mid ≡ before ++ 32 ∷ [] = search rules in
     let whole : mid ++ text ≡ before ++ (32 ∷ text) = ap (λ (xs : List ℕ). xs ++ text) there ∙ append_assoc before (32 ∷ []) text in
-    let P : List ℕ → Type 0 = λ xs. IsFrontOf after xs in
+    let P : List ℕ → Type 0 = λ xs. IsPrefixOf after xs in
     on_err c.push_field.result (subst P whole) c.push_field.ensures.err

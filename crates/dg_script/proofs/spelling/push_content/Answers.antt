@@ -1,6 +1,6 @@
 use Rattle.std.proofs.Common.{rules, ◌≡◌, ◌++◌, codes, append_assoc, ◌∙◌, subst, ap, List, ℕ}
 use Rattle.dg_base.specs.Hexadecimal.{hex_text}
-use Rattle.dg_script.specs.Spelling.{IsFrontOf}
+use Rattle.dg_script.specs.Spelling.{IsPrefixOf}
 use Rattle.dg_script.proofs.FrontLemmas.{on_err, front_none}
 use Rattle.dg_script.proofs.spelling.push_content.Goals as goal
 
@@ -12,5 +12,5 @@ returns-clause-err c =
     let text = hex_text c.args.bytes.now in
     let there : mid ≡ before ++ codes "hex:" = search rules in
     let whole : mid ++ text ≡ before ++ (codes "hex:" ++ text) = ap (λ (xs : List ℕ). xs ++ text) there ∙ append_assoc before (codes "hex:") text in
-    let P : List ℕ → Type 0 = λ xs. IsFrontOf after xs in
+    let P : List ℕ → Type 0 = λ xs. IsPrefixOf after xs in
     on_err c.push_hex.result (λ same. subst P whole (front_none mid after text same)) c.push_hex.ensures.err

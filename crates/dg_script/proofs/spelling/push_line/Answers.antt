@@ -1,5 +1,5 @@
 use Rattle.std.proofs.Common.{rules, ◌≡◌, [], ◌∷◌, ◌++◌, append_assoc, ◌∙◌, subst, ap, List, ℕ}
-use Rattle.dg_script.specs.Spelling.{fields_text, IsFrontOf}
+use Rattle.dg_script.specs.Spelling.{fields_text, IsPrefixOf}
 use Rattle.dg_script.proofs.FrontLemmas.{any_err, front_none, front_first}
 use Rattle.dg_script.proofs.spelling.push_line.Goals as goal
 
@@ -13,7 +13,7 @@ returns-in_err-push_fields-clause-err c =
     let there : mid ≡ before ++ word = search rules in
     let whole : (mid ++ text) ++ 10 ∷ [] ≡ before ++ (word ++ text ++ 10 ∷ []) =
     ap (λ (xs : List ℕ). (xs ++ text) ++ 10 ∷ []) there ∙ ap (λ (xs : List ℕ). xs ++ 10 ∷ []) (append_assoc before word text) ∙ append_assoc before (word ++ text) (10 ∷ []) in
-    let P : List ℕ → Type 0 = λ xs. IsFrontOf after xs in
+    let P : List ℕ → Type 0 = λ xs. IsPrefixOf after xs in
     any_err c.from_residual-in_err-push_fields.result (subst P whole (front_first (mid ++ text) after (10 ∷ []) c.in_err-push_fields.ensures.err))
 
 pub returns-in_err-push-clause-err : goal.returns-in_err-push-clause-err
@@ -30,5 +30,5 @@ returns-in_err-push-clause-err c =
     let whole : last ++ 10 ∷ [] ≡ before ++ (word ++ text ++ 10 ∷ []) =
     ap (λ (xs : List ℕ). xs ++ 10 ∷ []) appended
     ∙ ap (λ (xs : List ℕ). (xs ++ text) ++ 10 ∷ []) there ∙ ap (λ (xs : List ℕ). xs ++ 10 ∷ []) (append_assoc before word text) ∙ append_assoc before (word ++ text) (10 ∷ []) in
-    let P : List ℕ → Type 0 = λ xs. IsFrontOf after xs in
+    let P : List ℕ → Type 0 = λ xs. IsPrefixOf after xs in
     any_err c.from_residual-in_err-push.result (subst P whole (front_none last after (10 ∷ []) same))

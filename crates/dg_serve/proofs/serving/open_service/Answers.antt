@@ -1,5 +1,5 @@
 use Rattle.std.proofs.Common.{refl, subst, inl}
-use Rattle.dg_base.specs.Outside.{Puts, PutsFront}
+use Rattle.dg_base.specs.Outside.{Puts, PutsPrefix}
 use Rattle.dg_serve.specs.Served.{Outside, outside}
 use Rattle.dg_serve.specs.Traces.{lines_text, head_lines}
 use Rattle.dg_serve.specs.declared.stop.Stop.TheVariants as stop
@@ -34,7 +34,7 @@ returns-in_err-put g c = record {
   opens = λ boards.
       let before : Outside = outside (g.K.Sink.written c.args.out.now) (g.K.Sink.faults c.args.out.now) (g.C.Clock.told c.args.clock.now) (g.L.Link.inboxes c.args.link.now) (g.L.Link.faults c.args.link.now) (g.L.Link.first_port c.args.link.now) boards in
       let after : Outside = outside (g.K.Sink.written c.put.new.out) (g.K.Sink.faults c.put.new.out) (g.C.Clock.told c.args.clock.now) (g.L.Link.inboxes c.args.link.now) (g.L.Link.faults c.args.link.now) (g.L.Link.first_port c.args.link.now) boards in
-      opens_err c.from_residual-in_err-put.result stop.Write c.args.profile.now c.args.seed before _ _ after (err_is c.from_residual-in_err-put.result c.in_err-put.field-0.0 stop.Write c.from_residual-in_err-put.ensures.1 c.in_err-put.ensures.cause) (let front = subst (λ t. PutsFront (g.K.Sink.written c.args.out.now) (g.K.Sink.written c.put.new.out) t) (head_is c.as_slice.result.now c.write_head.new.text.items c.new-text.result.items (lines_text (head_lines c.args.profile.now)) c.as_slice.ensures.value c.in_ok-write_head.ensures c.new-text.ensures.items) c.in_err-put.ensures.err in ((front.0, front.2), c.in_err-put.ensures.failed, refl, (refl, refl), c.in_err-put.ensures.counts)) refl;
+      opens_err c.from_residual-in_err-put.result stop.Write c.args.profile.now c.args.seed before _ _ after (err_is c.from_residual-in_err-put.result c.in_err-put.field-0.0 stop.Write c.from_residual-in_err-put.ensures.1 c.in_err-put.ensures.cause) (let front = subst (λ t. PutsPrefix (g.K.Sink.written c.args.out.now) (g.K.Sink.written c.put.new.out) t) (head_is c.as_slice.result.now c.write_head.new.text.items c.new-text.result.items (lines_text (head_lines c.args.profile.now)) c.as_slice.ensures.value c.in_ok-write_head.ensures c.new-text.ensures.items) c.in_err-put.ensures.err in ((front.0, front.2), c.in_err-put.ensures.failed, refl, (refl, refl), c.in_err-put.ensures.counts)) refl;
 }
 
 pub returns-in_err-open : goal.returns-in_err-open

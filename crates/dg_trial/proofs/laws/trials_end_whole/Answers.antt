@@ -14,8 +14,8 @@ returns c =
       moving = moving;
       plays = c.scripts_with_golden.ensures.plays;
       inject = c.acts_end.ensures.inject;
-      within = c.distances_are_ways.ensures.within;
-      enough = c.distances_are_ways.ensures.enough;
+      within = c.distances_are_paths.ensures.within;
+      enough = c.distances_are_paths.ensures.enough;
       complete = c.enough_sweeps_complete.ensures;
       swept = c.sweeps_are_a_rest.ensures.swept;
     } in

@@ -7,7 +7,7 @@ use Rattle.dg_world.specs.Applying.{step_of}
 use Rattle.dg_world.specs.inner.OutcomeEndings.{outcome_lines}
 use Rattle.dg_world.specs.inner.Outcomes.{outcome_of, ended_as}
 use Rattle.dg_world.specs.inner.Steps.{Stepped}
-use Rattle.dg_world.specs.Stepped.{station}
+use Rattle.dg_world.specs.Stepped.{board_state}
 use Rattle.dg_world.specs.declared.outcome.Power.{Power}
 use Rattle.dg_world.proofs.CutLemmas.{played_as}
 use Rattle.dg_world.proofs.OutcomeLemmas.{frame_told}
@@ -81,7 +81,7 @@ returns-in_ok-orderly-in-Cut g c =
     record {
       steps = λ w fits on.
           let p = played_as _ (ended_as c.play_cut.result t) x.cut (Some c.args.cut.now) w m (does w event) _ _ _ _ (sym (ap (λ r. ended_as r t) was)) refl (c.play_cut.ensures.played w on) in
-          let P : Option (List ℕ) → Type 0 = λ sent. Stepped (Ok sent) w x o.reported (station a c.args.runs.now told) (station (g.N.Nor.device c.look_after_cut.new.board) None c.push_reserved.new.self.items) in
+          let P : Option (List ℕ) → Type 0 = λ sent. Stepped (Ok sent) w x o.reported (board_state a c.args.runs.now told) (board_state (g.N.Nor.device c.look_after_cut.new.board) None c.push_reserved.new.self.items) in
           subst P (sym c.new-outcome.ensures)
           (step_cut w x o.reported _ _ t.before c.look_after_cut.result _ _ _ _ told c.look_after_cut.new.out.items c.push_reserved.new.self.items p c.in_ok-orderly-in-Cut.was
           (told_at c.look_after_cut.result o.mote m t.before p.ends.leaves.store _ _ _ _ same (c.look_after_cut.ensures.reported p.ends.leaves.store p.ends.leaves.stands_for))

@@ -3,7 +3,7 @@ use Rattle.std.specs.Prelude.{◌||◌}
 use Rattle.std.specs.FinSet as set
 use Rattle.std.proofs.lemmas.Bool.{eq-eqb, ne_eqb, or_right}
 use Rattle.dg_bits.proofs.SetLaws.{contains-none, contains-put}
-use Rattle.dg_slot.specs.Jobs.{got_told}
+use Rattle.dg_slot.specs.Jobs.{got_of_job}
 use Rattle.part_stream.proofs.receiving.receive_page.Goals as goal
 
 pub loop-packet-init : goal.loop-packet-init
@@ -18,8 +18,8 @@ loop-packet-preserved g c =
     let before = c.loop-packet.invariant in
     let done = c.in_ok-put-in-Some.ensures in
     let n = c.loop-packet.packet in
-    let got = got_told c.loop-packet.job in
-    let here : (q : ℕ) → set.contains (got_told c.put.new.self) q ≡ (eqb q n || set.contains got q) = λ q. ap (λ s. set.contains s q) done.got ∙ contains-put got n q in
+    let got = got_of_job c.loop-packet.job in
+    let here : (q : ℕ) → set.contains (got_of_job c.put.new.self) q ≡ (eqb q n || set.contains got q) = λ q. ap (λ s. set.contains s q) done.got ∙ contains-put got n q in
     record {
       got = below_more _ _
           (λ q h. here q ∙ ap (λ (b : Bool). eqb q n || b) (before.got q h) ∙ or_right (eqb q n) true refl)

@@ -13,4 +13,4 @@ parted bytes slice copied at count same e =
 pub returns-clause-bytes : goal.returns-clause-bytes
 returns-clause-bytes c =
     ap (λ (v : Input). Some v.left) (sym c.self.view_is)
-    ∙ ap Some (parted c.self.inside.bytes.items _ _ c.self.inside.at c.copy_front-count.result c.deref-2.ensures.value c.copy_front-count.ensures.front)
+    ∙ ap Some (parted c.self.inside.bytes.items _ _ c.self.inside.at c.copy_prefix-count.result c.deref-2.ensures.value c.copy_prefix-count.ensures.front)

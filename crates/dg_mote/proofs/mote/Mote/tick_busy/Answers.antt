@@ -13,7 +13,7 @@ use Rattle.dg_slot.specs.declared.states.PageJob.{PageJob}
 use Rattle.dg_volume.specs.Store.{Store}
 use Rattle.dg_frame.specs.Grammar.{in_range}
 use Rattle.dg_frame.specs.Spelling.{frame_of}
-use Rattle.dg_slot.specs.Jobs.{outline_told, done_told, slot_of}
+use Rattle.dg_slot.specs.Jobs.{outline_of_slot, done_of_slot, slot_of}
 use Rattle.dg_frame.specs.declared.Message.{Message}
 use Rattle.dg_frame.specs.declared.Message.TheVariants.{Request, Packet}
 use Rattle.dg_mote.specs.Model.{MoteState, Mode, Maintain, Receive, NamesKnown, MoteStep, maintains}
@@ -51,7 +51,7 @@ said_fits d v m s image version page q owed x is h less e =
     subst (λ (y : Message). in_range m.wide y ≡ true) (sym e) (at.1.fits m.wide v.id (subst (NamesKnown m.wide) at.0.is h.known))
 
 asked_fits : (d : List ℕ) (v : Mote) (m : MoteState) (s : Store) (version server now : ℕ) (asking : Reception) (job : PageJob) (want : Numbers) (x : Message) → v.mode ≡ value.Receive version server asking job → IsMote d v m s → ask.Request want ≡ ask_of asking now
-    → x ≡ Request v.id server (outline_told (slot_of job)).image version (done_told (slot_of job)) want → in_range m.wide x ≡ true
+    → x ≡ Request v.id server (outline_of_slot (slot_of job)).image version (done_of_slot (slot_of job)) want → in_range m.wide x ≡ true
 asked_fits d v m s version server now asking job want x is h asks e =
     let at = receiving d v m s version server asking job is h in
     subst (λ (y : Message). in_range m.wide y ≡ true) (sym e)
@@ -246,7 +246,7 @@ returns-in-Request-clause-read g c m s h =
     let arm = c.in-Receive in
     let at = receiving a.image v m s arm.version arm.server arm.asking arm.job arm.is h in
     let x = at.receives in
-    let said : Request v.id arm.server (outline_told (slot_of arm.job)).image arm.version (done_told (slot_of arm.job)) c.in-Request.want ≡ Request m.id at.r.server at.r.image at.r.version at.r.page c.in-Request.want =
+    let said : Request v.id arm.server (outline_of_slot (slot_of arm.job)).image arm.version (done_of_slot (slot_of arm.job)) c.in-Request.want ≡ Request m.id at.r.server at.r.image at.r.version at.r.page c.in-Request.want =
     λ i. Request (h.id i) (at.from_server i) (x.image i) (at.of_version i) ((x.stands.slot.opens.done ∙ x.next) i) c.in-Request.want in
     subst (λ (t : MoteStep Did). IfSome t.sent (IsRead m.wide)) (sym (receive_turn m s at.r arm.asking _ c.args.now c.args.word at.is at.asks c.in-Request.ensures.ask))
     (subst (IsRead m.wide) (c.request_message.ensures ∙ said)

@@ -1,7 +1,7 @@
 use Rattle.std.proofs.Common.{◌≡◌, map, refl, sym, ap, subst, ◌∙◌, arith}
 use Rattle.std.proofs.lemmas.List.{length-map}
 use Rattle.std.specs.Prelude.{slice_index_or, option_map, length, None}
-use Rattle.dg_base.specs.Outside.{Puts, PutsFront}
+use Rattle.dg_base.specs.Outside.{Puts, PutsPrefix}
 use Rattle.dg_rules.specs.Events.{mote_of}
 use Rattle.dg_mote.specs.Motes.{sent_in}
 use Rattle.dg_world.specs.Alone.{IsAlone}
@@ -68,7 +68,7 @@ returns-in_err-put g c =
           let q : Standing = standing_with (record { motes = with_items c.args.self.now.motes c.play.new.motes; timeline = c.args.self.now.timeline; text = c.write_event.new.text; alloc = c.args.self.now.alloc }, map g.N.Nor.device c.play.new.boards) (g.K.Sink, c.put.new.out) (g.L.Link, c.args.link.now) (told, reached) in
           err_exit c.from_residual-in_err-put.result stop.Write c.args.profile.now.motes c.args.profile.now.links c.args.event p q (err_as c.from_residual-in_err-put.result c.in_err-put.field-0.0 stop.Write c.from_residual-in_err-put.ensures.1 c.in_err-put.ensures.cause)
           (untold_ends c.args.profile.now.motes c.args.profile.now.links c.args.event c.in_ok-sent.sent p q (is_played c.args.profile.now.motes c.args.mote c.args.profile.now.links c.args.event x.0 c.in_ok-sent.sent p q x.1 c.requires.asks.2.alone c.requires.asks.2.at (setting_of c.args.profile.now.motes c.args.mote c.args.event c.line_event-borrowed.result.now x.0 p q c.as_mut_slice.result.now c.play.new.motes (event_is c.args.event c.line_event-borrowed.result.now c.line_event-borrowed.ensures) c.as_mut_slice.ensures.value (written_back c.args.self.now c.as_mut_slice.result.now c.play.new.motes c.args.mote (slice_index_or c.play.new.motes c.args.mote None) c.as_mut_slice.ensures.value c.play.ensures.motes) c.play.ensures.motes x.2 refl c.requires.asks.2.known c.requires.asks.2.motes_are c.requires.asks.2.off) c.agreement_is_kept.ensures.timely c.requires.asks.2.fits.0 (known_at c.args.profile.now.motes c.args.profile.now.links c.args.event p c.requires.asks.0 c.requires.asks.1 c.requires.asks.2.some) refl)
-          (subst (λ t. PutsFront (g.K.Sink.written c.args.out.now) (g.K.Sink.written c.put.new.out) t) text c.in_err-put.ensures.err) refl refl c.in_err-put.ensures.counts c.in_err-put.ensures.failed refl);
+          (subst (λ t. PutsPrefix (g.K.Sink.written c.args.out.now) (g.K.Sink.written c.put.new.out) t) text c.in_err-put.ensures.err) refl refl c.in_err-put.ensures.counts c.in_err-put.ensures.failed refl);
     }
 
 pub hand_on-requires-clause-known : goal.hand_on-requires-clause-known

@@ -9,7 +9,7 @@ use Rattle.dg_nor.proofs.DeviceLemmas.{OnErr_from, Ran-none, Ran_then}
 use Rattle.dg_words.specs.Cells.{part}
 use Rattle.dg_words.proofs.CellLemmas.{between-part}
 use Rattle.dg_slot.specs.Layout.{packets, packet_size, page_sector}
-use Rattle.dg_slot.specs.Jobs.{IsOpen, IsJob, Packets, put_packet, got_told, slot_of, sector_of, outline_told, done_told}
+use Rattle.dg_slot.specs.Jobs.{IsOpen, IsJob, Packets, put_packet, got_of_job, slot_of, sector_of, outline_of_slot, done_of_slot}
 use Rattle.dg_slot.specs.declared.states.OpenSlot.{OpenSlot}
 use Rattle.dg_slot.specs.declared.states.PageJob.{PageJob}
 use Rattle.dg_slot.proofs.FillLemmas.{packet_of, first_packets, first_none, first_more, first_all, halted_among}
@@ -33,16 +33,16 @@ returns-in_err-put-clause-stopped g c =
 
 -- the sector that is filled is that of the slot
 same_sector : (j k : PageJob) → slot_of j ≡ slot_of k → sector_of j ≡ sector_of k
-same_sector j k e = ap (λ o. page_sector (outline_told o).image (done_told o)) e
+same_sector j k e = ap (λ o. page_sector (outline_of_slot o).image (done_of_slot o)) e
 
 pub loop-packet-preserved : goal.loop-packet-preserved
 loop-packet-preserved g c =
     let before = c.loop-packet.invariant in
     let done = c.in_ok-put.ensures in
     let n = c.loop-packet.packet in
-    let got = got_told c.loop-packet.self in
+    let got = got_of_job c.loop-packet.self in
     let page = c.args.page.now in
-    let here : (q : ℕ) → set.contains (got_told c.put.new.self) q ≡ (eqb q n || set.contains got q) = λ q. ap (λ s. set.contains s q) done.got ∙ contains-put got n q in
+    let here : (q : ℕ) → set.contains (got_of_job c.put.new.self) q ≡ (eqb q n || set.contains got q) = λ q. ap (λ s. set.contains s q) done.got ∙ contains-put got n q in
     let bytes : c.copy_from_slice.new.self ≡ packet_of page n =
     c.copy_from_slice.ensures.after ∙ between-part page _ _ packet_size (omega arith) ∙ ap (λ (k : ℕ). part page k packet_size) (omega (arith, c.from-from.ensures)) in
     let new = (g.N.Nor.device c.put.new.nor).image in

@@ -1,5 +1,5 @@
 use Rattle.dg_completion.proofs.HolderLemmas.{within_law, enough_law, one_enough_law}
-use Rattle.dg_completion.proofs.laws.distances_are_ways.Goals as goal
+use Rattle.dg_completion.proofs.laws.distances_are_paths.Goals as goal
 
 pub returns-clause-within : goal.returns-clause-within
 returns-clause-within c = within_law

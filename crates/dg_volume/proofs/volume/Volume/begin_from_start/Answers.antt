@@ -11,7 +11,7 @@ use Rattle.dg_volume.specs.Trails.{take_trail}
 use Rattle.dg_volume.specs.Filling.{new_row}
 use Rattle.dg_volume.proofs.TakeLemmas.{but_slot, but_then}
 use Rattle.dg_volume.proofs.InjectLemmas.{same_profile_free, ends_stopped, ends_worn, ends_ok, older_told, older_worn, older_free, anew_is, anew_taking, anew_filling, anew_acted, begun_anew, anew_fits}
-use Rattle.dg_volume.proofs.volume.Volume.begin_anew.Goals as goal
+use Rattle.dg_volume.proofs.volume.Volume.begin_from_start.Goals as goal
 
 pub returns-then-room-lt-TAKE_COMMITS-clause-ends : goal.returns-then-room-lt-TAKE_COMMITS-clause-ends
 returns-then-room-lt-TAKE_COMMITS-clause-ends g c s mounted =

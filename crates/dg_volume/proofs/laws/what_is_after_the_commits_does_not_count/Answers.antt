@@ -1,5 +1,5 @@
 use Rattle.dg_volume.proofs.BehindLemmas.{memory_free, slot_counts, slot_same}
-use Rattle.dg_volume.proofs.laws.what_stands_behind_the_commits.Goals as goal
+use Rattle.dg_volume.proofs.laws.what_is_after_the_commits_does_not_count.Goals as goal
 
 pub returns-clause-memory : goal.returns-clause-memory
 returns-clause-memory x c d v s none keeps m = memory_free c d v s none keeps m

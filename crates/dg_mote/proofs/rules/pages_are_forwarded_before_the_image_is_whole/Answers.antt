@@ -2,7 +2,7 @@ use Rattle.std.proofs.Common.{ap, ◌∙◌}
 use Rattle.dg_mote.specs.Summary.{entry_by}
 use Rattle.dg_mote.proofs.KeepLemmas.{entry_is}
 use Rattle.dg_mote.proofs.RulesLemmas.{advert_says, page_served, page_missing}
-use Rattle.dg_mote.proofs.rules.pages_are_handed_on_before_the_image_is_whole.Goals as goal
+use Rattle.dg_mote.proofs.rules.pages_are_forwarded_before_the_image_is_whole.Goals as goal
 
 pub returns-clause-advert : goal.returns-clause-advert
 returns-clause-advert c = advert_says

@@ -7,8 +7,8 @@ use Rattle.dg_script.specs.declared.line.Line.{Line}
 use Rattle.dg_script.specs.declared.place.Place.{Place}
 
 -- no bytes, or bytes that end in LF
-abbrev pub IsFront : List ℕ → Type 0
-IsFront front = (front ≡ []) ⊎ ((before : List ℕ) × (front ≡ before ++ 10 ∷ []))
+abbrev pub IsWholeLines : List ℕ → Type 0
+IsWholeLines front = (front ≡ []) ⊎ ((before : List ℕ) × (front ≡ before ++ 10 ∷ []))
 
 -- A script begins as a first one does: with its lines, and it is that one where that one has a fault.
 pub record BeginsAs (first script : Script) : Type 0 where
