@@ -16,7 +16,7 @@ pub struct Spelled {
 impl Spelled {
     ghost use Rattle.dg_control.specs.Snapshot.{IsFresh};
 
-    /// A snapshot as it is written today.
+    /// A snapshot in the current form.
     pub fn today(snapshot: Snapshot) -> Spelled
         ensures snapshot { result.snapshot ≡ snapshot }
         ensures form { result.form ≡ new_form }

@@ -1,4 +1,4 @@
--- Where takes, fillings and injections end.
+-- The stores in which takes, fills and injections end.
 use Rattle.std.proofs.Common.{◌≡◌, ℕ, ◌-◌, ◌<◌, Bool, true, false, cond, List, [], ◌∷◌, length, drop, get_or, set, Option, Some, None, IfSome, refl, sym, ap, subst, ◌∙◌, ⊎_elim, arith, append_assoc, get_or-set_other, get_or-set_same}
 use Rattle.dg_volume.proofs.HeldLemmas.{held_paged}
 use Rattle.std.specs.Prelude.{◌==◌, if◌then◌else◌, option_map}
@@ -20,7 +20,7 @@ use Rattle.dg_volume.specs.declared.volume.InjectFault.{InjectFault}
 use Rattle.dg_volume.proofs.FillLemmas.{fill_first}
 use Rattle.dg_volume.proofs.RowLemmas.{length-held_to}
 
--- ---- one element of a list is put
+-- ---- one element of a list is replaced
 
 set_twice : {A : Type 0} (xs : List A) (i : ℕ) (a b : A) → set (set xs i a) i b ≡ set xs i b
 set_twice xs i a b =
@@ -91,7 +91,7 @@ fill_last s image h (page ∷ pages) known here =
 
 -- ---- an injection
 
--- what is missing of a row makes it whole
+-- the missing pages of a row make it whole
 rest_whole : (row : Row) (n : ℕ) → with_pages (held_to row n) (drop n (object row)) ≡ held_whole row
 rest_whole row n = ap (λ (xs : List (List ℕ)). record { version = row.version; pages = (profile row).pages; crc = (profile row).crc; complete = xs }) (take-append-drop n (object row))
 

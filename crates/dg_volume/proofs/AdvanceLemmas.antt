@@ -19,7 +19,7 @@ use Rattle.dg_volume.specs.declared.volume.Volume.{Volume}
 use Rattle.dg_volume.specs.Acts.{Acted, Stops}
 use Rattle.dg_volume.proofs.CommitLemmas.{Commits}
 
--- what a start commits, over what was said before
+-- what a start commits, compared with the snapshot before
 pub record SaysStart (r p : Snapshot) (x : Program) (n : ℕ) (b : Bool) : Type 0 where
   pub program : r.program ≡ x
   pub gesture : r.gesture ≡ n
@@ -44,7 +44,7 @@ advance_commits c v s next x n b app stands tells told holds says = record {
   spent = refl;
 }
 
--- the short starts alone change
+-- only the short starts change
 pub clear_commits : (c : List ℕ) (v : Volume) (s : Store) (next : Snapshot) → Stands c s → Tells v s
     → SaysStart next (control_snapshot v.control) (control_snapshot v.control).program 0 (control_snapshot v.control).waived → Commits c v.control next s (gesture_cleared s)
 clear_commits c v s next stands tells says = record {
@@ -62,7 +62,7 @@ clear_commits c v s next stands tells says = record {
   spent = refl;
 }
 
--- nothing but the room
+-- only the room changes
 pub migrate_commits : (c : List ℕ) (v : Volume) (s : Store) (next : Snapshot) → Stands c s → Tells v s → next ≡ control_snapshot v.control → Commits c v.control next s (spent s)
 migrate_commits c v s next stands tells same = record {
   says = tells.says;

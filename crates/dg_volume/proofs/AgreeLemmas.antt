@@ -46,7 +46,7 @@ begun_keeps table row in_table = record { row = row; in_table = in_table; pages 
 
 -- ---- pages that are filled
 
--- what is kept of a row's image, where its pages and those that are left make the object
+-- what is kept of a row's image, if its pages and the missing ones make the object
 pub record Part (table : List Row) (s : Store) (row : Row) (h : Held) (pages : List (List ℕ)) : Type 0 where
   pub here : held s row.image ≡ Some h
   pub version : h.version ≡ row.version
@@ -81,7 +81,7 @@ paged_agrees table s row h page pages low within in_table p a =
     (subst (λ (x : Option Held). IfSome x (KeepsRow table row.image)) (sym is) (part_keeps table (paged row.image page s) row (with_page h page) pages in_table (part_next table s row h page pages within p))) a
 
 module _ (table : List Row) (row : Row) (in_table : row_at table row.image row.version ≡ Some row) where
-  -- what is left of the row's pages
+  -- the missing pages of the row
   abbrev Left : List (List ℕ) → Store → Type 0
   Left pages s = (row.image < length s.kept) × (h : Held) × Part table s row h pages
 

@@ -1,4 +1,4 @@
--- Each act's trail begins at the store before it, and each of its steps has an operation.
+-- Each act's trail begins at the store before it, and each of its stages has an operation.
 use Rattle.std.proofs.Common.{ℕ, ◌<◌, Bool, true, List, Option, Some, None, refl, arith}
 use Rattle.std.proofs.lemmas.Bool.{cond_both}
 use Rattle.std.specs.Prelude.{◌%◌, ◌==◌, ◌&&◌, ◌||◌, not, nat_lt}

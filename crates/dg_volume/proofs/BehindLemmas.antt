@@ -1,4 +1,4 @@
--- What other crates write behind the control sectors.
+-- What other crates write after the control sectors.
 use Rattle.std.proofs.Common.{◌≡◌, ℕ, ◌+◌, ◌<◌, ◌≤◌, List, length, Option, Some, None, IfSome, IsSomeAnd, refl, sym, ap, subst, ◌∙◌, ⊎_elim, arith}
 use Rattle.dg_volume.proofs.HeldLemmas.{held_there, golden_held, each_keeping}
 use Rattle.std.proofs.Math.ListN.{length-set}
@@ -62,7 +62,7 @@ held_stays : (c d : List ℕ) (i : ℕ) (o : Option Held) → SameSlot i c d →
 held_stays c d i None same keeps = tt
 held_stays c d i (Some h) same keeps = image_stays c d i h same keeps
 
--- ---- a chip on which these parts stay, or are as they are said to be
+-- ---- a chip on which these parts are unchanged, or are as the store says
 
 mounted_by : (P Q : ℕ → Type 0) (c d : List ℕ) (v : Volume) (s t : Store) → SameControl c d → MountedBut Q c v s → t.room ≡ s.room → ((p : Snapshot) → Says p s → Says p t) → Contains d t
     → ((i : ℕ) → i < images → (P i → ⊥) → kept_at v i ≡ told (held t i)) → MountedBut P d v t
@@ -89,7 +89,7 @@ memory_free c d v s none keeps m =
     })
     m.tells.kept
 
--- what is told of one slot does not count
+-- what is reported of one slot does not count
 pub told_but : (c : List ℕ) (v : Volume) (s : Store) (i : ℕ) → Mounted c v s → MountedBut (λ j. j ≡ i) c v s
 told_but c v s i m = record { control = m.control; stands = m.stands; tells = record { says = m.tells.says; room = m.tells.room; kept = λ j k other. m.tells.kept j k (λ x. x) } }
 
@@ -111,7 +111,7 @@ slot_counts c d v s i h g not_golden known here version keeps image m =
     })
     (λ j k other. m.tells.kept j k other ∙ ap told (sym (held_there s i j (Some g) other)))
 
--- what of the slots is told stays, whatever that is
+-- what is reported of the slots is unchanged, whatever it is
 pub slot_same : (P : ℕ → Type 0) (c d : List ℕ) (v : Volume) (s : Store) (i : ℕ) (h : Held) → 1 ≤ i → i < images → held s i ≡ Some h → Touches (header_sector i) (slot_end i) c d → KeepsImage d i h → MountedBut P c v s
     → MountedBut P d v s
 slot_same P c d v s i h not_golden known here keeps image m =
@@ -146,7 +146,7 @@ slot_free c d v s i known none keeps m =
 
 -- ---- without a volume
 
--- a slot is written, in which what is kept of its image stays
+-- a slot is written, and what is kept of its image is unchanged
 pub slot_alone : (c d : List ℕ) (s : Store) (i : ℕ) → i < images → Touches (header_sector i) (slot_end i) c d → IfSome (held s i) (KeepsImage d i) → Stands c s → Stands d s
 slot_alone c d s i known keeps image stands =
     let contains = stands.contains in

@@ -24,7 +24,7 @@ pub record Loads (P : Store → Type 0) (A : App → Type 0) : Type 0 where
   pub stays : (app : App) → is_set_to (Some app) 0 golden_version ≡ true → A app → A (record { image = 0; version = golden_version; pages = app.pages })
 
 module _ (P : Store → Type 0) (A : App → Type 0) (stays : Stays P A) (loads : Loads P A) where
-  -- one commit that keeps what is kept
+  -- one commit that leaves the kept images unchanged
   commit_through : (s t : Store) → t.kept ≡ s.kept → IfSome t.app A → P s → Through P (committing s t)
   commit_through s t kept app a = Through-stepping P s (commit_operations s.room) t a (stays.loaded s t kept app a)
 

@@ -25,7 +25,7 @@ use Rattle.dg_volume.specs.Stands.{HoldsApp, Contains, Stands, Mounted, kept_at}
 use Rattle.dg_volume.specs.Trails.{committing}
 use Rattle.dg_volume.specs.Acts.{Acted, Stops}
 
--- ---- the sectors behind the control sectors stay
+-- ---- the sectors after the control sectors are unchanged
 
 abbrev pub SameBehind : List ℕ → List ℕ → Type 0
 SameBehind c d = (k : ℕ) → control_sectors ≤ k → k < sectors → sector d k ≡ sector c k
@@ -71,7 +71,7 @@ says_room p s room says = record { slots = says.slots; program = says.program; o
 contains_room : (c : List ℕ) (s : Store) (room : ℕ) → Contains c s → Contains c (record s { room = room })
 contains_room c s room h = record { count = h.count; kept = h.kept; golden = record { whole = h.golden.whole }; app = h.app }
 
--- ---- a commit from s to t, between which only what a snapshot says differs
+-- ---- a commit from s to t, which differ only in what a snapshot says
 
 pub record Commits (c : List ℕ) (v : Control) (next : Snapshot) (s t : Store) : Type 0 where
   pub says : Says (control_snapshot v) s

@@ -28,7 +28,7 @@ use Rattle.dg_volume.proofs.FillLemmas.{fit_next, fit_rest}
 use Rattle.dg_volume.proofs.PartLemmas.{NextFits, part_begun, part_of, all_rest, rest_part}
 use Rattle.dg_volume.proofs.StayLemmas.{Stays, fill_through, inject_through as inject_as}
 
--- ---- one page more
+-- ---- one more page
 
 -- page 0 is described as the test says
 abbrev pub TestedFirst : Type 0
@@ -135,7 +135,7 @@ not_taken_by s row (Some g) h is version e =
     (λ test f. let v : g.version ≡ row.version = ap (λ (x : Held). x.version) same ∙ version in absurd (other_version g.version row.version v test)))
     e)
 
--- a page that is kept in this version is another's, or the row's
+-- if this version is kept and the injection is not refused, the kept image is the row's so far
 not_taken : (s : Store) (row : Row) (h : Held) → held s row.image ≡ Some h → h.version ≡ row.version → inject_refusal s row ≡ None → differs_from_kept h row ≡ false
 not_taken s row h here version e = not_taken_by s row (held s row.image) h here version (refused_by s row e)
 

@@ -1,4 +1,4 @@
--- Where acts and starts end.
+-- The stores in which acts and starts end.
 use Rattle.std.proofs.Common.{◌≡◌, ◌≢◌, ◌⊎◌, ℕ, ◌+◌, ◌*◌, Bool, true, false, List, [], ◌∷◌, length, get_or, Option, Some, None, IfSome, refl, sym, ap, subst, ◌∙◌, inl, inr, ⊎_elim, cond}
 use Rattle.std.specs.Prelude.{◌==◌, ◌&&◌, ◌||◌, not, nat_lt}
 use Rattle.std.proofs.lemmas.Bool.{cond_both, eqb-true, and_parts}
@@ -18,7 +18,7 @@ use Rattle.dg_volume.specs.Ends.{IsGolden, IsOrdered, MayBoot, OnTheWay, Boots}
 use Rattle.dg_volume.specs.declared.volume.StartCause.{StartCause}
 use Rattle.dg_volume.proofs.BeginLemmas.{finish_begins, kept_begins, counted_begins}
 
--- ---- what stays on the way
+-- ---- what is unchanged on the way
 
 -- the store has the kept images, the program memory and the order of another
 record Same (s t : Store) : Type 0 where
@@ -130,7 +130,7 @@ copied_boots s three =
     })
     (λ _. record { way = Through-resting (OnTheWay s None) s 0 (same_way s s None (itself s)); chosen = tt; memory = tt })
 
--- ---- golden that stands in program memory
+-- ---- golden that is in program memory
 
 same_app : (a b : App) → a.image ≡ b.image → a.version ≡ b.version → a.pages ≡ b.pages → a ≡ b
 same_app a b p q r =
@@ -204,7 +204,7 @@ ordered_boots s waits =
       memory = inl (ap (λ (y : Store). y.app) (copied_last s r.pages u refl ∙ last-stepping b (commit_operations b.room) t));
     }
 
--- ---- more is done before a start
+-- ---- a trail that comes before a start
 
 ordered_from : (s t : Store) (r : Runs) → Same s t → IsOrdered t r → IsOrdered s r
 ordered_from s t r e is =
@@ -241,7 +241,7 @@ module _ (P Q : Store → Type 0) (f : (x : Store) → P x → Q x) where
 memory_from : (u v : Store) (o : Option Runs) → u ≡ v → IfSome o (λ r. (v.app ≡ Some (app_of r)) ⊎ ((v.app ≡ None) × IsGolden r)) → IfSome o (λ r. (u.app ≡ Some (app_of r)) ⊎ ((u.app ≡ None) × IsGolden r))
 memory_from u v o e memory = subst (λ (x : Store). IfSome o (λ r. (x.app ≡ Some (app_of r)) ⊎ ((x.app ≡ None) × IsGolden r))) (sym e) memory
 
--- a part that changes nothing of these comes before a start
+-- a trail that changes none of these comes before a start
 behind_boots : (s t : Store) (first : Trail Store) (b : Boot) → Same s t → Through (OnTheWay s b.runs) first → last first ≡ t → b.trail.first ≡ t → Boots t b → Boots s (behind first b)
 behind_boots s t first b e way end begins x = record {
   way = Through-joined (OnTheWay s b.runs) first b.trail way (through_map (OnTheWay t b.runs) (OnTheWay s b.runs) (λ y w. way_from s t y b.runs e w) b.trail x.way);

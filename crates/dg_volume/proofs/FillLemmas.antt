@@ -39,7 +39,7 @@ pub fit_next : (s : Store) (image : ℕ) (page : List ℕ) (rest : List (List �
 unfolding FitAll
 fit_next s image page rest all = all.0
 
--- these pages are left, and the trail of the others was gone
+-- these pages are left, and the trail of the others was completed
 pub record Filled (s : Store) (image : ℕ) (pages rest : List (List ℕ)) (a b : Device) (v : Volume) : Type 0 where
   pub gone : Trail Store
   pub acted : Acted gone a b v

@@ -44,7 +44,7 @@ slot_kept : (c name bytes : List ℕ) (used : ℕ) → KeepsImage c 0 (held_whol
 slot_kept c name bytes used golden zero h = golden
 slot_kept c name bytes used golden (suc i) h = none_kept c (images - 1) (suc i) i
 
--- golden's slot stays while the control sectors are made
+-- golden's slot is unchanged while the control sectors are written
 pub golden_stays : (c d : List ℕ) (h : Held) → Touches 0 control_sectors c d → KeepsImage c 0 h → KeepsImage d 0 h
 golden_stays c d h touches keeps = image_stays c d 0 h (omega arith) (behind_kept c d touches) keeps
 
@@ -61,6 +61,6 @@ fresh_stands c d name bytes used p keeps touches controls is = record {
   };
 }
 
--- golden stood when the control sectors were touched
+-- golden was in its slot when the control sectors were touched
 pub golden_first : (c d e : List ℕ) (golden : Row) → KeepsImage d 0 (held_whole golden) → Touches 0 control_sectors d e → GoldenFirst golden c e
 golden_first c d e golden keeps touches = record { either = inl (golden_stays d e (held_whole golden) touches keeps) }

@@ -1,4 +1,4 @@
--- Acts of which it is said only how many operations they make.
+-- Acts of which only the number of operations is specified.
 use Rattle.std.proofs.Common.{◌≡◌, ℕ, ◌+◌, ◌-◌, ◌≤◌, List, subst, arith}
 use Rattle.std.specs.Prelude.{⊤}
 use Rattle.dg_nor.specs.Device.{Device, Ran, Halted}

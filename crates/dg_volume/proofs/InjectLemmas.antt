@@ -1,4 +1,4 @@
--- An injection is refused, resumed, or begun anew.
+-- An injection is refused, resumed, or started from page 0.
 use Rattle.std.proofs.Common.{◌≡◌, ◌≢◌, ◌⊎◌, ℕ, ◌+◌, ◌<◌, ◌≤◌, Bool, true, false, cond, List, [], ◌∷◌, length, drop, Option, Some, None, Result, Ok, Err, IsErrAnd, refl, sym, ap, subst, ◌∙◌, inl, inr, arith}
 use Rattle.dg_volume.proofs.HeldLemmas.{held_here}
 use Rattle.std.proofs.lemmas.Bool.{cond-true, cond-false}
@@ -160,7 +160,7 @@ some_same a b e = cc
 pub same_profile_kept : (s : Store) (row : Row) (k : Held) → held s row.image ≡ Some k → other_profile k row ≡ false → SameProfile (held s row.image) row
 same_profile_kept s row k here fits h is same = subst (λ (x : Held). other_profile x row ≡ false) (some_same k h (sym here ∙ is)) fits
 
--- what is not refused is not of another profile
+-- what is not refused has the same profile
 pub same_profile_free : (s : Store) (row : Row) → IsRow row → 1 ≤ row.image → inject_refusal s row ≡ None → SameProfile (held s row.image) row
 same_profile_free s row is some none h here same = by (differs_from_kept h row) refl
   where
@@ -183,7 +183,7 @@ kept_trail s row h n free here same count =
     version : h.version == row.version ≡ true
     version = grind (arith, nat_tests)
 
--- ---- the trail of a version that is begun anew
+-- ---- the trail of a version that is started from page 0
 
 abbrev pub Older : Store → Row → Type 0
 Older s row = (h : Held) → held s row.image ≡ Some h → h.version < row.version
@@ -231,11 +231,11 @@ take_held c v s p known m =
     let count : length (keeping p.image (Some (held_begun p)) (spent x)).kept ≡ images = subst (λ (t : Store). length t.kept ≡ images) e m.stands.contains.count in
     ap (λ (t : Store). held t p.image) e ∙ held_here (spent x) p.image (Some (held_begun p)) (omega (arith, known, count, length-set x.kept p.image (Some (held_begun p))))
 
--- a volume that tells all tells all but one slot
+-- a volume that exposes the whole store exposes all but one slot
 pub but_one : (P : ℕ → Type 0) (c : List ℕ) (v : Volume) (s : Store) → Mounted c v s → MountedBut P c v s
 but_one P c v s m = record { control = m.control; stands = m.stands; tells = record { says = m.tells.says; room = m.tells.room; kept = λ i known other. m.tells.kept i known (λ x. x) } }
 
--- ---- the acts of one that is begun anew
+-- ---- the acts of a version that is started from page 0
 
 pub anew_taking : (s : Store) (row : Row) (a b : Device) → Stops (take_trail s (profile row)) a b → Stops (anew_trail s row) a b
 anew_taking s row a b h =
@@ -252,7 +252,7 @@ anew_acted s row a b c v w first second =
     let t = take_trail s (profile row) in
     acted_then t (fill_trail (last t) row.image (object row)) a b c v w (sym (fill_first (last t) row.image (object row))) first second
 
--- the slot was taken for the row, and is not lent any more
+-- the slot was taken for the row, and is no longer lent
 pub record Begun (s : Store) (row : Row) (a b : Device) (v w : Volume) : Type 0 where
   pub acted : Acted (take_trail s (profile row)) a b v
   pub mounted : Mounted b.image w (last (take_trail s (profile row)))

@@ -1,4 +1,4 @@
--- What is told of an image that is kept.
+-- What is reported of an image that is kept.
 use Rattle.std.proofs.Common.{◌≡◌, ℕ, ◌^◌, ◌<◌, ◌≤◌, List, Option, Some, None, IfSome, IsTrue, refl, sym, subst, ◌∙◌, arith}
 use Rattle.std.proofs.lemmas.Bool.Decides.{nat_tests}
 use Rattle.dg_control.specs.Ranges.{slot_fits}
@@ -13,7 +13,7 @@ use Rattle.dg_volume.specs.Stands.{Stands, Mounted, IsMounted, kept_at, snapshot
 use Rattle.dg_volume.specs.declared.volume.Kept.{Kept}
 use Rattle.dg_volume.specs.declared.volume.Volume.{Volume}
 
--- what is kept in the slot of an image, and told by the volume
+-- what is kept in the slot of an image, and reported by the volume
 pub record Keeps (c : List ℕ) (s : Store) (i : ℕ) (k : Kept) : Type 0 where
   pub kept : Held
   pub here : held s i ≡ Some kept
@@ -30,7 +30,7 @@ keeps_told c v s i k known m is =
     let fits : IsTrue (slot_fits (slot_told (held s i))) = subst (λ (x : SlotState). IsTrue (slot_fits x)) (m.tells.says.slots i known) ((in_range (snapshot_of v)).slots i) in
     keeps_by c s i k (held s i) refl (sym (m.tells.kept i known (λ h. h)) ∙ is) (m.stands.contains.kept i known) fits
 
--- the numbers that are told are those of a header
+-- the reported numbers are those of a header
 pub record KeptFits (k : Kept) : Type 0 where
   pub some_version : 1 ≤ k.version
   pub some_pages : 2 ≤ k.pages

@@ -16,7 +16,7 @@ use Rattle.dg_volume.specs.declared.volume.Volume.{Volume}
 use Rattle.dg_volume.proofs.CommitLemmas.{controls_of}
 use Rattle.dg_volume.proofs.StoreLemmas.{one_store}
 
--- ---- golden, and what is told of it
+-- ---- golden, and what is reported of it
 
 pub golden_told : (h : Option Held) → IsSomeAnd h (λ x. (x.version ≡ golden_version) × (length x.complete ≡ x.pages)) → IsSomeAnd (told h) (λ k. (k.version ≡ golden_version) × (k.done ≡ k.pages))
 golden_told None h = absurd h
@@ -83,11 +83,11 @@ mounted_at c v control found golden app =
       },
     )
 
--- so it tells every store that the chip stands for
+-- so it exposes every store that the chip stands for
 pub mounted_each : (c : List ℕ) (v : Volume) → IsMounted c v → (s : Store) → Stands c s → Mounted c v s
 mounted_each c v m s stands = subst (λ (x : Store). Mounted c v x) (one_store c m.0 s m.1.stands stands) m.1
 
--- ---- what an open slot tells
+-- ---- what an open slot reports
 
 pub told_by : (k : Kept) (h : Held) → k.version ≡ h.version → k.pages ≡ h.pages → k.done ≡ length h.complete → k.crc ≡ h.crc → k ≡ told_held h
 told_by k h a b c d =

@@ -16,7 +16,7 @@ use Rattle.dg_volume.specs.declared.volume.OrderFault.{OrderFault}
 use Rattle.dg_volume.specs.declared.volume.OrderFault.TheVariants.{OldOrder, Worn}
 use Rattle.dg_volume.proofs.CommitLemmas.{Commits}
 
--- the snapshot says the order, and all else as before
+-- the snapshot has this order, and is otherwise unchanged
 pub record SaysOrder (r p : Snapshot) (o : Order) : Type 0 where
   pub order : r.order ≡ o
   pub waived : r.waived ≡ false

@@ -18,7 +18,7 @@ use Rattle.dg_slot.specs.declared.states.OpenSlot.{OpenSlot}
 use Rattle.dg_slot.proofs.JobLemmas.{packets_make}
 use Rattle.dg_volume.specs.Filling.{page_trail}
 
--- ---- what an open slot keeps is told whole
+-- ---- an open slot keeps one thing
 
 pub one_open : (c : List ℕ) (o : OpenSlot) (h g : Held) → IsOpen c o h → IsOpen c o g → h ≡ g
 one_open c o h g a b =
@@ -44,7 +44,7 @@ before_gate image h page k c early keeps = record {
   allowed = (Leaves-stepping (λ a b. b ≡ a) h page_operations (with_page h page) k h early).1 (inl refl);
 }
 
--- the device of a page's act, as its operations are counted
+-- the page's act stopped, counted by its operations
 stops_page : (image : ℕ) (h : Held) (page : List ℕ) (a b : Device) → Halted page_operations (PageMay image h page) a b → SlotStops image (page_trail h page) a b
 stops_page image h page a b = subst (λ (n : ℕ). Halted n (PageMay image h page) a b) (sym (operations-stepping h page_operations (with_page h page)))
 
@@ -78,7 +78,7 @@ gate_stops_here image h page a b c may ran stops =
     let here : Halted 1 May b c = subst (λ (n : ℕ). Halted n May b c) (operations-stepping h 1 (with_page h page)) one in
     stops_page image h page a c (Halted_second {m = packets + 1} {n = 1} {may = PageMay image h page} May ran (λ k within x. at_gate image h page k c.image within x) here)
 
--- the job tells the slot, and its packets make the page
+-- the job is one of this slot, and its packets make the page
 pub gate_stops : (o p : OpenSlot) (h : Held) (page : List ℕ) (a b c : Device) → p ≡ o → length page ≡ page_size → may_seal (outline_of_slot o).image h page ≡ true → Ran (packets + 1) a b
     → SlotStops (outline_of_slot p).image (seal_trail (outline_of_slot p).image h (page_from (packets_of page))) b c → SlotStops (outline_of_slot o).image (page_trail h page) a c
 gate_stops o p h page a b c same long may ran stops =

@@ -23,7 +23,7 @@ use Rattle.dg_volume.proofs.HeldLemmas.{held_paged}
 use Rattle.dg_volume.proofs.BehindLemmas.{told_but, slot_counts, slot_same}
 use Rattle.dg_volume.proofs.CommitLemmas.{near_same}
 
--- ---- what is kept of an image of which something is told
+-- ---- what is kept of an image that is reported as kept
 
 pub record IsHeld (s : Store) (i : ℕ) : Type 0 where
   pub kept : Held
@@ -46,7 +46,7 @@ some_kept v s i h known tells here none =
 pub paged_is : (s : Store) (i : ℕ) (h : Held) (page : List ℕ) → held s i ≡ Some h → paged i page s ≡ keeping i (Some (with_page h page)) s
 paged_is s i h page here = ap (λ (o : Option Held). keeping i (option_map (λ k. with_page k page) o) s) here
 
--- what the chip stands for then, before it is told
+-- what the chip stands for then, before the slot is put back
 pub page_counts : (c d : List ℕ) (v : Volume) (s : Store) (i : ℕ) (h : Held) (page : List ℕ) → 1 ≤ i → i < images → held s i ≡ Some h → Touches (header_sector i) (slot_end i) c d → KeepsImage d i (with_page h page)
     → MountedBut (λ j. j ≡ i) c v s → MountedBut (λ j. j ≡ i) d v (paged i page s)
 page_counts c d v s i h page not_golden known here touches keeps m =
@@ -126,7 +126,7 @@ unfit_stops a b v s i h not_golden known here touches m stops =
     let keeps : KeepsImage b.image i h = subst (KeepsImage b.image i) still stops.leaves.stands_for in
     fill_stops 0 stops.done a b v s i h not_golden known here touches keeps m (subst (λ (k : ℕ). Halts k stops.done a b) (operations-resting h 0) stops.halts)
 
--- where the page fits, its sealing makes it complete
+-- if the page fits, sealing makes it complete
 pub seal_stops : (a b : Device) (v : Volume) (s : Store) (i : ℕ) (h : Held) (page : List ℕ) → 1 ≤ i → i < images → held s i ≡ Some h → Touches (header_sector i) (slot_end i) a.image b.image → MountedBut (λ j. j ≡ i) a.image v s
     → SlotStops i (seal_trail i h page) a b → Stops (sealing_trail s i h page) a b
 seal_stops a b v s i h page not_golden known here touches m =

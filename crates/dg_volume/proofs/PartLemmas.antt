@@ -47,7 +47,7 @@ part_of row h version e =
       first = λ some. first_by h.complete (page_of_row row 0) x.2 some;
     }
 
--- ---- the next page fits, as it does where all pages before it are the row's
+-- ---- the next page fits, as it does if all pages before it are the row's
 
 crc_same : (row : Row) (h : Held) (n k : ℕ) → PartOf row h → n ≡ length h.complete → n ≤ length (object row) → k ≡ n → crc_by h k ≡ crc_by (held_to row n) k
 crc_same row h n zero part is within e = part.crc
@@ -69,7 +69,7 @@ may_same row h n i page part is within =
     let head : first_fits i h page k ≡ first_fits i g page (length g.complete) = first_same row h n k i page part ∙ ap (first_fits i g page) long in
     ap (λ (x : ℕ). (crc_of page == x) && first_fits i h page k) crc ∙ ap (λ (b : Bool). (crc_of page == kept_crc g) && b) head
 
--- ---- and so do all that are missing
+-- ---- all missing pages fit
 
 abbrev pub NextFits : Type 0
 NextFits = (row : Row) (n : ℕ) → IsRow row → n < length (object row) → may_seal row.image (held_to row n) (get_or (object row) n []) ≡ true

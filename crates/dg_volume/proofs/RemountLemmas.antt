@@ -110,7 +110,7 @@ took_control c n most first =
     let all = most.all in
     Took-more (omega (arith, all)) first
 
--- ---- a commit that leaves the slots as they are
+-- ---- a commit that leaves the slots unchanged
 
 pub more_bytes : (c d : List ℕ) (p q : Snapshot) (i j m n : ℕ) → Controls c p i → Controls d q j → q.slots ≡ p.slots → StaysOrderly c d → RemountBytes c m → RemountBytes d n → n ≤ m + place_size
 unfolding StaysOrderly
@@ -151,7 +151,7 @@ stopped_slots v next k d same may =
           ((Leaves-stepping IsNearControl s (commit_operations s.room) (committed s next) k x within).0 left.allowed);
     }
 
--- ---- a volume has such a number, and one alone
+-- ---- a volume has exactly one such number
 
 spelled_committed : (s : Spelled) → IsCommitted (place_of s)
 unfolding place_of

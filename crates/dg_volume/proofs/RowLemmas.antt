@@ -16,7 +16,7 @@ use Rattle.dg_slot.specs.Fits.{describes, first_fits, may_seal}
 use Rattle.dg_volume.specs.Store.{Store, held, held_to}
 use Rattle.dg_volume.specs.Changes.{paged, FitsNext, FitAll}
 
--- the test for a descriptor is true where the page is one
+-- the test for a descriptor is true if the page is one
 abbrev pub Tested : Type 0
 Tested = (page : List ℕ) (image version pages : ℕ) → (describes page image version pages ≡ true) ↔ Describes page image version pages
 
@@ -56,7 +56,7 @@ next_fits tested row n is h =
     and_from (crc_of page == kept_crc (held_to row n)) (first_fits row.image (held_to row n) page k) (eq-eqb (crc_of page) (kept_crc (held_to row n)) (crc_fits row n is h))
     (head_fits tested row n k is (length-held_to row n (omega (arith, h))) h)
 
--- ---- so do all that are missing
+-- ---- all missing pages fit
 
 pub one_more : (row : Row) (n : ℕ) → n < length (object row) → with_page (held_to row n) (get_or (object row) n []) ≡ held_to row (n + 1)
 one_more row n h =

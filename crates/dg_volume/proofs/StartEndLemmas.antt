@@ -1,4 +1,4 @@
--- Where starts end, by their cases.
+-- The stores in which starts end, by case.
 use Rattle.std.proofs.Common.{◌≡◌, ℕ, ◌+◌, ◌-◌, ◌*◌, Bool, true, false, cond, List, length, Option, Some, None, refl, sym, ap, ◌∙◌, arith}
 use Rattle.std.specs.Prelude.{◌==◌, ◌&&◌, ◌||◌, not, nat_lt}
 use Rattle.dg_nor.specs.Trail.{Trail, last, joined, resting}
@@ -41,7 +41,7 @@ last_blank : (s : Store) → last (blank_trail s) ≡ blanked s
 unfolding blank_trail
 last_blank s = last_blank_by s.app s refl
 
--- the copy leaves the store as it is, and then comes the rest
+-- the copy leaves the store unchanged, and then the rest follows
 last_copied : (s : Store) (pages : List (List ℕ)) (u : Store → Trail Store) → ((x : Store) → (u x).first ≡ x) → last (joined (blank_trail s) (joined (copy_trail (last (blank_trail s)) pages) (u (last (blank_trail s))))) ≡ last (u (blanked s))
 unfolding joined
 last_copied s pages u begins =

@@ -1,4 +1,4 @@
--- Trails that go through stores in which a fact stays true. It goes by what is kept and by program memory.
+-- Trails that go through stores in which a fact stays true. The fact depends only on what is kept and on program memory.
 use Rattle.std.proofs.Common.{◌≡◌, ℕ, ◌<◌, ◌≤◌, true, List, [], ◌∷◌, drop, length, Option, Some, None, IfSome, refl, sym, ap, subst, ◌∙◌, arith}
 use Rattle.dg_volume.specs.Ends.{taken}
 use Rattle.dg_volume.proofs.ActEndLemmas.{take_last}
@@ -24,7 +24,7 @@ use Rattle.dg_volume.specs.declared.volume.InjectFault.TheVariants.{Empty, TooLa
 
 -- ---- what a take leaves
 
--- how many images are kept stays
+-- the number of kept images is unchanged
 drop_count : (s : Store) (i : ℕ) (o : Option Held) → length (last (drop_by o s i)).kept ≡ length s.kept
 unfolding Rattle.dg_nor.specs.Trail.last_of
 drop_count s i None = refl
@@ -40,7 +40,7 @@ not_golden s row e =
 
 -- ---- a fact of stores
 
--- A is true of what is in program memory, and the fact goes by that and by what is kept
+-- A is true of what is in program memory, and the fact depends on that and on what is kept
 pub record Stays (P : Store → Type 0) (A : App → Type 0) : Type 0 where
   pub memory : (s : Store) → P s → IfSome s.app A
   pub loaded : (s t : Store) → t.kept ≡ s.kept → IfSome t.app A → P s → P t
@@ -118,7 +118,7 @@ module _ (P : Store → Type 0) (A : App → Type 0) (stays : Stays P A) where
         (joined t (fill_trail (last t) row.image (object row)))
         (Through P) (λ version. rest low is version) (λ _. anew_through s row low within begun (whole low) a)
 
-    -- what is missing of a version that is kept is filled, or all of one that is taken
+    -- the missing pages of a kept version are filled, or all pages of one that is taken
     pub inject_through : (s : Store) (row : Row) → row.image < length s.kept → K row.image (held_begun (profile row))
         → (1 ≤ row.image → inject_refusal s row ≡ None → is_version (held s row.image) row.version ≡ true → Through P (fill_trail s row.image (drop (done_of (held s row.image)) (object row))))
         → (1 ≤ row.image → (t : Store) → row.image < length t.kept → held t row.image ≡ Some (held_begun (profile row)) → P t → Through P (fill_trail t row.image (object row)))

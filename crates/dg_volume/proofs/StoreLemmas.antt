@@ -152,7 +152,7 @@ one_store c s t p q =
     app (sym here.order ∙ there.order) (sym here.waived ∙ there.waived) (sym here.gesture ∙ there.gesture)
     (one_control c r q.snapshot s.room t.room p.controls q.controls).1
 
--- a mounted volume tells each store that its chip stands for
+-- a mounted volume exposes each store that its chip stands for
 pub tells_store : (c : List ℕ) (v : Volume) (s : Store) → IsMounted c v → Stands c s → Tells v s
 tells_store c v s m stands = subst (λ (x : Store). Tells v x) (one_store c m.0 s m.1.stands stands) m.1.tells
 

@@ -35,7 +35,7 @@ use Rattle.dg_volume.proofs.CommitLemmas.{Commits, near_same}
 
 -- ---- what is kept of one image changes
 
--- the state of a slot of which this is told
+-- the state of a slot, for what is reported of it
 pub record StateOf (x : SlotState) (kept : Option Kept) : Type 0 where
   pub dirty : IfNone kept (x ≡ Dirty)
   pub live : IfSome kept (λ k. x ≡ Live k.version)
@@ -44,7 +44,7 @@ pub state_is : (x : SlotState) (kept : Option Kept) (h : Option Held) → told h
 state_is x kept None e state = (subst (λ (k : Option Kept). StateOf x k) (sym e) state).dirty
 state_is x kept (Some h) e state = (subst (λ (k : Option Kept). StateOf x k) (sym e) state).live
 
--- the snapshot says this of one slot, and all else as before
+-- the snapshot has this state of one slot, and is otherwise unchanged
 pub record SaysSlot (r p : Snapshot) (i : ℕ) (x : SlotState) : Type 0 where
   pub slot : get_or r.slots i Dirty ≡ x
   pub others : (j : ℕ) → j ≢ i → get_or r.slots j Dirty ≡ get_or p.slots j Dirty
@@ -79,13 +79,13 @@ slot_commits c v s next i h not_golden known stands tells says keeps =
       spent = refl;
     }
 
--- what the volume tells then
+-- what the volume exposes then
 pub kept_next : (v w : Volume) (s : Store) (i : ℕ) (h : Option Held) (kept : Option Kept) → length s.kept ≡ images → i < images → ((j : ℕ) → j < images → kept_at v j ≡ told (held s j)) → kept_at w i ≡ kept → ((j : ℕ) → j ≢ i → kept_at w j ≡ kept_at v j)
     → told h ≡ kept → (j : ℕ) → j < images → kept_at w j ≡ told (held (keeping i h (spent s)) j)
 kept_next v w s i h kept count known tells here others is =
     each_keeping (λ j x. j < images → kept_at w j ≡ told x) (spent s) i h (omega (arith, known, count)) (λ k. here ∙ sym is) (λ j other k. others j other ∙ tells j k)
 
--- ---- operations that no store tells
+-- ---- operations that leave the store unchanged
 
 pub rest_stops : (s : Store) (n : ℕ) (a b : Device) → Stands b.image s → Halted n (λ k c. ⊤) a b → Stops (resting s n) a b
 unfolding LeavesFrom

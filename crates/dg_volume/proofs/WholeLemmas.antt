@@ -16,15 +16,15 @@ use Rattle.dg_volume.specs.Store.{Store, held, held_whole}
 use Rattle.dg_volume.specs.Start.{pages_sound, sound, length_in}
 use Rattle.dg_volume.specs.RowLaws.{RowLaws}
 
--- ---- the length that a descriptor tells
+-- ---- the length that a descriptor gives
 
--- the cells from b to a + b stand within the first c
+-- the cells from b to a + b are within the first c
 take-drop-take : (xs : List ℕ) (a b c : ℕ) → a + b ≤ c → take a (drop b (take c xs)) ≡ take a (drop b xs)
 take-drop-take xs a b c h =
     let place : b + (c - b) ≡ c = omega (arith, h) in
     ap (λ n. take a (drop b (take n xs))) (sym place) ∙ ap (take a) (drop-take b (c - b) xs) ∙ take-take a (c - b) (drop b xs) (omega (arith, h))
 
--- it stands in bytes 8 to 11
+-- it is in bytes 8 to 11
 length_in-descriptor : (page : List ℕ) (d : Details) → IsDescriptor page d → length_in page ≡ d.length
 unfolding length_in
 length_in-descriptor page d described =

@@ -10,7 +10,7 @@ use Rattle.dg_volume.specs.Store.{Store, IsNear}
 use Rattle.dg_volume.specs.Stands.{Stands, Mounted}
 use Rattle.dg_volume.specs.declared.volume.Volume.{Volume}
 
--- the whole trail was gone, and the volume is where the chip is
+-- the trail was completed, and the volume exposes the store at its end
 pub record Acted (t : Trail Store) (old new : Device) (v : Volume) : Type 0 where
   pub ran : Ran (operations t) old new
   pub mounted : Mounted new.image v (last t)

@@ -11,7 +11,7 @@ use Rattle.dg_volume.specs.Store.{Store, App, held, held_whole}
 abbrev pub FitFirst : List (List ℕ) → Type 0
 FitFirst pages = (p : ℕ) → 1 ≤ p → p < length pages → crc_of (slice_index_or pages p []) ≡ crc_in (slice_index_or pages 0 []) p
 
--- where a page is complete, page 0 has the CRC of the slot and is the descriptor of its image, version and page count
+-- if a page is complete, page 0 has the CRC of the slot and is the descriptor of its image, version and page count
 pub record IsSoundSoFar (image : ℕ) (h : Held) : Type 0 where
   pub first : 0 < length h.complete → HasDescriptor (slice_index_or h.complete 0 []) image h.version h.pages h.crc
   pub rest : FitFirst h.complete

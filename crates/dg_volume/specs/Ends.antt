@@ -1,4 +1,4 @@
--- Where acts and starts end, and what they leave as it is (docs/IMAGES.md, "Takes, injections and orders").
+-- The stores in which acts and starts end, and what they leave unchanged (docs/IMAGES.md, "Takes, injections and orders").
 use Rattle.std.specs.Prelude.{◌≡◌, ◌≢◌, ◌⊎◌, ℕ, ◌+◌, ◌-◌, ◌<◌, ◌≤◌, ◌&&◌, ◌||◌, not, nat_lt, if◌then◌else◌, Bool, true, List, []}
 use Rattle.std.specs.Prelude.{◌++◌, length, slice_index_or, Option, Some, None, IfSome}
 use Rattle.dg_nor.specs.Trail.{last}
@@ -21,13 +21,13 @@ take_commits (Some h) = 2
 abbrev pub taken : Store → Outline → Store
 taken s p = keeping p.image (Some (held_begun p)) (record s { room = s.room - take_commits (held s p.image) })
 
--- these pages more are complete
+-- these further pages are complete
 abbrev pub with_pages : Held → List (List ℕ) → Held
 with_pages h pages = record h { complete = h.complete ++ pages }
 
 -- ---- an injection
 
--- where this version is kept, no commit is made
+-- if this version is kept, no commit is made
 abbrev pub inject_commits : Option Held → ℕ → ℕ
 inject_commits o version = if is_version o version then 0 else take_commits o
 
@@ -36,11 +36,11 @@ abbrev pub injected : Store → Row → Store
 injected s row = keeping row.image (Some (held_whole row))
     (record s { room = s.room - inject_commits (held s row.image) row.version })
 
--- where this version is kept, the pages that are complete are the row's
+-- if this version is kept, the pages that are complete are the row's
 abbrev pub KeepsPagesOf : Row → Held → Type 0
 KeepsPagesOf row h = h.version ≡ row.version → (n : ℕ) × (n ≤ length (object row)) × (h ≡ held_to row n)
 
--- the row's profile is kept, and where there is a complete page, page 0 is the row's
+-- the row's profile is kept, and if there is a complete page, page 0 is the row's
 pub record PartOf (row : Row) (h : Held) : Type 0 where
   pub version : h.version ≡ row.version
   pub pages : h.pages ≡ (profile row).pages
@@ -49,7 +49,7 @@ pub record PartOf (row : Row) (h : Held) : Type 0 where
 
 -- ---- a start
 
--- program memory is blank: a commit made it so, unless it was
+-- program memory is blank: a commit made it so, unless it was blank before
 abbrev pub blank_commits : Option App → ℕ
 blank_commits None = 0
 blank_commits (Some app) = 1
@@ -64,7 +64,7 @@ ordered_runs s = kept_runs s s.order.image s.order.version
 abbrev pub order_started : Store → Store
 order_started s = record s { app = Some (app_of (ordered_runs s)); room = s.room - (blank_commits s.app + 1) }
 
--- golden runs: the last commit is made where there is room, unless it would change nothing
+-- golden runs: the last commit is made if there is room, unless it would change nothing
 abbrev pub golden_started : Store → Runs → Bool → Store
 golden_started s r three = if nat_lt 0 s.room && (not (is_set_to s.app 0 golden_version) || three) then golden_done s r three
     else s
@@ -73,11 +73,11 @@ golden_started s r three = if nat_lt 0 s.room && (not (is_set_to s.app 0 golden_
 abbrev pub app_runs : App → Runs
 app_runs app = record { image = app.image; version = app.version; pages = app.pages }
 
--- golden that stands in program memory
+-- golden that is in program memory
 abbrev pub golden_runs : App → Runs
 golden_runs app = record { image = 0; version = golden_version; pages = app.pages }
 
--- the start that this store makes ends with these
+-- the start runs this, and ends in this store
 pub record BootEnds (b : Boot) (runs : Runs) (s : Store) : Type 0 where
   pub started : b.runs ≡ Some runs
   pub ends : last b.trail ≡ s
@@ -98,7 +98,7 @@ pub record IsOrdered (s : Store) (r : Runs) : Type 0 where
 abbrev pub MayBoot : Store → Runs → Type 0
 MayBoot s r = IsGolden r ⊎ ((s.app ≡ Some (app_of r)) ⊎ IsOrdered s r)
 
--- Kept images and the order stay, and program memory stays, or is blank, or is Set to what runs.
+-- Kept images and the order are unchanged. Program memory is unchanged, or blank, or Set to what runs.
 pub record OnTheWay (s : Store) (runs : Option Runs) (t : Store) : Type 0 where
   pub kept : t.kept ≡ s.kept
   pub order : t.order ≡ s.order
@@ -108,5 +108,5 @@ pub record OnTheWay (s : Store) (runs : Option Runs) (t : Store) : Type 0 where
 pub record Boots (s : Store) (b : Boot) : Type 0 where
   pub way : Through (OnTheWay s b.runs) b.trail
   pub chosen : IfSome b.runs (MayBoot s)
-  -- program memory is Set to what runs, or blank where golden runs
+  -- program memory is Set to what runs, or blank if golden runs
   pub memory : IfSome b.runs (λ r. ((last b.trail).app ≡ Some (app_of r)) ⊎ (((last b.trail).app ≡ None) × IsGolden r))

@@ -11,7 +11,7 @@ use Rattle.dg_volume.specs.declared.new_image.NewImage.{NewImage}
 abbrev pub packet_of : List ℕ → ℕ → List ℕ
 packet_of page q = part page (packet_size * q) packet_size
 
--- one page more is complete, after its operations
+-- one more page is complete, after its operations
 abbrev pub page_trail : Held → List ℕ → Trail Held
 page_trail h page = stepping h page_operations (with_page h page)
 

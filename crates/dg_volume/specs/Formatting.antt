@@ -11,6 +11,6 @@ use Rattle.dg_volume.specs.Store.{held_whole}
 abbrev pub format_operations : (length used : ℕ) → ℕ
 format_operations length used = 2 + page_operations * pages_for length + (5 + used / places + used % places)
 
--- Golden stands whole in its slot, or no control sector was touched, nor anything but that slot.
+-- Golden is whole in its slot, or only that slot was touched, and so no control sector.
 pub record GoldenFirst (golden : Row) (old new : List ℕ) : Type 0 where
   pub either : KeepsImage new 0 (held_whole golden) ⊎ Touches (header_sector 0) (slot_end 0) old new

@@ -11,8 +11,8 @@ use Rattle.dg_volume.specs.declared.volume.InjectFault.TheVariants.{Stopped}
 use Rattle.dg_volume.specs.declared.volume.Injected.{Injected}
 use Rattle.dg_volume.specs.declared.volume.Volume.{Volume}
 
--- The injection of a row into a chip that stood for this store. It is refused exactly where the rules refuse it, with their
--- fault, unless the chip stops first. Where another profile is kept of this version, nothing stops.
+-- The injection of a row into a chip that stood for this store. It is refused exactly if the rules refuse it, with their fault,
+-- unless the chip stops first. If another profile is kept of this version, it does not stop.
 pub record InjectEnds (result : Result Injected InjectFault) (s : Store) (row : Row) (old new : Device) (v : Volume) : Type
     0 where
   pub acted : OnOk result (Acted (inject_trail s row) old new v)

@@ -1,4 +1,4 @@
--- What is read of a chip that is mounted again, at most (docs/IMAGES.md, "Mounting again").
+-- The most that is read of a chip that is mounted again (docs/IMAGES.md, "Mounting again").
 use Rattle.std.specs.Prelude.{◌≡◌, ℕ, ◌+◌, ◌*◌, List}
 use Rattle.std.specs.List.{sum_by}
 use Rattle.dg_control.specs.Store.{Controls, HasTorn, remount_most}

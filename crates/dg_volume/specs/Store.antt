@@ -12,8 +12,8 @@ pub record App : Type 0 where
   pub version : ℕ
   pub pages : List (List ℕ)
 
--- for each image what is kept of it; program memory, None where it is blank; the order, with number 0 where there is
--- none, and whether it is waived; short starts in a row; the commits that are left
+-- for each image what is kept of it; program memory, None if it is blank; the order, with number 0 if there is no order, and
+-- whether it is waived; short starts in a row; the commits that are left
 pub record Store : Type 0 where
   pub kept : List (Option Held)
   pub app : Option App
@@ -47,7 +47,7 @@ held_whole row = record { version = row.version; pages = (profile row).pages; cr
 abbrev pub golden_row : List ℕ → List ℕ → Row
 golden_row name bytes = record { image = 0; version = golden_version; name = name; bytes = bytes }
 
--- a chip that was formatted with this many commits told as spent: golden is whole, and all else is empty
+-- a chip that was formatted with this many commits recorded as spent: golden is whole, and all else is empty
 abbrev pub fresh : List ℕ → List ℕ → ℕ → Store
 fresh name bytes used =
     record {
@@ -59,7 +59,7 @@ fresh name bytes used =
       room = most_room - used;
     }
 
--- the same store, with its room or one commit less
+-- the same store, with the same room or one commit less
 pub record IsNear (before store : Store) : Type 0 where
   pub same : store ≡ record before { room = store.room }
   pub room : (store.room ≡ before.room) ⊎ (store.room + 1 ≡ before.room)

@@ -12,7 +12,7 @@ use Rattle.dg_volume.specs.Store.{Store, App, held}
 use Rattle.dg_volume.specs.Changes.{spent, keeping, paged, ordered, gesture_cleared, advanced, is_version, inject_refusal}
 use Rattle.dg_volume.specs.declared.volume.InjectFault.{InjectFault}
 
--- one commit makes this store of s
+-- one commit turns s into this store
 abbrev pub committing : Store → Store → Trail Store
 committing s next = stepping s (commit_operations s.room) next
 
@@ -25,7 +25,7 @@ clear_trail s = committing s (gesture_cleared s)
 abbrev pub advance_trail : Store → Option App → ℕ → Bool → Trail Store
 advance_trail s app gesture waived = committing s (advanced s app gesture waived)
 
--- a chip of the older form is committed again as it is, which writes today's form
+-- a chip of the older form is committed again unchanged, which writes the current form
 abbrev pub migrate_trail : ℕ → Store → Trail Store
 migrate_trail form s = if form == old_form then committing s (spent s) else resting s 0
 
@@ -37,7 +37,7 @@ drop_by (Some h) s image = committing s (keeping image None (spent s))
 unfoldable pub drop_trail : Store → ℕ → Trail Store
 drop_trail s image = drop_by (held s image) s image
 
--- the header is erased and written, which no store tells, and then the slot is Live
+-- the header is erased and written, which leaves the store unchanged, and then the slot is Live
 abbrev pub open_trail : Store → Outline → Trail Store
 open_trail s p = joined (resting s 2) (committing s (keeping p.image (Some (held_begun p)) (spent s)))
 
@@ -51,7 +51,7 @@ fill_trail s image [] = resting s 0
 fill_trail s image (page ∷ pages) = joined (stepping s page_operations (paged image page s))
     (fill_trail (paged image page s) image pages)
 
--- a page is made complete where it fits, by one operation
+-- a page is made complete if it fits, by one operation
 abbrev pub sealing_trail : Store → ℕ → Held → List ℕ → Trail Store
 sealing_trail s image h page = if may_seal image h page then stepping s 1 (paged image page s) else resting s 0
 
@@ -65,12 +65,12 @@ inject_by None s row =
     if is_version (held s row.image) row.version then fill_trail s row.image (drop (done_of (held s row.image)) (object row))
     else joined (take_trail s (profile row)) (fill_trail (last (take_trail s (profile row))) row.image (object row))
 
--- A row is injected: its slot is taken unless this version is kept, and then each page that is missing is filled.
--- A refused one does nothing.
+-- A row is injected: its slot is taken unless this version is kept, and then each missing page is filled. A refused injection
+-- does nothing.
 unfoldable pub inject_trail : Store → Row → Trail Store
 inject_trail s row = inject_by (inject_refusal s row) s row
 
--- A trail begins at this store, and each of its steps has an operation, so that it may follow another.
+-- A trail begins at this store, and each of its stages has an operation, so that it may follow another.
 pub record BeginsAt (s : Store) (t : Trail Store) : Type 0 where
   pub first : t.first ≡ s
   pub works : EachWorks t.stages

@@ -16,7 +16,7 @@ use dg_control::{CommitFault, Program};
 use dg_nor::{Nor, Stopped};
 
 impl Volume {
-    /// Counts short starts from 0 again. One commit.
+    /// Resets the count of short starts to 0. One commit.
     pub fn clear_gesture<N: Nor>(&mut self, nor: &mut N) -> Result<(), Stopped>
         requires mounted { IsMounted (N.device nor.old).image self.old }
         requires room { 1 ≤ room_of self.old }
@@ -26,7 +26,7 @@ impl Volume {
         ensures form { OnOk result (form_of self.new ≡ new_form) }
         ensures awake { OnOk result ((N.device nor.old).stopped ≡ false) }
         ensures lent { (i : ℕ) → is_lent self.new i ≡ is_lent self.old i }
-        // a page that is being filled stays as it is
+        // a page that is being filled is unchanged
         ensures job { (j : PageJob) (h : Held) (ps : Packets) → IsJob (N.device nor.old).image j h ps
             → IsJob (N.device nor.new).image j h ps }
         ensures touches { Touches 0 control_sectors (N.device nor.old).image (N.device nor.new).image }

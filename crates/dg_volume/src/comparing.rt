@@ -12,7 +12,7 @@ use crate::layout::{PACKET_SIZE, PACKETS, PAGE_SIZE};
 use dg_nor::{Nor, Stopped};
 use dg_slot::read_packet;
 
-/// Whether this is page 0 as it is in the slot of an image. That is read packet by packet.
+/// Whether page 0 in the slot of an image is this page. The slot is read packet by packet.
 pub(crate) fn is_first_page<N: Nor>(
     nor: &mut N,
     image: u8,
@@ -32,7 +32,7 @@ pub(crate) fn is_first_page<N: Nor>(
     Ok(true)
 }
 
-/// Whether a packet of page 0, as it is in the slot of an image, is that of this page.
+/// Whether a packet of page 0 in the slot of an image is that of this page.
 fn is_packet<N: Nor>(
     nor: &mut N,
     image: u8,

@@ -1,4 +1,4 @@
-//! How faults are told, and what becomes of the faults of the calls beneath.
+//! How faults are displayed, and how the faults of lower calls are mapped.
 use crate::volume::{FormatFault, InjectFault, MountFault, OrderFault, TakeFault};
 use dg_control::MountFault as ControlFault;
 use dg_nor::Stopped;

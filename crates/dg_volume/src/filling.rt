@@ -19,7 +19,7 @@ use crate::volume::Volume;
 use dg_nor::{Nor, Stopped};
 
 impl Volume {
-    /// Fills the next page of an image, which this one fits, and makes it complete. 50 operations.
+    /// Fills the next page of an image with this one, which fits, and makes it complete. 50 operations.
     pub fn fill_page<N: Nor>(
         &mut self,
         nor: &mut N,

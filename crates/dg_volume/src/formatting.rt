@@ -1,4 +1,4 @@
-//! Formatting: a chip becomes a volume that keeps golden alone.
+//! Formatting: a chip becomes a volume that keeps only golden.
 ghost use Rattle.std.specs.Prelude.{◌≡◌, ◌↔◌, ◌⊎◌, ℕ, ◌+◌, ◌*◌, ◌/◌, ◌%◌, ◌<◌, ◌≤◌, ⊤, false, Err, OnOk, OnErr, IfOk, IsErrOf};
 ghost use Rattle.std.specs.Prelude.{IsTrue, length, slice_index};
 ghost use Rattle.dg_base.specs.Texts.{spells_name};
@@ -27,9 +27,9 @@ use dg_object::{SizeFault, check_size, page_of, pages_of, profile_of};
 use dg_slot::{DirtySlot, OpenSlot};
 
 impl Volume {
-    /// Makes the chip a volume that keeps golden alone: with this name, of 1 to 70,656 bytes. `used` commits, at most
-    /// 520,223, are told as spent. The snapshot is written in the form of that number.
-    /// Golden stands in its slot before the control sectors are touched.
+    /// Formats the chip as a volume that keeps only golden, with this name and these 1 to 70,656 bytes. `used` commits, at most
+    /// 520,223, are recorded as spent. The snapshot is written in form `form`. Golden is in its slot before the control sectors
+    /// are touched.
     pub fn format<N: Nor>(
         nor: &mut N,
         golden: &[u8],
@@ -42,7 +42,7 @@ impl Volume {
         requires known_form { (form ≡ old_form) ⊎ (form ≡ new_form) }
         ensures formatted { OnOk result (Stands (N.device nor.new).image (fresh name.now golden.now used)) }
         ensures form { OnOk result (HasForm (N.device nor.new).image form) }
-        // the places before the snapshot are told as spent
+        // the places before the snapshot are recorded as spent
         ensures spent { OnOk result ((i : ℕ) → i < used % places
             → slice_index (place_in (sector (N.device nor.new).image (current (used / places))) i) 0 ≡ 0) }
         ensures orderly { OnOk result (IsOrderlyChip (N.device nor.new).image) }
@@ -72,7 +72,7 @@ impl Volume {
     }
 }
 
-/// Writes golden into its slot, whole. 2 operations, and 50 for each page.
+/// Writes all of golden into its slot. 2 operations, and 50 for each page.
 fn write_golden<N: Nor>(nor: &mut N, golden: &[u8], name: &[u8]) -> Result<(), Stopped>
     requires some { 1 ≤ length golden.now }
     requires fits { length golden.now ≤ most_bytes }

@@ -31,12 +31,11 @@ use dg_nor::{Nor, Stopped};
 use dg_object::{SizeFault, check_size};
 
 impl Volume {
-    /// Keeps an image whole, in place of an older version of it. A version that is kept in part is resumed at its next
-    /// page, and where it is whole nothing changes.
+    /// Keeps an image whole, in place of an older version of it. A version that is kept in part is resumed at its next page. If
+    /// it is whole, nothing changes.
     ///
-    /// The image has 1 to 70,656 bytes and number 1 to 6. What refuses it is looked for in this order: `Empty`,
-    /// `TooLarge`, `Reserved`, `Stale`, `Taken`, for which page 0 of the slot may be read, and `Worn`. These change
-    /// nothing.
+    /// The image has 1 to 70,656 bytes and number 1 to 6. Refusals are checked in this order: `Empty`, `TooLarge`, `Reserved`,
+    /// `Stale`, `Taken` (for which page 0 of the slot may be read), and `Worn`. A refused injection changes nothing.
     pub fn inject<N: Nor>(
         &mut self,
         nor: &mut N,
@@ -55,7 +54,7 @@ impl Volume {
         ensures same_reference { (N.device nor.new).references ≡ (N.device nor.old).references }
         ensures free { OnOk result (NothingLent self.new) }
         ensures pages { IfOk result (λ i. i.pages ≡ pages_for (length bytes.now)) }
-        // one that is whole changes nothing
+        // a version that is whole already changes nothing
         ensures again { OnOk result (IsSomeAnd (kept_at self.old image) (λ k. (k.version ≡ version) × (k.done ≡ k.pages))
             → Looked (N.device nor.old) (N.device nor.new) × (self.new ≡ self.old)) }
         ensures awake { OnOk result ((N.device nor.old).stopped ≡ false) }
@@ -82,7 +81,7 @@ impl Volume {
         }
     }
 
-    /// Fills what is missing of a version that is kept, where that is this image.
+    /// Fills the missing pages of a version that is kept, if it is this image.
     fn resume<N: Nor>(
         &mut self,
         nor: &mut N,
@@ -152,7 +151,8 @@ impl Volume {
     }
 }
 
-/// Why an image is refused, if it is, wherever its version is not the one that is kept. Of that one [`differs_from_kept`] tells.
+/// Why an image is refused by its size, its number or a larger version that is kept. [`differs_from_kept`] compares it with an
+/// equal version.
 pub fn injection_fault(
     kept: Option<Kept>,
     image: u8,
@@ -182,8 +182,8 @@ pub fn injection_fault(
     }
 }
 
-/// Whether what is kept of a version is another image: it has another profile, or another page 0. `Stopped` where the board
-/// stops as that page is read.
+/// Whether the kept version differs from this image, in its profile or in page 0. `Stopped` if the device stops while that page
+/// is read.
 pub fn differs_from_kept<N: Nor>(
     nor: &mut N,
     new: &NewImage<'_>,

@@ -38,20 +38,20 @@ use crate::TAKE_COMMITS;
 use dg_control::a_chip_has_one_form;
 use dg_object::a_descriptor_is_tested;
 
-/// The constant of this crate is the number of its definitions, and program memory stands after the control sectors.
+/// The constant of this crate equals the number in its definitions, and program memory comes after the control sectors.
 pub fn a_volume_has_these_sizes()
     ensures take { TAKE_COMMITS ≡ most_take_commits }
     ensures program { program_sector 0 ≡ control_sectors }
 {}
 
-/// Two stores that one chip stands for are one. So a mounted volume tells every store that its chip stands for.
+/// Two stores that one chip stands for are equal. So a mounted volume exposes every store that its chip stands for.
 pub fn a_chip_stands_for_one_store()
     ensures one { (c : List ℕ) (s t : Store) → Stands c s → Stands c t → s ≡ t }
     ensures told { (c : List ℕ) (v : Volume) (s : Store) → IsMounted c v → Stands c s → Tells v s }
 {}
 
-/// A chip is mounted in one way: each mount of it gives the same control, and tells the same of each slot, by halving
-/// or not.
+/// Mounting is deterministic: each mount of a chip gives the same control and reports the same for each slot, by halving or
+/// not.
 pub fn a_volume_is_mounted_in_one_way()
     ensures control { (c : List ℕ) (v w : Volume) → IsMounted c v → IsMounted c w → control_of v ≡ control_of w }
     ensures kept { (c : List ℕ) (v w : Volume) → IsMounted c v → IsMounted c w → (i : ℕ) → i < images
@@ -67,13 +67,13 @@ pub fn a_volume_has_one_form()
     a_chip_has_one_form();
 }
 
-/// A volume has one number of bytes that mounting it again reads at most.
+/// For each volume there is exactly one bound on the bytes that mounting it again reads.
 pub fn a_volume_bounds_a_remount()
     ensures some { (c : List ℕ) → IsVolume c → (n : ℕ) × RemountBytes c n }
     ensures one { (c : List ℕ) (m n : ℕ) → RemountBytes c m → RemountBytes c n → m ≡ n }
 {}
 
-/// What a chip stands for has a slot for each image, and an order in its ranges.
+/// A store that a chip stands for has a slot for each image, and an order in its ranges.
 pub fn a_chip_stands_for_a_shaped_store()
     ensures { (c : List ℕ) (s : Store) → Stands c s → IsShaped s }
 {}
@@ -95,15 +95,15 @@ pub fn trails_join()
         → Stops (joined t u) a c }
 {}
 
-/// Trails that leave the store as it is, and trails of one stage.
+/// Trails that leave the store unchanged, and trails of one stage.
 pub fn trails_of_one_stage()
     ensures resting { (s : Store) (n : ℕ) → (operations (resting s n) ≡ n) × (last (resting s n) ≡ s) × BeginsAt s (resting s n) }
     ensures stepping { (s next : Store) (n : ℕ) → (operations (stepping s n next) ≡ n) × (last (stepping s n next) ≡ next)
         × (0 < n → BeginsAt s (stepping s n next)) }
 {}
 
-/// What other crates write stays out of what a chip stands for: blank program memory is free, and the slot of a kept
-/// image counts only by what it keeps.
+/// What other crates write does not change what a chip stands for: blank program memory is free, and the slot of a kept image
+/// counts only by what it keeps.
 pub fn what_is_after_the_commits_does_not_count()
     ensures memory { (c d : List ℕ) (v : Volume) (s : Store) → s.app ≡ None → Touches (program_sector 0) program_end c d
         → Mounted c v s → Mounted d v s }
@@ -115,10 +115,10 @@ pub fn what_is_after_the_commits_does_not_count()
         → MountedBut (λ j. j ≡ i) d v (keeping i (Some g) s) }
 {}
 
-/// A page of a lent slot is filled. What is told of that slot does not count until it is put back.
+/// A page of a lent slot is filled. What is reported of that slot does not count until it is put back.
 ///
-/// While the sector of the page is erased and its packets are programmed, the store stays, and when it is sealed, one
-/// page more is complete. A stop leaves the one or the other.
+/// While the sector of the page is erased and its packets are programmed, the store is unchanged. When the page is sealed, one
+/// more page is complete. A stop leaves the one or the other.
 pub fn a_lent_slot_is_filled()
     ensures lent { (c : List ℕ) (v : Volume) (s : Store) (i : ℕ) → Mounted c v s → MountedBut (λ j. j ≡ i) c v s }
     ensures filling { (c d : List ℕ) (v : Volume) (s : Store) (i : ℕ) (h : Held) → 1 ≤ i → i < images → held s i ≡ Some h
@@ -140,8 +140,8 @@ pub fn a_lent_slot_is_filled()
         → SlotStops i (seal_trail i h page) a b → Stops (sealing_trail s i h page) a b }
 {}
 
-/// A slot is written without a volume. Where what is kept of its image stays, the chip stands for what it stood for, also after a
-/// stop. Where nothing is kept of it, that holds whatever is written.
+/// A slot is written without a volume. If what is kept of its image is unchanged, the chip stands for the same store, also
+/// after a stop. If nothing is kept of it, that holds whatever is written.
 pub fn a_slot_is_written_alone()
     ensures same { (c d : List ℕ) (s : Store) (i : ℕ) → i < images → Touches (header_sector i) (slot_end i) c d
         → IfSome (held s i) (KeepsImage d i) → Stands c s → Stands d s }
@@ -164,8 +164,8 @@ pub fn trails_begin()
     ensures boot { (cause : StartCause) (s : Store) → BeginsAt s (boot cause s).trail }
 {}
 
-/// The trails of acts on a store that agrees with a table go through stores that agree, where what is taken or injected
-/// is the table's row.
+/// The trails of acts on a store that agrees with a table go through stores that agree, if what is taken or injected is a row
+/// of the table.
 pub fn trails_keep_agreement()
     ensures order { (table : List Row) (s : Store) (order : Order) → Agrees table s
         → Through (Agrees table) (order_trail s order) }
@@ -177,7 +177,7 @@ pub fn trails_keep_agreement()
         → row_at table row.image row.version ≡ Some row → Agrees table s → Through (Agrees table) (inject_trail s row) }
     ensures boot { (table : List Row) (cause : StartCause) (s : Store) → Agrees table s
         → Through (Agrees table) (boot cause s).trail }
-    // one page more of what is kept of a row, after n operations
+    // one more page of a row that is kept in part, after n operations
     ensures page { (table : List Row) (s : Store) (row : Row) (h : Held) (n : ℕ) → 1 ≤ row.image → row.image < length s.kept
         → row_at table row.image row.version ≡ Some row → held s row.image ≡ Some h → h.version ≡ row.version
         → length h.complete < length (object row)
@@ -189,8 +189,8 @@ pub fn trails_keep_agreement()
     ensures ends { (table : List Row) (t : Trail Store) → Through (Agrees table) t → Agrees table (last t) }
 {}
 
-/// The trails of acts on a consistent store go through consistent stores, whatever is taken, and whatever page is
-/// sealed that has the CRC that is kept of it. A start runs golden, or pages that fit their own descriptor.
+/// The trails of acts on a consistent store go through consistent stores, whatever profile is taken and whatever page with the
+/// kept CRC is sealed. A start runs golden, or pages that fit their own descriptor.
 pub fn trails_keep_consistency()
     ensures fresh { (name bytes : List ℕ) (used : ℕ) → IsRow (golden_row name bytes)
         → Consistent (golden_row name bytes) (fresh name bytes used) }
@@ -207,7 +207,7 @@ pub fn trails_keep_consistency()
         → Through (Consistent golden) (boot cause s).trail }
     ensures starts { (golden : Row) (cause : StartCause) (s : Store) → Consistent golden s
         → IfSome (boot cause s).runs (λ r. IsSoundApp golden (app_of r)) }
-    // one page more that may be sealed, after n operations
+    // one more page that may be sealed, after n operations
     ensures page { (golden : Row) (s : Store) (image : ℕ) (h : Held) (page : List ℕ) (n : ℕ) → 1 ≤ image
         → image < length s.kept → held s image ≡ Some h → may_seal image h page ≡ true
         → Consistent golden s → Through (Consistent golden) (stepping s n (paged image page s)) }
@@ -219,8 +219,8 @@ pub fn trails_keep_consistency()
     a_descriptor_is_tested();
 }
 
-/// Where a store agrees with a table, the pages that are kept of a row's version are its first ones, and with the next
-/// one complete it agrees too.
+/// If a store agrees with a table, the pages that are kept of a row's version are the first pages of the row. With the next one
+/// complete the store still agrees.
 pub fn an_agreeing_store_keeps_rows()
     ensures pages { (table : List Row) (s : Store) (row : Row) → row_at table row.image row.version ≡ Some row
         → Agrees table s → IfSome (held s row.image) (KeepsPagesOf row) }
@@ -238,7 +238,7 @@ pub fn a_whole_image_is_sound()
     ensures { (row : Row) → IsRow row → RowLaws row }
 {}
 
-/// Where acts end.
+/// The stores in which acts end.
 pub fn acts_end()
     ensures order { (s : Store) (order : Order) → last (order_trail s order) ≡ ordered s order }
     ensures clear { (s : Store) → last (clear_trail s) ≡ gesture_cleared s }
@@ -253,8 +253,8 @@ pub fn acts_end()
         → IfSome (held s row.image) (KeepsPagesOf row) → last (inject_trail s row) ≡ injected s row }
 {}
 
-/// Where a start ends, and what it starts. First it is counted, where it counts. Then it is golden by the gesture, the
-/// ordered image where an order waits, and else what is in program memory, or golden where that is blank.
+/// The store in which a start ends, and what it starts. First the start is counted, if it counts. Then golden is started by the
+/// gesture, or the ordered image if an order waits. Otherwise it is what is in program memory, or golden if that is blank.
 pub fn starts_end()
     ensures count { (cause : StartCause) (s : Store) → last (count_trail cause s) ≡ if counts cause s
         then record (spent s) { gesture = s.gesture + 1 } else s }
@@ -267,7 +267,7 @@ pub fn starts_end()
         → BootEnds (boot_counted s) (app_runs app) s }
     ensures blank { (s : Store) → by_gesture s ≡ false → order_waits s ≡ false → s.app ≡ None
         → boot_counted s ≡ golden_boot s (s.gesture == short_starts) }
-    // golden is copied, or it stands in program memory
+    // golden is copied, or it is in program memory already
     ensures golden_copied { (s : Store) (three : Bool) → is_set_to s.app 0 golden_version ≡ false → sound s 0 ≡ true
         → BootEnds (golden_boot s three) (kept_runs s 0 golden_version)
         (golden_started (blanked s) (kept_runs s 0 golden_version) three) }
@@ -276,14 +276,14 @@ pub fn starts_end()
         → BootEnds (golden_boot s three) (golden_runs app) (golden_started s (golden_runs app) three) }
 {}
 
-/// A start leaves kept images and the order as they are, runs golden, what program memory was Set to or the ordered
-/// image, and ends with program memory Set to what runs, or blank where that is golden.
+/// A start leaves kept images and the order unchanged. It runs golden, what program memory was Set to, or the ordered image. It
+/// ends with program memory Set to what runs, or blank if that is golden.
 pub fn a_start_ends()
     ensures { (cause : StartCause) (s : Store) → Boots s (boot cause s) }
 {}
 
-/// The next page of an image of which the first pages are kept may be sealed, and so may all that are missing, one
-/// after the other. With the last one it is whole.
+/// If the first pages of an image are kept, its next page may be sealed, and so may all missing pages, one after the other.
+/// With the last one the image is whole.
 pub fn a_row_is_filled_page_by_page()
     ensures next { (row : Row) (n : ℕ) → IsRow row → n < length (object row)
         → may_seal row.image (held_to row n) (slice_index_or (object row) n []) ≡ true }
@@ -292,7 +292,7 @@ pub fn a_row_is_filled_page_by_page()
     ensures whole { (row : Row) → held_to row (length (object row)) ≡ held_whole row }
     ensures rest { (row : Row) (s : Store) (n : ℕ) → IsRow row → row.image < length s.kept
         → held s row.image ≡ Some (held_to row n) → FitAll row.image (drop n (object row)) s }
-    // so may they where the profile is the row's, and page 0, whatever the other pages are
+    // the same if the profile and page 0 are the row's, whatever the other pages are
     ensures part { (row : Row) (h : Held) (s : Store) → IsRow row → PartOf row h → row.image < length s.kept
         → held s row.image ≡ Some h
         → FitAll row.image (drop (length h.complete) (object row)) s }
@@ -300,7 +300,7 @@ pub fn a_row_is_filled_page_by_page()
     a_descriptor_is_tested();
 }
 
-/// What is found in a table of images is a row of that image version, it is sound, and its pages may be sealed one after the
+/// A lookup in a table of images finds a row of that image version. It is sound, and its pages may be sealed one after the
 /// other.
 pub fn a_table_holds_sound_rows()
     ensures image_version { (table : List Row) (image version : ℕ) (row : Row) → row_at table image version ≡ Some row
@@ -313,7 +313,7 @@ pub fn a_table_holds_sound_rows()
     a_descriptor_is_tested();
 }
 
-/// Where a store has an image in program memory, the chip's program memory holds its pages.
+/// If a store has an image in program memory, the chip's program memory holds its pages.
 pub fn program_memory_holds_the_app()
     ensures { (c : List ℕ) (s : Store) (app : App) → Stands c s → s.app ≡ Some app → program c (length app.pages) ≡ app.pages }
 {}

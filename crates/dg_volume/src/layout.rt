@@ -1,4 +1,4 @@
-//! Sizes of a chip, and where its parts stand.
+//! Sizes of a chip, and where its parts are.
 pub(crate) use dg_control::GOLDEN;
 pub(crate) use dg_object::{PACKET_SIZE, PAGE_SIZE};
 pub(crate) use dg_slot::PROGRAM_SECTOR as PROGRAM;

@@ -14,15 +14,15 @@ use dg_object::Profile;
 use dg_slot::OpenSlot;
 
 impl Volume {
-    /// Lends the slot of an image: `None` where nothing is kept of the image, or its slot is lent already.
+    /// Lends the slot of an image: `None` if nothing is kept of the image, or its slot is lent already.
     pub fn slot(&mut self, image: u8) -> Option<OpenSlot>
         requires known_image { image < images }
-        // it stands for some chip
+        // it is a mounted volume of some chip
         requires mounted { (c : List ℕ) × IsMounted c self.old }
         ensures lends { IfSome result (λ o. ((outline_of_slot o).image ≡ image)
             × ((c : List ℕ) (s : Store) (h : Held) → Mounted c self.old s → held s image ≡ Some h → IsOpen c o h)) }
         ensures none { IsNone result ↔ ((kept_at self.old image ≡ None) ⊎ (is_lent self.old image ≡ true)) }
-        // it tells what the volume tells of the image
+        // the slot reports what the volume reports of the image
         ensures told { IfSome result (λ o. kept_at self.old image ≡ Some (kept_told o)) }
         ensures same { IsNone result → self.new ≡ self.old }
         ensures control { control_of self.new ≡ control_of self.old }
@@ -42,7 +42,7 @@ impl Volume {
         Some(open_slot(image, &kept))
     }
 
-    /// Takes a lent slot back, perhaps with more pages done.
+    /// Takes a lent slot back, possibly with more pages complete.
     pub fn put_back(&mut self, slot: OpenSlot)
         requires { is_lent self.old (outline_of_slot slot).image ≡ true }
         ensures mounted { (c : List ℕ) (s : Store) (h : Held) → MountedBut (λ i. i ≡ (outline_of_slot slot).image) c self.old s
@@ -65,7 +65,7 @@ impl Volume {
     }
 }
 
-/// The open slot of an image of which this is kept.
+/// The open slot of an image, for what is kept of it.
 fn open_slot(image: u8, kept: &Kept) -> OpenSlot
     requires known_image { image < images }
     requires some_version { 1 ≤ kept.now.version }

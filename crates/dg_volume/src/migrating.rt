@@ -1,4 +1,4 @@
-//! Migration: a chip whose last commit is of the older form is written in today's.
+//! Migration: a chip whose last commit has the older form is committed in the current form.
 ghost use Rattle.std.specs.Prelude.{◌≡◌, ◌↔◌, ◌⊎◌, false, Err, OnOk};
 ghost use Rattle.dg_nor.specs.Chip.{Touches};
 ghost use Rattle.dg_control.specs.Store.{HasForm};
@@ -13,9 +13,9 @@ use dg_control::{CommitFault, OLD_FORM, a_chip_has_one_form};
 use dg_nor::Nor;
 
 impl Volume {
-    /// Writes a chip of form 1 in form 2: one commit of the same snapshot. Where its form is 2, nothing is done.
+    /// Migrates a chip of form 1 to form 2: one commit of the same snapshot. If its form is 2 already, nothing is done.
     ///
-    /// A stop leaves the one form or the other.
+    /// A stop leaves either form.
     pub fn migrate<N: Nor>(&mut self, nor: &mut N) -> Result<(), CommitFault>
         requires mounted { IsMounted (N.device nor.old).image self.old }
         requires free { NothingLent self.old }

@@ -48,7 +48,7 @@ impl Volume {
     }
 }
 
-/// Whether this is golden: its version, and whole.
+/// Whether this is golden: it has golden's version, and is whole.
 fn is_golden(kept: &Option<Kept>) -> bool
     ensures { IsTrue result ↔ IsSomeAnd kept.now (λ k. (k.version ≡ golden_version) × (k.done ≡ k.pages)) }
 {
@@ -93,7 +93,7 @@ fn mount_slot<N: Nor>(nor: &mut N, image: u8, slot: SlotState) -> Result<Option<
     }
 }
 
-/// What a slot keeps that is Live with this version.
+/// What a slot that is Live with this version keeps.
 fn mount_live<N: Nor>(nor: &mut N, image: u8, version: u32) -> Result<Kept, MountFault>
     requires known_image { image < images }
     requires some_version { 1 ≤ version }
@@ -109,7 +109,7 @@ fn mount_live<N: Nor>(nor: &mut N, image: u8, version: u32) -> Result<Kept, Moun
     }
 }
 
-/// What a slot tells of its image.
+/// What an open slot reports of its image.
 pub(crate) fn kept_in(slot: &OpenSlot) -> Kept
     ensures { (h : Held) → Opens slot.now h → result ≡ told_held h }
 {
@@ -122,7 +122,7 @@ pub(crate) fn kept_in(slot: &OpenSlot) -> Kept
     }
 }
 
-/// Looks whether program memory that is Set begins with its descriptor.
+/// Checks that program memory, if it is Set, begins with its descriptor.
 fn mount_program<N: Nor>(nor: &mut N, program: Program) -> Result<(), MountFault>
     ensures app { OnOk result ((app : Option App) × ProgramHolds (N.device nor.old).image program app) }
     ensures none { IsErrOf result MountFault.NotAVolume → (app : Option App)

@@ -34,7 +34,7 @@ impl NewImage<'_> {
         page_of(self.bytes, self.image, self.version, self.name, p, into);
     }
 
-    /// What is told of it before any page. `first` is its page 0.
+    /// Its profile, which is announced before any page. `first` is its page 0.
     pub fn profile(&self, first: &[u8; PAGE_SIZE]) -> Profile
         requires { first.now ≡ page_of_row (row_of self.now.image self.now.version self.now.name.now self.now.bytes.now) 0 }
         ensures { outline_of result ≡ profile (row_of self.now.image self.now.version self.now.name.now self.now.bytes.now) }

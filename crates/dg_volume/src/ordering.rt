@@ -15,12 +15,12 @@ use crate::volume::{OrderFault, Volume};
 use dg_control::Order;
 use dg_nor::{Nor, Stopped};
 
-/// The commits of an order.
+/// The commits that an order takes.
 const COMMITS: u32 = 1;
 
 impl Volume {
-    /// Keeps an order, which is not waived. One commit. Nothing is read, and a chip that may be mounted again by halving stays
-    /// one: that reads at most one place more.
+    /// Keeps an order, which is not waived. One commit. Nothing is read. A chip that may be mounted again by halving stays one,
+    /// and that reads at most one more place.
     pub fn order<N: Nor>(
         &mut self,
         nor: &mut N,

@@ -1,5 +1,5 @@
-//! A chip that is known to be an orderly volume is mounted again: its control by halving, and of each slot that is
-//! Live the header alone.
+//! A chip that is known to be an orderly volume is mounted again: its control is found by halving, and only the header of each
+//! Live slot is read.
 ghost use Rattle.std.specs.Prelude.{◌≡◌, ◌↔◌, ◌*◌, ◌<◌, ◌≤◌, ℕ, List, false, Option, None, OnOk, OnErr, IfOk, IsTrue};
 ghost use Rattle.std.specs.Prelude.{slice_index_or};
 ghost use Rattle.dg_nor.specs.Device.{Took};
@@ -23,8 +23,8 @@ use dg_nor::{Nor, Stopped};
 use dg_slot::OpenSlot;
 
 impl Volume {
-    /// Mounts a chip again that is known to be an orderly volume. It gives the value that `mount` gives, and reads
-    /// less: neither pages nor program memory, and the control by halving.
+    /// Mounts again a chip that is known to be an orderly volume. It gives the value that `mount` gives, and reads less:
+    /// neither pages nor program memory, and the control by halving.
     pub fn remount<N: Nor>(nor: &mut N) -> Result<Volume, Stopped>
         requires volume { IsVolume (N.device nor.old).image }
         requires orderly { IsOrderlyChip (N.device nor.old).image }
@@ -49,8 +49,8 @@ impl Volume {
         })
     }
 
-    /// Whether the chip may be mounted again by `remount`: no blank place of the control sector stands before one that
-    /// is not blank.
+    /// Whether the chip may be mounted again by `remount`: in the control sector no blank place comes before one that is not
+    /// blank.
     pub fn orderly(&self) -> bool
         ensures { (c : List ℕ) → IsControlOf c (control_of self.now) → IsTrue result ↔ IsOrderlyChip c }
     {
@@ -58,7 +58,7 @@ impl Volume {
     }
 }
 
-/// What each slot keeps, of which it is known that it keeps what its state says.
+/// What each slot keeps. It is known that each keeps what its state says.
 fn remount_slots<N: Nor>(
     nor: &mut N,
     snapshot: &Snapshot,
@@ -80,7 +80,7 @@ fn remount_slots<N: Nor>(
     Ok(kept)
 }
 
-/// What a slot keeps, of which it is known that it keeps what its state says.
+/// What a slot keeps. It is known that it keeps what its state says.
 fn remount_slot<N: Nor>(nor: &mut N, image: u8, slot: SlotState) -> Result<Option<Kept>, Stopped>
     requires known_image { image < images }
     requires in_range { IsTrue (slot_fits slot) }
@@ -96,7 +96,7 @@ fn remount_slot<N: Nor>(nor: &mut N, image: u8, slot: SlotState) -> Result<Optio
     }
 }
 
-/// What a slot keeps that is known to be Live with this version.
+/// What a slot that is known to be Live with this version keeps.
 fn remount_live<N: Nor>(nor: &mut N, image: u8, version: u32) -> Result<Kept, Stopped>
     requires known_image { image < images }
     requires some_version { 1 ≤ version }

@@ -12,7 +12,7 @@ use crate::layout::PAGE_SIZE;
 use dg_nor::{Nor, Stopped};
 use dg_slot::OpenSlot;
 
-/// Fills the next page of a slot, which this one fits, and makes it complete. 50 operations.
+/// Fills the next page of a slot with this one, which fits, and makes it complete. 50 operations.
 pub(crate) fn fill_next<N: Nor>(
     nor: &mut N,
     slot: OpenSlot,

@@ -24,14 +24,14 @@ use dg_nor::{Nor, Stopped};
 use dg_object::Profile;
 use dg_slot::{DirtySlot, OpenSlot};
 
-/// The commits of a take where the slot is Live: it becomes Dirty, and then Live.
+/// The commits of a take if the slot is Live: it becomes Dirty, and then Live.
 pub const TAKE_COMMITS: u32 = 2;
 
 impl Volume {
     /// Takes the slot of an image for a profile, of which no page is complete. The slot is lent.
     ///
-    /// What refuses it is looked for in this order: `Reserved` for golden, `Stale` where this version or a larger one is
-    /// kept, `Worn` where fewer than 2 commits are left. These change nothing.
+    /// Refusals are checked in this order: `Reserved` for golden, `Stale` if this version or a larger one is kept, `Worn` if
+    /// fewer than 2 commits are left. A refused take changes nothing.
     pub fn take<N: Nor>(
         &mut self,
         nor: &mut N,
@@ -67,7 +67,7 @@ impl Volume {
         }
     }
 
-    /// Why a taking is refused.
+    /// Why a take is refused.
     fn take_fault(&self, image: u8, version: u32) -> Option<TakeFault>
         requires known_image { image < images }
         ensures refusal { (s : Store) (p : Outline) → Tells self.now s → p.image ≡ image → p.version ≡ version
@@ -91,7 +91,7 @@ impl Volume {
         None
     }
 
-    /// Takes the slot of an image, which is not refused.
+    /// Takes the slot of an image. The take is not refused.
     pub(crate) fn replace<N: Nor>(
         &mut self,
         nor: &mut N,
@@ -119,7 +119,7 @@ impl Volume {
         self.begin(nor, profile)
     }
 
-    /// Commits a slot as Dirty, where it is Live.
+    /// Commits a slot as Dirty, if it is Live.
     fn give_up<N: Nor>(&mut self, nor: &mut N, image: u8) -> Result<(), Stopped>
         requires mounted { IsMounted (N.device nor.old).image self.old }
         requires not_golden { 1 ≤ image }
@@ -170,7 +170,7 @@ impl Volume {
         Ok(slot)
     }
 
-    /// Commits that this is kept of an image, as it is in its slot.
+    /// Commits what is kept of an image. It is in the slot already.
     fn commit_kept<N: Nor>(
         &mut self,
         nor: &mut N,
@@ -215,7 +215,7 @@ impl Volume {
     }
 }
 
-/// What is told of an image that is begun.
+/// What is reported of an image of which no page is complete yet.
 fn begun(profile: &Profile) -> Kept
     ensures { result ≡ told_held (held_begun (outline_of profile.now)) }
 {
@@ -227,7 +227,7 @@ fn begun(profile: &Profile) -> Kept
     }
 }
 
-/// The state of a slot of which this is kept.
+/// The state of a slot, for what is kept in it.
 fn slot_state(kept: &Option<Kept>) -> SlotState
     ensures dirty { IfNone kept.now (result ≡ slot_states.Dirty) }
     ensures live { IfSome kept.now (λ k. result ≡ slot_states.Live k.version) }

@@ -1,4 +1,4 @@
-//! What a mounted volume tells of its chip, without a read.
+//! What a mounted volume reports of its chip, without a read.
 ghost use Rattle.std.specs.Prelude.{◌≡◌, ◌⊎◌, ◌<◌, ℕ, List, None, slice_index_or};
 ghost use Rattle.dg_control.specs.Store.{HasForm};
 ghost use Rattle.dg_volume.specs.Sizes.{images, old_form, new_form};

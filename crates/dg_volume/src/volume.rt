@@ -1,10 +1,10 @@
-//! A mounted volume, and why a call on a volume is not done.
+//! A mounted volume, and why a call on a volume fails.
 use dg_control::{Control, IMAGES};
 
 /// Why a mote starts.
 #[derive(Clone, Copy, Debug, PartialEq, Eq)]
 pub enum StartCause {
-    /// Its power came.
+    /// It powers on.
     Power,
     /// An order waits.
     Order,
@@ -28,9 +28,9 @@ pub struct Injected {
 /// Why a chip was not formatted.
 #[derive(Clone, Copy, Debug, PartialEq, Eq)]
 pub enum FormatFault {
-    /// The chip is stopped. It is formatted again.
+    /// The chip is stopped. It has to be formatted again.
     Stopped,
-    /// The golden image has no byte.
+    /// The golden image has no bytes.
     Empty,
     /// The golden image has more than 70,656 bytes.
     TooLarge,
@@ -41,18 +41,18 @@ pub enum FormatFault {
 pub enum MountFault {
     /// The chip is stopped.
     Stopped,
-    /// Its bytes are no volume.
+    /// Its bytes are not a volume.
     NotAVolume,
 }
 
 /// Why a slot was not taken.
 #[derive(Clone, Copy, Debug, PartialEq, Eq)]
 pub enum TakeFault {
-    /// The chip is stopped. It is mounted again.
+    /// The chip is stopped. It has to be mounted again.
     Stopped,
     /// This version or a larger one is kept.
     Stale { kept: u32 },
-    /// Image 0 is golden, which is written by formatting alone.
+    /// Image 0 is golden, which only formatting writes.
     Reserved,
     /// There is no room for two commits.
     Worn { room: u32 },
@@ -61,15 +61,15 @@ pub enum TakeFault {
 /// Why an image was not injected.
 #[derive(Clone, Copy, Debug, PartialEq, Eq)]
 pub enum InjectFault {
-    /// The chip is stopped. It is mounted again.
+    /// The chip is stopped. It has to be mounted again.
     Stopped,
-    /// The image has no byte.
+    /// The image has no bytes.
     Empty,
     /// The image has more than 70,656 bytes.
     TooLarge,
     /// A larger version is kept.
     Stale { kept: u32 },
-    /// Image 0 is golden, which is written by formatting alone.
+    /// Image 0 is golden, which only formatting writes.
     Reserved,
     /// The version is not kept, and there is no room for two commits.
     Worn { room: u32 },
@@ -80,7 +80,7 @@ pub enum InjectFault {
 /// Why an order was not kept.
 #[derive(Clone, Copy, Debug, PartialEq, Eq)]
 pub enum OrderFault {
-    /// The chip is stopped. It is mounted again.
+    /// The chip is stopped. It has to be mounted again.
     Stopped,
     /// There is no room for a commit.
     Worn { room: u32 },
@@ -88,13 +88,13 @@ pub enum OrderFault {
     OldOrder { kept: u32 },
 }
 
-/// What a chip keeps, as the last call on both of them left it. After `Stopped` it stands for nothing: the chip is
-/// mounted again.
+/// What a chip keeps, as the last call with the volume and the chip left it. After `Stopped` the value is invalid: the chip has
+/// to be mounted again.
 #[derive(Drop)]
 pub struct Volume {
     pub(crate) control: Control,
-    /// What is kept of each image, but for pages that were made complete in a lent slot.
+    /// What is kept of each image, except pages that were made complete in a lent slot.
     pub(crate) kept: [Option<Kept>; IMAGES],
-    /// Whose slots are lent.
+    /// The images whose slots are lent.
     pub(crate) lent: [bool; IMAGES],
 }

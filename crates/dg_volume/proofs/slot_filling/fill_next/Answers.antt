@@ -13,7 +13,7 @@ pub returns-in_err-job-clause-stops : goal.returns-in_err-job-clause-stops
 returns-in_err-job-clause-stops g c = OnErr_from c.from_residual.result (λ h opened.
     erase_stops (outline_of_slot c.args.slot).image h c.args.page.now _ _ (c.begin_page.ensures.kept h opened).keeps c.in_err-job.ensures.stopped)
 
--- what the slot keeps stays while packets are put
+-- what the slot keeps is unchanged while packets are put
 put_kept : (o p : OpenSlot) (a b : List ℕ) (h : Held) → p ≡ o → (IsOpen a p h → IsOpen b p h) → IsOpen a o h → KeepsImage b (outline_of_slot o).image h
 put_kept o p a b h same kept opened = (subst (λ (x : OpenSlot). IsOpen a x h → IsOpen b x h) same kept opened).keeps
 

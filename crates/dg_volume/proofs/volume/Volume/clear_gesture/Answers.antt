@@ -39,7 +39,7 @@ returns-in_err-keep-clause-stopped g c = OnErr_from c.from_residual.result (λ s
     }) in
     commit_stops c.args.self.now.control c.with_start-next.result s (gesture_cleared s) _ _ commits c.keep.ensures.touches c.in_err-keep.ensures.stopped)
 
--- the slot that a page job fills stands behind the control sectors
+-- the slot that a page job fills comes after the control sectors
 job_kept : (c d : List ℕ) (j : PageJob) (h : Held) (ps : Packets) → Touches 0 control_sectors c d → IsJob c j h ps → IsJob d j h ps
 job_kept c d j h ps touches job =
     let known = (slot_of j).known in

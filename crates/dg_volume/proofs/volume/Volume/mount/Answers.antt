@@ -30,7 +30,7 @@ fault_back r e control.Stopped p q s =
 same_fault : {T U : Type 0} (r : Result T MountFault) (e f : MountFault) → r ≡ Err NotAVolume → r ≡ Err e → e ≡ f → ◌≡◌ {A = Result U MountFault} (Err f) (Err NotAVolume)
 same_fault r e f p q s = let h : e ≡ NotAVolume = cc in ap Err (sym s ∙ h)
 
--- the slots and program memory of a store that the chip stands for, as what was read of its control says them
+-- the slots and program memory of a store that the chip stands for, as its control was read
 stands_slot : (c d : List ℕ) (s : Store) (p r : Snapshot) (room : ℕ) → Controls c p room → r ≡ p → d ≡ c → Stands c s → (i : ℕ) → i < images → SlotKeeps d i (get_or r.slots i Dirty) (held s i)
 stands_slot c d s p r room controls e f stands i known =
     subst (λ (x : List ℕ). SlotKeeps x i (get_or r.slots i Dirty) (held s i)) (sym f)
