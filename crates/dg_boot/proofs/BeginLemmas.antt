@@ -1,4 +1,4 @@
--- The ways of a start begin at the store before it, and each of their stages has an operation.
+-- The trails of a start begin at the store before it, and each of their stages has an operation.
 use Rattle.std.proofs.Common.{ℕ, Bool, true, List, Option, Some, None}
 use Rattle.std.proofs.lemmas.Bool.{cond_both}
 use Rattle.std.specs.Prelude.{◌==◌, ◌&&◌, ◌||◌, not, nat_lt}

@@ -41,7 +41,7 @@ pub on_err_map : {T E P Q : Type 0} (r : Result T E) → OnErr r P → (P → Q)
 on_err_map (Ok x) p f = tt
 on_err_map (Err e) p f = f p
 
--- ---- an act, and what comes behind it
+-- ---- an act, and what comes after it
 
 pub boots_then : (r : Result Started BootFault) (t : Trail Store) (b : Boot) (x y z : Device) (v : Volume) → last t ≡ b.trail.first → TrailWent t x y v → BootOutcome r b y z → BootOutcome r (behind t b) x z
 boots_then (Ok told) t b x y z v same went h =
@@ -131,7 +131,7 @@ read_stops s t x y b stands h = record {
   leaves = record { store = s; stands_for = subst (λ (c : List ℕ). Stands c s) (sym h.same_image) stands; allowed = leaves_begin s t b };
 }
 
--- ---- a copy, which no store tells
+-- ---- a copy, which leaves the store unchanged
 
 pub copy_went : (s : Store) (pages : List (List ℕ)) (a b : Device) (v : Volume) → s.app ≡ None → 0 < length pages → Mounted a.image v s → Touches (program_sector 0) program_end a.image b.image → Ran (copy_operations * length pages) a b → TrailWent (copy_trail s pages) a b v
 copy_went s pages a b v none some m touches ran =
@@ -186,7 +186,7 @@ program_stays : (c d : List ℕ) (n : ℕ) → n ≤ most_pages → Touches 0 co
 program_stays c d n most t =
     same_tables n (λ p. page_in d (program_sector p)) (λ p. page_in c (program_sector p)) (λ p l. ap (λ s. part s 0 page_size) (t.behind (program_sector p) (omega arith) (omega arith)))
 
--- the answer tells this
+-- the result reports this
 pub record Tells (told : Started) (v : Volume) (image version : ℕ) (l : Loaded) : Type 0 where
   pub volume : told.volume ≡ v
   pub image_is : told.image ≡ image
@@ -214,7 +214,7 @@ started_is b r a c d v l told chosen went free tells measures memory most touche
       went.idle,
     )
 
--- ---- a stop that is handed on, and no image
+-- ---- a stop that is forwarded, and no image
 
 pub stopped_boots : (r : Result Started BootFault) (b : Boot) (x y : Device) → IsErrAnd r (λ e. e ≡ faults.Stopped) → Stops b.trail x y → BootOutcome r b x y
 stopped_boots (Ok told) b x y h stops = absurd h

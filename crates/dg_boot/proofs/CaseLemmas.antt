@@ -117,7 +117,7 @@ order_version s i v h waits image version here =
     let w = order_facts s waits in
     ap (λ (g : Held). g.version) (same_some (held s i) h w.found here (ap (held s) image ∙ w.here)) ∙ w.version ∙ sym version
 
--- page 0 of an image that is kept whole has the CRC that is told of it
+-- page 0 of an image that is kept whole has the CRC that is reported of it
 pub first_crc : (c : List ℕ) (v : Volume) (s : Store) (i : ℕ) (k : Kept) → i < images → Mounted c v s → HoldsWhole s i → kept_at v i ≡ Some k → crc_of (page_in c (page_sector i 0)) ≡ k.crc
 first_crc c v s i k known m x is =
     let stands = keeps_found c s i x.found known m.stands x.here in

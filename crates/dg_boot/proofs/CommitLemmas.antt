@@ -71,7 +71,7 @@ counts_room Power s h =
     record { few = below s.gesture short_starts parts.0; room = below 0 s.room parts.1 }
 counts_room Order s h = absurd cc
 
--- ---- commits, by what a snapshot tells
+-- ---- commits, by what a snapshot says
 
 pub advance_told : (s : Store) (app : Option App) (g h : ℕ) (w x : Bool) → g ≡ h → w ≡ x → advance_trail s app g w ≡ advance_trail s app h x
 advance_told s app g h w x e f = ap (λ (n : ℕ). advance_trail s app n w) e ∙ ap (λ (b : Bool). advance_trail s app h b) f

@@ -17,13 +17,13 @@ use Rattle.dg_boot.specs.declared.Started.{Started}
 use Rattle.dg_boot.specs.declared.BootFault.{BootFault}
 use Rattle.dg_boot.specs.declared.BootFault.TheVariants as faults
 
--- ---- the store that stands when a start has ended
+-- ---- the store when a start has ended
 
 -- a chip of these bytes stands for a consistent store
 abbrev pub Stays : Row → List ℕ → Type 0
 Stays golden c = (t : Store) × Stands c t × Consistent golden t
 
--- the room says nothing of it
+-- the room does not matter
 with_room : (golden : Row) (s : Store) (room : ℕ) → Consistent golden s → Consistent golden (record s { room = room })
 with_room golden s room c = record { version = c.version; golden = c.golden; kept = c.kept; app = c.app }
 
@@ -42,13 +42,13 @@ boots_consistent golden (Err faults.NoImage) b x y way h = ends golden b.trail y
 boots_consistent golden (Err faults.Stopped) b x y way h = (h.leaves.store, h.leaves.stands_for, left golden b.trail h.done h.leaves.store way h.leaves.allowed)
 boots_consistent golden (Err faults.NotAVolume) b x y way h = absurd h
 
--- a chip that was only read stands for what it stood for
+-- a chip that was only read stands for the same store
 pub read_consistent : (golden : Row) (s : Store) (before after : List ℕ) → after ≡ before → Stands before s → Consistent golden s → Stays golden after
 read_consistent golden s before after same stands c = (s, subst (λ (image : List ℕ). Stands image s) (sym same) stands, c)
 
 -- ---- what runs
 
--- what is told of a start, and the pages that stand in program memory
+-- what is reported of a start, and the pages in program memory
 abbrev pub app_told : List ℕ → Started → App
 app_told c told = record { image = told.image; version = told.version; pages = program c told.pages }
 

@@ -12,12 +12,12 @@ use Rattle.dg_object.specs.Object.{content, pages_for}
 use Rattle.dg_slot.specs.Layout.{page_size, most_pages, most_bytes}
 use Rattle.dg_base.proofs.CrcLemmas.{crc_more-append, crc_more-nil}
 
--- the front of a part
+-- a prefix of a part
 take-part : (cells : List ℕ) (n m : ℕ) → n ≤ m → take n (part cells 0 m) ≡ part cells 0 n
 unfolding part
 take-part cells n m h = take-take n m (drop 0 cells) h
 
--- a page more is summed
+-- one more page is summed
 pub page_summed : (f : ℕ → List ℕ) (cells : List ℕ) (left count a m crc more total : ℕ) → f a ≡ part cells 0 page_size → page_size ≤ length cells → count ≡ min left page_size → more ≡ crc_more crc (part cells 0 count)
     → crc_more crc (take left (concatenated (map f (range_with_len a (suc m))))) ≡ total → crc_more more (take (left - page_size) (concatenated (map f (range_with_len (a + 1) m)))) ≡ total
 page_summed f cells left count a m crc more total page whole counted e before =

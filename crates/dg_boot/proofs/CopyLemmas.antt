@@ -32,7 +32,7 @@ pub copy_none : (s new : List ℕ) → new ≡ blank sector_size → new ≡ ove
 unfolding part overwritten
 copy_none s new e = e
 
--- the piece behind those that were written
+-- the piece after those that were written
 pub copy_more : (s old new bs : List ℕ) (n m k : ℕ) → length s ≡ sector_size → AreBytes s → old ≡ overwritten (blank sector_size) 0 (part s 0 n) → new ≡ programmed old n bs → bs ≡ part s n m → n + m ≡ k → k ≤ sector_size
     → new ≡ overwritten (blank sector_size) 0 (part s 0 k)
 copy_more s old new bs n m k whole small e p same sum fits =
@@ -57,6 +57,6 @@ copy_all s new n whole fits e =
     let ln : length (part s 0 n) ≡ n = length-part s 0 n (omega arith) in
     ap (λ c. part c 0 n) e ∙ ap (part (overwritten (blank sector_size) 0 (part s 0 n)) 0) (sym ln) ∙ part-overwritten_at (blank sector_size) 0 (part s 0 n) (omega arith)
 
--- a sector is before another, or behind it
+-- a sector is before another, or after it
 pub apart : (j k : ℕ) → j ≢ k → (j < k) ⊎ (k + 1 ≤ j)
 apart j k ne = ⊎_elim (λ lt. inl lt) (λ ge. inr (omega arith)) (cases_lt j k)

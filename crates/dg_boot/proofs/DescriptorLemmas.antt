@@ -28,13 +28,13 @@ descriptor_head cells d long h =
     let first : part (part cells 0 page_size) 0 head_size ≡ part cells 0 head_size = part-part cells 0 page_size 0 head_size (omega arith) (omega arith) in
     subst (λ (x : List ℕ). IsHead x d) first (head_of_descriptor (part cells 0 page_size) d h)
 
--- the cells from b to a + b stand within the first c
+-- the cells from b to a + b are within the first c
 take-drop-take : (xs : List ℕ) (a b c : ℕ) → a + b ≤ c → take a (drop b (take c xs)) ≡ take a (drop b xs)
 take-drop-take xs a b c h =
     let place : b + (c - b) ≡ c = omega (arith, h) in
     ap (λ n. take a (drop b (take n xs))) (sym place) ∙ ap (take a) (drop-take b (c - b) xs) ∙ take-take a (c - b) (drop b xs) (omega (arith, h))
 
--- the length of an image stands in bytes 8 to 11 of its descriptor
+-- the length of an image is in bytes 8 to 11 of its descriptor
 pub length_in-descriptor : (page : List ℕ) (d : Details) → IsDescriptor page d → length_in page ≡ d.length
 unfolding length_in
 length_in-descriptor page d described =

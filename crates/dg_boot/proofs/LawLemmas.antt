@@ -57,7 +57,7 @@ golden_runs s three =
     golden_cases GoldenRuns s three (λ app. record { image = refl; version = refl })
     (cond_both (sound s 0) _ _ GoldenRuns (λ _. record { image = refl; version = refl }) (λ _. tt))
 
--- ---- the store behind the count
+-- ---- the store after the count
 
 abbrev Counted : Store → Store
 Counted s = record (spent s) { gesture = s.gesture + 1 }
@@ -181,7 +181,7 @@ set_has k s h =
 
 -- ---- what a stop before the last operation leaves of program memory
 
--- it is blank, or as it was
+-- it is blank, or unchanged
 abbrev Was : Option App → Store → Type 0
 Was a x = (x.app ≡ a) ⊎ (x.app ≡ None)
 

@@ -1,4 +1,4 @@
--- The pages of an image in program memory, and what is told of them.
+-- The pages of an image in program memory, and what is reported of them.
 use Rattle.std.proofs.Common.{◌≡◌, ℕ, ◌<◌, List, [], length, get_or, sym, ap, subst, ◌∙◌, arith}
 use Rattle.dg_words.specs.Lists.{tabulate}
 use Rattle.dg_words.proofs.ListLemmas.{length-tabulate}
@@ -16,7 +16,7 @@ use Rattle.dg_boot.specs.Loads.{Measures, IsWhole, app_from}
 use Rattle.dg_boot.specs.declared.loaded.Loaded.{Loaded}
 use Rattle.dg_boot.proofs.DescriptorLemmas.{length_in-descriptor, first_of, same_tables}
 
--- two descriptors of one page are one
+-- two descriptors of one page are equal
 pub one_descriptor : (page : List ℕ) (d e : Details) → IsDescriptor page d → IsDescriptor page e → d ≡ e
 one_descriptor page d e p q = one_head _ d e p.head q.head
 

@@ -10,14 +10,14 @@ take-part : (cells : List ℕ) (at n m : ℕ) → n ≤ m → take n (part cells
 unfolding part
 take-part cells at n m h = take-take n m (drop at cells) h
 
--- the front of a piece that was read
+-- a prefix of a piece that was read
 pub crc_front : (cells read : List ℕ) (at n m before more : ℕ) → more ≡ crc_more before (take n read) → read ≡ part cells at m → n ≤ m → more ≡ crc_more before (part cells at n)
 crc_front cells read at n m before more e same h = e ∙ ap (λ (x : List ℕ). crc_more before (take n x)) same ∙ ap (crc_more before) (take-part cells at n m h)
 
 pub sum_none : (cells : List ℕ) (n before : ℕ) → n ≡ 0 → before ≡ crc_more before (part cells 0 n)
 sum_none cells n before e = crc_none cells 0 before ∙ ap (λ (m : ℕ). crc_more before (part cells 0 m)) (sym e)
 
--- one piece more, of m bytes from `at` on, of which those in front of `count` are summed
+-- one more piece, of m bytes from `at` on, of which those before `count` are summed
 pub sum_more : (cells : List ℕ) (count before crc more at m k : ℕ) → crc ≡ crc_more before (part cells 0 (min at count)) → more ≡ crc_more crc (part cells at (min (count - at) m)) → at + m ≡ k → k ≤ length cells
     → more ≡ crc_more before (part cells 0 (min k count))
 sum_more cells count before crc more at m k e f sum fits =

@@ -15,7 +15,7 @@ Looked_then p q = record { same_image = q.same_image ∙ p.same_image; ran = Ran
 pub ReadStopped_after : {a b c : Device} → Looked a b → ReadStopped b c → ReadStopped a c
 ReadStopped_after p q = record { same_image = q.same_image ∙ p.same_image; halts = Halts_second p.ran q.halts }
 
--- how a read ends behind others that were done
+-- how a read ends after others that were done
 pub read_after : {T : Type 0} (r : Result T Stopped) (a b c : Device) → Looked a b → ReadEnds r b c → ReadEnds r a c
 read_after (Ok x) a b c p q = Looked_then p q
 read_after (Err e) a b c p q = ReadStopped_after p q
@@ -33,7 +33,7 @@ halts_after {n} {d} {a} {b} {c} p q =
     let f : 0 + d ≡ d = omega arith in
     subst (λ (m : ℕ). Halts m d a c) e (subst (λ (m : ℕ). Halts (0 + n) m a c) f (Halts_second p q))
 
--- ---- one operation, or an act, that stopped behind others that were made
+-- ---- one operation, or an act, that stopped after others that were made
 
 pub halts_within : {m done : ℕ} {a b : Device} (n : ℕ) → Halts m done a b → m ≤ n → Halts n done a b
 halts_within {m} {done} {a} {b} n h within =

@@ -9,7 +9,7 @@ use Rattle.dg_base.specs.Crc.{crc_of}
 use Rattle.dg_object.specs.Descriptor.{crc_in}
 use Rattle.dg_volume.specs.Start.{pages_sound}
 
--- ---- the pages of a slot, told by a function of the place
+-- ---- the pages of a slot, given by a function of the page number
 
 -- a data page has the CRC that page 0 keeps of it
 abbrev pub is_sound_at : (ℕ → List ℕ) → ℕ → Bool

@@ -1,4 +1,4 @@
--- What a start answers, once its volume is mounted, and where it is not.
+-- What a start returns, if its volume is mounted, and if it is not.
 use Rattle.std.proofs.Common.{◌≡◌, ℕ, Result, Ok, Err, IfOk, OnOk, refl, ap, subst}
 use Rattle.std.specs.Prelude.{IsErrOf, IsErrAnd}
 use Rattle.dg_nor.specs.Device.{Device, Ran}
@@ -19,7 +19,7 @@ use Rattle.dg_boot.specs.declared.BootFault.TheVariants as faults
 
 -- ---- a mounted volume
 
--- every store that the chip stands for is gone from in this way
+-- this is the outcome of the start from every store that the chip stands for
 abbrev pub AllBoot : Result Started BootFault → (Store → Boot) → Device → Device → Type 0
 AllBoot r b x y = (s : Store) → Stands x.image s → BootOutcome r (b s) x y
 

@@ -20,24 +20,24 @@ use Rattle.dg_boot.specs.declared.Started.{Started}
 use Rattle.dg_boot.specs.declared.BootFault.{BootFault}
 use Rattle.dg_boot.specs.declared.BootFault.TheVariants as faults
 
--- The whole trail was gone. Where it has no operation, no byte changed.
+-- The trail was completed. If it has no operation, no byte changed.
 pub record TrailWent (t : Trail Store) (old new : Device) (v : Volume) : Type 0 where
   pub acted : Acted t old new v
   pub idle : operations t ≡ 0 → new.image ≡ old.image
 
--- an act on a volume went this trail, or was stopped on it
+-- an act on a volume completed this trail, or was stopped on it
 abbrev pub Goes : {T : Type 0} → Result T Stopped → Trail Store → Device → Device → Volume → Type 0
 Goes (Ok x) t old new v = TrailWent t old new v
 Goes (Err e) t old new v = Stops t old new
 
--- a start of a volume went this way, or was stopped on it
+-- a start of a volume completed this trail, or was stopped on it
 abbrev pub BootOutcome : Result Started BootFault → Boot → Device → Device → Type 0
 BootOutcome (Ok told) b old new = Starts b old new told × (operations b.trail ≡ 0 → new.image ≡ old.image)
 BootOutcome (Err faults.NoImage) b old new = NoImageFound b old new
 BootOutcome (Err faults.Stopped) b old new = Stops b.trail old new
 BootOutcome (Err faults.NotAVolume) b old new = ⊥
 
--- there is room for the start of golden, or it needs none
+-- there is room for the start of golden, or it needs no room
 abbrev pub golden_fits : Store → Bool
 golden_fits s = nat_lt 0 s.room || (not (is_some s.app) || is_set_to s.app 0 golden_version)
 
@@ -45,7 +45,7 @@ golden_fits s = nat_lt 0 s.room || (not (is_some s.app) || is_set_to s.app 0 gol
 abbrev pub finishes : Store → Bool → Bool
 finishes s three = nat_lt 0 s.room && (not (is_set_to s.app 0 golden_version) || three)
 
--- ---- parts of the ways
+-- ---- parts of the trails
 
 -- an image is kept whole
 pub record HoldsWhole (s : Store) (image : ℕ) : Type 0 where
@@ -57,7 +57,7 @@ pub record HoldsWhole (s : Store) (image : ℕ) : Type 0 where
 abbrev pub copied_trail : Store → ℕ → Trail Store
 copied_trail s image = joined (blank_trail s) (copy_trail (last (blank_trail s)) (complete_pages (held s image)))
 
--- so it was, and this is told of them
+-- that trail was completed, and this is reported of the pages
 pub record CopiedIn (s : Store) (image : ℕ) (old new : Device) (v : Volume) (told : Loaded) : Type 0 where
   pub went : TrailWent (copied_trail s image) old new v
   pub found : Held
@@ -73,7 +73,7 @@ golden_loaded s three =
     let b = last (blank_trail s) in
     record { runs = Some r; trail = joined (blank_trail s) (joined (copy_trail b r.pages) (finish_trail b r three)) }
 
--- an order that waits is started, or waived where its image is not sound
+-- an order that waits is started, or waived if its image is not sound
 abbrev pub ordered_boot : Store → Boot
 ordered_boot s =
     if sound s s.order.image then order_boot s

@@ -1,4 +1,4 @@
--- Faults that are passed on, and their texts (docs/IMAGES.md, "The start").
+-- Faults that are forwarded, and their texts (docs/IMAGES.md, "The start").
 use Rattle.std.specs.Prelude.{ℕ, List, codes}
 use Rattle.dg_volume.specs.declared.volume.MountFault.{MountFault}
 use Rattle.dg_volume.specs.declared.volume.MountFault.TheVariants as mount_fault

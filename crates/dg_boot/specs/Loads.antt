@@ -1,4 +1,4 @@
--- What is told of the pages in program memory (docs/IMAGES.md, "The start").
+-- What is reported of the pages in program memory (docs/IMAGES.md, "The start").
 use Rattle.std.specs.Prelude.{◌≡◌, ℕ, List, [], length, slice_index_or}
 use Rattle.dg_base.specs.Crc.{crc_of}
 use Rattle.dg_object.specs.Object.{content}
@@ -11,7 +11,7 @@ use Rattle.dg_boot.specs.declared.loaded.Loaded.{Loaded}
 abbrev pub IsWhole : Held → Type 0
 IsWhole h = length h.complete ≡ h.pages
 
--- what is in program memory once the pages of this are there
+-- what is in program memory once the pages of this image are there
 abbrev pub app_from : ℕ → Held → App
 app_from image h = record { image = image; version = h.version; pages = h.complete }
 

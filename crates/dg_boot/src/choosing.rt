@@ -1,4 +1,4 @@
-//! What a start chooses by, without a read of the chip.
+//! What the choice of a start depends on, without a read of the chip.
 ghost use Rattle.std.specs.Prelude.{◌≡◌, ℕ, ◌<◌, ◌==◌, ◌&&◌, ◌||◌, nat_lt, not, is_some, Option};
 ghost use Rattle.dg_order.specs.Pending.{is_some_version};
 ghost use Rattle.dg_slot.specs.Kept.{Held};
@@ -14,7 +14,7 @@ use dg_control::{GOLDEN_VERSION, Program, SHORT_STARTS};
 use dg_order::pending;
 use dg_volume::{Kept, StartCause, Volume};
 
-/// Whether a start by this cause counts as a short one: it came by power, fewer than three stand, and there is room.
+/// Whether a start by this cause counts as a short one: it came by power, fewer than three are counted, and there is room.
 pub(crate) fn counts(cause: StartCause, gesture: u8, room: u32) -> bool
     ensures { (s : Store) → gesture ≡ s.gesture → room ≡ s.room → result ≡ counts cause s }
 {
@@ -24,14 +24,14 @@ pub(crate) fn counts(cause: StartCause, gesture: u8, room: u32) -> bool
     }
 }
 
-/// Whether three short starts stand.
+/// Whether three short starts are counted.
 pub(crate) fn has_three(volume: &Volume) -> bool
     ensures { (s : Store) → Tells volume.now s → result ≡ (s.gesture == short_starts) }
 {
     volume.snapshot().gesture == SHORT_STARTS
 }
 
-/// Whether short starts choose golden: three stand, and there is room or golden needs none.
+/// Whether short starts choose golden: three are counted, and there is room or golden needs no room.
 pub(crate) fn chooses_golden(volume: &Volume) -> bool
     ensures { (s : Store) → Tells volume.now s → result ≡ by_gesture s }
 {

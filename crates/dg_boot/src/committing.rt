@@ -39,7 +39,7 @@ pub(crate) fn commit<N: Nor>(
 {
     match volume.advance(nor, program, gesture, waived) {
         Ok(()) => Ok(()),
-        // there is room, so that it was stopped
+        // there is room, so it was stopped
         Err(_) => Err(Stopped),
     }
 }
@@ -79,7 +79,7 @@ pub(crate) fn waive<N: Nor>(nor: &mut N, volume: &mut Volume) -> Result<(), Stop
     commit(nor, volume, now.program, now.gesture, true)
 }
 
-/// Commits that program memory is blank, unless it is.
+/// Commits that program memory is blank, unless it is already.
 pub(crate) fn blank<N: Nor>(nor: &mut N, volume: &mut Volume) -> Result<(), Stopped>
     requires mounted { IsMounted (N.device nor.old).image volume.old }
     requires free { NothingLent volume.old }
@@ -96,7 +96,7 @@ pub(crate) fn blank<N: Nor>(nor: &mut N, volume: &mut Volume) -> Result<(), Stop
     }
 }
 
-/// Commits that program memory is set to an image whose pages stand there.
+/// Commits that program memory is set to an image whose pages are there.
 pub(crate) fn set<N: Nor>(
     nor: &mut N,
     volume: &mut Volume,
@@ -123,8 +123,8 @@ pub(crate) fn set<N: Nor>(
     )
 }
 
-/// The last commit of a golden start, where there is room and program memory is not set to golden or golden was chosen
-/// by short starts. Those are then counted from 0 again, and the order is waived, if there is one.
+/// The last commit of a golden start. It is made if there is room, and program memory is not set to golden or short starts
+/// chose golden. If they did, their count is reset to 0, and the order is waived, if there is one.
 pub(crate) fn finish<N: Nor>(nor: &mut N, volume: &mut Volume, three: bool) -> Result<(), Stopped>
     requires mounted { IsMounted (N.device nor.old).image volume.old }
     requires free { NothingLent volume.old }

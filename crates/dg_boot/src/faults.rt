@@ -1,4 +1,4 @@
-//! How the fault of a start is told, and what becomes of the faults of the calls beneath.
+//! How the fault of a start is displayed, and how the faults of lower calls are mapped.
 use crate::BootFault;
 use dg_nor::Stopped;
 use dg_volume::MountFault;

@@ -1,10 +1,10 @@
-//! How a mote starts: which image is chosen, and that it stands in program memory.
+//! How a mote starts: which image is chosen, and that it is in program memory.
 //!
-//! A start by power counts as a short one, and three in a row choose golden. Else an order that waits is started, where
-//! its image is sound, and waived, where it is not. Else what program memory is set to runs on, or golden is started.
-//! An image that is not in program memory is copied there, between two commits: the first says that program memory is
-//! blank, the second that it is set to the image. So a stop on the way leaves it blank, or as it was told before, and
-//! never set to an image of which pages are missing.
+//! A start by power counts as a short one, and three in a row choose golden. Otherwise an order that waits is started if its
+//! image is sound, and waived if it is not. Otherwise what program memory is set to runs, or golden is started. An image that
+//! is not in program memory is copied there, between two commits: the first says that program memory is blank, the second that
+//! it is set to the image. So a stop on the way leaves program memory blank, or as it was recorded before, and never set to an
+//! image with missing pages.
 #![tactic(auto)]
 
 mod choosing;
@@ -41,8 +41,8 @@ pub use laws::{
 };
 pub use pieces::{COPY_PIECE, COPY_PIECES, CopyPiece, SIZE_OF_COPY_PIECE};
 
-/// What was started. `pages` counts the descriptor too, `length` is that of the image's bytes, and `crc` is their
-/// checksum as they stand in program memory.
+/// What was started. `pages` counts the descriptor too, `length` is the number of the image's bytes, and `crc` is their
+/// checksum in program memory.
 #[derive(Drop)]
 pub struct Started {
     pub volume: Volume,
@@ -58,19 +58,18 @@ pub struct Started {
 pub enum BootFault {
     /// The chip is stopped.
     Stopped,
-    /// Its bytes are no volume.
+    /// Its bytes are not a volume.
     NotAVolume,
     /// Golden is to be started, is not in program memory, and is not sound.
     NoImage,
 }
 
-/// Starts the image of a chip: counts the start, makes the choice, copies the image where it is not in program memory
-/// yet, and sets program memory to it. A page is copied by 9 operations, an erase and 8 programs of 138 bytes. A start with
-/// nothing to commit and nothing to copy writes nothing. No clause bounds what is read.
+/// Starts the image of a chip: counts the start, makes the choice, copies the image if it is not in program memory yet, and
+/// sets program memory to it. A page is copied by 9 operations, an erase and 8 programs of 138 bytes. A start with nothing to
+/// commit and nothing to copy writes nothing. No clause bounds what is read.
 ///
-/// Whatever frames made the store of a consistent chip: golden runs byte for byte, or pages that fit the descriptor before
-/// them, and the chip stays consistent, however the start ends, also where it stops. A chip that is not a volume keeps its
-/// bytes.
+/// On a consistent chip, whatever frames made its store, golden runs byte for byte, or pages that fit the descriptor before
+/// them. The chip stays consistent however the start ends, also if it stops. A chip that is not a volume keeps its bytes.
 ///
 /// `NoImage` may follow a commit that counted the start, and one that waived the order.
 pub fn start<N: Nor>(nor: &mut N, kind: Kind) -> Result<Started, BootFault>

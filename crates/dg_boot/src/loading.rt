@@ -1,4 +1,4 @@
-//! The pages of an image in program memory: how they come there from a slot, and what is told of them.
+//! The pages of an image in program memory: how they are copied there from a slot, and what is reported of them.
 ghost use Rattle.std.specs.Prelude.{◌≡◌, ℕ, ◌*◌, ◌<◌, ◌≤◌, ⊤, length, IfOk, OnOk, OnErr};
 ghost use Rattle.dg_base.specs.Crc.{crc_of};
 ghost use Rattle.dg_nor.specs.Sizes.{sectors};
@@ -25,7 +25,7 @@ use dg_slot::{PROGRAM_SECTOR, page_sector, prefix_crc};
 /// The bytes of a page.
 const PAGE: u32 = PAGE_SIZE as u32;
 
-/// The descriptor that stands in a sector.
+/// The descriptor in a sector.
 fn read_descriptor<N: Nor>(nor: &mut N, index: u32) -> Result<Descriptor, Stopped>
     requires in_chip { index < sectors }
     requires described { (d : Details) × IsDescriptor (page_in (N.device nor.old).image index) d }
@@ -51,7 +51,7 @@ fn image_crc<N: Nor>(nor: &mut N, length: u32) -> Result<u16, Stopped>
     Ok(crc)
 }
 
-/// What is told of the image in program memory.
+/// What is reported of the image in program memory.
 pub(crate) fn measure<N: Nor>(nor: &mut N) -> Result<Loaded, Stopped>
     requires { (app : App) × HoldsApp (N.device nor.old).image app }
     ensures measured { IfOk result (λ told. (app : App) → HoldsApp (N.device nor.old).image app
@@ -67,8 +67,8 @@ pub(crate) fn measure<N: Nor>(nor: &mut N) -> Result<Loaded, Stopped>
     })
 }
 
-/// Copies the pages of an image of that many bytes from its slot into program memory, and gives the checksum of its
-/// bytes. 9 operations a page.
+/// Copies the pages of an image of `length` bytes from its slot into program memory, and returns the checksum of these bytes. 9
+/// operations a page.
 fn copy_pages<N: Nor>(nor: &mut N, image: u8, length: u32) -> Result<u16, Stopped>
     requires known_image { image < images }
     requires fits { length ≤ most_bytes }

@@ -26,8 +26,8 @@ pub const SIZE_OF_COPY_PIECE: usize = size_of::<CopyPiece>();
 /// The pieces of a page, each of which is one program.
 pub const COPY_PIECES: u32 = 8;
 
-/// Copies a piece of one sector into another, where it stands erased, and gives the checksum after `before` of its
-/// bytes that are among the first `count` of the sector. It is read into `piece`. 1 operation.
+/// Copies a piece of one sector into erased cells of another, through `piece`. Returns the checksum, continued from `before`,
+/// of its bytes that are among the first `count` of the sector. 1 operation.
 fn copy_piece<N: Nor>(
     nor: &mut N,
     from: u32,
@@ -55,8 +55,8 @@ fn copy_piece<N: Nor>(
     Ok(crc16_more(before, &piece[..summed as usize]))
 }
 
-/// Copies the page in one sector into another, which is erased first, and gives the checksum after `before` of its
-/// first `count` bytes. 9 operations.
+/// Copies the page in one sector into another, which is erased first. Returns the checksum of its first `count` bytes,
+/// continued from `before`. 9 operations.
 pub(crate) fn copy_page<N: Nor>(
     nor: &mut N,
     from: u32,

@@ -1,4 +1,4 @@
-//! Whether the pages of a slot are those that their checksums were kept of.
+//! Whether the pages of a slot match the checksums that are kept of them.
 ghost use Rattle.std.specs.Prelude.{◌≡◌, ◌<◌, ◌≤◌, ◌==◌, IfOk};
 ghost use Rattle.dg_base.specs.Crc.{crc_of};
 ghost use Rattle.dg_nor.specs.Reads.{ReadEnds};
@@ -48,8 +48,8 @@ fn is_page_sound<N: Nor>(nor: &mut N, image: u8, page: u8) -> Result<bool, Stopp
     Ok(found == kept)
 }
 
-/// Whether the pages of a slot are sound, where page 0 is known to have the CRC of its header: whether each data page
-/// has the CRC that page 0 keeps of it.
+/// Whether the pages of a slot are sound, given that page 0 has the CRC of its header: whether each data page has the CRC that
+/// page 0 keeps of it.
 pub(crate) fn is_sound<N: Nor>(nor: &mut N, image: u8, kept: &Kept) -> Result<bool, Stopped>
     requires known_image { image < images }
     requires some_pages { 1 ≤ kept.now.pages }

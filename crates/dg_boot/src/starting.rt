@@ -1,4 +1,4 @@
-//! The cases of a start, after the count of short starts: each goes its way by the commits and copies in their order.
+//! The cases of a start, after short starts are counted: each makes its commits and copies in their order.
 ghost use Rattle.std.specs.Prelude.{◌≡◌, ◌≢◌, ℕ, ◌==◌, ◌<◌, ◌≤◌, true, Bool, Some, IfOk, OnOk, OnErr};
 ghost use Rattle.dg_nor.specs.Reads.{ReadEnds};
 ghost use Rattle.dg_slot.specs.Layout.{program_sector, program_end};
@@ -21,7 +21,7 @@ use dg_control::{GOLDEN_VERSION, Program};
 use dg_nor::{Nor, Stopped};
 use dg_volume::{StartCause, Volume};
 
-/// Commits that program memory is blank, unless it is, and copies the pages of an image there that is kept whole.
+/// Commits that program memory is blank, unless it is already, and copies there the pages of an image that is kept whole.
 fn copy_in<N: Nor>(nor: &mut N, volume: &mut Volume, image: u8) -> Result<Loaded, Stopped>
     requires mounted { IsMounted (N.device nor.old).image volume.old }
     requires free { NothingLent volume.old }
@@ -39,7 +39,7 @@ fn copy_in<N: Nor>(nor: &mut N, volume: &mut Volume, image: u8) -> Result<Loaded
     load(nor, image)
 }
 
-/// What is told of the image that runs.
+/// What is reported of the image that runs.
 fn started(volume: Volume, image: u8, version: u32, loaded: Loaded) -> Started
     ensures volume { result.volume ≡ volume }
     ensures image { result.image ≡ image }
@@ -99,7 +99,7 @@ fn is_image_sound<N: Nor>(nor: &mut N, volume: &Volume, image: u8) -> Result<boo
     is_sound(nor, image, &kept)
 }
 
-/// Starts golden, which is not in program memory, where it is sound.
+/// Starts golden, which is not in program memory, if it is sound.
 fn start_golden_copied<N: Nor>(
     nor: &mut N,
     volume: Volume,
@@ -136,7 +136,7 @@ fn start_golden_kept<N: Nor>(
     Ok(started(volume, GOLDEN, GOLDEN_VERSION, loaded))
 }
 
-/// Starts golden. There is room for it, or it needs none.
+/// Starts golden. There is room for it, or it needs no room.
 fn start_golden<N: Nor>(nor: &mut N, volume: Volume, three: bool) -> Result<Started, BootFault>
     requires mounted { IsMounted (N.device nor.old).image volume }
     requires free { NothingLent volume }
@@ -201,7 +201,7 @@ fn start_waived<N: Nor>(nor: &mut N, mut volume: Volume) -> Result<Started, Boot
     start_kept(nor, volume)
 }
 
-/// Looks whether the ordered image, which waits, is sound, and starts it, or waives the order.
+/// Checks whether the ordered image, which waits, is sound. Starts it, or waives the order.
 fn try_order<N: Nor>(nor: &mut N, volume: Volume) -> Result<Started, BootFault>
     requires mounted { IsMounted (N.device nor.old).image volume }
     requires free { NothingLent volume }
@@ -234,7 +234,7 @@ fn start_counted<N: Nor>(nor: &mut N, volume: Volume) -> Result<Started, BootFau
     }
 }
 
-/// Counts the start, where it came by power and there is room, and makes the choice.
+/// Counts the start, if it came by power and there is room, and makes the choice.
 pub(crate) fn start_mounted<N: Nor>(
     nor: &mut N,
     mut volume: Volume,

@@ -90,12 +90,12 @@ same_details d e i v p l n =
     ∙ ap (λ x. made e.image e.version e.pages x d.name) l
     ∙ ap (λ x. made e.image e.version e.pages e.length x) n
 
--- a head is read in one way
+-- a head has one reading
 pub one_head : (h : List ℕ) (d e : Details) → IsHead h d → IsHead h e → d ≡ e
 one_head h d e a b =
     same_details d e (sym (head_image a) ∙ head_image b) (sym (head_version a) ∙ head_version b) (sym (head_pages a) ∙ head_pages b)
     (sym (head_length a) ∙ head_length b) (same_names d.name e.name a.range.name b.range.name (sym (head_name a) ∙ head_name b))
 
--- the field of the name is all that stands from byte 12 on
+-- the field of the name is everything from byte 12 on
 pub name_field_is : (h : List ℕ) → length h ≡ 28 → mid_of 12 16 h ≡ drop 12 h
 name_field_is h len = take_all 16 (drop 12 h) (omega (arith, length-drop 12 h))

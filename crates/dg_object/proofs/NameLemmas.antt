@@ -15,7 +15,7 @@ names-some n h = grind (arith, nat_tests)
 pub names-fits : (n : List ℕ) → IsTrue (spells_name n) → length n ≤ 16
 names-fits n h = grind (arith, common_steps)
 
--- a byte of a name is no 0
+-- a byte of a name is not 0
 is_name_byte-true : (c : ℕ) → is_name_byte c ≡ true → (1 ≤ c) × (c < 256)
 is_name_byte-true c h = grind (arith, nat_tests)
 
@@ -43,20 +43,20 @@ length_of_name field n k h is len within before ended =
     at_end : length n < 16 → get_or field (length n) 0 ≡ 0
     at_end low = ap (λ (xs : List ℕ). get_or xs (length n) 0) is ∙ get_or-padded_behind 16 0 (length n) 0 n (omega arith) low
 
--- So the field in front of that 0 is the name.
+-- So the field before that 0 is the name.
 pub name_is_front : (field n : List ℕ) (k : ℕ) → IsTrue (spells_name n) → field ≡ padded 16 0 n → length field ≡ 16 → k ≤ length field
     → ((j : ℕ) → j < k → get_or field j 0 ≢ 0) → (k < length field → get_or field k 0 ≡ 0) → take k field ≡ n
 name_is_front field n k h is len within before ended =
     ap (take k) is ∙ take-padded 16 0 k n (length_of_name field n k h is len within before ended)
 
--- What stands behind the name is 0.
+-- The bytes after the name are 0.
 pub behind_is_filling : (field n : List ℕ) (k j : ℕ) → field ≡ padded 16 0 n → length n ≡ k → j < length (drop k field) → length field ≡ 16 → get_or (drop k field) j 0 ≡ 0
 behind_is_filling field n k j is same low len =
     get_or-drop k field j 0
     ∙ ap (λ (xs : List ℕ). get_or xs (k + j) 0) is
     ∙ get_or-padded_behind 16 0 (k + j) 0 n (omega arith) (omega (arith, length-drop k field))
 
--- A front, and nothing but filling behind it, is the front filled up.
+-- A prefix with nothing but filling after it is the prefix filled up.
 pub padded-from_parts : (n x k : ℕ) (field : List ℕ) → length field ≡ n → k ≤ n → ((j : ℕ) → j < length (drop k field) → get_or (drop k field) j 0 ≡ x) → field ≡ padded n x (take k field)
 unfolding padded
 padded-from_parts n x k field len low filled =
@@ -68,7 +68,7 @@ padded-from_parts n x k field len low filled =
     rest : drop k field ≡ replicate (n - length (take k field)) x
     rest = ext_get_or 0 (drop k field) (replicate (n - length (take k field)) x) (counted ∙ sym (length-replicate _ x)) (λ j h. filled j h ∙ sym (get_or-replicate (n - length (take k field)) j x 0 (omega (arith, counted))))
 
--- Two names that fill a field alike are one.
+-- Two names that make the same field are equal.
 pub same_names : (n m : List ℕ) → IsTrue (spells_name n) → IsTrue (spells_name m) → padded 16 0 n ≡ padded 16 0 m → n ≡ m
 same_names n m hn hm same =
     sym (take-padded 16 0 (length n) n refl)

@@ -20,7 +20,7 @@ held_part n k i j xs e f =
     turned : (m : ℕ) → min m n ≡ min n m
     turned m = omega arith
 
--- a piece that is put behind the bytes of a filled page
+-- a piece that is put after the bytes of a filled page
 pub put_piece : (n x at j : ℕ) (page front piece copied : List ℕ) → length front ≡ at → j ≡ length piece → page ≡ padded n x front → copied ≡ piece → put_mid at j page copied ≡ padded n x (front ++ piece)
 put_piece n x at j page front piece copied e f was is =
     ap (λ (zs : List ℕ). put_mid at j zs copied) was
@@ -39,7 +39,7 @@ pub crc_of-padded : (n x : ℕ) (xs : List ℕ) → crc_of (padded n x xs) ≡ c
 unfolding padded
 crc_of-padded n x xs = crc_of-append xs (replicate (n - length xs) x)
 
--- the CRC of bytes, gone on with over what is left of a blank page behind them
+-- the CRC of bytes, continued over what is left of a blank page after them
 pub filled_crc : (n x crc : ℕ) (held blank : List ℕ) → length held ≤ n → crc ≡ crc_of held → blank ≡ padded n x [] → crc_more crc (take (n - length held) (drop (length held) blank)) ≡ crc_of (padded n x held)
 filled_crc n x crc held blank fits e b =
     ap (λ (m : ℕ). crc_more crc (take (m - length held) (drop (length held) blank))) (sym whole)
@@ -60,7 +60,7 @@ length-crcs_to bytes n = pairs 1 n
     pairs a zero = refl
     pairs a (suc n) = let more = pairs (a + 1) n in omega arith
 
--- the next CRC behind those before it
+-- the next CRC after those before it
 pub crcs_more : (bytes head piece : List ℕ) (p : ℕ) → 1 ≤ p → piece ≡ to_be_bytes w16 (crc_of (data_page bytes p)) → (head ++ crcs_to bytes (p - 1)) ++ piece ≡ head ++ crcs_to bytes (p + 1 - 1)
 crcs_more bytes head piece p h e =
     append_assoc head (crcs_to bytes (p - 1)) piece
@@ -75,7 +75,7 @@ crcs_more bytes head piece p h e =
     count : suc (p - 1) ≡ p + 1 - 1
     count = omega arith
 
--- how far a descriptor goes up to the CRCs of n pages
+-- the length of a descriptor up to the CRCs of n pages
 pub length-descriptor : (image pages version len n : ℕ) (name bytes : List ℕ) → length name ≤ 16 → length (head_of image pages version len name ++ crcs_to bytes n) ≡ 28 + 2 * n
 length-descriptor image pages version len n name bytes h =
     length-append (head_of image pages version len name) (crcs_to bytes n)

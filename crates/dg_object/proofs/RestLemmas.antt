@@ -1,4 +1,4 @@
--- What stands in a page behind its CRCs, looked at whole or in pieces.
+-- The bytes of a page after its CRCs, checked whole or in pieces.
 use Rattle.std.proofs.Common.{◌≡◌, ℕ, ◌+◌, ◌-◌, ◌*◌, ◌<◌, ◌≤◌, min, Bool, IsTrue, Decides, eqb, List, ◌++◌, length, take, drop, replicate, get_or, sym, ap, ◌∙◌, subst, arith, length-drop, length-take, get_or-drop, get_or-take, length-append, inl, inr}
 use Rattle.std.specs.Cmp.Lexicographic.{pointwise}
 use Rattle.std.proofs.lemmas.Bool.Decides.{Decides-eqb}
@@ -10,7 +10,7 @@ use Rattle.dg_words.proofs.CellLemmas.{part-append-part, length-part}
 use Rattle.dg_object.specs.Sizes.{page_size}
 use Rattle.dg_object.specs.Descriptor.{RestFits, HasTag, IsHead, IsDescriptor, Details}
 
--- what a piece has from place m on
+-- a piece is filling from place m on
 abbrev pub FilledFrom : ℕ → List ℕ → Type 0
 FilledFrom m piece = (i : ℕ) → i < length (take (length piece - m) (drop m piece)) → get_or (take (length piece - m) (drop m piece)) i 0 ≡ 255
 
@@ -57,7 +57,7 @@ RestFits-part pages at k n xs fits j low past =
     ∙ get_or-drop k xs j 0
     ∙ fits (k + j) (omega (arith, length-take n (drop k xs), length-drop k xs)) (omega arith)
 
--- the first 28 bytes are never looked at
+-- the first 28 bytes are never checked
 pub RestFits-head : (pages : ℕ) (page : List ℕ) → RestFits pages 28 (drop 28 page) → RestFits pages 0 page
 RestFits-head pages page fits k low past =
     ap (λ (j : ℕ). get_or page j 0) place
@@ -98,7 +98,7 @@ RestFits-more pages page at m n within front back =
     subst Fits (part-append-part page at m n within)
     (RestFits-append pages at (part page at m) (part page (at + m) n) front (subst Behind (sym (length-part page at m (omega arith))) back))
 
--- all pieces behind the head, and the head
+-- all pieces after the head, and the head
 pub descriptor_from_pieces : (page : List ℕ) (d : Details) → length page ≡ page_size → IsHead (part page 0 28) d → RestFits d.pages 28 (part page 28 1076) → IsDescriptor page d
 unfolding part
 descriptor_from_pieces page d len head rest = descriptor_from_parts page d len head rest
@@ -114,7 +114,7 @@ head_of_descriptor page d is = is.head
 
 -- ---- bytes that are compared with the filling
 
--- a piece that is compared with as many bytes of the filling
+-- a piece that is compared with the same number of bytes of the filling
 pub piece_is_filling : (n : ℕ) (piece : List ℕ) (r : Bool) → length piece ≤ n → r ≡ pointwise eqb piece (take (length piece) (replicate n 255))
     → (IsTrue r → (i : ℕ) → i < length piece → get_or piece i 0 ≡ 255) × (((i : ℕ) → i < length piece → get_or piece i 0 ≡ 255) → IsTrue r)
 piece_is_filling n piece r fits e = (
@@ -131,7 +131,7 @@ piece_is_filling n piece r fits e = (
     decides : Decides r (piece ≡ filling)
     decides = slice_eq-Decides Decides-eqb piece filling r e
 
--- what is filled up to a place, and in the piece behind it
+-- what is filled up to a place, and in the piece after it
 pub more_is_filled : (bytes : List ℕ) (at n : ℕ) → at + n ≤ length bytes → ((k : ℕ) → k < at → get_or bytes k 0 ≡ 255)
     → ((i : ℕ) → i < length (take (at + n - at) (drop at bytes)) → get_or (take (at + n - at) (drop at bytes)) i 0 ≡ 255)
     → (k : ℕ) → k < at + n → get_or bytes k 0 ≡ 255

@@ -82,7 +82,7 @@ descriptor_of_row row is =
     head : List ℕ
     head = head_of row.image (pages_for (length row.bytes)) row.version (length row.bytes) row.name
 
--- numbers in two bytes each, one behind the other
+-- numbers in two bytes each, one after the other
 halves_at : (c : ℕ → ℕ) (a n i : ℕ) → i < n
     → (get_or (flat_map (λ q. to_be_bytes w16 (c q)) (range_with_len a n)) (2 * i) 0 ≡ c (a + i) / 256 % 256)
     × (get_or (flat_map (λ q. to_be_bytes w16 (c q)) (range_with_len a n)) (2 * i + 1) 0 ≡ c (a + i) % 256)
@@ -102,7 +102,7 @@ halves_at c a (suc n) (suc i) h =
 from_halves : (n : ℕ) → n < 2 ^ 16 → 256 * (n / 256 % 256) + n % 256 ≡ n
 from_halves n h = omega arith
 
--- what stands in a descriptor among the CRCs
+-- a byte of a descriptor among the CRCs
 crc_cell : (row : Row) (k j : ℕ) → IsRow row → k ≡ 28 + j → j < 2 * (pages_for (length row.bytes) - 1) → get_or (descriptor_page row) k 0 ≡ get_or (page_crcs row.bytes) j 0
 crc_cell row k j is e low =
     get_or-padded_front page_size 255 k 0 (head ++ page_crcs row.bytes) (omega (arith, filled_to row is))

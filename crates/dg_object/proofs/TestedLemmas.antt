@@ -1,4 +1,4 @@
--- The test for a descriptor, and what it tells.
+-- The test for a descriptor, and what it decides.
 use Rattle.std.proofs.Common.{◌≡◌, ◌≢◌, ℕ, zero, suc, ◌+◌, ◌-◌, ◌^◌, ◌<◌, ◌≤◌, ◌&&◌, Bool, IsTrue, true, cond, eqb, ltb, leb, List, [], ◌∷◌, ◌++◌, length, take, drop, replicate, get_or, refl, sym, ap, ◌∙◌, subst, arith, get_or-drop, get_or-take, length-drop}
 use Rattle.std.specs.List.{list_all}
 use Rattle.std.specs.Int.{from_be_bytes, to_be_bytes, w32}
@@ -29,7 +29,7 @@ up_to_zero-append (c ∷ cs) m h =
     ap (λ b. cond b [] (c ∷ up_to_zero (cs ++ replicate m 0))) (ne_eqb c 0 (h 0 (omega arith)))
     ∙ ap (λ xs. c ∷ xs) (up_to_zero-append cs m (λ k low. h (suc k) (omega arith)))
 
--- a name is what stands in front of its padding
+-- a name is what comes before its padding
 name_read : (n field : List ℕ) → IsTrue (spells_name n) → field ≡ padded 16 0 n → up_to_zero field ≡ n
 unfolding padded
 name_read n field named e = ap up_to_zero e ∙ up_to_zero-append n _ (λ k low. names-nonzero n k named low)

@@ -36,7 +36,7 @@ pub record IsHead (head : List ℕ) (d : Details) : Type 0 where
 abbrev pub crcs_end : ℕ → ℕ
 crcs_end pages = head_size + 2 * (pages - 1)
 
--- the bytes that stand at `at` of a page are 0xFF wherever they are past the CRC of the last page
+-- the bytes of a page from `at` on are 0xFF wherever they are past the CRC of the last page
 abbrev pub RestFits : ℕ → ℕ → List ℕ → Type 0
 RestFits pages at piece = (k : ℕ) → k < length piece → crcs_end pages ≤ at + k → slice_index piece k ≡ 255
 
@@ -59,7 +59,7 @@ details row = record {
 abbrev pub crc_in : List ℕ → ℕ → ℕ
 crc_in page p = 256 * slice_index page (26 + 2 * p) + slice_index page (27 + 2 * p)
 
--- a page is the descriptor of that image and version, with that many pages
+-- a page is the descriptor of this image and version, with this many pages
 abbrev pub Describes : List ℕ → (image version pages : ℕ) → Type 0
 Describes page image version pages = (d : Details) × IsDescriptor page d × (d.image ≡ image) × (d.version ≡ version)
     × (d.pages ≡ pages)

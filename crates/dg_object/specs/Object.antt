@@ -29,7 +29,7 @@ pub record IsRow (row : Row) : Type 0 where
   pub fits : length row.bytes ≤ most_bytes
   pub bytes : AreBytes row.bytes
 
--- the pages of an object with that many bytes: the descriptor, and a page for each page's bytes begun
+-- the pages of an object with this many bytes: the descriptor, and a page for each page's bytes begun
 abbrev pub pages_for : ℕ → ℕ
 pages_for len = 1 + (len + (page_size - 1)) / page_size
 
@@ -65,7 +65,7 @@ page_of_row row (suc k) = data_page row.bytes (suc k)
 abbrev pub object : Row → List (List ℕ)
 object row = tabulate (pages_for (length row.bytes)) (page_of_row row)
 
--- what is told of an object before any page: its image, version, page count and the CRC of page 0
+-- what is announced of an object before any page: its image, version, page count and the CRC of page 0
 pub record Outline : Type 0 where
   pub image : ℕ
   pub version : ℕ

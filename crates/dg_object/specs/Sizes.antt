@@ -1,5 +1,5 @@
--- The sizes of images, and of the pages and packets that they are cut into. Each number stands here alone. Pages of 1,104 bytes
--- in 48 packets of 23 are those of Deluge (Hui and Culler, SenSys 2004); the others are this project's own profile.
+-- The sizes of images, and of the pages and packets that they are cut into. Each number is defined only here. Pages of 1,104
+-- bytes in 48 packets of 23 are those of Deluge (Hui and Culler, SenSys 2004); the others are this project's own profile.
 use Rattle.std.specs.Prelude.{ℕ}
 
 -- the bytes of a page
@@ -38,6 +38,6 @@ head_size = 28
 abbrev pub name_size : ℕ
 name_size = 16
 
--- the bytes of a descriptor after its head that are read from a chip, and looked at, at once
+-- the bytes of a descriptor after its head that are read from a chip, and checked, at once
 abbrev pub descriptor_piece_size : ℕ
 descriptor_piece_size = 96

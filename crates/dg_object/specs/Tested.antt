@@ -36,7 +36,7 @@ is_descriptor page =
     fields_fit d && bytes_eq (take head_size page) (head_of d.image d.pages d.version d.length d.name)
     && list_all (λ b. b == 255) (drop (crcs_end d.pages) page)
 
--- the page is the descriptor of that image and version, with that many pages
+-- the page is the descriptor of this image and version, with this many pages
 abbrev pub describes : List ℕ → (image version pages : ℕ) → Bool
 describes page image version pages =
     let d = fields_in page in

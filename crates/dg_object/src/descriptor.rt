@@ -17,15 +17,15 @@ use dg_base::is_name;
 use std::error::Error;
 use std::fmt;
 
-/// A piece of what stands after the CRCs.
+/// A piece of the filling after the CRCs.
 const FILLED: DescriptorPiece = [0xFF; DESCRIPTOR_PIECE];
 
-/// Why bytes are no descriptor.
+/// Why bytes are not a descriptor.
 #[derive(Clone, Copy, Debug, PartialEq, Eq)]
 pub enum DescriptorFault {
     /// They don't begin with `DG`.
     Tag,
-    /// They do, and a field is out of its range, or what has to be filled up isn't.
+    /// They do, but a field is out of its range, or what has to be filling is not.
     Range,
 }
 
@@ -50,7 +50,7 @@ impl Error for DescriptorFault {}
 pub struct Descriptor {
     pub image: u8,
     pub version: u32,
-    /// Pages of the object, the descriptor among them.
+    /// Pages of the object, including the descriptor.
     pub pages: u8,
     /// Bytes of the image.
     pub length: u32,
@@ -91,7 +91,7 @@ impl Descriptor {
         }
     }
 
-    /// Whether the bytes of a page from `at` on are 0xFF wherever they stand after the CRC of the last page.
+    /// Whether the bytes of a page from `at` on are 0xFF wherever they come after the CRC of the last page.
     pub fn rest_fits(&self, at: u16, piece: &[u8]) -> bool
         ensures { IsTrue result ↔ RestFits self.now.pages at piece.now }
     {
@@ -148,7 +148,7 @@ fn word_at(bytes: &[u8], at: usize) -> u32
     u32::from_be_bytes([bytes[at], bytes[at + 1], bytes[at + 2], bytes[at + 3]])
 }
 
-/// The name in its field, where it is filled with 0.
+/// The name in its field, if it is padded with 0.
 fn name_in(field: &[u8]) -> Option<Name>
     requires { length field.now ≡ name_size }
     ensures some { IfSome result (λ n. IsTrue (spells_name n) × (field.now ≡ padded name_size 0 n)) }
@@ -164,7 +164,7 @@ fn name_in(field: &[u8]) -> Option<Name>
     Some(Name::new(name))
 }
 
-/// How many bytes stand before the first 0.
+/// How many bytes come before the first 0.
 fn name_len(field: &[u8]) -> usize
     ensures within { result ≤ length field.now }
     ensures before { (k : ℕ) → k < result → slice_index field.now k ≢ 0 }

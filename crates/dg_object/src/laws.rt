@@ -14,7 +14,7 @@ use crate::{
     SLOTS,
 };
 
-/// The constants of this crate are the numbers of its definitions.
+/// The constants of this crate equal the numbers in its definitions.
 pub fn an_object_has_these_sizes()
     ensures page { PAGE_SIZE ≡ page_size }
     ensures packets { PACKETS ≡ packets }
@@ -26,7 +26,7 @@ pub fn an_object_has_these_sizes()
     ensures head { HEAD_SIZE ≡ head_size }
     ensures name { NAME_SIZE ≡ name_size }
     ensures descriptor_piece { DESCRIPTOR_PIECE ≡ descriptor_piece_size }
-    // the arrays have that many bytes by their types, and a name keeps its count beside its array
+    // the types of the arrays have these sizes, and a name keeps its count beside its array
     ensures packet_array { SIZE_OF_PACKET ≡ packet_size }
     ensures head_array { SIZE_OF_HEAD ≡ head_size }
     ensures piece_array { SIZE_OF_DESCRIPTOR_PIECE ≡ descriptor_piece_size }
@@ -58,8 +58,7 @@ pub fn a_head_is_read_in_one_way()
     ensures { (head : List ℕ) (d e : Details) → IsHead head d → IsHead head e → d ≡ e }
 {}
 
-/// A page is a descriptor exactly where its first bytes are its head and all that stands after them fits, in one
-/// piece or in several.
+/// A page is a descriptor exactly if its first bytes are its head and everything after them fits, in one piece or in several.
 pub fn a_descriptor_is_read_in_pieces()
     ensures parts { (page : List ℕ) (d : Details) → length page ≡ page_size → IsHead (part page 0 head_size) d
         → RestFits d.pages head_size (part page head_size (page_size - head_size)) → IsDescriptor page d }
@@ -69,7 +68,7 @@ pub fn a_descriptor_is_read_in_pieces()
     ensures pieces { (page : List ℕ) (d : Details) (at n : ℕ) → IsDescriptor page d → RestFits d.pages at (part page at n) }
 {}
 
-/// The test for a descriptor is true exactly where the page is one, and its fields are those that are read from it.
+/// The test for a descriptor is true exactly if the page is one, and its fields are those that are read from it.
 pub fn a_descriptor_is_tested()
     ensures tested { (page : List ℕ) → (is_descriptor page ≡ true) ↔ ((d : Details) × IsDescriptor page d) }
     ensures fields { (page : List ℕ) (d : Details) → IsDescriptor page d → d ≡ fields_in page }

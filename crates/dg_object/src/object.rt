@@ -101,7 +101,7 @@ fn data_page_crc(bytes: &[u8], p: u8) -> u16
     crc16_more(crc, &filling[held.len()..])
 }
 
-/// Writes `piece` after the `at` bytes that stand at the beginning of a page that is filled up.
+/// Writes `piece` after the first `at` bytes of a page that is filled up.
 fn put_behind(page: &mut [u8; PAGE_SIZE], at: usize, piece: &[u8])
     requires { at + length piece.now ≤ page_size }
     ensures { (front : List ℕ) → length front ≡ at → page.old ≡ padded page_size 255 front
@@ -142,7 +142,7 @@ fn name_field(name: &[u8]) -> [u8; NAME_SIZE]
     field
 }
 
-/// Writes the head of a descriptor, and fills the page after them.
+/// Writes the head of a descriptor, and fills the page after it.
 fn write_head(image: u8, pages: u8, version: u32, len: u32, name: &[u8], into: &mut [u8; PAGE_SIZE])
     requires { length name.now ≤ name_size }
     ensures { into.new ≡ padded page_size 255 (head_of image pages version len name.now) }

@@ -1,4 +1,4 @@
-//! What is told of an object before any of its pages.
+//! What is announced of an object before any of its pages.
 ghost use Rattle.std.specs.Prelude.{◌≤◌};
 ghost use Rattle.dg_object.specs.Sizes.{fewest_pages, most_pages};
 

@@ -31,7 +31,7 @@ pub const SLOTS: u8 = 7;
 /// The bytes of a descriptor before the CRCs.
 pub const HEAD_SIZE: usize = 28;
 
-/// What stands after them is read from a chip, and looked at, in pieces of at most this many bytes.
+/// What comes after them is read from a chip, and checked, in pieces of at most this many bytes.
 pub const DESCRIPTOR_PIECE: usize = 96;
 
 /// A packet, as it is read from a chip and carried in a message.
@@ -40,7 +40,7 @@ pub type PacketBytes = [u8; PACKET_SIZE];
 /// The bytes of a descriptor before the CRCs, as they are read from a chip.
 pub type Head = [u8; HEAD_SIZE];
 
-/// A piece of what stands after them.
+/// A piece of what comes after them.
 pub type DescriptorPiece = [u8; DESCRIPTOR_PIECE];
 
 /// The bytes that the array of a packet takes, by its type.
@@ -55,7 +55,7 @@ pub const SIZE_OF_DESCRIPTOR_PIECE: usize = size_of::<DescriptorPiece>();
 /// Why no image has this length.
 #[derive(Clone, Copy, Debug, PartialEq, Eq)]
 pub enum SizeFault {
-    /// There is no byte.
+    /// There are no bytes.
     Empty,
     /// There are more bytes than the pages of an object hold.
     TooLarge,

@@ -68,7 +68,7 @@ fn descriptors(rt: HostRuntime) -> Result<(), Fail> {
     );
     assert_eq!(rt; read.name.as_slice(), b"blink".as_slice());
 
-    // a byte that is changed, and what it makes of the page
+    // the place of a byte, what it is changed to, and the fault of the page then
     let rows = [
         (0, b'd', DescriptorFault::Tag),
         (1, 0, DescriptorFault::Tag),

@@ -9,7 +9,7 @@ use Rattle.dg_slot.specs.Pages.{page_in}
 use Rattle.dg_volume.specs.Sizes.{copy_operations}
 use Rattle.dg_boot.proofs.loading.copy_pages.Given as goal
 
--- the checksum so far, of what is left behind it, is that of all
+-- the checksum so far, continued over what is left, is that of all
 abbrev pub invariant-loop-p : goal.invariant-loop-p
 invariant-loop-p g l =
     let old = g.N.Nor.device l.fn.nor in

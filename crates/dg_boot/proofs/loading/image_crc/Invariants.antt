@@ -7,7 +7,7 @@ use Rattle.dg_slot.specs.Layout.{page_size, program_sector}
 use Rattle.dg_slot.specs.Pages.{page_in}
 use Rattle.dg_boot.proofs.loading.image_crc.Given as goal
 
--- the checksum so far, of what is left behind it, is that of all
+-- the checksum so far, continued over what is left, is that of all
 abbrev pub invariant-loop-p : goal.invariant-loop-p
 invariant-loop-p g l =
     let old = g.N.Nor.device l.fn.nor in

@@ -1,4 +1,4 @@
--- The four fields, each put behind the ones before it.
+-- The four fields, each put after the ones before it.
 use Rattle.std.proofs.Common.{[], ◌∷◌, ◌++◌, refl}
 use Rattle.std.specs.Int.{to_be_bytes, w32}
 use Rattle.dg_object.proofs.object.write_head.Goals as goal
