@@ -16,7 +16,7 @@ use Rattle.dg_bits.proofs.SetLaws.{contains-put, contains-without, contains-both
 
 -- ---- one byte is changed
 
--- b is the byte of number n with that number's bit as v, and each other bit as it was
+-- b is the byte of number n with that number's bit as v, and each other bit unchanged
 pub record ChangesBit (bytes : List ℕ) (n v b : ℕ) : Type 0 where
   pub here : bit_at b (7 - n % 8) ≡ v
   pub others : (i : ℕ) → i < 8 → i ≢ 7 - n % 8 → bit_at b i ≡ bit_at (get_or bytes (n / 8) 0) i
@@ -81,7 +81,7 @@ byte_fits bytes i b h fit k =
       | inr ne ↦ let at : get_or (put bytes i b) k 0 ≡ get_or bytes k 0 = get_or-set_other bytes i k b 0 ne in omega (arith, fit k)
     ]
 
--- packed bytes stay so where one bit below the size changes
+-- packed bytes stay packed if one bit below the size changes
 pub IsPacked-changed : (size : ℕ) (bytes : List ℕ) (n v b : ℕ) → IsPacked size bytes → n < size → b < 256 → ChangesBit bytes n v b → IsPacked size (put bytes (n / 8) b)
 IsPacked-changed size bytes n v b packed lt fits c =
     record {

@@ -51,7 +51,7 @@ IsPacked-zeros size some fits =
 below_size : (size n : ℕ) (m : Bool) → (size ≤ n → m ≡ false) → m ≡ true → n < size
 below_size size n m none is = elim (cases_lt n size) [ inl h ↦ h | inr h ↦ absurd (both_ways m (none h) is) ]
 
--- the set of packed bytes has numbers below the size alone
+-- the set of packed bytes has only numbers below the size
 pub AllBelow-packed : (size : ℕ) (bytes : List ℕ) (s : Numbers) → numbers_of bytes ≡ s → ((n : ℕ) → size ≤ n → is_marked bytes n ≡ false) → AllBelow size s
 AllBelow-packed size bytes s e within q is = below_size size q (is_marked bytes q) (within q) (sym (contains-numbers_of bytes q) ∙ ap (λ t. set.contains t q) e ∙ is)
 
@@ -66,7 +66,7 @@ IsLeast-marked bytes s n e here before =
     not_before : (low high : ℕ) (m : Bool) → (high < low → m ≡ false) → m ≡ true → low ≤ high
     not_before low high m none is = elim (cases_lt high low) [ inl h ↦ absurd (both_ways m (none h) is) | inr h ↦ h ]
 
--- where no bit is set the set is empty
+-- if no bit is set, the set is empty
 pub empty_unmarked : (size : ℕ) (bytes : List ℕ) (s : Numbers) → numbers_of bytes ≡ s → ((q : ℕ) → q < size → is_marked bytes q ≡ false) → ((q : ℕ) → size ≤ q → is_marked bytes q ≡ false) → s ≡ set.empty
 empty_unmarked size bytes s e low high =
     sym e ∙ same_numbers _ _ (λ q.
@@ -86,7 +86,7 @@ marked_placed : (bytes : List ℕ) (n k r : ℕ) → n / 8 ≡ k → n % 8 ≡ r
 unfolding is_marked
 marked_placed bytes n k r place at i = eqb (bit_at (get_or bytes (place i) 0) (7 - at i)) 1
 
--- r bits stand above the highest one of a byte
+-- r bits are above the highest one of a byte
 pub record IsFirstBit (b r : ℕ) : Type 0 where
   pub below : r < 8
   pub here : bit_at b (7 - r) ≡ 1
@@ -218,7 +218,7 @@ same_packed size a b pa pb e =
 lists_decide : (xs ys : List ℕ) → Decides (pointwise eqb xs ys) (xs ≡ ys)
 lists_decide xs ys = bytes_decides xs ys
 
--- packed bytes are all 0 exactly where their set is empty
+-- packed bytes are all 0 exactly if their set is empty
 pub empty_zeros : (size : ℕ) (bytes : List ℕ) (s : Numbers) → IsPacked size bytes → numbers_of bytes ≡ s → Decides (pointwise eqb bytes (replicate 9 0)) (s ≡ set.empty)
 empty_zeros size bytes s packed e =
     Decides-like _ (λ all. sym e ∙ ap numbers_of all ∙ numbers_of-zeros 9)

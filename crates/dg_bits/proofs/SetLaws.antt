@@ -1,4 +1,4 @@
--- What the words on sets of numbers say of one number, and two sets with the same numbers.
+-- What the definitions on sets of numbers say of one number, and two sets with the same numbers.
 use Rattle.std.proofs.Common.{◌≡◌, ℕ, ◌+◌, ◌<◌, ◌≤◌, Bool, true, false, not, ◌&&◌, ◌||◌, cond, List, [], ◌∷◌, Option, Some, None, MatchOption, eqb, leb, ltb, refl, sym, ap, ◌∙◌, min, inl, inr, arith}
 use Rattle.std.proofs.lemmas.Bool.{cases_lt, lt-ltb, or_cases, or_right, both_ways, eqb-true, false≢true}
 use Rattle.std.proofs.lemmas.Bool.Decides.{nat_tests}
@@ -75,7 +75,7 @@ more_out b n q h = grind (arith, nat_tests)
 not_itself : (b : Bool) (n : ℕ) → (b && ltb n n) ≡ false
 not_itself b n = grind (arith, nat_tests)
 
--- one number more is in the set, and adds to the count
+-- one more number is in the set, and adds to the count
 pub len-up_to_in : (s : Numbers) (n : ℕ) → set.contains s n ≡ true → set.len (up_to s (n + 1)) ≡ set.len (up_to s n) + 1
 len-up_to_in s n is =
     ap set.len (same_numbers (up_to s (n + 1)) (set.insert (up_to s n) n) (λ q.
@@ -149,7 +149,7 @@ least_from s None e = no_items s e
 least_from s (Some n) h =
     record { member = contains-listed s n ∙ h.found; no_smaller = λ q in_set. h.bound q (sym (contains-listed s q) ∙ in_set) }
 
--- the least number is in the set with nothing smaller, and only the empty set has none
+-- the least number is in the set with nothing smaller, and only the empty set has no least number
 pub least_cases : (s : Numbers) → MatchOption (least s) (s ≡ set.empty) (IsLeast s)
 unfolding least
 least_cases s = least_from s (smallest (set.items s)) (smallest_cases (set.items s))

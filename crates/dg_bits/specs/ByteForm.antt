@@ -15,7 +15,7 @@ is_marked bytes n = bit_at (slice_index bytes (n / 8)) (7 - n % 8) == 1
 unfoldable pub numbers_of : List ℕ → Numbers
 numbers_of bytes = set.from_list (filter (is_marked bytes) (range_with_len 0 (8 * length bytes)))
 
--- 1 where the number is in the set
+-- 1 if the number is in the set
 abbrev pub bit_of : Numbers → ℕ → ℕ
 bit_of s n = if set.contains s n then 1 else 0
 
@@ -29,7 +29,7 @@ byte_of s k =
 unfoldable pub byte_form : ℕ → Numbers → List ℕ
 byte_form width s = map (byte_of s) (range_with_len 0 width)
 
--- nine bytes with the bits of numbers below `size` alone
+-- nine bytes with no bits but those of numbers below `size`
 pub record IsPacked (size : ℕ) (bytes : List ℕ) : Type 0 where
   pub width : length bytes ≡ 9
   pub bytes_fit : (k : ℕ) → slice_index bytes k < 256

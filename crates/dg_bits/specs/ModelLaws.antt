@@ -1,5 +1,5 @@
--- What the models of sets owe: sets with the same numbers are equal, and bytes are the byte form of the set that they make (the
--- laws that std asks of a `Model`).
+-- What the models of sets have to satisfy: sets with the same numbers are equal, and bytes are the byte form of the set that
+-- they make (the laws that std asks of a `Model`).
 use Rattle.std.proofs.Common.{◌≡◌, ℕ, zero, suc, ◌+◌, ◌-◌, ◌*◌, ◌/◌, ◌%◌, ◌<◌, ◌≤◌, Bool, true, false, Decides, ◌&&◌, ◌||◌, cond}
 use Rattle.std.proofs.Common.{List, length, get_or, eqb, leb, ltb, refl, sym, ap, ◌∙◌, inl, inr, arith}
 use Rattle.std.proofs.lemmas.Bool.{and_parts, and_from, cases_lt, eqb-true, false≢true}
@@ -67,7 +67,7 @@ within_length len n true past = elim (cases_lt n len)
     [ inl h ↦ grind (arith, nat_tests) | inr h ↦ absurd (false≢true (sym (past h))) ]
 within_length len n false past = refl
 
--- a number is in the set of some bytes exactly where its bit is set
+-- a number is in the set of some bytes exactly if its bit is set
 pub contains-numbers_of : (bytes : List ℕ) (n : ℕ) → set.contains (numbers_of bytes) n ≡ is_marked bytes n
 unfolding numbers_of
 contains-numbers_of bytes n =

@@ -21,7 +21,7 @@ pub record IsLeast (s : Numbers) (n : ℕ) : Type 0 where
   pub member : set.contains s n ≡ true
   pub no_smaller : (q : ℕ) → set.contains s q ≡ true → n ≤ q
 
--- the smaller of a number and what may be another
+-- the smaller of a number and another, if there is another
 abbrev pub smaller : ℕ → Option ℕ → ℕ
 smaller x None = x
 smaller x (Some y) = min x y
@@ -31,7 +31,7 @@ abbrev pub smallest : List ℕ → Option ℕ
 smallest [] = None
 smallest (x ∷ xs) = Some (smaller x (smallest xs))
 
--- the smallest number of a set, where it is not empty
+-- the smallest number of a set, if it is not empty
 unfoldable pub least : Numbers → Option ℕ
 least s = smallest (set.items s)
 

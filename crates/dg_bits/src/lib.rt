@@ -13,7 +13,7 @@ ghost use Rattle.dg_bits.specs.ByteForm.{is_marked, numbers_of, byte_form};
 
 use std::marker::Model;
 
-/// The bytes that a set takes inside, whatever its size.
+/// The bytes that a set takes in memory, whatever its size.
 const WIDTH: usize = 9;
 
 /// A set of numbers below `N`, which is 1 to 72.
@@ -94,7 +94,7 @@ impl<const N: usize> PageBits<N> {
         self.bytes[k] = with_bit(self.bytes[k], 7 - n % 8);
     }
 
-    /// Takes a number below `N` out of the set, where it is in it.
+    /// Takes a number below `N` out of the set, if it is there.
     pub fn clear(&mut self, n: u8)
         requires { n < N }
         ensures { self.new ≡ set.remove self.old n }
@@ -149,7 +149,7 @@ impl<const N: usize> PageBits<N> {
         members
     }
 
-    /// Whether the set has no number.
+    /// Whether the set is empty.
     pub fn is_empty(&self) -> bool
         ensures { IsTrue result ↔ (self.now ≡ set.empty) }
     {
@@ -166,8 +166,7 @@ impl<const N: usize> PageBits<N> {
         into.copy_from_slice(&self.bytes[..into.len()]);
     }
 
-    /// Reads a byte form, of (N + 7) / 8 bytes. The answer is `None` exactly where a bit at `N` or
-    /// past it is set.
+    /// Reads a byte form, of (N + 7) / 8 bytes. The result is `None` exactly if a bit at `N` or after it is set.
     pub fn from_bytes(bytes: &[u8]) -> Option<Self>
         requires some_size { 1 ≤ N }
         requires fits { N ≤ 72 }
@@ -186,8 +185,8 @@ impl<const N: usize> PageBits<N> {
     }
 }
 
-/// Bytes and sets of numbers are one: the bytes of a set of numbers that fit read back as that
-/// set, and a set that was read from bytes is written as those bytes.
+/// Bytes and sets of numbers correspond one to one: the bytes of a set of numbers that fit read back as that set, and a set
+/// that was read from bytes is written as those bytes.
 pub fn one_byte_form()
     ensures bits { (bytes : List ℕ) (n : ℕ) → set.contains (numbers_of bytes) n ≡ is_marked bytes n }
     ensures of_set { (width : ℕ) (s : Numbers) → AllBelow (8 * width) s
@@ -196,7 +195,7 @@ pub fn one_byte_form()
         → byte_form (length bytes) (numbers_of bytes) ≡ bytes }
 {}
 
-/// Each set but the empty one has one least number.
+/// Each set except the empty one has exactly one least number.
 pub fn one_least_number()
     ensures some { (s : Numbers) → MatchOption (least s) (s ≡ set.empty) (IsLeast s) }
     ensures only { (s : Numbers) (n : ℕ) → IsLeast s n → least s ≡ Some n }
@@ -210,7 +209,7 @@ fn is_set(bytes: &[u8], n: usize) -> bool
     bytes[n / 8] >> (7 - n % 8) & 1 == 1
 }
 
-// How many bits stand above the highest one that is set.
+// How many bits are above the highest one that is set.
 fn first_bit(byte: u8) -> u8
     requires { 0 < byte }
     ensures below { result < 8 }

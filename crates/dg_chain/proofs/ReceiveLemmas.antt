@@ -15,7 +15,7 @@ use Rattle.dg_chain.specs.Receiving.{fill_operations, receive_page_trail, Receiv
 use Rattle.dg_chain.specs.declared.sealing.ChainSealing.{ChainSealing}
 use Rattle.dg_chain.specs.declared.sealing.ChainSealing.TheVariants.{Sealed, Foreign, Bad}
 
--- ---- acts of which it is said only how many operations they make
+-- ---- acts of which only the number of operations is specified
 
 pub halted_within : (m n total : ℕ) {may : ℕ → List ℕ → Type 0} (a b c : Device) → m + n ≤ total → Ran m a b → Halted n may b c → Halted total (λ _ _. ⊤) a c
 halted_within m n total {may} a b c fits ran h =
@@ -69,7 +69,7 @@ sealing_stops expected image i h page made a b c e f ran stops =
     let here : SlotStops image (chained_trail expected image h page) b c = subst (λ (l : List ℕ). SlotStops image (chained_trail expected image h l) b c) f first in
     sealing_by (is_same (sha256 page) expected) (may_seal image h page) image h (with_page h page) a b c ran here
 
--- ---- what it answers
+-- ---- what it returns
 
 received_by : (expected : List ℕ) (image : ℕ) (h : Held) (page : List ℕ) (a b c : Device) (answer : ChainSealing) → Ran 49 a b → SealsChained expected image h page b c answer → Receives expected image h page a c answer
 received_by expected image h page a b c (Sealed o next) ran seals = (seals.0, seals.1, seals.2.0, seals.2.1, Ran_then ran seals.2.2)
@@ -81,7 +81,7 @@ received expected image i h page made a b c answer e f ran seals =
     let first : SealsChained expected image h made b c answer = subst (λ (n : ℕ). SealsChained expected n h made b c answer) e seals in
     received_by expected image h page a b c answer ran (subst (λ (l : List ℕ). SealsChained expected image h l b c answer) f first)
 
--- ---- what an answer says is weakened
+-- ---- what a result says is weakened
 
 pub if_ok_then : {T E : Type 0} (P Q : T → Type 0) (r : Result T E) → ((x : T) → P x → Q x) → IfOk r P → IfOk r Q
 if_ok_then P Q (Ok x) f p = f x p

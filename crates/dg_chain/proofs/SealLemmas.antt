@@ -46,7 +46,7 @@ chained_stops expected image h page a b c e looked stops =
     let here : SlotStops image t a c = halted_behind (operations t) (MayLeave (λ d g. KeepsImage d image g) (λ x y. y ≡ x) t) a b c looked stops in
     subst (λ (b : Bool). SlotStops image (if b then t else resting h 0) a c) (sym same) here
 
--- ---- what it answers
+-- ---- what it returns
 
 pub job_same : (c d : List ℕ) (j : PageJob) (h : Held) (ps : Packets) → d ≡ c → IsJob c j h ps → IsJob d j h ps
 job_same c d j h ps e job = subst (λ (x : List ℕ). IsJob x j h ps) (sym e) job

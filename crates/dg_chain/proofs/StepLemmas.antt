@@ -40,7 +40,7 @@ first_four cells four e = e ∙ sym (take-take 4 1104 (drop 0 cells) (omega arit
 
 -- ---- pages that follow
 
--- the digest that the last of these pages carries, or this one where there is none
+-- the digest that the last of these pages carries, or this one if there are no pages
 abbrev pub last_or : List ℕ → List (List ℕ) → List ℕ
 last_or kept [] = kept
 last_or kept (page ∷ pages) = last_or (field_of page) pages
@@ -62,7 +62,7 @@ pub broken_here : (kept : List ℕ) (n : ℕ) (page : List ℕ) (pages : List (L
 broken_here kept n page pages at e =
     broken_by (is_same (sha256 page) kept) None (first_break (field_of page) (n + 1) pages) (record { page = n; kept = kept; found = sha256 page }) at e
 
--- one that is not gives the digest of the next
+-- a page that is not broken gives the digest of the next
 pass_by : (t : Bool) (b : Option Break) (x : Break) → cond t None (Some x) ≡ None → cond t b (Some x) ≡ b
 pass_by true b x e = refl
 pass_by false b x e = cc
@@ -71,7 +71,7 @@ pub passed_here : (kept : List ℕ) (n : ℕ) (page : List ℕ) (pages : List (L
 passed_here kept n page pages e =
     pass_by (is_same (sha256 page) kept) (first_break (field_of page) (n + 1) pages) (record { page = n; kept = kept; found = sha256 page }) e
 
--- ---- a walk over the pages of a slot: it stands before page n, and `whole` is what the pages from page 1 on say
+-- ---- a walk over the pages of a slot: it is at page n, and `whole` is what the pages from page 1 on say
 
 pub walk_more : (c d : List ℕ) (image n m k : ℕ) (kept next : List ℕ) (whole : Option Break) → d ≡ c → m ≡ suc k
     → first_break kept n (page_in d (page_sector image n) ∷ []) ≡ None → next ≡ field_of (page_in d (page_sector image n))

@@ -1,4 +1,4 @@
--- Pages that one root names are the same, or two of them have one digest; and a chain answers its own root.
+-- Pages that one root names are the same, or two of them have one digest. A chain passes the check against its own root.
 use Rattle.std.proofs.Common.{◌≡◌, ◌≢◌, ◌⊎◌, inl, inr, ℕ, zero, suc, ◌+◌, ◌*◌, ◌<◌, ◌≤◌, ◌==◌, nat_le, Bool, true, false, cond, List, [], ◌∷◌, ◌++◌, length, take, drop, map, Option, Some, None, refl, ap, sym, ◌∙◌, subst, arith, length-append, length-take}
 use Rattle.std.proofs.Math.Seq.{drop-append_seam}
 use Rattle.std.proofs.lemmas.List.{take-append-le, take-take, take_at}
@@ -132,7 +132,7 @@ length_chain x = length_chained (pieces x) ∙ length-tabulate (pages_of_size (l
 some_pages : (len : ℕ) → 1 ≤ pages_of_size len
 some_pages len = omega arith
 
--- the length that the first page tells
+-- the length that the first page gives
 first_told : (f : ℕ → List ℕ) (m : ℕ) → 1 ≤ m → 4 ≤ length (f 0) → payload_length_in (chained (tabulate m f)) ≡ from_be_bytes w32 (take 4 (f 0))
 unfolding chained
 first_told f zero h l = absurd (omega arith)

@@ -1,4 +1,4 @@
--- What the code answers, beside the answer by the rules (docs/COMMANDS.md, "Hash-chained images").
+-- What the code returns, beside the answer by the rules (docs/COMMANDS.md, "Hash-chained images").
 use Rattle.std.specs.Prelude.{◌≡◌, ◌≢◌, ⊤, ℕ, if◌then◌else◌, List, length, Some, None, Result, Ok, Err}
 use Rattle.sha2.specs.Sha256.{sha256}
 use Rattle.dg_nor.specs.Device.{Device}
@@ -18,14 +18,14 @@ use Rattle.dg_chain.specs.declared.sealing.ChainSealing.TheVariants.{Sealed, For
 abbrev pub IsKeptWhole : List ℕ → ℕ → Type 0
 IsKeptWhole c image = (h : Held) × KeepsImage c image h × (length h.complete ≡ h.pages)
 
--- the code's answer is this one, but for a stop
+-- the code's result is this answer, unless the chip stopped
 abbrev pub ChainAnswers : Result ℕ ChainFault → Answer → Type 0
 ChainAnswers (Ok n) answer = answer ≡ Fine n
 ChainAnswers (Err fault.Stopped) answer = ⊤
 ChainAnswers (Err (fault.Broken page kept found)) answer = answer ≡ Broken (record { page = page; kept = kept; found = found })
 ChainAnswers (Err fault.Shape) answer = answer ≡ Misshapen
 
--- No page of these is broken, from page number n on, and the last one carries this digest; or one is.
+-- From page number n on, no page of these is broken and the last one carries this digest; or this is the first broken page.
 abbrev pub Walks : (kept : List ℕ) → ℕ → List (List ℕ) → Result (List ℕ) ChainFault → Type 0
 Walks kept n pages (Ok field) = (first_break kept n pages ≡ None) × (field ≡ last_field pages)
 Walks kept n pages (Err fault.Stopped) = ⊤
@@ -33,24 +33,24 @@ Walks kept n pages (Err (fault.Broken page named found)) =
     first_break kept n pages ≡ Some (record { page = page; kept = named; found = found })
 Walks kept n pages (Err fault.Shape) = ⊥
 
--- Nothing but reads were made, whatever was found, or the chip stopped.
+-- Only reads were made, whatever was found, also if the chip stopped.
 abbrev pub ChainEnds : {T : Type 0} → Result T ChainFault → Device → Device → Type 0
 ChainEnds (Ok x) old new = Looked old new
 ChainEnds (Err fault.Stopped) old new = ReadStopped old new
 ChainEnds (Err (fault.Broken page kept found)) old new = Looked old new
 ChainEnds (Err fault.Shape) old new = Looked old new
 
--- One operation makes the page complete where it is the expected one and fits, and none is made where it is not or does not.
+-- If the page is the expected one and fits, one operation makes it complete. Otherwise no operation is made.
 abbrev pub chained_trail : (expected : List ℕ) → ℕ → Held → List ℕ → Trail Held
 chained_trail expected image h page = if is_same (sha256 page) expected then seal_trail image h page else resting h 0
 
--- the slot that a sealing hands on
+-- the slot that a seal returns
 abbrev pub chained_slot : ChainSealing → OpenSlot
 chained_slot (Sealed o next) = o
 chained_slot (Foreign found o) = o
 chained_slot (Bad kept found o) = o
 
--- what a seal answers, over a chip on which the packets of a data page stood
+-- what a seal returns, on a chip that holds the packets of a data page
 abbrev pub SealsChained : (expected : List ℕ) → ℕ → Held → List ℕ → Device → Device → ChainSealing → Type 0
 SealsChained expected image h page old new (Sealed o next) =
     (sha256 page ≡ expected) × (next ≡ field_of page) × Seals image h page old new (sealing.Sealed o)

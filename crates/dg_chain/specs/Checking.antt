@@ -1,5 +1,5 @@
--- What the pages of a slot say of a root: the payload's length, the first page that isn't the one named before it, or that they
--- have another shape (docs/COMMANDS.md, "Hash-chained images").
+-- What a check of the pages of a slot against a root gives: the payload's length, the first page that isn't the one named
+-- before it, or that they have another shape (docs/COMMANDS.md, "Hash-chained images").
 use Rattle.std.specs.Prelude.{◌≡◌, ◌≢◌, ℕ, ◌+◌, ◌<◌, ◌==◌, ◌&&◌, nat_le, nat_eq, Bool, if◌then◌else◌, List, [], ◌∷◌, length, map}
 use Rattle.std.specs.Prelude.{take, drop, slice_index_or, Option, Some, None}
 use Rattle.std.specs.List.{range_with_len}
@@ -39,7 +39,7 @@ first_break kept n (page ∷ pages) =
     if is_same (sha256 page) kept then first_break (field_of page) (n + 1) pages
     else Some (record { page = n; kept = kept; found = sha256 page })
 
--- the length that the first page tells
+-- the length that the first page gives
 abbrev pub payload_length_in : List (List ℕ) → ℕ
 payload_length_in [] = 0
 payload_length_in (page ∷ pages) = from_be_bytes w32 (take 4 page)

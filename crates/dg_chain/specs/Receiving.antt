@@ -1,4 +1,4 @@
--- A data page that is received: it is filled packet by packet, and then sealed where it is the expected one (docs/COMMANDS.md,
+-- A data page that is received: it is filled packet by packet, and then sealed if it is the expected one (docs/COMMANDS.md,
 -- "Hash-chained images").
 use Rattle.std.specs.Prelude.{◌≡◌, ◌≢◌, ◌+◌, ◌&&◌, true, ℕ, if◌then◌else◌, List}
 use Rattle.sha2.specs.Sha256.{sha256}
@@ -17,17 +17,17 @@ use Rattle.dg_chain.specs.declared.sealing.ChainSealing.TheVariants.{Sealed, For
 abbrev pub fill_operations : ℕ
 fill_operations = packets + 1
 
--- and with the one of its gate
+-- and sealed by one more, that of its gate
 abbrev pub seal_operations : ℕ
 seal_operations = fill_operations + 1
 
--- The page is filled, and one operation more makes it complete where it is the expected one and fits.
+-- The page is filled. If it is the expected one and fits, one more operation makes it complete.
 abbrev pub receive_page_trail : (expected : List ℕ) → ℕ → Held → List ℕ → Trail Held
 receive_page_trail expected image h page =
     if is_same (sha256 page) expected && may_seal image h page then stepping h seal_operations (with_page h page)
     else resting h fill_operations
 
--- what is answered to a data page that is received
+-- what the receipt of a data page returns
 abbrev pub Receives : (expected : List ℕ) → ℕ → Held → List ℕ → Device → Device → ChainSealing → Type 0
 Receives expected image h page old new (Sealed o next) = (sha256 page ≡ expected) × (next ≡ field_of page)
     × (may_seal image h page ≡ true) × IsOpen new.image o (with_page h page) × Ran seal_operations old new

@@ -1,4 +1,4 @@
--- How faults are told (docs/COMMANDS.md, "Hash-chained images").
+-- How faults are displayed (docs/COMMANDS.md, "Hash-chained images").
 use Rattle.std.specs.Prelude.{ℕ, List, ◌++◌, codes}
 use Rattle.std.specs.Fmt.{decimal}
 use Rattle.dg_chain.specs.declared.checking.ChainFault.{ChainFault}

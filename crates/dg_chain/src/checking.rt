@@ -1,4 +1,4 @@
-//! The pages of a slot are compared with a root.
+//! The pages of a slot are checked against a root.
 ghost use Rattle.std.specs.Prelude.{◌≡◌, ◌≢◌, ◌⊎◌, ℕ, ◌+◌, ◌<◌, ◌≤◌, ◌==◌, ◌&&◌, nat_le, false, List, Ok, Err, length, drop};
 ghost use Rattle.std.specs.Prelude.{IfOk, OnOk, OnErr, [], ◌∷◌};
 ghost use Rattle.dg_slot.specs.Layout.{slots, most_pages, page_sector};
@@ -21,13 +21,13 @@ use sha2::{Digest, Sha256};
 pub enum ChainFault {
     /// The chip stopped.
     Stopped,
-    /// The first data page whose digest is not the one named before it, with both. Data page 1 is 1.
+    /// The first data page whose digest is not the one named before it, with both digests. Data page 1 has number 1.
     Broken {
         page: u8,
         kept: [u8; DIGEST_SIZE],
         found: [u8; DIGEST_SIZE],
     },
-    /// No page is broken, and they are not the pages of the length that the first one tells, or more are named.
+    /// No page is broken, but they are not the pages of the length that the first one gives, or the last one names another.
     Shape,
 }
 
@@ -59,7 +59,7 @@ fn count_of<N: Nor>(nor: &mut N, image: u8) -> Result<u8, ChainFault>
     Ok(first.descriptor.pages - 1)
 }
 
-// The digest that a page carries, where it has the one that is kept of it.
+// The digest that a page carries, if it has the one that is kept of it.
 fn pass_page<N: Nor>(
     nor: &mut N,
     image: u8,
@@ -84,7 +84,7 @@ fn pass_page<N: Nor>(
     Ok(field_of(&bytes))
 }
 
-// The digest that the last of this many data pages carries, where each has the one that is named before it.
+// The digest that the last of this many data pages carries, if each has the one that is named before it.
 fn walk<N: Nor>(
     nor: &mut N,
     image: u8,
@@ -115,7 +115,7 @@ fn is_shape(length: u32, count: u8, last: &[u8; DIGEST_SIZE]) -> bool
     usize::from(count) == pages_of_size(length as usize) && *last == [0; DIGEST_SIZE]
 }
 
-// The length of the payload that this many data pages hold, where they are the pages that a root names.
+// The length of the payload that this many data pages hold, if they are the pages that a root names.
 fn check_pages<N: Nor>(
     nor: &mut N,
     image: u8,
@@ -136,16 +136,16 @@ fn check_pages<N: Nor>(
     Ok(length)
 }
 
-/// The length of the payload that the data pages of a slot hold, where they are the pages that a root names. The slot is whole.
+/// The length of the payload that the data pages of a slot hold, if they are the pages that a root names. The slot is whole.
 pub fn check<N: Nor>(nor: &mut N, image: u8, root: &[u8; DIGEST_SIZE]) -> Result<u32, ChainFault>
     requires known_image { image < slots }
     requires whole { IsKeptWhole (N.device nor.old).image image }
     ensures answer { (h : Held) → KeepsImage (N.device nor.old).image image h
         → ChainAnswers result (answer_of root.now (drop 1 h.complete)) }
-    // Pages that answer the root of a payload are its pages, or two of one index that differ have one digest.
+    // Pages that pass the check against a payload's root are its pages, or two different ones at one index have one digest.
     ensures named { (x : List ℕ) (h : Held) → IsPayload x → root.now ≡ root_of x → KeepsImage (N.device nor.old).image image h
         → OnOk result ((drop 1 h.complete ≡ chain x) ⊎ Collision (drop 1 h.complete) (chain x)) }
-    // Its own pages answer with its length.
+    // Its own pages give its length.
     ensures own { (x : List ℕ) (h : Held) → IsPayload x → root.now ≡ root_of x → KeepsImage (N.device nor.old).image image h
         → drop 1 h.complete ≡ chain x
         → (result ≡ Ok (length x)) ⊎ (result ≡ Err ChainFault.Stopped) }

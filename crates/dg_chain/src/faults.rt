@@ -1,4 +1,4 @@
-//! How faults are told.
+//! How faults are displayed.
 use crate::checking::ChainFault;
 use crate::wrapping::WrapFault;
 use std::error::Error;

@@ -21,5 +21,5 @@ pub const PIECE_SIZE: usize = 1_072;
 /// The bytes of a digest.
 pub const DIGEST_SIZE: usize = 32;
 
-/// The most bytes of a payload: those of 64 pages, less the four of its length.
+/// The most bytes of a payload: those of 64 pages, minus the four of its length.
 pub const MOST_PAYLOAD: usize = 68_604;

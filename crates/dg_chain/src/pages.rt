@@ -1,4 +1,4 @@
-//! Data pages as they stand in a slot.
+//! Data pages in a slot.
 ghost use Rattle.std.specs.Prelude.{◌≡◌, ◌<◌, take, false, IfOk, OnOk};
 ghost use Rattle.std.specs.Int.{from_be_bytes, w32};
 ghost use Rattle.dg_nor.specs.Reads.{ReadEnds};
@@ -11,7 +11,7 @@ use dg_nor::{Nor, Stopped, read_in};
 use dg_object::PAGE_SIZE;
 use dg_slot::page_sector;
 
-/// Reads a page as it is in its slot. After `Stopped` nothing is said of what `into` holds.
+/// Reads a page from its slot. After `Stopped` the content of `into` is unspecified.
 pub(crate) fn read_page<N: Nor>(
     nor: &mut N,
     image: u8,
@@ -36,7 +36,7 @@ pub(crate) fn field_of(page: &[u8; PAGE_SIZE]) -> [u8; DIGEST_SIZE]
     field
 }
 
-/// The length that data page 1 of a slot tells.
+/// The length that data page 1 of a slot gives.
 pub(crate) fn told_length<N: Nor>(nor: &mut N, image: u8) -> Result<u32, Stopped>
     requires { image < slots }
     ensures length { IfOk result (λ n. n ≡ from_be_bytes w32 (take 4 (page_in (N.device nor.old).image (page_sector image 1)))) }

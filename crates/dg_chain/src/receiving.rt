@@ -1,4 +1,4 @@
-//! A data page of a chained image is received: filled, and sealed where it is the expected one.
+//! A data page of a chained image is received: filled, and sealed if it is the expected one.
 ghost use Rattle.std.specs.Prelude.{◌≡◌, ◌<◌, ◌≤◌, false, length, OnOk, OnErr, IfOk};
 ghost use Rattle.dg_nor.specs.Chip.{Touches};
 ghost use Rattle.dg_slot.specs.Layout.{header_sector, slot_end};
@@ -13,8 +13,8 @@ use dg_nor::{Nor, Stopped};
 use dg_object::PAGE_SIZE;
 use dg_slot::OpenSlot;
 
-/// Fills the next page of a slot, a data page, and makes it complete where it is the expected one and its CRC is the one that is
-/// kept of it. 50 operations, and 49 where it is not.
+/// Fills the next page of a slot, a data page. Makes it complete if it is the expected one and its CRC is the one that is kept
+/// of it. 50 operations, or 49 if it is not made complete.
 pub fn receive_page<N: Nor>(
     nor: &mut N,
     slot: OpenSlot,

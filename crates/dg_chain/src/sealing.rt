@@ -14,7 +14,7 @@ use dg_object::PAGE_SIZE;
 use dg_slot::{OpenSlot, PageJob, Sealing};
 use sha2::{Digest, Sha256};
 
-/// How a data page was sealed.
+/// The outcome of sealing a data page.
 #[derive(Debug, Drop)]
 pub enum ChainSealing {
     /// The page is complete, and names the next.
@@ -35,8 +35,8 @@ pub enum ChainSealing {
     },
 }
 
-/// Makes a data page complete, where it is the expected one and its CRC is the one that is kept of it. 1 operation, and none
-/// where it is not.
+/// Makes a data page complete, if it is the expected one and its CRC is the one that is kept of it. 1 operation, or 0 if it is
+/// not made complete.
 pub fn seal_chained<N: Nor>(
     job: PageJob,
     nor: &mut N,
@@ -69,7 +69,7 @@ pub fn seal_chained<N: Nor>(
     match job.seal(nor)? {
         Sealing::Sealed(slot) => Ok(ChainSealing::Sealed { slot, next }),
         Sealing::Bad { kept, found, slot } => Ok(ChainSealing::Bad { kept, found, slot }),
-        // Only page 0 may be unfit. A `PageJob` is of any page, and its type does not tell of which.
+        // Only page 0 may be unfit. A `PageJob` is of any page, and its type does not say of which.
         Sealing::Unfit { .. } => unreachable!(),
     }
 }

@@ -1,4 +1,4 @@
--- When an order waits to be started, by what a volume tells (docs/IMAGES.md, "The start").
+-- When an order waits to be started, by what a volume reports (docs/IMAGES.md, "The start").
 use Rattle.std.specs.Prelude.{◌≡◌, ◌≢◌, ℕ, ◌≤◌, ◌==◌, ◌&&◌, nat_le, Bool, false, not, Option, Some, None}
 use Rattle.dg_control.specs.declared.snapshot.Program.{Program}
 use Rattle.dg_control.specs.declared.snapshot.Program.TheVariants.{Blank, Set}
@@ -13,7 +13,7 @@ abbrev pub is_some_version : Option ℕ → ℕ → Bool
 is_some_version None version = false
 is_some_version (Some v) version = v == version
 
--- the commits that the start of an order makes at most: program memory becomes blank, and is then set
+-- the most commits that the start of an order makes: program memory becomes blank, and is then set
 abbrev pub start_commits : ℕ
 start_commits = 2
 

@@ -7,7 +7,7 @@ ghost use Rattle.dg_order.specs.Pending.{pending, is_some_version, is_set, start
 
 use dg_control::{Order, Program, Snapshot};
 
-/// The commits that the start of an order makes at most: program memory becomes blank, and is then set to the image.
+/// The most commits that the start of an order makes: program memory becomes blank, and is then set to the image.
 pub const START_COMMITS: u32 = 2;
 
 /// Whether a heard order is better than the kept one: its number is larger.
@@ -30,13 +30,13 @@ pub fn pending(snapshot: &Snapshot, whole: Option<u32>, room: u32) -> bool
         && room >= START_COMMITS
 }
 
-/// The number is that of this profile: the start of an order makes two commits at most.
+/// The constant equals the number in its definition: the start of an order makes two commits at most.
 pub fn the_commits_are_these()
     ensures { START_COMMITS ≡ start_commits }
 {}
 
-/// An order waits to be started exactly where there is one, it is not waived, its image is kept whole in its version,
-/// program memory is not set to it, and two commits are left.
+/// An order waits to be started exactly if there is one, it is not waived, its image is kept whole in its version, program
+/// memory is not set to it, and two commits are left.
 pub fn an_order_waits()
     ensures { (p : Snapshot) (whole : Option ℕ) (room : ℕ) → (pending p whole room ≡ true) ↔ Waits p whole room }
 {}

@@ -91,7 +91,7 @@ pub laid_inside : (chip bytes : List ℕ) (used : ℕ) (c : Command) (image : Li
     → get_or (command_done bytes c image) (c.at + k) 0 ≡ laid_by (c.kind == erase_kind) (c.kind == program_kind) chip bytes c k (get_or image (c.at + k) 0)
 laid_inside chip bytes used c image size room fits = inside_by chip bytes used c image size room fits.place _ _ (by_kind chip used c image fits)
 
--- all others stay
+-- all others are unchanged
 pub laid_outside : (chip bytes : List ℕ) (used : ℕ) (c : Command) (image : List ℕ) → length image ≡ chip_size → used ≤ length bytes → CommandFits chip used c image → (i : ℕ) → (i < c.at) ⊎ (c.at + c.count ≤ i)
     → get_or (command_done bytes c image) i 0 ≡ get_or image i 0
 laid_outside chip bytes used c image size room fits = outside_by chip bytes used c image size room fits.place _ _ (by_kind chip used c image fits)
@@ -118,7 +118,7 @@ IsChip-command_done chip bytes used c image room fits is =
 
 -- ---- lists of commands
 
--- each of the commands fits, where those before it are carried out
+-- each of the commands fits, once those before it are carried out
 unfoldable pub FitEach : (chip bytes : List ℕ) (used : ℕ) → List Command → List ℕ → Type 0
 FitEach chip bytes used [] image = Unit {0}
 FitEach chip bytes used (c ∷ cs) image = CommandFits chip used c image × FitEach chip bytes used cs (command_done bytes c image)
@@ -134,7 +134,7 @@ all_of chip bytes used [] image fits k l = absurd (omega (arith, l))
 all_of chip bytes used (c ∷ cs) image fits zero l = fits.0
 all_of chip bytes used (c ∷ cs) image fits (suc k) l = all_of chip bytes used cs (command_done bytes c image) fits.1 k (omega (arith, l))
 
--- one command more
+-- one more command
 pub carried_more : (bytes : List ℕ) (cs : List Command) (c : Command) (image : List ℕ) → carried_out bytes (cs ++ c ∷ []) image ≡ command_done bytes c (carried_out bytes cs image)
 unfolding carried_out
 carried_more bytes [] c image = refl
@@ -145,7 +145,7 @@ unfolding carried_out FitEach
 fit_more chip bytes used [] c image fits next = (next, tt)
 fit_more chip bytes used (x ∷ cs) c image fits next = (fits.0, fit_more chip bytes used cs c (command_done bytes x image) fits.1 next)
 
--- the command with a number fits where those before it are carried out
+-- the command with a number fits, once those before it are carried out
 pub fits_at : (chip bytes : List ℕ) (used : ℕ) (cs : List Command) (image : List ℕ) (n k : ℕ) (d : Command) → FitEach chip bytes used (take n cs) image → k < n → k < length cs → CommandFits chip used (get_or cs k d) (carried_out bytes (take k cs) image)
 unfolding carried_out FitEach
 fits_at chip bytes used [] image n k d fits l m = absurd (omega (arith, m))
@@ -172,7 +172,7 @@ length-carried_out chip bytes used [] image size room fits = size
 length-carried_out chip bytes used (x ∷ cs) image size room fits =
     length-carried_out chip bytes used cs (command_done bytes x image) (length-command_done chip bytes used x image size room fits.0) room fits.1
 
--- ---- data that grow behind what is used
+-- ---- data that grow after what is used
 
 -- the used bytes are the same
 abbrev pub SameUsed : (bytes more : List ℕ) (used : ℕ) → Type 0

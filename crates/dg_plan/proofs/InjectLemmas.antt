@@ -6,7 +6,7 @@ use Rattle.dg_nor.proofs.ReadLemmas.{Looked_then}
 use Rattle.dg_volume.specs.declared.volume.InjectFault.{InjectFault}
 use Rattle.dg_volume.specs.declared.volume.InjectFault.TheVariants.{Stopped, Empty, TooLarge, Stale, Reserved, Worn, Taken}
 
--- the device was looked at before, and what is refused is unchanged, or looked at for its page 0
+-- the device was only read before, and a refusal leaves it unchanged, or reads its page 0
 pub refused_by : (e : InjectFault) (a b c : Device) → Looked a b → (e ≡ Stopped → ⊥) → ((e ≡ Taken → ⊥) → c ≡ b) → (e ≡ Taken → Looked b c) → Looked a c
 refused_by Stopped a b c looked ne same taken = absurd (ne refl)
 refused_by Empty a b c looked ne same taken = subst (Looked a) (sym (same (λ w. cc))) looked

@@ -1,4 +1,4 @@
--- A slot that is written by its header alone.
+-- A slot that is written after a read of its header only.
 use Rattle.std.proofs.Common.{◌≡◌, ℕ, ◌^◌, ◌<◌, ◌≤◌, List, Option, Some, None, IfSome, refl, sym, ap, subst, ◌∙◌, arith}
 use Rattle.dg_bits.specs.Sets.{Numbers}
 use Rattle.dg_nor.specs.Chip.{Touches}
@@ -57,7 +57,7 @@ pub stands_written : (alone : Alone) (versions : Versions) (c m d : List ℕ) (s
 stands_written alone versions c m d s i v o known same image touches found kept stands =
     alone m d s i known touches (written_by versions c m d s i v o known same image found kept stands (held s i) refl) (subst (λ (x : List ℕ). Stands x s) (sym same) stands)
 
--- ---- the same where the header is read first
+-- ---- the same if the header is read first
 
 -- the sector of the slot's next page is the one that was named
 pub same_sector : (o : OpenSlot) (name : PageName) → (outline_of_slot o).image ≡ name.image → done_of_slot o ≡ name.page → page_sector (outline_of_slot o).image (done_of_slot o) ≡ sector_named name

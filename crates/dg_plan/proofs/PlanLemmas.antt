@@ -48,7 +48,7 @@ plan_by t old new stands ran =
       chip = chip_lent new old ran.references;
     }
 
--- a device that was only looked at, and then something
+-- a device that was only read, and then something else
 none_first : (n : ℕ) → 0 + n ≡ n
 none_first n = omega arith
 
@@ -65,11 +65,11 @@ looked_halted {n} {may} {a} {b} {c} looked halted = record {
 pub read_halted : (n : ℕ) {a b : Device} → ReadStopped a b → Halted n (λ _ _. ⊤) a b
 read_halted n {a} {b} stopped = record { done = 0; halts = subst (λ (k : ℕ). Halts k 0 a b) (none_first n) (Halts_first n stopped.halts); leaves = tt }
 
--- a chip that was only looked at, and then an act
+-- a chip that was only read, and then an act
 pub plan_of_act : (t : Trail Store) (old mid new : Plan) (v : Volume) → Looked (plan_device old) (plan_device mid) → Acted t (plan_device mid) (plan_device new) v → IsPlanOf t old new
 plan_of_act t old mid new v looked acted = plan_by t old new acted.mounted.stands (looked_ran looked acted.ran)
 
--- operations that leave the store as it is
+-- operations that leave the store unchanged
 pub plan_of_rest : (n : ℕ) (s : Store) (old new : Plan) → Stands (planned new) s → Ran n (plan_device old) (plan_device new) → IsPlanOf (resting s n) old new
 plan_of_rest n s old new stands ran =
     plan_by (resting s n) old new (subst (Stands (planned new)) (sym (last-resting s n)) stands)

@@ -1,4 +1,4 @@
--- A page that is sealed as it stands.
+-- A page that is sealed as it is in its sector.
 use Rattle.std.proofs.Common.{◌≡◌, ◌≢◌, ◌⊎◌, ℕ, zero, suc, ◌<◌, ◌≤◌, Bool, true, false, List, length, Option, Some, None, ⊎_elim, refl, sym, ap, subst, ◌∙◌, arith}
 use Rattle.std.specs.Prelude.{IsSomeAnd, if◌then◌else◌}
 use Rattle.std.specs.FinSet as set
@@ -76,7 +76,7 @@ pub sealing_last : (s : Store) (i : ℕ) (h : Held) (page : List ℕ) → may_se
 sealing_last s i h page fits =
     subst (λ (b : Bool). last (if b then stepping s 1 (paged i page s) else resting s 0) ≡ paged i page s) (sym fits) (last-stepping s 1 (paged i page s))
 
--- ---- the page as it stands
+-- ---- the page in its sector
 
 pub all_in : (got : Numbers) → got ≡ below packets → (q : ℕ) → q < packets → set.contains got q ≡ true
 all_in got e q l = ap (λ (s : Numbers). set.contains s q) e ∙ contains-below packets q ∙ lt-ltb q packets l
@@ -90,7 +90,7 @@ AllPut = (c : List ℕ) (k : ℕ) (got : Numbers) → length c ≡ chip_size →
 abbrev pub PutPage : Type 0
 PutPage = (c : List ℕ) (k : ℕ) (got : Numbers) (ps : Packets) → length c ≡ chip_size → k < sectors → ((q : ℕ) → q < packets → set.contains got q ≡ true) → ArePut c k got ps → page_from ps ≡ page_in c k
 
--- all packets are there: they make the page that stands there
+-- all packets are there: they make the page in the sector
 pub record IsReady (c : List ℕ) (j : PageJob) (name : PageName) (h : Held) : Type 0 where
   pub packets_there : Packets
   pub is_job : IsJob c j h packets_there
@@ -113,7 +113,7 @@ ready all_put put_page c o j got name h whole known few slot every resumes image
       image = ap (λ (x : OpenSlot). (outline_of_slot x).image) slot ∙ image;
     }
 
--- ---- where the chip was only looked at before
+-- ---- a chip that was only read before
 
 same_page : (old mid : Plan) (name : PageName) → Looked (plan_device old) (plan_device mid) → standing (planned mid) name ≡ standing (planned old) name
 same_page old mid name looked = ap (λ (c : List ℕ). standing c name) looked.same_image
@@ -142,7 +142,7 @@ pub stopped_before : (old mid new : Plan) (name : PageName) (s : Store) (h : Hel
 stopped_before old mid new name s h looked x =
     looked_halted looked (subst (λ (p : List ℕ). Stops (sealing_trail s name.image h p) (plan_device mid) (plan_device new)) (same_page old mid name looked) x)
 
--- ---- a slot with one page more
+-- ---- a slot with one more page
 
 pub keeps_more : (new : List ℕ) (o : OpenSlot) (i : ℕ) (h : Held) (p q : List ℕ) → (outline_of_slot o).image ≡ i → p ≡ q → IsOpen new o (with_page h p) → KeepsImage new i (with_page h q)
 keeps_more new o i h p q image page opened = subst (λ (n : ℕ). KeepsImage new n (with_page h q)) image (subst (λ (x : List ℕ). KeepsImage new (outline_of_slot o).image (with_page h x)) page opened.keeps)

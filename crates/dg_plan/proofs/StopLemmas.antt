@@ -27,7 +27,7 @@ pub stops_first : (t : Trail Store) (p : Plan) → EachWorks t.stages → Stands
 unfolding carried_out
 stops_first t p works stands = record { store = t.first; stands_for = stands; allowed = leaves_first t.first t.stages works }
 
--- no command stood there before
+-- there was no command before
 alone : (cs : List Command) → cs ≡ [] → length cs ≡ 0
 alone cs e = ap length e
 

@@ -28,13 +28,13 @@ done_by false false bytes c image = programmed image c.at (part image c.from c.c
 abbrev pub command_done : (bytes : List ℕ) → Command → List ℕ → List ℕ
 command_done bytes c image = done_by (c.kind == erase_kind) (c.kind == program_kind) bytes c image
 
--- what commands make of a chip, carried out in their order
+-- the chip that commands leave, carried out in their order
 unfoldable pub carried_out : (bytes : List ℕ) → List Command → List ℕ → List ℕ
 carried_out bytes [] image = image
 carried_out bytes (c ∷ cs) image = carried_out bytes cs (command_done bytes c image)
 
--- A command stays within the chip. An erase takes a sector, a program bytes that are used, and a copy what stands as it stood in
--- the chip that was handed in.
+-- A command stays within the chip. An erase takes a sector, a program takes bytes that are used, and a copy takes what is
+-- unchanged from the chip that was handed in.
 pub record CommandFits (chip : List ℕ) (used : ℕ) (c : Command) (image : List ℕ) : Type 0 where
   pub place : c.at + c.count ≤ chip_size
   pub erases : (c.kind == erase_kind) ≡ true → c.count ≡ sector_size
@@ -46,7 +46,7 @@ pub record CommandFits (chip : List ℕ) (used : ℕ) (c : Command) (image : Lis
 abbrev pub no_command : Command
 no_command = record { kind = 0; at = 0; from = 0; count = 0 }
 
--- each of the commands does, where those before it are carried out
+-- each of the commands fits, once those before it are carried out
 abbrev pub CommandsFit : (chip bytes : List ℕ) (used : ℕ) → List Command → List ℕ → Type 0
 CommandsFit chip bytes used cs image =
     (k : ℕ) → k < length cs → CommandFits chip used (slice_index_or cs k no_command) (carried_out bytes (take k cs) image)

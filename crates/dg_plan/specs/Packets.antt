@@ -15,11 +15,11 @@ use Rattle.dg_plan.specs.declared.pages.PageName.{PageName}
 abbrev pub sector_named : PageName → ℕ
 sector_named name = page_sector name.image name.page
 
--- the page as it stands in its sector
+-- the page in its sector
 abbrev pub standing : List ℕ → PageName → List ℕ
 standing c name = page_in c (sector_named name)
 
--- Of this version of an image so much is kept that the page is its next one.
+-- This version of an image is kept up to this page, which is its next one.
 pub record IsNext (name : PageName) (h : Held) : Type 0 where
   pub version : h.version ≡ name.version
   pub page : length h.complete ≡ name.page
@@ -31,16 +31,16 @@ pub record IsElsewhere (name : PageName) (next : ℕ) (h : Held) : Type 0 where
   pub done : length h.complete ≡ next
   pub whole : next ≡ name.page → next ≡ h.pages
 
--- the sector of a page is erased where none of its packets was put
+-- the sector of a page is erased if not one of its packets was put
 abbrev pub erases : Option ℕ → ℕ
 erases None = 1
 erases (Some first) = 0
 
--- A packet is one program, after the erase. The store stays.
+-- A packet is one program, after the erase. The store is unchanged.
 abbrev pub packet_trail : Store → Numbers → Trail Store
 packet_trail s got = resting s (erases (least got) + 1)
 
--- The packets that were put into a sector. Where none was, whatever stands there is erased.
+-- The packets that were put into a sector. If no packet was, the sector may hold anything, and will be erased.
 pub record HadPut (c : List ℕ) (k : ℕ) (got : Numbers) (ps : Packets) : Type 0 where
   pub none : got ≡ set.empty → ps ≡ no_packets
   pub some : (got ≡ set.empty → ⊥) → ArePut c k got ps

@@ -30,7 +30,7 @@ lists_of p = p.commands.ghost_name ∷ p.bytes.ghost_name ∷ []
 abbrev pub lent_of : Plan → List ℕ
 lent_of p = p.commands.ghost_name ∷ p.bytes.ghost_name ∷ length p.commands.now ∷ length p.bytes.now ∷ chip_of p
 
--- It is stopped where a command or its bytes had no room.
+-- It is stopped if a command or its bytes had no room.
 abbrev pub plan_device : Plan → Device
 plan_device p = record {
   image = planned p;

@@ -1,4 +1,4 @@
--- What a chip is where its driver stopped between two commands (docs/C.md, "Plans").
+-- What a chip is if its driver stopped between two commands (docs/C.md, "Plans").
 use Rattle.std.specs.Prelude.{ℕ, take}
 use Rattle.dg_nor.specs.Trail.{Trail, MayLeave}
 use Rattle.dg_volume.specs.Store.{Store, IsNear}

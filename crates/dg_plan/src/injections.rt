@@ -39,7 +39,7 @@ pub fn inject(
     ensures no_volume { result ≡ Err ActFault.NotAVolume → IsNoVolume (planned plan.old) }
     ensures refused { (e : InjectFault) → result ≡ Err (ActFault.Act e) → e ≢ InjectFault.Stopped → (s : Store)
         → Stands (planned plan.old) s → inject_refusal s (row_of image version name.now bytes.now) ≡ Some e }
-    // what is refused leaves the plan as it was
+    // what is refused leaves the plan unchanged
     ensures looked { (e : ActFault InjectFault) → result ≡ Err e → e ≢ ActFault.Unread → e ≢ ActFault.Act InjectFault.Stopped
         → Looked (plan_device plan.old) (plan_device plan.new) }
     ensures stopped { result ≡ Err (ActFault.Act InjectFault.Stopped) → (s : Store) → Stands (planned plan.old) s

@@ -8,8 +8,8 @@ ghost use Rattle.dg_plan.specs.Acts.{IsPlanOf};
 ghost use Rattle.dg_plan.specs.Stops.{StopsAt};
 ghost use Rattle.dg_plan.specs.declared.plan.Plan.{Plan};
 
-/// A driver that stops before the first command of an act, or after the last, leaves a chip that a stop of the act may leave. So
-/// does one that stops anywhere in a list of one command, as that of a page that is sealed and that of a packet after the first.
+/// A driver that stops before the first command of an act, or after the last, leaves a chip that a stop of the act may leave.
+/// The same holds anywhere in a list of one command, such as that of a seal, or of a packet after the first.
 pub fn a_list_is_carried_out_or_not()
     ensures none { (t : Trail Store) (p : Plan) → EachWorks t.stages → Stands (chip_of p) t.first → StopsAt t p 0 }
     ensures all { (t : Trail Store) (old new : Plan) → commands_of old ≡ [] → IsPlanOf t old new

@@ -1,5 +1,5 @@
 //! What is to be done to a chip that can be read in place, as a list of commands: a device that records programs and erases
-//! in place of doing them.
+//! instead of doing them.
 //!
 //! Reads show the chip as the commands so far leave it. Nothing here allocates: the lists are the caller's.
 #![tactic(auto)]

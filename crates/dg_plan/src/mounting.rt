@@ -11,13 +11,13 @@ use dg_volume::{MountFault, Volume};
 /// Why an act is not planned.
 #[derive(Clone, Copy, Debug, PartialEq, Eq)]
 pub enum ActFault<E> {
-    /// The plan was stopped before.
+    /// The plan was stopped already.
     Unread,
-    /// The bytes of the chip are no volume.
+    /// The bytes of the chip are not a volume.
     NotAVolume,
     /// There is no such image, version, number or name.
     OutOfRange,
-    /// The act is refused, or stopped, where the list or its bytes have no room.
+    /// The act is refused, or stopped because the list or its bytes have no room.
     Act(E),
 }
 

@@ -28,7 +28,7 @@ pub fn order(plan: &mut Plan<'_>, order: Order) -> Result<(), ActFault<OrderFaul
     ensures no_volume { result ≡ Err ActFault.NotAVolume → IsNoVolume (planned plan.old) }
     ensures refused { (e : OrderFault) → result ≡ Err (ActFault.Act e) → e ≢ OrderFault.Stopped → (s : Store)
         → Stands (planned plan.old) s → order_refusal s order ≡ Some e }
-    // what is refused leaves the plan as it was
+    // what is refused leaves the plan unchanged
     ensures looked { (e : ActFault OrderFault) → result ≡ Err e → e ≢ ActFault.Unread → e ≢ ActFault.Act OrderFault.Stopped
         → Looked (plan_device plan.old) (plan_device plan.new) }
     ensures stopped { result ≡ Err (ActFault.Act OrderFault.Stopped) → (s : Store) → Stands (planned plan.old) s

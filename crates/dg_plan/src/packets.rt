@@ -29,7 +29,7 @@ use dg_volume::a_slot_is_written_alone;
 /// Why a packet is not planned.
 #[derive(Clone, Copy, Debug, PartialEq, Eq)]
 pub enum PacketFault {
-    /// The plan was stopped before, or the list or its bytes have no room.
+    /// The plan was stopped already, or the list or its bytes have no room.
     Stopped,
     /// There is no such image, version or packet.
     OutOfRange,
@@ -37,14 +37,14 @@ pub enum PacketFault {
     Put,
     /// The header of the slot is not one of this version.
     NotKept,
-    /// Another page of the slot is the next one. Where it is this one, all pages are complete.
+    /// Another page of the slot is the next one. If `next` is this page, all pages are complete.
     NotNext { next: u8 },
 }
 
-/// Plans that a packet is put into the next page of a slot, of which these packets were put before. Where there are none, the
+/// Plans that a packet is put into the next page of a slot, in which these packets were put before. If no packet was, the
 /// sector of the page is erased first. 19 bytes of the chip are read.
 ///
-/// Whether they stand there is the caller's care: a page of other bytes is not sealed.
+/// The caller has to ensure that the packets are there: a page of other bytes is not sealed.
 pub fn packet(
     plan: &mut Plan<'_>,
     name: PageName,
@@ -69,7 +69,7 @@ pub fn packet(
         → held s name.image ≡ Some h → h.version ≢ name.version }
     ensures not_next { (next : ℕ) → result ≡ Err (PacketFault.NotNext next) → (s : Store) (h : Held)
         → Stands (planned plan.old) s → held s name.image ≡ Some h → IsElsewhere name next h }
-    // what is refused leaves the plan as it was
+    // what is refused leaves the plan unchanged
     ensures looked { (e : PacketFault) → result ≡ Err e → e ≢ PacketFault.Stopped
         → Looked (plan_device plan.old) (plan_device plan.new) }
     ensures cause { result ≡ Err PacketFault.Stopped → ActStopped (plan_device plan.old) (plan_device plan.new) }
@@ -170,7 +170,7 @@ fn put_in<N: Nor>(
     Ok(())
 }
 
-/// The next page of a slot, of which these packets were put before. Where there are none, its sector is erased.
+/// The next page of a slot, in which these packets were put before. If no packet was, its sector is erased.
 fn job_of<N: Nor>(nor: &mut N, slot: OpenSlot, got: PageBits<PACKETS>) -> Result<PageJob, Stopped>
     requires { done_of_slot slot < (outline_of_slot slot).pages }
     ensures job { IfOk result (λ j. (h : Held) (ps : Packets) → IsOpen (N.device nor.old).image slot h

@@ -101,7 +101,7 @@ impl Plan<'_> {
         }
     }
 
-    /// The bytes from `at` on, as they stand in the chip that was handed in.
+    /// The bytes from `at` on in the chip that was handed in.
     fn look_at_handed(&self, at: usize, into: &mut [u8])
         requires { at + length into.old ≤ chip_size }
         ensures { into.new ≡ part (chip_of self.now) at (length into.old) }
@@ -109,7 +109,7 @@ impl Plan<'_> {
         into.copy_from_slice(&self.chip[at..at + into.len()]);
     }
 
-    /// Whether the bytes are a piece of a copy, which was read last and stands in the chip that was handed in.
+    /// Whether the bytes are a piece of a copy, which was read last and is the same in the chip that was handed in.
     fn copies(&self, bytes: &[u8]) -> bool
         ensures within { IsTrue result → self.now.last + length bytes.now ≤ chip_size }
         ensures same { IsTrue result → bytes.now ≡ part (chip_of self.now) self.now.last (length bytes.now) }
@@ -141,7 +141,7 @@ impl Plan<'_> {
         self.count += 1;
     }
 
-    /// Keeps bytes after those that are used, and tells where.
+    /// Keeps bytes after those that are used, and returns where.
     fn keep(&mut self, bytes: &[u8]) -> u32
         requires room { self.old.used + length bytes.now ≤ length self.old.bytes.now }
         requires most { self.old.used + length bytes.now ≤ 1048576 }
@@ -163,7 +163,7 @@ impl Plan<'_> {
     }
 }
 
-/// What a command leaves of the bytes of a chip from `at` on, which were as those before it left them.
+/// What a command leaves of the bytes of a chip from `at` on. Before it they are as the commands before it left them.
 fn lay(command: &Command, chip: &[u8], bytes: &[u8], at: usize, into: &mut [u8])
     requires whole { length chip.now ≡ chip_size }
     requires fits { (image : List ℕ) × (used : ℕ) × (used ≤ length bytes.now)
@@ -182,7 +182,7 @@ fn lay(command: &Command, chip: &[u8], bytes: &[u8], at: usize, into: &mut [u8])
     }
 }
 
-/// What a command leaves of a byte that stands `offset` bytes into its range.
+/// What a command leaves of a byte that is `offset` bytes into its range.
 fn laid(command: &Command, chip: &[u8], bytes: &[u8], offset: usize, old: u8) -> u8
     requires known { offset < command.now.count }
     requires whole { length chip.now ≡ chip_size }

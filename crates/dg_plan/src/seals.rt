@@ -31,7 +31,7 @@ pub enum SealFault {
     Stopped,
     /// This version of the image is not kept.
     NotKept,
-    /// Another page of the slot is the next one. Where it is this one, all pages are complete.
+    /// Another page of the slot is the next one. If `next` is this page, all pages are complete.
     NotNext { next: u8 },
     /// Its CRC is not the one that is kept of it.
     Bad { kept: u16, found: u16 },
@@ -39,7 +39,7 @@ pub enum SealFault {
     Unfit,
 }
 
-/// Plans that the next page of a slot is made complete, as it stands there. The chip is mounted, and the page is compared with
+/// Plans that the next page of a slot is made complete, as it is there. The chip is mounted, and the page is checked against
 /// what is kept of it.
 pub fn seal(plan: &mut Plan<'_>, name: PageName) -> Result<(), ActFault<SealFault>>
     ensures planned { OnOk result ((s : Store) → Stands (planned plan.old) s
@@ -61,7 +61,7 @@ pub fn seal(plan: &mut Plan<'_>, name: PageName) -> Result<(), ActFault<SealFaul
     ensures unfit { result ≡ Err (ActFault.Act SealFault.Unfit) → (s : Store) (h : Held)
         → Stands (planned plan.old) s → held s name.image ≡ Some h
         → (name.page ≡ 0) × (may_seal name.image h (standing (planned plan.old) name) ≡ false) }
-    // what is refused leaves the plan as it was
+    // what is refused leaves the plan unchanged
     ensures looked { (e : ActFault SealFault) → result ≡ Err e → e ≢ ActFault.Unread → e ≢ ActFault.Act SealFault.Stopped
         → Looked (plan_device plan.old) (plan_device plan.new) }
     ensures stopped { result ≡ Err (ActFault.Act SealFault.Stopped) → (s : Store) (h : Held) → Stands (planned plan.old) s
@@ -81,7 +81,7 @@ pub fn seal(plan: &mut Plan<'_>, name: PageName) -> Result<(), ActFault<SealFaul
     }
 }
 
-/// Makes the next page of a slot complete, as it stands there.
+/// Makes the next page of a slot complete, as it is there.
 fn seal_next<N: Nor>(nor: &mut N, mut volume: Volume, name: PageName) -> Result<(), SealFault>
     requires known_image { name.image < images }
     requires mounted { IsMounted (N.device nor.old).image volume }

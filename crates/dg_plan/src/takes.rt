@@ -1,4 +1,4 @@
-//! A taking, planned: the chip is mounted, and the slot is taken.
+//! A take, planned: the chip is mounted, and the slot is taken.
 ghost use Rattle.std.specs.Prelude.{◌≡◌, ◌≢◌, ◌<◌, Some, Err, OnOk};
 ghost use Rattle.dg_nor.specs.Reads.{Looked, ReadStopped};
 ghost use Rattle.dg_object.specs.Records.{outline_of};
@@ -28,7 +28,7 @@ pub fn take(plan: &mut Plan<'_>, profile: &Profile) -> Result<(), ActFault<TakeF
     ensures no_volume { result ≡ Err ActFault.NotAVolume → IsNoVolume (planned plan.old) }
     ensures stopped { result ≡ Err (ActFault.Act TakeFault.Stopped) → (s : Store) → Stands (planned plan.old) s
         → Stops (take_trail s (outline_of profile.now)) (plan_device plan.old) (plan_device plan.new) }
-    // what is refused leaves the plan as it was
+    // what is refused leaves the plan unchanged
     ensures looked { (e : ActFault TakeFault) → result ≡ Err e → e ≢ ActFault.Unread → e ≢ ActFault.Act TakeFault.Stopped
         → Looked (plan_device plan.old) (plan_device plan.new) }
     ensures refused { (e : TakeFault) → result ≡ Err (ActFault.Act e) → e ≢ TakeFault.Stopped → (s : Store)

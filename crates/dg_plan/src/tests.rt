@@ -1,5 +1,5 @@
-//! Acts that are planned over a chip in memory. Carried out on it, the commands make of it what the acts themselves make of a
-//! board, and a shorter list is the beginning of the whole one.
+//! Acts that are planned over a chip in memory. Carried out on it, the commands leave what the acts themselves leave on a
+//! board. A shorter list is a prefix of the whole one.
 ghost use Rattle.std.specs.Prelude.{◌≡◌, IfOk, length, vec_len};
 ghost use Rattle.dg_nor.specs.Sizes.{chip_size};
 
@@ -77,7 +77,7 @@ pub(crate) fn named(page: u8) -> PageName
     }
 }
 
-/// Plans an act, and tells whether it was planned.
+/// Plans an act, and returns whether it was planned.
 fn plan_act(plan: &mut Plan<'_>, act: Act) -> bool {
     match act {
         Act::Take => take(plan, &announced()).is_ok(),
@@ -99,7 +99,7 @@ pub(crate) fn ordered(number: u32) -> Order {
     }
 }
 
-/// Plans an act over a chip with these lists. Tells whether it was planned, how many commands there are, and how many bytes.
+/// Plans an act over a chip with these lists. Returns whether it was planned, how many commands there are, and how many bytes.
 fn planned_in<'a>(
     chip: &'a [u8],
     commands: &'a mut [Command],
@@ -154,8 +154,8 @@ pub(crate) fn formatted(alloc: Global) -> Result<Board, Fail> {
     Ok(board)
 }
 
-/// Plans an act in full, then with each shorter list, and carries it out. Whether each shorter list is the beginning of the whole
-/// one.
+/// Plans an act in full, then with each shorter list, and carries it out. Returns whether each shorter list is a prefix of the
+/// whole one.
 pub(crate) fn made(chip: &mut [u8], act: Act) -> bool {
     let mut commands = [NONE; MOST_COMMANDS];
     let mut bytes = [0; MOST_BYTES];
@@ -174,7 +174,7 @@ pub(crate) fn made(chip: &mut [u8], act: Act) -> bool {
     alike
 }
 
-/// Whether lists of this room stop an act, and begin as these.
+/// Whether lists of this room stop an act, and are a prefix of these.
 fn begins(
     chip: &[u8],
     whole: &[Command],

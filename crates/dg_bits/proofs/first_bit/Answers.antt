@@ -11,7 +11,7 @@ top_bit n j low high =
     let one : n / 2 ^ j ≡ 1 = omega (arith, le-div 1 n (2 ^ j) (pow_pos j) (omega arith), div_below n (2 ^ j) 2 (pow_pos j) (omega (arith, pow-suc 2 j))) in
     ap (λ x. x % 2) one
 
--- no bit stands above it
+-- no bit is set above it
 above_top : (n j i : ℕ) → n < 2 ^ suc j → j < i → bit_at n i ≡ 0
 above_top n j i high past =
     let none : n / 2 ^ i ≡ 0 = omega (arith, div_below n (2 ^ i) 1 (pow_pos i) (omega (arith, pow_mono {i = suc j} {j = i} (omega arith)))) in

@@ -4,7 +4,7 @@ use Rattle.dg_bits.proofs.ByteChangeLaws.{ChangesBit, IsPacked-changed, numbers_
 use Rattle.dg_bits.proofs.PageBits.clear.Goals as goal
 use Rattle.dg_bits.proofs.PageBits.clear.Goals.{After-without_bit}
 
--- the byte that is written changes the number's bit alone
+-- the byte that is written changes only the number's bit
 changes : (g : _) (c : After-without_bit g) → ChangesBit c.self.inside.bytes c.args.n 0 c.without_bit.result
 changes g c = record { here = c.without_bit.ensures.cleared; others = c.without_bit.ensures.others }
 

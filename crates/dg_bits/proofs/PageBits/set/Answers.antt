@@ -4,7 +4,7 @@ use Rattle.dg_bits.proofs.ByteChangeLaws.{ChangesBit, IsPacked-changed, numbers_
 use Rattle.dg_bits.proofs.PageBits.set.Goals as goal
 use Rattle.dg_bits.proofs.PageBits.set.Goals.{After-with_bit}
 
--- the byte that is written changes the number's bit alone
+-- the byte that is written changes only the number's bit
 changes : (g : _) (c : After-with_bit g) → ChangesBit c.self.inside.bytes c.args.n 1 c.with_bit.result
 changes g c = record { here = c.with_bit.ensures.set; others = c.with_bit.ensures.others }
 

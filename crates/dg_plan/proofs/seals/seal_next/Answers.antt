@@ -1,4 +1,4 @@
--- The slot is lent, and its next page is sealed as it stands.
+-- The slot is lent, and its next page is sealed as it is there.
 use Rattle.std.proofs.Common.{◌≡◌, ℕ, ◌+◌, ◌<◌, List, refl, sym, ap, subst, ◌∙◌, true, false, arith}
 use Rattle.dg_nor.specs.Chip.{Touches}
 use Rattle.dg_nor.specs.Device.{Ran}

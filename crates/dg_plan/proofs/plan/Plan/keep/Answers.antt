@@ -6,7 +6,7 @@ use Rattle.dg_plan.specs.Commands.{carried_out, CommandsFit}
 use Rattle.dg_plan.proofs.CommandLemmas.{each_of, all_of, SameUsed, carried_same, fit_same}
 use Rattle.dg_plan.proofs.plan.Plan.keep.Goals as goal
 
--- what was used stays
+-- what was used is unchanged
 used_stays : (xs bs : List ℕ) (used : ℕ) → used + length bs ≤ length xs → SameUsed xs (overwritten xs used bs) used
 used_stays xs bs used room = λ at n l. part-overwritten_apart xs used bs at n room (omega (arith, l, room)) (inl l)
 
