@@ -1,4 +1,4 @@
--- A receipt leaves a first board that agrees with a table one that agrees with it.
+-- After a receipt, a first board that agreed with a table still agrees with it.
 use Rattle.std.proofs.Common.{◌≡◌, ℕ, zero, suc, ◌-◌, ◌<◌, Bool, true, false, List, [], ◌∷◌, ◌++◌, length, take, drop, Option, Some, None, refl, sym, ap, subst, ◌∙◌, arith}
 use Rattle.std.specs.Prelude.{if◌then◌else◌}
 use Rattle.std.proofs.lemmas.List.{take_all}
@@ -51,7 +51,7 @@ module _ (P : Store → Type 0) where
   fill_first s image [] = refl
   fill_first s image (page ∷ pages) = refl
 
-  -- what fills some first pages goes through stores through which goes what fills all
+  -- filling a prefix of the pages goes through stores that filling all of them goes through too
   front_filled : (n : ℕ) (s : Store) (image : ℕ) (pages : List (List ℕ)) → Through P (fill_trail s image pages) → Through P (fill_trail s image (take n pages))
   unfolding fill_trail last_of
   front_filled zero s image pages h = Through-resting P s 0 (subst P (fill_first s image pages) h.0)

@@ -113,7 +113,7 @@ done_fine boards image root s h text here caused =
     let f : Ok text ≡ outcome_of (check_by root (held s image)) = boards_by (nat_lt 0 boards) (check_by root (held s image)) text caused in
     whole_by (length h.complete == h.pages) root h text (subst (λ (o : Option Held). Ok text ≡ outcome_of (check_by root o)) here f)
 
--- a check of pages that pass is to tell their length
+-- a check of pages that pass has to report their length
 pub own_ending : (boards image : ℕ) (root : List ℕ) (s : Store) (h : Held) (n : ℕ) → 1 ≤ boards → held s image ≡ Some h → length h.complete ≡ h.pages → answer_of root (drop 1 h.complete) ≡ Fine n → by_boards boards (check_on image root (Some s)) ≡ Acting (Ok (chain_text n))
 own_ending boards image root s h n some here whole fine =
     by_some boards (check_by root (held s image)) (omega (arith, some))
@@ -125,7 +125,7 @@ own_text status n a b h = ⊎_elim (λ x. subst (λ (st : Status). TellsLength s
 own_rule : (status : Status) (outcome : Outcome) (n : ℕ) (a b : OutputState) → outcome ≡ Ok (chain_text n) → WritesAnswer status outcome a b → TellsLength status n a b
 own_rule status outcome n a b is h = own_text status n a b (subst (λ (x : Outcome). WritesAnswer status x a b) is h)
 
--- and tells it
+-- and reports it
 pub told_by : (status : Status) (outcome : Outcome) (ending : VerbEnding) (n : ℕ) (a b : OutputState) (same looked acted halted : Type 0) → ending ≡ Acting (Ok (chain_text n)) → EndsAs outcome ending same looked acted halted → (outcome ≡ Err ends.ReadFault → ⊥) → WritesAnswer status outcome a b → TellsLength status n a b
 told_by status (Ok text) ending n a b same looked acted halted is h read w = own_rule status (Ok text) n a b (h.0 ∙ ap outcome_of is) w
 told_by status (Err ends.Memory) ending n a b same looked acted halted is h read w = subst (λ (st : Status). TellsLength st n a b) (sym w.0) tt
@@ -143,7 +143,7 @@ told_by status (Err (ends.BadLine number fault)) ending n a b same looked acted 
 told_by status (Err (ends.BadProfile fault)) ending n a b same looked acted halted is h read w = own_rule status (Err (ends.BadProfile fault)) n a b (h.0 ∙ ap outcome_of is) w
 told_by status (Err (ends.Refused cause)) ending n a b same looked acted halted is h read w = own_rule status (Err (ends.Refused cause)) n a b (h.0 ∙ ap outcome_of is) w
 
--- a check that ends well came to its answer
+-- the outcome of a check that ends well is its answer
 pub done_rule : (status : Status) (outcome : Outcome) (ending : VerbEnding) (a b : OutputState) (same looked acted halted : Type 0) → status ≡ statuses.Done → WritesAnswer status outcome a b → EndsAs outcome ending same looked acted halted → (text : List ℕ) × (Ok text ≡ outcome_of ending)
 done_rule status outcome ending a b same looked acted halted done w h =
     let x = answered_done outcome a b (subst (λ (st : Status). WritesAnswer st outcome a b) done w) in

@@ -44,7 +44,7 @@ above_by : (b : Bool) (rest : Option Break) (n : ℕ) (here at : Break) → here
 above_by true rest n here at is above e = omega (arith, above e)
 above_by false rest n here at is above e = omega (arith, is, ap (λ (x : Break). x.page) (same_some here at e))
 
--- it is none of those before
+-- it is not one of those before
 pub break_above : (kept : List ℕ) (n : ℕ) (pages : List (List ℕ)) (at : Break) → first_break kept n pages ≡ Some at → n ≤ at.page
 break_above kept n [] at e = let f : None ≡ Some at = e in absurd cc
 break_above kept n (page ∷ pages) at e =
@@ -66,7 +66,7 @@ to_works (Some at) n s image pages =
 take_more : (m n : ℕ) (page : List ℕ) (pages : List (List ℕ)) → n + 1 ≤ m → take (m - n) (page ∷ pages) ≡ page ∷ take (m - (n + 1)) pages
 take_more m n page pages h = let e : m - n ≡ suc (m - (n + 1)) = omega (arith, h) in ap (λ (k : ℕ). take k (page ∷ pages)) e
 
--- one page more in front
+-- one page more at the beginning
 pub to_more : (found : Option Break) (n : ℕ) (s : Store) (image : ℕ) (page : List ℕ) (pages : List (List ℕ)) → ((at : Break) → found ≡ Some at → n + 1 ≤ at.page)
     → joined (stepping s page_operations (paged image page s)) (fill_to found (n + 1) (paged image page s) image pages) ≡ fill_to found n s image (page ∷ pages)
 to_more None n s image page pages above = sym (fill_more s image page pages)
@@ -95,9 +95,9 @@ to_here at n s image pages e =
     ∙ ap (λ (x : Store). joined (resting s 0) (resting x fill_operations)) (last-resting s 0)
     ∙ joined_none (resting s fill_operations)
 
--- ---- on the way
+-- ---- while pages are filled
 
--- these pages are left, and the trail of the others was gone
+-- these pages are left, and the trail of the others was completed
 pub record Going (goal : Trail Store) (found : Option Break) (n image : ℕ) (pages : List (List ℕ)) (a b : Device) (v : Volume) : Type 0 where
   pub gone : Trail Store
   pub acted : Acted gone a b v

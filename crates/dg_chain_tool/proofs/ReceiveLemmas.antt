@@ -1,4 +1,4 @@
--- What an image that is received comes to.
+-- The outcome of receiving an image.
 use Rattle.std.proofs.Common.{◌≡◌, ◌≢◌, map, ℕ, ◌+◌, ◌-◌, ◌<◌, ◌≤◌, Bool, true, false, List, ◌∷◌, length, drop, take, Option, Some, None, Result, Ok, Err, refl, sym, ap, subst, ◌∙◌, inr, arith, cond}
 use Rattle.std.specs.Prelude.{◌==◌, nat_lt, nat_le}
 use Rattle.std.proofs.lemmas.Bool.{cond_both}
@@ -77,7 +77,7 @@ trail_is : (root : List ℕ) (s : Store) (row : Row) (found : Option Break) → 
 unfolding receive_trail
 trail_is root s row found none same = ap (λ (o : Option InjectFault). trail_by o (foreign_in root s row) s row) none ∙ ap (λ (f : Option Break). trail_by None f s row) same
 
--- ---- the ending looks at the board
+-- ---- the ending is found after the board was read
 
 by_needs : (row : Row) (refusal : Option InjectFault) (found : Option Break) → NeedsBoard (receive_ending row refusal found)
 by_needs row (Some fault) found = tt
@@ -96,7 +96,7 @@ pub receive_into_needs : (root : List ℕ) (row : Row) (chip : Option Store) →
 receive_into_needs root row None = tt
 receive_into_needs root row (Some s) = by_input_needs row (inject_refusal s row) (foreign_in root s row)
 
--- ---- what it comes to
+-- ---- the outcome
 
 went : (t : Trail Store) (a b : Device) (v : Volume) → Acted t a b v → Completed t a b
 went t a b v h = record { ran = h.ran; stands = h.mounted.stands }
@@ -188,14 +188,14 @@ from_some n h = let test : (n == 0) ≡ false = grind (arith, nat_tests) in ap (
 foreign_above : (root : List ℕ) (pages : List (List ℕ)) (n : ℕ) (at : Break) → first_foreign root pages n ≡ Some at → n ≤ at.page
 foreign_above root pages n at e = omega (arith, above_by (n == 0) n refl, break_above (expected root pages (compared_from n)) (compared_from n) (drop (compared_from n) pages) at e)
 
--- the pages behind those that are complete are filled
+-- the pages after those that are complete are filled
 pub kept_is : (root : List ℕ) (s : Store) (row : Row) (h : Held) (n : ℕ) → inject_refusal s row ≡ None → held s row.image ≡ Some h → h.version ≡ row.version → n ≡ length h.complete
     → fill_to (first_foreign root (object row) n) n s row.image (drop n (object row)) ≡ receive_trail root s row
 kept_is root s row h n none here same count =
     kept_by root s row h n (first_foreign root (object row) n) none here same count (foreign_above root (object row) n)
     ∙ sym (trail_is root s row (first_foreign root (object row) n) none (ap (first_foreign root (object row)) (kept_done s row h n here same count)))
 
--- ---- a version that is begun anew
+-- ---- a version for which the slot is taken
 
 other_version : (version : ℕ) (o : Option Held) → ((h : Held) → o ≡ Some h → h.version < version) → is_version o version ≡ false
 other_version version None older = refl
@@ -276,7 +276,7 @@ not_stale s row k some older e = stale_by (nat_lt s.room 2) s.room k (sym (take_
 pub not_reserved : (s : Store) (row : Row) → 1 ≤ row.image → Older s row → take_refusal s (profile row) ≡ Some take_fault.Reserved → ⊥
 not_reserved s row some older e = reserved_by (nat_lt s.room 2) s.room (sym (take_by_room s row some older) ∙ e)
 
--- ---- what is told of it
+-- ---- what is reported of it
 
 pub told_made : (text told : List ℕ) (ending : VerbEnding) (acted halted : Device → Device → Type 0) (a b : Device) → OnStore (Ok told) ending acted halted a b → text ≡ told → OnStore (Ok text) ending acted halted a b
 told_made text told ending acted halted a b h is = subst (λ (t : List ℕ). OnStore (Ok t) ending acted halted a b) (sym is) h
@@ -284,7 +284,7 @@ told_made text told ending acted halted a b h is = subst (λ (t : List ℕ). OnS
 pub told_wants : (told : List ℕ) (ending : VerbEnding) (acted halted : Device → Device → Type 0) (a b : Device) → OnStore (Ok told) ending acted halted a b → OnStore (Err ends.Memory) ending acted halted a b
 told_wants told ending acted halted a b h = record { rules = inr h.rules.1; stops = λ e. cc; of_verb = tt; on_board = λ x. x }
 
--- ---- page 0, and the data pages behind it
+-- ---- page 0, and the data pages after it
 
 module _ (found : Option Break) (s : Store) (image : ℕ) (page : List ℕ) (rest pages : List (List ℕ)) (above : (at : Break) → found ≡ Some at → 1 ≤ at.page) (whole : pages ≡ page ∷ rest) where
   abbrev One : Trail Store

@@ -1,4 +1,4 @@
--- What a payload that is wrapped comes to.
+-- The outcome of wrapping a payload.
 use Rattle.std.proofs.Common.{◌≡◌, ℕ, ◌<◌, ◌≤◌, Bool, true, false, List, [], length, Result, Ok, Err, IsErrAnd, refl, sym, ap, subst, ◌∙◌, arith, cond}
 use Rattle.std.specs.Prelude.{◌==◌, nat_lt}
 use Rattle.std.proofs.lemmas.Bool.Decides.{nat_tests}
@@ -55,7 +55,7 @@ wrap_fits x is =
     ap (λ (b : Bool). by_tests b (nat_lt most_payload (length x)) x) (some_test (length x) is.some)
     ∙ ap (λ (d : Bool). by_tests false d x) (fits_test most_payload (length x) is.most)
 
--- ---- no image came of the input
+-- ---- the input gave no image
 
 text_none : (next : List ℕ → VerbEnding) (bytes : List ℕ) (fault : ImageFault) (at_end failed : Type 0) → ReadsImage {T = ℕ} (λ n. []) (Err fault) bytes at_end failed → TextComes (Err (end_of_image fault)) (by_input bytes next) failed
 text_none next bytes image_fault.Memory at_end failed h = tt
@@ -70,7 +70,7 @@ fed_none view next fault a b h = record {
   comes = text_none next h.bytes fault (AtEnd b.left) (Rose a.reads b.reads) (reads_none view fault h.bytes (AtEnd b.left) (Rose a.reads b.reads) h.reads);
 }
 
--- ---- or one did
+-- ---- or it gave one
 
 fed_text : {T : Type 0} (view : T → List ℕ) (next : List ℕ → VerbEnding) (image : T) (outcome : Outcome) (a b : InputState) → (h : ImageRead view (Ok image) a b) → TextComes outcome (next (view image)) (Rose a.reads b.reads) → FedText outcome next a b
 fed_text view next image outcome a b h comes = record {

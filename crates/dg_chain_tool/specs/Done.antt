@@ -17,13 +17,13 @@ use Rattle.dg_tool.specs.Rules.{trail_rule, reading_rule}
 use Rattle.dg_chain_tool.specs.Receiving.{receive_trail}
 use Rattle.dg_chain_tool.specs.Verbs.{wrap_by, check_on, receive_into, chain_text}
 
--- a verb that uses no board comes to its ending; memory alone is free
+-- a verb that uses no board ends by its rules; out of memory may be returned at any time
 abbrev pub TextComes : Outcome → VerbEnding → (read_failed : Type 0) → Type 0
 TextComes (Err ends.Memory) ending read_failed = Unit {0}
 TextComes (Err ends.ReadFault) ending read_failed = read_failed
 TextComes outcome ending read_failed = outcome ≡ outcome_of ending
 
--- the same of one that goes by the bytes of its input
+-- the same of one that depends on the bytes of its input
 pub record FedText (outcome : Outcome) (next : List ℕ → VerbEnding) (a b : InputState) : Type 0 where
   pub bytes : List ℕ
   pub read : InputRead outcome 1 bytes a b
@@ -46,7 +46,7 @@ pub record ReceiveDone (image version : ℕ) (name root : List ℕ) (status : St
   pub done : InputDone status (receive_rule a.boards root (row_of image version name)) a b
   pub agrees : KeepsAgreement (HasNewRow (row_of image version name (content_in done.allowed.bytes))) a.boards b.boards
 
--- that the pages are those of a payload of this length is told, unless memory ran out or the outside failed
+-- it is reported that the pages are those of a payload of this length, unless memory ran out or the outside failed
 abbrev pub TellsLength : Status → ℕ → OutputState → OutputState → Type 0
 TellsLength Done n a b = Puts a.written b.written (chain_text n)
 TellsLength Memory n a b = Unit {0}

@@ -40,11 +40,11 @@ keep_trail s row pages =
     if is_version (held s row.image) row.version then fill_trail s row.image (drop (done_of (held s row.image)) pages)
     else joined (take_trail s (profile row)) (fill_trail (last (take_trail s (profile row))) row.image pages)
 
--- Behind these stores a page is filled that is not made complete, which no store tells.
+-- After these stores a page is filled, but not made complete. No store shows that.
 abbrev pub with_foreign : Trail Store → Trail Store
 with_foreign t = joined t (resting (last t) fill_operations)
 
--- The pages in front of the first foreign one are kept, as an injection keeps them.
+-- The pages before the first foreign one are kept, as an injection keeps them.
 abbrev pub trail_by : Option InjectFault → Option Break → Store → Row → Trail Store
 trail_by (Some fault) found s row = resting s 0
 trail_by None None s row = inject_trail s row

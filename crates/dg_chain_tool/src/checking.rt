@@ -63,7 +63,7 @@ fn check_mounted<N: Nor>(
     }
 }
 
-/// Checks an image on the first of the boards, and gives the line that tells of it.
+/// Checks an image on the first of the boards, and gives the line that reports it.
 pub(crate) fn check_first<N: Nor>(
     alloc: Global,
     image: u8,

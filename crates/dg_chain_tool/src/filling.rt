@@ -126,7 +126,7 @@ fn expected_of(new: &NewImage<'_>, page: u8, root: &[u8; DIGEST_SIZE]) -> [u8; D
     field_of(&before)
 }
 
-/// Fills the pages of an image of which none is complete, up to the first foreign one.
+/// Fills the pages of an image without a complete page, up to the first foreign one.
 fn receive_whole<N: Nor>(
     volume: &mut Volume,
     nor: &mut N,

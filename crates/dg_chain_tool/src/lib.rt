@@ -1,7 +1,7 @@
 //! The verbs of chained images.
 //!
-//! Each looks for what ends it in one order, first whether there is a board, where it uses one, then what the input
-//! spells, and then what the board holds, and writes once, at its end.
+//! Each writes once, at its end. Causes to end are checked in one order: whether there is a board, if it uses one, what the input
+//! spells, and what the board holds.
 #![tactic(auto)]
 
 mod checking;
@@ -54,12 +54,12 @@ pub fn check<K: Sink, N: Nor>(
     ensures does { (rest : Outside) → CheckDone image root.now result
         (with_boards (map N.device boards.old.items) (with_output (K.Sink, out.old) rest))
         (with_boards (map N.device boards.new.items) (with_output (K.Sink, out.new) rest)) }
-    // Whatever made the board's bytes: pages that pass for the root of a payload are its pages, or two that differ at one
-    // index have one digest.
+    // Whatever wrote the board's bytes, pages that pass for the root of a payload are its pages, or two different pages at one
+    // index have the same digest.
     ensures named { (x : List ℕ) (s : Store) (h : Held) → IsPayload x → root.now ≡ root_of x
         → FirstAs (map N.device boards.old.items) (Some s) → held s image ≡ Some h
         → result ≡ Status.Done → (drop 1 h.complete ≡ chain x) ⊎ Collision (drop 1 h.complete) (chain x) }
-    // Its own pages pass, and its length is told.
+    // Its own pages pass, and its length is reported.
     ensures own { (x : List ℕ) (s : Store) (h : Held) → IsPayload x → root.now ≡ root_of x
         → FirstAs (map N.device boards.old.items) (Some s) → held s image ≡ Some h
         → 1 ≤ length boards.old.items → length h.complete ≡ h.pages → drop 1 h.complete ≡ chain x
@@ -72,10 +72,10 @@ pub fn check<K: Sink, N: Nor>(
     answer(alloc, out, outcome)
 }
 
-/// Keeps an image that `wrap` made whole on the first board, page by page: the image of the HEX file that `input` spells,
-/// with this name. Each data page that is filled is compared with the digest that is expected of it, the root for data
-/// page 1, and becomes complete only where it has that. Writes `have 0 I V N`, where N counts all pages, the descriptor
-/// too. At the first page that is another one it is refused, and the pages before it stay.
+/// Keeps an image that `wrap` made whole on the first board, page by page: the image of the HEX file that `input` spells, with
+/// this name. Each data page that is filled is compared with the digest that is expected of it, the root for data page 1, and
+/// becomes complete only if it has that. Writes `have 0 I V N`, where N counts all pages, the descriptor too. At the first page
+/// with another digest it is refused, and the pages before it stay.
 pub fn receive<S: Source, K: Sink, N: Nor>(
     alloc: Global,
     image: u8,

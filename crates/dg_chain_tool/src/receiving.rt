@@ -29,7 +29,7 @@ use dg_volume::{
 };
 use std::alloc::Global;
 
-/// Fills what is missing of a version that is kept, where that is this image.
+/// Fills what is missing of a version that is kept, if that is this image.
 fn receive_kept<N: Nor>(
     volume: &mut Volume,
     nor: &mut N,
@@ -106,7 +106,7 @@ fn receive_new<N: Nor>(
     }
 }
 
-/// Keeps an image, of which no larger version is kept, and tells that it is kept whole.
+/// Keeps an image, of which no larger version is kept, and reports that it is kept whole.
 fn receive_told<N: Nor>(
     alloc: Global,
     volume: &mut Volume,
@@ -166,7 +166,7 @@ fn receive_mounted<N: Nor>(
     }
 }
 
-/// Receives the image that an input spells on the first of the boards, and gives the line that tells of it.
+/// Receives the image that an input spells on the first of the boards, and gives the line that reports it.
 pub(crate) fn receive_first<S: Source, N: Nor>(
     alloc: Global,
     image: u8,

@@ -1,4 +1,4 @@
--- The command that runs a base mote, from what its call tells.
+-- What the command that runs a base mote did, from the contract of its call.
 use Rattle.std.proofs.Common.{◌≡◌, ◌⊎◌, inl, inr, ◌<◌, List, [], ◌∷◌, length, map, get_or, set, refl, sym, ◌∙◌, subst, arith}
 use Rattle.dg_base.specs.declared.answers.Status.{Status}
 use Rattle.dg_base.specs.declared.answers.Status.TheVariants as statuses
@@ -20,7 +20,7 @@ pub over_first : {N : Type 0} (f : N → Device) (items : List N) (x y : N) (bas
 over_first f [] x y base status a b some h = absurd (omega (arith, some))
 over_first f (z ∷ zs) x y base status a b some h = (h, refl)
 
--- ---- it speaks of no link
+-- ---- it never ends by a fault of the link
 
 is_none : (status : Status) (base : Base) (before now : Outside) → status ≡ statuses.LinkFault → BasedOn base status before now → IsNoVolume before.chip.image
 is_none status base before now e h s stands =

@@ -1,4 +1,4 @@
--- What the commands of hash-chained images did, from what their calls tell.
+-- What the commands of hash-chained images did, from the contracts of their calls.
 use Rattle.std.proofs.Common.{◌≡◌, ℕ, Bool, true, false, ◌&&◌, List, Some, refl, sym, ap, subst}
 use Rattle.dg_base.specs.Hexadecimal.{hex_bytes}
 use Rattle.dg_base.specs.declared.answers.Status.{Status}

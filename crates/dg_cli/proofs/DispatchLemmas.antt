@@ -1,4 +1,4 @@
--- What a command did, from what its call tells.
+-- What a command did, from the contract of its call.
 use Rattle.std.proofs.Common.{◌≡◌, ℕ, List, sym, ap, ◌∙◌, subst}
 use Rattle.dg_base.specs.declared.answers.Status.{Status}
 use Rattle.dg_base.specs.declared.answers.Status.TheVariants as statuses
@@ -30,7 +30,7 @@ receive_said image version told name digits root s a b e f h =
 pub check_said : (image : ℕ) (digits root : List ℕ) (s : Status) (a b : Outside) → digits ≡ root → Checked image (root_in digits) s a b → Checked image (root_in root) s a b
 check_said image digits root s a b e h = subst (λ (r : List ℕ). Checked image (root_in r) s a b) e h
 
--- ---- a trial speaks of no link
+-- ---- a trial never ends by a fault of the link
 
 pub no_link_of_a_trial : (s : Status) (motes pages seed : ℕ) (a b : Outside) → TrialEnds s motes pages seed a b → s ≡ statuses.LinkFault → ⊥
 no_link_of_a_trial s motes pages seed a b h e = subst (λ (x : Status). TrialEnds x motes pages seed a b) e h

@@ -1,4 +1,4 @@
--- A replay of nodes speaks of no link.
+-- A replay of nodes never ends by a fault of the link.
 use Rattle.std.proofs.Common.{◌≡◌, inl, inr, ℕ, List, Option, sym, subst}
 use Rattle.dg_base.specs.declared.answers.Status.{Status}
 use Rattle.dg_base.specs.declared.answers.Status.TheVariants as statuses

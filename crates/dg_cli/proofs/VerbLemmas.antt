@@ -1,4 +1,4 @@
--- No verb over one board speaks of a link.
+-- No verb over one board ends by a fault of the link.
 use Rattle.std.proofs.Common.{◌≡◌, ◌⊎◌, ⊎_elim, ℕ, ◌==◌, nat_lt, if◌then◌else◌, Bool, true, false, List, [], ◌∷◌, length, None, Result, Ok, Err, sym, subst}
 use Rattle.dg_words.specs.Counts.{Rose}
 use Rattle.dg_base.specs.Sizes.{most_input}

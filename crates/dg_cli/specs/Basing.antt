@@ -25,7 +25,7 @@ around_chip a chip = record { left = a.left; reads = a.reads; written = a.writte
 pub record BasedOn (b : Base) (status : Status) (before now : Outside) : Type 0 where
   -- from a chip that is a volume, by the rules
   pub based : (s : Store) → Stands before.chip.image s → Based status b s before now
-  -- one that is none is left as it was
+  -- one that is not a volume is left unchanged
   pub refused : IsNoVolume before.chip.image → Refused status before now
   pub causes : Causes status before now
   -- with honest frames a chip that agrees with a table of images agrees with it after the line, however it ended
@@ -40,7 +40,7 @@ pub record BasedOn (b : Base) (status : Status) (before now : Outside) : Type 0 
 abbrev pub no_base_board_line : List ℕ
 no_base_board_line = codes "noboard 1 0" ++ 10 ∷ []
 
--- It was written, or a front of it, since a write failed. Nothing is read.
+-- It was written, or a prefix of it, since a write failed. Nothing is read.
 pub record NoBoardReported (status : Status) (a b : Around) : Type 0 where
   pub left : b.left ≡ a.left
   pub reads : b.reads ≡ a.reads

@@ -22,11 +22,11 @@ root_in digits = bytes_by (hex_bytes digits)
 -- the data pages of an image on the first board were compared with a root
 pub record Checked (image : ℕ) (root : List ℕ) (status : Status) (a b : Outside) : Type 0 where
   pub done : CheckDone image root status a b
-  -- Whatever made the board's bytes: pages that pass for the root of a payload are its pages,
-  -- or two of one index that differ have one digest.
+  -- Whatever wrote the board's bytes, pages that pass for the root of a payload are its pages, or two different pages at one
+  -- index have the same digest.
   pub named : (x : List ℕ) (s : Store) (h : Held) → IsPayload x → root ≡ root_of x → FirstAs a.boards (Some s)
       → held s image ≡ Some h → status ≡ Done → (drop 1 h.complete ≡ chain x) ⊎ Collision (drop 1 h.complete) (chain x)
-  -- Its own pages pass, and its length is told.
+  -- Its own pages pass, and its length is reported.
   pub own : (x : List ℕ) (s : Store) (h : Held) → IsPayload x → root ≡ root_of x → FirstAs a.boards (Some s)
       → held s image ≡ Some h → 1 ≤ length a.boards → length h.complete ≡ h.pages → drop 1 h.complete ≡ chain x
       → TellsLength status (length x) a.output b.output

@@ -34,8 +34,8 @@ use Rattle.dg_cli.specs.Chained.{root_in, Checked}
 pub record ServeDone (turns seed : ℕ) (status : Status) (a b : Outside) : Type 0 where
   pub served : NetworkServed status seed turns (around_service a.input.left a.input.reads (service_of a))
       (around_service b.input.left b.input.reads (service_of b))
-  -- whichever table its boards are held against: what agrees stays so where the frames that came are honest, as they are
-  -- over a link that tells its inboxes, and what is consistent with any frames at all
+  -- For whichever table its boards are checked against: what agrees stays so if the frames that came are honest, as they are over
+  -- a link that exposes its inboxes. What is consistent stays so with any frames.
   pub keeps : (profile : NetProfile) → IsAllowed profile
       → (x : Began status profile seed turns (service_of a) (service_of b)) (table : List Row) (stores : List Store)
       → (fits : StoresOf profile.motes a.boards stores) → AreShaped stores
@@ -52,8 +52,8 @@ pub record ServeDone (turns seed : ℕ) (status : Status) (a b : Outside) : Type
 
 -- ---- the trial
 
--- The schedule that the seed makes is played over the boards, and nothing is read. Only a write that failed raises the count of
--- such. Where it is played and told, every mote keeps the image whole.
+-- The schedule that the seed makes is played over the boards, and nothing is read. Only a failed write raises the count of failed
+-- writes. If it is played and reported, every mote keeps the image whole.
 abbrev pub TrialDone : (motes pages seed : ℕ) → Status → Outside → Outside → Type 0
 TrialDone motes pages seed status a b =
     (b.input ≡ a.input)
@@ -76,7 +76,7 @@ pub record DripDone (status : Status) (a b : Outside) : Type 0 where
 
 -- ---- words
 
--- words that are no command: nothing is read, no board is used, and one line is written
+-- an invalid command line: nothing is read, no board is used, and one line is written
 pub record UsageDone (status : Status) (a b : Outside) : Type 0 where
   pub unread : b.input ≡ a.input
   pub boards : b.boards ≡ a.boards

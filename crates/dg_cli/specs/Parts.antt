@@ -1,4 +1,4 @@
--- The parts of the outside that some commands are said of (docs/COMMANDS.md, "How a command ends").
+-- The parts of the outside that the contracts of some commands name (docs/COMMANDS.md, "How a command ends").
 use Rattle.dg_outside.specs.Outside.{Outside}
 use Rattle.dg_replay.specs.Around.{Around}
 use Rattle.dg_drip_run.specs.AroundDrip.{AroundDrip, around_drip}

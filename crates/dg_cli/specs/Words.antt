@@ -1,4 +1,5 @@
--- What is told of words that are no command, or that ask for help or the version (docs/COMMANDS.md, "How a command ends").
+-- What is written for an invalid command line, and for words that ask for help or the version (docs/COMMANDS.md, "How a command
+-- ends").
 use Rattle.std.specs.Prelude.{◌≡◌, ◌≢◌, ◌⊎◌, ℕ, List, [], ◌∷◌, ◌++◌, codes, Option}
 use Rattle.dg_words.specs.Counts.{Rose}
 use Rattle.dg_base.specs.Outside.{Puts, PutsPrefix}
@@ -13,7 +14,7 @@ usage_line = codes "usage" ++ 10 ∷ []
 abbrev pub version_line : List ℕ
 version_line = codes "deluge 0.9" ++ 10 ∷ []
 
--- a text was written, or a front of it, since a write failed
+-- a text was written, or a prefix of it, since a write failed
 abbrev pub TextWritten : (text : List ℕ) → (wanted status : Status) → (written_before written_after : Option (List ℕ))
     → (writes_before writes_after : ℕ) → Type 0
 TextWritten text wanted status before after faults_before faults_after =

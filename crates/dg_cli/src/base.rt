@@ -9,7 +9,7 @@ use dg_base::{Sink, Source, Status, WriteFailed};
 use dg_nor::Nor;
 use std::alloc::Global;
 
-/// Tells that there is no board.
+/// Reports that there is no board.
 fn tell_no_board<K: Sink>(out: &mut K) -> Status
     ensures written { ((result ≡ Status.NoBoard) × Puts (K.written out.old) (K.written out.new) no_base_board_line
         × (K.faults out.new ≡ K.faults out.old))

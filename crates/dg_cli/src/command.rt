@@ -17,13 +17,12 @@ use std::alloc::{AllocError, Global};
 
 /// Does all that the program does with the words after its name, and answers how it ended.
 ///
-/// `replay` replays the script that `input` spells over the boards, which are formatted with its `golden` line and used as
-/// they are with its `boards` line, and writes the report to `out`. `serve` runs the motes of the network profile that `input`
-/// spells over them, the link and the clock, and writes what happens as a script. `trial` plays the schedule that a seed
-/// makes over them.
-/// `format`, `inject`, `order`, `boot`, `ping`, `dump`, `migrate`, `check` and `receive` work on the first board. `wrap` and
-/// `drip` use none: they make a hash-chained image of `input`, and replay the script of nodes that it spells. `--help` writes a
-/// text that is not empty, and `--version` its line. All other words are [`Status::Usage`]. A status other than
+/// `replay` replays the script that `input` spells over the boards, which are formatted with its `golden` line and used as they
+/// are with its `boards` line, and writes the report to `out`. `serve` runs the motes of the network profile that `input` spells
+/// over them, the link and the clock, and writes what happens as a script. `trial` plays the schedule that a seed makes over
+/// them. `format`, `inject`, `order`, `boot`, `ping`, `dump`, `migrate`, `check` and `receive` work on the first board. `wrap`
+/// and `drip` use no board: they make a hash-chained image of `input`, and replay the script of nodes that it spells. `--help`
+/// writes a text that is not empty, and `--version` its line. All other words are [`Status::Usage`]. A status other than
 /// [`Status::Done`] writes its line last, where it has one.
 pub fn run<S: Source, K: Sink, N: Nor, L: Link, C: Clock>(
     alloc: Global,
@@ -46,11 +45,11 @@ pub fn run<S: Source, K: Sink, N: Nor, L: Link, C: Clock>(
     // sets are counted in their byte form. Those that are alive together in one call, or in a mount, have no more than 256 by
     // their types. A mote's value has at most 464 bytes of memory, and its outbox 80.
     ensures buffers { (buffered_bytes ≡ 214) × BuffersFit × ValuesAreSmall }
-    // A command that reads no input leaves it untouched. None but `serve` uses the link and the clock.
+    // A command that reads no input leaves it untouched. Only `serve` uses the link and the clock.
     ensures untouched { (ReadsInput (asked_of (map string_bytes words.now.items)) → ⊥) → input.new ≡ input.old }
     ensures apart { (UsesLink (asked_of (map string_bytes words.now.items)) → ⊥) → (link.new ≡ link.old)
         × (clock.new ≡ clock.old) }
-    // A fault of the link is told exactly where one of its calls failed.
+    // A fault of the link is reported exactly if one of its calls failed.
     ensures link_fault { result ≡ Status.LinkFault → Rose (L.faults link.old) (L.faults link.new) }
     ensures unfailed { result ≢ Status.LinkFault → L.faults link.new ≡ L.faults link.old }
     ensures reads { S.faults input.old ≤ S.faults input.new }

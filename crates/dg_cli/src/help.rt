@@ -1,11 +1,11 @@
-//! What is told where the command line is invalid, or asks for help or the version.
+//! What is written if the command line is invalid, or asks for help or the version.
 ghost use Rattle.std.specs.Prelude.{◌≡◌, ◌≢◌, ◌≤◌, []};
 ghost use Rattle.dg_words.specs.Counts.{Rose};
 ghost use Rattle.dg_cli.specs.Words.{UsageWritten, HelpWritten, VersionWritten};
 
 use dg_base::{Sink, Status, WriteFailed};
 
-/// Tells that the command line is invalid.
+/// Reports that the command line is invalid.
 pub(crate) fn tell_usage<K: Sink>(out: &mut K) -> Status
     ensures written { UsageWritten result (K.written out.old) (K.written out.new) (K.faults out.old) (K.faults out.new) }
     ensures counts { K.faults out.old ≤ K.faults out.new }

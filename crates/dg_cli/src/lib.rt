@@ -1,4 +1,4 @@
-//! The commands of the program: `run` does all that it does, and `flash_names` tells which files it works on.
+//! The commands of the program: `run` does all that it does, and `flash_names` gives the files that it works on.
 #![tactic(auto)]
 
 mod base;

@@ -111,7 +111,7 @@ is_well_formed _ = true
 abbrev pub named : Said → Asking
 named said = if is_well_formed said then Asks said else Misuses
 
--- words that `clap` takes: those of a verb are its command, unless a name or a root is none
+-- words that `clap` takes: those of a verb are its command, unless a name or a root is invalid
 abbrev pub taken_by : Option Verb → List Row → Asking
 taken_by (Some verb) rows = named (said_at verb rows)
 taken_by None rows = Misuses

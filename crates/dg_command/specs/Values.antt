@@ -15,7 +15,7 @@ number_in bits text =
 unfoldable pub number_at : ℕ → Text → List Row → ℕ
 number_at bits name rows = unwrap_or (option_and_then (number_in bits) (one_of name rows)) 0
 
--- the form of a chip: the older one where it is asked for, and today's where none is
+-- the form of a chip: the older one where it is asked for, and today's otherwise
 abbrev pub form_of : ℕ → ℕ
 form_of n = if n == old_form then old_form else new_form
 

@@ -334,7 +334,7 @@ fn top_command<'a>(alloc: Global) -> Command<'a>
         .no_binary_name(true)
 }
 
-/// The command for words that begin with a verb, or with none.
+/// The command for words that begin with a verb, or without one.
 pub fn command_for<'a>(alloc: Global, verb: Option<Verb>) -> Result<Command<'a>, AllocError>
     ensures { IfOk result (λ c. app_of c ≡ app_for verb) }
 {

@@ -17,7 +17,7 @@ pub enum Command {
     /// Makes a chip with a golden image.
     Format {
         name: String,
-        /// The commits that are told as spent.
+        /// The commits that are counted as spent.
         used: u32,
         /// The form in which the chip is written, 1 or 2.
         form: u8,
@@ -39,7 +39,7 @@ pub enum Command {
     Boot {
         flash: String,
     },
-    /// Tells what a chip keeps.
+    /// Reports what a chip keeps.
     Ping {
         flash: String,
     },

@@ -1,4 +1,4 @@
-//! What the help of each command tells after its options: what it reads and writes, how it ends, and an example.
+//! What the help of each command says after its options: what it reads and writes, how it ends, and an example.
 use crate::verbs::Verb;
 
 const REPLAY: &str =
@@ -96,7 +96,7 @@ Status 4 is a line that hung up, 6 a file that cannot be used, 7 no volume, 10 a
 16777216 bytes, 13 no image to start.
 Example: deluge base --id 0 --step 16 --seed 1 chip <line >line";
 
-/// What the help of a command tells after its options.
+/// What the help of a command says after its options.
 pub(crate) fn notes<'a>(verb: Verb) -> &'a str {
     match verb {
         Verb::Replay => REPLAY,

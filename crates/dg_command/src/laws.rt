@@ -50,7 +50,7 @@ pub fn forms_of_a_command()
     ensures attached { asked_of (line (codes "order --number=1 --image=1 --ver=1 f")) ≡ Asks (Order 1 1 1 (codes "f")) }
     ensures plus { asked_of (line (codes "order --number +007 --image 1 --ver 1 f")) ≡ Asks (Order 7 1 1 (codes "f")) }
 
-    // Behind `--` each word is a file, whatever it is.
+    // After `--` each word is a file, whatever it is.
     ensures any_file { (file : List ℕ) → asked_of (codes "boot" ∷ codes "--" ∷ file ∷ []) ≡ Asks (Boot file) }
 {}
 

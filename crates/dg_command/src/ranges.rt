@@ -20,8 +20,8 @@ pub const ROOT_BYTES: usize = 32;
 /// The hex digits of a root: two for each byte.
 pub const ROOT_DIGITS: usize = 2 * ROOT_BYTES;
 
-/// The numbers are those of this profile: a service takes 1,000,000 turns at most, a trial has 2 motes and 2 pages
-/// at least, a base mote takes steps of 60,000 milliseconds at most, and a root has 32 bytes.
+/// The numbers are those of this profile. A service takes 1,000,000 turns at most, and a trial has 2 motes and 2 pages at least.
+/// A base mote takes steps of 60,000 milliseconds at most, and a root has 32 bytes.
 pub fn the_ranges_are_these()
     ensures turns { MOST_TURNS ≡ most_turns }
     ensures motes { LEAST_MOTES ≡ least_motes }

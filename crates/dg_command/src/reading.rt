@@ -34,7 +34,7 @@ pub fn asked(alloc: Global, words: &Vec<String>) -> Result<Asked, AllocError>
     }
 }
 
-/// The names of the flash files that words name, in their order. An invalid command line names none.
+/// The names of the flash files that words name, in their order. An invalid command line names no file.
 pub fn flash_names(alloc: Global, words: &Vec<String>) -> Result<Vec<String>, AllocError>
     ensures { IfOk result (λ names. map string_bytes names.items ≡ flashes_of (asked_of (map string_bytes words.now.items))) }
 {
@@ -81,7 +81,7 @@ fn taken(alloc: Global, verb: Option<Verb>, matches: &ArgMatches<'_>) -> Result<
     }
 }
 
-// A command, unless the name that it gives an image is none, or a root.
+// A command, unless the name that it gives an image is invalid, or a root is.
 fn named(command: Command) -> Asked
     ensures named { asking result ≡ named (said_by command) }
     ensures some { HelpsBySome result }

@@ -15,8 +15,8 @@ use std::alloc::{AllocError, Global};
 /// The most bytes of a name.
 const LONGEST_NAME: usize = 16;
 
-/// What is wrong with words that begin with a verb and are not a command: a text for an operator, which tells the option and its
-/// range, or the word. None where they begin with no verb, or nothing is wrong with them.
+/// What is wrong with words that begin with a verb and are not a command: a text for an operator, which names the option and its
+/// range, or the word. None if they do not begin with a verb, or nothing is wrong with them.
 pub fn misuse(alloc: Global, words: &Vec<String>) -> Result<Option<String>, AllocError>
     ensures { verb_in (map string_bytes words.now.items) ≡ None → IfOk result (λ text. text ≡ None) }
 {
@@ -104,7 +104,7 @@ fn root_misuse(alloc: Global, root: &String) -> Result<Option<String>, AllocErro
     Ok(Some(format!(in alloc; "invalid value '{root}' for '--root <root>': {what}")?))
 }
 
-/// What `clap` says of words before it tells their usage, in one line.
+/// What `clap` says of words before their usage, in one line.
 fn first_part(alloc: Global, text: &str) -> Result<String, AllocError> {
     let text = text.strip_prefix("error: ").unwrap_or(text);
     let first = match text.split_once("\n\n") {

@@ -1,4 +1,4 @@
--- From the status of a command back to what it came to.
+-- From the status of a command back to its outcome.
 use Rattle.std.proofs.Common.{◌≡◌, ◌≢◌, ℕ, List, Option, Some, None, Ok, Err, refl, ⊎_elim}
 use Rattle.dg_base.specs.declared.answers.Status.{Status}
 use Rattle.dg_base.specs.declared.answers.Status.TheVariants as statuses
@@ -12,7 +12,7 @@ written_status : (status wanted : Status) (line : Option (List ℕ)) (a b : Outp
 written_status status wanted None a b h whole room = h.0
 written_status status wanted (Some text) a b h whole room = ⊎_elim (λ x. x.0) (λ y. ⊎_elim (λ x. absurd (whole x.0)) (λ x. absurd (room x.0)) y) h
 
--- but for a write that failed, and want of memory, the status is that of what was come to
+-- unless a write failed or memory ran out, the status is that of the outcome
 pub answered_status : (status : Status) (outcome : Outcome) (a b : OutputState) → WritesAnswer status outcome a b → status ≢ statuses.WriteFault → status ≢ statuses.Memory → status ≡ outcome_status outcome
 answered_status status outcome a b h whole room = written_status status (outcome_status outcome) (outcome_line outcome) a b h whole room
 
@@ -32,7 +32,7 @@ not_done (ends.BadLine number fault) e = cc
 not_done (ends.BadProfile fault) e = cc
 not_done (ends.Refused cause) e = cc
 
--- one that is done came to its answer
+-- the outcome of one that is done is its answer
 pub done_came : (outcome : Outcome) → statuses.Done ≡ outcome_status outcome → (text : List ℕ) × (outcome ≡ Ok text)
 done_came (Ok text) e = (text, refl)
 done_came (Err end) e = absurd (not_done end e)

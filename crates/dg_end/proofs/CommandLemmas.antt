@@ -1,4 +1,4 @@
--- A command, ended.
+-- A command that ended.
 use Rattle.std.proofs.Common.{◌≡◌, ◌≤◌, ℕ, ap, arith}
 use Rattle.dg_base.specs.declared.answers.Status.{Status}
 use Rattle.dg_outside.specs.Outside.{Outside}

@@ -14,7 +14,7 @@ at_end status end this a b is h = subst (λ (e : End). WritesLast status (status
 pub of_line : (status wanted : Status) (line text : List ℕ) (a b : OutputState) → line ≡ text → WritesLast status wanted (Some line) a b → WritesLast status wanted (Some text) a b
 of_line status wanted line text a b is h = subst (λ (t : List ℕ). WritesLast status wanted (Some t) a b) is h
 
--- what was come to is this
+-- the outcome is this one
 pub came_to : {T : Type 0} (view : T → List ℕ) (status : Status) (outcome this : Result T End) (a b : OutputState) → outcome ≡ this → WritesAnswer status (text_outcome view this) a b → WritesAnswer status (text_outcome view outcome) a b
 came_to {T} view status outcome this a b is h = subst (λ (r : Result T End). WritesAnswer status (text_outcome view r) a b) (sym is) h
 

@@ -1,4 +1,4 @@
--- What the faults of the layers below make of a command (docs/COMMANDS.md, "How a command ends").
+-- How the faults of the layers below end a command (docs/COMMANDS.md, "How a command ends").
 use Rattle.std.specs.Prelude.{ℕ}
 use Rattle.dg_boot.specs.declared.BootFault.{BootFault}
 use Rattle.dg_boot.specs.declared.BootFault.TheVariants as boot

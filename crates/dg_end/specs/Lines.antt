@@ -12,7 +12,7 @@ use Rattle.dg_end.specs.declared.refusal.Refusal.TheVariants as refusals
 use Rattle.dg_end.specs.declared.ends.End.{End}
 use Rattle.dg_end.specs.declared.ends.End.TheVariants as ends
 
--- a cause, and the value that it goes by
+-- a cause, and its value
 abbrev pub refusal_text : Refusal → List ℕ
 refusal_text refusals.Empty = codes "empty"
 refusal_text (refusals.TooLarge length) = codes "toolarge" ++ numbers (length ∷ [])
@@ -60,7 +60,7 @@ last_line (ends.BadProfile fault) = Some (line (codes "profile " ++ profile_faul
 last_line (ends.Refused cause) = Some (line (codes "refused " ++ refusal_text cause))
 last_line end = None
 
--- ---- what a command comes to
+-- ---- the outcome of a command
 
 -- its answer, or how it ends without one
 abbrev pub Outcome : Type 0

@@ -1,4 +1,4 @@
-//! What the faults of the layers below make of a command. Each is one definition of `specs/Conversions`.
+//! How the faults of the layers below end a command. Each is one definition of `specs/Conversions`.
 ghost use Rattle.std.specs.Prelude.{◌≡◌};
 ghost use Rattle.dg_end.specs.Conversions.{end_of_injection, end_of_format};
 
@@ -218,7 +218,7 @@ impl From<ChainFault> for End {
     }
 }
 
-/// What an injection that is not done makes of a command. `size` is the length of the image.
+/// How an injection that is not done ends a command. `size` is the length of the image.
 pub fn end_of_injection(fault: InjectFault, size: usize) -> End
     ensures { result ≡ end_of_injection size fault }
 {
@@ -233,7 +233,7 @@ pub fn end_of_injection(fault: InjectFault, size: usize) -> End
     }
 }
 
-/// What formatting that is not done makes of a command. `size` is the length of the image.
+/// How formatting that is not done ends a command. `size` is the length of the image.
 pub fn end_of_format(fault: FormatFault, size: usize) -> End
     ensures { result ≡ end_of_format size fault }
 {

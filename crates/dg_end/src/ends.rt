@@ -27,11 +27,11 @@ pub enum End {
     TooMany,
     /// The command needs more boards than there are.
     NoBoard { need: u8, have: u32 },
-    /// The input is no HEX file.
+    /// The input is not a HEX file.
     BadHex(HexFileFault),
     /// A line of the script is outside its grammar.
     BadLine { line: u32, fault: LineFault },
-    /// The input is no network profile.
+    /// The input is not a network profile.
     BadProfile(ProfileFault),
     /// The command's own rules refuse it.
     Refused(Refusal),

@@ -15,7 +15,7 @@ use dg_ihex::HexFileFault;
 use dg_netcfg::ProfileFault;
 use std::alloc::{AllocError, Global};
 
-/// Appends a cause, and the value that it goes by.
+/// Appends a cause, and its value.
 fn push_refusal(alloc: Global, text: &mut Vec<u8>, cause: Refusal) -> Result<(), AllocError>
     ensures { OnOk result (text.new.items ≡ text.old.items ++ refusal_text cause) }
 {
@@ -74,7 +74,7 @@ fn line_of_refusal(alloc: Global, cause: Refusal) -> Result<Vec<u8>, AllocError>
     Ok(text)
 }
 
-/// The line of a line that is outside its grammar.
+/// The last line for a line that is outside its grammar.
 fn line_of_bad_line(alloc: Global, number: u32, cause: &str) -> Result<Vec<u8>, AllocError>
     ensures { IfOk result (λ text. text.items ≡ bad_line number cause.now) }
 {
@@ -87,7 +87,7 @@ fn line_of_bad_line(alloc: Global, number: u32, cause: &str) -> Result<Vec<u8>, 
     Ok(text)
 }
 
-/// The line of an input that is no HEX file.
+/// The line of an input that is not a HEX file.
 fn line_of_hex_fault(alloc: Global, fault: HexFileFault) -> Result<Vec<u8>, AllocError>
     ensures { IfOk result (λ text. text.items ≡ bad_line fault.line (cause_text fault.cause)) }
 {
@@ -101,7 +101,7 @@ fn line_of_hex_fault(alloc: Global, fault: HexFileFault) -> Result<Vec<u8>, Allo
     Ok(text)
 }
 
-/// The line of an input that is no network profile.
+/// The line of an input that is not a network profile.
 fn line_of_profile_fault(alloc: Global, fault: ProfileFault) -> Result<Vec<u8>, AllocError>
     ensures { IfOk result (λ text. text.items ≡ line (codes "profile " ++ profile_fault_text fault)) }
 {
@@ -125,7 +125,7 @@ fn write_last<K: Sink>(out: &mut K, line: &[u8], status: Status) -> Status
     }
 }
 
-/// Writes a line that memory may be wanting for, and ends with this status.
+/// Writes a line, unless memory ran out for it, and ends with this status.
 fn write_made<K: Sink>(out: &mut K, made: Result<Vec<u8>, AllocError>, status: Status) -> Status
     ensures ends { (text : List ℕ) → IfOk made (λ l. l.items ≡ text)
         → WritesLast result status (Some text) (output_of (K.Sink, out.old)) (output_of (K.Sink, out.new)) }

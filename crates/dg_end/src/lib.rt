@@ -1,6 +1,6 @@
 //! How a command ends: the reasons, the last line of each, and its status (docs/COMMANDS.md, "How a command ends").
 //!
-//! Each fault of a lower layer becomes an [`End`] by `?`: `from_gives` tells which one, in the words of `specs/Conversions`.
+//! Each fault of a lower layer becomes an [`End`] by `?`: `from_gives` specifies which one, in the words of `specs/Conversions`.
 #![tactic(auto)]
 
 mod conversions;

@@ -17,7 +17,7 @@ pub enum Refusal {
     },
     /// The version is kept with other content.
     Taken,
-    /// The chip has room for so few commits.
+    /// The chip has room for only this many commits.
     Worn {
         room: u32,
     },
@@ -27,7 +27,7 @@ pub enum Refusal {
     },
     /// Nothing is kept of the image.
     Absent,
-    /// Of the pages of the image so few are complete.
+    /// Only this many pages of the image are complete.
     NotWhole {
         done: u8,
         pages: u8,
@@ -39,7 +39,7 @@ pub enum Refusal {
         kept: [u8; 32],
         found: [u8; 32],
     },
-    /// The data pages are not those of the length that the first one tells, or more are named.
+    /// The data pages are not those of the length that the first one gives, or more are named.
     Shape,
     /// The first data page whose digest is not the expected one.
     Foreign {

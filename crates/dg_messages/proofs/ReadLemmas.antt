@@ -1,4 +1,4 @@
--- Of each last line just its end is read.
+-- From each last line exactly its end is read.
 use Rattle.std.proofs.Common.{◌≡◌, ◌≢◌, ℕ, ◌<◌, ◌^◌, Bool, true, List, [], ◌∷◌, ◌++◌, Some, decimal, refl, ap, sym, ◌∙◌, arith, codes, append_assoc}
 use Rattle.std.proofs.lemmas.List.{append-nil, append_cancel_right}
 use Rattle.dg_base.specs.Hexadecimal.{hex_text}

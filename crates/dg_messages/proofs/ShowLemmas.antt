@@ -8,7 +8,7 @@ use Rattle.std.specs.List.{list_all}
 use Rattle.dg_base.specs.Hexadecimal.{hex_digit, hex_text}
 use Rattle.dg_messages.specs.Showing.{escaped, is_control, shown_after, shown_byte}
 
--- what is shown of the bytes from i on is the byte at i, and what is shown of those behind it
+-- what is shown of the bytes from i on is the byte at i, and what is shown of those after it
 shown_next : (before : ℕ) (bytes : List ℕ) (i : ℕ) → i < length bytes → shown_after before (drop i bytes) ≡ shown_byte before (get_or bytes i 0) ++ shown_after (get_or bytes i 0) (drop (i + 1) bytes)
 unfolding shown_after
 shown_next before bytes i h = ap (shown_after before) (drop-cons bytes i 0 h) ∙ rw add-one refl

@@ -1,4 +1,4 @@
--- Each sentence tells its cause.
+-- Each sentence identifies its cause.
 use Rattle.std.proofs.Common.{◌≡◌, ◌≢◌, refl}
 use Rattle.dg_drip_script.specs.declared.line.DripFault.TheVariants as nodes
 use Rattle.dg_ihex.specs.declared.faults.HexCause.TheVariants as hex

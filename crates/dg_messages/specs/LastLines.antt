@@ -35,7 +35,7 @@ abbrev pub words_behind : List (List ℕ) → List (List ℕ)
 words_behind [] = []
 words_behind (w ∷ ws) = ws
 
--- the number that the first word is, 0 where it is none
+-- the number that the first word is, 0 if it is not one
 abbrev pub or_zero : Option ℕ → ℕ
 or_zero None = 0
 or_zero (Some n) = n
@@ -105,7 +105,7 @@ nodes_fault_of word =
     else if same word (codes "number") then Some nodes.Number
     else None
 
--- the first line of what `wrap` wrote is the root, which is no record
+-- the first line of what `wrap` wrote is the root, which is not a record
 abbrev pub hex_told : Reads → (line : ℕ) → HexCause → Told
 hex_told reads.Wrapped line hex.Start = if line == 1 then told.RootLine else told.Hex hex.Start line
 hex_told what line cause = told.Hex cause line
@@ -213,7 +213,7 @@ refusal_end (refusals.Broken page kept found) = refused.Broken page
 refusal_end refusals.Shape = refused.Shape
 refusal_end (refusals.Foreign page) = refused.Foreign page
 
--- want of memory has a status of its own, and no last line
+-- out of memory has a status of its own, and no last line
 abbrev pub hex_end : Reads → (line : ℕ) → HexCause → Told
 hex_end what line hex.Memory = told.Other statuses.BadInput
 hex_end what line cause = hex_told what line cause

@@ -10,7 +10,7 @@ use dg_script::LineFault;
 /// What is wrong with an invalid command line.
 #[derive(Clone, Copy, Debug, PartialEq, Eq)]
 pub enum Misuse<'a> {
-    /// There is none.
+    /// There is no word.
     NoWord,
     /// The first one is not a command.
     NoCommand { word: &'a str },
@@ -53,13 +53,13 @@ pub enum Refused {
     Stale { version: u32 },
     /// The version is kept with other bytes or another name.
     Taken,
-    /// So many commits are left.
+    /// This many commits are left.
     Worn { room: u32 },
     /// An order with this number is kept.
     OldOrder { number: u32 },
     /// Nothing is kept of the image.
     Absent,
-    /// So many of its pages are complete.
+    /// This many of its pages are complete.
     NotWhole { done: u32, pages: u32 },
     /// The page has another digest than the one that is kept.
     Broken { page: u32 },
@@ -86,15 +86,15 @@ pub enum Told<'a> {
     Memory,
     /// The command line is invalid.
     Misused(Misuse<'a>),
-    /// A line is no record of a HEX file.
+    /// A line is not a record of a HEX file.
     Hex { cause: HexCause, line: u32 },
-    /// The first line of a HEX file that `wrap` made is no record.
+    /// The first line of a HEX file that `wrap` made is not a record.
     RootLine,
     /// A line is not one of a script.
     Script { cause: LineFault, line: u32 },
     /// A line is not one of a script of nodes.
     Nodes { cause: DripFault, line: u32 },
-    /// The input is no profile of a network.
+    /// The input is not a profile of a network.
     Profile(ProfileFault),
     Input(InputFault),
     Output(OutputFault),

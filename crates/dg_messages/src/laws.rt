@@ -17,7 +17,7 @@ ghost use Rattle.dg_messages.specs.declared.causes.Reads.TheVariants as reads;
 ghost use Rattle.dg_messages.specs.declared.causes.Told.{Told};
 ghost use Rattle.dg_messages.specs.declared.causes.Told.TheVariants as told;
 
-/// Each cause has a sentence of its own, whatever its values are, and none is empty.
+/// Each cause has a sentence of its own, whatever its values are, and no sentence is empty.
 pub fn no_two_sentences_are_alike()
     // the cause is read back from its sentence
     ensures told { (cause : Told) → told_number (sentence_of cause) ≡ cause_number cause }
@@ -25,7 +25,7 @@ pub fn no_two_sentences_are_alike()
     ensures some { (cause : Told) → sentence_of cause ≢ [] }
 {}
 
-/// Of the last line of an end just that end is read, with its values. So it is of a bad line of a script of nodes.
+/// From the last line of an end exactly that end is read, with its values. The same holds for a bad line of a script of nodes.
 pub fn each_last_line_is_read()
     ensures status { (end : End) (text : List ℕ) → last_line end ≡ Some text → has_last_line (status_of end) ≡ true }
     // an output keeps it

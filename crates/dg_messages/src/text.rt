@@ -52,7 +52,7 @@ pub(crate) fn push_decimal(alloc: Global, text: &mut Vec<u8>, value: u64) -> Res
     push(text, digits.as_str())
 }
 
-/// Appends that this many are there of that many.
+/// Appends that `part` of `all` are there.
 pub(crate) fn push_part(
     alloc: Global,
     text: &mut Vec<u8>,

@@ -1,5 +1,5 @@
--- What stands outside of a command, as far as it is told: its input, its output, the clock, the link and the boards. What a
--- command did is said of this before and after.
+-- What stands outside of a command, as far as it is exposed: its input, its output, the clock, the link and the boards. What a
+-- command did is a relation between this before it and after it.
 use Rattle.std.specs.Prelude.{◌≡◌, ℕ, ◌≤◌, List, Option}
 use Rattle.dg_base.specs.Clock.{Answers}
 use Rattle.dg_base.specs.declared.outside.Source.{Ghosts as SourceTells}
@@ -32,7 +32,7 @@ pub record Outside : Type 0 where
   pub clock : Option Answers
   pub boards : List Device
 
--- ---- what is told of what a call is lent
+-- ---- what is exposed of what a call is lent
 
 abbrev pub input_of : {S : Type 0} → SourceTells S × S → InputState
 input_of source = record { left = source.0.left source.1; reads = source.0.faults source.1 }
@@ -48,7 +48,7 @@ abbrev pub outside : InputState → OutputState → LinkState → (clock : Optio
 outside input output link clock boards =
     record { input = input; output = output; link = link; clock = clock; boards = boards }
 
--- ---- of a call that is lent a part of it, the rest being any
+-- ---- of a call that is lent a part of it, whatever the rest is
 
 abbrev pub with_input : {S : Type 0} → SourceTells S × S → Outside → Outside
 with_input source rest = record rest { input = input_of source }

@@ -1,7 +1,7 @@
 //! What holds of the words of the outside. The function does nothing: its contract is the law.
 ghost use Rattle.dg_outside.specs.Outside.{Outside, CountsRise};
 
-/// Counts of faults rise through two calls in a row, and through none.
+/// That no count of faults falls holds over two calls in a row, and over no call.
 pub fn counts_rise_through()
     ensures none { (a : Outside) → CountsRise a a }
     ensures both { (a b c : Outside) → CountsRise a b → CountsRise b c → CountsRise a c }

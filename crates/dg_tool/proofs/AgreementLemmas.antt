@@ -1,4 +1,4 @@
--- Verbs leave a first board that agrees with a table one that agrees with it.
+-- After a verb, a first board that agreed with a table still agrees with it.
 use Rattle.std.proofs.Common.{◌≡◌, ◌⊎◌, ⊎_elim, inr, ℕ, ◌<◌, List, [], ◌∷◌, length, Option, Some, None, Ok, Err, refl, sym, ap, subst, ◌∙◌, arith}
 use Rattle.std.specs.Prelude.{slice_get}
 use Rattle.dg_nor.specs.Device.{Device}

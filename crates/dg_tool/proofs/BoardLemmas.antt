@@ -76,9 +76,9 @@ pub on_any : {N : Type 0} (failed : Type 0) (f : N → Device) (items : List N) 
 on_any failed f [] x y outcome ending acted halted some h = absurd (omega (arith, some))
 on_any failed f (z ∷ zs) x y outcome ending acted halted some h = on_one failed outcome (λ chip. Unit {0}) ending acted halted (f z) (f y) (map f zs) h
 
--- ---- the boards as they were
+-- ---- the boards, unchanged
 
--- there is none
+-- there is no board
 pub no_boards : {N : Type 0} (f : N → Device) (items : List N) (failed : Type 0) (chips : Option Store → Type 0) (ending : Option Store → VerbEnding) (acted halted : Option Store → Device → Device → Type 0) → length items ≡ 0 → OnBoards (Err (ends.NoBoard 1 0)) (verb_rule chips ending acted halted) failed (map f items) (map f items)
 no_boards f [] failed chips ending acted halted none = record {
   rules = λ chip _. let none : List Device = [] in (ap outcome_of (sym (by_none 0 (ending chip) refl)), subst (λ (x : VerbEnding). ActsAs x (none ≡ none) (AtFirst Looked none none) (AtFirst (acted chip) none none)) (sym (by_none 0 (ending chip) refl)) refl);

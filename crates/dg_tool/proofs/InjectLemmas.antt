@@ -1,4 +1,4 @@
--- What an injection comes to.
+-- The outcome of an injection.
 use Rattle.std.proofs.Common.{◌≡◌, ◌≢◌, ◌<◌, map, ℕ, List, length, Option, Some, None, Ok, Err, refl, sym, subst, ⊎_elim, ◌⊎◌}
 use Rattle.dg_nor.specs.Device.{Device}
 use Rattle.dg_nor.specs.Reads.{Looked}
@@ -87,6 +87,6 @@ pub unfed_inject : {N T : Type 0} (f : N → Device) (items : List N) (row : Lis
 unfed_inject f items row view fault a b some read =
     fed_none (FirstAs (map f items)) (λ bytes chip. inject_into (row bytes) chip) (λ bytes. CompletedOn (λ s. inject_trail s (row bytes))) (λ bytes. VerbStopsOn (λ s. inject_trail s (row bytes))) (λ bytes chip. into_needs (row bytes) chip) view fault a b (map f items) (some_mapped f items some) read
 
--- it was refused with the cause of an image of so many bytes
+-- it was refused, with the cause for an image of this many bytes
 pub inject_sized : (size m : ℕ) (end : End) (fault : InjectFault) (P : Outcome → Type 0) → size ≡ m → end ≡ end_of_injection size fault → P (Err (end_of_injection m fault)) → P (Err end)
 inject_sized size m end fault P same is h = subst (λ (e : End). P (Err e)) (sym is) (subst (λ (n : ℕ). P (Err (end_of_injection n fault))) (sym same) h)

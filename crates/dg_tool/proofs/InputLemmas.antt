@@ -1,4 +1,4 @@
--- What an input comes to.
+-- The outcome of reading an input.
 use Rattle.std.proofs.Common.{◌≡◌, ◌≢◌, ◌≤◌, ◌<◌, ℕ, Bool, true, false, List, [], length, map, Option, Some, None, Result, Ok, Err, IsErrAnd, refl, sym, ap, subst, ◌∙◌, inl, arith, cond, ◌⊎◌}
 use Rattle.std.specs.Prelude.{nat_lt}
 use Rattle.std.proofs.lemmas.Bool.Decides.{nat_tests}
@@ -41,7 +41,7 @@ input_image input image next few e = by_lines most_input input next few ∙ ap (
 pub input_fault : (input : List ℕ) (fault : HexFileFault) (next : List ℕ → VerbEnding) → length input ≤ most_input → hex_file input ≡ Err fault → by_input input next ≡ Before (ends.BadHex fault)
 input_fault input fault next few e = by_lines most_input input next few ∙ ap (λ (r : Result (List ℕ) HexFileFault). by_file r next) e
 
--- ---- an ending behind the input is not for want of a board
+-- ---- an ending that is found after the input was read is not that of a missing board
 
 by_file_needs : (r : Result (List ℕ) HexFileFault) (next : List ℕ → VerbEnding) → ((image : List ℕ) → NeedsInput (next image)) → NeedsInput (by_file r next)
 by_file_needs (Ok image) next h = h image
@@ -85,7 +85,7 @@ reads_none view (image_fault.BadHex fault) bytes at_end failed h = h
 fault_differs : (T : Type 0) (fault : ImageFault) → failing (List ℕ) End (end_of_image fault) ≢ Err ends.ReadFault → failing T ImageFault fault ≢ Err image_fault.ReadFault
 fault_differs T fault other e = other (ap (λ x. Err (end_of_image x)) (err_inner {T = T} fault image_fault.ReadFault e))
 
--- no image came of it
+-- it gave no image
 pub part_read : {T : Type 0} (view : T → List ℕ) (fault : ImageFault) (n : ℕ) (a b : InputState) → 0 < n → (h : ImageRead {T = T} view (Err fault) a b) → InputRead (Err (end_of_image fault)) n h.bytes a b
 part_read {T} view fault n a b some h = record {
   taken = h.taken;
@@ -95,7 +95,7 @@ part_read {T} view fault n a b some h = record {
   read_faults = λ other. h.read_faults (fault_differs T fault other);
 }
 
--- an image came of it, whatever is made of that
+-- it gave an image, whatever is done with that
 pub whole_read : {T : Type 0} (view : T → List ℕ) (image : T) (outcome : Outcome) (n : ℕ) (a b : InputState) → 0 < n → (h : ImageRead view (Ok image) a b) → InputRead outcome n h.bytes a b
 whole_read view image outcome n a b some h = record {
   taken = h.taken;

@@ -1,4 +1,4 @@
--- What a mounted volume tells of the images that it keeps.
+-- What a mounted volume reports of the images that it keeps.
 use Rattle.std.proofs.Common.{◌≡◌, ◌≢◌, ◌<◌, ℕ, Bool, true, false, List, [], ◌∷◌, ◌++◌, length, Option, Some, None, Ok, IfSome, refl, sym, ap, subst, ◌∙◌, arith, cond}
 use Rattle.std.specs.Prelude.{◌==◌, IsSomeAnd, slice_index_or, codes}
 use Rattle.std.proofs.lemmas.Bool.Decides.{nat_tests}
@@ -36,7 +36,7 @@ told_some (Some h) k e = (h, refl, cc)
 pub held_none : (c : List ℕ) (v : Volume) (s : Store) (i : ℕ) → Mounted c v s → i < images → kept_at v i ≡ None → held s i ≡ None
 held_none c v s i m low e = told_none (held s i) (sym (m.tells.kept i low (λ x. x)) ∙ e)
 
--- what is kept of it, where the volume tells that something is
+-- what is kept of it, if the volume reports that something is
 pub record KeptHere (c : List ℕ) (s : Store) (i : ℕ) (k : Kept) : Type 0 where
   pub kept : Held
   pub here : held s i ≡ Some kept

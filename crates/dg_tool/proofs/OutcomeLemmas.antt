@@ -1,4 +1,4 @@
--- What a verb comes to.
+-- The outcome of a verb.
 use Rattle.std.proofs.Common.{◌≡◌, ℕ, List, Option, Some, None, Result, Ok, Err, IsErrAnd, refl, sym, ap, subst, ◌∙◌, inl, inr, ⊎_elim, ◌⊎◌}
 use Rattle.dg_words.specs.Counts.{Rose}
 use Rattle.dg_nor.specs.Device.{Device, Halts}
@@ -61,7 +61,7 @@ module _ (acted halted : Device → Device → Type 0) (a b : Device) where
   pub made_store : (text told : List ℕ) → text ≡ told → acted a b → OnStore (Ok text) (Acting (Ok told)) acted halted a b
   made_store text told is did = record { rules = (ap (λ t. Ok t) is, did); stops = λ e. cc; of_verb = tt; on_board = λ h. h }
 
-  -- memory ran out behind the act
+  -- memory ran out after the act
   pub memory_store : (ending : VerbEnding) → ActsAs ending (b ≡ a) (Looked a b) (acted a b) → OnStore (Err ends.Memory) ending acted halted a b
   memory_store ending h = record { rules = inr h; stops = λ e. cc; of_verb = tt; on_board = λ h. h }
 
@@ -126,7 +126,7 @@ module _ (by : Store → VerbEnding) (acted halted : Option Store → Device →
     on_board = λ h. h;
   }
 
-  -- it is no volume
+  -- it is not a volume
   pub no_volume : IsNoVolume a.image → Looked a b → OnBoard (Err ends.NotAVolume) (verb_rule (StandsAs a.image) (λ chip. by_store chip by) acted halted) a b
   no_volume none looked = record { rules = rules; found = λ _. (None, none); stops = λ e. cc; of_verb = tt; on_board = λ h. h }
     where

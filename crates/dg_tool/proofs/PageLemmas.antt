@@ -1,4 +1,4 @@
--- What the pages of an image tell of it.
+-- What the pages of an image say of it.
 use Rattle.std.proofs.Common.{◌≡◌, ℕ, suc, ◌+◌, ◌-◌, ◌*◌, ◌<◌, ◌≤◌, IsTrue, Bool, true, false, List, [], ◌∷◌, ◌++◌, map, length, take, drop, get_or, refl, sym, ap, subst, ◌∙◌, arith, append_assoc, length-append, length-take}
 use Rattle.std.specs.Prelude.{not, ◌==◌, take_while}
 use Rattle.std.specs.List.{prefix_len, flat_map, range_with_len}
@@ -62,7 +62,7 @@ name_in-descriptor page d described =
 pub first_kept : (c : List ℕ) (image : ℕ) (h : Held) → KeepsImage c image h → 0 < length h.complete → first_page h ≡ page_in c (page_sector image 0)
 first_kept c image h keeps some = ap (λ (ps : List (List ℕ)). get_or ps 0 []) keeps.stored ∙ first_of (λ p. page_in c (page_sector image p)) (length h.complete) some
 
--- a descriptor tells the name, the length and the page count of what is kept
+-- a descriptor has the name, the length and the page count of what is kept
 pub first_tells : (c : List ℕ) (image k : ℕ) (h : Held) (d : Details) → k ≡ page_sector image 0 → IsDescriptor (page_in c k) d → KeepsImage c image h → 0 < length h.complete → (d.name ≡ name_in (first_page h)) × (d.length ≡ length_in (first_page h)) × (pages_for d.length ≡ h.pages)
 first_tells c image k h d at described keeps some =
     let first : first_page h ≡ page_in c k = first_kept c image h keeps some ∙ ap (λ (n : ℕ). page_in c n) (sym at) in
@@ -100,7 +100,7 @@ packet_none first cells =
     let none : packet_size * 0 ≡ 0 = omega arith in
     sym (ap (λ (n : ℕ). first ++ part cells 0 n) none ∙ ap (λ (x : List ℕ). first ++ x) (part_none cells 0) ∙ append-nil first)
 
--- a packet more of a page
+-- one packet more of a page
 pub packet_more : (first before now cells again : List ℕ) (q : ℕ) → before ≡ first ++ part cells 0 (packet_size * q) → again ≡ cells → now ≡ before ++ part again (packet_size * q) packet_size → packet_size * (q + 1) ≤ length cells → now ≡ first ++ part cells 0 (packet_size * (q + 1))
 packet_more first before now cells again q e same more within =
     let sum : packet_size * q + packet_size ≡ packet_size * (q + 1) = omega arith in
@@ -113,11 +113,11 @@ packet_more first before now cells again q e same more within =
     ∙ ap (λ (x : List ℕ). first ++ x) (part-append-part cells 0 (packet_size * q) packet_size (omega (arith, within)))
     ∙ ap (λ (n : ℕ). first ++ part cells 0 n) sum
 
--- a page has so many bytes
+-- a page adds `page_size` bytes
 pub page_grown : (before now cells : List ℕ) → page_size ≤ length cells → now ≡ before ++ part cells 0 page_size → length now ≡ length before + page_size
 page_grown before now cells long e = ap length e ∙ length-append before (part cells 0 page_size) ∙ ap (λ (n : ℕ). length before + n) (length-part cells 0 page_size (omega (arith, long)))
 
--- a page more
+-- one page more
 pub page_more : (f g : ℕ → List ℕ) (before now : List ℕ) (n k : ℕ) → before ≡ flat_map f (range_with_len 1 n) → g k ≡ f k → k ≡ 1 + n → now ≡ before ++ g k → now ≡ flat_map f (range_with_len 1 (n + 1))
 page_more f g before now n k e same at more =
     let count : suc n ≡ n + 1 = omega arith in

@@ -22,12 +22,12 @@ pub reads_after : {T : Type 0} (r : Result T End) (a m b : Device) → Looked a 
 reads_after (Ok x) a m b l h = Looked_then l h
 reads_after {T} (Err e) a m b l h = fails_after T T e a m b l h
 
--- a read that failed behind others
+-- a read that failed after others
 pub reads_err : {T : Type 0} (U : Type 0) (r : Result T End) (e : End) (a m b : Device) → IsErrAnd r (λ x. x ≡ e) → Looked a m → ReadsOn (page_err U e) m b → ReadsOn r a b
 reads_err U (Ok x) e a m b is l h = absurd is
 reads_err {T} U (Err x) e a m b is l h = subst (λ (y : End). ReadsOn (page_err T y) a b) (sym is) (fails_after U T e a m b l h)
 
--- memory ran out behind reads
+-- memory ran out after reads
 pub reads_wants : {T : Type 0} (r : Result T End) (a b : Device) → IsErrAnd r (λ x. x ≡ ends.Memory) → Looked a b → ReadsOn r a b
 reads_wants (Ok x) a b is l = absurd is
 reads_wants {T} (Err x) a b is l = subst (λ (y : End). ReadsOn (page_err T y) a b) (sym is) l

@@ -1,4 +1,4 @@
--- What a start, formatting and a migration come to.
+-- The outcomes of a start, of formatting and of a migration.
 use Rattle.std.proofs.Common.{◌≡◌, ◌<◌, ℕ, Bool, true, false, List, [], ◌∷◌, length, map, get_or, set, Option, Some, None, Ok, Err, IfSome, refl, sym, ap, subst, ◌∙◌, inl, inr, arith, cond, ◌⊎◌}
 use Rattle.std.specs.Prelude.{◌==◌, ◌&&◌, nat_lt, ◌-◌}
 use Rattle.std.proofs.lemmas.Bool.{cond_both, and_parts, eqb-true}

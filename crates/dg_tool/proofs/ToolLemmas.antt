@@ -1,4 +1,4 @@
--- A verb, ended.
+-- The end of a verb.
 use Rattle.std.proofs.Common.{◌≡◌, ◌≤◌, ℕ, List}
 use Rattle.dg_base.specs.declared.answers.Status.{Status}
 use Rattle.dg_outside.specs.Outside.{Outside}
@@ -13,7 +13,7 @@ module _ (status : Status) (outcome : Outcome) (a b : Outside) (answered : Write
   first_done rule did unread =
       unread_ends status outcome a b answered writes link clock (λ outcome. OnBoards outcome rule ⊥ a.boards b.boards × (b.input ≡ a.input)) (did, unread) unread
 
-  -- the same of one whose rule goes by a number, such as the form of the board
+  -- the same of one whose rule depends on a number, such as the form of the board
   pub numbered_done : (is : ℕ → Type 0) (rule : ℕ → VerbRule) → ((n : ℕ) → is n → OnBoards outcome (rule n) ⊥ a.boards b.boards) → b.input ≡ a.input
       → CommandEnds status (λ outcome. ((n : ℕ) → is n → OnBoards outcome (rule n) ⊥ a.boards b.boards) × (b.input ≡ a.input)) a b
   numbered_done is rule did unread =

@@ -37,7 +37,7 @@ went t a b v h = record { ran = h.ran; stands = h.mounted.stands }
 pub went_looked : (t : Trail Store) (a m b : Device) → Looked a m → Completed t m b → Completed t a b
 went_looked t a m b looked h = record { ran = ran_after looked.ran h.ran; stands = h.stands }
 
--- a board that is not mounted, and was to go a trail
+-- a board that is not mounted, and was to complete a trail
 pub stops_before : (trail : Store → Trail Store) (a b : Device) → ((s : Store) → BeginsAt s (trail s)) → (chip : Option Store) → StandsAs a.image chip → ReadStopped a b → VerbStopsOn trail chip a b
 stops_before trail a b begins None none h = h
 stops_before trail a b begins (Some s) stands h = read_stops s (trail s) a b (begins s) stands h

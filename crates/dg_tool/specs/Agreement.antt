@@ -19,8 +19,8 @@ pub record BoardAgrees (table : List Row) (image : List ℕ) : Type 0 where
 abbrev pub HasNewRow : Row → List Row → Store → Type 0
 HasNewRow row table s = inject_refusal s row ≡ None → row_at table row.image row.version ≡ Some row
 
--- Where the first board agrees with a table which suits what a verb brings, it agrees with it afterwards, however the verb ends:
--- also where it is refused, where memory ran out or the write failed, and where the board stopped, in any of its operations.
+-- If the first board agrees with a table that suits what a verb brings, it agrees with it afterwards, however the verb ends. This
+-- holds also if it is refused, if memory ran out or the write failed, and if the board stopped, in any of its operations.
 abbrev pub KeepsAgreement : (suits : List Row → Store → Type 0) → (old new : List Device) → Type 0
 KeepsAgreement suits old new = AtFirst (λ a b. (table : List Row) (s : Store) → Stands a.image s → Agrees table s → suits table s
     → BoardAgrees table b.image) old new

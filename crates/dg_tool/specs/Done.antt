@@ -25,7 +25,7 @@ use Rattle.dg_tool.specs.Endings.{VerbEnding, Before, Reading, Acting, outcome_o
 
 -- ---- acts on the first board
 
--- the board went a trail of stores to its end
+-- the board completed a trail of stores
 pub record Completed (t : Trail Store) (a b : Device) : Type 0 where
   pub ran : Ran (operations t) a b
   pub stands : Stands b.image (last t)
@@ -35,7 +35,7 @@ abbrev pub CompletedOn : (Store → Trail Store) → Option Store → Device →
 CompletedOn trail None a b = ⊥
 CompletedOn trail (Some s) a b = Completed (trail s) a b
 
--- It was stopped, and which stores that may leave. A board that is not a volume keeps its bytes.
+-- It was stopped, and this says which stores that may leave. A board that is not a volume keeps its bytes.
 abbrev pub VerbStopsOn : (Store → Trail Store) → Option Store → Device → Device → Type 0
 VerbStopsOn trail None a b = ReadStopped a b
 VerbStopsOn trail (Some s) a b = Stops (trail s) a b
@@ -60,7 +60,7 @@ pub record FormattingStops (name golden : List ℕ) (used : ℕ) (a b : Device) 
   pub halted : Halted (format_operations (length golden) used) (λ _ _. Unit {0}) a b
   pub golden_first : GoldenFirst (golden_row name golden) a.image b.image
 
--- a start was gone to its end, and what runs stands in program memory
+-- a start was completed, and what runs stands in program memory
 pub record Booted (boot : Boot) (a b : Device) : Type 0 where
   pub went : Completed boot.trail a b
   pub memory : IfSome boot.runs (λ r. program b.image (length r.pages) ≡ r.pages)
@@ -69,9 +69,9 @@ abbrev pub BootedOn : (Store → Boot) → Option Store → Device → Device �
 BootedOn boot None a b = ⊥
 BootedOn boot (Some s) a b = Booted (boot s) a b
 
--- ---- what a verb comes to, and how it leaves the board, or the boards
+-- ---- the outcome of a verb, and how it leaves the board, or the boards
 
--- As the rules say: what ends a verb before it comes to the board leaves that the same, and a refusal only looks at it.
+-- As the rules say: an ending that is found before the board is used leaves it unchanged, and a refusal only reads it.
 abbrev pub ActsAs : VerbEnding → (same looked acted : Type 0) → Type 0
 ActsAs (Before end) same looked acted = same
 ActsAs (Reading end) same looked acted = looked
@@ -87,8 +87,8 @@ abbrev pub NeedsBoard : VerbEnding → Type 0
 NeedsBoard (Before end) = ⊥
 NeedsBoard ending = Unit {0}
 
--- A verb ends as the rules say. Memory alone is free, and a fault of the outside comes only where the verb has come to it. Where
--- the board stopped, `halted` says what it holds.
+-- A verb ends as the rules say. Out of memory may be returned at any time, and a fault of the outside only once the verb has
+-- reached it. If the board stopped, `halted` says what it holds.
 abbrev pub EndsAs : Outcome → VerbEnding → (same looked acted halted : Type 0) → Type 0
 EndsAs (Err ends.Memory) ending same looked acted halted = looked ⊎ ActsAs ending same looked acted
 EndsAs (Err ends.ReadFault) ending same looked acted halted = NeedsInput ending × same
@@ -124,8 +124,8 @@ IsOfVerb outcome = Unit {0}
 
 -- ---- the rule of a verb
 
--- What the rules say of a verb. `chips` are the stores that the board may stand for, None where it is none; by these go how
--- it ends, what it does to the board, and what it may leave of it where it is stopped.
+-- What the rules say of a verb. `chips` are the stores that the board may stand for, with None if it is not a volume. How the
+-- verb ends, what it does to the board, and what it may leave if it is stopped depend on them.
 pub record VerbRule : Type 1 where
   pub chips : Option Store → Type 0
   pub ending : Option Store → VerbEnding
@@ -159,7 +159,7 @@ pub record FirstStopped (old new : List Device) : Type 0 where
   pub is : slice_get new 0 ≡ Some after
   pub stopped : IsBoardStopped before after
 
--- What a verb that goes by this rule did over boards. A read of the input that failed is told by `read_failed`.
+-- What a verb with this rule did over boards. `read_failed` says that a read of the input failed.
 pub record OnBoards (outcome : Outcome) (rule : VerbRule) (read_failed : Type 0) (old new : List Device) : Type 0 where
   pub rules : (chip : Option Store) → rule.chips chip
       → EndsAs outcome (by_boards (length old) (rule.ending chip)) (new ≡ old) (AtFirst Looked old new)
@@ -173,18 +173,18 @@ pub record OnBoards (outcome : Outcome) (rule : VerbRule) (read_failed : Type 0)
 
 -- ---- the input
 
--- Of the input these bytes were taken: all, or one byte past those that are used, unless memory ran out or a read failed. A
--- verb without a board reads nothing.
+-- These bytes of the input were taken: all, or one byte past those that are used, unless memory ran out or a read failed. A verb
+-- without a board reads nothing.
 pub record InputRead (outcome : Outcome) (boards : ℕ) (bytes : List ℕ) (a b : InputState) : Type 0 where
   pub taken : Takes a.left b.left bytes
   pub few_bytes : length bytes ≤ most_input + 1
   pub unread : boards ≡ 0 → bytes ≡ []
   pub to_end : 0 < boards → outcome ≢ Err ends.Memory → outcome ≢ Err ends.ReadFault
       → AtEnd b.left ⊎ (most_input < length bytes)
-  -- a read that fails is always told
+  -- a read that fails is always reported
   pub read_faults : outcome ≢ Err ends.ReadFault → b.reads ≡ a.reads
 
--- What a verb did over boards whose rule goes by the bytes of the input.
+-- What a verb whose rule depends on the bytes of the input did over boards.
 pub record FedBoards (outcome : Outcome) (rule : List ℕ → VerbRule) (a b : InputState) (old new : List Device) : Type 0 where
   pub bytes : List ℕ
   pub read : InputRead outcome (length old) bytes a b
@@ -196,6 +196,6 @@ pub record FedBoards (outcome : Outcome) (rule : List ℕ → VerbRule) (a b : I
 abbrev pub FirstDone : Status → VerbRule → Outside → Outside → Type 0
 FirstDone status rule a b = CommandEnds status (λ outcome. OnBoards outcome rule ⊥ a.boards b.boards × (b.input ≡ a.input)) a b
 
--- one whose rule goes by the bytes of the input
+-- one whose rule depends on the bytes of the input
 abbrev pub InputDone : Status → (List ℕ → VerbRule) → Outside → Outside → Type 0
 InputDone status rule a b = CommandEnds status (λ outcome. FedBoards outcome rule a.input b.input a.boards b.boards) a b

@@ -37,7 +37,7 @@ abbrev pub by_file : Result (List ℕ) HexFileFault → (List ℕ → VerbEnding
 by_file (Ok image) next = next image
 by_file (Err fault) next = Before (ends.BadHex fault)
 
--- Of an input at most 16,777,216 bytes are used. A longer one ends a verb whatever its lines are.
+-- At most 16,777,216 bytes of an input are used. A longer one ends a verb whatever its lines are.
 abbrev pub by_input : List ℕ → (List ℕ → VerbEnding) → VerbEnding
 by_input input next = if nat_lt most_input (length input) then Before ends.TooLong else by_file (hex_file input) next
 
@@ -51,11 +51,11 @@ abbrev pub content_by : Result (List ℕ) HexFileFault → List ℕ
 content_by (Ok image) = image
 content_by (Err fault) = []
 
--- the image of a HEX file, nothing where it is none
+-- the image of a HEX file, nothing if it is not one
 abbrev pub content_in : List ℕ → List ℕ
 content_in input = content_by (hex_file input)
 
--- what the bytes of a chip stand for, None where they are no volume
+-- what the bytes of a chip stand for, None if they are not a volume
 abbrev pub StandsAs : List ℕ → Option Store → Type 0
 StandsAs image None = IsNoVolume image
 StandsAs image (Some s) = Stands image s

@@ -1,4 +1,4 @@
--- What reading the image of an input comes to (docs/COMMANDS.md, "Over one chip").
+-- The outcome of reading the image of an input (docs/COMMANDS.md, "Over one chip").
 use Rattle.std.specs.Prelude.{◌≡◌, ◌≢◌, ◌⊎◌, ℕ, ◌+◌, ◌<◌, ◌≤◌, List, length, Result, Ok, Err}
 use Rattle.dg_words.specs.Counts.{Rose}
 use Rattle.dg_base.specs.Sizes.{most_input}
@@ -34,9 +34,9 @@ end_of_image image_fault.ReadFault = ends.ReadFault
 end_of_image image_fault.TooLong = ends.TooLong
 end_of_image (image_fault.BadHex fault) = ends.BadHex fault
 
--- ---- what an input comes to
+-- ---- the outcome of an input
 
--- so much of it was taken
+-- this much of it was taken
 abbrev pub TakenToEnd : List ℕ → (at_end : Type 0) → Type 0
 TakenToEnd bytes at_end = at_end ⊎ (most_input < length bytes)
 

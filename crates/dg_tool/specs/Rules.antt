@@ -16,7 +16,7 @@ use Rattle.dg_end.specs.Writes.{CommandEnds}
 use Rattle.dg_tool.specs.Done.{OnBoards, FirstDone, InputDone}
 use Rattle.dg_tool.specs.Agreement.{HasNewRow, KeepsAgreement}
 
--- a volume goes a trail of stores
+-- a volume completes a trail of stores
 abbrev pub trail_rule : List Device → (Option Store → VerbEnding) → (Store → Trail Store) → VerbRule
 trail_rule boards ending trail = verb_rule (FirstAs boards) ending (CompletedOn trail) (VerbStopsOn trail)
 
@@ -70,7 +70,7 @@ PingDone status a b = FirstDone status (reading_rule a.boards ping_on) a b
 abbrev pub DumpDone : (image : ℕ) → Status → Outside → Outside → Type 0
 DumpDone image status a b = FirstDone status (reading_rule a.boards (dump_on image)) a b
 
--- the first board is committed again as it is, where its last commit is written in the older form
+-- the first board is committed again, unchanged, if its last commit is written in the older form
 pub record MigrateDone (status : Status) (a b : Outside) : Type 0 where
   pub done : CommandEnds status (λ outcome.
       ((form : ℕ) → FirstInForm form a.boards → OnBoards outcome (migrate_rule a.boards form) ⊥ a.boards b.boards)

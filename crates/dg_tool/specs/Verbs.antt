@@ -111,7 +111,7 @@ order_line o waived =
     if o.number == 0 then line (codes "order none")
     else line (codes "order" ++ numbers (o.number ∷ o.image ∷ o.version ∷ []) ++ waived_word waived)
 
--- `-` where no page tells the name yet
+-- `-` where no page has the name yet
 abbrev pub name_by : List (List ℕ) → List ℕ
 name_by [] = 45 ∷ []
 name_by (first ∷ rest) = name_in first

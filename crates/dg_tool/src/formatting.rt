@@ -15,7 +15,7 @@ use dg_nor::Nor;
 use dg_volume::Volume;
 use std::alloc::Global;
 
-/// Formats the first of the boards with the image that an input spells, and gives the line that tells of it.
+/// Formats the first of the boards with the image that an input spells, and gives the line that reports it.
 pub(crate) fn format_first<S: Source, N: Nor>(
     alloc: Global,
     name: &[u8],

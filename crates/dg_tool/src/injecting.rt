@@ -15,7 +15,7 @@ use dg_nor::Nor;
 use dg_volume::Volume;
 use std::alloc::Global;
 
-/// Injects the image that an input spells into the first of the boards, and gives the line that tells of it.
+/// Injects the image that an input spells into the first of the boards, and gives the line that reports it.
 pub(crate) fn inject_first<S: Source, N: Nor>(
     alloc: Global,
     image: u8,

@@ -18,7 +18,7 @@ pub enum ImageFault {
     ReadFault,
     /// It has more than 16,777,216 bytes.
     TooLong,
-    /// It is no HEX file.
+    /// It is not a HEX file.
     BadHex(HexFileFault),
 }
 

@@ -5,7 +5,7 @@ ghost use Rattle.dg_volume.specs.Start.{length_in};
 ghost use Rattle.dg_volume.specs.Store.{held_whole};
 ghost use Rattle.dg_tool.specs.Pages.{name_in, first_page, image_bytes};
 
-/// Of an image that is kept whole, `ping` tells the name that it was given, and `dump` the bytes.
+/// Of an image that is kept whole, `ping` reports the name that it was given, and `dump` writes the bytes.
 pub fn a_whole_image_tells_its_row()
     ensures name { (row : Row) → IsRow row → name_in (first_page (held_whole row)) ≡ row.name }
     ensures length { (row : Row) → IsRow row → length_in (first_page (held_whole row)) ≡ length row.bytes }

@@ -1,8 +1,8 @@
 //! The verbs over one board: format, inject, order, boot, ping, dump and migrate.
 //!
-//! Each works on the first of the boards that it is given, looks for what ends it in one order, first whether there is
-//! a board, then what the input spells, and then what the board holds, and writes once, at its end. The parts that
-//! other verbs are made of are handed out too: reading an image, mounting, lines, and the end.
+//! Each works on the first of the boards that it is given, and writes once, at its end. Causes to end are checked in one order:
+//! whether there is a board, what the input spells, and what the board holds. The parts of which other verbs are made are public
+//! too: reading an image, mounting, lines, and the end.
 #![tactic(auto)]
 
 mod dumping;
@@ -39,8 +39,8 @@ use dg_volume::{
 };
 use std::alloc::Global;
 
-/// Makes the first board a volume that keeps golden alone: the image of the HEX file that `input` spells, with this
-/// name. `used` commits, at most 520,223, are told as spent. The snapshot is written in form 1 or 2. Writes `room R`.
+/// Makes the first board a volume that keeps golden alone: the image of the HEX file that `input` spells, with this name. `used`
+/// commits, at most 520,223, are counted as spent. The snapshot is written in form 1 or 2. Writes `room R`.
 pub fn format<S: Source, K: Sink, N: Nor>(
     alloc: Global,
     name: &[u8],
@@ -117,7 +117,7 @@ pub fn boot<K: Sink, N: Nor>(alloc: Global, out: &mut K, boards: &mut Vec<N>) ->
     answer(alloc, out, outcome)
 }
 
-/// Tells what the first board keeps, and changes no byte.
+/// Reports what the first board keeps, and changes no byte.
 pub fn ping<K: Sink, N: Nor>(alloc: Global, out: &mut K, boards: &mut Vec<N>) -> Status
     ensures does { (rest : Outside) → PingDone result
         (with_boards (map N.device boards.old.items) (with_output (K.Sink, out.old) rest))

@@ -10,7 +10,7 @@ use dg_nor::Nor;
 use dg_volume::{Volume, a_volume_has_one_form};
 use std::alloc::Global;
 
-/// Migrates the first of the boards, and gives the line that tells of it.
+/// Migrates the first of the boards, and gives the line that reports it.
 pub(crate) fn migrate_first<N: Nor>(alloc: Global, boards: &mut [N]) -> Result<Vec<u8>, End>
     ensures { (form : ℕ) → FirstInForm form (map N.device boards.old)
         → OnBoards (text_outcome (λ text. text.items) result) (migrate_rule (map N.device boards.old) form) ⊥

@@ -12,7 +12,7 @@ use dg_nor::Nor;
 use dg_volume::{Order, Volume};
 use std::alloc::Global;
 
-/// Keeps an order on the first of the boards, and gives the line that tells of it.
+/// Keeps an order on the first of the boards, and gives the line that reports it.
 pub(crate) fn order_first<N: Nor>(
     alloc: Global,
     order: &Order,

@@ -157,7 +157,7 @@ fn push_images<N: Nor>(text: &mut Vec<u8>, nor: &mut N, volume: &Volume) -> Resu
     Ok(())
 }
 
-/// Tells what a board keeps that is mounted.
+/// Reports what a mounted board keeps.
 fn ping_mounted<N: Nor>(alloc: Global, nor: &mut N, volume: &Volume) -> Result<Vec<u8>, End>
     requires mounted { IsMounted (N.device nor.old).image volume.now }
     ensures told { IfOk result (λ text. (s : Store) → Mounted (N.device nor.old).image volume.now s → text.items ≡ ping_text s) }
@@ -171,7 +171,7 @@ fn ping_mounted<N: Nor>(alloc: Global, nor: &mut N, volume: &Volume) -> Result<V
     Ok(text)
 }
 
-/// Tells what the first of the boards keeps.
+/// Reports what the first of the boards keeps.
 pub(crate) fn ping_first<N: Nor>(alloc: Global, boards: &mut [N]) -> Result<Vec<u8>, End>
     ensures done { OnBoards (text_outcome (λ text. text.items) result) (reading_rule (map N.device boards.old) ping_on) ⊥
         (map N.device boards.old) (map N.device boards.new) }

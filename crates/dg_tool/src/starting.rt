@@ -13,7 +13,7 @@ use dg_end::{End, push_words};
 use dg_nor::Nor;
 use std::alloc::{AllocError, Global};
 
-/// The line that tells of a start.
+/// The line that reports a start.
 fn start_line(alloc: Global, started: &Started) -> Result<Vec<u8>, AllocError>
     ensures { IfOk result (λ text. (r : Runs) → TellsStarted started.now r → text.items ≡ start_text r) }
 {
@@ -29,7 +29,7 @@ fn start_line(alloc: Global, started: &Started) -> Result<Vec<u8>, AllocError>
     Ok(text)
 }
 
-/// Starts the first of the boards by power, and gives the line that tells of it.
+/// Starts the first of the boards by power, and gives the line that reports it.
 pub(crate) fn boot_first<N: Nor>(alloc: Global, boards: &mut [N]) -> Result<Vec<u8>, End>
     ensures { OnBoards (text_outcome (λ text. text.items) result) (boot_rule (map N.device boards.old)) ⊥
         (map N.device boards.old) (map N.device boards.new) }

@@ -21,7 +21,7 @@ use Rattle.dg_chain_tool.specs.Receiving.{with_foreign}
 abbrev pub fits_root : (expected : List ℕ) → List ℕ → Bool
 fits_root expected page = is_same (sha256 page) expected
 
--- it is filled, and then made complete where it is the expected one
+-- it is filled, and then made complete if it is the expected one
 abbrev pub next_trail : Bool → Store → (image : ℕ) → List ℕ → Trail Store
 next_trail fits s image page = if fits then stepping s page_operations (paged image page s) else resting s fill_operations
 

@@ -1,4 +1,4 @@
--- Words of the inner functions: one board, and what a call on it came to.
+-- Words of the inner functions: one board, and the outcome of a call on it.
 use Rattle.std.specs.Prelude.{◌≡◌, Option, Ok, Err, Result}
 use Rattle.dg_nor.specs.Device.{Device}
 use Rattle.dg_nor.specs.Reads.{Looked, ReadStopped}
@@ -16,7 +16,7 @@ ReadsOn (Err ends.Memory) a b = Looked a b
 ReadsOn (Err ends.FlashFault) a b = ReadStopped a b
 ReadsOn (Err end) a b = ⊥
 
--- what a verb that came to this did on a board that stood for a store, where it ends so by the rules
+-- what a verb with this outcome did on a board that stood for a store, if it ends so by the rules
 pub record OnStore (outcome : Outcome) (ending : VerbEnding) (acted halted : Device → Device → Type 0) (a b : Device)
     : Type 0 where
   pub rules : EndsAs outcome ending (b ≡ a) (Looked a b) (acted a b) (halted a b)
@@ -24,7 +24,7 @@ pub record OnStore (outcome : Outcome) (ending : VerbEnding) (acted halted : Dev
   pub of_verb : IsOfVerb outcome
   pub on_board : IsBefore outcome → ⊥
 
--- what a verb that goes by this rule did on a board
+-- what a verb with this rule did on a board
 pub record OnBoard (outcome : Outcome) (rule : VerbRule) (a b : Device) : Type 0 where
   pub rules : (chip : Option Store) → rule.chips chip
       → EndsAs outcome (rule.ending chip) (b ≡ a) (Looked a b) (rule.acted chip a b) (rule.halted chip a b)
