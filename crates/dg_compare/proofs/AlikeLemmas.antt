@@ -1,4 +1,4 @@
--- What two chips keep beside each other, as what is seen of them tells.
+-- What two chips keep beside each other, as what is seen of them shows.
 use Rattle.std.proofs.Common.{◌≡◌, ◌≢◌, ℕ, zero, suc, ◌+◌, ◌<◌, ◌≤◌, min, Bool, true, false, List, [], ◌∷◌, length, get_or, Option, Some, None, IfSome, refl, sym, ap, ◌∙◌, subst, arith, eqb-true, eq-eqb}
 use Rattle.std.specs.Prelude.{◌==◌, ◌&&◌, ◌||◌, ◌↔◌, not, nat_le, nat_lt, IsSomeAnd, IsTrue}
 use Rattle.std.proofs.lemmas.List.{same_lists}
@@ -343,7 +343,7 @@ three_true true true false e f g = absurd cc
 three_true true false c e f g = absurd cc
 three_true false b c e f g = absurd cc
 
--- a value for an index behind the last
+-- a value for an index after the last
 level : ImageCompared
 level = record { ahead = None; shared = Nothing; alike = true }
 

@@ -1,4 +1,4 @@
--- Pages that are not sound, as the sets of them that are seen tell.
+-- Pages that are not sound, as the sets of them that are seen show.
 use Rattle.std.proofs.Common.{◌≡◌, ◌≢◌, ℕ, ◌+◌, ◌<◌, ◌≤◌, Bool, true, false, List, [], length, get_or, Option, Some, None, IfSome, refl, sym, ap, ◌∙◌, subst, arith, eqb-true, eq-eqb}
 use Rattle.std.specs.Prelude.{◌==◌, ◌&&◌, not, nat_le, nat_lt, MatchOption, IsSomeAnd}
 use Rattle.std.specs.FinSet as set

@@ -1,4 +1,4 @@
--- Whether a root names what is kept, as the chain that is seen tells.
+-- Whether a root names what is kept, as the chain that is seen shows.
 use Rattle.std.proofs.Common.{◌≡◌, ℕ, ◌≤◌, Bool, true, false, List, [], ◌∷◌, length, get_or, drop, Option, Some, None, cond, refl, sym, ap, ◌∙◌, subst, arith, eqb-true, eq-eqb}
 use Rattle.std.specs.Prelude.{◌==◌, ◌↔◌, if◌then◌else◌, IsSomeAnd, IsTrue}
 use Rattle.std.proofs.lemmas.Bool.{cases_eq, ne_eqb}

@@ -40,7 +40,7 @@ HasRoots s r = IfSome r (HasRoot s)
 
 -- ---- the first that is not sound
 
--- page p is there, and is the first that has not the CRC that page 0 keeps of it
+-- page p is there, and is the first that does not have the CRC that page 0 keeps of it
 pub record IsFirstUnfit (pages : List (List ℕ)) (p : ℕ) : Type 0 where
   pub some : 1 ≤ p
   pub within : p < length pages

@@ -105,8 +105,8 @@ fn compare_volumes(
     })
 }
 
-/// How the chips in two files compare: for each image which of them is ahead, as completion counts, and whether the
-/// pages that both keep of one version are equal, byte for byte; likewise program memory and the order.
+/// How the chips in two files compare. For each image this is which of them is ahead, as completion counts, and whether the pages
+/// that both keep of one version are equal, byte for byte. Program memory and the order are compared likewise.
 pub fn compare(alloc: Global, first: &[u8], second: &[u8]) -> Result<Compared, LookFault>
     ensures compares { IfOk result (ComparesFiles first.now second.now) }
 {

@@ -11,7 +11,7 @@ pub struct Rooted {
 /// What is not sound of a chip.
 #[derive(Clone, Copy)]
 pub enum Flaw {
-    /// A data page that an image keeps has not the CRC that page 0 keeps of it.
+    /// A data page that an image keeps does not have the CRC that page 0 keeps of it.
     Image { image: u8, page: u8 },
     /// The same of a data page in program memory.
     Program { page: u8 },

@@ -8,8 +8,8 @@ use crate::results::{Rooted, Verdict};
 use dg_inspect::LookFault;
 use std::alloc::Global;
 
-/// Reads every page that the chip in a file keeps and runs. Sound is a volume whose data pages have the CRC that page 0 keeps
-/// of them, each image as far as it is complete; and where a root is given, the pages of its image are those that it names.
+/// Reads every page that the chip in a file keeps and runs. A volume is sound if its data pages, as far as each image is
+/// complete, have the CRC that page 0 keeps of them. If a root is given, the pages of its image must be those that it names.
 pub fn verify(alloc: Global, bytes: &[u8], rooted: &Option<Rooted>) -> Result<Verdict, LookFault>
     ensures judges { IfOk result (Judges bytes.now rooted.now) }
 {

@@ -154,13 +154,13 @@ breaks_behind c d e p room (Ok b) s t controls fails place byte =
       byte = bytes_with c p room b.condition b.byte held (subst (λ (x : List ℕ). BreaksBehind x p b.condition b.byte) t byte);
     }
 
--- a chip that is no volume does not meet all of them
+-- a chip that is not a volume does not meet all of them
 pub not_all_hold : (c d e : List ℕ) (p : Snapshot) (room : ℕ) → d ≡ c → e ≡ c → Controls d p room → IsNoVolume c → HoldsBehind e p → ⊥
 not_all_hold c d e p room s t controls none holds =
     let volume = all_hold c p room (subst (λ (x : List ℕ). Controls x p room) s controls) (subst (λ (x : List ℕ). HoldsBehind x p) t holds) in
     none volume.0 volume.1
 
--- no snapshot is told
+-- the control sectors have no snapshot
 pub snapshot_breaks : (c : List ℕ) (n k y : ℕ) → k ≡ current n → HasCount c n → ((p : Snapshot) (room : ℕ) → Controls c p room → ⊥) → BreaksPlace (sector c k) y
     → BreaksAt c (record { condition = condition.Snapshot; sector = k; byte = y })
 snapshot_breaks c n k y at counted none breaks = record {

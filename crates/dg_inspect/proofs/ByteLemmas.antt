@@ -45,7 +45,7 @@ clear_more bits at count n lt e f = take_more bits at 0 lt ∙ ap (λ (xs : List
 pub clear_back : (bits : List ℕ) (at count n : ℕ) → at < length bits → take at bits ≡ cleared_bits at count → take (at + 1) bits ≡ cleared_bits (at + 1) n → cleared_bits at count ++ get_or bits at 0 ∷ [] ≡ cleared_bits (at + 1) n
 clear_back bits at count n lt e f = ap (λ (xs : List ℕ). xs ++ get_or bits at 0 ∷ []) (sym e) ∙ sym (take_more bits at 0 lt) ∙ f
 
--- no fewer are cleared than those that are counted
+-- at least as many are cleared as are counted
 pub no_fewer : (at count c n b : ℕ) → count ≡ 8 * at → c ≤ 8 → b ≡ 255 / 2 ^ c → cleared_bits at count ++ b ∷ [] ≡ cleared_bits (at + 1) n → count + c ≤ n
 no_fewer at count c n b h l f e =
     let same = same_count (at + 1) n (count + c) (sym e ∙ one_more_cleared at count c b h l f) in
@@ -55,7 +55,7 @@ no_fewer at count c n b h l f e =
 pub all_clear : (bits : List ℕ) (most n : ℕ) → length bits ≡ n → AreCleared bits most n → (m : ℕ) × (m ≤ most) × (bits ≡ cleared_bits n m)
 all_clear bits most n long clear = (clear.0, clear.1, sym (take_all n bits (omega (arith, long))) ∙ clear.2)
 
--- nothing is told of no bytes
+-- the first 0 bytes always agree
 pub no_bits : (bits : List ℕ) → take 0 bits ≡ cleared_bits 0 0
 unfolding cleared_bits
 no_bits bits = refl
@@ -194,7 +194,7 @@ golden_rest slot first gates all n k live e fit whole spelled few many small lon
 pub fit_breaks : {size n : ℕ} {P : ℕ → Type 0} → FitTo size P n → n < size → IsFirstBreak size P n
 fit_breaks fit low = record { within = low; here = fit.here low; before = fit.before }
 
--- eight bytes that are told
+-- the first eight bytes give the version
 version_told : (head : List ℕ) (i v p : ℕ) → take 8 head ≡ front_of i v p → take 4 (drop 4 head) ≡ to_be_bytes w32 v
 version_told head i v p e = sym (take-take 4 4 (drop 4 head) (omega arith)) ∙ ap (take 4) (sym (drop-take 4 4 head)) ∙ ap (λ (xs : List ℕ). take 4 (drop 4 xs)) e
 
@@ -205,7 +205,7 @@ head_is head i v o d small e is =
     let at : (k : ℕ) → k < 8 → get_or head k 0 ≡ get_or (front_of i v p) k 0 = λ k low. sym (get_or-take 8 head k 0 low) ∙ ap (λ (xs : List ℕ). get_or xs k 0) e in
     (d, is, sym (head_image is) ∙ at 2 (omega arith), sym (head_version is) ∙ ap (from_be_bytes w32) (version_told head i v p e) ∙ from_be_bytes-to_be_bytes_4 v small, sym (head_pages is) ∙ at 3 (omega arith))
 
--- the fields in front of this byte fit
+-- the fields before this byte fit
 pub head_fit : (head : List ℕ) (i v : ℕ) (o : Option ℕ) (n : ℕ) → take 8 head ≡ front_of i v (unwrap_or o (get_or head 3 0)) → n ≤ head_size
     → (8 < n → (1 ≤ said_length head) × (said_length head ≤ most_bytes) × (get_or head 3 0 ≡ pages_for (said_length head))) → (12 < n → (d : Details) × IsHead head d) → (n < head_size → HeadFits head i v o n → ⊥)
     → FitTo head_size (HeadFits head i v o) n
@@ -221,7 +221,7 @@ head_fit head i v o n front within counted named here = record {
   here = here;
 }
 
--- a byte of the front does not fit
+-- a byte of the first eight does not fit
 pub front_fit : (head one front : List ℕ) (i v : ℕ) (o : Option ℕ) (n : ℕ) → one ≡ take 8 head → length one ≡ 8 → front ≡ front_of i v (unwrap_or o (get_or head 3 0)) → FitTo (length one) (AreEqual one front) n → n < 8
     → FitTo head_size (HeadFits head i v o) n
 front_fit head one front i v o n part_is long e fit low =

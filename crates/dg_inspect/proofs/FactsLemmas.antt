@@ -108,7 +108,7 @@ pub first_crc : (c : List ℕ) (i : ℕ) (h : Held) → KeepsImage c i h → 0 <
 first_crc c i h keeps some =
     ap (λ (ps : List (List ℕ)). crc_of (get_or ps 0 [])) keeps.stored ∙ ap crc_of (first_of (λ p. page_in c (page_sector i p)) (length h.complete) some) ∙ (keeps.first some).same_crc
 
--- ---- what is seen of a slot tells whether it is sound
+-- ---- what is seen of a slot shows whether it is sound
 
 -- what is seen is of what is kept
 pub record SeenOf (c : List ℕ) (i : ℕ) (h : Option Held) (p : PagesSeen) : Type 0 where

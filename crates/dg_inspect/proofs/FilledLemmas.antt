@@ -1,4 +1,4 @@
--- A file that is shorter than a chip: the cells behind its bytes are blank.
+-- A file that is shorter than a chip: the cells after its bytes are blank.
 use Rattle.std.proofs.Common.{◌≡◌, ℕ, ◌+◌, ◌-◌, ◌<◌, ◌≤◌, List, ◌++◌, length, get_or, refl, ap, ◌∙◌, arith, ⊎_elim}
 use Rattle.std.proofs.lemmas.List.{length-append, get_or_append_left, get_or-append_right, get_or_past}
 use Rattle.std.proofs.lemmas.Bool.{cases_lt}
@@ -7,7 +7,7 @@ use Rattle.dg_nor.specs.Sizes.{chip_size}
 use Rattle.dg_nor.specs.Chip.{IsChip, blank}
 use Rattle.dg_nor.proofs.ChipLemmas.{length-blank, get_or-blank}
 
--- the cells of a chip that begins with these, and is blank behind them
+-- the cells of a chip that begins with these, and is blank after them
 unfoldable pub filled : List ℕ → List ℕ
 filled cells = cells ++ blank (chip_size - length cells)
 
@@ -17,7 +17,7 @@ length-filled xs h =
     let l = length-blank (chip_size - length xs) in
     length-append xs (blank (chip_size - length xs)) ∙ ap (λ n. length xs + n) l ∙ omega arith
 
--- a cell that is held, and one that is not
+-- a cell that the file has, and one that it lacks
 get_or-filled_held : (xs : List ℕ) (k : ℕ) → k < length xs → get_or (filled xs) k 0 ≡ get_or xs k 0
 unfolding filled
 get_or-filled_held xs k h = get_or_append_left xs (blank (chip_size - length xs)) 0 k h

@@ -131,7 +131,7 @@ take-part : (cells : List ℕ) (n m : ℕ) → n ≤ m → take n (part cells 0 
 unfolding part
 take-part cells n m h = take-take n m (drop 0 cells) h
 
--- a page more is added
+-- one page more is added
 pub page_added : (f : ℕ → List ℕ) (cells before total : List ℕ) (left count a m : ℕ) → f a ≡ part cells 0 page_size → page_size ≤ length cells → count ≡ min left page_size
     → before ++ take left (concatenated (map f (range_with_len a (suc m)))) ≡ total → (before ++ part cells 0 count) ++ take (left - page_size) (concatenated (map f (range_with_len (a + 1) m))) ≡ total
 page_added f cells before total left count a m page whole counted e =

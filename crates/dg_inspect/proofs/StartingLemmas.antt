@@ -166,7 +166,7 @@ gesture_counted s = ap (λ (x : Store). x.gesture) (once_counted_is s) ∙ field
 pub room_counted : (s : Store) → (once_counted s).room ≡ counted_room s.gesture s.room
 room_counted s = ap (λ (x : Store). x.room) (once_counted_is s) ∙ field (λ (x : Store). x.room) (counts cause.Power s) _ s
 
--- ---- what program memory is told to be
+-- ---- what is reported of program memory
 
 pub told_blank : (o : Option App) → program_told o ≡ Blank → o ≡ None
 told_blank None e = refl

@@ -24,7 +24,8 @@ use Rattle.dg_slot.specs.Header.{header_bytes, gates_of, IsHeader}
 use Rattle.dg_slot.specs.Pages.{page_in}
 use Rattle.dg_volume.specs.Sizes.{golden_version}
 
--- `Fits` says of each byte whether it is the one that has to be there. Of n bytes these first ones fit, and the next does not
+-- `Fits` says of each byte whether it is the one that has to be there. The first n bytes fit, and the next, if there is one, does
+-- not
 pub record FitTo (size : ℕ) (Fits : ℕ → Type 0) (n : ℕ) : Type 0 where
   pub within : n ≤ size
   pub before : (a : ℕ) → a < n → Fits a
@@ -43,7 +44,7 @@ AreEqual xs ys k = slice_index xs k ≡ slice_index ys k
 abbrev pub AreFilled : List ℕ → (from k : ℕ) → Type 0
 AreFilled page from k = from ≤ k → slice_index page k ≡ 255
 
--- in the first n bytes at most this many bits are cleared, the first of them first
+-- in the first n bytes at most this many bits are cleared, in order from the first
 abbrev pub AreCleared : List ℕ → (most n : ℕ) → Type 0
 AreCleared bits most n = (m : ℕ) × (m ≤ most) × (take n bits ≡ cleared_bits n m)
 
@@ -56,7 +57,7 @@ pub record LedgerFits (text bits : List ℕ) (b : ℕ) : Type 0 where
 abbrev pub BreaksLedger : List ℕ → ℕ → Type 0
 BreaksLedger cells = IsFirstBreak sector_size (LedgerFits (part cells 0 text_size) (part cells text_size bits_size))
 
--- ---- the control sector: the byte at which the last committed place begins, and 0 where there is none
+-- ---- the control sector: the byte at which the last committed place begins, or 0 if there is none
 
 abbrev pub IsLastCommitted : List ℕ → ℕ → Type 0
 IsLastCommitted cells k = (k < places) × IsCommitted (place_in cells k)
@@ -120,7 +121,7 @@ pub record DescriptorFits (page : List ℕ) (image version : ℕ) (pages : Optio
   pub head : b < head_size → HeadFits (take head_size page) image version pages b
   pub rest : AreFilled page (crcs_end (slice_index page 3)) b
 
--- it breaks there, or is the descriptor and has another CRC than the header keeps, which is made from byte 0 on
+-- it breaks there; or it is the descriptor, but its CRC, which is computed from byte 0 on, is not the one that the header keeps
 abbrev pub BreaksPage : List ℕ → (image version pages : ℕ) → ℕ → Type 0
 BreaksPage page image version pages b =
     IsFirstBreak page_size (DescriptorFits page image version (Some pages)) b

@@ -22,7 +22,7 @@ pub record TellsFacts (t : Store) (f : StartFacts) : Type 0 where
   pub program : f.program ≡ program_told t.app
   pub order : f.order ≡ t.order
 
--- what a start of this store runs that is counted
+-- what a start of this store runs, once it is counted
 pub record Chooses (t : Store) (x : NextStart) : Type 0 where
   pub runs : x.runs ≡ version_of (boot_counted t).runs
   pub reason : x.reason ≡ reason_of t

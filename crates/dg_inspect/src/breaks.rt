@@ -27,7 +27,7 @@ use dg_ledger::{LEDGER_SECTOR, Ledger, LedgerFault};
 use dg_nor::{Nor, Stopped};
 use dg_slot::{PROGRAM_SECTOR, page_sector, read_descriptor};
 
-/// How many bits of the ledger are cleared. None where sector 0 is no ledger.
+/// How many bits of the ledger are cleared. None if sector 0 is not a ledger.
 fn ledger_count<N: Nor>(nor: &mut N) -> Result<Option<u16>, Stopped>
     ensures count { IfOk result (λ found. IfSome found (HasCount (N.device nor.old).image)) }
     ensures none { IfOk result (λ found. IsNone found → (n : ℕ) → HasCount (N.device nor.old).image n → ⊥) }
@@ -40,7 +40,7 @@ fn ledger_count<N: Nor>(nor: &mut N) -> Result<Option<u16>, Stopped>
     }
 }
 
-/// The snapshot of a chip. None where its control sectors have none.
+/// The snapshot of a chip. None if its control sectors have no snapshot.
 fn chip_snapshot<N: Nor>(nor: &mut N) -> Result<Option<Snapshot>, Stopped>
     ensures snapshot { IfOk result (λ found. IfSome found (λ p. (room : ℕ) × Controls (N.device nor.old).image p room)) }
     ensures none { IfOk result (λ found. IsNone found
@@ -160,7 +160,7 @@ fn first_undescribed<N: Nor>(nor: &mut N, snapshot: &Snapshot) -> Result<Option<
 }
 
 /// The first condition after the control sectors that a chip with this snapshot does not meet. It does not meet all of them, so
-/// that of program memory is what is left if it meets the others.
+/// if it meets the others, it does not meet that of program memory.
 fn break_behind<N: Nor>(nor: &mut N, snapshot: &Snapshot) -> Result<Break, Stopped>
     requires { HoldsBehind (N.device nor.old).image snapshot.now → ⊥ }
     ensures fails { IfOk result (λ b. FailsBehind (N.device nor.old).image snapshot.now b.condition) }
@@ -212,7 +212,7 @@ fn snapshot_break<N: Nor>(nor: &mut N, count: u16) -> Result<Break, Stopped>
     })
 }
 
-/// Why sector 0 of a chip is no ledger.
+/// Why sector 0 of a chip is not a ledger.
 fn ledger_break<N: Nor>(nor: &mut N) -> Result<Break, Stopped>
     requires { (n : ℕ) → HasCount (N.device nor.old).image n → ⊥ }
     ensures breaks { IfOk result (BreaksAt (N.device nor.old).image) }
@@ -225,7 +225,7 @@ fn ledger_break<N: Nor>(nor: &mut N) -> Result<Break, Stopped>
     })
 }
 
-/// Why a chip is no volume: the first condition of a volume that it does not meet.
+/// Why a chip is not a volume: the first condition of a volume that it does not meet.
 pub(crate) fn first_break<N: Nor>(nor: &mut N) -> Result<Break, Stopped>
     requires { IsNoVolume (N.device nor.old).image }
     ensures breaks { IfOk result (BreaksAt (N.device nor.old).image) }

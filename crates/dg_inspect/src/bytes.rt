@@ -26,7 +26,7 @@ use dg_slot::{PROGRAM_SECTOR, page_sector};
 /// The first byte of a place that is committed.
 const COMMITTED: u8 = 0x7F;
 
-/// The byte at which sector 0 breaks, which is no ledger.
+/// The byte at which sector 0 breaks, if it is not a ledger.
 pub(crate) fn ledger_byte<N: Nor>(nor: &mut N) -> Result<u32, Stopped>
     requires { (n : ℕ) → HasCount (N.device nor.old).image n → ⊥ }
     ensures breaks { IfOk result (BreaksLedger (sector (N.device nor.old).image ledger_sector)) }
@@ -93,7 +93,7 @@ pub(crate) fn header_byte<N: Nor>(nor: &mut N, image: u8, slot: SlotState) -> Re
     }
 }
 
-/// The byte at which page 0 of an image breaks, of a version with this many pages. It is 0 where the CRC alone is another one.
+/// The byte at which page 0 of an image breaks, of a version with this many pages. It is 0 if only the CRC differs.
 fn page_byte<N: Nor>(nor: &mut N, image: u8, version: u32, pages: u8) -> Result<u32, Stopped>
     requires { image < images }
     ensures breaks { IfOk result (BreaksPage (page_in (N.device nor.old).image (page_sector image 0)) image version pages) }

@@ -1,4 +1,4 @@
-//! Faults that are handed on.
+//! Faults of the layers below, as faults of a look.
 use crate::seen::LookFault;
 use dg_nor::Stopped;
 use std::alloc::AllocError;

@@ -43,7 +43,7 @@ pub(crate) fn header_bytes(image: u8, version: u32, seen: &HeaderSeen) -> Header
     ]
 }
 
-/// The gates of a slot with that many complete pages.
+/// The gates of a slot with this many complete pages.
 pub(crate) fn gates_of(done: u8) -> Gates
     ensures { result ≡ gates_of done }
 {

@@ -54,8 +54,8 @@ fn next_number(room: u32, kept: u32) -> Option<u32>
     if room == 0 { None } else { above(kept) }
 }
 
-/// The numbers that may be used next on a volume: of each image the least version above the one that is kept, where a take
-/// has room, and the least order number above the one that is kept, where a commit is left. Image 0 is golden, and has none.
+/// The numbers that may be used next on a volume. For each image this is the least version above the kept one, if there is room
+/// for a take. For the order it is the least number above the kept one, if a commit is left. Image 0 is golden, and has none.
 pub fn next_numbers(volume: &VolumeSeen) -> NextNumbers
     requires { length volume.now.images.items ≡ images }
     ensures versions { (s : Store) → ShowsStore s volume.now → (i : ℕ) → 1 ≤ i → i < images

@@ -147,7 +147,7 @@ fn see_bytes_if_whole<N: Nor>(
     Ok(Some(seen))
 }
 
-/// The first `done` pages of an image. None where page 0 is no descriptor.
+/// The first `done` pages of an image. None if page 0 is not a descriptor.
 pub(crate) fn see_pages<N: Nor>(
     nor: &mut N,
     first: u32,
@@ -172,7 +172,7 @@ pub(crate) fn see_pages<N: Nor>(
     }))
 }
 
-/// The pages of the image that is there whole. None if page 0 is no descriptor.
+/// The pages of the image that is there whole. None if page 0 is not a descriptor.
 pub(crate) fn see_whole<N: Nor>(nor: &mut N, first: u32) -> Result<Option<PagesSeen>, Stopped>
     requires in_chip { first + most_pages ≤ sectors }
     ensures shows { IfOk result (λ seen. (d : Details) → IsDescriptor (page_in (N.device nor.old).image first) d

@@ -65,7 +65,7 @@ pub struct ProgramSeen {
 /// What becomes of an order that is kept.
 #[derive(Clone, Copy, Debug, PartialEq, Eq)]
 pub enum OrderState {
-    /// There is none.
+    /// There is no order.
     Absent,
     /// It is not tried again.
     Waived,

@@ -54,7 +54,7 @@ fn golden_start(facts: &StartFacts) -> Option<ImageVersion>
     golden_if(facts.golden_sound, set)
 }
 
-/// What a start runs that no order and no short starts choose.
+/// What a start runs if neither an order nor short starts choose it.
 fn run_on(facts: &StartFacts) -> NextStart
     ensures runs { (t : Store) (three : Bool) → TellsFacts t facts.now → result.runs ≡ version_of (kept_boot t three).runs }
     ensures reason { (t : Store) → TellsFacts t facts.now → result.reason ≡ reason_by t.app }
@@ -81,7 +81,7 @@ fn starts_order(facts: &StartFacts) -> bool
     facts.waits && facts.order_sound
 }
 
-/// What a start runs that is counted.
+/// What a start runs, once it is counted.
 fn choose(facts: &StartFacts) -> NextStart
     ensures { (t : Store) → TellsFacts t facts.now → Chooses t result }
 {

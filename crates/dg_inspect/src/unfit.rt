@@ -1,4 +1,4 @@
-//! How far bytes are what they are to be.
+//! How many bytes are as expected.
 ghost use Rattle.std.specs.Prelude.{◌≡◌, ◌↔◌, ℕ, ◌+◌, ◌*◌, ◌^◌, ◌<◌, ◌≤◌, ◌++◌, ◌∷◌, [], IfSome, IsNone, IsTrue};
 ghost use Rattle.std.specs.Prelude.{length, slice_index};
 ghost use Rattle.std.specs.Prelude.{unwrap_or};
@@ -53,8 +53,8 @@ fn equal_bytes(one: &[u8], other: &[u8]) -> usize
     one.len()
 }
 
-/// How many bits are cleared where `byte` comes after `at` bytes with `count` cleared bits, if all of them come first, and
-/// they are at most this many.
+/// How many bits are cleared in `at` bytes with `count` cleared bits and in `byte` after them. None if they are not cleared in
+/// order from the first, or are more than `most`.
 fn count_byte(byte: u8, at: u32, count: u32, most: u32) -> Option<u32>
     requires within { count ≤ 8 * at }
     requires few { count ≤ most }
@@ -79,7 +79,7 @@ fn count_byte(byte: u8, at: u32, count: u32, most: u32) -> Option<u32>
     Some(count + cleared)
 }
 
-/// How many of the first bytes are those of bits of which at most this many are cleared, the first of them first.
+/// How many of the first bytes have at most `most` cleared bits, in order from the first.
 fn clear_bytes(bits: &[u8], most: u32) -> usize
     requires { length bits.now ≤ sector_size }
     ensures within { result ≤ length bits.now }

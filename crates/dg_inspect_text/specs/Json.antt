@@ -171,7 +171,7 @@ start_json x = object
     (member (codes "runs") (or_null version_json x.runs)
     (member (codes "waives") (boolean x.waives) no_members)))
 
--- number 0 is no order
+-- number 0 means that there is no order
 abbrev pub order_json : Order → OrderState → Data
 order_json o state = if o.number == 0 then null else object
     (member (codes "image") (count_json o.image)

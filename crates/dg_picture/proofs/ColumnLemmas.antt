@@ -48,7 +48,7 @@ first_rest per cs = ap (λ n. drop n cs) (sym (first_before per cs))
 pub first_kept : {B : Type 0} (h : B → Told → B) (z : B) (per : ℕ) (cs : List Told) → z ≡ fold h z (take (count_before per 0 cs) cs)
 first_kept h z per cs = ap (λ n. fold h z (take n cs)) (sym (first_before per cs))
 
--- behind a column
+-- after a column
 pub next_rest : (per k : ℕ) (cs rest behind : List Told) → rest ≡ drop (count_before per k cs) cs
     → behind ≡ drop (prefix_len (is_before ((k + 1) * per)) rest) rest → behind ≡ drop (count_before per (k + 1) cs) cs
 next_rest per k cs rest behind h e =

@@ -1,4 +1,4 @@
--- What there is for numbers, one behind the other.
+-- The items for numbers, one after the other.
 use Rattle.std.proofs.Common.{◌≡◌, ℕ, ◌+◌, List, [], ◌++◌, refl, ap, sym, ◌∙◌, add-one, append_assoc}
 use Rattle.std.proofs.lemmas.List.{append-nil}
 use Rattle.dg_picture.specs.Layout.{each}
@@ -11,7 +11,7 @@ pub each-more : {A : Type 0} (f : ℕ → List A) (n : ℕ) → each f (n + 1) �
 unfolding each
 each-more f n = rw add-one refl
 
--- before a loop, and after one of its turns
+-- before a loop, and after one of its iterations
 pub begun : {A : Type 0} (f : ℕ → List A) (first : List A) → first ≡ first ++ each f 0
 begun {A = A} f first = sym (append-nil first) ∙ ap (λ (xs : List A). first ++ xs) (sym (each-none f))
 

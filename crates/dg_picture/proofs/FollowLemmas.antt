@@ -4,7 +4,7 @@ use Rattle.std.proofs.lemmas.List.{take-append-drop}
 use Rattle.dg_picture.specs.Drawn.{IsPicture}
 use Rattle.dg_picture.specs.Followed.{Shows, ShowsFront, ShowsSome}
 
--- A front of bytes is a front of more bytes.
+-- A prefix of bytes is a prefix of more bytes.
 pub front_more : (bytes more : List ℕ) (w : Option (List ℕ)) → ShowsFront bytes w → ShowsFront (bytes ++ more) w
 front_more bytes more w h = record {
   front = h.front;

@@ -147,7 +147,7 @@ within_changes n frame told h =
     (λ mote. within_each n (λ i. first_of told mote (i + 1)) (λ i. within_first n told mote (i + 1)) frame.images) frame.rows)
     (within_filter n (λ t. is_change t.report) told h)
 
--- what a chip kept of one image from the start on tells nothing of another one, or at another mote
+-- what a chip kept of one image from the start on says nothing of another one, or of another mote
 kept_stays : (told : List Told) (mote image m i : ℕ) (kept : Option Pages) → list_any (λ (t : Told). is_change_of mote image t.report) told ≡ true
     → list_any (λ (t : Told). is_change_of m i t.report) told ≡ false → fold (λ k (t : Told). reported mote image k t.report) nothing (kept_first m i kept) ≡ nothing
 kept_stays told mote image m i None holds fails = refl
@@ -180,7 +180,7 @@ quiet mote image kept (Have m i version count) h = absurd (let f : true ≡ fals
 quiet mote image kept (Lost m i) h = absurd (let f : true ≡ false = h in cc)
 quiet mote image kept r h = refl
 
--- a line that tells no change tells nothing of pages
+-- a line that reports no change reports no pages
 reported_changes : (mote image : ℕ) (kept : Pages) (told : List Told)
     → fold (λ k (t : Told). reported mote image k t.report) kept (filter (λ (t : Told). is_change t.report) told) ≡ fold (λ k (t : Told). reported mote image k t.report) kept told
 reported_changes mote image kept [] = refl

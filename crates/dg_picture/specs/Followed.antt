@@ -4,12 +4,12 @@ use Rattle.dg_base.specs.Outside.{Takes}
 use Rattle.dg_picture.specs.Drawn.{TakesAll, IsPicture, RefusesInput}
 use Rattle.dg_picture.specs.declared.call.PictureFault.{PictureFault}
 
--- What is shown, where it is told, is this picture.
+-- What is shown, if it is exposed, is this picture.
 abbrev pub Shows : (shown : Option (List ℕ)) → (text : List ℕ) → Type 0
 Shows None text = Unit {0}
 Shows (Some shown) text = shown ≡ text
 
--- What is shown is the picture of a front of these bytes.
+-- What is shown is the picture of a prefix of these bytes.
 pub record ShowsFront (bytes : List ℕ) (shown : Option (List ℕ)) : Type 0 where
   pub front : List ℕ
   pub rest : List ℕ
@@ -22,7 +22,7 @@ pub record ShowsFront (bytes : List ℕ) (shown : Option (List ℕ)) : Type 0 wh
 abbrev pub ShowsSome : (bytes : List ℕ) → (shown_before shown_after : Option (List ℕ)) → Type 0
 ShowsSome bytes v w = (w ≡ v) ⊎ ShowsFront bytes w
 
--- Bytes were taken, and what is shown is the picture of a front of them, or what was shown before.
+-- Bytes were taken, and what is shown is the picture of a prefix of them, or what was shown before.
 abbrev pub Follows : (before after : Option (List ℕ)) → (shown_before shown_after : Option (List ℕ)) → (bytes : List ℕ) → Type 0
 Follows a b v w bytes = Takes a b bytes × ShowsSome bytes v w
 

@@ -9,7 +9,7 @@ use Rattle.dg_picture.specs.declared.layout.Grid.{Grid}
 use Rattle.dg_picture.specs.declared.layout.Frame.{Frame}
 use Rattle.dg_picture.specs.declared.layout.TheConstants.{LINE_STEPS, MOMENT_STEPS}
 
--- what there is for all numbers below n, in their order
+-- the items for all numbers below n, in ascending order
 unfoldable pub each : {A : Type 0} → (ℕ → List A) → ℕ → List A
 each f zero = []
 each f (suc n) = each f n ++ f n

@@ -35,7 +35,7 @@ fn length_of_lines(bytes: &[u8]) -> usize
     }
 }
 
-// Shows the picture of the lines that have come so far. Where they are refused, the end of the report tells it.
+// Shows the picture of the lines that have come so far. If they are refused, that is reported at the end of the report.
 fn show_so_far<W: Screen>(alloc: Global, bytes: &[u8], screen: &mut W) -> Result<(), FollowStop>
     ensures shown { ShowsSome bytes.now (W.shown screen.old) (W.shown screen.new) }
     ensures failed { result ≡ Err FollowStop.ShowFault → Rose (W.faults screen.old) (W.faults screen.new) }
@@ -106,7 +106,7 @@ fn follow_piece<S: Source, W: Screen>(
     Ok(count)
 }
 
-// Reads a report to its end, or one byte past those that are used, and shows what has come of it.
+// Reads a report to its end, or one byte past those that are used, and shows what has come so far.
 fn follow_pieces<S: Source, W: Screen>(
     alloc: Global,
     source: &mut S,
@@ -135,8 +135,8 @@ fn follow_pieces<S: Source, W: Screen>(
 /// Reads the report of a replay as it comes, plain or timed. It shows the picture of an empty report first, that of the
 /// lines that have come whenever the screen says so, and that of the whole report at its end.
 ///
-/// It answers as [`crate::picture`] does. A line that is refused is told at the end of the input; what is shown then is
-/// the last picture before it.
+/// It answers as [`crate::picture`] does. A line that is refused is reported at the end of the input; what is shown then is the
+/// last picture before it.
 pub fn follow<S: Source, W: Screen>(
     alloc: Global,
     source: &mut S,

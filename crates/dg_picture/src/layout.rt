@@ -9,7 +9,7 @@ use dg_story::{Told, images, motes};
 /// How much of the axis a column may have, in lines.
 pub const LINE_STEPS: [u64; 12] = [1, 2, 5, 10, 20, 50, 100, 200, 500, 1000, 2000, 5000];
 
-/// How much of the axis a column may have, in milliseconds: ten columns are a round time.
+/// How much of the axis a column may have, in milliseconds, so that ten columns are a round time.
 pub const MOMENT_STEPS: [u64; 26] = [
     1,
     2,

@@ -3,7 +3,7 @@ ghost use Rattle.std.specs.Prelude.{◌≡◌, ℕ, Option, List, ◌≤◌, OnO
 ghost use Rattle.dg_words.specs.Counts.{Rose};
 ghost use Rattle.dg_picture.specs.Followed.{Shows};
 
-/// A picture could not be shown. What was shown before is shown still.
+/// A picture could not be shown. What was shown before is still shown.
 #[derive(Clone, Copy, PartialEq, Eq, Debug)]
 pub struct ShowFailed;
 
@@ -11,7 +11,7 @@ pub struct ShowFailed;
 ///
 /// It counts its faults as a sink does.
 pub trait Screen {
-    // The picture that is shown, where the screen tells it.
+    // The picture that is shown, if the screen exposes it.
     ghost shown: { Self → Option (List ℕ) };
 
     // How many pictures could not be shown.

@@ -1,4 +1,4 @@
--- Stamps, and what stands behind them.
+-- Stamps, and what comes after them.
 use Rattle.std.proofs.Common.{◌≡◌, ◌≢◌, ℕ, zero, suc, ◌+◌, ◌^◌, ◌<◌, List, [], ◌∷◌, ◌++◌, length, get_or, take, drop, true, false, Option, Some, None, is_some, Result, Ok, decimal, refl, ap, sym, ◌∙◌, subst, arith}
 use Rattle.std.proofs.lemmas.Bool.{eqb-true, eq-eqb}
 use Rattle.std.proofs.lemmas.List.{take-append-drop, drop_more, length-append, get_or-take, length-take}
@@ -25,7 +25,7 @@ digits_no_space (c ∷ cs) d (suc k) h e = digits_no_space cs d.1 k (omega (arit
 pub decimal_no_space : (n : ℕ) → n < 2 ^ 64 → NoSpace (decimal n)
 decimal_no_space n h = digits_no_space (decimal n) (decimal_is_IsNumeral n h).0.1
 
--- a text before the first space, and the text behind it, are one text's alone
+-- a text before the first space, and the text after it, are one text's alone
 pub split_once : (xs ys rest more : List ℕ) → NoSpace xs → NoSpace ys → xs ++ 32 ∷ rest ≡ ys ++ 32 ∷ more → (xs ≡ ys) × (rest ≡ more)
 split_once [] [] rest more p q e = (refl, ap (λ (zs : List ℕ). drop 1 zs) e)
 split_once [] (y ∷ ys) rest more p q e = absurd (q 0 (omega arith) (sym (ap (λ (zs : List ℕ). get_or zs 0 0) e)))

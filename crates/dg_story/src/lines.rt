@@ -90,7 +90,7 @@ pub fn take_stamp(line: &[u8]) -> Option<(Stamp, &[u8])>
     Some((Stamp { event, ms }, rest))
 }
 
-// Whether a line is one of a replay: of a mote from 0 to 15, and of an image that a chip has a slot for.
+// Whether a line is one of a replay, of a mote from 0 to 15, and of an image that a chip has a slot for.
 fn is_of_replay(report: &Report) -> bool
     ensures { IsTrue result ↔ IsOfReplay report.now }
 {

@@ -4,7 +4,7 @@ use Rattle.dg_nor.specs.Reads.{Looked}
 use Rattle.dg_control.specs.Places.{place_in, IsCommitted}
 use Rattle.dg_inspect.proofs.bytes.place_byte.Given as goal
 
--- the places behind this one are not committed
+-- the places after this one are not committed
 abbrev pub invariant-loop-back : goal.invariant-loop-back
 invariant-loop-back g l =
     let old = g.N.Nor.device l.fn.nor in

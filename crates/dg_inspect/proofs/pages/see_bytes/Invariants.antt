@@ -8,7 +8,7 @@ use Rattle.dg_slot.specs.Layout.{page_size}
 use Rattle.dg_slot.specs.Pages.{page_in}
 use Rattle.dg_inspect.proofs.pages.see_bytes.Given as goal
 
--- the bytes so far, and what is left behind them, are all
+-- the bytes so far, and those that are left after them, are all
 abbrev pub invariant-loop-p : goal.invariant-loop-p
 invariant-loop-p g l =
     let old = g.N.Nor.device l.fn.nor in

@@ -4,6 +4,6 @@ use Rattle.dg_picture.specs.Counts.{held}
 use Rattle.dg_story.specs.Reports.{largest}
 use Rattle.dg_picture.proofs.counts.largest.Given as goal
 
--- what is so behind the lines so far
+-- what holds after the lines so far
 abbrev pub invariant-loop-here : goal.invariant-loop-here
 invariant-loop-here l = (version : ℕ) → held l.counts version ≡ largest l.image version (take l.here-index l.told)
