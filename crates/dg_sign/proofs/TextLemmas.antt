@@ -36,7 +36,7 @@ differs_at pattern text at h k e =
     ap₂ agreeing (drop_more pattern at 0 h) (drop_more text at 0 k)
     ∙ cons_differs (get_or pattern at 0) (get_or text at 0) (drop (at + 1) pattern) (drop (at + 1) text) e
 
--- behind the shorter one nothing agrees
+-- after the shorter one nothing agrees
 no_more : (pattern text : List ℕ) → (length pattern ≡ 0) ⊎ (length text ≡ 0) → agreeing pattern text ≡ 0
 unfolding agreeing
 no_more [] text h = refl

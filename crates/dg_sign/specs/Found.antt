@@ -5,7 +5,7 @@ use Rattle.dg_xmss.specs.Answers.{Verifies}
 use Rattle.dg_sign.specs.declared.verifying.VerifyFault.{VerifyFault}
 use Rattle.dg_sign.specs.declared.verifying.VerifyFault.TheVariants as fault
 
--- that it is a signature of the line under the key, or the first cause; memory alone is free
+-- that it is a signature of the line under the key, or the first cause; `Memory` may be answered at any time
 abbrev pub Finds : PublicKey → (line signature : List ℕ) → Result (Unit {0}) VerifyFault → Type 0
 Finds key line signature (Ok done) = Verifies key line signature (Ok tt)
 Finds key line signature (Err fault.Memory) = Unit {0}

@@ -1,5 +1,5 @@
--- Which bytes of a file are a public key: its 68 bytes, their 136 hex digits, or the PEM that botan writes of them (RFC 7468, 13,
--- of a SubjectPublicKeyInfo, RFC 5280, 4.1); the last two with LF at the end or none.
+-- Which bytes of a file are a public key: its 68 bytes, their 136 hex digits, or the PEM that botan writes of them. The PEM is
+-- that of RFC 7468, 13, of a SubjectPublicKeyInfo (RFC 5280, 4.1). The last two forms may end with LF.
 use Rattle.std.specs.Prelude.{◌≡◌, ◌≢◌, ℕ, suc, ◌<◌, ◌==◌, ◌||◌, Bool, false, true, ◌⊎◌, if◌then◌else◌, codes}
 use Rattle.std.specs.Prelude.{List, [], ◌∷◌, ◌++◌, length, slice_index, Some, Result, Ok, Err}
 use Rattle.base64.specs.Engines.{standard}
@@ -14,7 +14,7 @@ use Rattle.dg_sign.specs.declared.keys.KeyTextFault.TheVariants as fault
 
 -- ---- bytes
 
--- the key whose 68 bytes they are, or why they are none
+-- the key whose 68 bytes they are, or why they are not a key
 abbrev pub ReadsKeyBytes : List ℕ → Result PublicKey KeyTextFault → Type 0
 ReadsKeyBytes bytes (Ok key) = ReadsKey bytes (Ok key)
 ReadsKeyBytes bytes (Err (fault.Key cause)) = ReadsKey bytes (Err cause)
@@ -26,7 +26,7 @@ ReadsKeyBytes bytes (Err other) = ⊥
 abbrev pub key_digits : ℕ
 key_digits = 136
 
--- the first character that is no digit
+-- the first character that is not a digit
 pub record IsFirstOther (text : List ℕ) (at : ℕ) : Type 0 where
   pub before : (k : ℕ) → k < at → is_hex_digit (slice_index text k) ≡ true
   pub here : is_hex_digit (slice_index text at) ≡ false
@@ -69,7 +69,7 @@ pem_characters line = part line 27 64 ++ part line 92 56
 abbrev pub IsFramed : List ℕ → Type 0
 IsFramed line = (agreeing pem_pattern line ≡ pem_size) × (length line ≡ pem_size)
 
--- Up to this place a text is framed, and not further.
+-- A text is framed up to this place, and not further.
 abbrev pub LeavesFrame : List ℕ → ℕ → Type 0
 LeavesFrame line at = (at ≡ agreeing pem_pattern line) × ((at ≢ pem_size) ⊎ (length line ≢ pem_size))
 
@@ -81,7 +81,7 @@ key_info = 48 ∷ 86 ∷ 48 ∷ 11 ∷ 6 ∷ 9 ∷ 4 ∷ 0 ∷ 127 ∷ 0 ∷ 15 
 abbrev pub info_size : ℕ
 info_size = 20
 
--- the key of these bytes of DER, or the first byte that no key has, or why what stands after is none
+-- the key of these bytes of DER, or the first byte that no key has, or why what comes after is not a key
 abbrev pub ReadsDer : List ℕ → Result PublicKey KeyTextFault → Type 0
 ReadsDer der (Err (fault.Der at)) = (at ≡ agreeing key_info der) × (at ≢ info_size)
 ReadsDer der result = (bytes : List ℕ) × (der ≡ key_info ++ bytes) × ReadsKeyBytes bytes result

@@ -11,19 +11,19 @@ use dg_base::{HexFault, parse_hex};
 use dg_xmss::{KEY_SIZE, KeyFault, PublicKey};
 use std::alloc::{AllocError, Global};
 
-/// Why the bytes of a file are no public key.
+/// Why the bytes of a file are not a public key.
 #[derive(Clone, Copy, Debug, PartialEq, Eq)]
 pub enum KeyTextFault {
     Memory,
-    /// They are 136 characters, of which the one at this place, from 0, is the first that is no hex digit.
+    /// They are 136 characters, of which the one at this place, from 0, is the first that is not a hex digit.
     Digit { at: usize },
-    /// They are neither 68 bytes nor 136 characters, and from this place on, from 0, not as `botan` writes a key in PEM.
+    /// They are neither 68 bytes nor 136 characters. From this place on, from 0, they are not as `botan` writes a key in PEM.
     Pem { at: usize },
-    /// They are the lines of a PEM, and no base64 between them: its places count its 120 characters alone, from 0.
+    /// They are the lines of a PEM, but what is between them is not base64. Its places count its 120 characters alone, from 0.
     Base64(DecodeError),
-    /// They are PEM of bytes that are no key of XMSS: this one, from 0, is the first that is another one.
+    /// They are PEM of bytes that are not a key of XMSS: this one, from 0, is the first that differs.
     Der { at: usize },
-    /// The bytes of the key itself are none.
+    /// The bytes of the key itself are not a key.
     Key(KeyFault),
 }
 
@@ -98,7 +98,7 @@ fn is_hex_digit(character: u8) -> bool
     character.is_ascii_hexdigit()
 }
 
-// The first character that is no hex digit.
+// The first character that is not a hex digit.
 fn first_other(text: &[u8]) -> usize
     requires { Any (λ c. is_hex_digit c ≡ false) text.now }
     ensures { IsFirstOther text.now result }
@@ -174,8 +174,7 @@ fn read_pem(alloc: Global, line: &[u8]) -> Result<PublicKey, KeyTextFault>
 }
 
 /// Reads a public key as a file has it: its 68 bytes (RFC 8391, 4.1.7), their 136 hex digits of either case, or the PEM that
-/// `botan pkcs8 --pub-out` writes of them; the last two with LF at the end or without. Every other text has its first cause
-/// and place.
+/// `botan pkcs8 --pub-out` writes of them. The last two forms may end with LF. Every other text has its first cause and place.
 pub fn read_key(alloc: Global, text: &[u8]) -> Result<PublicKey, KeyTextFault>
     ensures { ReadsKeyText text.now result }
 {

@@ -9,11 +9,11 @@ use dg_base::Bytes;
 use dg_xmss::SIGNATURE_SIZE;
 use std::alloc::{AllocError, Global};
 
-/// Why the bytes of a file are no signature.
+/// Why the bytes of a file are not a signature.
 #[derive(Clone, Copy, Debug, PartialEq, Eq)]
 pub enum SignatureTextFault {
     Memory,
-    /// They are not 2,500, and no base64: its places count from the first of them, from 0.
+    /// They are not 2,500, and not base64: its places count from the first of them, from 0.
     Base64(DecodeError),
     /// They are the base64 of this many bytes, and not of 2,500.
     Length { length: usize },

@@ -12,7 +12,7 @@ use std::alloc::{AllocError, Global};
 #[derive(Clone, Copy, Debug, PartialEq, Eq)]
 pub enum VerifyFault {
     Memory,
-    /// The signature is none of the image's line under the key.
+    /// The signature is not one of the image's line under the key.
     Signature(SignatureFault),
 }
 
@@ -27,8 +27,8 @@ impl From<AllocError> for VerifyFault {
     }
 }
 
-/// Whether a signature is one of the line of an image, a version and a root under a key. A signature of another image, of
-/// another version or of another root is none.
+/// Whether a signature is one of the line of an image, a version and a root under a key. A signature of another image, of another
+/// version or of another root is not one.
 pub fn verify_image(
     alloc: Global,
     key: &PublicKey,

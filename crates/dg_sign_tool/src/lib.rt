@@ -1,4 +1,4 @@
-//! The verbs of signed images: `text` writes the line that is signed, `verify` tells whether an image is signed, and `receive`
+//! The verbs of signed images: `text` writes the line that is signed, `verify` reports whether an image is signed, and `receive`
 //! receives one that is. Each writes once at most, at its end.
 #![tactic(auto)]
 
@@ -61,8 +61,8 @@ pub fn text<K: Sink>(alloc: Global, release: &Release, out: &mut K) -> Status
     }
 }
 
-/// Tells by its status whether an image is signed. Writes nothing where it is, and `refused key` or `refused signature` where
-/// it is not.
+/// Reports by its status whether an image is signed. Writes nothing if it is, and `refused key` or `refused signature` if it is
+/// not.
 pub fn verify<K: Sink>(found: &Result<SignedImage, Unsigned>, out: &mut K) -> Status
     ensures ends { WritesLast result (found_status found.now) (found_line found.now) (output_of (K.Sink, out.old))
         (output_of (K.Sink, out.new)) }

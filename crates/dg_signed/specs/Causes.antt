@@ -1,4 +1,4 @@
--- What the faults of `dg_sign` make of a finding (`signed_image`).
+-- The findings that the faults of `dg_sign` become (`signed_image`).
 use Rattle.dg_sign.specs.declared.keys.KeyTextFault.{KeyTextFault}
 use Rattle.dg_sign.specs.declared.keys.KeyTextFault.TheVariants as key_fault
 use Rattle.dg_sign.specs.declared.signatures.SignatureTextFault.{SignatureTextFault}

@@ -25,7 +25,7 @@ pub record AreRead (key_text signature_text : List ℕ) (key : PublicKey) (signa
   pub key_read : ReadsKeyText key_text (Ok key)
   pub signature_read : ReadsSignatureText signature_text (Ok signature)
 
--- want of memory is told as that
+-- out of memory is reported as such
 abbrev pub IsKeyCause : KeyTextFault → Type 0
 IsKeyCause key_fault.Memory = ⊥
 IsKeyCause fault = Unit {0}
@@ -34,7 +34,7 @@ abbrev pub IsTextCause : SignatureTextFault → Type 0
 IsTextCause text_fault.Memory = ⊥
 IsTextCause fault = Unit {0}
 
--- Memory alone is free.
+-- `Memory` may be answered at any time.
 abbrev pub FindsSigned : (key_text signature_text : List ℕ) → Release → Result SignedImage Unsigned → Type 0
 FindsSigned key_text signature_text release (Ok s) =
     (s.release ≡ release) × AreRead key_text signature_text s.key s.signature

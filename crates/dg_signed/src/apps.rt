@@ -30,7 +30,7 @@ fn text<'a>(alloc: Global, name: &'a str, help: &'a str) -> Arg<'a> {
         .action(ArgAction::Set)
 }
 
-/// The options that tell what is signed. The image is from this one on.
+/// The options that say what is signed. The image has this number or a larger one.
 fn release<'a>(alloc: Global, least: u32, help: &'a str) -> Result<Vec<Arg<'a>>, AllocError> {
     let root = text(
         alloc,
@@ -119,7 +119,7 @@ fn top_command<'a>(alloc: Global) -> Command<'a> {
         .no_binary_name(true)
 }
 
-/// The command for words that begin with a verb, or with none.
+/// The command for words that begin with a verb, or without one.
 pub(crate) fn command_for<'a>(
     alloc: Global,
     verb: Option<Verb>,

@@ -15,7 +15,7 @@ pub enum Command {
     Text {
         release: Release,
     },
-    /// Tells whether an image is signed.
+    /// Reports whether an image is signed.
     Verify {
         files: KeyFiles,
         release: Release,
@@ -36,6 +36,6 @@ pub enum Asked {
     Command(Command),
     /// A text of help, or the version.
     Help(String),
-    /// The words are none of these. The text tells why.
+    /// The words are none of these. The text says why.
     Usage(String),
 }

@@ -14,11 +14,11 @@ use std::alloc::Global;
 #[derive(Clone, Copy, Debug, PartialEq, Eq)]
 pub enum Unsigned {
     Memory,
-    /// The text of the key is none.
+    /// The text of the key is not a key.
     Key(KeyTextFault),
-    /// The text of the signature is none.
+    /// The text of the signature is not a signature.
     Text(SignatureTextFault),
-    /// The signature is none of the image's line under the key.
+    /// The signature is not one of the image's line under the key.
     Signature(SignatureFault),
 }
 

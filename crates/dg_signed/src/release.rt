@@ -42,7 +42,7 @@ pub struct ImageName {
 }
 
 impl ImageName {
-    /// None where the text is no name.
+    /// None if the text is not a name.
     pub fn new(text: String) -> Option<ImageName>
         ensures some { IfSome result (λ n. n.text ≡ text) }
     {

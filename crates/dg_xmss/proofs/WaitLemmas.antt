@@ -7,7 +7,7 @@ use Rattle.dg_xmss.specs.Trees.{rand_hash, ltree_nodes, ltree}
 use Rattle.dg_xmss.specs.Joining.{Waits, waiting_nodes}
 use Rattle.dg_xmss.proofs.TreeLemmas.{length-nodes, node_pair, node_odd}
 
--- ---- one behind others
+-- ---- one after others
 
 pub snoc_size : (ws : List (List ℕ)) (w : List ℕ) (held : List (List ℕ)) (size : ℕ) → take size held ≡ ws ++ w ∷ [] → size < length held → length ws + 1 ≡ size
 snoc_size ws w held size e h =
@@ -123,7 +123,7 @@ some_waits nodes heights n k q held size e odd w =
     snoc_size (waiting_nodes nodes n (k + 1) (q / 2)) (get_or (nodes k) (q - 1) []) held size is w.room in
     omega arith
 
--- what a leaf's L-tree is told by
+-- the node above two that stand side by side in the L-tree of a leaf
 abbrev above : (seed : List ℕ) (leaf : ℕ) (k up : ℕ) (held : List (List ℕ)) (left : ℕ) → List ℕ
 above seed leaf k up held left = rand_hash (get_or held left []) (get_or held (left + 1) []) seed (ltree_address leaf k up)
 
@@ -156,7 +156,7 @@ unite_waits seed leaf pk heights n k q held new size left up e odd h d u s w =
       room = let same : length new ≡ length held = ap length s ∙ length-set held left x in omega arith;
     }
 
--- one that has none beside it goes up as it is
+-- a node with no node beside it goes up unchanged
 pub odd_goes_up : (seed : List ℕ) (leaf : ℕ) (pk : List (List ℕ)) (heights n k q : ℕ) (held : List (List ℕ)) (size up : ℕ)
     → heights ≡ suc n → q % 2 ≡ 0 → length (ltree_nodes seed leaf pk k) ≡ q + 1 → up ≡ q / 2
     → Waits (ltree_nodes seed leaf pk) heights k q held size → Waits (ltree_nodes seed leaf pk) n (k + 1) up held size

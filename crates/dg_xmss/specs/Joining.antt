@@ -10,7 +10,7 @@ use Rattle.dg_xmss.specs.Signatures.{ots_of, signature_size}
 use Rattle.dg_xmss.specs.declared.prf.Prf.{Prf}
 use Rattle.dg_xmss.specs.declared.leaf.Leaf.{Leaf}
 
--- The hasher has taken in what PRF takes in front of an address.
+-- The hasher has taken in what PRF takes in before an address.
 abbrev pub IsKeyed : Prf → Type 0
 IsKeyed prf = Holds256 prf.begun (to_byte 3 node_size ++ prf.seed.now)
 
@@ -41,7 +41,7 @@ waiting_nodes nodes (suc heights) height count =
     waiting_nodes nodes heights (height + 1) (count / 2)
     ++ (if count % 2 == 1 then slice_index_or (nodes height) (count - 1) [] ∷ [] else [])
 
--- In front of the newest node, which has this index at this height, stand those that wait.
+-- The nodes that wait stand before the newest one, which has this index at this height.
 pub record Waits (nodes : ℕ → List (List ℕ)) (heights height index : ℕ) (held : List (List ℕ)) (size : ℕ) : Type 0 where
   pub older : take size held ≡ waiting_nodes nodes heights height index
   pub newest : slice_index_or held size [] ≡ slice_index_or (nodes height) index []

@@ -4,11 +4,11 @@ use Rattle.dg_xmss.specs.Functions.{xor, h, prf}
 use Rattle.dg_xmss.specs.Addresses.{ltree_address, tree_address}
 use Rattle.dg_xmss.specs.Wots.{wots_key}
 
--- RAND_HASH(LEFT, RIGHT, SEED, ADRS) (Algorithm 7): the address is told but for its keyAndMask
+-- RAND_HASH(LEFT, RIGHT, SEED, ADRS) (Algorithm 7): the address is given without its keyAndMask
 unfoldable pub rand_hash : (left right seed : List ℕ) → (ℕ → List ℕ) → List ℕ
 rand_hash left right seed adrs = h (prf seed (adrs 0)) (xor left (prf seed (adrs 1)) ++ xor right (prf seed (adrs 2)))
 
--- One turn of Algorithm 8, from tree index i on: each two nodes become one, and an odd last one goes up as it is.
+-- One turn of Algorithm 8, from tree index i on: each two nodes become one, and an odd last one goes up unchanged.
 unfoldable pub ltree_turn : (seed : List ℕ) (leaf height i : ℕ) → List (List ℕ) → List (List ℕ)
 ltree_turn seed leaf height i [] = []
 ltree_turn seed leaf height i (x ∷ []) = x ∷ []

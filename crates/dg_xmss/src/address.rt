@@ -4,7 +4,7 @@ ghost use Rattle.dg_xmss.specs.Addresses.{address, address_of};
 
 use crate::NODE_SIZE;
 
-/// The words of an address by its type, but for keyAndMask. Layer and tree address are 0.
+/// The words of an address by its type, without keyAndMask. Layer and tree address are 0.
 #[derive(Clone, Copy)]
 pub enum Address {
     /// A step of a chain of a leaf.

@@ -13,7 +13,7 @@ pub struct PublicKey {
     pub seed: [u8; NODE_SIZE],
 }
 
-/// Why bytes are no public key.
+/// Why bytes are not a public key.
 #[derive(Clone, Copy, Debug, PartialEq, Eq)]
 pub enum KeyFault {
     /// They are not 68.

@@ -1,6 +1,6 @@
 //! Verification of XMSS signatures (RFC 8391) with the parameter set XMSS-SHA2_10_256, without memory of its own.
 //!
-//! `verify` is the whole. The steps that it takes are handed out too (`steps`), each with the algorithm that it is.
+//! `verify` does all of it. Its steps are public too (`steps`), each with the algorithm of the RFC that it implements.
 #![tactic(auto)]
 
 mod address;

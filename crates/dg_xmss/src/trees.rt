@@ -79,7 +79,7 @@ fn close_at(leaf: &Leaf, nodes: &mut Nodes, waiting: usize, height: u8, index: u
     waiting - 1
 }
 
-// Joins the last node with all that wait: where none waits at a height, it goes up as it is.
+// Joins the last node with all that wait: where no node waits at a height, it goes up unchanged.
 fn close(leaf: &Leaf, nodes: &mut Nodes, waiting: usize)
     requires leaf { IsLeaf leaf.now }
     requires size { length (leaf_key leaf.now) ≡ chains }

@@ -14,7 +14,7 @@ use crate::{LAST_INDEX, NODE_SIZE, SIGNATURE_SIZE};
 /// Why a signature is not one of a message under a key.
 #[derive(Clone, Copy, Debug, PartialEq, Eq)]
 pub enum SignatureFault {
-    /// It has not 2,500 bytes.
+    /// It does not have 2,500 bytes.
     Length { length: usize },
     /// It names a leaf that the tree does not have.
     Index { index: u32 },
@@ -50,7 +50,8 @@ fn root_of(key: &PublicKey, message: &[u8], signature: &[u8], index: u16, nodes:
     climb(&prf, index, signature, nodes);
 }
 
-/// Whether a signature is one of a message under a key. It is read once, from front to back, in pieces of at most 32 bytes.
+/// Whether a signature is one of a message under a key. It is read once, from its first byte to its last, in pieces of at most 32
+/// bytes.
 pub fn verify(key: &PublicKey, message: &[u8], signature: &[u8]) -> Result<(), SignatureFault>
     ensures accepted { IsOk result ↔ IsSignature key.now message.now signature.now }
     ensures told { Verifies key.now message.now signature.now result }
