@@ -61,9 +61,9 @@ fn boards(rt: &HostRuntime, words: &Vec<String>, names: &Vec<String>) -> Option<
     boards_on_files(rt, words, names)
 }
 
-/// Files that take the numbers of standard streams that are closed. Where one is closed, the file that is opened next takes
-/// its number, and gets what is written there: let that be one of these, and no chip. Reads and writes of a closed stream fail
-/// then, as they are to.
+/// Files that take the numbers of standard streams that are closed. Where one is closed, the file that is opened next takes its
+/// number, and gets what is written there: that is then one of these, and not a chip. Reads and writes of a closed stream then
+/// fail, as they should.
 #[derive(Drop)]
 struct Guard {
     files: [Option<File>; 3],
@@ -89,7 +89,7 @@ fn without_memory(rt: &HostRuntime) -> ExitCode {
     exit_code(Status::Memory)
 }
 
-/// How the program ends where its command ended so.
+/// How the program ends, by how its command ended.
 fn exit_code(status: Status) -> ExitCode {
     ExitCode::from(status.code())
 }
@@ -100,7 +100,7 @@ fn fault_at(boards: &[Board], chip: Option<usize>) -> Option<FileFault> {
 }
 
 /// Runs the command of these words over an input, an output and a clock, chips in the files with these names or in memory, and
-/// sockets of this machine. The guard stands while files of chips are open. None where memory runs out.
+/// sockets of this machine. The guard is held while files of chips are open. None where memory runs out.
 fn run_words<S: Source, K: Sink, C: Clock>(
     rt: &HostRuntime,
     _guard: &Guard,

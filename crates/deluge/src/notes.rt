@@ -1,4 +1,4 @@
-//! What is told beside the output before a command begins.
+//! What is written to standard error before a command begins.
 use crate::opening::{begin_with, begin_with_format};
 use crate::showing::shown_word;
 use dg_command::{Asked, asked};
@@ -19,7 +19,7 @@ const READERS: [(&str, &str); 8] = [
     ("base", "frames and ticks"),
 ];
 
-/// What ends the input at a terminal. A line of frames is raw, so that Ctrl-D is a byte as any other there.
+/// What ends the input at a terminal. A line of frames is raw, so that Ctrl-D is a byte like any other there.
 fn end_of_input<'a>(verb: &str) -> &'a str {
     match verb {
         "base" => "Ctrl-C",
@@ -27,7 +27,7 @@ fn end_of_input<'a>(verb: &str) -> &'a str {
     }
 }
 
-/// Tells what is waited for, where standard input is a terminal and the command reads it.
+/// Reports what is waited for, if standard input is a terminal and the command reads it.
 pub(crate) fn note_waiting(rt: &HostRuntime, words: &Vec<String>) {
     if !rt.stdin().is_terminal() || !are_a_command(rt, words) {
         return;
@@ -47,7 +47,7 @@ fn are_a_command(rt: &HostRuntime, words: &Vec<String>) -> bool {
     matches!(asked(rt.alloc(), words), Ok(Asked::Command(_)))
 }
 
-/// Tells what a chip keeps that is about to be formatted.
+/// Reports what a chip that is about to be formatted keeps.
 pub(crate) fn note_volume(
     rt: &HostRuntime,
     words: &[String],
@@ -64,7 +64,7 @@ pub(crate) fn note_volume(
     }
 }
 
-/// Tells the images and the room of a volume, if the chip is one.
+/// Reports the images and the room of a volume, if the chip is one.
 fn tell_volume(rt: &HostRuntime, name: &str, board: &mut Board) -> Result<(), AllocError> {
     let Ok(volume) = Volume::mount(board) else {
         return Ok(());

@@ -60,7 +60,7 @@ fn board_on_file(rt: &HostRuntime, words: &[String], name: &str) -> Result<Board
     Board::on_file(rt, rt.alloc(), name, begin_with_format(words))
 }
 
-/// How many bytes a file has, and as many as a chip where that is not known.
+/// How many bytes a file has, or as many as a chip if that is not known.
 fn length_at(rt: &HostRuntime, name: &str) -> u64 {
     match fs::metadata(rt, name) {
         Ok(metadata) => metadata.len(),
@@ -68,7 +68,7 @@ fn length_at(rt: &HostRuntime, name: &str) -> u64 {
     }
 }
 
-/// Tells, beside the output, that a file of an older chip was lengthened.
+/// Reports on standard error that a file of an older chip was lengthened.
 fn tell_lengthened(rt: &HostRuntime, name: &str, before: u64) -> Result<(), AllocError> {
     let name = shown_word(rt, name)?;
     let _ = eprintln!(rt;

@@ -1,4 +1,4 @@
-//! What is told beside the output of a command that ended.
+//! What is written to standard error after a command ended.
 use crate::NOT_TEXT;
 use crate::finding::is_named_before;
 use crate::opening::begin_with;
@@ -14,8 +14,8 @@ use std::io::{Read, Write};
 /// The program.
 const PROGRAM: &str = "deluge";
 
-/// How a command ended, the chip that its status is about, by its number among those that are named, why the file of that is
-/// gone, and why a call of its link failed.
+/// How a command ended, the chip that its status is about, by its number among those that are named, why its file is gone, and
+/// why a call of its link failed.
 #[derive(Drop)]
 pub(crate) struct Ended {
     pub(crate) status: Status,
@@ -24,7 +24,7 @@ pub(crate) struct Ended {
     pub(crate) link: Option<LinkCause>,
 }
 
-/// Tells why a command did not do what it was asked, if it did not.
+/// Reports why a command did not do what it was asked, if it did not.
 pub(crate) fn tell<R: Read, W: Write>(
     rt: &HostRuntime,
     words: &[String],
@@ -52,7 +52,7 @@ pub(crate) fn tell<R: Read, W: Write>(
     let _ = tell_by(rt, words, names, ended, out.last_line(), &causes);
 }
 
-/// What a command reads, as far as its causes differ by that.
+/// What a command reads, as far as its causes depend on that.
 fn what_is_read(words: &[String]) -> Reads {
     if begin_with(words, "drip") {
         return Reads::Nodes;
@@ -87,7 +87,7 @@ fn misuse_told<'a>(words: &'a [String], wrong: &'a Option<String>) -> Misuse<'a>
     }
 }
 
-/// Tells why the command ended so, and the file that it is about, if there is one.
+/// Reports why the command ended so, and the file that it is about, if there is one.
 fn tell_by(
     rt: &HostRuntime,
     words: &[String],
@@ -111,7 +111,7 @@ fn tell_by(
     Ok(())
 }
 
-/// The command, and nothing where the words are none.
+/// The command, or nothing if the words are not one.
 fn verb_of<'a>(words: &'a [String], ended: &Ended) -> &'a str {
     match (ended.status, words.first()) {
         (Status::Usage, _) | (_, None) => "",
@@ -119,7 +119,7 @@ fn verb_of<'a>(words: &'a [String], ended: &Ended) -> &'a str {
     }
 }
 
-/// The file of the chip that a status is about, and nothing where there is none.
+/// The file of the chip that a status is about, or nothing if there is none.
 fn place_of<'a>(names: &'a [String], ended: &Ended) -> &'a str {
     match ended.chip {
         Some(chip) => names.get(chip).map_or("", |name| name.as_str()),

@@ -103,7 +103,7 @@ fn answered(rt: &HostRuntime, text: &str, input: &[u8]) -> Result<(ExitCode, Vec
     Ok((end, Vec::from_slice(alloc, out.bytes())?))
 }
 
-/// How it ends with these words, the name of a file behind them, and an input.
+/// How it ends with these words, the name of a file after them, and an input.
 fn ended(rt: &HostRuntime, verb: &str, name: &str, text: &str) -> Result<ExitCode, Fail> {
     let words = format!(in rt.alloc(); "{verb} {name}")?;
     Ok(answered(rt, words.as_str(), text.as_bytes())?.0)
@@ -151,7 +151,7 @@ fn socket(rt: &HostRuntime, port: u16) -> io::Result<UdpSocket> {
     )
 }
 
-/// A port from which two are free, as far as can be told. Each process looks elsewhere first.
+/// The first of two ports that are free, as far as is known. Each process looks elsewhere first.
 fn free_port(rt: &HostRuntime) -> u16
     ensures { result < 65000 }
 {

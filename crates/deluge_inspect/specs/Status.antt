@@ -10,7 +10,7 @@ use Rattle.dg_compare.specs.declared.results.Verdict.TheVariants as verdict
 use Rattle.deluge_inspect.specs.declared.Stop.{Stop}
 use Rattle.deluge_inspect.specs.declared.Stop.TheVariants as stop
 
--- what was asked could be read and is so; it is not so; the words are no command; a file could not be read
+-- what was asked could be read and is so; it is not so; the command line is invalid; a file could not be read
 abbrev pub status_of : {T : Type 0} → Result T Stop → ℕ
 status_of (Ok x) = 0
 status_of (Err stop.NotSo) = 1

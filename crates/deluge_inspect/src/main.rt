@@ -1,5 +1,5 @@
-//! `deluge_inspect` looks into the files of chips, and changes none: it opens each for reading alone, takes no lock, and
-//! lengthens none.
+//! `deluge_inspect` looks into the files of chips, and changes nothing: it opens each for reading only, takes no lock, and
+//! lengthens no file.
 #![tactic(auto)]
 
 ghost use Rattle.std.specs.Prelude.{◌≡◌, ◌⊎◌, ◌↔◌, ℕ, List, IfOk, IfErr, IsTrue};
@@ -46,11 +46,11 @@ const VERSION: &str = "deluge_inspect 0.9\n";
 enum Stop {
     /// Memory ran out.
     Memory,
-    /// The words are no command.
+    /// The command line is invalid.
     Usage,
     /// The output could not be written.
     Write,
-    /// A file could not be read. Standard error tells which one, and why.
+    /// A file could not be read. Standard error says which one, and why.
     File,
     /// A file holds no volume, is not sound, or two are not alike.
     NotSo,
@@ -67,8 +67,8 @@ impl From<AllocError> for Stop {
     }
 }
 
-/// The statuses of the program: all could be read, it was not so, the words are no command, the output could not be written,
-/// and a file could not be read.
+/// The statuses of the program. What was asked could be read and is so, or is not so; the command line is invalid; the output
+/// could not be written; a file could not be read.
 const DONE: u8 = 0;
 
 const NOT_SO: u8 = 1;
@@ -93,7 +93,7 @@ fn status_of(end: Result<(), Stop>) -> u8
     }
 }
 
-/// The bytes of a file, and the moment that was seen. Where it cannot be read, standard error tells why.
+/// The bytes of a file, and the moment that was seen. If it cannot be read, standard error says why.
 fn read(rt: &HostRuntime, name: &str) -> Result<(Vec<u8>, Moment), Stop>
     ensures { IfErr result (λ stop. stop ≡ Stop.File) }
 {
@@ -141,7 +141,7 @@ fn not_seen(rt: &HostRuntime, name: &str, fault: LookFault) -> Stop
     }
 }
 
-/// Tells that a file holds no volume.
+/// Reports that a file holds no volume.
 fn no_volume(rt: &HostRuntime, name: &str) -> Stop
     ensures { result ≡ Stop.NotSo }
 {
@@ -171,7 +171,7 @@ fn write_reports(rt: &HostRuntime, reports: &[Report], json: bool) -> Result<(),
     Ok(())
 }
 
-/// Tells what files show. Each that can be read is told, also where another one cannot.
+/// Reports what files show. Each file that can be read is reported, also if another one cannot be.
 fn show(rt: &HostRuntime, files: &[&str], json: bool) -> Result<(), Stop> {
     let mut reports = Vec::new(rt.alloc());
     let mut unread = false;
@@ -189,7 +189,7 @@ fn show(rt: &HostRuntime, files: &[&str], json: bool) -> Result<(), Stop> {
     if unread { Err(Stop::File) } else { Ok(()) }
 }
 
-/// Tells the numbers that may be used next on the chip in a file.
+/// Reports the numbers that may be used next on the chip in a file.
 fn next(rt: &HostRuntime, name: &str, json: bool) -> Result<(), Stop> {
     let report = see(rt, name)?;
     let FileSeen::Chip {
@@ -238,7 +238,7 @@ fn is_sound(verdict: Verdict) -> bool
     }
 }
 
-/// Tells whether the chip in a file is sound.
+/// Reports whether the chip in a file is sound.
 fn verify_file(
     rt: &HostRuntime,
     name: &str,
@@ -274,7 +274,7 @@ fn write_moments(
     write(rt, file_line(rt.alloc(), second, other)?.as_str())
 }
 
-/// Writes JSON of how the chips in two files stand to each other.
+/// Writes JSON of how the chips in two files compare.
 fn write_comparison(
     rt: &HostRuntime,
     first: &str,
@@ -289,7 +289,7 @@ fn write_comparison(
     write(rt, line.as_str())
 }
 
-/// Tells how the chips in two files stand to each other.
+/// Reports how the chips in two files compare.
 fn compare_files(rt: &HostRuntime, first: &str, second: &str, json: bool) -> Result<(), Stop>
     ensures { Contrasts result }
 {

@@ -10,10 +10,10 @@ use std::{env, io};
 /// The most often that a file is read.
 pub(crate) const MOST_READS: u8 = 10;
 
-/// One byte more than a chip has: what stands behind them in a file is not read.
+/// One byte more than a chip has: what comes after them in a file is not read.
 const MOST_BYTES: u64 = CHIP_SIZE as u64 + 1;
 
-/// Words of which one is not UTF-8 stand for this one, which is no command.
+/// Words of which one is not UTF-8 become this one, which is not a command.
 const NOT_TEXT: &str = "\u{fffd}";
 
 /// The words after the program's name. None where memory runs out.
@@ -34,7 +34,7 @@ fn after_name(rt: &HostRuntime, args: Args) -> Option<Vec<String>> {
     Some(words)
 }
 
-/// Words that are no command.
+/// An invalid command line.
 fn no_command(rt: &HostRuntime) -> Option<Vec<String>> {
     let mut words = Vec::new(rt.alloc());
     let word = String::from_str(rt.alloc(), NOT_TEXT).ok()?;
@@ -42,7 +42,7 @@ fn no_command(rt: &HostRuntime) -> Option<Vec<String>> {
     Some(words)
 }
 
-/// What one read of a file gave: its bytes, and what the system tells of it.
+/// What one read of a file gave: its bytes, and what the system says of it.
 #[derive(Drop)]
 struct Copied {
     bytes: Vec<u8>,
@@ -50,14 +50,14 @@ struct Copied {
     modified: Option<u64>,
 }
 
-/// When a file was changed last, in seconds since the beginning of 1970, where the system tells it.
+/// When a file was changed last, in seconds since the beginning of 1970, if the system gives it.
 fn changed_at(metadata: &Metadata) -> Option<u64> {
     let modified = metadata.modified().ok()?;
     let since = modified.duration_since(UNIX_EPOCH).ok()?;
     Some(since.as_secs())
 }
 
-/// The bytes of a file as they stand now, those behind a chip's aside.
+/// The bytes of a file as they are now, without those after a chip's.
 fn read_once(rt: &HostRuntime, name: &str) -> io::Result<Copied> {
     let file = OpenOptions::new().read(true).open(rt, name)?;
     let metadata = file.metadata()?;
@@ -70,7 +70,7 @@ fn read_once(rt: &HostRuntime, name: &str) -> io::Result<Copied> {
     })
 }
 
-/// The moment of a file that was read so often.
+/// The moment of a file that was read this many times.
 fn moment_of(copied: &Copied, reads: u8, settled: bool) -> Moment {
     Moment {
         length: copied.length,

@@ -17,7 +17,7 @@ it is ended, as by Ctrl-C or kill. The trace is a script: `deluge replay` plays 
 
 Statuses are those of `deluge serve`; docs/COMMANDS.md, \"One mote a process\", tells more.";
 
-/// A turn of a service that has no end. So many are never over.
+/// The turns of a service that has no end: this many never pass.
 const ENDLESS: u64 = u64::MAX;
 
 /// The mote that is asked for.
@@ -38,7 +38,7 @@ pub(crate) enum Words {
     Run(Asked),
     /// A text of help, or the version.
     Help(String),
-    /// They are none that it knows, for this reason.
+    /// It does not know them, for this reason.
     Usage(String),
 }
 

@@ -37,9 +37,9 @@ fn after_name(rt: &HostRuntime, args: Args) -> Result<Vec<String>, AllocError> {
     Ok(words)
 }
 
-/// Files that take the numbers of standard streams that are closed. Where one is closed, the file that is opened next takes
-/// its number, and gets what is written there: let that be one of these, and no chip. Reads and writes of a closed stream fail
-/// then, as they are to.
+/// Files that take the numbers of standard streams that are closed. Where one is closed, the file that is opened next takes its
+/// number, and gets what is written there: that is then one of these, and not a chip. Reads and writes of a closed stream then
+/// fail, as they should.
 #[derive(Drop)]
 struct Guard {
     files: [Option<File>; 3],
@@ -59,7 +59,7 @@ fn nothing(rt: &HostRuntime) -> Option<File> {
     File::open(rt, "/").ok()
 }
 
-/// How many bytes a file has, and as many as a chip where that is not known.
+/// How many bytes a file has, or as many as a chip if that is not known.
 fn length_at(rt: &HostRuntime, name: &str) -> u64 {
     match fs::metadata(rt, name) {
         Ok(metadata) => metadata.len(),
@@ -78,7 +78,7 @@ fn chip_of(rt: &HostRuntime, name: &str) -> Result<Board, AllocError> {
 }
 
 /// Runs the mote that is asked for, over standard input and output, its chip, a socket of this machine and its clock. The guard
-/// stands while the file of the chip is open.
+/// is held while the file of the chip is open.
 fn run(rt: &HostRuntime, _guard: &Guard, asked: &Asked) -> Result<Status, AllocError> {
     let mut board = chip_of(rt, asked.chip.as_str())?;
     let mut input = Input::new(rt.stdin());
@@ -111,7 +111,7 @@ fn run(rt: &HostRuntime, _guard: &Guard, asked: &Asked) -> Result<Status, AllocE
     Ok(status)
 }
 
-/// Words that it does not know: `usage` is written, and why is told.
+/// Words that it does not know: `usage` is written, and the reason is reported.
 fn misused(rt: &HostRuntime, why: &str) -> Status {
     let _ = eprintln!(rt; "deluge_node: {why}");
     match rt.print("usage\n") {

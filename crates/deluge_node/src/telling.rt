@@ -1,4 +1,4 @@
-//! What is told on standard error.
+//! What is written to standard error.
 use dg_base::Status;
 use dg_messages::{Causes, Input, Misuse, Output, Reads, Told, push_sentence, told};
 use dg_net::LinkCause;
@@ -6,7 +6,7 @@ use dg_nor::{Board, FileFault};
 use std::alloc::AllocError;
 use std::io::{IsTerminal, Read, Write};
 
-/// The last line where the number of motes is none, or not above that of the mote.
+/// The last line if the number of motes is invalid, or not above that of the mote.
 const NO_MOTE: &[u8] = b"profile id";
 
 /// What is known of a service that ended, besides its status and what its input and output keep.
@@ -22,7 +22,7 @@ pub(crate) struct Ended<'a> {
     pub(crate) link: Option<LinkCause>,
 }
 
-/// Tells what the clock counts, where that is not what passes.
+/// Reports what the clock counts, if that is not the time that passes.
 pub(crate) fn tell_scale(rt: &HostRuntime, scale: u64) {
     if scale > 1 {
         let _ = eprintln!(rt;
@@ -31,7 +31,7 @@ pub(crate) fn tell_scale(rt: &HostRuntime, scale: u64) {
     }
 }
 
-/// Tells what is waited for, where standard input is a terminal.
+/// Reports what is waited for, if standard input is a terminal.
 pub(crate) fn tell_waiting(rt: &HostRuntime) {
     if rt.stdin().is_terminal() {
         let _ = rt.eprintln(
@@ -40,14 +40,14 @@ pub(crate) fn tell_waiting(rt: &HostRuntime) {
     }
 }
 
-/// Tells that the file of an older chip was lengthened.
+/// Reports that the file of an older chip was lengthened.
 pub(crate) fn tell_lengthened(rt: &HostRuntime, chip: &str, before: u64, after: u32) {
     let _ = eprintln!(rt;
         "deluge_node: {chip}: it had {before} bytes, and was lengthened to {after} with 0xFF"
     );
 }
 
-/// Tells why a service ended before its turns were over, if it did.
+/// Reports why a service ended before its turns were over, if it did.
 pub(crate) fn tell_ended<R: Read, W: Write>(
     rt: &HostRuntime,
     ended: &Ended<'_>,
@@ -76,7 +76,7 @@ pub(crate) fn tell_ended<R: Read, W: Write>(
     }
 }
 
-/// The file that a status is about, and nothing where it is about none.
+/// The file that a status is about, or nothing if it is about none.
 fn place_of<'a>(ended: &Ended<'a>) -> &'a str {
     match ended.status {
         Status::FlashFault | Status::NotAVolume | Status::NoImage => ended.chip,
@@ -84,7 +84,7 @@ fn place_of<'a>(ended: &Ended<'a>) -> &'a str {
     }
 }
 
-/// Tells a cause, and the file that it is about, if there is one.
+/// Reports a cause, and the file that it is about, if there is one.
 pub(crate) fn tell(rt: &HostRuntime, place: &str, told: &Told<'_>) -> Result<(), AllocError> {
     let mut line = Vec::new(rt.alloc());
     push_sentence(rt.alloc(), &mut line, told)?;

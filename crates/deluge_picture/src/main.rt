@@ -46,7 +46,7 @@ enum Asked {
     Other,
 }
 
-/// What words ask for, of which the first and the second are these.
+/// What words with this first and this second one ask for.
 fn asked_by(first: Option<String>, second: Option<String>) -> Asked {
     let Some(word) = first else {
         return Asked::Picture;
@@ -70,14 +70,14 @@ fn read_words(mut words: Args) -> Asked {
     asked_by(first, second)
 }
 
-/// Tells beside the output why there is no picture.
+/// Reports on standard error why there is no picture.
 fn tell(rt: &HostRuntime, fault: PictureFault) {
     if let PictureFault::NoReport { line } = fault {
         let _ = eprintln!(rt; "deluge_picture: line {line} is no line of a report");
     }
 }
 
-/// How a call ended, whose fault is told.
+/// The status of a call that ended. Its fault is reported on standard error.
 fn ended(rt: &HostRuntime, outcome: Result<(), PictureFault>) -> Status {
     match outcome {
         Ok(()) => Status::Done,
@@ -131,7 +131,7 @@ fn exit_code(status: Status) -> ExitCode {
     ExitCode::from(status.code())
 }
 
-/// Does what the words ask for. A word that is not UTF-8 is none of the options.
+/// Does what the words ask for. A word that is not UTF-8 is not an option.
 fn done(rt: &HostRuntime) -> Status {
     match env::args(rt) {
         Ok(words) => answer(rt, read_words(words)),

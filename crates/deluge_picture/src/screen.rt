@@ -9,7 +9,7 @@ use std::{fs, thread};
 /// The time between two pictures, in milliseconds: there are at most two in a second.
 const BETWEEN: u64 = 500;
 
-/// What is put behind the name of a picture that is not finished. It gets its own name when it is whole.
+/// The suffix of the name of a picture that is not finished. The picture gets its own name when it is whole.
 const UNFINISHED: &str = ".unfinished";
 
 /// A file with a picture. Each picture is written beside it, and then gets its name.
@@ -37,7 +37,7 @@ impl<'r> PictureFile<'r> {
         })
     }
 
-    /// Writes a picture beside the file, and gives it the file's name. A cause is told on standard error.
+    /// Writes a picture beside the file, and gives it the file's name. A cause is written to standard error.
     fn replace(&self, picture: &[u8]) -> bool {
         if let Err(error) = fs::write(self.rt, self.unfinished.as_str(), picture) {
             let _ = eprintln!(self.rt;
@@ -62,7 +62,7 @@ impl<'r> PictureFile<'r> {
         false
     }
 
-    /// The time since the last picture, where the system tells it.
+    /// The time since the last picture, if the system gives it.
     fn passed(&self) -> Option<Duration> {
         self.last?.elapsed(self.rt).ok()
     }

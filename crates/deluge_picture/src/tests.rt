@@ -1,4 +1,4 @@
-//! Words that are no option, and a report of as many lines as are used.
+//! Words that are not an option, and a report of as many lines as are used.
 
 use crate::{answer, asked_by, exit_code};
 use dg_base::{MemSink, MemSource};

@@ -1,4 +1,4 @@
-//! `deluge_rows` plays files of rows through `run`, and tells the rows of which something else came, and how many there were.
+//! `deluge_rows` plays files of rows through `run`, and reports the rows with another outcome, and how many rows there were.
 #![tactic(auto)]
 
 use dg_base::{MemSink, Source, Status, StepClock};

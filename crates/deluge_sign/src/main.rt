@@ -1,4 +1,4 @@
-//! `deluge_sign` tells whether images are signed, and receives those that are, by the calls of `dg_signed`.
+//! `deluge_sign` reports whether images are signed, and receives those that are, by the calls of `dg_signed`.
 #![tactic(auto)]
 
 mod telling;
@@ -47,9 +47,9 @@ fn no_command(rt: &HostRuntime) -> Option<Vec<String>> {
     Some(words)
 }
 
-/// Files that take the numbers of standard streams that are closed. Where one is closed, the file that is opened next takes
-/// its number, and gets what is written there: let that be one of these, and no chip. Reads and writes of a closed stream fail
-/// then, as they are to.
+/// Files that take the numbers of standard streams that are closed. Where one is closed, the file that is opened next takes its
+/// number, and gets what is written there: that is then one of these, and not a chip. Reads and writes of a closed stream then
+/// fail, as they should.
 #[derive(Drop)]
 struct Guard {
     files: [Option<File>; 3],
@@ -69,7 +69,7 @@ fn nothing(rt: &HostRuntime) -> Option<File> {
     File::open(rt, "/").ok()
 }
 
-/// How the program ends where its command ended so.
+/// How the program ends, by how its command ended.
 fn exit_code(status: Status) -> ExitCode {
     ExitCode::from(status.code())
 }
@@ -113,7 +113,7 @@ fn board(rt: &HostRuntime, name: &str) -> Option<Vec<Board>> {
     Some(boards)
 }
 
-/// Tells by the status whether an image is signed.
+/// Reports by the status whether an image is signed.
 fn verify_signed<K: Sink>(
     files: KeyFiles,
     found: &Result<SignedImage, Unsigned>,
@@ -123,7 +123,7 @@ fn verify_signed<K: Sink>(
     Ended::unsigned(status, files, found)
 }
 
-/// Receives an image, if it is signed: the file of the chip is opened only then. The guard stands while it is open.
+/// Receives an image, if it is signed: the file of the chip is opened only then. The guard is held while it is open.
 fn receive_signed<S: Source, K: Sink>(
     rt: &HostRuntime,
     _guard: &Guard,

@@ -1,4 +1,4 @@
-//! What is told beside the output of a command that ended.
+//! What is written to standard error after a command ended.
 use dg_base::Status;
 use dg_messages::{Causes, Input, Misuse, Output, Reads, message, shown, told};
 use dg_nor::FileFault;
@@ -43,7 +43,7 @@ pub(crate) struct Ended {
 }
 
 impl Ended {
-    /// An end that its status and its last line tell.
+    /// An end that is known by its status and its last line.
     pub(crate) fn of(status: Status) -> Ended {
         Ended {
             status,
@@ -51,7 +51,7 @@ impl Ended {
         }
     }
 
-    /// The end of a command that found so of an image.
+    /// The end of a command with this finding of an image.
     pub(crate) fn unsigned(
         status: Status,
         files: KeyFiles,
@@ -99,12 +99,12 @@ pub(crate) fn unread<'a>(kind: ErrorKind) -> &'a str {
     }
 }
 
-/// Tells that memory ran out.
+/// Reports that memory ran out.
 pub(crate) fn tell_memory(rt: &HostRuntime) {
     let _ = rt.eprintln("deluge_sign: memory ran out; give the program more of it");
 }
 
-/// Tells why a command did not do what it was asked, if it did not.
+/// Reports why a command did not do what it was asked, if it did not.
 pub(crate) fn tell<R: Read, W: Write>(
     rt: &HostRuntime,
     words: &[String],
@@ -126,7 +126,7 @@ pub(crate) fn tell<R: Read, W: Write>(
     }
 }
 
-/// Tells what `clap` says of words, of which each is as it is shown.
+/// Reports what `clap` says of words, of which each is as it is shown.
 fn tell_usage(rt: &HostRuntime, words: &[String]) -> Result<(), AllocError> {
     let mut all = Vec::new(rt.alloc());
     for word in words {
@@ -138,7 +138,7 @@ fn tell_usage(rt: &HostRuntime, words: &[String]) -> Result<(), AllocError> {
     Ok(())
 }
 
-/// Tells something of a file.
+/// Reports something of a file.
 fn tell_of(
     rt: &HostRuntime,
     words: &[String],
@@ -151,7 +151,7 @@ fn tell_of(
     Ok(())
 }
 
-/// Tells why an image is not signed, the file that is at fault, and what to do.
+/// Reports why an image is not signed, the file that is at fault, and what to do.
 fn tell_unsigned(
     rt: &HostRuntime,
     words: &[String],
@@ -170,7 +170,7 @@ fn tell_unsigned(
     tell_of(rt, words, name, what.as_str())
 }
 
-/// Tells the cause that status and last line tell, and the chip that it is about, if there is one.
+/// Reports the cause that status and last line give, and the chip that it is about, if there is one.
 fn tell_by<R: Read, W: Write>(
     rt: &HostRuntime,
     words: &[String],

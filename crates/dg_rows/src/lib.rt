@@ -1,4 +1,4 @@
-//! Rows: commands over chips in memory, each with what stands outside of it and what must come of it, as files tell them.
+//! Rows: commands over chips in memory, each with what stands outside of it and its expected outcome, as files specify them.
 #![tactic(auto)]
 
 mod chips;
@@ -16,7 +16,7 @@ pub use player::Tally;
 pub use runner::Runner;
 use std::alloc::{AllocError, Global};
 
-/// Plays the rows that a text tells, and answers what came of them.
+/// Plays the rows of a text, and answers their outcome.
 pub fn play<R: Runner>(alloc: Global, runner: &R, text: &str) -> Result<Tally, AllocError> {
     let mut player = Player::new(alloc, runner);
     for (index, line) in text.lines().enumerate() {

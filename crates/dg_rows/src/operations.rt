@@ -24,7 +24,7 @@ pub(crate) enum Operation {
     },
 }
 
-/// The operation that a line tells, if it tells one: `erase SECTOR`, or `program SECTOR AT HEX`.
+/// The operation of a line, if it has one: `erase SECTOR`, or `program SECTOR AT HEX`.
 pub(crate) fn operation_of(alloc: Global, head: &str, rest: &str) -> Option<Operation> {
     let mut words = rest.split(' ');
     let sector = parse_u32(words.next()?.as_bytes())?;
@@ -40,7 +40,7 @@ pub(crate) fn operation_of(alloc: Global, head: &str, rest: &str) -> Option<Oper
 }
 
 impl Operation {
-    /// Makes it on a chip. One that no chip has is refused.
+    /// Makes it on a chip. One outside of a chip is refused.
     fn make<N: Nor>(&self, nor: &mut N) -> Result<(), Stopped> {
         match self {
             Operation::Erase { sector } if *sector < SECTORS => erase_sector(nor, *sector),
@@ -71,8 +71,8 @@ fn stops(board: &mut Board, operations: &[Operation], number: u32, mask: &[u8; M
 }
 
 impl Row {
-    /// Plays the row over a copy of a chip that stops in the turn. It answers what came of it, and whether the chip holds what
-    /// the listed operations leave that stop there.
+    /// Plays the row over a copy of a chip that stops in the turn. It answers the outcome, and whether the chip holds what the
+    /// listed operations leave if they stop there.
     pub(crate) fn play_listed<R: Runner>(
         &self,
         alloc: Global,

@@ -9,13 +9,13 @@ use std::alloc::{AllocError, Global};
 /// The frames that an inbox of the link holds.
 const INBOX: usize = 4;
 
-/// The bytes of what an interrupted operation leaves, again and again.
+/// The bytes of a mask, which says what an interrupted operation leaves, and is repeated.
 pub(crate) const MASK_SIZE: usize = 64;
 
 /// The milliseconds between two answers of the clock.
 pub(crate) const CLOCK_STEP: u64 = 100;
 
-/// What goes wrong, and how an input comes. Calls are numbered from 1. Number 0 is no call.
+/// What goes wrong, and how an input comes. Calls are numbered from 1; number 0 is not a call.
 #[derive(Clone, Copy)]
 pub(crate) struct Outside {
     /// The most bytes that a read gives, if there is such a limit.
@@ -45,7 +45,7 @@ pub(crate) const CALM: Outside = Outside {
     stopped: false,
 };
 
-/// An input of which each read gives no more than some bytes, and one at least.
+/// An input of which each read gives at most some number of bytes, and at least one.
 #[derive(Drop)]
 pub(crate) struct Pieces {
     input: MemSource,

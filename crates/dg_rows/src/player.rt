@@ -12,7 +12,7 @@ use crate::turns::Turn;
 use dg_base::{parse_hex, parse_u32};
 use std::alloc::{AllocError, Global};
 
-/// What the next lines go on with.
+/// What the next lines continue.
 #[derive(Drop)]
 enum Open {
     Nothing,
@@ -20,7 +20,7 @@ enum Open {
     File(Saved),
 }
 
-/// How many rows there were, how many of them were wrong, and what is told of these.
+/// How many rows there were, how many of them were wrong, and what is reported of these.
 #[derive(Drop)]
 pub struct Tally {
     pub rows: u32,
@@ -38,7 +38,7 @@ pub(crate) struct Player<'a, R> {
     open: Open,
     chips: Vec<Chip>,
     saved: Vec<Saved>,
-    /// How many blank chips a command gets that names none.
+    /// How many blank chips a command that names no chip gets.
     unnamed: u32,
     /// What the last row wrote, and how much it read of its chips.
     written: Vec<u8>,
@@ -66,7 +66,7 @@ impl<'a, R: Runner> Player<'a, R> {
         }
     }
 
-    /// What came of the rows.
+    /// The outcome of the rows.
     pub(crate) fn tally(self) -> Tally {
         self.tally
     }
@@ -88,7 +88,7 @@ impl<'a, R: Runner> Player<'a, R> {
         self.refuse("no such line")
     }
 
-    /// Goes on with what is open, where the line does so.
+    /// Continues what is open, if the line does so.
     fn goes_on(&mut self, head: &str, rest: &str) -> Result<bool, AllocError> {
         let operation = operation_of(self.alloc, head, rest);
         if let (Open::Row(row), Some(operation)) = (&mut self.open, operation) {
@@ -155,7 +155,7 @@ impl<'a, R: Runner> Player<'a, R> {
         Ok(())
     }
 
-    /// Plays a turn of a row, and compares what came of it with what must.
+    /// Plays a turn of a row, and compares its outcome with the expected one.
     fn play_turn(&mut self, row: &Row, turn: &Turn) -> Result<(), AllocError> {
         let mut handed = self.handed(row)?;
         let came = row.play(self.alloc, self.runner, &turn.outside, &mut handed)?;
@@ -170,7 +170,7 @@ impl<'a, R: Runner> Player<'a, R> {
         Ok(())
     }
 
-    /// Plays a row over copies of its chip, of which each stops at another of the operations that it lists.
+    /// Plays a row over copies of its chip, each of which stops at another of the operations that it lists.
     fn play_stops(&mut self, row: &Row) -> Result<(), AllocError> {
         for turn in &row.stops(self.alloc)? {
             let Some(chip) = chip_named(&self.chips, &row.words) else {
@@ -194,7 +194,7 @@ impl<'a, R: Runner> Player<'a, R> {
         }
     }
 
-    /// Counts a line that is wrong by itself, and tells why.
+    /// Counts a line that is wrong by itself, and reports why.
     fn refuse(&mut self, cause: &str) -> Result<(), AllocError> {
         let line = self.line;
         let told = format!(in self.alloc; "line {line}: {cause}\n")?;
@@ -203,7 +203,7 @@ impl<'a, R: Runner> Player<'a, R> {
         Ok(())
     }
 
-    /// Does what a line says that stands between rows. It answers whether there is such a line.
+    /// Does what a line between rows says. It answers whether there is such a line.
     fn acts(&mut self, head: &str, rest: &str) -> Result<bool, AllocError> {
         let mut words = rest.split(' ');
         match (head, words.next(), words.next()) {
@@ -317,7 +317,7 @@ impl<'a, R: Runner> Player<'a, R> {
         Ok(false)
     }
 
-    /// Tells what came of a row.
+    /// Reports the outcome of a row.
     fn tell(&mut self, row: &Row, came: &Came) -> Result<(), AllocError> {
         let (status, taken, rest) = (came.status, came.taken, came.rest);
         let line = row.line;

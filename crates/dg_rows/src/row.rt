@@ -1,4 +1,4 @@
-//! A row: a command, what stands outside of it, and what must come of it.
+//! A row: a command, what stands outside of it, and its expected outcome.
 ghost use Rattle.std.specs.Prelude.{◌≤◌, IfSome};
 
 use crate::chips::Chip;
@@ -13,7 +13,7 @@ use std::alloc::{AllocError, Global};
 /// More bytes than a command writes beyond what it must.
 const MORE: usize = 400_000;
 
-/// A command and what must come of it.
+/// A command and its expected outcome.
 #[derive(Drop)]
 pub(crate) struct Row {
     /// Where it begins in its file.
@@ -31,23 +31,23 @@ pub(crate) struct Row {
     pub(crate) lines_written: usize,
 }
 
-/// What must come of a command.
+/// The expected outcome of a command.
 #[derive(Drop)]
 pub(crate) struct Wanted {
     pub(crate) status: u32,
     pub(crate) written: Vec<u8>,
-    /// Whether what is written is looked at.
+    /// Whether what is written is checked.
     pub(crate) seen: bool,
     /// The bytes of the input that it leaves, at least.
     pub(crate) rest: u32,
-    /// Whether it is looked at how much is read of its chips, and how many bytes more that are than in the row before: at
+    /// Whether the bytes that it reads of its chips are counted, and how many more than in the row before they have to be: at
     /// most, and at least.
     pub(crate) counted: bool,
     pub(crate) most_taken: Option<u32>,
     pub(crate) least_taken: u32,
 }
 
-/// What came of a command.
+/// The outcome of a command.
 #[derive(Drop)]
 pub(crate) struct Came {
     pub(crate) status: u8,
@@ -67,7 +67,7 @@ fn words_of(alloc: Global, text: &str) -> Result<Vec<String>, AllocError> {
     Ok(words)
 }
 
-/// A mask of these bytes, again and again.
+/// A mask of these bytes, repeated.
 fn spread(bytes: &[u8]) -> [u8; MASK_SIZE] {
     let mut mask = [0xFF; MASK_SIZE];
     if bytes.is_empty() {
@@ -86,7 +86,7 @@ fn stopping(number: u32) -> Option<u32>
     if number > 0 { Some(number) } else { None }
 }
 
-/// Stops chips of which the first operation stops, and leaves their bytes.
+/// Stops chips whose first operation stops, which leaves their bytes unchanged.
 fn stop_all(boards: &mut [Fused<Board>]) {
     for board in boards.iter_mut() {
         let _ = board.program(0, &[0xFF]);
@@ -132,7 +132,7 @@ impl Row {
         true
     }
 
-    /// Sets a number of the row. It answers whether there is such a one.
+    /// Sets a number of the row. It answers whether there is such a number.
     pub(crate) fn set(&mut self, head: &str, number: u32) -> bool {
         match head {
             "=" => self.wanted.status = number,
@@ -150,7 +150,7 @@ impl Row {
         true
     }
 
-    /// Takes bytes of a row. It answers whether there are such ones.
+    /// Takes bytes of a row. It answers whether there are such bytes.
     pub(crate) fn take(&mut self, head: &str, bytes: &[u8]) -> Result<bool, AllocError> {
         match head {
             "<" | "<x" | "<@" => self.give(bytes)?,
@@ -161,7 +161,7 @@ impl Row {
         Ok(true)
     }
 
-    /// The input goes on with these bytes.
+    /// Appends these bytes to the input.
     fn give(&mut self, bytes: &[u8]) -> Result<(), AllocError> {
         self.input.extend_from_slice(bytes)?;
         self.parts.push(Part {
@@ -171,7 +171,7 @@ impl Row {
         Ok(())
     }
 
-    /// What must be written goes on with these bytes.
+    /// Appends these bytes to what must be written.
     fn want(&mut self, bytes: &[u8]) -> Result<(), AllocError> {
         self.wanted.written.extend_from_slice(bytes)?;
         if let Some(part) = self.parts.last_mut() {
@@ -195,7 +195,7 @@ impl Row {
         }
     }
 
-    /// Runs it over chips of which it is told how much is read.
+    /// Runs it over chips that count how much of them is read.
     fn play_counted<R: Runner>(
         &self,
         alloc: Global,
@@ -263,7 +263,7 @@ impl Row {
 }
 
 impl Wanted {
-    /// Whether what came of a turn is what must come of it, where the command before it read this many bytes of its chips.
+    /// Whether the outcome of a turn is the expected one, if the command before it read this many bytes of its chips.
     pub(crate) fn is_met(&self, turn: &Turn, came: &Came, before: u64) -> bool {
         let more = came.taken.saturating_sub(before);
         let most = match self.most_taken {

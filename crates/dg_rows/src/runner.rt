@@ -5,8 +5,8 @@ use dg_link::FailLink;
 use dg_nor::Nor;
 use std::alloc::Global;
 
-/// Runs commands, as `run` of `dg_cli` does. Rows are played by it without knowing its contract: a crate that stands on that
-/// pays for it in its proof.
+/// Runs commands, as `run` of `dg_cli` does. Rows are played by it without knowing its contract: a crate that depends on it pays
+/// for it in its proof.
 pub trait Runner {
     /// Does what the words ask for.
     fn run<S: Source, N: Nor>(

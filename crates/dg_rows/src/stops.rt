@@ -1,5 +1,5 @@
 //! A run over a chip that stops at each operation of the run in turn. What is written by then, and what stands on the chip, was
-//! worked out by hand, from the operations of each event and from what an operation leaves that is interrupted.
+//! worked out by hand, from the operations of each event and from what an interrupted operation leaves.
 ghost use Rattle.std.specs.Prelude.{◌<◌};
 ghost use Rattle.dg_nor.specs.Sizes.{sectors};
 
@@ -121,7 +121,7 @@ const STEPS: [Step; 10] = [
     // The short starts are cleared, and the order is kept.
     (2, 2, End::Commit, Some(2), Some(0), false, 0, 4),
     (3, 2, End::Commit, Some(2), Some(0), true, 0, 5),
-    // The start is counted. Program memory is told as blank, and the image is copied before it is set to it.
+    // The start is counted. Program memory is committed as blank, and the image is copied before it is set to it.
     (4, 2, End::Commit, Some(2), Some(0), true, 1, 6),
     (4, 2, End::Commit, Some(2), None, true, 1, 7),
     (4, 20, End::Commit, Some(2), Some(1), true, 1, 8),
@@ -156,7 +156,7 @@ fn operations(used: u32) -> u32 {
     if used == SPENT { 156 } else { 154 }
 }
 
-/// What a run leaves that is stopped at operation `after`, on a chip of which this many commits are spent.
+/// What a run that is stopped at operation `after` leaves, on a chip with this many commits spent.
 fn left_at(used: u32, after: u32, mask: &[u8; MASK_SIZE]) -> Left {
     let mut steps = STEPS;
     if used == SPENT {
@@ -198,7 +198,7 @@ fn reported(alloc: Global, count: usize) -> Result<Vec<u8>, AllocError> {
     Ok(text)
 }
 
-/// What `ping` tells of a chip.
+/// What `ping` reports of a chip.
 fn told(alloc: Global, stand: Stand, used: u32) -> Result<String, AllocError> {
     let program = match stand.program {
         None => "blank",
@@ -233,7 +233,7 @@ fn holds(board: &mut Board, sector: u32, front: &[u8]) -> Result<bool, Stopped>
     Ok(true)
 }
 
-/// Whether the pages that are told stand in the slot and in program memory.
+/// Whether the slot and program memory hold the pages that they should.
 fn pages_stand(board: &mut Board, stand: Stand) -> Result<bool, Stopped> {
     let done = stand.done.unwrap_or(0);
     let first = done < 1 || holds(board, SLOT, IMAGE_DESCRIPTOR)?;
@@ -272,7 +272,7 @@ fn rest(done: Option<u8>) -> u32 {
     }
 }
 
-/// Whether the chip goes on as it must: the injection is made again, without writing what was complete, and then a start runs
+/// Whether the chip continues as it must: the injection is made again, without writing what was complete, and then a start runs
 /// the image where that is ordered, and golden else.
 fn goes_on<R: Runner>(
     alloc: Global,

@@ -5,7 +5,7 @@ use crate::row::Row;
 use dg_base::Status;
 use std::alloc::{AllocError, Global};
 
-/// More reads than a row has of which each fails in turn.
+/// More reads than a row has whose reads fail in turn.
 const MOST_READS: u32 = 1_000;
 
 /// How often a row is played.
@@ -13,20 +13,20 @@ const MOST_READS: u32 = 1_000;
 pub(crate) enum Sweep {
     /// Once.
     Once,
-    /// Each read fails in turn, and then none.
+    /// Each read fails in turn, and then no read.
     Reads,
-    /// Each write fails in turn, and then none.
+    /// Each write fails in turn, and then no write.
     Writes,
     /// The output ends at each of its bytes in turn, and then after them.
     Bytes,
 }
 
-/// A turn: what goes wrong, and what must come of the command then.
+/// A turn: what goes wrong, and the expected outcome of the command then.
 #[derive(Clone, Copy)]
 pub(crate) struct Turn {
     pub(crate) outside: Outside,
     pub(crate) status: u32,
-    /// How many of the bytes are written that the row tells.
+    /// How many of the row's bytes are written.
     pub(crate) written: usize,
 }
 
@@ -59,7 +59,7 @@ impl Row {
         }
     }
 
-    /// Each read fails: the lines before it are reported that are whole. The last one finds the end of the input.
+    /// Each read fails: the whole lines before it are reported. The last one finds the end of the input.
     fn failing_reads(&self, alloc: Global) -> Result<Vec<Turn>, AllocError> {
         let mut turns = Vec::new(alloc);
         let length = self.input.len() as u64;
@@ -97,7 +97,7 @@ impl Row {
         Ok(turns)
     }
 
-    /// The output ends at each byte: the writes are done that it has room for.
+    /// The output ends at each byte: the writes that it has room for are done.
     fn full_outputs(&self, alloc: Global) -> Result<Vec<Turn>, AllocError> {
         let mut turns = Vec::new(alloc);
         let writes = self.writes(alloc)?;
