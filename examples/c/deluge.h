@@ -1,6 +1,6 @@
 /* What a firmware in C calls of deluge: docs/C.md.
  *
- * Each call is total: whatever is handed in wrong is an answer, and DELUGE_DONE is 0. A pointer is never null, also where its count
+ * Each call is total: an invalid argument gives an answer, and DELUGE_DONE is 0. A pointer is never null, also where its count
  * is 0. What a call writes to is lent to that call alone, and overlaps nothing else that the call is handed. The library keeps
  * nothing between calls, allocates nothing, and may be called by several threads at once.
  */
@@ -24,15 +24,15 @@ enum deluge_answer {
     DELUGE_DONE = 0,
     DELUGE_SHORT = 1,       /* fewer bytes than a frame has */
     DELUGE_KIND = 2,        /* no such kind */
-    DELUGE_LENGTH = 3,      /* another length than it may be */
-    DELUGE_CHECK = 4,       /* the CRC is another one */
+    DELUGE_LENGTH = 3,      /* a length that it may not have */
+    DELUGE_CHECK = 4,       /* the CRC differs */
     DELUGE_RANGE = 5,       /* a field is out of its range */
-    DELUGE_ROOM = 6,        /* the room that was lent is too small */
+    DELUGE_ROOM = 6,        /* the caller's buffer is too small */
     DELUGE_BROKEN = 7,      /* an escape stands before another byte than it may */
     DELUGE_LONG = 8,        /* more bytes than a frame has */
     DELUGE_FLAG_WITHIN = 9, /* a flag stands within the piece */
     DELUGE_TAG = 10,        /* the page does not begin as a descriptor */
-    DELUGE_NO_VOLUME = 11,  /* the bytes of the chip are no volume */
+    DELUGE_NO_VOLUME = 11,  /* the bytes of the chip are not a volume */
     DELUGE_NO_IMAGE = 12,   /* there is no image to start */
     DELUGE_RESERVED = 13,   /* image 0 is golden, which is written by formatting alone */
     DELUGE_STALE = 14,      /* this version or a larger one is kept */
@@ -49,7 +49,7 @@ enum deluge_answer {
 
 /* ---- checksums */
 
-/* The CRC of bytes whose CRC is `before`, and of these behind them. It is 0 of no bytes. */
+/* The CRC of bytes whose CRC is `before`, and of these after them. The CRC of no bytes is 0. */
 uint16_t deluge_crc16(uint16_t before, const uint8_t *bytes, size_t count);
 
 /* ---- frames */
@@ -69,7 +69,7 @@ struct deluge_order {
     uint8_t image;
 };
 
-/* Fields that a kind has not are 0 where they are read, and not looked at where they are written. */
+/* Fields that a kind does not have are 0 where they are read, and not looked at where they are written. */
 struct deluge_message {
     uint8_t kind, image, page, packet;
     uint16_t source, to;
@@ -80,7 +80,7 @@ struct deluge_message {
     struct deluge_order order;
 };
 
-/* SHORT, KIND, LENGTH, CHECK or RANGE, the first that applies: `message` is as it was. A narrow reader knows images 1 to 3. */
+/* SHORT, KIND, LENGTH, CHECK or RANGE, the first that applies: `message` is unchanged. A narrow reader knows images 1 to 3. */
 uint32_t deluge_frame_read(const uint8_t *frame, size_t count, bool wide, struct deluge_message *message);
 
 /* KIND, RANGE or ROOM: nothing is written. At most 64 bytes. */
@@ -88,7 +88,7 @@ uint32_t deluge_frame_write(const struct deluge_message *message, uint8_t *frame
 
 /* ---- the serial line */
 
-/* A frame as it stands on the line, with the flag behind it: at most 129 bytes. LENGTH or ROOM: nothing is written. */
+/* A frame as it is on the line, with the flag after it: at most 129 bytes. LENGTH or ROOM: nothing is written. */
 uint32_t deluge_stuff(const uint8_t *frame, size_t count, uint8_t *line, size_t room, size_t *written);
 
 /* The frame for which a piece stands, the bytes between two flags: at most 64 bytes. SHORT for an empty piece, BROKEN, LONG,
@@ -107,7 +107,7 @@ struct deluge_timer {
     bool fired;
 };
 
-/* RANGE, where the time is 2^62 or later, or the fields are none of a timer: nothing changes. */
+/* RANGE, where the time is 2^62 or later, or the fields are not those of a timer: nothing changes. */
 uint32_t deluge_timer_start(struct deluge_timer *timer, uint64_t now, uint32_t word);
 uint32_t deluge_timer_same(struct deluge_timer *timer);
 uint32_t deluge_timer_other(struct deluge_timer *timer, uint64_t now, uint32_t word);
@@ -121,19 +121,20 @@ struct deluge_descriptor {
     uint8_t name[DELUGE_NAME_BYTES]; /* filled up with 0 */
 };
 
-/* Page 0 as a descriptor. LENGTH, TAG or RANGE: `descriptor` is as it was. */
+/* Page 0 as a descriptor. LENGTH, TAG or RANGE: `descriptor` is unchanged. */
 uint32_t deluge_descriptor_read(const uint8_t *page, size_t count, struct deluge_descriptor *descriptor);
 
 /* Whether a data page, 1 to 64, has the CRC that page 0 keeps of it: else CHECK. RANGE, LENGTH. */
 uint32_t deluge_page_check(const uint8_t *first, size_t first_count, const uint8_t *page, size_t count, uint8_t number);
 
-/* The SHA-256 digest of a page, 32 bytes, by which the page before it names it in its last 32 bytes. LENGTH: nothing is written. */
+/* The SHA-256 digest of a page, 32 bytes. The page before it names it by that digest in its last 32 bytes. LENGTH: nothing is
+ * written. */
 uint32_t deluge_page_digest(const uint8_t *page, size_t count, uint8_t *digest, size_t digest_count);
 
 /* ---- plans: acts of the store and the start, over a chip that can be read in place */
 
-/* A chip of 530 sectors of 2,048 bytes, all of it mapped, so that `chip` points to its bytes. A chip that cannot be read so is not
- * served. */
+/* A chip of 530 sectors of 2,048 bytes, all of it mapped, so that `chip` points to its bytes. A chip that cannot be read so is
+ * not supported. */
 #define DELUGE_CHIP_BYTES 1085440
 #define DELUGE_SECTOR_BYTES 2048
 
@@ -152,7 +153,7 @@ struct deluge_command {
 
 /* Each call mounts the chip and plans one act. DONE: the first `planned` commands are its operations, in their order. Whoever
  * carries them out, and stops anywhere, has a chip that a stop of the act may leave: the next call goes on from there.
- * ROOM: the list, or the bytes beside it, hold as many of the operations as have room.
+ * ROOM: the list, or the bytes beside it, hold as many of the operations as fit.
  * LENGTH, RANGE, NO_VOLUME: nothing is planned. */
 
 enum deluge_cause { DELUGE_POWER = 0, DELUGE_ORDER_WAITS = 1 };
@@ -168,7 +169,7 @@ struct deluge_started {
 uint32_t deluge_plan_start(const uint8_t *chip, size_t chip_count, uint32_t cause, struct deluge_command *commands, size_t room,
     uint8_t *bytes, size_t bytes_room, size_t *planned, struct deluge_started *started);
 
-/* What is told of an image before any of its pages, as an advert tells it. */
+/* What is known of an image before any of its pages, as an advert gives it. */
 struct deluge_profile {
     uint32_t version;
     uint16_t crc; /* of page 0 */
@@ -194,13 +195,13 @@ struct deluge_packet {
 uint32_t deluge_plan_packet(const uint8_t *chip, size_t chip_count, const struct deluge_packet *packet,
     struct deluge_command *commands, size_t room, uint8_t *bytes, size_t bytes_room, size_t *planned);
 
-/* Plans that the next page of an image is made complete, as it stands there: 1 command and 1 byte. CHECK, where its CRC is another
- * one, UNFIT, RANGE, NOT_KEPT or NOT_NEXT: nothing is planned. */
+/* Plans that the next page of an image is made complete, as it stands there: 1 command and 1 byte. CHECK if its CRC differs,
+ * UNFIT, RANGE, NOT_KEPT or NOT_NEXT: nothing is planned. */
 uint32_t deluge_plan_seal(const uint8_t *chip, size_t chip_count, uint8_t image, uint32_t version, uint8_t page,
     struct deluge_command *commands, size_t room, uint8_t *bytes, size_t bytes_room, size_t *planned);
 
-/* Plans that an image is kept whole: at most 3,258 commands and 71,964 bytes. With less room it is a beginning, from which a next
- * call goes on where a page had room: 58 commands and 1,244 bytes. */
+/* Plans that an image is kept whole: at most 3,258 commands and 71,964 bytes. With less room the list is a prefix, from which a
+ * next call continues if a page had room: 58 commands and 1,244 bytes. */
 uint32_t deluge_plan_inject(const uint8_t *chip, size_t chip_count, uint8_t image, uint32_t version, const uint8_t *name,
     size_t name_count, const uint8_t *content, size_t content_count, struct deluge_command *commands, size_t room, uint8_t *bytes,
     size_t bytes_room, size_t *planned);
@@ -212,7 +213,7 @@ struct deluge_kept {
     uint8_t pages, done;
 };
 
-/* LENGTH, RANGE, NO_VOLUME or NOT_KEPT: `kept` is as it was. */
+/* LENGTH, RANGE, NO_VOLUME or NOT_KEPT: `kept` is unchanged. */
 uint32_t deluge_kept(const uint8_t *chip, size_t chip_count, uint8_t image, struct deluge_kept *kept);
 
 #endif

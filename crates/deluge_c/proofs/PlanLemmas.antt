@@ -49,7 +49,7 @@ some_same e = cc
 pub found_same : {A : Type 0} (a b : A) (x : Option A) → Some a ≡ x → x ≡ Some b → a ≡ b
 found_same a b x p q = cc
 
--- a refusal is no stop
+-- a refusal is not a stop
 pub refusal_stops_not : (e : TakeFault) → IsRefusal (take_answer e) → e ≡ take_fault.Stopped → ⊥
 refusal_stops_not e refused is = let k : take_answer e ≡ 6 = ap take_answer is in omega (arith, refused, k)
 
@@ -59,7 +59,7 @@ order_stops_not e refused is = let k : order_answer e ≡ 6 = ap order_answer is
 pub inject_stops_not : (e : InjectFault) → IsRefusal (inject_answer e) → e ≡ inject_fault.Stopped → ⊥
 inject_stops_not e refused is = let k : inject_answer e ≡ 6 = ap inject_answer is in omega (arith, refused, k)
 
--- what is told of an image that is kept
+-- what is reported of an image that is kept
 pub told_some : (o : Option Held) (k : Kept) → told o ≡ Some k → (h : Held) × (o ≡ Some h) × (told_held h ≡ k)
 told_some None k e = absurd (none_some e)
 told_some (Some h) k e = (h, refl, some_same e)

@@ -1,4 +1,4 @@
--- The numbers by which C is told how a call ended (docs/C.md, "Answers").
+-- The numbers that report to C how a call ended (docs/C.md, "Answers").
 use Rattle.std.specs.Prelude.{ℕ, ◌≤◌}
 use Rattle.dg_frame.specs.declared.FrameFault.{FrameFault}
 use Rattle.dg_frame.specs.declared.FrameFault.TheVariants as frame
@@ -13,7 +13,7 @@ use Rattle.dg_volume.specs.declared.volume.TakeFault.TheVariants as take_fault
 abbrev pub done : ℕ
 done = 0
 
--- bytes are no frame, by the first cause
+-- bytes are not a frame, by the first cause
 abbrev pub frame_answer : FrameFault → ℕ
 frame_answer frame.Short = 1
 frame_answer frame.Kind = 2
@@ -25,7 +25,7 @@ frame_answer frame.Range = 5
 abbrev pub IsRefusal : ℕ → Type 0
 IsRefusal n = 13 ≤ n
 
--- why a slot is not taken; a list that has no room stops it
+-- why a slot is not taken; a list without room stops it
 abbrev pub take_answer : TakeFault → ℕ
 take_answer take_fault.Stopped = 6
 take_answer (take_fault.Stale kept) = 14

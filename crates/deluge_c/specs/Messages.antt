@@ -32,7 +32,7 @@ wide_entries_of m =
     entry_at_place m 0 ∷ entry_at_place m 1 ∷ entry_at_place m 2 ∷ entry_at_place m 3 ∷ entry_at_place m 4
     ∷ entry_at_place m 5 ∷ []
 
--- the message by its kind, which is the first byte of its frame. Fields that the kind has not are not looked at
+-- the message by its kind, which is the first byte of its frame. Fields that the kind does not have are not looked at
 unfoldable pub message_of_fields : MessageFields → Option Message
 message_of_fields m =
     if m.kind == advert_kind then Some (Advert m.source (narrow_entries_of m) (order_of_fields m.order))

@@ -1,4 +1,4 @@
--- What the C fields of a descriptor tell (docs/C.md, "Pages").
+-- What the C fields of a descriptor say (docs/C.md, "Pages").
 use Rattle.std.specs.Prelude.{◌≡◌}
 use Rattle.dg_words.specs.Lists.{padded}
 use Rattle.dg_object.specs.Sizes.{name_size}

@@ -30,8 +30,8 @@ pub record AreActOf (t : Trail Store) (chip : List ℕ) (commands : List Command
   pub count : n ≡ operations t
   pub stands : Stands (made chip commands bytes n) (last t)
 
--- The commands are as many as the list has room for, or their bytes. They make a chip that a stop of the act behind as many
--- operations may leave.
+-- There are as many commands as the list, or the room for their bytes, holds. They make a chip that a stop of the act after as
+-- many operations may leave.
 pub record BeginActOf (t : Trail Store) (chip : List ℕ) (commands : List Command) (bytes : List ℕ) (n : ℕ) : Type 0 where
   pub few : n ≤ operations t
   pub leaves : MayLeave Stands IsNear t n (made chip commands bytes n)
@@ -40,7 +40,7 @@ pub record BeginActOf (t : Trail Store) (chip : List ℕ) (commands : List Comma
 abbrev pub cause_numbered : ℕ → Option StartCause
 cause_numbered n = if n == 0 then Some Power else if n == 1 then Some Order else None
 
--- the fields tell what runs
+-- the fields say what runs
 pub record TellsRuns (f : StartedFields) (r : Runs) : Type 0 where
   pub image : f.image ≡ r.image
   pub version : f.version ≡ r.version
@@ -72,7 +72,7 @@ page_name image version page = record { image = image; version = version; page =
 abbrev pub page_of_packet : PacketFields → PageName
 page_of_packet f = page_name f.image f.version f.page
 
--- the fields tell what is kept
+-- the fields say what is kept
 pub record TellsHeld (f : KeptFields) (h : Held) : Type 0 where
   pub version : f.version ≡ h.version
   pub crc : f.crc ≡ h.crc

@@ -13,16 +13,16 @@ pub(crate) const SHORT: u32 = 1;
 /// No such kind.
 pub(crate) const KIND: u32 = 2;
 
-/// The bytes have another length than they may have.
+/// The bytes have a length that they may not have.
 pub(crate) const LENGTH: u32 = 3;
 
-/// The CRC or the digest is another one.
+/// The CRC or the digest differs.
 pub(crate) const CHECK: u32 = 4;
 
 /// A field is out of its range.
 pub(crate) const RANGE: u32 = 5;
 
-/// The room that was lent is too small.
+/// The caller's buffer is too small.
 pub(crate) const ROOM: u32 = 6;
 
 /// An escape on the line stands before another byte than it may.
@@ -37,7 +37,7 @@ pub(crate) const FLAG_FAULT: u32 = 9;
 /// The page does not begin as a descriptor.
 pub(crate) const TAG: u32 = 10;
 
-/// The bytes of the chip are no volume.
+/// The bytes of the chip are not a volume.
 pub(crate) const NO_VOLUME: u32 = 11;
 
 /// There is no image to start.

@@ -19,8 +19,8 @@ use dg_plan::{ActFault, Command, Plan, inject};
 use dg_volume::{InjectFault, Injected};
 
 /// Plans that an image is kept whole, in place of an older version of it. A version that is kept in part is resumed at its next
-/// page. One of 65 pages has 3,258 commands at most, which program 71,964 bytes. A list with less room is a beginning: whoever
-/// carries it out and plans again goes on, where a page has room, which is 50 commands and 1,105 bytes.
+/// page. One of 65 pages has 3,258 commands at most, which program 71,964 bytes. A list with less room is a prefix. Whoever
+/// carries it out and plans again gets further if a page has room, which is 50 commands and 1,105 bytes.
 #[unsafe(no_mangle)]
 pub extern "C" fn deluge_plan_inject(
     chip: &[u8],

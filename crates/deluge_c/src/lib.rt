@@ -1,6 +1,6 @@
 //! What a firmware in C calls: numbers, bytes and structs go in and out, and nothing is kept between calls.
 //!
-//! Each call is total: whatever C hands in wrong is an answer. A pointer is never null, also where its count is 0, and what is
+//! Each call is total: an invalid argument gives an answer. A pointer is never null, also where its count is 0, and what is
 //! written to is lent to the call alone. Nothing here allocates. `examples/c/deluge.h` is the header.
 #![tactic(auto)]
 

@@ -48,7 +48,8 @@ pub struct OrderFields {
     pub image: u8,
 }
 
-/// The fields of a message. Those that its kind has not are 0 where they are read, and not looked at where they are written.
+/// The fields of a message. Those that its kind does not have are 0 where they are read, and not looked at where they are
+/// written.
 #[repr(C)]
 #[derive(Clone, Copy)]
 pub struct MessageFields {
@@ -95,7 +96,7 @@ const NO_FIELDS: MessageFields = MessageFields {
     },
 };
 
-/// Reads bytes as a message, for a reader that is wide or narrow, or answers the first cause why they are none.
+/// Reads bytes as a message, for a reader that is wide or narrow, or answers the first cause why they are not one.
 #[unsafe(no_mangle)]
 pub extern "C" fn deluge_frame_read(frame: &[u8], wide: bool, message: &mut MessageFields) -> u32
     ensures read { (m : Message) → message_of frame.now wide ≡ Ok m

@@ -1,10 +1,10 @@
-//! Bytes that are handed out in the caller's room.
+//! Bytes that are written into the caller's buffer.
 ghost use Rattle.std.specs.Prelude.{◌≡◌, ◌≢◌, ◌↔◌, ◌≤◌, ◌++◌, take, drop, length};
 ghost use Rattle.deluge_c.specs.Answers.{done};
 
 use crate::answers::{DONE, ROOM};
 
-/// Writes bytes to the beginning of the room, and how many, where there is room for them.
+/// Writes bytes to the beginning of the buffer, and how many they are, if they fit.
 pub(crate) fn put_bytes(bytes: &[u8], into: &mut [u8], count: &mut usize) -> u32
     ensures answer { (result ≡ done) ↔ (length bytes.now ≤ length into.old) }
     ensures counted { result ≡ done → count.new ≡ length bytes.now }

@@ -16,7 +16,7 @@ use crate::answers::{CHECK, DONE, LENGTH, NO_VOLUME, NOT_KEPT, NOT_NEXT, RANGE, 
 use dg_nor::CHIP_SIZE;
 use dg_plan::{ActFault, Command, PageName, Plan, SealFault, seal};
 
-/// Plans that the next page of an image is made complete, as it stands there: 1 command, which programs 1 byte. The chip is
+/// Plans that the next page of an image is made complete, as it is on the chip: 1 command, which programs 1 byte. The chip is
 /// mounted, and the page is compared with what is kept of it.
 #[unsafe(no_mangle)]
 pub extern "C" fn deluge_plan_seal(

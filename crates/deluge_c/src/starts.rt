@@ -27,7 +27,7 @@ pub struct StartedFields {
     pub pages: u8,
 }
 
-/// Plans a start. Cause 0 is that the power came, 1 that an order waits. `NO_IMAGE` has commands too, which count the start or
+/// Plans a start. Cause 0 is that the power came on, 1 that an order waits. `NO_IMAGE` has commands too, which count the start or
 /// waive an order.
 #[unsafe(no_mangle)]
 pub extern "C" fn deluge_plan_start(

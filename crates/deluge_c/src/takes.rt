@@ -17,7 +17,7 @@ use dg_object::{FEWEST_PAGES, MOST_PAGES, Profile};
 use dg_plan::{ActFault, Command, Plan, take};
 use dg_volume::TakeFault;
 
-/// What is told of an image before any of its pages.
+/// What is known of an image before any of its pages.
 #[repr(C)]
 #[derive(Clone, Copy)]
 pub struct ProfileFields {

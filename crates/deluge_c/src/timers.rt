@@ -19,11 +19,11 @@ pub struct TimerFields {
     pub begin: u64,
     /// The size of the interval, 500 to 64,000 milliseconds.
     pub interval: u32,
-    /// How long after its beginning it fires.
+    /// How long after its beginning it fires, in milliseconds.
     pub fires_after: u32,
-    /// How often something equal was heard in it.
+    /// How many consistent transmissions were heard in it (RFC 6206).
     pub heard: u16,
-    /// It fired.
+    /// It has fired.
     pub fired: bool,
 }
 
@@ -42,7 +42,7 @@ pub extern "C" fn deluge_timer_start(timer: &mut TimerFields, now: u64, word: u3
     DONE
 }
 
-/// Notes that something equal was heard.
+/// Notes that a consistent transmission was heard (RFC 6206).
 #[unsafe(no_mangle)]
 pub extern "C" fn deluge_timer_same(timer: &mut TimerFields) -> u32
     ensures answer { result ≡ done }
@@ -52,7 +52,7 @@ pub extern "C" fn deluge_timer_same(timer: &mut TimerFields) -> u32
     DONE
 }
 
-/// Notes that something other was heard: the shortest interval begins, unless it runs.
+/// Notes that an inconsistent transmission was heard (RFC 6206): the shortest interval begins, unless it runs.
 #[unsafe(no_mangle)]
 pub extern "C" fn deluge_timer_other(timer: &mut TimerFields, now: u64, word: u32) -> u32
     ensures answer { (result ≡ done) ↔ RunsAt timer.old now }
@@ -69,8 +69,8 @@ pub extern "C" fn deluge_timer_other(timer: &mut TimerFields, now: u64, word: u3
     DONE
 }
 
-/// Looks at the clock, and tells what is due: 0 nothing, 1 send, 2 nothing is sent since enough was heard, 3 the next interval
-/// began.
+/// Looks at the clock, and answers what is due: 0 for nothing, 1 to send, 2 if nothing is sent since enough was heard, 3 if the
+/// next interval began.
 #[unsafe(no_mangle)]
 pub extern "C" fn deluge_timer_tick(
     timer: &mut TimerFields,
@@ -129,7 +129,7 @@ fn act_number(act: Act) -> u32
     }
 }
 
-/// Whether these are the fields of a timer that runs, at a moment that a clock may tell.
+/// Whether these are the fields of a timer that runs, at a moment that a clock may show.
 fn runs_at(timer: &TimerFields, now: u64) -> bool
     ensures { IsTrue result ↔ RunsAt timer.now now }
 {

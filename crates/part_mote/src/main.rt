@@ -53,7 +53,7 @@ fn complete_pages(chip: &mut Board, image: u8) -> Result<u8>
     Ok(kept.map_or(0, |kept| kept.done))
 }
 
-/// Lets the motes of two chips run, numbers 1 and 2, whose power comes at moment 0.
+/// Lets the motes of two chips run, numbers 1 and 2, which power on at moment 0.
 fn exchange(left: &mut Board, right: &mut Board) -> Result<()> {
     a_mote_stays_timely();
     let mut first = wake(left, 1)?;

@@ -9,7 +9,7 @@ use dg_mote::Outbox;
 use dg_node::{At, Node, TickFault, a_node_stays_timely};
 use dg_nor::Nor;
 
-/// The power of a chip comes at moment 0: it starts, and its mote, which is wide, is made.
+/// A chip powers on at moment 0: it starts, and its mote, which is wide, is made.
 pub fn wake<N: Nor>(chip: &mut N, id: u16) -> Result<Node>
     ensures { IfOk result (λ node. IsTimelyNode (N.device chip.new).image node 0) }
 {
@@ -24,7 +24,7 @@ pub fn wake<N: Nor>(chip: &mut N, id: u16) -> Result<Node>
     Ok(powered.node)
 }
 
-/// A mote hears what came, and does what is due. What it sends is handed out.
+/// A mote hears what came, and does what is due. What it sends is returned.
 pub fn turn<N: Nor>(
     node: &mut Node,
     chip: &mut N,

@@ -12,7 +12,7 @@ fn main(rt: HostRuntime) -> Result<()> {
     Volume::mount(&mut board)?.inject(&mut board, 1, 1, b"blink", b"123456789")?;
     Volume::mount(&mut board)?.order(&mut board, 1, 1, 1)?;
 
-    // The power goes in the tenth operation of the start, which copies a page.
+    // The power fails in the tenth operation of the start, which copies a page.
     let mut cut = Fused::new(&mut board, Some(10), &[0x00]);
     if let Err(fault) = start(&mut cut, Kind::Power) {
         println!(rt; "{fault}")?;

@@ -1,5 +1,5 @@
-//! A chip of one's own: bytes in memory that never stop. Over a real chip, `read`, `program` and `erase` are the commands
-//! of its data sheet, and each answers `Stopped` where the chip does not.
+//! A chip of one's own: bytes in memory that never stop. Over a real chip, `read`, `program` and `erase` are the commands of its
+//! data sheet, and each answers `Stopped` if the chip does not respond.
 ghost use Rattle.std.specs.Prelude.{◌≡◌, ◌+◌, ◌-◌, ◌*◌, ◌<◌, ◌≤◌, length, IfOk};
 ghost use Rattle.dg_words.specs.Cells.{overwritten, AreBytes};
 ghost use Rattle.dg_nor.specs.Sizes.{sector_size, chip_size};
@@ -8,7 +8,7 @@ ghost use Rattle.dg_nor.specs.Chip.{IsChip, programmed, blank, and_each};
 use dg_nor::{CHIP_SIZE, Nor, SECTOR_SIZE, Stopped};
 use std::alloc::{AllocError, Global};
 
-/// A byte that is erased.
+/// An erased byte.
 const ERASED: u8 = 0xFF;
 
 /// The bytes of the chip.

@@ -13,7 +13,7 @@ fn main(rt: HostRuntime) -> Result<()> {
     let mut volume = Volume::mount(&mut chip)?;
     volume.inject(&mut chip, 1, 1, b"blink", b"123456789")?;
 
-    // All of it stands on the chip: a mount after the power was gone finds it.
+    // All of it is on the chip: a mount after a loss of power finds it.
     let volume = Volume::mount(&mut chip)?;
     if let Some(kept) = volume.kept(1) {
         println!(rt;

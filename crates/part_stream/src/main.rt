@@ -1,4 +1,4 @@
-//! A store that is filled packet by packet as an image comes in: 23 bytes at a time are in memory.
+//! A store that is filled packet by packet as an image comes in, with 23 bytes at a time in memory.
 #![tactic(auto)]
 
 mod receiving;
@@ -14,7 +14,7 @@ fn main(rt: HostRuntime) -> Result<()> {
     let mut chip = Board::memory(rt.alloc())?;
     Volume::format(&mut chip, b"A", b"base", 0, FORM)?;
 
-    // A neighbour told the profile. What the slot kept before is given up.
+    // A neighbour sent the profile. What the slot kept before is discarded.
     let profile = announced();
     let mut volume = Volume::mount(&mut chip)?;
     let mut slot = volume.take(&mut chip, profile.image, &profile)?;
@@ -28,7 +28,7 @@ fn main(rt: HostRuntime) -> Result<()> {
     }
     volume.put_back(slot);
 
-    // All of it stands on the chip: a mount after the power was gone finds it.
+    // All of it is on the chip: a mount after a loss of power finds it.
     if let Some(kept) = Volume::mount(&mut chip)?.kept(1) {
         println!(rt;
             "version {}: {} of {} pages, CRC {:04x}",

@@ -9,7 +9,7 @@ use dg_object::PACKETS;
 use dg_slot::{OpenSlot, Sealing};
 
 /// Erases the sector of the next page, puts its packets as they come, and makes it complete where it fits. A slot of which all
-/// pages are complete is handed back.
+/// pages are complete is returned.
 pub fn receive_page<N: Nor>(chip: &mut N, slot: OpenSlot) -> Result<OpenSlot>
     ensures { IfOk result (λ o. outline_of_slot o ≡ outline_of_slot slot) }
 {

@@ -13,7 +13,7 @@ const IMAGE: u8 = 1;
 
 const VERSION: u32 = 1;
 
-/// What is told of the image before any page.
+/// What is known of the image before any page.
 pub fn announced() -> Profile
     ensures { result.image ≡ 1 }
 {

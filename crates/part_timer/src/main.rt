@@ -1,4 +1,4 @@
-//! A Trickle timer that is looked at each millisecond. Every random word is 0, so each interval fires at its half.
+//! A Trickle timer that is looked at each millisecond. Every random word is 0, so each interval fires at its middle.
 #![tactic(auto)]
 
 use anyhow::Result;
