@@ -1,4 +1,4 @@
--- The stores that a chip goes through while an image is received whose data pages are compared with a root (docs/COMMANDS.md,
+-- The stores that a chip goes through while it receives an image whose data pages are compared with a root (docs/COMMANDS.md,
 -- "Hash-chained images").
 use Rattle.std.specs.Prelude.{ℕ, ◌-◌, ◌==◌, if◌then◌else◌, List, [], drop, take, slice_index_or, Option, Some, None}
 use Rattle.dg_nor.specs.Trail.{Trail, last, joined, resting}

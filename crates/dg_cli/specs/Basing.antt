@@ -1,4 +1,4 @@
--- What the command did that runs a base mote over the first board (docs/COMMANDS.md, "Base").
+-- What the command that runs a base mote over the first board did (docs/COMMANDS.md, "Base").
 use Rattle.std.specs.Prelude.{◌≡◌, ◌⊎◌, ℕ, List, [], ◌∷◌, ◌++◌, codes}
 use Rattle.dg_words.specs.Counts.{Rose}
 use Rattle.dg_base.specs.Outside.{Puts, PutsPrefix}

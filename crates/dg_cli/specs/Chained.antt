@@ -1,4 +1,4 @@
--- What the command did that compares an image with a root (docs/COMMANDS.md, "Hash-chained images").
+-- What the command that compares an image with a root did (docs/COMMANDS.md, "Hash-chained images").
 use Rattle.std.specs.Prelude.{◌≡◌, ◌⊎◌, ℕ, ◌≤◌, List, [], length, drop, Option, Some, None}
 use Rattle.dg_base.specs.Hexadecimal.{hex_bytes}
 use Rattle.dg_base.specs.declared.answers.Status.{Status}

@@ -100,7 +100,7 @@ said_at verb.Drip rows = Drip
 said_at verb.Base rows = Base (number_at 16 (codes "id") rows) (number_at 32 (codes "step") rows)
     (number_at 32 (codes "seed") rows) (text_at (codes "FLASH") rows)
 
--- whether the texts of a command have their form: the name that it gives an image is one, and so is a root
+-- whether the texts of a command have their form: the name that it gives an image is valid, and so is a root
 abbrev pub is_well_formed : Said → Bool
 is_well_formed (Format name used form flash) = spells_name name
 is_well_formed (Inject image version name flash) = spells_name name

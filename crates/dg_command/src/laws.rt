@@ -84,8 +84,8 @@ pub fn misused_words()
     ensures file_of_a_script { asked_of (line (codes "drip f")) ≡ Misuses }
 {}
 
-/// Words are a command exactly where the first is a verb, that verb's command of `clap` takes them, a
-/// name for an image is one, and so is a root. Its values are those that `clap` reads.
+/// Words are a command exactly if the first is a verb, that verb's command of `clap` takes them, and the name of an image and the
+/// root, where they are given, are valid. Its values are those that `clap` reads.
 pub fn what_a_command_is()
     ensures verb { (words : List (List ℕ)) (said : Said) → verb_in words ≡ None → asked_of words ≢ Asks said }
     ensures taken { (words : List (List ℕ)) (said : Said) (verb : Verb) → verb_in words ≡ Some verb → asked_of words ≡ Asks said

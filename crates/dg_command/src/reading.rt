@@ -21,7 +21,7 @@ use std::mem::replace;
 pub fn asked(alloc: Global, words: &Vec<String>) -> Result<Asked, AllocError>
     ensures answer { IfOk result (λ a. asking a ≡ asked_of (map string_bytes words.now.items)) }
 
-    // A command's numbers are in their ranges, the name that it gives an image is one, and so is a root.
+    // A command's numbers are in their ranges, the name that it gives an image is valid, and so is a root.
     ensures fits { IfOk result (λ a. FitsRanges (asking a)) }
     ensures some { IfOk result HelpsBySome }
 {

@@ -1,10 +1,10 @@
-//! How a command ends that does not do what it was asked.
+//! How a command that does not do what it was asked ends.
 use crate::Refusal;
 use dg_ihex::HexFileFault;
 use dg_netcfg::ProfileFault;
 use dg_script::LineFault;
 
-/// How a command ends that does not do what it was asked.
+/// How a command that does not do what it was asked ends.
 #[derive(Clone, Copy, Debug, PartialEq, Eq)]
 pub enum End {
     /// Memory ran out.

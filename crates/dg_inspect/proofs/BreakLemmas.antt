@@ -29,7 +29,7 @@ use Rattle.dg_inspect.specs.declared.seen.Break.{Break}
 use Rattle.dg_inspect.specs.declared.seen.Condition.{Condition}
 use Rattle.dg_inspect.specs.declared.seen.Condition.TheVariants as condition
 
--- what a slot keeps whose header and descriptor fit
+-- what a slot whose header and descriptor fit keeps
 kept_by : (c : List ℕ) (i : ℕ) (x : SlotState) → HoldsHeader c i x → HoldsDescriptor c i x → (h : Option Held) × SlotKeeps c i x h
 kept_by c i Dirty header first = (None, record { state = refl; keeps = tt })
 kept_by c i (Live v) header first =

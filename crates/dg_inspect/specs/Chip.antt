@@ -1,4 +1,4 @@
--- What a chip shows that is only read (docs/COMMANDS.md, "Looking into chips").
+-- What a chip that is only read shows (docs/COMMANDS.md, "Looking into chips").
 use Rattle.std.specs.Prelude.{false, [], None}
 use Rattle.dg_nor.specs.Device.{Device}
 use Rattle.dg_inspect.specs.declared.chip.StillChip.{StillChip}

@@ -69,7 +69,7 @@ fn see_complete<N: Nor>(nor: &mut N, image: u8, kept: &Kept) -> Result<Option<Pa
     see_pages(nor, page_sector(image, 0), kept.done)
 }
 
-/// What an image shows of which this is kept.
+/// What an image of which this is kept shows.
 fn see_kept<N: Nor>(nor: &mut N, image: u8, kept: &Kept) -> Result<ImageSeen, Stopped>
     requires known_image { image < images }
     requires keeps { (h : Held) × KeepsImage (N.device nor.old).image image h × (kept.now ≡ told_held h) }

@@ -1,5 +1,5 @@
-//! What a chip shows that is only read: the image that each slot keeps, program memory, the order, what the next start
-//! would run, and why a chip is not a volume.
+//! What a chip that is only read shows: the image that each slot keeps, program memory, the order, what the next start would run,
+//! and why a chip is not a volume.
 //!
 //! Nothing here writes: a `StillChip` has no call that changes a byte, and every other function says of any device that it was
 //! only read.

@@ -98,7 +98,7 @@ pub struct NextStart {
     /// None where there is no image to start.
     pub runs: Option<ImageVersion>,
     pub reason: StartReason,
-    /// It waives an order first, whose image is not sound.
+    /// It first waives an order whose image is not sound.
     pub waives: bool,
 }
 

@@ -1,4 +1,4 @@
-//! Draws the axis, and how a report ended that did not end well.
+//! Draws the axis, and the end of a report that did not end well.
 ghost use Rattle.std.specs.Prelude.{◌≡◌, ◌++◌, ◌+◌, ◌*◌, ◌/◌, ◌^◌, ◌≤◌, ◌<◌, ℕ, OnOk};
 ghost use Rattle.dg_picture.specs.Layout.{each};
 ghost use Rattle.dg_picture.specs.Texts.{minutes_text, rest_text, moment_text};

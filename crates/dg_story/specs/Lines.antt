@@ -50,7 +50,7 @@ is_told (MoteOff mote) = true
 is_told (Kept mote image version count) = true
 is_told _ = false
 
--- what lines say that is drawn, in their order
+-- what is drawn of lines, in their order
 abbrev pub told_of : List Line → List Told
 told_of lines = filter (λ t. is_told t.report) (placed_from 1 lines)
 

@@ -46,7 +46,7 @@ pub fn begins_timed(bytes: &[u8]) -> bool
     bytes[0] == b'@'
 }
 
-/// Reads all lines of a report: what they say that is drawn, and the words of the last line of one that did not end well.
+/// Reads all lines of a report: what is drawn of them, and the words of the last line of one that did not end well.
 #[tactic(auto, using(crate::proofs::ReadLemmas::readings))]
 pub fn read_lines(alloc: Global, bytes: &[u8]) -> Result<(Story, &[u8]), LinesFault>
     ensures ok { IfOk result (λ r. IsRead bytes.now r.0.told.items r.0.last r.0.count r.1.now) }

@@ -1,4 +1,4 @@
-//! What lines say that is drawn, each at its place on the axis.
+//! What is drawn of lines, each at its place on the axis.
 ghost use Rattle.std.specs.Prelude.{◌≡◌, ◌++◌, ◌∷◌, [], if◌then◌else◌, OnOk};
 ghost use Rattle.dg_story.specs.Lines.{is_told, place_by};
 
@@ -15,7 +15,7 @@ pub struct Told {
     pub report: Report,
 }
 
-/// What the lines of a report say that is drawn.
+/// What is drawn of the lines of a report.
 #[derive(Drop)]
 pub struct Story {
     /// What they say, in their order.
