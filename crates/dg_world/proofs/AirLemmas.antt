@@ -1,4 +1,4 @@
--- A frame more that was sent.
+-- One more frame that was sent.
 use Rattle.std.proofs.Common.{◌≡◌, ◌⊎◌, ◌≢◌, ℕ, zero, suc, ◌<◌, ◌≤◌, Bool, true, false, cond, List, [], ◌∷◌, ◌++◌, length, map, get_or, set, refl, ap, sym, ◌∙◌, inl, inr, ⊎_elim, arith, eqb-true, eq-eqb}
 use Rattle.std.specs.Prelude.{◌-◌, ◌==◌, slice_get, Option, Some, None}
 use Rattle.std.proofs.Math.ListN.{length-set}
@@ -48,7 +48,7 @@ same_or k i = ⊎_elim (λ is. inl (eqb-true k i is)) (λ other. inr other) (boo
 pub by_other : (k i : ℕ) → (k == i) ≡ false → i ≢ k
 by_other k i e = λ h. both_ways (k == i) e (eq-eqb k i (sym h))
 
--- one mote's last frame, where a frame was appended that another sent, or that it sent itself
+-- one mote's last frame, after a frame was appended that this mote or another one sent
 module _ (old new : Air) (by n : ℕ) (before : List Sent) (s : Sent) (is_by : s.by ≡ by) (carries : Carries old before) (known : by < most_motes) (last : new.last ≡ set old.last by n) (longer : n ≡ suc (length before)) where
   place : by < length old.last
   place = omega (arith, known, carries.motes)

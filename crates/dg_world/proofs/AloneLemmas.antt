@@ -80,7 +80,7 @@ powers_with fault.Stopped a b p = record { ends = p.ends; endures = p.endures; c
 powers_with fault.NotAVolume a b p = record { ends = p.ends; endures = p.endures; count = p.count }
 powers_with fault.NoImage a b p = record { ends = p.ends; endures = p.endures; count = p.count }
 
--- a fault that is handed on
+-- a fault that is passed on
 pub powers_on : {S T : Type 0} (r : Result T Fault) (f : Fault) (a b : Device) → IsErrAnd r (λ e. e ≡ f) → Powers {T = S} (Err f) a b → Powers r a b
 powers_on (Ok x) f a b is p = absurd is
 powers_on {S} {T} (Err e) f a b is p = subst (λ (y : Fault). Powers {T = T} (Err y) a b) (sym is) (powers_with f a b p)

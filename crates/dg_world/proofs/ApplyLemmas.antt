@@ -1,4 +1,4 @@
--- What a step answers that is not begun, and one that is.
+-- What a step answers if it is not begun, and if it is.
 use Rattle.std.proofs.Common.{◌≡◌, ℕ, ◌<◌, ◌≤◌, Bool, true, List, length, refl, subst, ⊎_elim, arith}
 use Rattle.std.specs.Prelude.{Result, Some, Ok, Err, OnOk, OnErr, slice_get}
 use Rattle.dg_nor.specs.Device.{Device}
@@ -25,12 +25,12 @@ use Rattle.dg_world.proofs.KnownLemmas.{same_takes}
 use Rattle.dg_world.proofs.PlaceLemmas.{ApplyEnds, reserved}
 use Rattle.dg_world.proofs.SoundLemmas.{same_count, applied_consistent, flash_consistent}
 
--- another fault
+-- equal errors hold equal faults
 other : {A : Type 0} (e f : WorldFault) → ◌≡◌ {A = Result (Unit {0}) WorldFault} (Err e) (Err f) → (e ≡ f → A) → A
 other e f same go = go (let g : e ≡ f = cc in g)
 
--- What a step that was begun made of a, which is b then: there is room for all that it needs, so that it is not refused for want
--- of memory, nor for want of events.
+-- What a step that was begun made of a, which is b afterwards. There is room for all that it needs, so that it is refused
+-- neither for lack of memory nor for lack of events.
 pub record ApplyMade (r : Result (Unit {0}) WorldFault) (x : Step) (reported : Bool) (a b : Deployment) : Type 0 where
   pub ends : (w : RuleWorld) → IsOf a w → StepInRange (length w.sites) x → ApplyEnds r w x reported a b
   pub known : OnOk r ((w : RuleWorld) → IsOf a w → StepInRange (length w.sites) x → KnowsThen w x.event a.world b.world b.boards)
@@ -42,7 +42,7 @@ pub record ApplyMade (r : Result (Unit {0}) WorldFault) (x : Step) (reported : B
   pub unseen : (w : RuleWorld) → IsOf a w → StepInRange (length w.sites) x → RefusesUnseen (does w x.event)
       → (b.boards ≡ a.boards) × OnErr r ⊥
 
--- A world that has made all its events makes no more.
+-- A world that has applied all its events applies no more.
 pub full_done : (x : Step) (reported : Bool) (a : Deployment) → most_events ≤ a.world.events → ApplyDone (Err TooMany) x reported a a
 full_done x reported a most =
     record {
@@ -63,7 +63,7 @@ full_done x reported a most =
       stops_consistent = λ golden board e. absurd (other TooMany (Flash board) e (λ f. cc));
     }
 
--- Where there is no memory, nothing is done.
+-- Out of memory: nothing is done.
 pub lacking_done : (x : Step) (reported : Bool) (a b : Deployment) → a.world.events < most_events → b.boards ≡ a.boards → b.reported ≡ a.reported → ((w : RuleWorld) → IsOf a w → IsOf b w)
     → ((m : ℕ) → known_of b.world m ≡ known_of a.world m) → ApplyDone (Err Memory) x reported a b
 lacking_done x reported a b few boards told kept known =
@@ -85,12 +85,12 @@ lacking_done x reported a b few boards told kept known =
       stops_consistent = λ golden board e. absurd (other Memory (Flash board) e (λ f. cc));
     }
 
--- One that was begun is done as its events and boards say.
+-- A step that was begun does what its event and its board specify.
 module _ (x : Step) (reported : Bool) (a b : Deployment) (air : Air) (z : RuleWorld) (is : IsOf a z) (fits : StepInRange (length z.sites) x) (few : a.world.events < most_events)
     (carries : (sent : List Sent) → Carries a.world.shared.air sent → Carries air sent)
     (stepped : (golden : Row) (y v : RuleWorld) (reports : List Report) → WorldConsistent golden y → StepInRange (length y.sites) x → WorldStep y x v reports → WorldConsistent golden v)
     (stopped : (golden : Row) (y : RuleWorld) → WorldConsistent golden y → EventInRange (length y.sites) x.event → StopsConsistent golden y x.event) where
-  -- with room for a frame
+  -- with capacity for a frame
   abbrev Roomy : Deployment
   Roomy = record a { world = record a.world { shared = record a.world.shared { air = air } } }
 

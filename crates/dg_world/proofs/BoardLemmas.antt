@@ -4,7 +4,7 @@ use Rattle.std.specs.Prelude.{Some, None, slice_get, slice_set}
 use Rattle.std.proofs.lemmas.List.{length-map}
 use Rattle.dg_nor.specs.Device.{Device}
 
--- what the board was, and what it is
+-- the board before and after
 pub record Used (i : ℕ) (old new : List Device) (d e : Device) : Type 0 where
   pub before : slice_get old i ≡ Some d
   pub after : new ≡ slice_set old i e
@@ -34,7 +34,7 @@ get_other (x ∷ xs) zero (suc m) e other = refl
 get_other (x ∷ xs) (suc i) zero e other = refl
 get_other (x ∷ xs) (suc i) (suc m) e other = get_other xs i m e (λ h. other (ap suc h))
 
--- the same, where the index is reached by another number
+-- the same, for an index that equals this one
 pub used_there : {N : Type 0} (f : N → Device) (items : List N) (i j : ℕ) (x y : N) → j ≡ i → j < length items → Used i (map f items) (map f (set items j y)) (f (get_or items j x)) (f y)
 used_there f items i j x y same within =
     subst (λ (k : ℕ). Used k (map f items) (map f (set items j y)) (f (get_or items j x)) (f y)) same (used_at f items j x y within)

@@ -30,7 +30,7 @@ single : {A : Type 0} (o : Option A) → cons_option o [] ≡ option_to_list o
 single None = refl
 single (Some x) = refl
 
--- one image more
+-- one more image
 pub haves_more : (m : ℕ) (a b : ChipReport) (n : ℕ) → have_lines m a b (n + 1) ≡ have_lines m a b n ++ option_to_list (have_line m n (slice_index_or a.kept n None) (slice_index_or b.kept n None))
 haves_more m a b n =
     let f : ℕ → Option Report = λ i. have_line m i (slice_index_or a.kept i None) (slice_index_or b.kept i None) in
@@ -38,7 +38,7 @@ haves_more m a b n =
     ap (filter_map f) (range_more 0 n) ∙ filter_map-append f (range_with_len 0 n) ((0 + n) ∷ [])
     ∙ ap (λ (xs : List Report). filter_map f (range_with_len 0 n) ++ xs) (single (f (0 + n)) ∙ ap (λ (k : ℕ). option_to_list (f k)) e)
 
--- ---- what a volume tells is the store's
+-- ---- what a volume reports is the store's
 
 have_told : (m i : ℕ) (a b : Option Held) → have_line m i (told a) (told b) ≡ have_change m i a b
 have_told m i None None = refl
@@ -94,12 +94,12 @@ changes_same m s t same =
     ∙ ap (λ (xs : List Report). xs ++ f s.kept) (order_same m s.order)
     ∙ none_over (λ i. have_change m i (held s i) (held s i)) 0 images (λ i. have_same m i (held s i))
 
--- ---- lists to which is appended
+-- ---- lists that are appended to
 
 pub told_then : {A : Type 0} (start mid end a b c : List A) → mid ≡ start ++ a → end ≡ mid ++ b → a ++ b ≡ c → end ≡ start ++ c
 told_then {A} start mid end a b c e f g = f ∙ ap (λ (l : List A). l ++ b) e ∙ append_assoc start a b ∙ ap (λ (l : List A). start ++ l) g
 
--- ---- lines that are told
+-- ---- lines that are reported
 
 reported_always : (r : Report) → is_reported true r ≡ true
 reported_always (OrderLine m n i v) = refl
@@ -117,12 +117,12 @@ reported_always (MoteOn m i v) = refl
 reported_always (MoteOff m) = refl
 reported_always (KeptLine m i v n) = refl
 
--- where `sent` lines are wanted every line is told
+-- where `sent` lines are wanted every line is reported
 pub all_reported : (xs : List Report) → filter (is_reported true) xs ≡ xs
 all_reported [] = refl
 all_reported (x ∷ xs) = ap (λ (b : Bool). cond b (x ∷ filter (is_reported true) xs) (filter (is_reported true) xs)) (reported_always x) ∙ ap (λ (l : List Report). x ∷ l) (all_reported xs)
 
--- a line that is told whether or not `sent` lines are
+-- a line that is reported whether or not `sent` lines are
 abbrev Always : Option Report → Type 0
 Always None = Unit {0}
 Always (Some r) = (reported : Bool) → is_reported reported r ≡ true
@@ -161,13 +161,13 @@ held_always m i (Some a) (Some b) = unless_always _ m i b.version (length b.comp
 both_told : (reported : Bool) (xs ys : List Report) → filter (is_reported reported) xs ≡ xs → filter (is_reported reported) ys ≡ ys → filter (is_reported reported) (xs ++ ys) ≡ xs ++ ys
 both_told reported xs ys e f = filter-append (is_reported reported) xs ys ∙ ap (λ (l : List Report). l ++ filter (is_reported reported) ys) e ∙ ap (λ (l : List Report). xs ++ l) f
 
--- what changed is always told
+-- what changed is always reported
 pub changes_reported : (reported : Bool) (m : ℕ) (a b : ChipReport) → filter (is_reported reported) (change_lines m a b) ≡ change_lines m a b
 changes_reported reported m a b =
     both_told reported (order_change m a.order b.order) (have_lines m a b images) (order_told reported m a.order b.order)
     (over_told reported (λ i. have_line m i (slice_index_or a.kept i None) (slice_index_or b.kept i None)) 0 images (λ i. have_always m i (slice_index_or a.kept i None) (slice_index_or b.kept i None)))
 
--- and that the power was cut
+-- so is the loss of power
 pub cut_told : (reported : Bool) (m : ℕ) (s t : Store) → filter (is_reported reported) (changes m s t ++ Off m ∷ []) ≡ changes m s t ++ Off m ∷ []
 cut_told reported m s t =
     both_told reported (changes m s t) (Off m ∷ [])

@@ -1,4 +1,4 @@
--- Boards whose counts of faults stay.
+-- Boards whose fault counts do not change.
 use Rattle.std.proofs.Common.{◌≡◌, ◌<◌, List, length, get_or, ap, sym, ◌∙◌, arith}
 use Rattle.std.proofs.lemmas.Option.{slice_get-get_or, slice_get_within}
 use Rattle.dg_nor.specs.Device.{Device}

@@ -39,7 +39,7 @@ uncut (Err (Stopped before)) w m does v u a b x = record { ends = record { stopp
 uncut (Err NoImage) w m does v u a b x = record { ends = record { deed = x.deed; goes = x.goes; none = x.none; whole = refl; stands = x.stands }; endures = Endures_ran x.ran; count = x.ran.faults }
 uncut (Err NotAVolume) w m does v u a b x = absurd x
 
--- a halt without a cut is told as it is
+-- a halt without a cut is reported unchanged
 pub halted : (h : Halt) → ended false (Err h) ≡ Err h
 halted (Stopped before) = refl
 halted NotAVolume = refl
@@ -85,7 +85,7 @@ fused_whole cut w m does u a b x y outcome f g = record {
   tells = subst (ReportsEffect w m g.deed outcome u) f.image_then g.tells;
 }
 
--- a refused event makes no operation, so that no cut blows in it
+-- a refused event makes no operation, so that no cut fires in it
 blown_deed : (cut : PowerCut) (w : RuleWorld) (m : ℕ) (does : Does) (a b x y : Device) (before : Option ChipReport) → IsFused cut a b x y → y.blown ≡ true → EventStopped does (store_at w m) x y before → EventIsCut w m does (Some cut) b.image before
 blown_deed cut w m (Refuses why) a b x y before f blown s =
     let h = left_blown (cut.after - 1) s.stops f.whole blown f.left in
@@ -100,7 +100,7 @@ blown_deed cut w m (Goes d) a b x y before f blown s =
       is_report = s.is_report f.whole blown;
     }
 
--- no more is made than is left
+-- no more operations are made than are left
 made_within : (n k : ℕ) (o : Option ℕ) → Some k ≡ more n o → n ≤ k
 made_within n k None h = cc
 made_within n k (Some m) h = let e : k ≡ m + n = same_Some k (m + n) h in omega (arith, e)

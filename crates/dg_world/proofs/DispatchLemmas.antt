@@ -117,7 +117,7 @@ none_told o result b told is = ap not told ∙ twice result ∙ is
 
 -- ---- images that a narrow mote does not know
 
--- what it knows is done, and all else refused
+-- what it knows is done, and all else is refused
 pub known_ends : (D : Does) (r : Result EventOutcome Halt) (w : RuleWorld) (m : ℕ) (v u : Option Node) (a b : Device) (x known : Bool) → x ≡ known → known ≡ true → OutcomeEnds r w m D (host a v) (host b u)
     → OutcomeEnds r w m (if x then D else Refuses cause.Image) (host a v) (host b u)
 known_ends D r w m v u a b x known same is ends = subst (λ (y : Bool). OutcomeEnds r w m (if y then D else Refuses cause.Image) (host a v) (host b u)) (sym (same ∙ is)) ends

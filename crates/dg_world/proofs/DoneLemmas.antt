@@ -68,7 +68,7 @@ set_here xs i d h = sym (set-get_or xs i d)
 
 -- ---- what is sent
 
--- but for what was sent the world is the same
+-- except for what was sent the world is the same
 record SameBut (v w : RuleWorld) : Type 0 where
   moment : v.moment ≡ w.moment
   events : v.events ≡ w.events
@@ -81,7 +81,7 @@ same_but : (w : RuleWorld) (m : ℕ) (message : Option Message) → SameBut (and
 same_but w m None = record { moment = refl; events = refl; declared = refl; links = refl; narrow = refl; sites = refl }
 same_but w m (Some message) = record { moment = refl; events = refl; declared = refl; links = refl; narrow = refl; sites = refl }
 
--- a frame and a message that spells it
+-- a frame and the message that it encodes
 sent_with : (w : RuleWorld) (m : ℕ) (frame : Option (List ℕ)) (message : Option Message) → frame ≡ option_map frame_of message → (and_sent w m message).sent ≡ w.sent ++ sent_now m frame
 sent_with w m None None e = sym (append-nil w.sent)
 sent_with w m (Some frame) None e = absurd cc
@@ -184,7 +184,7 @@ step_outcome w x reported v u frame (Sends f) a b start end known stands p sends
 step_outcome w x reported v u frame (Changes k l) a b start end known stands p sends told = record { ends = whole_done w x reported u frame (Changes k l) b start end p.ends sends told; endures = p.endures; count = p.count }
 step_outcome w x reported v u frame (Starts k) a b start end known stands p sends told = record { ends = whole_done w x reported u frame (Starts k) b start end p.ends sends told; endures = p.endures; count = p.count }
 
--- the operations before a cut that blows are some of the event's
+-- the operations before a cut that fires are some of the event's
 blown_within : (cut : Option PowerCut) (t : Trail Store) → blows cut t ≡ true → before_cut cut ≤ operations t
 blown_within None t blown = absurd (true_false (sym blown))
 blown_within (Some c) t blown = within_by c.after (operations t) blown

@@ -60,7 +60,7 @@ board_stops motes board initial old new before after known all was is stopped la
       cause = caused_through (beneath_of (get_or initial board before)) (beneath_of before) (beneath_of after) (all.endures board _ before (there old initial board before (sym all.count) was) was) later cause;
     }
 
--- ---- behind a step
+-- ---- after a step
 
 pub event_within : (n : ℕ) (event : Event) → EventInRange n event → mote_of event < n
 event_within n (Tick mote dt word) h = h
@@ -89,7 +89,7 @@ stands_next u z v2 mote initial old new within count kept one calm b =
           one.others m (other_than m mote (length u.sites) within far) ∙ b.others m far;
     }
 
--- ---- behind a reading
+-- ---- after a read
 
 -- boards that were only read stand for the same stores
 pub chips_read : (w : World) (initial old new : List Device) → SameBoards old new → WorldStands w initial old → (m : ℕ) (d : Device) → m < length w.sites → slice_get new m ≡ Some d → Stands d.image (store_at w m)

@@ -51,14 +51,14 @@ single : {A : Type 0} (o : Option A) → cons_option o [] ≡ option_to_list o
 single None = refl
 single (Some x) = refl
 
--- one image more
+-- one more image
 pub keeps_more : (m : ℕ) (x : ChipReport) (n : ℕ) → kept_reports m x (n + 1) ≡ kept_reports m x n ++ option_to_list (kept_report m (1 + n) (slice_index_or x.kept (1 + n) None))
 keeps_more m x n =
     let f : ℕ → Option Report = λ i. kept_report m i (slice_index_or x.kept i None) in
     ap (filter_map f) (range_more 1 n) ∙ filter_map-append f (range_with_len 1 n) ((1 + n) ∷ [])
     ∙ ap (λ (xs : List Report). filter_map f (range_with_len 1 n) ++ xs) (single (f (1 + n)))
 
--- the same, where the image's number is told
+-- the same, where the image's number is given
 pub keeps_with : (m : ℕ) (x : ChipReport) (i : ℕ) → 1 ≤ i → kept_reports m x ((i + 1) - 1) ≡ kept_reports m x (i - 1) ++ option_to_list (kept_report m i (slice_index_or x.kept i None))
 keeps_with m x i some =
     let e : (i + 1) - 1 ≡ (i - 1) + 1 = omega (arith, some) in
@@ -112,7 +112,7 @@ pub read_flash : (n : ℕ) (old now new : List Device) (d e : Device) → ReadTo
 read_flash n old now new d e to used stopped =
     record { before = d; after = e; was = unused n old now new d e to.first used; is = is_now n now new d e used; stopped = stopped.halts.stopped; cause = stopped.halts.cause }
 
--- what boards that were only read stand for is as before
+-- what boards that were only read stand for is unchanged
 pub still_world : (v : World) (w : RuleWorld) (old new : List Device) → SameBoards old new → IsWorld v old w → IsWorld v new w
 still_world v w old new same is =
     record {
@@ -143,7 +143,7 @@ still_world v w old new same is =
           subst (λ (c : List ℕ). IsOrderlyChip c) image (is.orderly m a known was is_known);
     }
 
--- the board that is read next is as before, and stands for its site
+-- the board that is read next is unchanged, and stands for its site
 pub next_site : (v : World) (w : RuleWorld) (n : ℕ) (old now : List Device) (d : Device) (runs : Option Node) → IsWorld v old w → ReadTo n old now → slice_get now n ≡ Some d → n < length v.motes.items
     → runs ≡ slice_index_or v.motes.items n None → SiteStands d runs (site w n)
 next_site v w n old now d runs is to here within at =
@@ -158,11 +158,11 @@ flash_of board e old new is stops =
     let same : record { board = board } ≡ e = same_err _ _ is in
     subst (λ (x : BoardStopped). ReadFlash x.board old new) same stops
 
--- what stands at an index, whatever is answered past the end
+-- the item at an index, whatever the default past the end
 pub read_at : (motes : List (Option Node)) (n : ℕ) (x : Option Node) → n < length motes → x ≡ get_or motes n x → x ≡ slice_index_or motes n None
 read_at motes n x within at = at ∙ sym (get_or_from_slice_get motes n (get_or motes n x) None (slice_get-get_or motes n x within))
 
--- the board of a mote is there
+-- a mote has a board
 pub boards_there : {N : Type 0} (f : N → Device) (old now : List N) (v : World) (w : RuleWorld) (n : ℕ) → length now ≡ length old → IsWorld v (map f old) w → n < length v.motes.items → n < length now
 boards_there f old now v w n same is within = omega (arith, within, same, is.motes, is.boards_enough, length-map old f)
 

@@ -20,7 +20,7 @@ use Rattle.dg_world.proofs.BoardLemmas.{Used, same_some, get_same, get_other}
 pub same_err : {E : Type 0} (a b : E) → (let x : Result (Unit {0}) E = Err a in x ≡ Err b) → a ≡ b
 same_err a b e = cc
 
--- the first n boards stand for the store, in today's form, and were not stopped
+-- the first n boards stand for the store, in the current form, and were not stopped
 pub record FormattedTo (n : ℕ) (s : Store) (old new : List Device) : Type 0 where
   pub boards : FirstBoards n old new
   pub formatted : (m : ℕ) (d : Device) → m < n → slice_get new m ≡ Some d → Stands d.image s
@@ -49,7 +49,7 @@ endures_more n m old now new d e a b first used kept here there =
       | inr other ↦ first.endures m a b here (sym (differs_from_kept n m now new d e used other) ∙ there)
     ]
 
--- no count rose before, nor does that of the board that is used next
+-- no count rose before, and the count of the board that is used next does not rise either
 pub calm_more : (n : ℕ) (old now new : List Device) (d e : Device) → FirstBoards n old now → Used n now new d e → NoneRose old now → e.faults ≡ d.faults → NoneRose old new
 calm_more n old now new d e first used calm stays = λ m a b here there.
     elim (cases_eq m n) [
@@ -60,7 +60,7 @@ calm_more n old now new d e first used calm stays = λ m a b here there.
       | inr other ↦ calm m a b here (sym (differs_from_kept n m now new d e used other) ∙ there)
     ]
 
--- one board more was used
+-- one more board was used
 pub first_more : (n : ℕ) (old now new : List Device) (d e : Device) → FirstBoards n old now → Used n now new d e → Endures (beneath_of d) (beneath_of e) → FirstBoards (n + 1) old new
 first_more n old now new d e first used kept =
     record {
@@ -73,7 +73,7 @@ first_more n old now new d e first used kept =
 pub first_within : (n k : ℕ) (old new : List Device) → FirstBoards n old new → n ≤ k → FirstBoards k old new
 first_within n k old new first within = record { count = first.count; others = λ m h. first.others m (omega (arith, h, within)); counts = first.counts; endures = first.endures }
 
--- one board more was formatted
+-- one more board was formatted
 pub formatted_more : (n : ℕ) (s : Store) (old now new : List Device) (d e : Device) → FormattedTo n s old now → Used n now new d e → Endures (beneath_of d) (beneath_of e) → d.stopped ≡ false → e.faults ≡ d.faults → Stands e.image s → HasForm e.image new_form
     → FormattedTo (n + 1) s old new
 formatted_more n s old now new d e to used kept awake stays stands form =
@@ -115,7 +115,7 @@ board_of board e motes chip old new is stops =
     let same : record { board = board } ≡ e = same_err _ _ is in
     subst (λ (x : FormatStopped). FormatStops x.board motes chip old new) same stops
 
--- what is said of a board that ran, or that stopped
+-- what holds of a board that ran, or that stopped
 pub ran_endures : {n : ℕ} (a b : Device) → Ran n a b → Endures (beneath_of a) (beneath_of b)
 ran_endures a b r = Endures_ran r
 

@@ -1,4 +1,4 @@
--- What the images that were declared tell of a world's rows.
+-- What the images that were declared say of a world's rows.
 use Rattle.std.proofs.Common.{◌≡◌, Bool, true, false, cond, List, [], ◌∷◌, ◌++◌, refl, ap, sym, ◌∙◌, arith, eqb-true, Ordering}
 use Rattle.std.specs.Prelude.{ℕ, not, ◌==◌, ◌&&◌, Option, Some, None, option_map}
 use Rattle.std.specs.Map.{lookup}
@@ -24,7 +24,7 @@ same_found : (q : ImageVersion) (es : List (ImageVersion × Image)) → lookup (
 same_found q [] = refl
 same_found q (e ∷ es) = ap (λ (b : Bool). cond b (Some e.1) (lookup (is_at (image_version_cmp q)) es)) (same_test q e.0) ∙ ap (λ (r : Option Image). cond (is_image_version q e.0) (Some e.1) r) (same_found q es)
 
--- what is found where a row stands behind the others
+-- what is found where a row comes after the others
 behind : Option Row → Bool → Row → Option Row
 behind None b row = cond b (Some row) None
 behind (Some kept) b row = Some kept
@@ -44,7 +44,7 @@ unfolding behind
 behind_other None row = refl
 behind_other (Some kept) row = refl
 
--- what is found of an image version where an image was added whose version was not there
+-- what is found of an image version, after an image was added whose version was not there
 put_at : (b : Bool) (image_version q : ImageVersion) (image : Image) (r : Option Image) (s : Option Row) → option_map (row_of_image q) r ≡ s → (b ≡ true → s ≡ None) → (b ≡ true → q ≡ image_version)
     → option_map (row_of_image q) (cond b (Some image) r) ≡ behind s b (row_of_image image_version image)
 unfolding behind
@@ -67,7 +67,7 @@ same_image_version_is k i v is =
     let P : ℕ → ℕ → ImageVersion = λ a b. record { image = a; version = b } in
     ap (λ (a : ℕ). P a v) e ∙ ap (P k.image) f
 
--- an image that is added is declared behind the others
+-- an image that is added is declared after the others
 pub added : (old new : Images) (image_version : ImageVersion) (image : Image) (rows : List Row)
     → ((q : ImageVersion) → get image_version_cmp new.by_image_version q ≡ cond (is_at (image_version_cmp image_version) q) (Some image) (get image_version_cmp old.by_image_version q))
     → found old image_version ≡ None → Declares old rows → Declares new (rows ++ row_of_image image_version image ∷ [])
@@ -92,11 +92,11 @@ unknown_row images rows image_version declares none = sym (declares.each image_v
 pub known_row : (images : Images) (rows : List Row) (image_version : ImageVersion) (image : Image) → Declares images rows → Some image ≡ found images image_version → row_at rows image_version.image image_version.version ≡ Some (row_of_image image_version image)
 known_row images rows image_version image declares here = sym (declares.each image_version.image image_version.version) ∙ ap (option_map (row_of_image image_version)) (sym here)
 
--- images of which none is declared
+-- images without a declaration
 pub declares_none : (images : Images) → NothingDeclared images → Declares images []
 declares_none images none = record { each = λ i v. let q : ImageVersion = record { image = i; version = v } in ap (option_map (row_of_image q)) (none q) }
 
--- whether a row is taken where its image version was declared
+-- whether a row is taken if its image version was declared
 pub taken_by : (images : Images) (rows : List Row) (image_version : ImageVersion) (kept : Image) (row : Row) → Declares images rows → Some kept ≡ found images image_version
     → is_taken (row_at rows image_version.image image_version.version) row ≡ not (same_row (row_of_image image_version kept) row)
 taken_by images rows image_version kept row declares here = ap (λ o. is_taken o row) (known_row images rows image_version kept declares here)

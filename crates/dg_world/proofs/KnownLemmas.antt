@@ -1,4 +1,4 @@
--- What an event sees of the order of its chip, and what it reads.
+-- Whether an event sees that its chip is orderly, and what it reads.
 use Rattle.std.proofs.Common.{◌≡◌, ◌⊎◌, ℕ, ◌+◌, ◌*◌, ◌≤◌, ◌||◌, Bool, true, false, List, refl, sym, ap, ◌∙◌, subst, inl, inr, ⊎_elim, arith}
 use Rattle.std.specs.Prelude.{Option, Some, None, Result, Ok, Err, OnOk, OnErr, IfSome, ◌↔◌, is_none}
 use Rattle.dg_nor.specs.Device.{Device, Took, RisesAtMost}
@@ -36,14 +36,14 @@ use Rattle.dg_node.specs.declared.node.Node.{Node}
 use Rattle.dg_world.specs.declared.outcome.Fault.{Fault}
 use Rattle.dg_world.specs.declared.outcome.Fault.TheVariants as fault
 
--- ---- the order of a chip that was only read
+-- ---- whether a chip that was only read is orderly
 
 -- ---- what was read
 
 took_within : (n k : ℕ) (a b : Device) → n ≤ k → Took n a b → Took k a b
 took_within n k a b l h = Took-more l h
 
--- a board that was mounted and no more
+-- a board that was only mounted
 pub mount_reads : (known : Bool) (a m : Device) → ((c : List ℕ) (p q : ℕ) → RemountBytes c p → RemountBytes c q → p ≡ q) → (known ≡ true → (n : ℕ) → RemountBytes a.image n → Took n a m) → m.image ≡ a.image → OrderReads known a m
 mount_reads known a m one took image = record {
   took = took;
@@ -100,7 +100,7 @@ module _ (w : RuleWorld) (known : Bool) (u : Option Node) (c d : List ℕ) where
   step_sees (Inject m image version dt word) t x refused = inject_sees m image version dt word t.orderly (outcome_of t) x refused
   step_sees (OrderEvent m number image version dt word) t x refused = order_sees m number image version dt word t.orderly (outcome_of t) x refused
 
-  -- behind a cut that fired: the board was looked at, or was neither known nor made so
+  -- after a cut that fired: the board was looked at, or was neither known nor made known
   pub cut_sees : (e : Event) (o : Option Bool) → SeesCut w e known o d → StepSees w e known o u c d
   cut_sees e (Some o) x = x
   cut_sees e None x = λ off. (λ is. absurd (x.0 is), x.1)
@@ -203,12 +203,12 @@ stays_by fault.Stopped false before outcome e = cc
 stays_by fault.NotAVolume b before outcome e = cc
 stays_by fault.NoImage b before outcome e = cc
 
--- where the power stays on, the event was done
+-- if power stays on, the event was done
 pub stays_done : (r : Result Power Fault) (done : Result (Unit {0}) Fault) (b : Bool) (t : Outcome) → ended_as r t ≡ ended b (as_outcome done t) → r ≡ Ok power.Stays → OnErr done ⊥
 stays_done r (Ok y) b t e is = tt
 stays_done r (Err f) b t e is = stays_by f b t.before (outcome_of t) (sym (ap (λ (q : Result Power Fault). ended_as q t) is) ∙ e)
 
--- ---- what is known then
+-- ---- what is known afterwards
 
 watches : (known makes : Bool) → ((known || makes) ≡ true) ↔ ((known ≡ true) ⊎ (makes ≡ true))
 watches true makes = (λ is. inl refl, λ x. refl)

@@ -1,4 +1,4 @@
--- Which events make a board known, and the set of those that are.
+-- Which events make a board known, and the set of known boards.
 use Rattle.std.proofs.Common.{◌≡◌, ℕ, ◌+◌, ◌<◌, eqb, Bool, true, false, List, replicate, refl, sym, ap, ◌∙◌, subst, arith}
 use Rattle.std.specs.Prelude.{Option, Some, None, ◌↔◌, if◌then◌else◌, ◌==◌, slice_index_or}
 use Rattle.dg_object.specs.Object.{Row}

@@ -23,7 +23,7 @@ pub record AreMounted (n : ℕ) (old new : List Device) : Type 0 where
   pub awake : (m : ℕ) (d : Device) → m < n → slice_get old m ≡ Some d → d.stopped ≡ false
   pub calm : NoneRose old new
 
--- one board more was mounted
+-- one more board was mounted
 pub mounted_more : (n : ℕ) (old now new : List Device) (d e : Device) → AreMounted n old now → Used n now new d e → Endures (beneath_of d) (beneath_of e) → e.image ≡ d.image → d.stopped ≡ false → e.faults ≡ d.faults
     → IsVolume e.image → AreMounted (n + 1) old new
 mounted_more n old now new d e to used kept same awake stays volume =

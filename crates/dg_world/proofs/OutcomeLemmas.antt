@@ -56,7 +56,7 @@ changes_of t a b sent refused started before after =
     ∙ ap (λ (x : Option ChipReport). outcome_by (sent_in t.outbox) t.refused t.started (Some a) x) after
     ∙ is_changed (sent_in t.outbox) t.refused t.started a b sent refused started
 
--- ---- nothing is told
+-- ---- nothing is reported
 
 pub untold_none : (why : Option Cause) (a b : Option ChipReport) (x : Option StartedImage) (o : Option Bool) → is_untold why a b x o ≡ true → (why ≡ None) × (a ≡ None) × (b ≡ None) × (x ≡ None) × (o ≡ None)
 untold_none None None None None None e = (refl, refl, refl, refl, refl)
@@ -92,7 +92,7 @@ module _ (w : RuleWorld) (m : ℕ) (does : Does) (v u : Option Node) (a b : Devi
   pub halts_as : (f : Fault) (p q : Option ChipReport) → p ≡ q → OutcomeEnds (Err (halt_of f q)) w m does (host a v) (host b u) → OutcomeEnds (Err (halt_of f p)) w m does (host a v) (host b u)
   halts_as f p q e ends = subst (λ (x : Option ChipReport). OutcomeEnds (Err (halt_of f x)) w m does (host a v) (host b u)) (sym e) ends
 
-  -- a fault that is handed on
+  -- a fault that is passed on
   pub as_outcome_err : {T : Type 0} (r : Result T Fault) (f : Fault) (t : Outcome) (before : Option ChipReport) → IsErrAnd r (λ e. e ≡ f) → t.before ≡ before → OutcomeEnds (Err (halt_of f before)) w m does (host a v) (host b u) → OutcomeEnds (as_outcome r t) w m does (host a v) (host b u)
   as_outcome_err (Ok x) f t before is none ends = absurd is
   as_outcome_err (Err e) f t before is none ends =

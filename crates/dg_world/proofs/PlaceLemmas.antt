@@ -96,7 +96,7 @@ one_board bs i a b known here kept =
       endures = all;
     }
 
--- where the count of that board stays, no board's count rose
+-- where the count of that board does not change, no board's count rose
 pub calm_board : (bs : List Device) (i : ℕ) (a b : Device) → i < length bs → slice_get bs i ≡ Some a → b.faults ≡ a.faults → NoneRose bs (set bs i b)
 calm_board bs i a b known here kept = λ k p q old new.
     ⊎_elim
@@ -107,7 +107,7 @@ calm_board bs i a b known here kept = λ k p q old new.
     (λ other. ap (λ (d : Device). d.faults) (same_of (slice_get bs k) q p (sym (get_set_other bs i k b other) ∙ new) old))
     (is_or k i)
 
--- ---- the world then
+-- ---- the world afterwards
 
 -- the code's world after a step
 pub record Moves (v u : World) (i : ℕ) (moment : ℕ) (runs : Option Node) (frame : Option (List ℕ)) : Type 0 where
@@ -119,7 +119,7 @@ pub record Moves (v u : World) (i : ℕ) (moment : ℕ) (runs : Option Node) (fr
   pub sends : (before : List Sent) → Carries v.shared.air before → Carries u.shared.air (before ++ sent_now i frame)
   pub motes : u.motes.items ≡ set v.motes.items i runs
 
--- which boards are known then: that of the step may be, if it is orderly, and the others are if they were
+-- which boards are known afterwards: that of the step may be, if it is orderly, and the others are if they were
 pub record KnownKeeps (v u : World) (i : ℕ) (b : Device) : Type 0 where
   pub others : (k : ℕ) → k ≢ i → known_of u k ≡ known_of v k
   pub here : known_of u i ≡ true → IsOrderlyChip b.image
@@ -274,7 +274,7 @@ runs_at v bs w i now a runs is known here read later =
     let s = stands_at v bs w i i a runs is refl known here read in
     may_run a.image runs (site w i).store (site w i).runs w.moment now (omega (arith, later, is.moment)) s.mote (is.timely i known)
 
--- what a step answers that was begun
+-- what a step that was begun answers
 abbrev pub ApplyEnds : Result (Unit {0}) WorldFault → RuleWorld → Step → (reported : Bool) → (a b : Deployment) → Type 0
 ApplyEnds (Ok u) w x reported a b = Applied w x reported a b
 ApplyEnds (Err (world_fault.Flash board)) w x reported a b = FlashAt w x board a.boards b.boards × (b.reported ≡ a.reported)
@@ -308,7 +308,7 @@ halts_there h f v u bs cs w x reported was runs i mote a b start end e is_fault 
 pub sent_at : (m i : ℕ) (frame : Option (List ℕ)) (before : List Sent) (air : Air) → i ≡ m → Carries air (before ++ sent_now m frame) → Carries air (before ++ sent_now i frame)
 sent_at m i frame before air same carries = subst (λ (j : ℕ). Carries air (before ++ sent_now j frame)) (sym same) carries
 
--- room for a frame changes nothing
+-- capacity for a frame changes nothing
 pub reserved : (v : World) (air : Air) (bs : List Device) (w : RuleWorld) → ((sent : List Sent) → Carries v.shared.air sent → Carries air sent) → IsWorld v bs w → IsWorld (record v { shared = record v.shared { air = air } }) bs w
 reserved v air bs w same is = record {
   moment = is.moment;
@@ -360,7 +360,7 @@ knows_at v u bs cs w e i b all is at within others now =
           (is_or k i);
     }
 
--- what is said of the device of a step is said of the board there
+-- what holds of the device of a step holds of the board there
 pub said_at : (P : Device → Device → Type 0) (bs cs : List Device) (i m : ℕ) (a b p q : Device) → cs ≡ set bs i b → i < length bs → slice_get bs i ≡ Some a → i ≡ m → slice_get bs m ≡ Some p → slice_get cs m ≡ Some q → P a b → P p q
 said_at P bs cs i m a b p q all wide here same old new said =
     let ep : p ≡ a = same_of (slice_get bs i) p a (ap (slice_get bs) same ∙ old) here in

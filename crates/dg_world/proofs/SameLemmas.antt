@@ -41,7 +41,7 @@ asks_other i answer e is = subst LeavesChip e is
 sealed_other : (i p : ℕ) → LeavesChip (Sealed i p) → ⊥
 sealed_other i p is = is
 
--- an answer that is quiet comes with a trail of stores of which the same is reported
+-- an answer that is quiet comes with a trail of stores with the same report
 abbrev IsCalm : Store → MoteStep Heard → Type 0
 IsCalm s outcome = LeavesChip outcome.answer → Through (SameReport s) outcome.trail
 
@@ -51,7 +51,7 @@ module _ (s : Store) where
 
   -- ---- adverts
 
-  -- the order that a mote tells is not better than the one that it keeps
+  -- the order that a mote sends is not better than the one that it keeps
   told_order : (wide : Bool) → (own_order wide s).number ≤ s.order.number
   unfolding own_order
   told_order wide = cond_both (wide || nat_le s.order.image narrow_images) s.order no_order (λ (o : Order). o.number ≤ s.order.number) (λ _. omega arith) (λ _. omega arith)
@@ -71,7 +71,7 @@ module _ (s : Store) where
       let same = not_better entries order wide own in
       subst (Through (SameReport s)) (sym (ap (λ (b : Bool). cond (b && nat_le 1 s.room) (order_trail s order) (resting s 0)) (le-ltb s.order.number order.number (omega (arith, same))))) (rests 0)
 
-  -- what is said of an advert that is heard behind this
+  -- what holds of an advert that is heard after this
   abbrev IsOwn : Store → Bool → MoteStep Heard → Type 0
   IsOwn x own outcome = LeavesChip outcome.answer → (own ≡ true) × (outcome.trail ≡ resting x 0)
 

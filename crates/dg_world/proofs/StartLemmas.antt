@@ -14,7 +14,7 @@ use Rattle.dg_volume.specs.Start.{Runs, Boot, counts, count_trail, by_gesture, o
 use Rattle.dg_volume.specs.declared.volume.StartCause.{StartCause}
 use Rattle.dg_world.specs.inner.OutcomeEndings.{SameReport}
 
--- of a store that is near another the same is reported
+-- a store that is near another has the same report
 same_report_near : (s a t : Store) → SameReport s a → IsNear a t → SameReport s t
 same_report_near s a t same near = record { kept = ap (λ (x : Store). x.kept) near.same ∙ same.kept; order = ap (λ (x : Store). x.order) near.same ∙ same.order }
 
@@ -25,7 +25,7 @@ module _ (start : Store) where
   abbrev Same : Trail Store → Type 0
   Same t = Through (SameReport start) t
 
-  -- one commit of a store of which the same is reported
+  -- one commit of a store with the same report
   commit_same : (s t : Store) → SameReport start s → SameReport start t → Same (committing s t)
   commit_same s t p q = Through-stepping (SameReport start) s (commit_operations s.room) t p q
 
@@ -95,7 +95,7 @@ module _ (start : Store) where
       Through-joined (SameReport start) (committing s (waived_once s)) (kept_boot (waived_once s) (s.gesture == short_starts)).trail (commit_same s (waived_once s) p q) (kept_same (waived_once s) (s.gesture == short_starts) q)))
       (λ _. kept_same s (s.gesture == short_starts) p))
 
--- of every store of a start's trail the same is reported
+-- every store of a start's trail has the same report
 pub boot_same_from : (start s : Store) (k : StartCause) → SameReport start s → Through (SameReport start) (boot k s).trail
 unfolding boot
 boot_same_from start s k same =
@@ -108,6 +108,6 @@ boot_same k s = boot_same_from s s k (same_report s)
 pub clear_same : (s : Store) → Through (SameReport s) (clear_trail s)
 clear_same s = commit_same s s _ (same_report s) (record { kept = refl; order = refl })
 
--- so does whatever a stop leaves
+-- so has each store that a stop may leave
 pub leaves_same : (s : Store) (t : Trail Store) (k : ℕ) (u : Store) → Through (SameReport s) t → Leaves IsNear t k u → SameReport s u
 leaves_same s t k u through l = Leaves-through IsNear (SameReport s) (λ a x. same_report_near s a x) t k u through l

@@ -1,4 +1,4 @@
--- What is reported of a step, and where it leaves its board.
+-- What is reported of a step, and how it leaves its board.
 use Rattle.std.proofs.Common.{◌≡◌, ℕ, List, [], ◌++◌, refl, sym, subst}
 use Rattle.std.specs.Prelude.{Option, Some, None, Result, Ok, Err, IsErrAnd}
 use Rattle.std.proofs.lemmas.List.{append-nil}
@@ -22,7 +22,7 @@ use Rattle.dg_volume.specs.declared.volume.MountFault.TheVariants as mount_fault
 use Rattle.dg_node.specs.Known.{MountDone}
 use Rattle.dg_world.specs.inner.Faults.{fault_of_mount}
 
--- ---- readings
+-- ---- reads
 
 pub looked_read : (a b : Device) → Looked a b → BoardOnlyRead a b
 looked_read a b l = record { same_image = l.same_image; endures = Endures_ran l.ran }
@@ -38,7 +38,7 @@ same_read a = record { same_image = refl; endures = Endures-same (beneath_of a) 
 pub changes_appended : (m : ℕ) (before after : ChipReport) (t : Store) (start end : List Report) → IsReportOf after t → end ≡ start ++ change_lines m before after → CutChangesAre m (Some before) t start end
 changes_appended m before after t start end is_report told = record { lines = change_lines m before after; tells = λ k s trail leaves was. changes_are_reported m before after s t was is_report; report_now = told }
 
--- nothing is reported that may have changed
+-- nothing that is reported may have changed
 pub nothing_changed : (m : ℕ) (before : Option ChipReport) (t : Store) (told : List Report) → before ≡ None → CutChangesAre m before t told told
 nothing_changed m before t told none =
     subst (λ (o : Option ChipReport). CutChangesAre m o t told told) (sym none)
@@ -47,7 +47,7 @@ nothing_changed m before t told none =
 pub something_changed : (m : ℕ) (before : Option ChipReport) (x : ChipReport) (t : Store) (start end : List Report) → before ≡ Some x → CutChangesAre m (Some x) t start end → CutChangesAre m before t start end
 something_changed m before x t start end some told = subst (λ (o : Option ChipReport). CutChangesAre m o t start end) (sym some) told
 
--- they were found in a reading
+-- they were found by a read
 abbrev pub ReadAndTold : {T : Type 0} → Result T Fault → ℕ → Option ChipReport → Store → Device → Device → List Report → List Report → Type 0
 ReadAndTold r m before t a b start end = CutReported r m before t start end × CutRead r a b
 

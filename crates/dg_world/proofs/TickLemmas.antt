@@ -70,7 +70,7 @@ use Rattle.dg_world.specs.inner.EventOutcomes.{EventOutcome, Halt, Refused, Chan
 
 -- ---- acts that are not reported
 
--- a stop on a trail of stores of which the same is reported
+-- a stop on a trail of stores with the same report
 pub stopped_same : (w : RuleWorld) (m : ℕ) (does : Does) (v u : Option Node) (a b : Device) → Through (SameReport (store_at w m)) (trail_of does (store_at w m)) → Stops (trail_of does (store_at w m)) a b
     → OutcomeEnds (Err (Stopped None)) w m does (host a v) (host b u)
 stopped_same w m does v u a b through stops = record { stops = stops; is_report = λ whole blown k t l. leaves_same (store_at w m) (trail_of does (store_at w m)) k t through l }
@@ -127,7 +127,7 @@ pub reads_wider : (wide : Bool) (o : Option Message) → ((b : List ℕ) (m : Me
 reads_wider wide None wider read = read
 reads_wider wide (Some message) wider read = read_wider wide message wider read
 
--- a frame in the outbox is told as the message that was sent
+-- a frame in the outbox is reported as the message that was sent
 sent_lines : (m : ℕ) (o : Option Message) → IfSome o (IsRead true) → outcome_lines m (outcome_sent (option_map frame_of o)) ≡ sent_line m o
 sent_lines m None read = refl
 sent_lines m (Some message) read = ap (frame_lines m) read
@@ -160,7 +160,7 @@ module _ (s : Store) (m : MoteState) (now word : ℕ) where
 
 -- ---- what a node did, as an outcome
 
--- what runs then, by the rules of a world
+-- what runs afterwards, by the rules of a world
 runs_of : (o : Option MoteState) (r : Option Runs) (old was : Option ImageVersion) (c : List ℕ) (n : Node) (t : Store) → NodeStands c (Some n) t (node_runs o r was) → (r ≡ None → old ≡ was)
     → (x : Option Running) × (option_map (runs_by r old) o ≡ Some x) × MoteStands c (Some n) t x
 runs_of None r old was c n t stands same = absurd stands
@@ -191,7 +191,7 @@ module _ (w : RuleWorld) (m : ℕ) (e : Effect) (old : Option ImageVersion) (v :
         tells = record { runs = runs.0; runs_then = runs.1; mote = runs.2; lines = lines; sent = sent; stands = x.stands; memory = x.memory };
       }
 
-  -- what is reported of the chip may be something else
+  -- what is reported of the chip may have changed
   pub node_changes : (n : Node) (before after : ChipReport) → NodeDone Quiet None e (host a v) (host b (Some n)) → IsReportOf before (store_at w m) → IsReportOf after (last e.trail) → OutcomeEnds (Ok (Changes before after)) w m D (host a v) (host b (Some n))
   node_changes n before after x is_report is_report_after =
       let lines = changes m (store_at w m) (last e.trail) in
@@ -199,7 +199,7 @@ module _ (w : RuleWorld) (m : ℕ) (e : Effect) (old : Option ImageVersion) (v :
       (changes_are_reported m before after (store_at w m) (last e.trail) is_report is_report_after ∙ sym (append-nil (lines ++ []) ∙ append-nil lines) ∙ ap (λ (o : Option Runs). (lines ++ start_line m o) ++ []) (sym x.1)
       ∙ ap (λ (o : Option Message). (lines ++ start_line m e.started) ++ sent_line m o) (sym x.2))
 
-  -- nothing is
+  -- it has not changed
   pub node_rests : (n : Node) → NodeDone Quiet None e (host a v) (host b (Some n)) → Through (SameReport (store_at w m)) e.trail → OutcomeEnds (Ok Unreported) w m D (host a v) (host b (Some n))
   node_rests n x nothing =
       let same_lines : changes m (store_at w m) (last e.trail) ≡ [] = changes_same m (store_at w m) (last e.trail) (Through-last (SameReport (store_at w m)) e.trail nothing) in
@@ -219,7 +219,7 @@ module _ (w : RuleWorld) (m : ℕ) (e : Effect) (old : Option ImageVersion) (v :
     stands = l.stands;
   }
 
-  -- ---- where neither what is kept nor the order is another
+  -- ---- where neither what is kept nor the order changes
 
   module _ (wider : (b : List ℕ) (m : Message) → message_of b false ≡ Ok m → message_of b true ≡ Ok m) (nothing : Through (SameReport (store_at w m)) e.trail) where
     unreported : changes m (store_at w m) (last e.trail) ≡ []
@@ -252,7 +252,7 @@ module _ (w : RuleWorld) (m : ℕ) (e : Effect) (old : Option ImageVersion) (v :
     node_ends NodeNotAVolume frame n x = absurd x
     node_ends NodeNoImage frame n x = node_lacks frame x
 
--- what the volume of a node tells then
+-- what the volume of a node exposes afterwards
 tells_by : (o : Option MoteState) (r : Option Runs) (was : Option ImageVersion) (c : List ℕ) (n : Node) (t : Store) → NodeStands c (Some n) t (node_runs o r was) → Tells (volume_of (node_mote n)) t
 tells_by None r was c n t stands = absurd stands
 tells_by (Some m) (Some r) was c n t stands = stands.1.mounted.tells
@@ -265,7 +265,7 @@ node_tells e frame v n a b x = tells_by e.mote e.started (option_map node_image 
 stopped_endures : (a b : Device) → ActStopped a b → Endures (beneath_of a) (beneath_of b)
 stopped_endures a b x = record { faults = x.faults; cause = λ stopped. x.cause; stays = λ was. x.stopped; calm = λ awake. absurd (both_ways b.stopped awake x.stopped) }
 
--- what a start that failed tells of a board
+-- what a failed start says of a board
 pub powers_of : (f : BootFault) (E : Store → Effect) (v u : Option Node) (a b : Device) → PowerFinds (Err f) a b → ((s : Store) → Stands a.image s → NodeDone (power_end (Err f)) None (E s) (host a v) (host b u)) → Powers {T = Unit {0}} (Err (fault_of_start f)) a b
 powers_of boot_fault.Stopped E v u a b finds done = record { ends = record { stopped = finds.0.stopped; same = λ none. (finds.1 none).same_image }; endures = stopped_endures a b finds.0; count = tt }
 powers_of boot_fault.NotAVolume E v u a b finds done = record { ends = finds; endures = Endures_ran finds.1.ran; count = finds.1.ran.faults }
@@ -299,7 +299,7 @@ node_begins w m e v n a b image nothing x =
     went_with w m e None v a b (λ none. absurd (some_none r (sym x.2.1 ∙ none))) n None (Starts image) x.0 x.0.sent
     (start_lines m image r x.2.2 ∙ ap (λ (l : List Report). (l ++ start_line m (Some r)) ++ []) (sym same_lines) ∙ ap (λ (o : Option Runs). (lines ++ start_line m o) ++ []) (sym x.2.1) ∙ ap (λ (o : Option Message). (lines ++ start_line m e.started) ++ sent_line m o) (sym x.1))
 
--- a start that failed
+-- a failed start
 pub power_halts : (w : RuleWorld) (m : ℕ) (e : Effect) (v u y : Option Node) (a b : Device) (f : BootFault) → Through (SameReport (store_at w m)) e.trail → NodeDone (power_end (Err f)) None e (host a v) (host b y)
     → OutcomeEnds (Err (halt_of (fault_of_start f) None)) w m (of_effect w e None) (host a v) (host b u)
 power_halts w m e v u y a b boot_fault.Stopped nothing x = stopped_same w m (of_effect w e None) v u a b nothing x.0
@@ -327,7 +327,7 @@ power_references boot_fault.NoImage E v u a b finds done = (done finds.0 finds.1
 
 -- ---- heard frames
 
--- neither what is kept nor the order is another behind such an answer
+-- such an answer changes neither what is kept nor the order
 pub hear_same : (s : Store) (m : MoteState) (now word : ℕ) (bytes : List ℕ) → LeavesChip (heard_of m s now word bytes).answer → Through (SameReport s) (frame_effect m s now word bytes).trail
 unfolding frame_effect
 hear_same s m now word bytes is = heard_calm s m now word bytes is

@@ -110,7 +110,7 @@ known_unseen D x known same is unseen = subst (λ (y : Bool). RefusesUnseen (if 
 
 -- ---- each event
 
--- what is known of an event that is refused unseen: its board is as it was, and nothing stopped
+-- what is known of an event that is refused unseen: its board is unchanged, and nothing stopped
 abbrev pub Unused : {N E : Type 0} (r : Result (Unit {0}) E) (old new : N) → Type 0
 Unused r old new = (new ≡ old) × OnErr r ⊥
 
@@ -194,7 +194,7 @@ not_cut r e on = let g : Ok power.Cut ≡ Ok power.Stays = sym e ∙ on in absur
 
 -- ---- the boards
 
--- a board that is as it was is put back
+-- an unchanged board is put back
 pub put_back : {A : Type 0} (xs : List A) (i : ℕ) (x y : A) → slice_get xs i ≡ Some x → y ≡ x → slice_set xs i y ≡ xs
 put_back [] i x y at same = cc
 put_back (z ∷ zs) zero x y at same = let here : z ≡ x = cc in ap (λ v. v ∷ zs) (same ∙ sym here)

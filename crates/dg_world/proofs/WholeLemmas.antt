@@ -1,4 +1,4 @@
--- A step that no cut waits for, by what its event did.
+-- A step without a cut, by what its event did.
 use Rattle.std.proofs.Common.{◌≡◌, ◌++◌, false, refl, ap, sym, ◌∙◌}
 use Rattle.std.specs.Prelude.{Option, None, Result, Ok, Err, OnOk, OnErr, IsErrAnd}
 use Rattle.std.specs.List.{filter}
@@ -40,7 +40,7 @@ abbrev failed : Fault → Result (Unit {0}) Fault
 failed f = Err f
 
 module _ (o : EventContext) (event : Event) (t : Outcome) (a b : BoardState) (cut : Option PowerCut) (none : cut ≡ None) where
-  -- its lines were told
+  -- its lines were reported
   pub whole_did : AppliedSo done o event t a b → o.mote ≡ mote_of event → b.reported ≡ a.reported ++ filter (is_reported o.reported) (outcome_lines o.mote (outcome_of t)) → StepDid done o (step_of event cut) t a b
   whole_did h here told =
       let x = step_of event cut in
@@ -59,7 +59,7 @@ module _ (o : EventContext) (event : Event) (t : Outcome) (a b : BoardState) (cu
         unseen = h.unseen;
       }
 
-  -- its fault is handed on, and nothing is told
+  -- its fault is passed on, and nothing is reported
   pub whole_failed : (r : Result (Unit {0}) Fault) (f : Fault) → IsErrAnd r (λ e. e ≡ f) → AppliedSo (failed f) o event t a b → StepDid r o (step_of event cut) t a (board_state b.board b.runs a.reported)
   whole_failed (Ok u) f is h = absurd is
   whole_failed (Err e) f is h =

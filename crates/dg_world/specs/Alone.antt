@@ -1,4 +1,4 @@
--- Events that a mote takes part in alone, over its board: its power comes, it ticks, or a frame comes to it
+-- Events that a mote takes part in alone, over its board: it powers on, it ticks, or a frame comes to it
 -- (docs/ARCHITECTURE.md, "The way of a script line").
 use Rattle.std.specs.Prelude.{◌≡◌, ℕ, true, List, [], Option, None, Result, Ok, Err}
 use Rattle.dg_nor.specs.Device.{Device, Endures}
@@ -19,7 +19,7 @@ use Rattle.dg_world.specs.declared.outcome.Fault.{Fault}
 use Rattle.dg_world.specs.declared.outcome.Fault.TheVariants as fault
 use Rattle.dg_node.specs.declared.node.Node.{Node}
 
--- the event asks nothing of other motes, and nothing of what was sent or declared
+-- the event depends neither on other motes nor on what was sent or declared
 abbrev pub IsAlone : Event → Type 0
 IsAlone (Tick mote dt word) = Unit {0}
 IsAlone (Hear mote dt word frame) = ⊥
@@ -29,7 +29,7 @@ IsAlone (Inject mote image version dt word) = ⊥
 IsAlone (OrderEvent mote number image version dt word) = ⊥
 IsAlone (Frame mote dt word bytes) = Unit {0}
 
--- the power of a mote comes
+-- a mote powers on
 abbrev pub IsReset : Event → Type 0
 IsReset (Tick mote dt word) = ⊥
 IsReset (Hear mote dt word frame) = ⊥
@@ -39,7 +39,7 @@ IsReset (Inject mote image version dt word) = ⊥
 IsReset (OrderEvent mote number image version dt word) = ⊥
 IsReset (Frame mote dt word bytes) = ⊥
 
--- nothing cuts the event
+-- the event without a cut
 abbrev pub uncut : Event → Step
 uncut event = record { event = event; cut = None }
 
@@ -56,7 +56,7 @@ AloneEnds (Err fault.Stopped) w event u new = IsStopped w (mote_of event) (does 
 AloneEnds (Err fault.NotAVolume) w event u new = ⊥
 AloneEnds (Err fault.NoImage) w event u new = StepFoundNoImage (does w event) None new.image
 
--- the count of a board stays unless the board stopped
+-- the count of a board does not change unless the board stopped
 abbrev pub CountKeeps : {T : Type 0} → Result T Fault → Device → Device → Type 0
 CountKeeps (Ok x) old new = new.faults ≡ old.faults
 CountKeeps (Err fault.Stopped) old new = Unit {0}
@@ -69,7 +69,7 @@ pub record PlaysAlone (r : Result Outbox Fault) (w : RuleWorld) (event : Event) 
   pub endures : Endures (beneath_of old) (beneath_of new)
   pub count : CountKeeps r old new
 
--- a board stopped, and kept its bytes if it was no volume
+-- a board stopped, and kept its bytes if it was not a volume
 pub record PowerStopped (old new : Device) : Type 0 where
   pub stopped : new.stopped ≡ true
   pub same : IsNoVolume old.image → new.image ≡ old.image

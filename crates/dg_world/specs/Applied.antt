@@ -23,7 +23,7 @@ use Rattle.dg_world.specs.Worlds.{IsWorld}
 use Rattle.dg_world.specs.Deployments.{Deployment}
 use Rattle.dg_world.specs.Counts.{NoneRose}
 
--- No board but this one was used. No count fell, and a board is stopped only where it was, or where its count rose.
+-- No board but this one was used. No count fell, and a board is stopped only if it was before, or if its count rose.
 pub record OneBoard (board : ℕ) (old new : List Device) : Type 0 where
   pub count : length new ≡ length old
   pub others : (m : ℕ) → m ≢ board → slice_get new m ≡ slice_get old m
@@ -31,8 +31,8 @@ pub record OneBoard (board : ℕ) (old new : List Device) : Type 0 where
   pub endures : (m : ℕ) (a b : Device) → slice_get old m ≡ Some a → slice_get new m ≡ Some b
       → Endures (beneath_of a) (beneath_of b)
 
--- A step was applied to a, which is b then: what the rules allow, reported as it should be. No board's count rose, also where a
--- cut fired. Where something was started, its pages stand in program memory.
+-- A step was applied to a, which is b afterwards. The rules allow it, and it is reported as they say. No board's count rose,
+-- even where a cut fired. The pages of what was started, if anything, are in program memory.
 pub record Applied (w : RuleWorld) (x : Step) (reported : Bool) (a b : Deployment) : Type 0 where
   pub world : RuleWorld
   pub reports : List Report
@@ -44,8 +44,8 @@ pub record Applied (w : RuleWorld) (x : Step) (reported : Bool) (a b : Deploymen
   pub memory : (d : Deed) (r : Runs) (c : Device) → does w x.event ≡ Goes d → blows x.cut d.trail ≡ false → d.started ≡ Some r
       → slice_get b.boards (mote_of x.event) ≡ Some c → program c.image (length r.pages) ≡ r.pages
 
--- A board stopped: it is that of the event's mote, and stands for a store that the event's trail leaves where `done` operations
--- were done. A cut that the step has did not come before.
+-- The board of the event's mote stopped. It stands for a store that the event's trail leaves after `done` operations. The cut
+-- of the step, if it has one, did not fire before.
 pub record FlashAt (w : RuleWorld) (x : Step) (board : ℕ) (old new : List Device) : Type 0 where
   pub at : board ≡ mote_of x.event
   pub before : Device
@@ -68,7 +68,7 @@ pub record RunEnded (w : RuleWorld) (x : Step) (old new : List Device) : Type 0 
   pub boards : OneBoard (mote_of x.event) old new
   pub calm : NoneRose old new
 
--- The boards were only read. No count fell, and a board is stopped only where it was, or where its count rose.
+-- The boards were only read. No count fell, and a board is stopped only if it was before, or if its count rose.
 pub record SameBoards (old new : List Device) : Type 0 where
   pub count : length new ≡ length old
   pub images : (m : ℕ) (a b : Device) → slice_get old m ≡ Some a → slice_get new m ≡ Some b → b.image ≡ a.image
@@ -76,7 +76,7 @@ pub record SameBoards (old new : List Device) : Type 0 where
   pub endures : (m : ℕ) (a b : Device) → slice_get old m ≡ Some a → slice_get new m ≡ Some b
       → Endures (beneath_of a) (beneath_of b)
 
--- A board stopped in such a reading.
+-- A board stopped while the boards were read.
 pub record ReadFlash (board : ℕ) (old new : List Device) : Type 0 where
   pub before : Device
   pub after : Device

@@ -21,14 +21,14 @@ use Rattle.dg_base.specs.declared.events.Event.{Event}
 abbrev pub step_of : Event → Option PowerCut → Step
 step_of event cut = record { event = event; cut = cut }
 
--- it stands for world w by the rules
+-- it stands for world w of the rules
 abbrev pub IsOf : Deployment → RuleWorld → Type 0
 IsOf a w = IsWorld a.world a.boards w
 
--- What a step made of a, which is b then, and what it answers.
+-- What a step made of a, which is b afterwards, and what it answers.
 pub record ApplyDone (r : Result (Unit {0}) WorldFault) (x : Step) (reported : Bool) (a b : Deployment) : Type 0 where
   pub applied : OnOk r ((w : RuleWorld) → IsOf a w → Applied w x reported a b)
-  -- a world that has made all its events tells it, and only such a one
+  -- exactly a world that has applied all its events answers `TooMany`
   pub too_many : r ≡ Err TooMany → (w : RuleWorld) → IsOf a w → w.events ≡ most_events
   pub full : (w : RuleWorld) → IsOf a w → w.events ≡ most_events → r ≡ Err TooMany
   pub unchanged : (r ≡ Err TooMany) ⊎ (r ≡ Err Memory) → ((w : RuleWorld) → IsOf a w → IsOf b w) × (b.boards ≡ a.boards)
@@ -37,20 +37,20 @@ pub record ApplyDone (r : Result (Unit {0}) WorldFault) (x : Step) (reported : B
   pub flash : (board : ℕ) → r ≡ Err (Flash board) → (w : RuleWorld) → IsOf a w → FlashAt w x board a.boards b.boards
   pub no_image : r ≡ Err NoImage → (w : RuleWorld) → IsOf a w → RunEnded w x a.boards b.boards
   pub a_volume : r ≡ Err NotAVolume → ⊥
-  -- after it exactly those boards are known that are orderly then and were known, or were made known by it
+  -- after it a board is known exactly if it is orderly then, and was known before or made known by the step
   pub known : OnOk r ((w : RuleWorld) → IsOf a w → KnowsThen w x.event a.world b.world b.boards)
-  -- an order and an injection that is refused mount a known board again by halving: an order, whatever is answered, once more
-  -- where a cut fired
+  -- an order, whatever it answers, and a refused injection mount a known board again by halving; an order does so once more
+  -- after a cut that fired
   pub order_reads : (w : RuleWorld) (m : ℕ) (old new : Device) → IsOf a w → m ≡ mote_of x.event → known_of a.world m ≡ true
       → slice_get a.boards m ≡ Some old → slice_get b.boards m ≡ Some new → OrderTakes x.event old new
   pub inject_reads : OnOk r ((w : RuleWorld) (m : ℕ) (old new : Device) → IsOf a w → m ≡ mote_of x.event
       → known_of a.world m ≡ true → slice_get a.boards m ≡ Some old → slice_get b.boards m ≡ Some new
       → InjectTakes w x.event old new)
-  -- an event that is refused without a look at the chip, as at a mote that is off, uses no board, and meets no stopped one
+  -- an event that is refused without a look at the chip, as at a mote that is off, uses no board, and never answers `Flash`
   pub unseen : (w : RuleWorld) → IsOf a w → RefusesUnseen (does w x.event)
       → (b.boards ≡ a.boards) × ((board : ℕ) → r ≡ Err (Flash board) → ⊥)
-  -- whatever bytes a frame carries and wherever power is cut: boards whose stores are consistent stay so, and so does one that
-  -- stops
+  -- whatever bytes a frame carries and wherever power is cut: boards whose stores are consistent stay so, and so does a board
+  -- that stops
   pub consistent : OnOk r ((golden : Row) → BoardsAreConsistent golden a.world a.boards
       → BoardsAreConsistent golden b.world b.boards)
   pub stops_consistent : (golden : Row) (board : ℕ) → r ≡ Err (Flash board) → BoardsAreConsistent golden a.world a.boards

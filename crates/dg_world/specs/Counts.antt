@@ -1,4 +1,4 @@
--- Boards whose counts of faults stay (docs/ARCHITECTURE.md, "The way of a script line").
+-- Boards whose fault counts do not change (docs/ARCHITECTURE.md, "The way of a script line").
 use Rattle.std.specs.Prelude.{◌≡◌, ℕ, List, slice_get, Some}
 use Rattle.dg_nor.specs.Device.{Device}
 

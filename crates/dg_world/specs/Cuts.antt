@@ -9,7 +9,7 @@ use Rattle.dg_rules.specs.Events.{Deed, Does, Goes, trail_of}
 use Rattle.dg_rules.specs.Steps.{blows}
 use Rattle.dg_base.specs.declared.events.Cut.{Cut as PowerCut}
 
--- the board stopped on its own, and the cut did not come before
+-- the board stopped on its own, and the cut did not fire before
 pub record IsStopped (w : RuleWorld) (m : ℕ) (does : Does) (cut : Option PowerCut) (new : Device) : Type 0 where
   pub stopped : new.stopped ≡ true
   pub done : ℕ

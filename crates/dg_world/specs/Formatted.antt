@@ -14,8 +14,8 @@ pub record FirstBoards (motes : ℕ) (old new : List Device) : Type 0 where
   pub endures : (m : ℕ) (a b : Device) → slice_get old m ≡ Some a → slice_get new m ≡ Some b
       → Endures (beneath_of a) (beneath_of b)
 
--- Formatting stopped at the board of one of the first motes, and why. The boards before it stand for the store,
--- and did not come stopped. No board after it was used.
+-- Formatting stopped at the board of one of the first motes, and why. The boards before it stand for the store, and were not
+-- stopped on entry. No board after it was used.
 pub record FormatStops (board motes : ℕ) (chip : Store) (old new : List Device) : Type 0 where
   pub known : board < motes
   pub before : Device

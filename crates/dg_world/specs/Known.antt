@@ -21,8 +21,8 @@ pub record IsLookedInto (deed : Does) : Type 0 where
   pub not_reserved : deed ≢ Refuses cause.Reserved
   pub declared : deed ≢ Refuses cause.Image
 
--- The event makes the board of its mote known, where that is orderly then: a reset,
--- and an injection or an order that looks at the chip.
+-- The event makes the board of its mote known, if the board is orderly afterwards: a reset, and an injection or an order that
+-- looks at the chip.
 abbrev pub MakesKnown : RuleWorld → Event → Type 0
 MakesKnown w (Tick mote dt word) = ⊥
 MakesKnown w (Hear mote dt word frame) = ⊥
@@ -32,7 +32,7 @@ MakesKnown w (Reset mote dt word) = Unit {0}
 MakesKnown w (Inject mote image version dt word) = IsLookedInto (does w (Inject mote image version dt word))
 MakesKnown w (OrderEvent mote number image version dt word) = IsLookedInto (does w (OrderEvent mote number image version dt word))
 
--- beyond mounting it again, where an injection is refused so
+-- the bytes that an injection with this refusal reads beyond mounting the board again
 abbrev pub beyond : Cause → ℕ
 beyond cause.Taken = page_size
 beyond cause.Image = 0
@@ -64,8 +64,8 @@ IsOrder (Reset mote dt word) = ⊥
 IsOrder (Inject mote image version dt word) = ⊥
 IsOrder (OrderEvent mote number image version dt word) = Unit {0}
 
--- What an event reads of a known board, which is mounted again by n bytes: an order as many twice and 64 more,
--- since a cut that fired mounts once more; an injection that is refused once.
+-- What an event reads of a known board that is mounted again by n bytes. An order reads at most twice as many and 64 more,
+-- since a cut that fired mounts once more. A refused injection mounts once.
 pub record OrderTakes (event : Event) (a b : Device) : Type 0 where
   pub took : IsOrder event → (n : ℕ) → RemountBytes a.image n → Took (2 * n + place_size) a b
 

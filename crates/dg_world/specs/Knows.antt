@@ -12,7 +12,7 @@ use Rattle.dg_world.specs.declared.world.World.{World}
 abbrev pub IsMadeKnown : RuleWorld → Event → World → ℕ → Type 0
 IsMadeKnown w event v m = (known_of v m ≡ true) ⊎ ((mote_of event ≡ m) × MakesKnown w event)
 
--- Exactly those boards are known that are orderly and were known, or were made known.
+-- A board is known exactly if it is orderly, and was known or was made known.
 pub record KnowsThen (w : RuleWorld) (event : Event) (old new : World) (boards : List Device) : Type 0 where
   pub exactly : (m : ℕ) (d : Device) → m < length w.sites → slice_get boards m ≡ Some d
       → (known_of new m ≡ true) ↔ (IsOrderlyChip d.image × IsMadeKnown w event old m)

@@ -1,4 +1,4 @@
--- Boards of motes that are mounted one after the other, as they stand (docs/IMAGES.md, "Mounting again").
+-- Boards of motes that are mounted one after the other, as they are (docs/IMAGES.md, "Mounting again").
 use Rattle.std.specs.Prelude.{◌≡◌, ◌⊎◌, ℕ, ◌<◌, true, false, List, length, slice_get, Some}
 use Rattle.dg_words.specs.Counts.{Rose}
 use Rattle.dg_nor.specs.Device.{Device}
@@ -11,7 +11,7 @@ pub record StandFor (motes : ℕ) (stores : List Store) (boards : List Device) :
   pub count : length stores ≡ motes
   pub each : (m : ℕ) (d : Device) → m < motes → slice_get boards m ≡ Some d → Stands d.image (store_of stores m)
 
--- The boards before this one are volumes, and did not come stopped. No board after it was used.
+-- The boards before this one are volumes, and were not stopped on entry. No board after it was used.
 pub record MountedTo (board : ℕ) (old new : List Device) : Type 0 where
   pub volumes : (m : ℕ) (d : Device) → m < board → slice_get new m ≡ Some d → IsVolume d.image
   pub awake : (m : ℕ) (d : Device) → m < board → slice_get old m ≡ Some d → d.stopped ≡ false

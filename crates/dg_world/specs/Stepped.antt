@@ -1,4 +1,4 @@
--- What is reported of a step, and where it leaves the board (docs/ARCHITECTURE.md, "The way of a script line").
+-- What is reported of a step, and how it leaves the board (docs/ARCHITECTURE.md, "The way of a script line").
 use Rattle.std.specs.Prelude.{◌≡◌, ℕ, ◌+◌, Bool, false, slice_set, length, List, ◌++◌, Option, Some}
 use Rattle.std.specs.List.{filter}
 use Rattle.dg_nor.specs.Device.{Device}
@@ -24,8 +24,8 @@ pub record BoardState : Type 0 where
 abbrev pub board_state : Device → Option Node → List Report → BoardState
 board_state board runs report = record { board = board; runs = runs; reported = report }
 
--- A step was done at its board, which stood for the mote's store: what the rules allow, where the mote and the board are then,
--- what was reported, and what was sent. The board_state of the mote is b.
+-- A step that the rules allow was done at its board, which stood for the mote's store. b has the board, what its mote runs and
+-- the report afterwards. What was reported and sent is what the rules say.
 pub record StepDone (w : RuleWorld) (x : Step) (reported : Bool) (frame : Option (List ℕ)) (report_before : List Report)
     (b : BoardState) : Type 0 where
   pub world : RuleWorld

@@ -5,8 +5,8 @@ use Rattle.dg_script.specs.declared.report.Cause.{Cause}
 use Rattle.dg_script.specs.declared.report.Cause.TheVariants.{Off, Frame, Link, Image, Empty, TooLarge, Reserved, Stale, Taken}
 use Rattle.dg_script.specs.declared.report.Cause.TheVariants.{Worn, OldOrder}
 
--- What does not depend on the chip: whether the mote is on, what was sent and declared, who is a neighbour, which images the mote
--- knows, and that golden is not injected. All else is told by the volume, which is mounted first.
+-- What does not depend on the chip: whether the mote is on, what was sent and declared, who is a neighbour, which images the
+-- mote knows, and that golden is not injected. All else depends on the volume, which is mounted first.
 abbrev pub is_unseen : Cause → Bool
 is_unseen Off = true
 is_unseen Frame = true

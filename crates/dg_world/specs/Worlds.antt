@@ -33,7 +33,7 @@ pub record SiteStands (d : Device) (v : Option Node) (x : Site) : Type 0 where
 abbrev pub IsTimelyMote : List ℕ → ℕ → Node → Type 0
 IsTimelyMote c now v = (m : MoteState) × (s : Store) × IsMote c v.mote m s × Timely m now
 
--- so is each that is on
+-- so is the mote that runs, if one does
 abbrev pub MayRun : List ℕ → ℕ → Option Node → Type 0
 MayRun c now v = IfSome v (IsTimelyMote c now)
 
@@ -47,7 +47,7 @@ pub record IsWorld (v : World) (boards : List Device) (w : RuleWorld) : Type 0 w
   pub few_motes : length w.sites ≤ most_motes
   pub boards_enough : length w.sites ≤ length boards
   pub few_events : w.events ≤ most_events
-  -- each event brings at most this many milliseconds, so that every moment is below 2 ^ 62
+  -- each event adds at most this many milliseconds, so that every moment is below 2 ^ 62
   pub early : w.moment ≤ w.events * (2 ^ 32 - 1)
   -- no moment of a mote is later than the world's
   pub timely : WorldTimely w

@@ -60,7 +60,7 @@ fn note_change(change: Change, outcome: &mut Outcome)
     outcome.is_told = true;
 }
 
-/// Why an event ends the run that was not done. What was reported of the chip before stays in the outcome.
+/// Why an event that was not done ends the run. What was reported of the chip before stays in the outcome.
 pub(crate) fn act_fault(fault: ActFault, outcome: &mut Outcome) -> Fault
     ensures { halt_of result outcome.new.before ≡ halt_of_act fault }
 {

@@ -32,7 +32,7 @@ impl Air {
         }
     }
 
-    /// Makes capacity for one frame more.
+    /// Makes capacity for one more frame.
     pub(crate) fn reserve(&mut self) -> Result<(), AllocError>
         ensures same { (sent : List Sent) → Carries self.old sent → Carries self.new sent }
         ensures capacity { OnOk result (vec_len self.new.frames + 1 ≤ vec_capacity self.new.frames) }
@@ -43,7 +43,7 @@ impl Air {
         self.grow()
     }
 
-    /// Makes the capacity anew.
+    /// Grows the capacity.
     #[inline(never)]
     fn grow(&mut self) -> Result<(), AllocError>
         ensures same { (sent : List Sent) → Carries self.old sent → Carries self.new sent }

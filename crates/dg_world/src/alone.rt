@@ -1,4 +1,4 @@
-//! A mote alone over its board: its power comes, it ticks, or a frame comes to it. A service plays its motes so.
+//! A mote alone over its board: it powers on, it ticks, or a frame comes to it. A service plays its motes this way.
 ghost use Rattle.std.specs.Prelude.{◌≡◌, ◌+◌, ◌^◌, ◌<◌, true, length};
 ghost use Rattle.dg_rules.specs.World.{World as RuleWorld, site, wide_at};
 ghost use Rattle.dg_rules.specs.Events.{does, mote_of, dt_of};
@@ -17,9 +17,9 @@ use dg_node::Node;
 use dg_nor::Nor;
 use dg_rules::Event;
 
-/// What an event does at a mote that takes part in it alone: a reset, a tick, or a frame that comes to it. The board of
-/// the mote runs `runs`, and `now` is the moment of the event. A mote that starts is wide. What is sent is in the outbox
-/// that is answered.
+/// What an event does at a mote that takes part in it alone: a reset, a tick, or a frame that comes to it. The board of the
+/// mote runs `runs`, and `now` is the moment of the event. A mote that starts is wide. What is sent is in the outbox of the
+/// answer.
 pub fn play_alone<N: Nor>(
     runs: &mut Option<Node>,
     now: u64,
@@ -33,7 +33,7 @@ pub fn play_alone<N: Nor>(
         → mote_of event.now < length w.sites → now ≡ w.moment + dt_of event.now
         → wide_at w (mote_of event.now) ≡ true → PlaysAlone result w event.now runs.new (N.device board.old)
         (N.device board.new) }
-    // a start tells a board that is a volume from one that is none, which keeps its bytes
+    // a start distinguishes a board that is a volume from one that is not; the latter keeps its bytes
     ensures powers { IsReset event.now → Powers result (N.device board.old) (N.device board.new) }
 {
     let mut outcome = Outcome::new();
@@ -43,7 +43,7 @@ pub fn play_alone<N: Nor>(
     }
 }
 
-/// The same, where nothing came of it yet.
+/// The same, with an empty outcome.
 fn apply_alone<N: Nor>(
     runs: &mut Option<Node>,
     now: u64,

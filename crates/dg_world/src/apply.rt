@@ -37,7 +37,7 @@ impl World {
         self.apply_parts(boards, &step.event, step.cut.as_ref(), loud, out)
     }
 
-    /// The same of an event and a cut that stand apart.
+    /// The same, with the event and its cut as separate arguments.
     #[inline(always)]
     pub fn apply_parts<N: Nor>(
         &mut self,

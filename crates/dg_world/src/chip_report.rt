@@ -16,7 +16,7 @@ use dg_volume::Kept;
 /// The most lines of what changed: the order, and what is kept of each image.
 pub(crate) const MOST_CHANGES: usize = IMAGES + 1;
 
-/// The line on an image of which something else is kept than before.
+/// The line on an image, if what is kept of it changed.
 fn have_change(mote: u8, image: u8, before: Option<Kept>, after: Option<Kept>) -> Option<Report>
     ensures { result ≡ have_line mote image before after }
 {
@@ -45,7 +45,7 @@ fn have(mote: u8, image: u8, kept: Kept) -> Report
     }
 }
 
-/// Appends the lines on the images of which something else is kept. There is capacity for them.
+/// Appends a line for each image of which what is kept changed. There is capacity for them.
 fn push_haves(mote: u8, before: &ChipReport, after: &ChipReport, out: &mut Vec<Report>)
     requires capacity { vec_len out.old + images ≤ vec_capacity out.old }
     ensures reported { out.new.items ≡ out.old.items ++ have_lines mote before.now after.now images }
@@ -70,7 +70,7 @@ pub(crate) fn push_line(line: Option<Report>, out: &mut Vec<Report>)
     }
 }
 
-/// Appends the line on an order that is another one than before. There is capacity for it.
+/// Appends the line on the order, if it changed. There is capacity for it.
 fn push_order(mote: u8, before: Order, after: Order, out: &mut Vec<Report>)
     requires capacity { vec_len out.old + 1 ≤ vec_capacity out.old }
     ensures reported { out.new.items ≡ out.old.items ++ order_change mote before after }

@@ -4,7 +4,7 @@ ghost use Rattle.dg_rules.specs.Sizes.{most_motes};
 
 use crate::shared::Shared;
 
-/// Where and when an event is applied: what it has beside its board and what the mote there runs.
+/// Where and when an event is applied: its inputs besides its board and what the mote there runs.
 #[derive(Clone, Copy)]
 pub(crate) struct EventContext<'a> {
     /// What the motes of the world share.

@@ -19,7 +19,7 @@ use dg_node::Node;
 use dg_nor::{Fused, Nor};
 use dg_rules::{Cut, Event};
 
-/// How an event ended whose cut fired or not, at a board that is stopped itself or not.
+/// How an event with a cut ended, by whether the cut fired, and whether the board itself is stopped.
 fn end_outcome(blown: bool, stopped: bool, done: Result<(), Fault>) -> Result<Power, Fault>
     ensures { (t : Outcome) → ended_as result t ≡ ended (blown && not stopped) (as_outcome done t) }
 {
@@ -50,8 +50,8 @@ fn fuse_of<'a, N: Nor>(cut: &'a Cut, board: &'a mut N) -> Fused<'a, N>
     Fused::new(board, Some(cut.after), cut.mask.as_slice())
 }
 
-/// An event whose power is cut, where it makes this many operations. Where the board stops in that operation, it is told as
-/// stopped.
+/// An event whose power is cut, if it makes this many operations. If the board itself stops in that operation, it is reported
+/// as stopped.
 pub(crate) fn play_cut<N: Nor>(
     context: &EventContext<'_>,
     runs: &mut Option<Node>,

@@ -85,7 +85,7 @@ impl World {
         self.shared.links.join(a, b);
     }
 
-    /// A mote has the old radio: its frames speak of images 1 to 3.
+    /// Makes a mote narrow: it has the old radio, and its frames name images 1 to 3.
     pub fn narrow(&mut self, mote: u8)
         ensures marked { (boards : List Device) (w : RuleWorld) → IsWorld self.old boards w
             → IsWorld self.new boards (record w { narrow = slice_set w.narrow mote true }) }
@@ -115,7 +115,7 @@ impl World {
             → is_taken (row_at w.declared image version) (row_of image version name content) ≡ true }
         ensures unchanged { OnErr result ((boards : List Device) (w : RuleWorld) → IsWorld self.old boards w
             → IsWorld self.new boards w) }
-        // what is known of boards stays, whatever it answers
+        // which boards are known does not change, whatever it answers
         ensures known { (m : ℕ) → known_of self.new m ≡ known_of self.old m }
     {
         let image_version = ImageVersion { image, version };
@@ -136,7 +136,7 @@ impl World {
     }
 }
 
-/// So many motes that are off.
+/// `motes` motes that are off.
 fn all_off(alloc: Global, motes: u8) -> Result<Vec<Option<Node>>, AllocError>
     ensures { IfOk result (λ v. v.items ≡ replicate motes None) }
 {

@@ -23,7 +23,7 @@ use dg_nor::Nor;
 use dg_rules::{Event, ImageVersion};
 
 /// What an event does at the board of its mote, which runs `runs`. Where the board is known it is mounted again by halving.
-/// Ticks and last frames are the common events: the others stand apart.
+/// Ticks and last frames are the common events; the others are in a function of their own.
 #[inline(always)]
 pub(crate) fn apply_event<N: Nor>(
     context: &EventContext<'_>,
@@ -57,7 +57,7 @@ pub(crate) fn apply_event<N: Nor>(
     }
 }
 
-/// The same, not inlined. It has the context by value, so that common events need none in memory.
+/// The same, not inlined. It takes the context by value, so that common events need none in memory.
 #[inline(never)]
 fn apply_apart<N: Nor>(
     context: EventContext<'_>,

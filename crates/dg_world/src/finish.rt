@@ -27,7 +27,7 @@ const MOST_SITE_LINES: usize = IMAGES;
 /// Why the last state of a world is not reported.
 #[derive(Clone, Copy, Debug, PartialEq, Eq)]
 pub enum FinishFault {
-    /// There was no memory.
+    /// Out of memory.
     Memory,
     /// This board stopped.
     Flash { board: u8 },
@@ -52,7 +52,7 @@ impl World {
         // only the boards of motes are read
         ensures others { (w : RuleWorld) → IsWorld self.now (map N.device boards.old.items) w → (m : ℕ) → length w.sites ≤ m
             → slice_get (map N.device boards.new.items) m ≡ slice_get (map N.device boards.old.items) m }
-        // whatever comes of it, the boards stand for the world as before
+        // whatever the outcome, the boards stand for the world as before
         ensures stands { (w : RuleWorld) → IsWorld self.now (map N.device boards.old.items) w
             → IsWorld self.now (map N.device boards.new.items) w }
         ensures flash { (board : ℕ) → result ≡ Err (FinishFault.Flash board)
@@ -143,7 +143,7 @@ fn push_site<N: Nor>(
             Ok(())
         }
         Err(MountFault::Stopped) => Err(Stopped),
-        // it is a volume, so that this does not come
+        // it is a volume, so that this does not happen
         Err(MountFault::NotAVolume) => Err(Stopped),
     }
 }

@@ -22,7 +22,8 @@ pub struct FormatStopped {
     pub board: u8,
 }
 
-/// Formats the boards of the first motes with golden, in their order, in today's form. So many commits are told as spent.
+/// Formats the boards of the first motes with golden, in their order, in the current form, and records `used` commits as
+/// spent.
 pub fn format_boards<N: Nor>(
     boards: &mut [N],
     motes: u8,
@@ -66,12 +67,12 @@ fn format_board<N: Nor>(nor: &mut N, name: &[u8], golden: &[u8], used: u32) -> R
     ensures awake { OnOk result ((N.device nor.old).stopped ≡ false) }
     ensures stopped { OnErr result (ActStopped (N.device nor.old) (N.device nor.new)) }
     ensures calm { OnOk result ((N.device nor.new).faults ≡ (N.device nor.old).faults) }
-    // it is stopped only where it was, or where its count rose
+    // it is stopped only if it was before, or if its count rose
     ensures endures { Endures (beneath_of (N.device nor.old)) (beneath_of (N.device nor.new)) }
 {
     match Volume::format(nor, golden, name, used, FORM) {
         Ok(()) => Ok(()),
-        // golden fits, so that this was stopped
+        // golden fits, so that the board was stopped
         Err(FormatFault::Stopped | FormatFault::Empty | FormatFault::TooLarge) => Err(Stopped),
     }
 }

@@ -25,7 +25,7 @@ use dg_nor::{Nor, Stopped};
 use dg_rules::Cause;
 use dg_volume::Volume;
 
-/// Whether what a chip keeps, and its order, are surely as they were before such an answer.
+/// Whether such an answer surely leaves what a chip keeps, and its order, unchanged.
 fn leaves_chip(heard: Heard) -> bool
     ensures { IsTrue result → LeavesChip heard }
 {
@@ -42,7 +42,7 @@ fn leaves_chip(heard: Heard) -> bool
     }
 }
 
-/// What is reported of a chip before a frame. It is not inlined: so it is copied once, to where it is kept until the mote
+/// What is reported of a chip before a frame. It is not inlined, so that it is copied once, to where it is kept until the mote
 /// answers.
 #[inline(never)]
 fn report_before(volume: &Volume) -> ChipReport
@@ -51,7 +51,7 @@ fn report_before(volume: &Volume) -> ChipReport
     report_chip(volume)
 }
 
-/// A frame is heard, where the mote is on: what its chip keeps is told by its own volume. One that is off refuses it.
+/// A mote that is on hears a frame: its own volume exposes what its chip keeps. A mote that is off refuses it.
 #[inline(never)]
 pub(crate) fn hear<N: Nor>(
     runs: &mut Option<Node>,

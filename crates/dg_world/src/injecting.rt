@@ -109,7 +109,7 @@ fn inject<N: Nor>(
     }
 }
 
-/// Whether a mote knows the images of this number: a narrow one only those that its frames speak of, and golden.
+/// Whether a mote knows the images of this number: a narrow one only those that its frames name, and golden.
 pub(crate) fn knows(wide: bool, image: u8) -> bool
     ensures { result ≡ knows wide image }
 {

@@ -29,7 +29,7 @@ impl World {
     }
 }
 
-/// Whether an event makes the board of its mote, which has this number, known, where that is orderly after it.
+/// Whether an event makes the board of its mote, which has this number, known, if that is orderly after it.
 pub(crate) fn makes_known(shared: &Shared, mote: u8, event: &Event) -> bool
     requires { mote < most_motes }
     ensures { (w : RuleWorld) → IsShared shared.now w → mote_of event.now ≡ mote → IsTrue result ↔ MakesKnown w event.now }
@@ -68,15 +68,15 @@ fn is_declared(shared: &Shared, mote: u8, image: u8, version: u32) -> bool
     }
 }
 
-/// Whether a board is known, or was made so.
+/// Whether a board is known, or was made known.
 pub(crate) fn is_watched(known: bool, makes: bool) -> bool
     ensures { result ≡ (known || makes) }
 {
     known || makes
 }
 
-/// Whether a board is known after an event, which runs this then and whose order was seen or not, where it was known before
-/// or the event makes it so.
+/// Whether a board is known after an event that leaves `runs` there. `seen` is whether the chip is orderly, if that was seen.
+/// `known` is whether the board was known before or the event makes it known.
 pub(crate) fn known_after(runs: &Option<Node>, seen: Option<bool>, known: bool) -> bool
     ensures { (c : List ℕ) → KnownAfter known seen runs.now c result }
 {
@@ -94,7 +94,7 @@ pub(crate) fn has(boards: &[bool; MOST_MOTES], mote: u8) -> bool
     boards[usize::from(mote)]
 }
 
-/// Whether a board is known changes.
+/// Sets whether a board is known.
 pub(crate) fn note(boards: &mut [bool; MOST_MOTES], mote: u8, known: bool)
     requires { mote < most_motes }
     ensures here { slice_index_or boards.new mote false ≡ known }

@@ -45,7 +45,7 @@ impl Links {
     }
 }
 
-/// The second mote is a neighbour of the first one. Numbers that no mote has are passed over.
+/// The second mote is a neighbour of the first one. Numbers that no mote has are ignored.
 fn note(neighbours: &mut [PageBits<MOST_MOTES>; MOST_MOTES], a: u8, b: u8)
     ensures { (x y : ℕ) → x < most_motes → y < most_motes
         → is_noted neighbours.new x y ≡ ((x == a && y == b) || is_noted neighbours.old x y) }

@@ -1,4 +1,4 @@
-//! Mounting: the boards of motes are used as they stand.
+//! Mounting: the boards of motes are used as they are.
 ghost use Rattle.std.specs.Prelude.{◌≡◌, ◌<◌, ◌≤◌, ℕ, List, false, map, length, slice_get, Some, Ok, Err, OnOk, IsErrOf};
 ghost use Rattle.dg_nor.specs.Device.{Device, Endures};
 ghost use Rattle.dg_nor.specs.Fuse.{beneath_of};
@@ -12,7 +12,7 @@ ghost use Rattle.dg_world.specs.Mounted.{StandFor, MountStops, NoVolumeAt};
 use dg_nor::Nor;
 use dg_volume::{MountFault, Volume};
 
-/// Why the boards of motes cannot be used as they stand.
+/// Why the boards of motes cannot be used as they are.
 #[derive(Clone, Copy, Debug, PartialEq, Eq)]
 pub enum MountStopped {
     /// This board stopped.
@@ -57,7 +57,7 @@ fn mount_board<N: Nor>(nor: &mut N) -> Result<(), MountFault>
     ensures calm_no_volume { IsErrOf result MountFault.NotAVolume → (N.device nor.new).faults ≡ (N.device nor.old).faults }
     ensures stopped { IsErrOf result MountFault.Stopped → ReadStopped (N.device nor.old) (N.device nor.new) }
     ensures same_image { (N.device nor.new).image ≡ (N.device nor.old).image }
-    // it is stopped only where it was, or where its count rose
+    // it is stopped only if it was before, or if its count rose
     ensures endures { Endures (beneath_of (N.device nor.old)) (beneath_of (N.device nor.new)) }
 {
     match Volume::mount(nor) {

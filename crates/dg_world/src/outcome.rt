@@ -10,24 +10,23 @@ use dg_nor::Stopped;
 use dg_rules::Cause;
 use dg_volume::MountFault;
 
-/// The outcome of an event. It is filled in as the event goes on, where it stands: of most events little comes, and all of
-/// this is large.
+/// The outcome of an event. It is filled in place as the event goes on, since it is large, and most events set little of it.
 #[derive(Drop)]
 pub struct Outcome {
     /// Why the event was refused.
     pub(crate) refused: Option<Cause>,
-    /// What is reported of the chip before the event, where the event may make something else of it.
+    /// What is reported of the chip before the event, if the event may change it.
     pub(crate) before: Option<ChipReport>,
     /// What is reported of it after the event.
     pub(crate) after: Option<ChipReport>,
     pub(crate) started: Option<StartedImage>,
-    /// Whether the chip is orderly, where an act on its volume or a look at it told that.
+    /// Whether the chip is orderly, if an act on its volume or a look at it reported that.
     pub(crate) orderly: Option<bool>,
-    /// Whether one of the five values above may be there. Of most events none is: so they are asked for by one flag.
+    /// Whether any of the five values above may be set. For most events all are unset, so that one flag is checked for them.
     pub(crate) is_told: bool,
     /// The frame that is sent.
     pub(crate) outbox: Outbox,
-    /// What the mote did that heard a frame last. It is not cleared: only a frame that is heard asks for it.
+    /// What the mote that heard a frame last did. It is not cleared: it is read only after a frame was heard.
     pub(crate) heard: Heard,
     ghost untold: { is_told ≡ false → is_untold refused before after started orderly ≡ true },
 }
@@ -35,7 +34,7 @@ pub struct Outcome {
 impl Outcome {
     ghost use Rattle.dg_world.specs.inner.Outcomes.{IsNothing};
 
-    /// Nothing came of it yet.
+    /// An empty outcome.
     pub(crate) fn new() -> Outcome
         ensures { IsNothing result }
     {
@@ -51,7 +50,7 @@ impl Outcome {
         }
     }
 
-    /// Nothing came of the next event yet. What is so already is not written again.
+    /// Clears the outcome for the next event. What is clear already is not written again.
     pub(crate) fn clear(&mut self)
         ensures { IsNothing self.new }
     {
@@ -141,7 +140,7 @@ impl From<Stopped> for Fault {
     }
 }
 
-/// How an event ended whose power may have been cut.
+/// How an event whose power may have been cut ended.
 #[derive(Clone, Copy, Debug, PartialEq, Eq)]
 pub(crate) enum Power {
     Stays,

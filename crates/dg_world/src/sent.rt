@@ -8,7 +8,7 @@ use dg_frame::Message;
 /// A frame that was sent, as its message, and by which mote. No mote of a world needs its bytes.
 #[derive(Drop)]
 pub struct SentFrame {
-    // It stands first, so that it is copied in one piece.
+    // It is the first field, so that it is copied in one piece.
     pub(crate) message: Message,
     pub(crate) by: u8,
     ghost known: { by < most_motes },

@@ -1,4 +1,4 @@
-//! Starts: a board starts, and its mote is made anew.
+//! Starts: a board starts, and a new mote is made.
 ghost use Rattle.std.specs.Prelude.{◌≡◌, ◌^◌, ◌<◌, ℕ, None, OnOk};
 ghost use Rattle.dg_volume.specs.Stands.{Stands};
 ghost use Rattle.dg_mote.specs.Effects.{reset_effect};

@@ -53,7 +53,7 @@ fn push_outcome(mote: u8, outcome: &Outcome, reported: bool, out: &mut Vec<Repor
     }
 }
 
-/// The same, where it is no frame. It is not inlined: most events report nothing else.
+/// The same, for an outcome without a frame. It is not inlined: most events report no more than a frame.
 #[inline(never)]
 fn push_told(mote: u8, outcome: &Outcome, out: &mut Vec<Report>)
     requires unsent { sent_in outcome.now.outbox ≡ None }
@@ -167,8 +167,8 @@ fn mounts_board(event: &Event) -> bool
     }
 }
 
-/// Appends the lines of what a cut changed of what is reported, which is read from the board, and answers whether its chip
-/// is orderly. A known board is mounted by halving. There is capacity for the lines.
+/// Reads the board after a cut, appends the lines of what the cut changed in its report, and answers whether its chip is
+/// orderly. A known board is mounted by halving. There is capacity for the lines.
 fn look_again<N: Nor>(
     mote: u8,
     before: &Option<ChipReport>,
@@ -192,7 +192,7 @@ fn look_again<N: Nor>(
     Ok(volume.orderly())
 }
 
-/// Appends the lines of what is reported of a volume now, where this was reported of it before.
+/// Appends the lines of what changed in the report of a volume since `before`.
 fn report_changes(mote: u8, before: &Option<ChipReport>, volume: &Volume, out: &mut Vec<Report>)
     requires capacity { vec_len out.old + MOST_CHANGES ≤ vec_capacity out.old }
     ensures reported { (s : Store) → Tells volume.now s → CutChangesAre mote before.now s out.old.items out.new.items }
@@ -205,8 +205,8 @@ fn report_changes(mote: u8, before: &Option<ChipReport>, volume: &Volume, out: &
     }
 }
 
-/// Whether a board that is known or not is mounted by halving after a cut: where the cut event was an order, which leaves
-/// a known board so.
+/// Whether a board is mounted by halving after a cut: if it is known and the cut event was an order, after which a known board
+/// is still known.
 fn is_kept_known(known: bool, event: &Event) -> bool
     ensures only { IsTrue result → (known ≡ true) × IsOrder event.now }
     ensures each { (known ≡ true) → IsOrder event.now → IsTrue result }
@@ -222,7 +222,8 @@ fn is_kept_known(known: bool, event: &Event) -> bool
     }
 }
 
-/// The same where the board is looked at: where what is reported may be something else now, or its order is to be known.
+/// The same where the board is looked at: because its report may have changed, or because it must be known whether it is
+/// orderly.
 fn look_after_cut<N: Nor>(
     mote: u8,
     event: &Event,

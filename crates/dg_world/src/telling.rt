@@ -1,4 +1,4 @@
-//! What a world tells of the event that was applied last, and of its motes.
+//! What a world exposes of the event that was applied last, and of its motes.
 ghost use Rattle.std.specs.Prelude.{◌≡◌, ℕ, ◌<◌, true, List, length, slice_get, Some, option_map, IfSome};
 ghost use Rattle.dg_nor.specs.Device.{Device};
 ghost use Rattle.dg_frame.specs.Grammar.{in_range};
@@ -24,7 +24,7 @@ impl World {
         self.outcome.outbox.message()
     }
 
-    /// What the mote did that heard a frame last.
+    /// What the mote that heard a frame last did.
     pub fn heard(&self) -> Heard
         ensures { result ≡ self.now.outcome.heard }
     {

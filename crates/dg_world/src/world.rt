@@ -4,7 +4,7 @@ use crate::outcome::Outcome;
 use crate::shared::Shared;
 use dg_node::Node;
 
-/// A world of 1 to 16 motes. Their boards stand beside it.
+/// A world of 1 to 16 motes. Their boards are kept apart from it.
 #[derive(Drop)]
 pub struct World {
     /// The moment, in milliseconds.
@@ -16,7 +16,8 @@ pub struct World {
     pub(crate) motes: Vec<Option<Node>>,
     /// The motes whose boards are known: they may be mounted again by halving.
     pub(crate) known: [bool; MOST_MOTES],
-    /// The outcome of an event. It is kept for its memory alone: to fill this many bytes anew takes long beside most events.
+    /// The outcome of an event. It is kept only to reuse its memory: filling this many bytes again takes long compared with
+    /// most events.
     pub(crate) outcome: Outcome,
 }
 
@@ -31,7 +32,7 @@ pub enum DeclareFault {
 /// Why an event is not applied. After `Flash`, `NotAVolume` and `NoImage` the world is not used again.
 #[derive(Clone, Copy, Debug, PartialEq, Eq)]
 pub enum WorldFault {
-    /// There was no memory. Nothing has changed.
+    /// Out of memory. Nothing has changed.
     Memory,
     /// This board stopped.
     Flash { board: u8 },

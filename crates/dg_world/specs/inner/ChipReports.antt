@@ -1,4 +1,4 @@
--- What is reported of a chip by what its volume tells (docs/ARCHITECTURE.md, "The way of a script line").
+-- What is reported of a chip, from what its volume exposes (docs/ARCHITECTURE.md, "The way of a script line").
 use Rattle.std.specs.Prelude.{ℕ, ◌==◌, ◌&&◌, if◌then◌else◌, List, ◌++◌, slice_index_or, Option, Some, None}
 use Rattle.std.specs.List.{filter_map, range_with_len}
 use Rattle.dg_volume.specs.Sizes.{images}

@@ -10,14 +10,14 @@ use Rattle.dg_world.specs.Worlds.{SiteStands, MayRun}
 use Rattle.dg_world.specs.declared.context.EventContext.{EventContext}
 use Rattle.dg_node.specs.declared.node.Node.{Node}
 
--- The event may be applied so: the mote is its own, what runs there is in time, and a board that is known is one that may be
--- mounted again by halving.
+-- The event may be applied in this context: the mote is its own, what runs there is in time, and a board that is known is one
+-- that may be mounted again by halving.
 pub record MayApply (o : EventContext) (event : Event) (board : Device) (runs : Option Node) : Type 0 where
   pub here : o.mote ≡ mote_of event
   pub mote : MayRun board.image o.moment runs
   pub known : IsTrue o.known → IsKnownChip board.image
 
--- it is applied so in world w
+-- it is applied in this context in world w
 pub record AppliesIn (o : EventContext) (w : RuleWorld) (event : Event) (board : Device) (runs : Option Node) : Type 0 where
   pub shared : IsShared o.shared.now w
   pub stands : SiteStands board runs (site w (mote_of event))

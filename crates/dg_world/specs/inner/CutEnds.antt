@@ -18,7 +18,7 @@ use Rattle.dg_node.specs.declared.node.Node.{Node}
 use Rattle.dg_world.specs.inner.EventOutcomes.{EventOutcome, EventEnded, Refused, Unreported, Sends, Changes, Starts, Halt}
 use Rattle.dg_world.specs.inner.EventOutcomes.{Stopped, NotAVolume, NoImage, Whole, Cut}
 
--- how an event ended that answered this, where a cut fired over a board that is not stopped itself, or not
+-- how an event that answered this ended, by whether a cut fired over a board that is not itself stopped
 abbrev pub ended : Bool → Result EventOutcome Halt → Result EventEnded Halt
 ended blown (Ok outcome) = Ok (Whole outcome)
 ended true (Err (Stopped before)) = Ok (Cut before)
@@ -43,7 +43,7 @@ pub record EventIsCut (w : RuleWorld) (m : ℕ) (does : Does) (cut : Option Powe
   pub leaves : MayLeave Stands IsNear deed.trail (before_cut cut) image
   pub is_report : BeforeReports before deed.trail (store_at w m)
 
--- What an event answers whose power may have been cut. The host was a and is b.
+-- What an event whose power may have been cut answers. The host was a and is b.
 abbrev pub PlayEnds : Result EventEnded Halt → RuleWorld → (m : ℕ) → Does → Option PowerCut → (a b : Host) → Type 0
 PlayEnds (Ok (Whole (Refused why))) w m does cut a b = (does ≡ Refuses why) × (b.board.image ≡ a.board.image) × (b.runs ≡ a.runs)
 PlayEnds (Ok (Whole Unreported)) w m does cut a b = EventIsWhole w m does cut b.runs b.board.image Unreported
@@ -55,8 +55,8 @@ PlayEnds (Err (Stopped before)) w m does cut a b = IsStopped w m does cut b.boar
 PlayEnds (Err NoImage) w m does cut a b = StepFoundNoImage does cut b.board.image
 PlayEnds (Err NotAVolume) w m does cut a b = ⊥
 
--- The event ended so, and the board's count did not fall: it is stopped only where it was, or where its count rose. The count
--- stays unless the board stopped, also where a cut fired.
+-- The event ended so, and the board's count did not fall: it is stopped only if it was before, or if its count rose. The count
+-- does not change unless the board stopped, even where a cut fired.
 pub record EventPlayed (r : Result EventEnded Halt) (w : RuleWorld) (m : ℕ) (does : Does) (cut : Option PowerCut)
     (a b : Host) : Type 0 where
   pub ends : PlayEnds r w m does cut a b

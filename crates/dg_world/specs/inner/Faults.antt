@@ -26,7 +26,7 @@ abbrev pub fault_of_tick : TickFault → Fault
 fault_of_tick tick_fault.Stopped = fault.Stopped
 fault_of_tick tick_fault.NoImage = fault.NoImage
 
--- what is reported of an event of a node that leaves what its chip keeps and its order, by how it ended
+-- what is reported of a node's event that changes neither what its chip keeps nor its order, by how it ended
 abbrev pub outcome_by_end : NodeEnd → (frame : Option (List ℕ)) → Result EventOutcome Halt
 outcome_by_end Quiet frame = Ok (outcome_sent frame)
 outcome_by_end Sent frame = Ok (outcome_sent frame)

@@ -1,4 +1,4 @@
--- The last lines of a mote, by what its volume tells (docs/SCRIPTS.md, "The report").
+-- The last lines of a mote, from what its volume exposes (docs/SCRIPTS.md, "The report").
 use Rattle.std.specs.Prelude.{ℕ, List, slice_index_or, Option, Some, None}
 use Rattle.std.specs.List.{filter_map, range_with_len}
 use Rattle.dg_volume.specs.declared.volume.Kept.{Kept}

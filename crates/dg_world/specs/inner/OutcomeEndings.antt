@@ -28,7 +28,7 @@ use Rattle.dg_node.specs.declared.report.ChipReport.{ChipReport}
 use Rattle.dg_world.specs.inner.EventOutcomes.{EventOutcome, Refused, Unreported, Sends, Changes, Starts, Halt}
 use Rattle.dg_world.specs.inner.EventOutcomes.{Stopped, NotAVolume, NoImage}
 
--- the frame of a outcome, and the outcome of what a tick sent, if anything
+-- the frame of an outcome, and the outcome of what a tick sent, if anything
 abbrev pub outcome_frame : EventOutcome → Option (List ℕ)
 outcome_frame (Refused why) = None
 outcome_frame Unreported = None
@@ -52,8 +52,8 @@ outcome_lines m (Sends bytes) = frame_lines m (message_of bytes true)
 outcome_lines m (Changes old new) = change_lines m old new
 outcome_lines m (Starts x) = Start m x.image_version.image x.image_version.version x.length x.crc ∷ []
 
--- The outcome is the deed: the mote, the report and what is sent are the rules', the chip stands for the last store,
--- and what was started stands in program memory.
+-- The outcome matches the deed: the mote, the report and what is sent are those of the rules, the chip stands for the last
+-- store, and what was started is in program memory.
 pub record ReportsEffect (w : RuleWorld) (m : ℕ) (d : Deed) (outcome : EventOutcome) (u : Option Node)
     (image : List ℕ) : Type 0 where
   pub runs : Option Running
@@ -72,19 +72,19 @@ pub record EventDone (w : RuleWorld) (m : ℕ) (does : Does) (u : Option Node) (
   pub ran : Ran (operations deed.trail) old new
   pub tells : ReportsEffect w m deed outcome u new.image
 
--- neither the order nor what is kept is another
+-- neither the order nor what is kept has changed
 pub record SameReport (s t : Store) : Type 0 where
   pub kept : t.kept ≡ s.kept
   pub order : t.order ≡ s.order
 
--- an answer to a frame with which neither is another: an order may be kept with the others, and a slot taken, or a page sealed
+-- an answer to a frame that changes neither: with the others an order may be kept, a slot taken, or a page sealed
 abbrev pub LeavesChip : Heard → Type 0
 LeavesChip Other = ⊥
 LeavesChip (Asks image page) = ⊥
 LeavesChip (Sealed image page) = ⊥
 LeavesChip answer = Unit {0}
 
--- What is reported of a chip that stood for s is this, or it is the same wherever a stop leaves the trail.
+-- This is what is reported of a chip that stood for s, or the report is the same wherever a stop leaves the trail.
 abbrev pub BeforeReports : Option ChipReport → Trail Store → Store → Type 0
 BeforeReports None t s = (k : ℕ) (u : Store) → Leaves IsNear t k u → SameReport s u
 BeforeReports (Some x) t s = IsReportOf x s
@@ -101,7 +101,7 @@ pub record EventFoundNoImage (does : Does) (old new : Device) : Type 0 where
   pub ran : Ran (operations deed.trail) old new
   pub stands : Stands new.image (last deed.trail)
 
--- What an event answers that does this at mote m, from a board that stood for the mote's store: the host was a and is b.
+-- What an event that does this at mote m answers, from a board that stood for the mote's store: the host was a and is b.
 abbrev pub OutcomeEnds : Result EventOutcome Halt → RuleWorld → (m : ℕ) → Does → (a b : Host) → Type 0
 OutcomeEnds (Ok (Refused why)) w m does a b = (does ≡ Refuses why) × Looked a.board b.board × (b.runs ≡ a.runs)
 OutcomeEnds (Ok Unreported) w m does a b = EventDone w m does b.runs a.board b.board Unreported

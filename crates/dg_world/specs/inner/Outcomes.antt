@@ -14,7 +14,7 @@ use Rattle.dg_world.specs.declared.outcome.Power.TheVariants as power
 use Rattle.dg_world.specs.declared.world.WorldFault.{WorldFault}
 use Rattle.dg_world.specs.declared.world.WorldFault.TheVariants.{Flash, NotAVolume as NotAVolumeFault, NoImage as NoImageFault}
 
--- nothing came of it yet
+-- the outcome is empty
 pub record IsNothing (t : Outcome) : Type 0 where
   pub refused : t.refused ≡ None
   pub before : t.before ≡ None
@@ -31,11 +31,11 @@ outcome_by None None None (Some a) (Some b) = Changes a b
 outcome_by None None None (Some a) None = Unreported
 outcome_by None None None None b = Unreported
 
--- what an event did that has this outcome
+-- what an event with this outcome did
 abbrev pub outcome_of : Outcome → EventOutcome
 outcome_of t = outcome_by (sent_in t.outbox) t.refused t.started t.before t.after
 
--- why an event was not done that answers this, where this was reported of the chip before
+-- why an event that answers this was not done, where this was reported of the chip before
 abbrev pub halt_of : Fault → Option ChipReport → Halt
 halt_of fault.Stopped before = Stopped before
 halt_of fault.NotAVolume before = NotAVolume
@@ -50,7 +50,7 @@ ended_as (Ok power.Stays) t = Ok (Whole (outcome_of t))
 ended_as (Ok power.Cut) t = Ok (Cut t.before)
 ended_as (Err f) t = Err (halt_of f t.before)
 
--- the frame that a step sends which has this outcome, if it sends one
+-- the frame that a step with this outcome sends, if it sends one
 abbrev pub stepped : {T : Type 0} → Result T Fault → Outcome → Result (Option (List ℕ)) Halt
 stepped (Ok x) t = Ok (sent_in t.outbox)
 stepped (Err f) t = Err (halt_of f t.before)

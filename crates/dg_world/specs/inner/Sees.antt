@@ -37,12 +37,12 @@ IsUndeclared (Sends bytes) = ⊥
 IsUndeclared (Changes old new) = ⊥
 IsUndeclared (Starts line) = ⊥
 
--- an injection or an order tells whether the chip is orderly, or did not look at it
+-- an injection or an order reports whether the chip is orderly, or did not look at it
 abbrev pub SeesInjected : Option Bool → EventOutcome → List ℕ → List ℕ → Type 0
 SeesInjected (Some orderly) outcome c d = SeesOrder orderly d
 SeesInjected None outcome c d = (d ≡ c) × IsUndeclared outcome
 
--- what a mote does by itself is told by the mote: one that is off does nothing
+-- what a mote does by itself does not report whether the chip is orderly, and a mote that is off does nothing
 pub record SeesMote (t : Outcome) (u : Option Node) (c d : List ℕ) : Type 0 where
   pub untold : t.orderly ≡ None
   pub off : u ≡ None → d ≡ c
@@ -60,8 +60,8 @@ EventSees (Reset mote dt word) t u c d = SeesStart t u
 EventSees (Inject mote image version dt word) t u c d = SeesInjected t.orderly (outcome_of t) c d
 EventSees (OrderEvent mote number image version dt word) t u c d = SeesInjected t.orderly (outcome_of t) c d
 
--- A step tells whether the chip is orderly, or a mote is off after it whose board is as it was where it was known,
--- and was not made known.
+-- A step reports whether the chip is orderly. If it does not, and the mote is off after it, then a known board is unchanged,
+-- and the event does not make the board known.
 abbrev pub StepSees : RuleWorld → Event → Bool → Option Bool → Option Node → List ℕ → List ℕ → Type 0
 StepSees w event known (Some orderly) u c d = SeesOrder orderly d
 StepSees w event known None u c d = u ≡ None → (known ≡ true → d ≡ c) × (MakesKnown w event → ⊥)
@@ -71,7 +71,7 @@ abbrev pub SeesCut : RuleWorld → Event → Bool → Option Bool → List ℕ �
 SeesCut w event known (Some orderly) c = SeesOrder orderly c
 SeesCut w event known None c = (known ≡ true → ⊥) × (MakesKnown w event → ⊥)
 
--- Whether a board is known afterwards: as the mote tells that is on, or as was seen; else as it was before.
+-- Whether a board is known afterwards: by the volume of a mote that is on, else by what was seen, else as before.
 abbrev pub KnownAfter : Bool → Option Bool → Option Node → List ℕ → Bool → Type 0
 KnownAfter known seen (Some r) c result =
     IsControlOf c (control_of (volume_of r.mote)) → (result ≡ true) ↔ ((known ≡ true) × IsOrderlyChip c)

@@ -38,7 +38,7 @@ pub record CutChangesAre (m : ℕ) (before : Option ChipReport) (t : Store) (rep
       → lines ≡ changes m s t
   pub report_now : report ≡ report_before ++ lines
 
--- what a look at the board tells, which stands for t: the lines of what the cut changed, or nothing where the board stopped
+-- what a look at a board that stands for t reports: the lines of what the cut changed, or nothing where the board stopped
 abbrev pub CutReported : {T : Type 0} → Result T Fault → (m : ℕ) → Option ChipReport → Store
     → (report_before report : List Report) → Type 0
 CutReported (Ok u) m before t report_before report = CutChangesAre m before t report_before report
@@ -46,7 +46,7 @@ CutReported (Err fault.Stopped) m before t report_before report = report ≡ rep
 CutReported (Err fault.NotAVolume) m before t report_before report = ⊥
 CutReported (Err fault.NoImage) m before t report_before report = ⊥
 
--- and how it leaves the board, which is only read
+-- how that look leaves the board, which is only read
 abbrev pub CutRead : {T : Type 0} → Result T Fault → Device → Device → Type 0
 CutRead (Ok u) old new = BoardOnlyRead old new × (new.faults ≡ old.faults)
 CutRead (Err fault.Stopped) old new = (new.stopped ≡ true) × BoardOnlyRead old new
@@ -63,15 +63,15 @@ StepEnds (Err NoImage) w x reported report_before b = StepFoundNoImage (does w x
     × (b.reported ≡ report_before)
 StepEnds (Err NotAVolume) w x reported report_before b = ⊥
 
--- The step ended so at its board, whose count did not fall, and stays unless the board stopped. The board_state of its mote was a
--- and is b.
+-- The step ended so at its board, and the `board_state` of its mote was a and is b. The board's count did not fall, and does
+-- not change unless the board stopped.
 pub record Stepped (r : Result (Option (List ℕ)) Halt) (w : RuleWorld) (x : Step) (reported : Bool) (a b : BoardState)
     : Type 0 where
   pub ends : StepEnds r w x reported a.reported b
   pub endures : Endures (beneath_of a.board) (beneath_of b.board)
   pub count : CountStays r a.board b.board
 
--- What a step did at the board_state of its mote that answers r and has this outcome.
+-- What a step that answers r and has this outcome did at the `board_state` of its mote.
 pub record StepDid (r : Result (Unit {0}) Fault) (o : EventContext) (x : Step) (t : Outcome) (a b : BoardState) : Type 0 where
   pub steps : (w : RuleWorld) → StepInRange (length w.sites) x → AppliesIn o w x.event a.board a.runs
       → Stepped (stepped r t) w x o.reported a b

@@ -1,4 +1,4 @@
--- Events of which nothing is told but a frame (docs/ARCHITECTURE.md, "The way of a script line").
+-- Events of which nothing but a frame is reported (docs/ARCHITECTURE.md, "The way of a script line").
 use Rattle.std.specs.Prelude.{Bool, ◌&&◌, is_none, Option}
 use Rattle.dg_script.specs.declared.report.Cause.{Cause}
 use Rattle.dg_node.specs.declared.report.ChipReport.{ChipReport}
