@@ -66,7 +66,7 @@ module _ (table : List Row) (stores : List Store) (links : List (ℕ × ℕ)) wh
   first_golden : StoresKeepGolden stores → WorldKeepsGolden First
   first_golden h m here = subst SiteKeepsGolden (sym (first_site m)) (record { kept = h m (subst (λ (n : ℕ). m < n) first_count here); asks = tt })
 
--- the motes are as many behind each item
+-- the number of motes is the same after each item
 item_count : (motes : ℕ) (item : Item) (w v : World) (reports : List Report) → length w.sites ≡ motes → ItemInRange motes item → ItemStep w item v reports → length v.sites ≡ motes
 item_count motes (Declares row) w v reports count range did = ap length (ap (λ (u : World). u.sites) did.world ∙ declared_sites (row_at w.declared row.image row.version) w row) ∙ count
 item_count motes (Applies x reported) w v reports count range did = step_count w x v did.0 (subst (λ (n : ℕ). StepInRange n x) (sym count) range) did.1 ∙ count
@@ -147,14 +147,14 @@ stays_golden laws motes table stores links played v count h run ranges =
       found = λ e fits. laws.found v e all.0.holds.golden (subst (λ (n : ℕ). EventInRange n e) (sym all.0.holds.count) fits);
     }
 
--- the world behind it
+-- the world after it
 pub keeps_behind : GoldenLaws → (motes : ℕ) (table : List Row) (stores : List Store) (links : List (ℕ × ℕ)) (played : List Played) (v : World) → length stores ≡ motes → StoresKeepGolden stores → Plays (first_world table links none_narrow stores) played v
     → AllByRecursion (PlayedInRange motes) played → Keeps motes v
 keeps_behind laws motes table stores links played v count h run ranges =
     let first : Keeps motes (first_world table links none_narrow stores) = record { golden = first_golden table stores links h; count = first_count table stores links ∙ count } in
     (plays (λ past w. Keeps motes w) (PlayedInRange motes) (λ past p. LeavesGolden p) (played_keeps laws motes) [] played (first_world table links none_narrow stores) v run ranges first).0.holds
 
--- no part of a plan finds that there is no image
+-- no part of a plan lacks an image to start
 part_finds : GoldenLaws → (motes : ℕ) (w : World) (part : Part) (dt word : ℕ) (bytes : List ℕ) (old new : List Device) → Keeps motes w → PartFits motes part → FindsNoImage w (event_of part dt word bytes) old new → ⊥
 part_finds laws motes w (Begins m) dt word bytes old new k fits none =
     laws.goes_on w none.world (uncut (Reset m dt word)) k.golden (record { event = subst (λ (n : ℕ). m < n) (sym k.count) fits; cut = tt }) none.ends

@@ -110,7 +110,7 @@ inside motes (Last from to dt word) alone known = absurd alone
 inside motes (Inject m image version dt word) alone known = absurd alone
 inside motes (Order m number image version dt word) alone known = absurd alone
 
--- others begin behind the event where they begin before it
+-- a mote that has not begun after the event had not begun before it
 before_it : (motes : ℕ) (event : Event) (m : ℕ) → IsAlone event → begun_behind motes event ≤ m → begun_before motes event ≤ m
 before_it motes (Tick k dt word) m alone h = h
 before_it motes (Frame k dt word bytes) m alone h = h
@@ -226,7 +226,7 @@ module _ (motes : ℕ) (links : List (ℕ × ℕ)) (event : Event) (out : Outbox
     };
   }
 
-  -- where it was not handed to all
+  -- where its frame was not forwarded to all
   pub unsent_ends : Puts p.written q.written (event_lines (event ∷ [])) → HandedToSome links motes (mote_of event) (sent_in out) p.inboxes q.inboxes → q.faults ≡ p.faults → p.failures ≤ q.failures → Rose p.failures q.failures → q.port ≡ p.port → AppliedPartly stop.Link motes links event p q
   unsent_ends put some faults rise rose port = record {
     text = event_lines (event ∷ []);

@@ -2,7 +2,7 @@
 use Rattle.std.proofs.Common.{◌≡◌, ℕ, zero, suc, ◌+◌, ◌*◌, ◌<◌, ◌≤◌, ◌⊎◌, List, [], ◌++◌, length, append-nil, append_assoc, refl, ap, sym, ◌∙◌, ⊎_elim, inl, inr, arith, add-one, length-append}
 use Rattle.dg_serve.specs.Each.{each}
 
--- one number more
+-- one more number
 pub each_more : {A : Type 0} (n : ℕ) (f : ℕ → List A) → each (suc n) f ≡ each n f ++ f n
 unfolding each
 each_more n f = refl
@@ -23,7 +23,7 @@ last_or n k h = omega_or n k h
     omega_or (suc a) zero h = absurd (omega arith)
     omega_or (suc a) (suc b) h = ⊎_elim (λ e. inl (ap suc e)) (λ l. inr (omega arith)) (omega_or a b (omega arith))
 
--- what comes behind the part of a number
+-- what comes after the part of a number
 pub each_split : {A : Type 0} (n k : ℕ) (f : ℕ → List A) → n < k → (rest : List A) × ((each n f ++ f n) ++ rest ≡ each k f)
 each_split n zero f h = absurd (omega arith)
 each_split n (suc k) f h =
@@ -34,7 +34,7 @@ each_split n (suc k) f h =
     (r.0 ++ f k, sym (append_assoc (each n f ++ f n) r.0 (f k)) ∙ ap (λ l. l ++ f k) r.1 ∙ sym (each_more k f)))
     (last_or n k h)
 
--- how many there are at most
+-- a bound on the length
 pub each_few : {A : Type 0} (n c : ℕ) (f : ℕ → List A) → ((k : ℕ) → length (f k) ≤ c) → length (each n f) ≤ n * c
 unfolding each
 each_few zero c f h = omega arith

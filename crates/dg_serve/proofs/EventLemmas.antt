@@ -69,18 +69,18 @@ handed_told w links motes mote frame (Some boxes) e = ap Some (handed_same w lin
 
 -- ---- an event that was applied
 
--- the moment behind an event
+-- the moment after an event
 abbrev pub behind : (motes : ℕ) → Moment → World → Moment
 behind motes s w = record s { world = w; inboxes = option_map (handed w motes (new_frames s.world w)) s.inboxes }
 
 pub steps_on : (motes : ℕ) (s : Moment) (event : Event) (u : Option Node) (frame : Option (List ℕ)) (b : Device) (told : List Report) → (d : StepDone s.world (uncut event) true frame [] (board_state b u told)) → Steps motes s event (behind motes s d.world)
 steps_on motes s event u frame b told d = record { reports = d.reports; step = d.step; same_reading = refl; same_clock = refl; same_draws = refl; inboxes = refl }
 
--- its frame, as the world tells it
+-- its frame, as the world keeps it
 pub frames_of : (s : Moment) (event : Event) (u : Option Node) (frame : Option (List ℕ)) (b : Device) (told : List Report) → (d : StepDone s.world (uncut event) true frame [] (board_state b u told)) → new_frames s.world d.world ≡ sent_now (mote_of event) frame
 frames_of s event u frame b told d = ap (drop (length s.world.sent)) d.sent ∙ frames_sent s.world.sent (sent_now (mote_of event) frame)
 
--- What is known of a mote at whose board an event is.
+-- What is known of the mote and the board of an event.
 pub record IsHere (links : List (ℕ × ℕ)) (motes begun on ahead : ℕ) (event : Event) (first : List Device) (s : Moment) (p q : Standing) (before after : Device) (v u : Option Node) : Type 0 where
   pub stands : StandsFor motes begun links ahead first s p
   pub known : mote_of event < motes
@@ -106,7 +106,7 @@ module _ (links : List (ℕ × ℕ)) (motes begun on ahead : ℕ) (event : Event
   this_board : (b : Device) → slice_get q.boards (mote_of event) ≡ Some b → b ≡ after
   this_board b now = same_of (slice_get q.boards (mote_of event)) b after now (ap (λ xs. slice_get xs (mote_of event)) h.put ∙ get_set_same p.boards (mote_of event) after (got_within p.boards (mote_of event) before h.was))
 
-  -- the boards of the other motes stand as before
+  -- the boards of the other motes stand for their stores as before
   others_stand : (w : World) → ((m : ℕ) → m ≢ mote_of event → store_at w m ≡ store_at s.world m) → length w.sites ≡ motes → BoardsStandBut (λ m. m ≡ mote_of event) w first q.boards
   others_stand w same count m a b known other was now =
       let x = stands_boards motes begun ahead links first s p h.stands m a b (omega (arith, known, count, h.stands.sites)) (λ e. e) was (other_board m b other now) in
@@ -185,7 +185,7 @@ module _ (links : List (ℕ × ℕ)) (motes begun on ahead : ℕ) (event : Event
       off = off_then;
     }
 
-    -- where the boards stand so, whatever was handed on
+    -- where the boards stand so, whatever was forwarded
     pub boards_then : BoardsStand d.world first q.boards
     boards_then = all_stand d.world (λ m other. ap (λ (y : Site). y.store) (site_there m other)) sites_count
         (λ a was.

@@ -75,7 +75,7 @@ went_none motes begun links p ready = record {
     puts_none None = refl
     puts_none (Some w) = ap Some (sym (append-nil w))
 
--- a volume is one as it was before
+-- the boards of motes that began in either stretch are volumes
 pub volumes_then : (begun mid on : ℕ) (xs ys : List Device) → ((m : ℕ) → mid ≤ m → slice_get ys m ≡ slice_get xs m) → ((m : ℕ) (a : Device) → begun ≤ m → m < mid → slice_get xs m ≡ Some a → IsVolume a.image)
     → ((m : ℕ) (a : Device) → mid ≤ m → m < on → slice_get ys m ≡ Some a → IsVolume a.image) → (m : ℕ) (a : Device) → begun ≤ m → m < on → slice_get xs m ≡ Some a → IsVolume a.image
 volumes_then begun mid on xs ys same first second m a low high was =

@@ -1,4 +1,4 @@
--- A frame that is handed to motes, one after the other.
+-- A frame that is forwarded to motes, one after the other.
 use Rattle.std.proofs.Common.{◌≡◌, ℕ, ◌+◌, ◌<◌, List, [], ◌∷◌, ◌++◌, length, take, append_assoc, refl, ap, sym, ◌∙◌}
 use Rattle.std.specs.Prelude.{Option, Some, None, option_map, Result, Ok, Err, OnErr}
 use Rattle.std.proofs.Math.Seq.{take-append_seam}
@@ -27,7 +27,7 @@ pub handed_more : (f : ℕ → List ℕ) (n : ℕ) (bytes : List ℕ) (o p q : O
 handed_more f n bytes o p q first second =
     second ∙ ap (option_map (handed_to (f n) bytes)) first ∙ sym (told_then (each n f) (f n) bytes o) ∙ ap (λ l. option_map (handed_to l bytes) o) (sym (each_next n f))
 
--- those of the first n numbers are a front of all
+-- those of the first n numbers are a prefix of all
 pub handed_front : (f : ℕ → List ℕ) (n motes : ℕ) (bytes : List ℕ) (o p q : Option Inboxes) → n < motes → p ≡ option_map (handed_to (each n f) bytes) o → q ≡ p → (k : ℕ) × (q ≡ option_map (handed_to (take k (each motes f)) bytes) o)
 handed_front f n motes bytes o p q less handed same =
     let r = each_split n motes f less in

@@ -1,4 +1,4 @@
--- Over a link that tells its inboxes, what waits there was sent by motes of it, and so it is honest.
+-- Over a link that exposes its inboxes, what waits there was sent by motes of the link, and so it is honest.
 use Rattle.std.proofs.Common.{◌≡◌, true≢false, ℕ, zero, suc, true, List, [], ◌∷◌, ◌++◌, length, drop, map, get_or, set, replicate, refl, sym, ap, subst, ◌∙◌, inl, inr}
 use Rattle.std.specs.Prelude.{Option, Some, None, option_map, IsSome, Result}
 use Rattle.std.specs.List.{AllByRecursion}
@@ -59,7 +59,7 @@ InboxHonest table frames = AllByRecursion (IsHonest table) frames
 abbrev pub BoxesHonest : List Row → Inboxes → Type 0
 BoxesHonest table boxes = AllByRecursion (InboxHonest table) boxes.frames
 
--- the inboxes are told, and every frame in them is honest
+-- the inboxes are exposed, and every frame in them is honest
 abbrev pub WaitsHonest : List Row → Option Inboxes → Type 0
 WaitsHonest table None = ⊥
 WaitsHonest table (Some boxes) = BoxesHonest table boxes
@@ -186,7 +186,7 @@ module _ (keeps : KeepsAgreement) (table : List Row) (motes : ℕ) where
         waits = subst (WaitsHonest table) (sym steps.inboxes) (told_handed table t.world motes (new_frames s.world t.world) s.inboxes (all_drop (SentIsWell table) (length s.world.sent) t.world.sent (subst (λ (rows : List Row). AllByRecursion (SentIsWell rows) t.world.sent) same agrees.sent)) h.waits);
       }
 
-  -- the clock changes nothing of it
+  -- reading the clock changes nothing of this
   applied : (s t : Moment) (event : (dt word : ℕ) → Event) (es : List Event) → IsHonestSo table motes s → ((dt word : ℕ) → EventInRange motes (event dt word)) → ((dt word : ℕ) → HonestAlone table (event dt word)) → EventApplied motes s event es t → AllByRecursion (HonestAlone table) es × IsHonestSo table motes t
   applied s t event es h range honest a =
       let between : IsHonestSo table motes a.between = subst (IsHonestSo table motes) (sym a.reads.same) (record { agrees = h.agrees; same = h.same; count = h.count; waits = h.waits }) in

@@ -1,4 +1,4 @@
--- How a look ends that found no frame, or that failed.
+-- How a look ends if it found no frame, or failed.
 use Rattle.std.proofs.Common.{◌≡◌, ◌≢◌, ℕ, ◌≤◌, List, [], ◌∷◌, refl, ap, sym, ◌∙◌, subst, inl, arith}
 use Rattle.std.specs.Prelude.{Option, Some, None, Result, Ok, Err, IsErrAnd}
 use Rattle.dg_words.specs.Counts.{Rose}

@@ -41,7 +41,7 @@ loop_moved motes begun on links n many f p q few went =
 pub few_in_turn : (motes : ℕ) → motes ≤ 16 → length (turn_of_all motes) ≤ 32
 few_in_turn motes h = let n = each_few motes 2 (λ mote. Looks mote ∷ Ticks mote ∷ []) (λ k. omega arith) in omega (arith, n, h)
 
--- the loop came to its end
+-- the loop ran to its end
 pub loop_ends : (motes begun on : ℕ) (links : List (ℕ × ℕ)) (n k : ℕ) (f : ℕ → List Part) (p q : Standing) → n ≡ k → ServedParts motes begun on links (each n f) p q → ServedParts motes begun on links (each k f) p q
 loop_ends motes begun on links n k f p q same went = subst (λ j. ServedParts motes begun on links (each j f) p q) same went
 

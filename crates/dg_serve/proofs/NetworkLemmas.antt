@@ -1,4 +1,4 @@
--- What the input of a service comes to.
+-- The outcome of reading the input of a service.
 use Rattle.std.proofs.Common.{◌≡◌, ◌⊎◌, ◌+◌, ◌≤◌, ◌<◌, ℕ, Bool, true, false, List, length, Option, Result, Ok, Err, refl, sym, ap, subst, ◌∙◌, inl, inr, take, arith, cond}
 use Rattle.std.specs.Prelude.{◌≢◌, nat_lt}
 use Rattle.std.proofs.lemmas.Bool.Decides.{nat_tests}
@@ -59,7 +59,7 @@ ok_not r x e p q = cc
 pub err_same : {T E : Type 0} (r : Result T E) (e f : E) → r ≡ Err e → r ≡ Err f → e ≡ f
 err_same r e f p q = cc
 
--- ---- how the rules say that it goes
+-- ---- the outcome by the rules
 
 lt_true : (k n : ℕ) → k < n → nat_lt k n ≡ true
 lt_true k n h = grind (arith, nat_tests)

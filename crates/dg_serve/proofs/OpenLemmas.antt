@@ -43,7 +43,7 @@ pub opens_err : (r : Result Service Stop) (why : Stop) (profile : NetProfile) (s
 opens_err (Ok v) why profile seed before addressees reached after is hindered clock = absurd is
 opens_err (Err e) why profile seed before addressees reached after is hindered clock = subst (λ (w : Stop). ServiceOpens (Err w) profile seed before addressees reached after) (sym is) (hindered, clock)
 
--- what its link told
+-- what its link exposes afterwards
 abbrev pub link_then : Outside → ℕ → LinkTold
 link_then o addressees = record { inboxes = o.inboxes; failures = o.failures; addressees = addressees; port = o.port }
 

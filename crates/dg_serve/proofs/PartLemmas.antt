@@ -41,7 +41,7 @@ reads_of s old new dt word told told_then reading draws clock d = record {
   same = refl;
 }
 
--- the code stands for the moment between them, its time ahead by the event's
+-- the code stands for the moment between them, its time ahead by that of the event
 pub stands_drawn : (motes begun : ℕ) (links : List (ℕ × ℕ)) (first : List Device) (s : Moment) (p q : Standing) (dt word : ℕ) → StandsFor motes begun links 0 first s p → Timed p.service.timeline q.service.timeline dt word p.clock q.clock → q.boards ≡ p.boards → q.service.motes.items ≡ p.service.motes.items → q.inboxes ≡ p.inboxes
     → StandsFor motes begun links dt first (drawn s q.service.timeline q.clock) q
 stands_drawn motes begun links first s p q dt word st d boards motes_same inboxes = record {

@@ -139,7 +139,7 @@ module _ (links : List (ℕ × ℕ)) (motes : ℕ) (event : Event) (r : Result O
 first_at : (links : List (ℕ × ℕ)) (motes begun ahead : ℕ) (mote : ℕ) (first : List Device) (s : Moment) (p : Standing) (before : Device) → StandsFor motes begun links ahead first s p → slice_get p.boards mote ≡ Some before → (a : Device) × (slice_get first mote ≡ Some a)
 first_at links motes begun ahead mote first s p before st was = got_some first mote (let n = st.count in let k = got_within p.boards mote before was in omega (arith, n, k))
 
--- the board endures the event, and its count stays unless it stopped
+-- the board endures the event, and its count does not change unless it stopped
 pub kept : (links : List (ℕ × ℕ)) (motes : ℕ) (event : Event) (r : Result Outbox Fault) (p q : Standing) (alone : IsAlone event) (x : Setting motes (mote_of event) event r p q) → (IsReset event ⊎ ForSome motes links event p) → Kept r x.played.before x.played.after
 kept links motes (Tick m dt word) r p q alone x (inl reset) = absurd reset
 kept links motes (Tick m dt word) r p q alone x (inr y) =
@@ -198,7 +198,7 @@ module _ (links : List (ℕ × ℕ)) (motes : ℕ) (event : Event) (out : Outbox
     done_at.done.links ∙ st.linked,
   )
 
--- ---- what was handed on of a frame
+-- ---- which motes a frame was forwarded to
 
 -- some of the neighbours have it
 pub some_handed : (links : List (ℕ × ℕ)) (motes mote : ℕ) (s t : Moment) (frame : Option (List ℕ)) (before after : Option Inboxes) → new_frames s.world t.world ≡ sent_now mote frame → t.world.links ≡ links → HandedToSome links motes mote frame before after
@@ -238,7 +238,7 @@ stopped_on links motes (Last from to dt word) first s p q alone x st = absurd al
 stopped_on links motes (Inject m image version dt word) first s p q alone x st = absurd alone
 stopped_on links motes (Order m number image version dt word) first s p q alone x st = absurd alone
 
--- a board that is found to be no volume is that of a mote that begins
+-- a board that is found not to be a volume is that of a mote that begins
 begins_there : (links : List (ℕ × ℕ)) (motes : ℕ) (event : Event) (first : List Device) (s : Moment) (p q : Standing) → (alone : IsAlone event) → (x : Setting motes (mote_of event) event (Err fault.NotAVolume) p q) → StandsFor motes (begun_before motes event) links (dt_of event) first s p → IsReset event
 begins_there links motes (Tick m dt word) first s p q alone x st =
     let a = first_at links motes motes dt m first s p x.played.before st x.played.was in

@@ -122,7 +122,7 @@ serves_run motes s (part ∷ parts) es t fits h =
 
 -- ---- over the boards
 
--- the link joins two different ones of so many motes
+-- the link joins two different motes of this many
 abbrev pub Joins : ℕ → ℕ × ℕ → Type 0
 Joins motes l = (l.0 < motes) × (l.1 < motes) × (l.0 ≢ l.1)
 

@@ -183,7 +183,7 @@ behind_head motes events links = record { motes = motes; ready = true; events = 
 some_motes : (motes : ℕ) → 1 ≤ motes → nat_lt 0 motes ≡ true
 some_motes motes h = grind (arith, nat_tests)
 
--- an event at one of so many motes, as a service has it
+-- an event at one of this many motes, as a service applies it
 abbrev IsServed : ℕ → Event → Type 0
 IsServed motes (Tick m d w) = FitsEvent motes (Tick m d w)
 IsServed motes (Hear m d w k) = ⊥
@@ -245,7 +245,7 @@ new_behind before l [] new apart = tt
 new_behind before l (m ∷ ms) new apart =
     (none_more (joins m.0 m.1) before l new.0 (false_from_ne_true (joins m.0 m.1 l) (λ t. apart.0 ((joins_decides l m).0 t))), new_behind before l ms new.1 apart.1)
 
--- each differs from all behind it
+-- each differs from all after it
 Pairs : List (ℕ × ℕ) → Type 0
 Pairs [] = Unit {0}
 Pairs (l ∷ ls) = AllByRecursion (Apart l) ls × Pairs ls
@@ -288,7 +288,7 @@ lines_read profile events allowed served =
     (script_next (motes_place motes) 2 Boards _ (record { lines = map link_line profile.links ++ map EventLine events; fault = None })
     (line_reads (motes_place motes) Boards tt tt (record { fits = and_from _ _ (some_motes motes some) refl; behind = refl }) tt refl) links)
 
--- ---- all is told
+-- ---- every event is in the trace
 
 line_event : (motes : ℕ) (event : Event) → motes ≤ most_motes → IsServed motes event → TracedEvent event
 line_event motes (Tick m d w) few h = (omega (arith, few, h.0), h.1)

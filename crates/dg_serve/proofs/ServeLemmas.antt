@@ -29,7 +29,7 @@ use Rattle.dg_serve.specs.declared.stop.Stop.TheVariants as stop
 use Rattle.dg_serve.proofs.EventLemmas.{stands_boards}
 use Rattle.dg_serve.proofs.StartLemmas.{stands_first}
 
--- what is outside of where the code stands
+-- what is outside of the service, where the code stands
 abbrev pub outside_of : Standing → Outside
 outside_of p = outside p.written p.faults p.clock p.inboxes p.failures p.port p.boards
 

@@ -50,7 +50,7 @@ pub record DrawnTo (p m : Standing) (dt word : ℕ) : Type 0 where
   pub known : m.service.timeline.reading ≤ m.reached
   pub short : dt < 2 ^ 32
 
--- the moment between the looking at the link and the timing
+-- the moment between the look at the link and the timing
 abbrev pub looked : Moment → Option Inboxes → Moment
 looked s boxes = record s { inboxes = boxes }
 
@@ -87,7 +87,7 @@ stands_looked motes begun links boxes p first s st = record {
   off = st.off;
 }
 
--- the event that comes is ahead of some moment
+-- the next event is ahead of some moment
 some_drawn : (motes begun : ℕ) (links : List (ℕ × ℕ)) (p m : Standing) (dt word : ℕ) → DrawnTo p m dt word → StandsForSome motes begun links p → (first : List Device) × (s : Moment) × StandsFor motes begun links dt first s m
 some_drawn motes begun links p m dt word d y =
     let st = stands_looked motes begun links m.inboxes p y.0 y.1 y.2 in
@@ -110,7 +110,7 @@ may_at motes ahead mote links m known y a was =
 may_begin : (v : Option Node) (c : List ℕ) (now : ℕ) → v ≡ None → MayRun c now v
 may_begin v c now off = subst (λ o. MayRun c now o) (sym off) tt
 
--- ---- what an event asks for, once its word was made
+-- ---- what an event requires, once its word was drawn
 
 asked : (motes mote begun : ℕ) (links : List (ℕ × ℕ)) (event : Event) (dt word : ℕ) (p m : Standing) → DrawnTo p m dt word → Ready motes begun p → p.service.timeline.moment < 2 ^ 60 → FitsLine motes (EventLine event) → IsAlone event → mote_of event ≡ mote → mote < motes
     → ((a : Device) → slice_get m.boards mote ≡ Some a → MayRun a.image m.service.timeline.moment (slice_index_or m.service.motes.items mote None)) → (IsReset event → slice_index_or m.service.motes.items mote None ≡ None)
@@ -252,7 +252,7 @@ module _ (motes begun on : ℕ) (links : List (ℕ × ℕ)) (part : Part) (event
     };
   }
 
-  -- the event was applied, and its line was not written, or what it sent not handed to all
+  -- the event was applied, but its line was not written, or what it sent was not forwarded to all
   partly_halts : (why : Stop) → AppliedPartly why motes links (event dt word) m q → q.clock ≡ m.clock
       → ((first : List Device) (s t : Moment) → StandsFor motes begun links 0 first s p → PartDone motes part s (event dt word ∷ []) t → BoardsStand t.world first q.boards → HandedThen why motes s.world t.world m.inboxes q.inboxes → q.clock ≡ t.clock
       → StopLeaves why motes s (course (part ∷ []) (event dt word ∷ []) []) t first (remains q.boards q.inboxes q.clock))
@@ -304,7 +304,7 @@ module _ (motes begun on : ℕ) (links : List (ℕ × ℕ)) (part : Part) (event
     takes = taken_then first s found st same;
   }
 
-  -- its frame was not handed to all
+  -- its frame was not forwarded to all
   partly_by : (first : List Device) (s t : Moment) → StandsFor motes begun links 0 first s p → PartDone motes part s (event dt word ∷ []) t → HandedToFirst motes s.world t.world m.inboxes q.inboxes → PartlyHanded motes s (part ∷ []) (event dt word ∷ []) t q.inboxes
   unfolding found_by
   partly_by first s t st applied handed = record { found = m.inboxes; by = found_by first s t m.inboxes st applied refl; first = handed }

@@ -42,21 +42,21 @@ begins table links stores origin clock seed inboxes = record {
 
 -- ---- boards
 
--- A board stands for its store in the world. One that was no volume has its bytes as before.
+-- A board stands for its store in the world. One that was not a volume has its bytes unchanged.
 abbrev pub BoardStands : World → ℕ → (old new : Device) → Type 0
 BoardStands w m a b = (IsVolume a.image → Stands b.image (store_at w m)) × (IsNoVolume a.image → b.image ≡ a.image)
 
--- So does each but perhaps one.
+-- Each board stands so, except those for which P holds.
 abbrev pub BoardsStandBut : (ℕ → Type 0) → World → (old new : List Device) → Type 0
 BoardsStandBut P w old new = (m : ℕ) (a b : Device) → m < length w.sites → (P m → ⊥) → slice_get old m ≡ Some a
     → slice_get new m ≡ Some b → BoardStands w m a b
 
--- So do all.
+-- All boards stand so.
 abbrev pub BoardsStand : World → (old new : List Device) → Type 0
 BoardsStand w old new = BoardsStandBut (λ m. ⊥) w old new
 
--- A board stopped in an event, and stands for a store that its trail leaves where this many operations were done. One that is no
--- volume has its bytes as before.
+-- A board stopped in an event, and stands for a store that the event's trail leaves after `made` operations. One that was not
+-- a volume has its bytes unchanged.
 pub record StopsInEvent (w : World) (event : Event) (old new : List Device) : Type 0 where
   pub before : Device
   pub after : Device
@@ -68,7 +68,7 @@ pub record StopsInEvent (w : World) (event : Event) (old new : List Device) : Ty
   pub same : IsNoVolume before.image → after.image ≡ before.image
   pub others : BoardsStandBut (λ m. m ≡ mote_of event) w old new
 
--- A mote was to begin whose board is not a volume.
+-- The board of a mote that was to begin is not a volume.
 pub record FindsNoVolume (w : World) (event : Event) (old new : List Device) : Type 0 where
   pub reset : IsReset event
   pub board : Device
@@ -82,7 +82,7 @@ pub record FindsNoImage (w : World) (event : Event) (old new : List Device) : Ty
   pub ends : EndsRun w (uncut event) world
   pub boards : BoardsStand world old new
 
--- how an event leaves the boards that was not applied
+-- how an event that was not applied leaves the boards
 abbrev pub EventEnds : Stop → World → Event → (old new : List Device) → Type 0
 EventEnds Memory w event old new = BoardsStand w old new
 EventEnds Write w event old new = ⊥
@@ -99,7 +99,7 @@ event_of (Ticks m) dt word bytes = Tick m dt word
 
 -- ---- what is left
 
--- the boards, the frames that wait, where the link tells them, and the answers of the clock to come
+-- the boards, the frames that wait, if the link exposes them, and the answers of the clock to come
 pub record Remains : Type 0 where
   pub boards : List Device
   pub inboxes : Option Inboxes
@@ -114,7 +114,7 @@ TakesFor (Frame mote dt word bytes) before after = TakesFrame mote bytes before 
 TakesFor event before after = after ≡ before
 
 -- The event in which the service ended was not applied. It is that of the next part: the clock was read and a word was taken
--- for it, and it has the bytes of the frame that was received, or no frame was.
+-- for it, and it has the bytes of the frame that was received, if one was.
 pub record EndsInNext (stop : Stop) (s : Moment) (left : List Part) (old : List Device) (new : Remains) : Type 0 where
   pub part : Part
   pub rest : List Part
@@ -139,8 +139,8 @@ pub record LosesFrame (s : Moment) (left : List Part) (old : List Device) (new :
   pub clock : new.clock ≡ s.clock
   pub boards : BoardsStand s.world old new.boards
 
--- The last event found the link like this: all that the events before it sent was handed on,
--- and the frame that it hears is taken.
+-- The last event found the link like this: all that the events before it sent was forwarded, and the frame that it hears is
+-- taken.
 pub record FoundBy (motes : ℕ) (s : Moment) (done : List Part) (events : List Event) (last : Moment)
     (found : Option Inboxes) : Type 0 where
   pub earlier : List Part
@@ -154,22 +154,22 @@ pub record FoundBy (motes : ℕ) (s : Moment) (done : List Part) (events : List 
   pub applied : PartDone motes part before (event ∷ []) last
   pub takes : TakesFor event before.inboxes found
 
--- The frame of the event between these worlds was handed to the first k neighbours alone.
+-- The frame of the event between these worlds was forwarded to the first k neighbours only.
 pub record HandedToFirst (motes : ℕ) (before after : World) (old new : Option Inboxes) : Type 0 where
   pub frame : Sent
   pub sent : new_frames before after ≡ frame ∷ []
   pub k : ℕ
   pub some : new ≡ option_map (handed_to (take k (neighbours after motes frame.by)) frame.bytes) old
 
--- So was the last event's.
+-- The frame of the last event was forwarded to the first k neighbours only.
 pub record PartlyHanded (motes : ℕ) (s : Moment) (done : List Part) (events : List Event) (last : Moment)
     (after : Option Inboxes) : Type 0 where
   pub found : Option Inboxes
   pub by : FoundBy motes s done events last found
   pub first : HandedToFirst motes by.before.world last.world found after
 
--- What a stop leaves where these parts were done from this moment on, and gave these events. Where a line could not be
--- written, nothing of its event was handed on. Where no image or no volume was found, no frame was taken.
+-- What a stop leaves after these parts were done from this moment on, and gave these events. Where a line could not be
+-- written, nothing of its event was forwarded. Where no image or no volume was found, no frame was taken.
 abbrev pub StopLeaves : Stop → (motes : ℕ) → Moment → Course → (last : Moment) → (old : List Device) → (new : Remains) → Type 0
 StopLeaves Memory motes s c last old new = LosesFrame last c.left old new ⊎ EndsInNext Memory last c.left old new
 StopLeaves Write motes s c last old new =

@@ -13,14 +13,14 @@ use Rattle.dg_script.specs.Sizes.{most_used_bytes}
 use Rattle.dg_serve.specs.Ran.{LineWritten}
 use Rattle.dg_serve.specs.Served.{Outside, Served, TooFewBoards}
 
--- ---- how the rules say that it goes, by the input and the number of boards alone
+-- ---- the outcome by the rules, from the input and the number of boards alone
 
 pub data Opening : Type 0 where
   -- the input is too long
   Over : Opening
-  -- it is no network profile
+  -- it is not a network profile
   FaultAt : (fault : ProfileFault) → Opening
-  -- it is this profile, whose motes are more than the boards
+  -- it is this profile, which has more motes than there are boards
   TooFew : (profile : NetProfile) → Opening
   -- it is this profile, and its motes are served
   Serves : (profile : NetProfile) → Opening
@@ -32,7 +32,7 @@ abbrev pub by_profile : ℕ → Result NetProfile ProfileFault → Opening
 by_profile boards (Ok profile) = by_boards boards profile
 by_profile boards (Err fault) = FaultAt fault
 
--- A longer input than is used is refused whatever it spells. The boards are counted last.
+-- An input that is longer than what is used is refused whatever it spells. The boards are counted last.
 abbrev pub opening_of : (boards : ℕ) → (input : List ℕ) → Opening
 opening_of boards input = if nat_lt most_used_bytes (length input) then Over else by_profile boards (netprofile input)
 
@@ -46,7 +46,8 @@ fault_line fault = codes "profile " ++ profile_fault_text fault ++ 10 ∷ []
 
 -- ---- what was done
 
--- Nothing was done but to write this line, or a front of it, since a write failed; or memory ran out, and nothing was written.
+-- Nothing was done but to write this line, or a prefix of it, since a write failed; or memory ran out, and nothing was
+-- written.
 pub record WritesOneLine (answer of : Status) (line : List ℕ) (before after : Outside) : Type 0 where
   pub boards : after.boards ≡ before.boards
   pub clock : after.clock ≡ before.clock
@@ -62,8 +63,8 @@ DoneBy (FaultAt fault) answer seed turns before after = WritesOneLine answer sta
 DoneBy (TooFew profile) answer seed turns before after = TooFewBoards answer profile before after
 DoneBy (Serves profile) answer seed turns before after = Served answer profile seed turns before after
 
--- What stands around a service that reads its network: what is left of the input, where that is told, how many reads failed, and
--- what is outside of the service.
+-- What surrounds a service that reads its network: what is left of the input, if the source exposes that, how many reads
+-- failed, and what is outside of the service.
 pub record AroundService : Type 0 where
   pub left : Option (List ℕ)
   pub reads : ℕ

@@ -38,8 +38,8 @@ pub record RunOf (motes : ℕ) (u : World) (events : List Event) (v : World) : T
   pub plays : Plays u played v
   pub ranges : AllByRecursion (PlayedInRange motes) played
 
--- What was played first, all or less, and the world that it leads to. What is promised of honest frames is promised of each such
--- part: a frame that is not honest takes nothing from what was played before it.
+-- A prefix of what was played, or all of it, and the world that it leads to. What is promised of honest frames is promised of
+-- each prefix: a frame that is not honest takes nothing from what was played before it.
 pub record ServedFirst (u : World) (played : List Played) : Type 0 where
   pub first : List Played
   pub rest : List Played
@@ -84,12 +84,13 @@ pub record ServiceKeepsGolden (motes : ℕ) (played : List Played) (v : World) :
 
 -- ---- what a service keeps
 
--- The events are those of a run of wide motes up to this moment, of which there holds what is promised of a script over boards as
--- they are. The link told these inboxes before it was opened, if any.
+-- The events are those of a run of wide motes up to this moment. What is promised of a script over boards as they are holds of
+-- this run. The link exposed these inboxes, if any, before it was opened.
 pub record KeepsRules (told : Option Inboxes) (table : List Row) (stores : List Store) (links : List (ℕ × ℕ)) (motes : ℕ)
     (events : List Event) (last : Moment) : Type 0 where
   pub run : RunOf motes (first_world table links none_narrow stores) events last.world
-  -- over a link that tells its inboxes each frame that came was sent by a mote of it: so it is honest, where the boards agree
+  -- over a link that exposes its inboxes each frame that came was sent by a mote of the link: so it is honest, where the
+  -- boards agree
   pub honest : IsSome told → StoresAgree table stores → FramesAreHonest table stores run.played
   -- and so is the frame that the next event takes from them
   pub next : IsSome told → StoresAgree table stores → (part : Part) (dt word : ℕ) (bytes : List ℕ) (after : Option Inboxes)
@@ -97,17 +98,17 @@ pub record KeepsRules (told : Option Inboxes) (table : List Row) (stores : List 
   -- where the frames of what was played first are honest, each step of it is legal after those before it
   pub legal : (f : ServedFirst (first_world table links none_narrow stores) run.played) → FramesAreHonest table stores f.first
       → EachAfter IsLegal [] f.first
-  -- there no version falls, and a complete page stays unless a newer version of its image replaces it
+  -- then no version falls, and a complete page stays unless a newer version of its image replaces it
   pub keeps : (f : ServedFirst (first_world table links none_narrow stores) run.played) → FramesAreHonest table stores f.first
       → AllByRecursion KeepsAll f.first
-  -- there what starts is a row of the table
+  -- then what starts is a row of the table
   pub starts : (f : ServedFirst (first_world table links none_narrow stores) run.played) → FramesAreHonest table stores f.first
       → AllByRecursion StartsRow f.first
-  -- there the world after each event agrees with its table, and so does the one that it leads to
+  -- then the world after each event agrees with its table, and so does the one that it leads to
   pub agrees : (f : ServedFirst (first_world table links none_narrow stores) run.played) → FramesAreHonest table stores f.first
       → AllByRecursion LeavesAgreement f.first × WorldAgrees f.last
-  -- there each store that the chip may stand for, wherever a stop comes in the next event, agrees with the table,
-  -- where that event is honest too
+  -- then each store that the chip may stand for, wherever a stop comes in the next event, agrees with the table, if that event
+  -- is honest too
   pub halves : (f : ServedFirst (first_world table links none_narrow stores) run.played) (e : Event)
       → FramesAreHonest table stores f.first → EventInRange motes e → HoldsTo table f.last e → StopsAgree f.last e
   -- with any frames at all, over consistent boards: each store stays consistent,
@@ -116,15 +117,15 @@ pub record KeepsRules (told : Option Inboxes) (table : List Row) (stores : List 
   -- with any frames at all, over boards that keep golden whole: they still do, and a start finds it
   pub golden : StoresKeepGolden stores → ServiceKeepsGolden motes run.played last.world
 
--- ---- what a replay of its trace comes to
+-- ---- the outcome of replaying its trace
 
 -- the world in which the run of these lines begins, over boards as they are that stand for these stores
 abbrev pub world_by : List Line → List Row → List Store → World
 world_by lines table stores =
     first_world table (place_behind first_place lines).links (place_behind first_place lines).narrow stores
 
--- The bytes are a script over this many boards as they are. Where these stand for these stores, a run of the rules over its items
--- leads to this world, and no run over them to another.
+-- The bytes are a script over this many boards as they are. Where these stand for these stores, a run of the rules over its
+-- items leads to this world, and no run over them leads to another.
 pub record ReplaysTo (bytes : List ℕ) (motes : ℕ) (table : List Row) (stores : List Store) (v : World) : Type 0 where
   pub lines : List Line
   pub script : IsScript bytes lines

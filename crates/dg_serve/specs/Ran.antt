@@ -64,7 +64,7 @@ WroteBy (Some stop.Flash) head events text = text ≡ head ++ event_lines events
 WroteBy (Some stop.NotAVolume) head events text = text ≡ head ++ event_lines events
 WroteBy (Some stop.NoImage) head events text = text ≡ head ++ event_lines events
 
--- the counts, by the same
+-- the counts, by why the service ended before its turns were over, if it did
 pub record CountedBy (why : Option Stop) (before after : Outside) : Type 0 where
   pub wrote : why ≡ Some stop.Write → Rose before.faults after.faults
   pub faults : why ≢ Some stop.Write → after.faults ≡ before.faults
@@ -110,7 +110,7 @@ RanTo (Err why) profile seed turns before after =
 
 -- ---- the last line
 
--- a line was written, or some front of it, where that failed
+-- a line was written, or a prefix of it, if that failed
 abbrev pub LineWritten : (answer of : Status) → (line : List ℕ) → (w v : Option (List ℕ)) → (f g : ℕ) → Type 0
 LineWritten answer of line w v f g = ((answer ≡ of) × Puts w v line × (g ≡ f))
     ⊎ ((answer ≡ status.WriteFault) × ((n : ℕ) × Puts w v (take n line)) × Rose f g × (f ≤ g))
@@ -130,7 +130,7 @@ TellsTooFew answer line w v f g = LineWritten answer status.NoBoard line w v f g
 
 -- ---- the link is opened
 
--- what a link tells: its inboxes, how many calls failed, how many motes it has, and its port
+-- what a link exposes: its inboxes, how many calls failed, how many motes it has, and its port
 pub record LinkTold : Type 0 where
   pub inboxes : Option Inboxes
   pub failures : ℕ

@@ -22,8 +22,8 @@ use Rattle.dg_serve.specs.Traces.{UnwrittenLast, trace, lines_text, head_lines, 
 use Rattle.dg_serve.specs.declared.stop.Stop.{Stop}
 use Rattle.dg_serve.specs.declared.stop.Stop.TheVariants as stop
 
--- What is outside of a service, before it or after it: the bytes that were written and the count of the sink, the answers of
--- the clock, the inboxes, the count and the port of the link, and the boards.
+-- What is outside of a service, before it or after it. These are the bytes that were written and the count of the sink, the
+-- answers of the clock, the inboxes, the count and the port of the link, and the boards.
 pub record Outside : Type 0 where
   pub written : Option (List ℕ)
   pub faults : ℕ
@@ -45,7 +45,7 @@ outside written faults clock inboxes failures port boards = record {
   boards = boards;
 }
 
--- the link is to be opened at the profile's port: it has that port, where it tells its port
+-- the link is to be opened at the profile's port: it has that port, if it exposes its port
 abbrev pub AtPort : NetProfile → (before after : Outside) → Type 0
 AtPort profile before after = after.port ≡ option_map (λ port. profile.port) before.port
 
@@ -62,8 +62,8 @@ pub record Came (why : Option Stop) (motes : ℕ) (s : Moment) (c : Course) (fir
   pub serves : PartsDone motes s c.done c.events last
   pub ends : BoardsAfter why motes s c last first after
 
--- The bytes are the trace and the last line of the status. Only where that line could not be written they are the trace and a
--- front of it.
+-- The bytes are the trace and the last line of the status. They are the trace and a prefix of the line only if the line could
+-- not be written.
 abbrev pub WroteLast : Status → Status → (whole line text : List ℕ) → Type 0
 WroteLast answer of whole line text =
     ((answer ≡ of) × (text ≡ whole ++ line)) ⊎ ((answer ≡ status.WriteFault) × ((n : ℕ) × (text ≡ whole ++ take n line)))
@@ -86,7 +86,7 @@ pub record MotesEndure (motes : ℕ) (old new : List Device) : Type 0 where
   pub all : BoardsEndure old new
   pub others : (m : ℕ) → motes ≤ m → slice_get new m ≡ slice_get old m
 
--- A fault of the outside is told, and with its own answer alone.
+-- A fault of the outside is reported, and only with its own answer.
 pub record Causes (answer : Status) (before after : Outside) : Type 0 where
   pub write_fault : answer ≡ status.WriteFault → Rose before.faults after.faults
   pub writes : answer ≢ status.WriteFault → after.faults ≡ before.faults
@@ -97,7 +97,7 @@ pub record Causes (answer : Status) (before after : Outside) : Type 0 where
   pub writes_rise : before.faults ≤ after.faults
   pub sends_rise : before.failures ≤ after.failures
 
--- the board at which an event is, is a volume
+-- the board of an event is a volume
 abbrev pub IsAtVolume : List Device → Event → Type 0
 IsAtVolume boards event = (board : Device) → slice_get boards (mote_of event) ≡ Some board → IsVolume board.image
 
@@ -113,7 +113,7 @@ pub record Began (answer : Status) (profile : NetProfile) (seed turns : ℕ) (be
   pub left : List Part
   pub parts : done ++ left ≡ plan profile.motes turns
   pub all : why ≡ None → left ≡ []
-  -- from whatever the boards stand for, and whatever the table of images is: the rules of a service look at none
+  -- whatever the boards stand for, and whatever the table of images is: the rules of a service do not look at it
   pub came : (table : List Row) (stores : List Store) → StoresOf profile.motes before.boards stores
       → Came why profile.motes (begins table profile.links stores origin clock seed
       (option_map (emptied profile.motes) before.inboxes))

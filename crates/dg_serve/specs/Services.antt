@@ -18,13 +18,13 @@ use Rattle.dg_serve.specs.Each.{each}
 
 -- ---- what is to be done
 
--- its power comes to a mote; a mote looks whether a frame came; it ticks
+-- a mote powers on; it looks whether a frame came; it ticks
 pub data Part : Type 0 where
   Begins : (mote : ℕ) → Part
   Looks : (mote : ℕ) → Part
   Ticks : (mote : ℕ) → Part
 
--- the power of each mote comes
+-- each mote powers on
 abbrev pub beginning : ℕ → List Part
 beginning motes = each motes (λ mote. Begins mote ∷ [])
 
@@ -32,7 +32,7 @@ beginning motes = each motes (λ mote. Begins mote ∷ [])
 abbrev pub turn_of_all : ℕ → List Part
 turn_of_all motes = each motes (λ mote. Looks mote ∷ Ticks mote ∷ [])
 
--- each mote begins, and then each has its part in each turn, in ascending order
+-- each mote begins, and then each looks and ticks once per turn, in ascending order
 abbrev pub plan : (motes turns : ℕ) → List Part
 plan motes turns = beginning motes ++ each turns (λ turn. turn_of_all motes)
 
@@ -40,19 +40,19 @@ plan motes turns = beginning motes ++ each turns (λ turn. turn_of_all motes)
 
 pub record Moment : Type 0 where
   pub world : World
-  -- what the clock told last, and what it will tell, where that is known
+  -- the last answer of the clock, and its answers to come, where they are known
   pub reading : ℕ
   pub clock : Option Answers
   -- the draws to come
   pub draws : Lcg
-  -- the frames that wait, where the link tells them
+  -- the frames that wait, if the link exposes them
   pub inboxes : Option Inboxes
 
--- how much later an answer of the clock is, as far as an event can say it
+-- how much later an answer of the clock is, up to the most that an event can hold
 abbrev pub later : (before after : ℕ) → ℕ
 later before after = min (after - before) (2 ^ 32 - 1)
 
--- the clock told this, which is not below what it told before
+-- the clock answered this, which is not below its answer before
 abbrev pub at_reading : Moment → ℕ → Option Answers → Lcg → Moment
 at_reading s answer clock draws = record s { reading = answer; clock = clock; draws = draws }
 
@@ -75,23 +75,23 @@ neighbours_by links motes mote = each motes (λ other. if is_linked links mote o
 abbrev pub neighbours : World → (motes mote : ℕ) → List ℕ
 neighbours w motes mote = neighbours_by w.links motes mote
 
--- a frame is handed to these motes, one after the other
+-- a frame is forwarded to these motes, one after the other
 abbrev pub handed_to : List ℕ → List ℕ → Inboxes → Inboxes
 handed_to [] bytes boxes = boxes
 handed_to (m ∷ ms) bytes boxes = handed_to ms bytes (delivered m bytes boxes)
 
--- the frames that a step added, of which there is one at most
+-- the frames that a step added, at most one
 abbrev pub new_frames : (before after : World) → List Sent
 new_frames before after = drop (length before.sent) after.sent
 
--- to whom they are handed: each to all neighbours of its mote, in ascending order
+-- the inboxes after frames were forwarded, each to all neighbours of its mote, in ascending order
 abbrev pub handed : World → ℕ → List Sent → Inboxes → Inboxes
 handed w motes [] boxes = boxes
 handed w motes (f ∷ fs) boxes = handed w motes fs (handed_to (neighbours w motes f.by) f.bytes boxes)
 
 -- ---- one event
 
--- The event was applied at this moment, and what it sent was handed on. Neither the clock was read nor a word taken.
+-- The event was applied at this moment, and what it sent was forwarded. The clock was not read, and no word was taken.
 pub record Steps (motes : ℕ) (s : Moment) (event : Event) (t : Moment) : Type 0 where
   pub reports : List Report
   pub step : WorldStep s.world (uncut event) t.world reports
@@ -109,7 +109,7 @@ pub record EventApplied (motes : ℕ) (s : Moment) (event : (dt word : ℕ) → 
   pub one : done ≡ event dt word ∷ []
   pub steps : Steps motes between (event dt word) t
 
--- no frame had come: nothing happens, and neither the clock is read nor a word taken
+-- no frame had come: nothing happens, the clock is not read, and no word is taken
 pub record NoneCame (mote : ℕ) (s : Moment) (done : List Event) (t : Moment) : Type 0 where
   pub none : IsEmptyAt mote s.inboxes
   pub nothing : done ≡ []
@@ -135,7 +135,7 @@ PartsDone motes s (part ∷ parts) events t =
     (between : Moment) × (first : List Event) × (rest : List Event) × PartDone motes part s first between
     × (events ≡ first ++ rest) × PartsDone motes between parts rest t
 
--- how far a service came: the parts that were done, the events that they gave, and the parts that are left
+-- how far a service got: the parts that were done, the events that they gave, and the parts that are left
 pub record Course : Type 0 where
   pub done : List Part
   pub events : List Event

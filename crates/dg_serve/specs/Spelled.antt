@@ -1,4 +1,4 @@
--- What reading the network profile of an input comes to (docs/COMMANDS.md, "Serve").
+-- The outcome of reading the network profile of an input (docs/COMMANDS.md, "Serve").
 use Rattle.std.specs.Prelude.{◌≡◌, ◌⊎◌, ℕ, ◌+◌, ◌<◌, ◌≤◌, List, length, Option, Result, Ok, Err}
 use Rattle.dg_words.specs.Counts.{Rose}
 use Rattle.dg_base.specs.Outside.{Takes, AtEnd}
@@ -14,24 +14,24 @@ use Rattle.dg_serve.specs.Ran.{LineWritten}
 use Rattle.dg_serve.specs.declared.network.NoProfile.{NoProfile}
 use Rattle.dg_serve.specs.declared.network.NoProfile.TheVariants as none
 
--- what a fault of a profile makes of a service
+-- a fault of a profile, as the reason that there is no profile
 abbrev pub no_profile_of : ProfileFault → NoProfile
 no_profile_of fault.Memory = none.Memory
 no_profile_of fault = none.Fault fault
 
--- what a text comes to that gives no profile
+-- why a text gives no profile
 abbrev pub SpellsNone : NoProfile → List ℕ → Type 0
 SpellsNone none.Memory text = Unit {0}
 SpellsNone none.ReadFault text = ⊥
 SpellsNone none.TooLong text = most_used_bytes < length text
 SpellsNone (none.Fault fault) text = (length text ≤ most_used_bytes) × (netprofile text ≡ Err fault)
 
--- what a text comes to
+-- the profile that a text gives, or why it gives none
 abbrev pub Spells : Result NetProfile NoProfile → List ℕ → Type 0
 Spells (Ok profile) text = (length text ≤ most_used_bytes) × (netprofile text ≡ Ok profile)
 Spells (Err why) text = SpellsNone why text
 
--- what an input comes to of which these bytes were taken, and whose count did so
+-- why an input gives no profile after these bytes of it were taken, and how the count of failed reads changed
 abbrev pub ReadsNone : NoProfile → List ℕ → (at_end : Type 0) → (reads_before reads_after : ℕ) → Type 0
 ReadsNone none.Memory input at_end before after = after ≡ before
 ReadsNone none.ReadFault input at_end before after = Rose before after
@@ -53,7 +53,7 @@ pub record NetworkRead (told : Result NetProfile NoProfile) (left_before left_af
   pub few_bytes : length input ≤ most_used_bytes + 1
   pub reads : ReadsProfile told input (AtEnd left_after) reads_before reads_after
 
--- a line was written, or a front of it, where that failed; or memory ran out
+-- a line was written, or a prefix of it, if that failed; or memory ran out
 abbrev pub TellsLine : (answer of : Status) → (line : List ℕ) → (w v : Option (List ℕ)) → (f g : ℕ) → Type 0
 TellsLine answer of line w v f g = LineWritten answer of line w v f g ⊎ ((answer ≡ status.Memory) × (v ≡ w) × (g ≡ f))
 

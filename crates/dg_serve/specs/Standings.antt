@@ -49,7 +49,7 @@ pub record Standing : Type 0 where
   pub written : Option (List ℕ)
   pub faults : ℕ
 
--- a service with these boards, amid what its sink and its link tell, and what a clock told and reached
+-- a service with these boards, with what its sink and its link expose, and what a clock exposes and has reached
 abbrev pub standing_with : {K L : Type 0} → Service × List Device → SinkTells K × K → LinkTells L × L → Option Answers × ℕ
     → Standing
 standing_with x sink link clock = record {
@@ -65,13 +65,13 @@ standing_with x sink link clock = record {
   faults = sink.0.faults sink.1;
 }
 
--- the same amid what its clock tells
+-- the same with what its clock exposes
 abbrev pub service_standing : {K L C : Type 0} → Service × List Device → SinkTells K × K → LinkTells L × L → ClockTells C × C
     → Standing
 service_standing x sink link clock = standing_with x sink link (clock.0.told clock.1, clock.0.reached clock.1)
 
--- The code stands for a moment of a service whose boards were these when it began. The power of the first motes came, and
--- its time is ahead of the rules' by so much.
+-- The code stands for a moment of a service whose boards were these when it began. The first `begun` motes powered on, and the
+-- code's time is ahead of the rules' by `ahead`.
 pub record StandsFor (motes begun : ℕ) (links : List (ℕ × ℕ)) (ahead : ℕ) (first : List Device) (s : Moment)
     (p : Standing) : Type 0 where
   pub moment : p.service.timeline.moment ≡ s.world.moment + ahead
@@ -99,13 +99,13 @@ pub record Ready (motes begun : ℕ) (p : Standing) : Type 0 where
 
 -- ---- boards
 
--- a board's count did not fall, and it is stopped only where it was, or where its count rose
+-- a board's count did not fall, and it is stopped only if it was before, or if its count rose
 abbrev pub BoardEndures : Option Device → Option Device → Type 0
 BoardEndures None new = new ≡ None
 BoardEndures (Some a) None = ⊥
 BoardEndures (Some a) (Some b) = Endures (beneath_of a) (beneath_of b)
 
--- its count stays
+-- its count does not change
 abbrev pub BoardIsCalm : Option Device → Option Device → Type 0
 BoardIsCalm None new = new ≡ None
 BoardIsCalm (Some a) None = ⊥
@@ -130,13 +130,13 @@ IsBelow on event = mote_of event < on
 abbrev pub IsEventAt : ℕ → Event → Type 0
 IsEventAt mote event = mote_of event ≡ mote
 
--- so is the part
+-- the part is at this mote
 abbrev pub IsPartAt : ℕ → Part → Type 0
 IsPartAt mote (Begins m) = m ≡ mote
 IsPartAt mote (Looks m) = m ≡ mote
 IsPartAt mote (Ticks m) = m ≡ mote
 
--- These parts were done. Then the power of the first `on` motes came.
+-- These parts were done. Then the first `on` motes have powered on.
 pub record ServedParts (motes begun on : ℕ) (links : List (ℕ × ℕ)) (parts : List Part) (p q : Standing) : Type 0 where
   pub events : List Event
   pub put : Puts p.written q.written (event_lines events)
@@ -180,7 +180,7 @@ pub record PartsHalted (why : Stop) (motes begun : ℕ) (links : List (ℕ × �
   pub run : (first : List Device) (s : Moment) → StandsFor motes begun links 0 first s p
       → (t : Moment) × PartsDone motes s done events t
       × StopLeaves why motes s (course done events left) t first (remains q.boards q.inboxes q.clock)
-  -- the power of the first `on` motes came
+  -- the first `on` motes powered on
   pub on : ℕ
   pub volumes : (m : ℕ) (a : Device) → begun ≤ m → m < on → slice_get p.boards m ≡ Some a → IsVolume a.image
   pub below : AllByRecursion (IsBelow on) events
@@ -191,7 +191,7 @@ pub record PartsHalted (why : Stop) (motes begun : ℕ) (links : List (ℕ × �
   pub calm : why ≢ stop.Flash → BoardsAreCalm p.boards q.boards
   pub counts : CountsBy why p q
 
--- parts that are to be done: before them the power of the first `begun` motes came, and after them that of the first `on`
+-- parts that are to be done: before them the first `begun` motes have powered on, and after them the first `on`
 pub record Stretch : Type 0 where
   pub begun : ℕ
   pub on : ℕ
@@ -200,7 +200,7 @@ pub record Stretch : Type 0 where
 abbrev pub stretch : (begun on : ℕ) (parts : List Part) → Stretch
 stretch begun on parts = record { begun = begun; on = on; parts = parts }
 
--- how a call ends that does these parts
+-- how a call that does these parts ends
 abbrev pub GoesOn : Result (Unit {0}) Stop → (motes : ℕ) → List (ℕ × ℕ) → Stretch → Standing → Standing → Type 0
 GoesOn (Ok u) motes links x p q = ServedParts motes x.begun x.on links x.parts p q
 GoesOn (Err why) motes links x p q = PartsHalted why motes x.begun links x.parts p q
@@ -217,7 +217,7 @@ pub record IsUnderWay (motes : ℕ) (links : List (ℕ × ℕ)) (limit : ℕ) (p
 
 -- ---- one event
 
--- how many motes' power came before an event and after it, where it is a reset; else all motes' power came
+-- how many motes have powered on before an event and after it, if it is a reset; else all have
 abbrev pub begun_before : ℕ → Event → ℕ
 begun_before motes (Tick mote dt word) = motes
 begun_before motes (Hear mote dt word frame) = motes
@@ -236,7 +236,8 @@ begun_behind motes (Inject mote image version dt word) = motes
 begun_behind motes (Order mote number image version dt word) = motes
 begun_behind motes (Frame mote dt word bytes) = motes
 
--- What an event at a mote asks for: its mote may run, and is off before a reset. Else the service stands for some moment.
+-- What an event at a mote requires: its mote may run, and is off before a reset. For any other event the service stands for
+-- some moment.
 pub record EventAsks (motes mote : ℕ) (links : List (ℕ × ℕ)) (event : Event) (p : Standing) : Type 0 where
   pub fits : FitsLine motes (EventLine event)
   pub short : IsShort (EventLine event)
@@ -271,7 +272,7 @@ pub record PlayedAt (r : Result Outbox Fault) (event : Event) (mote now : ℕ) (
       → wide_at w mote ≡ true → PlaysAlone r w event y.runs before after
   pub powers : IsReset event → Powers r before after
 
--- The event was applied, its line was written, and what it sent was handed on.
+-- The event was applied, its line was written, and what it sent was forwarded.
 pub record AppliedAt (motes : ℕ) (links : List (ℕ × ℕ)) (event : Event) (p q : Standing) : Type 0 where
   pub put : Puts p.written q.written (event_lines (event ∷ []))
   pub run : (first : List Device) (s : Moment) → StandsFor motes (begun_before motes event) links (dt_of event) first s p
@@ -297,12 +298,12 @@ pub record NotApplied (why : Stop) (motes : ℕ) (links : List (ℕ × ℕ)) (ev
   pub failures : q.failures ≡ p.failures
   pub faults : q.faults ≡ p.faults
 
--- what was handed on of an event that was applied, by why the service stopped: nothing before its line is written
+-- what was forwarded of an event that was applied, by why the service stopped: nothing before its line is written
 abbrev pub HandedThen : Stop → (motes : ℕ) → (w v : World) → (before after : Option Inboxes) → Type 0
 HandedThen stop.Link motes w v before after = HandedToFirst motes w v before after
 HandedThen why motes w v before after = after ≡ before
 
--- The event was applied, but its line was not written, or what it sent not handed to all.
+-- The event was applied, but its line was not written, or what it sent was not forwarded to all.
 pub record AppliedPartly (why : Stop) (motes : ℕ) (links : List (ℕ × ℕ)) (event : Event) (p q : Standing) : Type 0 where
   pub text : List ℕ
   pub put : Puts p.written q.written text
@@ -339,7 +340,7 @@ ReceivedAt (Err stop.Flash) mote before after = ⊥
 ReceivedAt (Err stop.NotAVolume) mote before after = ⊥
 ReceivedAt (Err stop.NoImage) mote before after = ⊥
 
--- the count of the link's faults rose, where it failed, and stayed where it did not
+-- the count of the link's faults rose if it failed, and did not change if it did not
 abbrev pub FailuresBy : {T : Type 0} → Result T Stop → (before after : ℕ) → Type 0
 FailuresBy (Ok x) before after = after ≡ before
 FailuresBy (Err stop.Memory) before after = after ≡ before
@@ -349,12 +350,12 @@ FailuresBy (Err stop.Flash) before after = ⊥
 FailuresBy (Err stop.NotAVolume) before after = ⊥
 FailuresBy (Err stop.NoImage) before after = ⊥
 
--- a frame, if there is one, was handed to all neighbours of the mote that sent it
+-- a frame, if there is one, was forwarded to all neighbours of the mote that sent it
 abbrev pub handed_by : List (ℕ × ℕ) → (motes mote : ℕ) → Option (List ℕ) → Inboxes → Inboxes
 handed_by links motes mote None boxes = boxes
 handed_by links motes mote (Some bytes) boxes = handed_to (neighbours_by links motes mote) bytes boxes
 
--- there was one, and it was handed to the first k of them
+-- there was one, and it was forwarded to the first k of them
 abbrev pub HandedToSome : List (ℕ × ℕ) → (motes mote : ℕ) → Option (List ℕ) → Option Inboxes → Option Inboxes → Type 0
 HandedToSome links motes mote None before after = ⊥
 HandedToSome links motes mote (Some bytes) before after =

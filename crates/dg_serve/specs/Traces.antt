@@ -1,4 +1,4 @@
--- The trace of a service: a script that tells what happened (docs/COMMANDS.md, "Serve").
+-- The trace of a service: a script that records what happened (docs/COMMANDS.md, "Serve").
 use Rattle.std.specs.Prelude.{◌≡◌, ℕ, true, List, [], ◌∷◌, ◌++◌, map, take, codes, None}
 use Rattle.std.specs.List.{flat_map}
 use Rattle.std.specs.Fmt.{decimal}
@@ -28,7 +28,7 @@ event_lines events = lines_text (map EventLine events)
 abbrev pub trace : NetProfile → List Event → List ℕ
 trace p events = lines_text (head_lines p) ++ event_lines events
 
--- Behind this head the lines of all events but the last were written, and of its line a front.
+-- After this head the lines of all events but the last were written, and a prefix of the line of the last event.
 pub record UnwrittenLast (head : List ℕ) (events : List Event) (text : List ℕ) : Type 0 where
   pub written : List Event
   pub event : Event
@@ -47,7 +47,7 @@ last_line status motes boards = []
 abbrev pub IsEventLine : Line → Type 0
 IsEventLine line = (event : Event) × (line ≡ EventLine event)
 
--- the lines of the script that tells of events
+-- the lines of the script that records events
 abbrev pub trace_lines : NetProfile → List Event → List Line
 trace_lines p events = head_lines p ++ map EventLine events
 

@@ -42,7 +42,7 @@ fn keep(alloc: Global, frame: &[u8]) -> Result<Bytes, Stop>
     }
 }
 
-/// Hands what a mote sent, if anything, to each of its neighbours in ascending order.
+/// Forwards what a mote sent, if anything, to each of its neighbours in ascending order.
 pub fn hand_on<L: Link>(
     profile: &NetProfile,
     mote: u8,
@@ -66,7 +66,7 @@ pub fn hand_on<L: Link>(
     }
 }
 
-/// Hands a frame to each neighbour of a mote in ascending order.
+/// Forwards a frame to each neighbour of a mote in ascending order.
 fn hand_to_neighbours<L: Link>(
     profile: &NetProfile,
     mote: u8,
@@ -91,7 +91,7 @@ fn hand_to_neighbours<L: Link>(
     Ok(())
 }
 
-/// Hands a frame to another mote, if it is a neighbour.
+/// Forwards a frame to another mote, if it is a neighbour.
 fn hand_to<L: Link>(
     profile: &NetProfile,
     mote: u8,

@@ -13,15 +13,15 @@ ghost use Rattle.dg_serve.specs.Traces.{IsScript, trace, trace_lines};
 
 use dg_rules::{agreement_is_kept, consistency_is_kept, golden_is_found, scripts_with_boards};
 
-/// Whatever a service came to, and of each part that was served first: where the boards agree with a table of images and
-/// each frame that came is honest by it, each step is legal, no version falls, what starts is a row of the table, and the
-/// chips, the motes that are on and the frames that were sent agree with the table, and so does the store of each
-/// half-done chip, wherever a stop comes in the next event. Over a link that tells its inboxes each frame that came, or
-/// that the next event takes, was sent by a mote of it, and so it is honest. The stores have the shape that whatever a
-/// chip stands for has. Whatever bytes frames carry: where the boards are consistent they stay so, and what starts is
-/// golden, or fits its own descriptor; where they keep golden whole they still do, a start finds it, and no service ends
-/// for want of an image. The trace of its events is a script of them. And a replay of that over boards that stand for
-/// what those of the service stood for leads to the world to which the service came, so that it leaves the same stores.
+/// Whatever a service did, this holds of it and of each prefix of what it served. If the boards agree with a table of images
+/// and each frame that came is honest by it, each step is legal, no version falls, and what starts is a row of the table. The
+/// chips, the motes that are on and the frames that were sent then agree with the table. So does the store of each half-done
+/// chip, wherever a stop comes in the next event. Over a link that exposes its inboxes each frame that came, or that the next
+/// event takes, was sent by a mote of the link, and so it is honest. The stores have the shape that whatever a chip stands for
+/// has. Whatever bytes frames carry: boards that are consistent stay so, and what starts is golden, or fits its own
+/// descriptor. Boards that keep golden whole still do: a start finds it, and no service ends for lack of an image. The trace
+/// of its events is a script of them. A replay of that script over boards that stand for what those of the service stood for
+/// leads to the world that the service reached, so that it leaves the same stores.
 pub fn services_keep_the_rules()
     ensures kept { (answer : Status) (profile : NetProfile) (seed turns : ℕ) (before after : Outside) → IsAllowed profile
         → (x : Began answer profile seed turns before after)

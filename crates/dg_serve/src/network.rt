@@ -27,13 +27,13 @@ pub enum NoProfile {
     ReadFault,
     /// It has more than 16,777,216 bytes.
     TooLong,
-    /// It spells none.
+    /// It is not a valid profile.
     Fault(ProfileFault),
 }
 
 /// Reads a network profile from `input`, a document of TOML 1.1 of at most 16,777,216 bytes, and runs its motes for this many
-/// turns, as [`serve`] does. Where the input spells no profile, the last line tells why, and nothing else is done. `turns`
-/// is at most 1,000,000.
+/// turns, as [`serve`] does. If the input spells no profile, the last line reports why, and nothing else is done. `turns` is
+/// at most 1,000,000.
 pub fn serve_network<S: Source, K: Sink, N: Nor, L: Link, C: Clock>(
     alloc: Global,
     input: &mut S,
@@ -52,8 +52,8 @@ pub fn serve_network<S: Source, K: Sink, N: Nor, L: Link, C: Clock>(
         (around_service (S.left input.new) (S.faults input.new)
         (outside (K.written out.new) (K.faults out.new) (C.told clock.new) (L.inboxes link.new) (L.faults link.new)
         (L.first_port link.new) (map N.device boards.new.items))) }
-    // All arrays of bytes that are alive at once in a mote's call have no more than 256, and beside the outbox and its sets
-    // none lies in the value of a mote.
+    // All byte arrays that are alive at once in a mote's call have no more than 256 bytes, and the value of a mote holds none
+    // but the outbox and its sets.
     ensures buffers { BuffersFit × ValuesAreSmall }
     ensures link_fault { result ≡ Status.LinkFault → Rose (L.faults link.old) (L.faults link.new) }
     ensures unfailed { result ≢ Status.LinkFault → L.faults link.new ≡ L.faults link.old }
@@ -95,7 +95,7 @@ fn profile_of(alloc: Global, text: &[u8]) -> Result<NetProfile, NoProfile>
     }
 }
 
-/// What a fault of a profile makes of a service.
+/// A fault of a profile, as the reason that there is no profile.
 fn none_at(fault: ProfileFault) -> NoProfile
     ensures { result ≡ no_profile_of fault }
 {
@@ -117,7 +117,7 @@ pub fn tell_none<K: Sink>(alloc: Global, why: NoProfile, out: &mut K) -> Status
     }
 }
 
-/// Tells why an input is no profile.
+/// Reports why an input is not a profile.
 fn tell_fault<K: Sink>(alloc: Global, fault: ProfileFault, out: &mut K) -> Status
     ensures { TellsLine result BadInput (fault_line fault) (K.written out.old) (K.written out.new) (K.faults out.old)
         (K.faults out.new) }
@@ -128,7 +128,7 @@ fn tell_fault<K: Sink>(alloc: Global, fault: ProfileFault, out: &mut K) -> Statu
     }
 }
 
-/// The line that tells why an input is no profile.
+/// The line that reports why an input is not a profile.
 fn profile_line(alloc: Global, fault: ProfileFault) -> Result<Vec<u8>, AllocError>
     ensures { IfOk result (λ line. line.items ≡ fault_line fault) }
 {

@@ -61,7 +61,7 @@ impl Service {
         Ok(())
     }
 
-    /// The power of a mote comes.
+    /// A mote powers on.
     fn begin<K: Sink, N: Nor, L: Link, C: Clock>(
         &mut self,
         profile: &NetProfile,
@@ -151,7 +151,7 @@ impl Service {
         self.apply_event(profile, mote, event, boards, link, out)
     }
 
-    /// A mote has its part in a turn: it looks, and it ticks.
+    /// The part of a mote in a turn: it looks, and it ticks.
     fn take_part<K: Sink, N: Nor, L: Link, C: Clock>(
         &mut self,
         profile: &NetProfile,
@@ -175,7 +175,7 @@ impl Service {
         Ok(())
     }
 
-    /// The power of each mote comes, in ascending order.
+    /// Each mote powers on, in ascending order.
     fn begin_all<K: Sink, N: Nor, L: Link, C: Clock>(
         &mut self,
         profile: &NetProfile,
@@ -199,7 +199,7 @@ impl Service {
         Ok(())
     }
 
-    /// Each mote has its part, in ascending order.
+    /// A turn: each mote looks and ticks, in ascending order.
     fn play_turn<K: Sink, N: Nor, L: Link, C: Clock>(
         &mut self,
         profile: &NetProfile,
@@ -222,7 +222,7 @@ impl Service {
         Ok(())
     }
 
-    /// The power of each mote comes, and then this many turns are played.
+    /// Each mote powers on, and then this many turns are played.
     pub(crate) fn run<K: Sink, N: Nor, L: Link, C: Clock>(
         &mut self,
         turns: u32,
@@ -247,7 +247,7 @@ impl Service {
         Ok(())
     }
 
-    /// So many turns.
+    /// Plays this many turns.
     fn play_turns<K: Sink, N: Nor, L: Link, C: Clock>(
         &mut self,
         turns: u32,

@@ -44,8 +44,8 @@ pub fn serve<K: Sink, N: Nor, L: Link, C: Clock>(
         (L.first_port link.old) (map N.device boards.old.items))
         (outside (K.written out.new) (K.faults out.new) (C.told clock.new) (L.inboxes link.new) (L.faults link.new)
         (L.first_port link.new) (map N.device boards.new.items)) }
-    // All arrays of bytes that are alive at once in a mote's call have no more than 256, and beside the outbox and its sets
-    // none lies in the value of a mote.
+    // All byte arrays that are alive at once in a mote's call have no more than 256 bytes, and the value of a mote holds none
+    // but the outbox and its sets.
     ensures buffers { BuffersFit × ValuesAreSmall }
 {
     a_mote_buffers_little();
@@ -134,7 +134,7 @@ fn open<L: Link>(alloc: Global, profile: &NetProfile, link: &mut L) -> Result<()
     }
 }
 
-/// So many motes, all of them off.
+/// `motes` motes, all of them off.
 fn all_off(alloc: Global, motes: u8) -> Result<Vec<Option<Node>>, AllocError>
     ensures { IfOk result (λ off. off.items ≡ replicate motes None) }
 {
@@ -169,7 +169,7 @@ pub(crate) fn tell_last<K: Sink>(line: &[u8], status: Status, out: &mut K) -> St
     }
 }
 
-/// Tells that there are too few boards.
+/// Reports that there are too few boards.
 fn tell_too_few<K: Sink>(alloc: Global, motes: u8, boards: usize, out: &mut K) -> Status
     requires few { boards < 2 ^ 32 }
     ensures { TellsTooFew result (last_line NoBoard motes boards) (K.written out.old) (K.written out.new) (K.faults out.old)

@@ -43,7 +43,7 @@ pub(crate) fn write_head(profile: &NetProfile, text: &mut Vec<u8>) -> Result<(),
     Ok(())
 }
 
-/// The line of an event, in place of what stood in `text`.
+/// The line of an event, which replaces what was in `text`.
 pub fn write_event(line: &Line, text: &mut Vec<u8>) -> Result<(), AllocError>
     requires fits { FitsLine most_motes line.now }
     requires short { IsShort line.now }
@@ -53,7 +53,7 @@ pub fn write_event(line: &Line, text: &mut Vec<u8>) -> Result<(), AllocError>
     write_line(line, text)
 }
 
-/// The event that a line tells, which is the line of one.
+/// The event of a line that is the line of one.
 pub fn line_event(line: &Line) -> &Event
     requires { IsEventLine line.now }
     ensures { line.now ≡ EventLine result.now }

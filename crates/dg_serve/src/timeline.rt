@@ -1,4 +1,4 @@
-//! When events are applied, and what they word.
+//! When events are applied, and with which words.
 ghost use Rattle.std.specs.Prelude.{◌≡◌, ◌+◌, ◌-◌, ◌^◌, ◌<◌, ◌≤◌, min};
 ghost use Rattle.rand_pcg.specs.Pcg.{pcg32};
 ghost use Rattle.dg_base.specs.Clock.{Answered};
@@ -11,13 +11,13 @@ use dg_seed::Draws;
 /// The moment of the last event, what the clock answered last, and the draws to come.
 #[derive(Drop)]
 pub struct Timeline {
-    /// In milliseconds since the service began, as its events tell it.
+    /// In milliseconds since the service began, by the times of its events.
     pub moment: u64,
     pub reading: u64,
     pub draws: Draws,
 }
 
-/// What an event takes of time and chance: the milliseconds since the event before, and a word.
+/// The time and the random number of an event: the milliseconds since the event before, and a word.
 #[derive(Clone, Copy, Debug, PartialEq, Eq)]
 pub struct Timing {
     pub dt: u32,
@@ -63,7 +63,7 @@ impl Timeline {
     }
 }
 
-/// So many milliseconds, as far as an event can tell them.
+/// `passed` milliseconds, or the most that an event can hold.
 fn as_event_time(passed: u64) -> u32
     ensures { result ≡ min passed (2 ^ 32 - 1) }
 {

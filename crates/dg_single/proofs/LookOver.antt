@@ -1,4 +1,4 @@
--- How a look ends that heard nothing, over any boards.
+-- How a look that heard nothing ends, over any boards.
 use Rattle.std.proofs.Common.{◌≡◌, ℕ, List, [], ◌∷◌, set, sym, subst}
 use Rattle.std.specs.Prelude.{Bool, slice_get, Some, Result, Ok, Err, IsErrAnd}
 use Rattle.dg_nor.specs.Device.{Device}
@@ -12,7 +12,7 @@ pub look_exit : (motes mote : ℕ) (links : List (ℕ × ℕ)) (p q : Standing) 
 look_exit motes mote links p q (Ok u) why is h = absurd is
 look_exit motes mote links p q (Err e) why is h = subst (λ (w : Stop). PartsHalted w motes motes links (Looks mote ∷ []) p q) (sym is) h
 
--- the board is as it was
+-- the board is unchanged
 pub halts_over : (motes mote : ℕ) (links : List (ℕ × ℕ)) (p : Standing) (boards : List Device) (d : Device) → slice_get boards mote ≡ Some d → (q : Standing) (why : Stop) → PartsHalted why motes motes links (Looks mote ∷ []) p (over q boards) → PartsHalted why motes motes links (Looks mote ∷ []) p (over q (set boards mote d))
 halts_over motes mote links p boards d was q why h = subst (λ bs. PartsHalted why motes motes links (Looks mote ∷ []) p (over q bs)) (sym (put_same boards mote d was)) h
 

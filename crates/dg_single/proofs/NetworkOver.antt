@@ -49,7 +49,7 @@ not_here_by mote profile h = ap (λ (b : Bool). cond b (Serves profile) (FaultAt
 pub served_here : (mote : ℕ) (profile : NetProfile) (answer : Status) (seed turns : ℕ) (before after : Outside) → mote < profile.motes → MoteServed answer profile mote seed turns before after → MoteDoneBy (by_mote mote profile) answer mote seed turns before after
 served_here mote profile answer seed turns before after h s = subst (λ (o : MoteOpening). MoteDoneBy o answer mote seed turns before after) (sym (here_by mote profile h)) s
 
--- nothing was done but to tell why
+-- nothing was done but to report why
 alone : (answer of : Status) (line : List ℕ) (mote : ℕ) (before : Outside) (d : Device) (w : Option (List ℕ)) (f : ℕ) → slice_get before.boards mote ≡ Some d → TellsLine answer of line before.written w before.faults f → WritesOneLine answer of line before (record before { written = w; faults = f; boards = set before.boards mote d })
 alone answer of line mote before d w f was told = record { boards = put_same before.boards mote d was; clock = refl; link = refl; port = refl; failures = refl; written = told }
 
@@ -70,7 +70,7 @@ served_by profile mote answer seed turns a b read done = record {
   });
 }
 
--- ---- where none was
+-- ---- where no profile was read
 
 same_outside : (mote : ℕ) (before : Outside) (d : Device) (w : Option (List ℕ)) (f : ℕ) → slice_get before.boards mote ≡ Some d → w ≡ before.written → f ≡ before.faults → record before { written = w; faults = f; boards = set before.boards mote d } ≡ before
 same_outside mote before d w f was e g =

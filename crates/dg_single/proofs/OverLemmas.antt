@@ -48,7 +48,7 @@ within_alike (suc n) (suc m) d a was = within_alike n m d a was
 
 -- ---- more motes began, which are off
 
--- a board of a mote that is off stands as one of a mote that began, where it is a volume
+-- the board of a mote that is off may count as that of a mote that began, if it is a volume
 pub more_on : (motes low high : ℕ) (links : List (ℕ × ℕ)) (first : List Device) (s : Moment) (p : Standing) → low ≤ high → high ≤ motes
     → ((m : ℕ) (a : Device) → low ≤ m → m < high → slice_get first m ≡ Some a → IsVolume a.image) → ((m : ℕ) → low ≤ m → slice_index_or p.service.motes.items m None ≡ None)
     → StandsFor motes low links 0 first s p → StandsFor motes high links 0 first s p

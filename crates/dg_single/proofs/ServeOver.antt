@@ -64,14 +64,14 @@ module _ (profile : NetProfile) (mote seed turns : ℕ) (b : Outside) (p q : Sta
   abbrev First : List Row → List Store → Moment
   First table stores = begins table profile.links stores p.service.timeline.reading p.clock seed (option_map (emptied profile.motes) b.inboxes)
 
-  -- the power of those before it came, as far as its service knows
+  -- those before it powered on, as far as its service knows
   stands_opened : (table : List Row) (stores : List Store) → StoresOf profile.motes p.boards stores → OthersAreVolumes profile.motes mote p.boards → StandsFor profile.motes mote profile.links 0 p.boards (First table stores) p
   stands_opened table stores of others =
       more_on profile.motes 0 mote profile.links p.boards (First table stores) p (omega arith) (omega (arith, known))
       (λ m a low high was. others m a (omega (arith, high, known)) (λ e. omega (arith, e, high)) was) (λ m low. o.off m)
       (stands_first profile.motes profile.links table stores p.service.timeline.reading p.clock (first_generator seed) (option_map (emptied profile.motes) b.inboxes) p of o.moment refl o.draws refl o.inboxes)
 
-  -- and of those behind it
+  -- and so did those after it
   stands_begun : (mid : Standing) (w : ServedParts profile.motes mote (mote + 1) profile.links (Begins mote ∷ []) p mid) → (s : Moment) → OthersAreVolumes profile.motes mote p.boards → StandsFor profile.motes (mote + 1) profile.links 0 p.boards s mid → StandsFor profile.motes profile.motes profile.links 0 p.boards s mid
   stands_begun mid w s others st =
       more_on profile.motes (mote + 1) profile.motes profile.links p.boards s mid (omega (arith, known)) (omega arith)
@@ -133,7 +133,7 @@ module _ (profile : NetProfile) (mote seed turns : ℕ) (b : Outside) (p q : Sta
       whole_of ticks last moment (inl all) = inl all
       whole_of ticks last moment (inr late) = inr (omega (arith, moment, late))
 
-  -- a stop came as its power did
+  -- a stop came as it powered on
   ran_begin : (why : Stop) → PartsHalted why profile.motes mote profile.links (Begins mote ∷ []) p q → MoteRan (Some why) profile mote seed turns (record b { boards = p.boards }) (outside_of q)
   ran_begin why h =
       let own = h.own mote (all_front (IsPartAt mote) h.done h.left (subst (AllByRecursion (IsPartAt mote)) (sym h.all) (refl, tt))) in
@@ -266,7 +266,7 @@ unfolding told
 began why answer profile mote seed turns before mid v g text r put wrote causes = record { why = why; run = told why profile mote seed turns before mid v g r.run; text = text; put = put; wrote = wrote; causes = causes }
 
 module _ (profile : NetProfile) (mote seed turns : ℕ) (before mid : Outside) where
-  -- what a fault of the outside tells, where the answer is that of the stop
+  -- how a fault of the outside is reported, where the answer is that of the stop
   causes_of : (why : Option Stop) (answer : Status) → CountedBy why before mid → (answer ≡ status.WriteFault → why ≡ Some stop.Write) → (answer ≢ status.WriteFault → why ≢ Some stop.Write) → (answer ≡ status.LinkFault → why ≡ Some stop.Link) → (answer ≢ status.LinkFault → why ≢ Some stop.Link) → (answer ≢ status.FlashFault → why ≢ Some stop.Flash) → Causes answer before (told_after mid mid.written mid.faults)
   causes_of why answer c write unwrite link unlink flash = record {
     write_fault = λ is. c.wrote (write is);

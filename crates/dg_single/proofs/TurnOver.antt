@@ -34,7 +34,7 @@ pub tick_failed : (r : Result (Unit {0}) Stop) (why : Stop) (x : Seat) (d f : De
 tick_failed (Ok u) why x d f p s is goes = absurd is
 tick_failed (Err e) why x d f p s is goes = subst (λ (w : Stop). TurnGoes (Err w) x d f p s) (sym is) goes
 
--- the mote may tick behind its look
+-- the mote may tick after its look
 pub may_tick : (x : Seat) (d e : Device) (p q : Standing) (way : IsUnderWayOver x (2 ^ 59) d p) → GoesOver (Ok tt) x (stretch x.motes x.motes (Looks x.mote ∷ [])) d e p q → IsUnderWayOver x (2 ^ 60) e q
 may_tick x d e p q way goes =
     let went = goes way.boards way.owns in
@@ -79,7 +79,7 @@ turned_next x n d e f p q s turned goes boards owns =
           (went_then x.motes x.motes x.motes x.motes x.links (turns_of x.mote a.ticks) (turn_of x.mote b.0) (over p boards) (over q next) (over s (set next x.mote f)) (omega arith) a.went b.1));
     }
 
--- it is under way behind them
+-- it is under way after them
 pub turned_way : (x : Seat) (n limit more : ℕ) (d e : Device) (p q : Standing) → IsUnderWayOver x limit d p → TurnedOver x n d e p q → q.service.timeline.moment < more → IsUnderWayOver x more e q
 turned_way x n limit more d e p q way turned early =
     let t = turned way.boards way.owns in
@@ -115,7 +115,7 @@ turned_late x n turns d e p q less late turned boards owns =
     let a = turned boards owns in
     record { ticks = a.ticks; few = omega (arith, a.count, less); goes = a.went; all = inr late }
 
--- ---- from the power on
+-- ---- from power-on
 
 abbrev pub RunOver : Result (Unit {0}) Stop → Seat → (turns : ℕ) → (d e : Device) → (p q : Standing) → Type 0
 RunOver r x turns d e p q = (boards : List Device) → Owns x.motes x.mote d boards → RunGoes r x turns (over p boards) (over q (set boards x.mote e))

@@ -12,11 +12,11 @@ use Rattle.dg_serve.specs.Networks.{AroundService, NotRead, WritesOneLine, over_
 use Rattle.dg_serve.specs.Served.{Outside}
 use Rattle.dg_single.specs.Singles.{MoteServed}
 
--- how the rules say that it goes, by the input and the number of the mote alone
+-- the outcome by the rules, from the input and the number of the mote alone
 pub data MoteOpening : Type 0 where
   -- the input is too long
   Over : MoteOpening
-  -- it is no network profile, or one without the mote
+  -- it is not a network profile, or is one without the mote
   FaultAt : (fault : ProfileFault) → MoteOpening
   -- it is this profile, whose mote is served
   Serves : (profile : NetProfile) → MoteOpening
@@ -28,7 +28,7 @@ abbrev pub mote_by_profile : ℕ → Result NetProfile ProfileFault → MoteOpen
 mote_by_profile mote (Ok profile) = by_mote mote profile
 mote_by_profile mote (Err fault) = FaultAt fault
 
--- a longer input than is used is refused whatever it has
+-- an input that is longer than what is used is refused whatever it has
 abbrev pub mote_opening_of : (mote : ℕ) → (input : List ℕ) → MoteOpening
 mote_opening_of mote input = if nat_lt most_used_bytes (length input) then Over else mote_by_profile mote (netprofile input)
 

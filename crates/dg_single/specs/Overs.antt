@@ -37,7 +37,7 @@ pub record IsUnderWayOver (x : Seat) (limit : ℕ) (own : Device) (p : Standing)
   pub owns : Owns x.motes x.mote own boards
   pub way : IsUnderWay x.motes x.links limit (over p boards)
 
--- what an answer says of how it went
+-- what an answer says about the outcome
 abbrev pub went_so : {T : Type 0} → Result T Stop → Result (Unit {0}) Stop
 went_so (Ok x) = Ok tt
 went_so (Err why) = Err why
@@ -52,11 +52,11 @@ TurnGoes r x old new p q = (boards : List Device) → Owns x.motes x.mote old bo
 abbrev pub latest_moment : ℕ
 latest_moment = 2 ^ 58
 
--- It is ready, whatever the other boards are: the power of the first motes came.
+-- It is ready, whatever the other boards are: the first motes powered on.
 abbrev pub ReadyOver : Seat → (begun : ℕ) → (own : Device) → Standing → Type 0
 ReadyOver x begun own p = (boards : List Device) → Owns x.motes x.mote own boards → Ready x.motes begun (over p boards)
 
--- Some of this many turns were played. All were, where none stopped, unless it is late.
+-- Some of this many turns were played: all of them, if none stopped, unless it is late.
 abbrev pub AllPlayed : Result (Unit {0}) Stop → (ticks : List Bool) → (turns moment : ℕ) → Type 0
 AllPlayed (Ok u) ticks turns moment = (length ticks ≡ turns) ⊎ (latest_moment ≤ moment)
 AllPlayed (Err why) ticks turns moment = Unit {0}
@@ -67,7 +67,7 @@ pub record TurnsGo (r : Result (Unit {0}) Stop) (x : Seat) (turns : ℕ) (p q : 
   pub goes : GoesOn r x.motes x.links (stretch x.motes x.motes (turns_of x.mote ticks)) p q
   pub all : AllPlayed r ticks turns q.service.timeline.moment
 
--- The power of the mote came, and then this many turns were played.
+-- The mote powered on, and then this many turns were played.
 pub record BeganAndGoes (r : Result (Unit {0}) Stop) (x : Seat) (turns : ℕ) (p q : Standing) : Type 0 where
   pub between : Standing
   pub begins : ServedParts x.motes x.mote (x.mote + 1) x.links (Begins x.mote ∷ []) p between

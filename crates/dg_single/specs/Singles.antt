@@ -26,7 +26,7 @@ use Rattle.dg_single.specs.Plans.{plan_of}
 abbrev pub OthersAreVolumes : (motes mote : ℕ) → List Device → Type 0
 OthersAreVolumes motes mote boards = (m : ℕ) (a : Device) → m < motes → m ≢ mote → slice_get boards m ≡ Some a → IsVolume a.image
 
--- From this moment on the service came as far as this. Where it did not stop, all turns were played, unless it is late.
+-- From this moment on the service came as far as this. If it did not stop, all turns were played, unless it is late.
 pub record MoteCame (why : Option Stop) (motes : ℕ) (s : Moment) (c : Course) (first : List Device) (after : Outside)
     (all : Type 0) : Type 0 where
   pub came : Came why motes s c first after
@@ -45,13 +45,13 @@ pub record MoteRun (why : Option Stop) (profile : NetProfile) (mote seed turns :
   pub parts : done ++ left ≡ plan_of mote ticks
   pub few : length ticks ≤ turns
   pub all : why ≡ None → left ≡ []
-  -- from whatever the boards stand for, and whatever the table of images is: the rules of a service look at none
+  -- whatever the boards stand for, and whatever the table of images is: the rules of a service do not look at it
   pub came : (table : List Row) (stores : List Store) → StoresOf profile.motes before.boards stores
       → OthersAreVolumes profile.motes mote before.boards
       → MoteCame why profile.motes (begins table profile.links stores origin clock seed
       (option_map (emptied profile.motes) before.inboxes))
       (course done events left) before.boards after (length ticks ≡ turns)
-  -- each event was at the mote, and none where its board is not a volume
+  -- each event was at the mote, and there was no event if its board is not a volume
   pub own : AllByRecursion (IsEventAt mote) events
   pub volumes : AllByRecursion (IsAtVolume before.boards) events
   pub boards : BoardsEndure before.boards after.boards

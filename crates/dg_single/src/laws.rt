@@ -14,11 +14,11 @@ ghost use Rattle.dg_single.specs.Singles.{OthersAreVolumes, MoteBegan};
 
 use dg_rules::{agreement_is_kept, consistency_is_kept, golden_is_found, scripts_with_boards};
 
-/// What is promised of a service of all motes holds of one of a single mote, whatever volumes the boards of the others are:
-/// its events are those of a run of the rules, and where the boards agree with a table of images and each frame that came is
-/// honest by it, each step is legal, no version falls, what starts is a row of the table, and all agrees with it, also where
-/// a stop comes in the next event. Whatever bytes frames carry, consistent boards stay so. The trace is a script of the
-/// events, and a replay of it over boards that stand for the same stores leads to the world to which the service came.
+/// What is promised of a service of all motes holds of one of a single mote, whatever volumes the boards of the others are.
+/// Its events are those of a run of the rules. If the boards agree with a table of images and each frame that came is honest
+/// by it, each step is legal, no version falls, and what starts is a row of the table. Everything then agrees with the table,
+/// also where a stop comes in the next event. Whatever bytes frames carry, consistent boards stay so. The trace is a script of
+/// the events, and a replay of it over boards that stand for the same stores leads to the world that the service reached.
 pub fn services_of_one_keep_the_rules()
     ensures kept { (answer : Status) (profile : NetProfile) (mote seed turns : ℕ) (before after : Outside) → IsAllowed profile
         → mote < profile.motes → (x : MoteBegan answer profile mote seed turns before after)

@@ -18,9 +18,9 @@ use dg_nor::Nor;
 use dg_serve::{NoProfile, read_network, tell_none};
 use std::alloc::Global;
 
-/// Reads a network profile from `input`, a document of TOML 1.1 of at most 16,777,216 bytes, and runs a mote of it for so
-/// many turns, as [`serve_mote`] does. Where the input is not a profile, or one without that mote, the last line says why,
-/// and nothing else is done.
+/// Reads a network profile from `input`, a document of TOML 1.1 of at most 16,777,216 bytes, and runs a mote of it for this
+/// many turns, as [`serve_mote`] does. If the input is not a profile, or is one without that mote, the last line says why, and
+/// nothing else is done.
 pub fn serve_mote_of_network<S: Source, K: Sink, N: Nor, L: Link, C: Clock, W: Clock>(
     alloc: Global,
     input: &mut S,
@@ -41,8 +41,8 @@ pub fn serve_mote_of_network<S: Source, K: Sink, N: Nor, L: Link, C: Clock, W: C
         (around_service (S.left input.new) (S.faults input.new)
         (outside (K.written out.new) (K.faults out.new) (C.told clock.new) (L.inboxes link.new) (L.faults link.new)
         (L.first_port link.new) (slice_set boards mote (N.device board.new)))) }
-    // All arrays of bytes that are alive at once in a mote's call have no more than 256, and beside the outbox and its sets
-    // none lies in the value of a mote.
+    // All byte arrays that are alive at once in a mote's call have no more than 256 bytes, and the value of a mote holds none
+    // but the outbox and its sets.
     ensures buffers { BuffersFit × ValuesAreSmall }
 {
     a_mote_buffers_little();

@@ -51,7 +51,7 @@ pub(crate) fn apply_event<K: Sink, N: Nor, L: Link>(
     Ok(())
 }
 
-/// The power of a mote comes.
+/// A mote powers on.
 pub(crate) fn begin<K: Sink, N: Nor, L: Link, C: Clock>(
     service: &mut Service,
     profile: &NetProfile,

@@ -18,8 +18,8 @@ use dg_serve::{Stop, open_service, tell_stop};
 use std::alloc::Global;
 
 /// Runs a mote of a profile, which is wide, for this many turns, over its board, the link and the clock, and writes what
-/// happens to `out` as a script. In a turn the mote looks whether a frame came, and ticks where one did, where `watch` says
-/// that something of it is due, or where it did not tick for a second of the watch.
+/// happens to `out` as a script. In a turn the mote looks whether a frame came. It ticks if one did, if `watch` says that
+/// something of it is due, or if it did not tick for a second of the watch.
 ///
 /// It does what a service of all motes does at this one, whatever the boards of the others are.
 pub fn serve_mote<K: Sink, N: Nor, L: Link, C: Clock, W: Clock>(
@@ -42,8 +42,8 @@ pub fn serve_mote<K: Sink, N: Nor, L: Link, C: Clock, W: Clock>(
         (L.first_port link.old) boards)
         (outside (K.written out.new) (K.faults out.new) (C.told clock.new) (L.inboxes link.new) (L.faults link.new)
         (L.first_port link.new) (slice_set boards mote (N.device board.new))) }
-    // All arrays of bytes that are alive at once in a mote's call have no more than 256, and beside the outbox and its sets
-    // none lies in the value of a mote.
+    // All byte arrays that are alive at once in a mote's call have no more than 256 bytes, and the value of a mote holds none
+    // but the outbox and its sets.
     ensures buffers { BuffersFit × ValuesAreSmall }
 {
     a_mote_buffers_little();

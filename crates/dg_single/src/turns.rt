@@ -13,7 +13,7 @@ use dg_netcfg::NetProfile;
 use dg_nor::Nor;
 use dg_serve::{Service, Stop};
 
-/// The moment from which on no turn begins, in milliseconds. That is in nine million years.
+/// The moment from which no turn begins, in milliseconds. That is in nine million years.
 const LATEST: u64 = 288_230_376_151_711_744;
 
 /// A turn: a mote looks, and ticks where a frame came or where its rest is over.
@@ -53,7 +53,7 @@ fn play_turn<K: Sink, N: Nor, L: Link, C: Clock, W: Clock>(
     Ok(())
 }
 
-/// So many turns, or as many as begin before the latest moment.
+/// Plays this many turns, or as many as begin before the latest moment.
 fn play_turns<K: Sink, N: Nor, L: Link, C: Clock, W: Clock>(
     service: &mut Service,
     rest: &mut Rest,
@@ -85,7 +85,7 @@ fn play_turns<K: Sink, N: Nor, L: Link, C: Clock, W: Clock>(
     Ok(())
 }
 
-/// The power of a mote comes, and then this many turns are played.
+/// A mote powers on, and then this many turns are played.
 pub(crate) fn run<K: Sink, N: Nor, L: Link, C: Clock, W: Clock>(
     service: &mut Service,
     turns: u64,

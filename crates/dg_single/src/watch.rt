@@ -1,11 +1,11 @@
 //! When a mote ticks though no frame came.
 use dg_node::Node;
 
-/// The longest time between two ticks, in milliseconds: so a day of a trace has no more than a tick for each second that
-/// nothing happens in.
+/// The longest time between two ticks, in milliseconds, so that a day of a trace has at most one tick for each second in which
+/// nothing happens.
 const LONGEST_REST: u64 = 1_000;
 
-/// The time since the last tick by another clock than that of the events. No event has its answers.
+/// The time since the last tick, by a clock other than that of the events. No event has its answers.
 #[derive(Drop)]
 pub(crate) struct Rest {
     /// Its answer at the last tick, in milliseconds.
