@@ -1,4 +1,4 @@
--- A base mote goes on by a deed, or stops in it.
+-- A base mote does one more deed, or stops in it.
 use Rattle.std.proofs.Common.{◌≡◌, ℕ, suc, ◌+◌, ◌≤◌, List, [], ◌∷◌, ◌++◌, length, refl, ap, sym, ◌∙◌, subst, append_assoc, append-nil, length-append, arith}
 use Rattle.std.specs.Prelude.{Option, Some, None, option_map, map, Result, Ok, Err, OnOk, IfSome}
 use Rattle.std.proofs.lemmas.Result.{IfOk-at_ok}
@@ -169,7 +169,7 @@ stopped_more stop.Read b there rest more first now new x = x
 stopped_more stop.NotAVolume b there rest more first now new x = x
 stopped_more stop.TooLong b there rest more first now new x = x
 
--- it halted before deeds that follow
+-- it halted, whatever deeds were to follow
 pub halted_more : (why : Stop) (a : Outset) (all more : List Deed) (now : Option (List ℕ)) (new : Device) → DeedsHalted why a all now new → DeedsHalted why a (all ++ more) now new
 halted_more why a all more now new h =
     record {
@@ -182,7 +182,7 @@ halted_more why a all more now new h =
       by = stopped_more why a.base h.there h.rest more a.written now new h.by;
     }
 
--- ---- a deed, and what it sent goes onto the line
+-- ---- a deed, and what it sent is written to the line
 
 all_and_one : (frames : List (List ℕ)) (frame : Option (List ℕ)) → AllByRecursion IsOnLine frames → IfSome frame IsOnLine → AllByRecursion IsOnLine (frames ++ one_if frame)
 all_and_one [] None all one = tt
@@ -190,7 +190,7 @@ all_and_one [] (Some frame) all one = (one, tt)
 all_and_one (f ∷ frames) frame all one = (all.0, all_and_one frames frame all.1 one)
 
 module _ (a : Outset) (done : List Deed) (d : Deed) (before : At) (old now : Option (List ℕ)) (put : Puts a.written old (said before)) (fits : AreOnLine before) where
-  -- what is said behind the deed
+  -- what is on the line after the deed
   said_then : (there : At) (frame : Option (List ℕ)) → map frame_of there.sent ≡ map frame_of before.sent ++ one_if frame → said there ≡ said before ++ line_of (one_if frame)
   said_then there frame e = ap line_of e ∙ said_one (map frame_of before.sent) (one_if frame)
 

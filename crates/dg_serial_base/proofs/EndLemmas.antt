@@ -1,4 +1,4 @@
--- What a base mote did, by how its line went and what it told.
+-- What a base mote did, by how its line ended and what it reported.
 use Rattle.std.proofs.Common.{◌≡◌, ◌≢◌, ℕ, ◌+◌, ◌≤◌, ◌<◌, List, [], ◌++◌, length, take, refl, ap, sym, ◌∙◌, subst, inl, inr, append-nil, arith}
 use Rattle.std.specs.Prelude.{Option, Some, None, Result, Ok, Err, map}
 use Rattle.dg_words.specs.Counts.{Rose}
@@ -47,7 +47,7 @@ module _ (back : BackLaw) (b : Base) (s : Store) (before after : Outside) (now :
   abbrev a : Outset
   a = outset_of b s before
 
-  -- before the last line was told, where so many writes had failed
+  -- before the last line was written, with this many failed writes
   abbrev mid : ℕ → Outside
   mid f = record after { written = now; writes = f }
 
@@ -62,7 +62,7 @@ module _ (back : BackLaw) (b : Base) (s : Store) (before after : Outside) (now :
   abbrev came_some : (why : Stop) (input : List ℕ) → DeedsHalted why a (deeds_of (take most_input input)) now new → Came b s input
   came_some why input h = record { done = h.done; rest = h.rest; parts = h.parts; there = h.there; run = h.run; heard = back (map frame_of h.there.sent) h.fits }
 
-  -- the input ended, and nothing is told of it
+  -- the input ended, and nothing is reported of it
   done_ends : (input : List ℕ) → Takes left_old left_new input → length input ≤ most_input + 1 → (v : Running) (line : Reading) → StreamPlayed a (take most_input input) (code_on_line now v line new) → AtEnd left_new → length input ≤ most_input
       → last ≡ now → Ends status.Done
   done_ends input taken few v line p at_end most same =
@@ -124,7 +124,7 @@ module _ (back : BackLaw) (b : Base) (s : Store) (before after : Outside) (now :
   lack_ends input taken few h answer f g (inr x) =
       subst Ends (sym x.0) (front_ends input taken few (came_some stop.NoImage input h) h.by.2 status.NoImage (inr (inr (h.by.0, refl))) h.by.1 x.1)
 
-  -- the mote halted, and nothing is told of it
+  -- the mote halted, and nothing is reported of it
   memory_ends : (input : List ℕ) → Takes left_old left_new input → length input ≤ most_input + 1 → DeedsHalted stop.Memory a (deeds_of (take most_input input)) now new → last ≡ now → Ends status.Memory
   memory_ends input taken few h same =
       record { input = input; taken = taken; few = few; text = h.by.0; put = same ∙ h.by.1; ends = (came_some stop.Memory input h, h.by.2, h.by.3) }
@@ -161,7 +161,7 @@ module _ (back : BackLaw) (b : Base) (s : Store) (before after : Outside) (now :
   input_ends (Err stop.Flash) v line x answer f g t = subst Ends (sym t.0) (flash_ends x.input x.taken x.few x.by t.1)
   input_ends (Err stop.NotAVolume) v line x answer f g t = absurd x.by.by
 
-  -- ---- the power
+  -- ---- power-on
 
   takes_nothing : (a : Option (List ℕ)) → Takes a a []
   takes_nothing None = refl
@@ -241,7 +241,7 @@ causes_with : (answer : Status) (before after : Outside) → ReadsAre answer bef
 causes_with answer before after r w c =
     record { reads = r.0; writes = w.0; read_fault = r.1; unread = r.2; write_fault = w.1; written = w.2; flash_fault = c.0; calm = c.1 }
 
--- an answer that tells no fault
+-- an answer that reports no fault
 calm_causes : (answer : Status) (before after : Outside) → answer ≢ status.ReadFault → answer ≢ status.WriteFault → answer ≢ status.FlashFault → after.reads ≡ before.reads → after.writes ≡ before.writes
     → Calm before.chip after.chip → Causes answer before after
 calm_causes answer before after nr nw nf reads writes calm = causes_with answer before after (reads_same answer before after nr reads) (writes_same answer before after nw writes) (chip_calm answer before after nf calm)
@@ -282,7 +282,7 @@ line_causes (Err stop.NotAVolume) answer before after now mid c w r t = last_cau
 line_causes (Err stop.NoImage) answer before after now mid c w r t = last_causes answer status.NoImage (closing status.NoImage) before after now mid (λ e. cc) (λ e. cc) (λ e. cc) r w c t
 line_causes (Err stop.TooLong) answer before after now mid c w r t = last_causes answer status.TooLong (closing status.TooLong) before after now mid (λ e. cc) (λ e. cc) (λ e. cc) r w c t
 
--- ---- a chip that is no volume
+-- ---- a chip that is not a volume
 
 refuses : (before after : Outside) (now : Option (List ℕ)) (f : ℕ) (answer : Status) → Looked before.chip after.chip → after.left ≡ before.left → now ≡ before.written
     → TellsStatus answer status.NotAVolume (closing status.NotAVolume) now after.written f after.writes → Refused answer before after

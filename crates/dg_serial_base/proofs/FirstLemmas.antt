@@ -1,4 +1,4 @@
--- A line begins behind the power.
+-- A line begins after power-on.
 use Rattle.std.proofs.Common.{◌≡◌, ℕ, List, [], refl, ap, sym, subst, inr}
 use Rattle.std.specs.Prelude.{Result, Ok, Err, map}
 use Rattle.std.specs.List.{AllByRecursion}

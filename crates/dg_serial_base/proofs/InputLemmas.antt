@@ -1,4 +1,4 @@
--- The input goes on piece by piece.
+-- The input is read and played piece by piece.
 use Rattle.std.proofs.Common.{◌≡◌, ℕ, ◌+◌, ◌-◌, ◌≤◌, List, [], ◌∷◌, ◌++◌, length, take, refl, ap, sym, ◌∙◌, subst, append-nil, length-append, arith}
 use Rattle.std.proofs.lemmas.List.{length-take, take_all, take-append-le}
 use Rattle.std.specs.Prelude.{Option, Some, None, Result, Ok, Err}
@@ -50,7 +50,7 @@ pub piece_unread : (why : Stop) (a : Outset) (stream more : List ℕ) (most : �
 piece_unread why a stream more most left_old left_now now is none taken p =
     subst (λ (x : Stop). PieceFails x a stream most left_old left_now now) (sym is) (subst (λ (x : List ℕ). Takes left_old left_now x) none taken, p)
 
--- ---- pieces one behind the other
+-- ---- pieces one after the other
 
 pub consumed_none : (a : Outset) (left : Option (List ℕ)) (now : LineAt) → StreamPlayed a [] now → Consumed a 0 left left now
 consumed_none a left now p = record { stream = []; counted = refl; taken = takes_nothing left; played = p }
@@ -122,7 +122,7 @@ module _ (a : Outset) (left_old left_mid left_now : Option (List ℕ)) (now : Li
   played_whole : (more : List ℕ) → StreamPlayed a (take most_input (c.stream ++ more)) now
   played_whole more = played_along a c.stream (take most_input (c.stream ++ more)) now (sym (used_whole more)) c.played
 
-  -- the bytes that are used were all played, and what stands behind them was looked for
+  -- the bytes that are used were all played, and it was checked whether more follow
   pub last_ends : (r : Result (Unit {0}) Stop) → LastEnds r left_mid left_now → InputEnds r a left_old left_now now
   last_ends (Ok x) l =
       let few : length (c.stream ++ []) ≤ most_input = omega (arith, length-append c.stream [], c.counted) in
@@ -160,7 +160,7 @@ last_unread why more left_old left_now is none taken = subst (λ (x : Stop). Las
 pub take_fits : (n : ℕ) (xs more : List ℕ) → n ≡ length more → take n xs ≡ more → n ≤ length xs
 take_fits n xs more e t = omega (arith, e, ap (λ (ys : List ℕ). length ys) t, length-take n xs)
 
--- what was looked for stops no chip, and writes nothing
+-- the check whether more follow stops no chip, and writes nothing
 pub last_counts : (r : Result (Unit {0}) Stop) (left_old left_now : Option (List ℕ)) (a b : Device) → LastEnds r left_old left_now → Calm a b → Counts r a b
 last_counts (Ok x) left_old left_now a b l calm = calm
 last_counts (Err stop.Read) left_old left_now a b l calm = calm

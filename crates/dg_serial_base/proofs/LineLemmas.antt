@@ -1,4 +1,4 @@
--- A base mote goes on by the bytes of its line.
+-- A base mote plays the bytes of its line.
 use Rattle.std.proofs.Common.{◌≡◌, ℕ, List, [], ◌∷◌, ◌++◌, ap, sym, ◌∙◌, subst, append_assoc}
 use Rattle.std.specs.Prelude.{Option, None, Result}
 use Rattle.dg_nor.specs.Device.{Device}

@@ -45,7 +45,7 @@ write_calm stop.Write b s done d before new n x = absurd x
 write_calm stop.NotAVolume b s done d before new n x = refl
 write_calm stop.TooLong b s done d before new n x = refl
 
--- nor was anything read
+-- and nothing was read
 pub read_calm : (why : Stop) (b : Base) (s : Store) (done : List Deed) (d : Deed) (before : At) (new : Device) (n : ℕ) → DeedFails why b s done d before new → ReadsBy why n n
 read_calm stop.Flash b s done d before new n x = refl
 read_calm stop.NoImage b s done d before new n x = refl

@@ -1,4 +1,4 @@
--- What the power of a chip makes.
+-- What happens when a chip powers on.
 use Rattle.std.proofs.Common.{◌≡◌, ℕ, suc, true, [], ap, sym, ◌∙◌, subst}
 use Rattle.dg_nor.specs.Device.{Device}
 use Rattle.dg_volume.specs.Store.{Store}

@@ -1,4 +1,4 @@
--- What is said of results is handed on with them.
+-- What holds of results holds after they are passed on.
 use Rattle.std.proofs.Common.{◌≡◌, ℕ, sym, ◌∙◌, subst, inl, inr}
 use Rattle.std.specs.Prelude.{Result, Ok, Err, OnOk, IsErr, IsErrAnd}
 use Rattle.dg_words.specs.Counts.{Rose}
@@ -12,7 +12,7 @@ pub on_ok : {T P : Type 0} (r : Result T Stop) → P → OnOk r P
 on_ok (Ok x) p = p
 on_ok (Err e) p = tt
 
--- what holds of the fault that is handed on holds of the answer
+-- what holds of the fault that is passed on holds of the answer
 pub handed : {T : Type 0} (P : Result T Stop → Type 0) (r : Result T Stop) (f : Stop) → IsErrAnd r (λ e. e ≡ f) → P (Err f) → P r
 handed P (Ok x) f is p = absurd is
 handed P (Err e) f is p = subst (λ (x : Stop). P (Err x)) (sym is) p
@@ -34,7 +34,7 @@ pub counts_after : {T : Type 0} (r : Result T Stop) (a b c : Device) → Calm a 
 counts_after (Ok x) a b c l r = calm_then a b c l r
 counts_after (Err why) a b c l r = counts_by_after why a b c l r
 
--- want of memory that is handed on
+-- out of memory, as a fault that is passed on
 pub handed_memory : {T : Type 0} (P : Result T Stop → Type 0) (r : Result T Stop) → IsErr r × IsErrAnd r (λ x. x ≡ stop.Memory) → P (Err stop.Memory) → P r
 handed_memory P (Ok x) is p = absurd is.1
 handed_memory P (Err f) is p = subst (λ (x : Stop). P (Err x)) (sym is.1) p

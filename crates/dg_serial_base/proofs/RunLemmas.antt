@@ -1,4 +1,4 @@
--- Runs go on by a deed, and what a line gives goes on with it.
+-- Runs with one more deed, and the deeds of a line with more items.
 use Rattle.std.proofs.Common.{◌≡◌, ℕ, List, [], ◌∷◌, ◌++◌, refl, ap, sym, ◌∙◌, append-nil}
 use Rattle.std.specs.Prelude.{map, Option, Some, None, option_map}
 use Rattle.std.proofs.lemmas.List.{map-append}

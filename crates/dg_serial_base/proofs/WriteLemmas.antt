@@ -1,4 +1,4 @@
--- What is written behind what was written.
+-- What is written after what was written before.
 use Rattle.std.proofs.Common.{◌≡◌, ℕ, ◌≤◌, List, [], ◌++◌, length, take, drop, refl, ap, sym, ◌∙◌, append_assoc, append-nil, arith}
 use Rattle.std.specs.Prelude.{Option, Some, None}
 use Rattle.std.proofs.lemmas.List.{take-append-drop}
@@ -22,7 +22,7 @@ followed_twice (Some w) x y = ap (λ (z : List ℕ). Some z) (append_assoc w x y
 pub puts_then : (a b c : Option (List ℕ)) (x y : List ℕ) → Puts a b x → Puts b c y → Puts a c (x ++ y)
 puts_then a b c x y p q = q ∙ ap (λ (o : Option (List ℕ)). followed_by o y) p ∙ followed_twice a x y
 
--- some front of what was to be written
+-- some prefix of what was to be written
 pub record Fronted (a c : Option (List ℕ)) (whole : List ℕ) : Type 0 where
   pub text : List ℕ
   pub put : Puts a c text

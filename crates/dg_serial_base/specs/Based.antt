@@ -54,8 +54,8 @@ pub record Came (b : Base) (s : Store) (input : List ℕ) : Type 0 where
 abbrev pub PlayedAll : {b : Base} {s : Store} {input : List ℕ} → Came b s input → Type 0
 PlayedAll c = (c.rest ≡ []) × HasMote c.there
 
--- the last line of the status that the played items and the bytes ask for: of too many bytes, of a start that lacks an image,
--- or none
+-- the last line of the status that the played items and the bytes ask for, if any: of too many bytes, or of a start that lacks
+-- an image
 abbrev pub ClosesBy : {b : Base} {s : Store} {input : List ℕ} → Came b s input → (line : List ℕ) → Type 0
 ClosesBy {b} {s} {input} c line =
     (line ≡ []) ⊎ ((PlayedAll c × (most_input < length input) × (line ≡ closing status.TooLong))
@@ -74,7 +74,7 @@ WroteBy status.WriteFault {b} {s} {input} c text left =
     (line : List ℕ) × ClosesBy c line × IsWholeLines text (said c.there ++ line)
 WroteBy answer {b} {s} {input} c text left = ⊥
 
--- The chip stopped as the power came, or in the next deed.
+-- The chip stopped as it powered on, or in the next deed.
 pub data FlashStopped (b : Base) (s : Store) (input text : List ℕ) (old new : Device) : Type 0 where
   AtPower : (between : Device) → text ≡ [] → Stands between.image s → Stops (power_effect b s).trail between new
       → FlashStopped b s input text old new
@@ -88,8 +88,8 @@ EndsBy status.FlashFault b s input text before now = FlashStopped b s input text
 EndsBy answer b s input text before now =
     (c : Came b s input) × WroteBy answer c text now.left × Stands now.chip.image c.there.store
 
--- What a base mote did from a chip that stood for s. Some bytes were taken from the source, and some written to the sink, where
--- they are told.
+-- What a base mote did from a chip that stood for s. Some bytes were taken from the source, and some written to the sink, if
+-- these expose them.
 pub record Based (answer : Status) (b : Base) (s : Store) (before now : Outside) : Type 0 where
   pub input : List ℕ
   pub taken : Takes before.left now.left input
@@ -112,7 +112,7 @@ pub record Refused (answer : Status) (before now : Outside) : Type 0 where
   pub put : Puts before.written now.written text
   pub ends : RefusedBy answer text before.chip now.chip
 
--- A fault of the outside is told, and with its own answer alone.
+-- A fault of the outside is reported, and only with its own answer.
 pub record Causes (answer : Status) (before now : Outside) : Type 0 where
   pub reads : before.reads ≤ now.reads
   pub writes : before.writes ≤ now.writes

@@ -22,7 +22,7 @@ AllStartSound golden b a [] = Unit {0}
 AllStartSound golden b a (d ∷ ds) =
     (m : MoteState) → a.mote ≡ Some m → StartsSound golden (effect_of b m a d) × AllStartSound golden b (after_deed b m a d) ds
 
--- From a chip that stood for s, however the line ended: what the power and the deeds of the input start is sound, no start
+-- From a chip that stood for s, however the line ended: what power-on and the deeds of the input start is sound, no start
 -- lacked an image, and the chip stands for a consistent store.
 pub record StaysConsistent (golden : Row) (answer : Status) (b : Base) (s : Store) (input image : List ℕ) : Type 0 where
   pub power : StartsSound golden (power_effect b s)

@@ -1,4 +1,4 @@
--- What happens to a base mote: its power comes, and then for each item of its line it hears the frame, if the item is one, and
+-- What happens to a base mote: it powers on, and then for each item of its line it hears the frame, if the item is one, and
 -- ticks (docs/COMMANDS.md, "Base").
 use Rattle.std.specs.Prelude.{◌≡◌, ℕ, suc, ◌*◌, true, List, [], ◌∷◌, ◌++◌, map, Option, Some, None}
 use Rattle.std.specs.List.{flat_map}
@@ -28,7 +28,7 @@ deeds_of_items xs = flat_map deeds_of_item xs
 abbrev pub deeds_of : List ℕ → List Deed
 deeds_of stream = deeds_of_items (items stream)
 
--- who the mote is, how many milliseconds pass to each event, and what its draws come from
+-- the number of the mote, the milliseconds from each event to the next, and the seed of its draws
 pub record Base : Type 0 where
   pub id : ℕ
   pub step : ℕ
@@ -56,7 +56,7 @@ sent_too sent (Some message) = sent ++ message ∷ []
 abbrev pub behind_event : Effect → (events : ℕ) → (sent : List Message) → At
 behind_event e events sent = record { mote = e.mote; store = last e.trail; events = suc events; sent = sent_too sent e.sent }
 
--- the power comes, in the first event
+-- the chip powers on, in the first event
 abbrev pub power_effect : Base → Store → Effect
 power_effect b s = reset_effect s b.id true (moment_at b 0) (draw_at b 0)
 
@@ -76,10 +76,10 @@ unfoldable pub DeedsRun : Base → At → List Deed → At → Type 0
 DeedsRun b a [] z = z ≡ a
 DeedsRun b a (d ∷ ds) z = (m : MoteState) × (a.mote ≡ Some m) × DeedsRun b (after_deed b m a d) ds z
 
--- what stands on the line of a mote that sent this: the frames of its messages, stuffed, in order
+-- what is on the line of a mote that sent this: the frames of its messages, stuffed, in order
 abbrev pub said : At → List ℕ
 said a = line_of (map frame_of a.sent)
 
--- whoever reads what stands there gets these frames, each of them and in their order
+-- a reader of that line gets these frames, all of them and in their order
 abbrev pub FramesComeBack : At → Type 0
 FramesComeBack a = items (said a) ≡ map Frame (map frame_of a.sent)

@@ -1,4 +1,4 @@
--- Words of the inner functions: no public promise needs them.
+-- Definitions for the inner functions. No public promise needs them.
 pub mod Ending
 pub mod Standing
 pub mod Stops

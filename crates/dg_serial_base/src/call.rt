@@ -49,7 +49,7 @@ fn tell_stop<K: Sink>(stop: Stop, out: &mut K) -> Status
     }
 }
 
-/// Tells how a base mote ended, and answers its status.
+/// Reports how a base mote ended, and answers its status.
 fn tell<K: Sink>(ended: Result<(), Stop>, out: &mut K) -> Status
     ensures { TellsResult ended result (K.written out.old) (K.written out.new) (K.faults out.old) (K.faults out.new) }
 {
@@ -99,11 +99,9 @@ fn play_line<S: Source, K: Sink, N: Nor>(
 
 /// Starts a chip by power, and plays the items of the input at its mote: a frame is heard, and after each item the mote
 /// ticks. What the mote sends is written to `out` as it is on the line.
-///
 /// The start is the first event. Each event comes `step` milliseconds after the one before it, with the next word of the
-/// generator that `seed` begins. The input is read piece by piece, and what a piece tells is played before the next one is
-/// asked for. No more than 16,777,216 bytes of it are used. A status other than [`Status::Done`] writes its line last, where
-/// it has one.
+/// generator that `seed` begins. The input is read piece by piece, and each piece is played before the next one is asked for.
+/// No more than 16,777,216 bytes of it are used. A status other than [`Status::Done`] writes its line last, where it has one.
 ///
 /// With honest frames a chip that agrees with a table of images agrees with it after the line, however it ended. Whatever
 /// bytes come as frames, a consistent chip stays so, however the line ended: golden is whole. No start lacks an image, and
@@ -118,17 +116,17 @@ pub fn base<S: Source, K: Sink, N: Nor>(
     out: &mut K,
 ) -> Status
     requires little { step ≤ 60000 }
-    // From a chip that is a volume: the bytes written are the stuffed frames of the mote's rules over the items, which come back
-    // as frames to whoever reads the line, and each status comes where they say.
+    // From a chip that is a volume: the bytes written are the stuffed frames of the mote's rules over the items. A reader of
+    // the line gets these frames back, and each status comes where the rules say.
     ensures based { (s : Store) → Stands (N.device nor.old).image s
         → Based result (record { id = id; step = step; seed = seed }) s
         (outside_base (S.left input.old) (S.faults input.old) (K.written out.old) (K.faults out.old) (N.device nor.old))
         (outside_base (S.left input.new) (S.faults input.new) (K.written out.new) (K.faults out.new) (N.device nor.new)) }
-    // A chip that is not a volume is left as it was.
+    // A chip that is not a volume is left unchanged.
     ensures refused { IsNoVolume (N.device nor.old).image → Refused result
         (outside_base (S.left input.old) (S.faults input.old) (K.written out.old) (K.faults out.old) (N.device nor.old))
         (outside_base (S.left input.new) (S.faults input.new) (K.written out.new) (K.faults out.new) (N.device nor.new)) }
-    // A fault of the outside is told, and with its own answer alone.
+    // A fault of the outside is reported, and only with its own answer.
     ensures causes { Causes result
         (outside_base (S.left input.old) (S.faults input.old) (K.written out.old) (K.faults out.old) (N.device nor.old))
         (outside_base (S.left input.new) (S.faults input.new) (K.written out.new) (K.faults out.new) (N.device nor.new)) }

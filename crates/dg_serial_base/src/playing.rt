@@ -74,7 +74,7 @@ impl Player {
         }
     }
 
-    /// Plays what a byte of the line tells.
+    /// Plays what a byte of the line gives.
     fn play<N: Nor, K: Sink>(&mut self, fed: &Fed, nor: &mut N, out: &mut K) -> Result<(), Stop>
         requires stood { IsStood self.old.running (N.device nor.old).image }
         requires early { self.old.running.timeline.moment < 2 ^ 60 }

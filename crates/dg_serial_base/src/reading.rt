@@ -13,7 +13,7 @@ use dg_nor::Nor;
 /// Bytes that are asked for at once.
 pub(crate) const PIECE: usize = 4_096;
 
-/// Reads the next bytes of the input into a piece, at most this many, and answers how many came: none at the end.
+/// Reads the next bytes of the input into a piece, at most this many, and answers how many came: 0 at the end.
 fn read_piece<S: Source>(input: &mut S, piece: &mut [u8], most: usize) -> Result<usize, Stop>
     requires some { 0 < length piece.old }
     requires most { 0 < most }
@@ -29,7 +29,7 @@ fn read_piece<S: Source>(input: &mut S, piece: &mut [u8], most: usize) -> Result
     }
 }
 
-/// Looks that the input is at its end.
+/// Checks that the input is at its end.
 fn expect_end<S: Source>(input: &mut S) -> Result<(), Stop>
     ensures ends { LastEnds result (S.left input.old) (S.left input.new) }
     ensures counts { ReadCounts result (S.faults input.old) (S.faults input.new) }
@@ -41,7 +41,7 @@ fn expect_end<S: Source>(input: &mut S) -> Result<(), Stop>
 }
 
 impl Player {
-    /// Reads a piece of the input, of at most this many bytes, and plays it. Answers how many came: none at the end.
+    /// Reads a piece of the input, of at most this many bytes, and plays it. Answers how many came: 0 at the end.
     fn play_piece<S: Source, N: Nor, K: Sink>(
         &mut self,
         piece: &mut [u8],

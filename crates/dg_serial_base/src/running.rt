@@ -21,7 +21,7 @@ pub(crate) struct Running {
 }
 
 impl Running {
-    /// The power of a chip comes: it starts, and its mote, which is wide, is made.
+    /// A chip powers on: it starts, and its mote, which is wide, is made.
     pub(crate) fn power<N: Nor>(nor: &mut N, id: u16, step: u32, seed: u32) -> Result<Running, Stop>
         requires little { step ≤ 60000 }
         ensures ends { (s : Store) → Stands (N.device nor.old).image s
@@ -70,7 +70,7 @@ impl Running {
         Ok(())
     }
 
-    /// The mote ticks. What it sends is in the outbox then.
+    /// The mote ticks. What it sends is then in the outbox.
     pub(crate) fn tick<N: Nor>(&mut self, nor: &mut N, outbox: &mut Outbox) -> Result<(), Stop>
         requires stood { IsStood self.old (N.device nor.old).image }
         requires early { self.old.timeline.moment < 2 ^ 61 }

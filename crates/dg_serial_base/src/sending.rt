@@ -1,4 +1,4 @@
-//! What a mote sends goes onto its line.
+//! Writes what a mote sends to its line.
 ghost use Rattle.std.specs.Prelude.{◌≡◌, ◌≤◌, IfSome, IfOk, OnOk, length};
 ghost use Rattle.dg_base.specs.Sizes.{longest_frame};
 ghost use Rattle.dg_mote.specs.Motes.{sent_in};

@@ -1,4 +1,4 @@
-//! When events happen, and what they word.
+//! When events happen, and with which words.
 ghost use Rattle.std.specs.Prelude.{◌≡◌, ℕ, suc, ◌+◌, ◌^◌, ◌<◌, ◌≤◌};
 ghost use Rattle.dg_serial_base.specs.Deeds.{Base, moment_at, draw_at};
 ghost use Rattle.dg_serial_base.specs.inner.Standing.{IsTime};
@@ -14,7 +14,7 @@ pub(crate) struct Timeline {
     pub(crate) draws: Draws,
 }
 
-/// What an event takes of time and chance: its moment, and a word.
+/// The time and the random number of an event: its moment, and a word.
 #[derive(Clone, Copy, Debug, PartialEq, Eq)]
 pub(crate) struct Timing {
     pub(crate) now: u64,

@@ -1,4 +1,4 @@
--- How a base mote that ended tells it, and how its line went (docs/COMMANDS.md, "Base").
+-- How the end of a base mote is reported, and how its line went (docs/COMMANDS.md, "Base").
 use Rattle.std.specs.Prelude.{◌≡◌, ◌⊎◌, ℕ, ◌≤◌, List, [], Option, Result, Ok, Err}
 use Rattle.dg_words.specs.Counts.{Rose}
 use Rattle.dg_base.specs.Outside.{Puts, PutsPrefix}
@@ -33,7 +33,7 @@ TellsStop stop.NotAVolume answer before now old new =
 TellsStop stop.NoImage answer before now old new = TellsStatus answer status.NoImage (closing status.NoImage) before now old new
 TellsStop stop.TooLong answer before now old new = TellsStatus answer status.TooLong (closing status.TooLong) before now old new
 
--- how a result is told
+-- how a result is reported
 abbrev pub TellsResult : Result (Unit {0}) Stop → (answer : Status) → (before now : Option (List ℕ)) → (old new : ℕ) → Type 0
 TellsResult (Ok x) answer before now old new = IsTold answer status.Done before now old new
 TellsResult (Err why) answer before now old new = TellsStop why answer before now old new
@@ -42,7 +42,7 @@ TellsResult (Err why) answer before now old new = TellsStop why answer before no
 abbrev pub outset_of : Base → Store → Outside → Outset
 outset_of b s before = record { base = b; store = s; written = before.written }
 
--- the chip failed as its power came
+-- the chip failed as it powered on
 pub record FailsAtPower (why : Stop) (b : Base) (s : Store) (before now : Outside) : Type 0 where
   pub failed : FailedBy why s (power_effect b s) now.chip
   pub silent : (powered b s).sent ≡ []

@@ -55,7 +55,7 @@ Counts (Err why) old new = CountsBy why old new
 
 -- ---- where the code stands
 
--- where a line begins: the base mote, what its chip stood for as its power came, and what was written by then
+-- where a line begins: the base mote, what its chip stood for as it powered on, and what was written by then
 pub record Outset : Type 0 where
   pub base : Base
   pub store : Store
@@ -102,13 +102,13 @@ pub record LeavesNone (e : Effect) (c : List ℕ) : Type 0 where
   pub silent : e.sent ≡ None
   pub stands : Stands c (last e.trail)
 
--- the chip stopped on the way of an effect, perhaps after some reading
+-- the chip stopped on the trail of an effect, perhaps after some reads
 pub record StopsOn (s : Store) (e : Effect) (new : Device) : Type 0 where
   pub between : Device
   pub stands : Stands between.image s
   pub stops : Stops e.trail between new
 
--- how an event failed that has this effect at a chip that stood for s
+-- how an event with this effect failed at a chip that stood for s
 abbrev pub FailedBy : Stop → (s : Store) → Effect → Device → Type 0
 FailedBy stop.Flash s e new = StopsOn s e new
 FailedBy stop.NoImage s e new = LeavesNone e new.image
@@ -136,7 +136,7 @@ abbrev pub NoneEnds : {T : Type 0} → Result T Stop → (old new : Device) → 
 NoneEnds (Ok x) old new = ⊥
 NoneEnds (Err why) old new = NoneBy why old new
 
--- ---- the mote behind its deeds
+-- ---- the mote after its deeds
 
 -- the time and the draws of this many events
 pub record IsTime (t : Timeline) (b : Base) (events : ℕ) : Type 0 where
@@ -156,7 +156,7 @@ pub record Stood (b : Base) (s : Store) (done : List Deed) (v : Running) (c : Li
 abbrev pub IsStood : Running → List ℕ → Type 0
 IsStood v c = (b : Base) × (s : Store) × (done : List Deed) × (there : At) × Stood b s done v c there
 
--- what the power makes
+-- what power-on does
 abbrev pub PowerEnds : Result Running Stop → (b : Base) (s : Store) → Device → Type 0
 PowerEnds (Ok v) b s new = Stood b s [] v new.image (powered b s) × ((powered b s).sent ≡ [])
 PowerEnds (Err why) b s new = FailedBy why s (power_effect b s) new × ((powered b s).sent ≡ [])
@@ -166,7 +166,7 @@ abbrev pub one_if : Option (List ℕ) → List (List ℕ)
 one_if None = []
 one_if (Some frame) = frame ∷ []
 
--- One deed more was done, in which this frame was sent, if any.
+-- One more deed was done, in which this frame was sent, if any.
 pub record DoneOne (b : Base) (s : Store) (done : List Deed) (d : Deed) (before : At) (left : DeedLeft) : Type 0 where
   pub there : At
   pub stood : Stood b s (done ++ d ∷ []) left.mote left.chip.image there
@@ -202,7 +202,7 @@ DeedEnds (Err why) b s done d before left = DeedFails why b s done d before left
 
 -- ---- writing
 
--- a frame was written, or a front of it
+-- a frame was written, or a prefix of it
 abbrev pub SendFails : Stop → (text : List ℕ) (before now : Option (List ℕ)) → Type 0
 SendFails stop.Write text before now = PutsPrefix before now text
 SendFails stop.Memory text before now = now ≡ before
@@ -243,7 +243,7 @@ abbrev pub ReadCounts : {T : Type 0} → Result T Stop → (old new : ℕ) → T
 ReadCounts (Ok x) old new = new ≡ old
 ReadCounts (Err why) old new = ReadsBy why old new
 
--- why the mote goes no further, and what was written by then
+-- why the mote stops, and what was written by then
 abbrev pub StoppedBy : Stop → (b : Base) (there : At) (rest : List Deed) (first now : Option (List ℕ)) → Device → Type 0
 StoppedBy stop.Memory b there rest first now new =
     (text : List ℕ) × Puts first now text × IsWholeLines text (said there) × Stands new.image there.store
@@ -330,7 +330,7 @@ pub record Consumed (a : Outset) (used : ℕ) (left_old left_now : Option (List 
   pub taken : Takes left_old left_now stream
   pub played : StreamPlayed a stream now
 
--- The bytes after those that are used were looked for.
+-- It was checked whether bytes follow those that are used.
 abbrev pub LastEnds : Result (Unit {0}) Stop → (left_old left_now : Option (List ℕ)) → Type 0
 LastEnds (Ok x) left_old left_now = Takes left_old left_now [] × AtEnd left_now
 LastEnds (Err stop.TooLong) left_old left_now = (byte : ℕ) × Takes left_old left_now (byte ∷ [])
@@ -341,7 +341,7 @@ LastEnds (Err stop.Flash) left_old left_now = ⊥
 LastEnds (Err stop.NoImage) left_old left_now = ⊥
 LastEnds (Err stop.NotAVolume) left_old left_now = ⊥
 
--- how the input ended, of which these bytes were taken
+-- how the input ended, after these bytes of it were taken
 abbrev pub InputBy : Result (Unit {0}) Stop → Outset → (input : List ℕ) (left : Option (List ℕ)) → LineAt → Type 0
 InputBy (Ok x) a input left now = StreamPlayed a (take most_input input) now × AtEnd left × (length input ≤ most_input)
 InputBy (Err stop.Read) a input left now = StreamPlayed a (take most_input input) now × (length input ≤ most_input)

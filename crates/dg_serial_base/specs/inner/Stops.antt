@@ -17,7 +17,7 @@ abbrev pub stop_of_tick : TickFault → Stop
 stop_of_tick tick_fault.Stopped = stop.Flash
 stop_of_tick tick_fault.NoImage = stop.NoImage
 
--- what an event of the node comes to
+-- the outcome of an event of the node
 abbrev pub result_of : NodeEnd → Result (Unit {0}) Stop
 result_of Quiet = Ok tt
 result_of Sent = Ok tt
