@@ -5,7 +5,7 @@ use Rattle.std.specs.Prelude.{ℕ}
 abbrev pub key_count : ℕ
 key_count = 8
 
--- the first byte of a frame that tells an entry
+-- the first byte of a frame with an entry
 abbrev pub drip_kind : ℕ
 drip_kind = 5
 

@@ -68,7 +68,7 @@ tick_none d e w reported node key dt word s h l moment links sent nodes told =
       report_is = tick_silent w reported node key dt word (and_false reported (tells (w.cells node key) (w.moment + dt)) (tick_tells d w node key dt false s h l silent));
     }
 
--- the network behind a tick that tells
+-- the network after a tick that sends
 tells_stands : (d e : DripNetwork) (w : Network) (node key dt word : ℕ) (said : Said) → Stands d w → node < length d.nodes.items → key < key_count
     → e.moment ≡ d.moment + dt → e.links.items ≡ d.links.items → e.sent.items ≡ d.sent.items ++ said ∷ [] → e.nodes.items ≡ set d.nodes.items node (node_after_tick (node_at d.nodes.items node) (d.moment + dt) word key)
     → Some said ≡ told_by (node_at d.nodes.items node) (d.moment + dt) key → Stands e (applied w (Tick node key dt word))
@@ -123,7 +123,7 @@ take_silent d e w node word s answer t h l moment links sent nodes is other =
     subst (λ (r : Option DripReport). Hears e w node word s r) (silent_unless_newer node s.key s.entry answer other)
     (take_hears d e w node word s answer t h l moment links sent nodes is)
 
--- the network in which the time alone went on
+-- the network in which only the time went on
 abbrev pub later : Network → ℕ → Network
 later w dt = record w { moment = w.moment + dt }
 

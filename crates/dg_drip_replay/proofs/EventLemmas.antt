@@ -98,7 +98,7 @@ pub set_refused : (w : Network) (reported : Bool) (node key value dt word : ℕ)
 set_refused w reported node key value dt word e =
     sym (ap (λ (b : Bool). let r : Option DripReport = cond b (Some (Refused node cause.Last)) (got w (applied w (Set node key value dt word)) node key) in r) (is_last_number (is_last (entry_at w node key)) ((entry_at w node key).number + 1) e))
 
--- the network behind a set
+-- the network after a set
 pub set_stands : (d e : DripNetwork) (w : Network) (node key value dt word : ℕ) → Stands d w → node < length d.nodes.items → key < key_count
     → e.moment ≡ d.moment + dt → e.links.items ≡ d.links.items → e.sent.items ≡ d.sent.items → e.nodes.items ≡ set d.nodes.items node (after_set (node_at d.nodes.items node) (d.moment + dt) word key value)
     → Stands e (applied w (Set node key value dt word))
@@ -150,7 +150,7 @@ tick_told w reported node key dt word entry is tell same =
 
 -- ---- frames that are heard
 
--- what a node keeps behind a frame
+-- what a node keeps after a frame
 heard_entry : (c : Cell) (now word : ℕ) (e : Entry) (b : Bool) → is_same e c.entry ≡ b → (heard_cell c now word e).entry ≡ cond b c.entry (greater c.entry e)
 heard_entry c now word e true is =
     ap (λ (b : Bool). (let d : Cell = cond b (record { entry = c.entry; timer = after_same c.timer }) (record { entry = greater c.entry e; timer = after_other c.timer now word }) in d).entry) is
@@ -198,7 +198,7 @@ heard_stands d e w node word s t h l moment links sent nodes =
     stands_with d e w (heard w node w.moment word (Some s)) node s.key c t h l nodes (ap (with_cell_at w.cells node s.key) same)
     (moment ∙ t.moment) (links ∙ t.links) (sent ∙ t.sent)
 
--- the moment alone went on
+-- only the moment went on
 pub later_stands : (d e : DripNetwork) (w : Network) (dt : ℕ) → Stands d w → e.moment ≡ d.moment + dt → e.links.items ≡ d.links.items → e.sent.items ≡ d.sent.items → e.nodes.items ≡ d.nodes.items
     → Stands e (record w { moment = w.moment + dt })
 later_stands d e w dt s moment links sent nodes = record {

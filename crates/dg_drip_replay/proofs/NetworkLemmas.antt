@@ -1,4 +1,4 @@
--- Nodes that stand for those of a network do so behind what happens at one of them.
+-- Nodes that stand for those of a network still do after an event at one of them.
 use Rattle.std.proofs.Common.{◌≡◌, ℕ, ◌==◌, ◌&&◌, ◌<◌, Bool, true, false, cond, List, length, set, get_or, refl, ap, sym, ◌∙◌, subst}
 use Rattle.std.proofs.lemmas.Bool.{eqb-true, eqb-false}
 use Rattle.std.proofs.lemmas.List.{get_or-set_same, get_or-set_other, length-set}
@@ -10,7 +10,7 @@ use Rattle.dg_drip.specs.declared.node.Cell.{Cell}
 use Rattle.dg_drip_replay.specs.Standing.{Stands, node_at}
 use Rattle.dg_drip_replay.specs.declared.network.DripNetwork.{DripNetwork}
 
--- ---- one cell is another one
+-- ---- one cell changed
 
 cell_with : (n : Node) (key k : ℕ) (c : Cell) (b : Bool) → (k == key) ≡ b → key < length n.cells → cell_of (with_cell n key c) k ≡ cond b c (cell_of n k)
 cell_with n key k c true e h = ap (λ (j : ℕ). get_or (set n.cells key c) j (fresh 0 0)) (eqb-true k key e) ∙ get_or-set_same n.cells key c (fresh 0 0) h

@@ -39,13 +39,13 @@ last_behind [] s node key = refl
 last_behind (x ∷ sent) s node key =
     ap (λ (r : Option Said). or_this r (is_of node key x) x) (last_behind sent s node key) ∙ last_by (last_said sent node key) (is_of node key s) (is_of node key x) x s
 
--- the frame before this place is the last one, or it is before that
+-- the last frame up to this place is the one here, or it comes before
 pub last_before : (sent : List Said) (left : ℕ) (d : Said) (node key : ℕ) → left < length sent
     → last_said (take (suc left) sent) node key ≡ cond (is_of node key (get_or sent left d)) (Some (get_or sent left d)) (last_said (take left sent) node key)
 last_before sent left d node key within =
     ap (λ (xs : List Said). last_said xs node key) (take-suc sent left d within) ∙ last_behind (take left sent) (get_or sent left d) node key
 
--- the frame before this place is the last one of them
+-- the frame before this place is the last one
 pub last_here : (sent : List Said) (left : ℕ) (d : Said) (node key : ℕ) → 0 < left → left ≤ length sent → is_of node key (get_or sent (left - 1) d) ≡ true
     → last_said (take left sent) node key ≡ Some (get_or sent (left - 1) d)
 last_here sent left d node key some within is =
@@ -54,7 +54,7 @@ last_here sent left d node key some within is =
     ∙ last_before sent (left - 1) d node key (omega (arith, some, within))
     ∙ ap (λ (b : Bool). cond b (Some (get_or sent (left - 1) d)) (last_said (take (left - 1) sent) node key)) is
 
--- or it is none of them
+-- or it is not one of them
 pub last_not : (sent : List Said) (left : ℕ) (d : Said) (node key : ℕ) → 0 < left → left ≤ length sent → is_of node key (get_or sent (left - 1) d) ≡ false
     → last_said (take (left - 1) sent) node key ≡ last_said (take left sent) node key
 last_not sent left d node key some within is =

@@ -10,7 +10,7 @@ use Rattle.dg_drip.specs.Nodes.{Node, new_node, cell_of}
 use Rattle.dg_drip_replay.specs.Standing.{Stands, node_at}
 use Rattle.dg_drip_replay.specs.declared.network.DripNetwork.{DripNetwork}
 
--- so many nodes are new
+-- this many nodes are new
 pub record AreNew (nodes : List Node) (count : ℕ) : Type 0 where
   pub many : length nodes ≡ count
   pub each : (m : ℕ) → m < length nodes → node_at nodes m ≡ new_node m 0 0

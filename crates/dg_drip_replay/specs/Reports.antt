@@ -10,7 +10,7 @@ use Rattle.dg_drip_replay.specs.declared.report.DripCause.TheVariants as cause
 use Rattle.dg_drip_replay.specs.declared.report.DripReport.{DripReport}
 use Rattle.dg_drip_replay.specs.declared.report.DripReport.TheVariants.{Refused, Sent, Got}
 
--- a node got an entry, where what it keeps of the key is another one now
+-- a node got an entry, if what it keeps of the key changed
 abbrev pub got_if_other : (node key : ℕ) → (old new : Entry) → Option DripReport
 got_if_other node key old new = if is_same new old then None else Some (Got node key new)
 
@@ -29,7 +29,7 @@ abbrev pub report_of_last : (old new : Network) → ℕ → Option Said → Opti
 report_of_last old new node None = None
 report_of_last old new node (Some s) = got old new node s.key
 
--- What is reported of an event. In rounds it is not told that a frame was sent.
+-- What is reported of an event. In rounds, frames that were sent are not reported.
 abbrev pub report_of_event : Network → (reported : Bool) → DripEvent → Option DripReport
 report_of_event w reported (Set node key value dt word) =
     if is_last (entry_at w node key) then Some (Refused node cause.Last)

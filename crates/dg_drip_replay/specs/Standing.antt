@@ -46,7 +46,7 @@ pub record Passes (old new : DripNetwork) (dt : ℕ) : Type 0 where
   pub nodes : length new.nodes.items ≡ length old.nodes.items
   pub keyed : AreKeyed new.sent.items
 
--- A node heard what a frame tells, at the moment of the network.
+-- A node heard the contents of a frame, at the moment of the network.
 pub record Hears (d : DripNetwork) (w : Network) (node word : ℕ) (s : Said) (report : Option DripReport) : Type 0 where
   pub after : Stands d (heard w node w.moment word (Some s))
   pub report_is : report ≡ got w (heard w node w.moment word (Some s)) node s.key

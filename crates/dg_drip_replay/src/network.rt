@@ -14,7 +14,7 @@ use crate::report::{DripCause, DripReport};
 use dg_drip::{DripEvent, DripHeard, DripNode, Entry, Said, SetFault};
 use std::alloc::{AllocError, Global};
 
-/// Nodes with their links, the moment in milliseconds, and the frames that were sent, as what they tell.
+/// Nodes with their links, the moment in milliseconds, and the frames that were sent, decoded.
 #[derive(Drop)]
 pub struct DripNetwork {
     nodes: Vec<DripNode>,
@@ -41,7 +41,7 @@ fn set_at(
     nodes[usize::from(at)].set(now, word, key, value)
 }
 
-// A node looks at the clock for a key.
+// A node checks the timer of a key.
 fn tick_at(nodes: &mut [DripNode], at: u8, now: u64, word: u32, key: u8) -> Option<Said>
     requires node { at < length nodes.old }
     requires moment { now < 2 ^ 62 }
@@ -52,7 +52,7 @@ fn tick_at(nodes: &mut [DripNode], at: u8, now: u64, word: u32, key: u8) -> Opti
     nodes[usize::from(at)].tell(now, word, key)
 }
 
-// A node hears what a frame tells.
+// A node hears the contents of a frame.
 fn hear_at(nodes: &mut [DripNode], at: u8, now: u64, word: u32, said: &Said) -> DripHeard
     requires node { at < length nodes.old }
     requires moment { now < 2 ^ 62 }
@@ -91,14 +91,14 @@ fn numbered(sent: &[Said], number: u32) -> Option<Said>
     sent.get(number as usize - 1).copied()
 }
 
-// Whether a frame is of a node and tells of a key.
+// Whether a frame is of this node and of this key.
 fn is_of(said: &Said, node: u8, key: u8) -> bool
     ensures { result ≡ is_of node key said.now }
 {
     said.source == u16::from(node) && said.key == key
 }
 
-// The last frame of a node that tells of a key.
+// The last frame that a node sent of a key.
 fn last_of(sent: &[Said], node: u8, key: u8) -> Option<Said>
     ensures { result ≡ last_said sent.now node key }
 {
@@ -114,7 +114,7 @@ fn last_of(sent: &[Said], node: u8, key: u8) -> Option<Said>
 }
 
 impl DripNetwork {
-    /// So many nodes that keep nothing and have no links.
+    /// `count` nodes that keep nothing and have no links.
     pub fn new(alloc: Global, count: u8) -> Result<DripNetwork, AllocError>
         ensures start { IfOk result (λ d. Stands d (start [])) }
         ensures nodes { IfOk result (λ d. length d.nodes.items ≡ count) }
@@ -157,7 +157,7 @@ impl DripNetwork {
         }
     }
 
-    /// A node looks at the clock for a key.
+    /// A node checks the timer of a key.
     fn tick(
         &mut self,
         node: u8,
@@ -188,7 +188,7 @@ impl DripNetwork {
         }))
     }
 
-    /// A node hears what a frame tells.
+    /// A node hears the contents of a frame.
     fn take(&mut self, node: u8, word: u32, said: &Said) -> Option<DripReport>
         requires node { node < length self.old.nodes.items }
         requires key { said.now.key < key_count }
@@ -245,7 +245,7 @@ impl DripNetwork {
         self.take(to, 0, &said)
     }
 
-    /// Applies an event, and answers what is reported of it. That a frame was sent is told only where it is `reported`.
+    /// Applies an event, and answers what is reported of it. A frame that was sent is reported only if it is `reported`.
     pub fn apply(
         &mut self,
         event: &DripEvent,

@@ -9,7 +9,7 @@ pub enum DripCause {
     Last,
     /// No such frame was sent.
     Frame,
-    /// The frame's sender is no neighbour.
+    /// The frame's sender is not a neighbour.
     Link,
 }
 
@@ -18,7 +18,7 @@ pub enum DripCause {
 pub enum DripReport {
     /// An event at a node was refused.
     Refused { node: u8, cause: DripCause },
-    /// A node sent a frame that tells this entry.
+    /// A node sent a frame with this entry.
     Sent { node: u8, key: u8, entry: Entry },
     /// A node now keeps this entry.
     Got { node: u8, key: u8, entry: Entry },

@@ -1,4 +1,4 @@
--- One event, for a player that stands behind a script.
+-- One event, for a player that stands after a script.
 use Rattle.std.proofs.Common.{◌≡◌, ◌∙◌, ℕ, ◌<◌, ◌≤◌, ◌+◌, ◌*◌, ◌^◌, Bool, true, List, [], ◌∷◌, ◌++◌, length, refl, ap, sym, subst, append_assoc, length-append, true≢false, arith, Option}
 use Rattle.dg_drip.specs.declared.events.DripEvent.{DripEvent}
 use Rattle.dg_drip.specs.declared.events.DripEvent.TheVariants.{Set, Tick, Hear, Last}
@@ -56,7 +56,7 @@ event_applied p q s before e reported told h fits short on few does passes stand
       below = h.below;
     }
 
--- no event more is played, where there are as many as may be
+-- no more events are played, where there are as many as allowed
 pub filled : (p : Player) (s : DripScript) (before : List ℕ) (i : DripItem) → Plays p s before → most_events ≤ p.events → Filled p p (i ∷ []) s before
 filled p s before i h full = record {
   front = [];
@@ -81,7 +81,7 @@ apply_ran (Ok u) p q e reported told text stop fits short on few does passes sta
 apply_ran (Err TooMany) p q e reported told text stop fits short on few does passes standing events = absurd (let e = stop in cc)
 apply_ran (Err Memory) p q e reported told text stop fits short on few does passes standing events = tt
 
--- behind events that were all played a player can play on
+-- after events that were all played a player can play on
 pub goes_on : (r : Result (Unit {0}) PlayStop) (p q : Player) (items : List DripItem) → IsPlaying p → q.standing ≡ p.standing → DripItemsPlayed r p q items → OnOk r (StaysPlaying p q)
 goes_on (Ok u) p q items playing standing ran =
     let k = ran playing.0 playing.1 playing.2 in

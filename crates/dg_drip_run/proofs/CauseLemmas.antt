@@ -19,7 +19,7 @@ use Rattle.dg_drip_run.proofs.EndingLemmas.{above, not_above, rest_within, last_
 
 -- ---- an input whose first lines were given
 
--- lines of these bytes, which said this script, and what comes behind them
+-- lines of these bytes, which said this script, and what comes after them
 record Read (ended : Type 0) (most : ℕ) (texts : List (List ℕ)) (given x : List ℕ) (s : DripScript) (over : Bool) : Type 0 where
   none : ended → x ≡ []
   fits : length given ≤ most

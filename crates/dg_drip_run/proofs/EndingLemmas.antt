@@ -45,7 +45,7 @@ ended-ended front rest h =
 pub ended-none : (front : List ℕ) → HasNoEnd front → ended_lines front ≡ []
 ended-none front h = ap ended_parts (slice_split_none (λ b. b == 10) front (no_feed front h))
 
--- a line that ends in LF, and what comes behind it
+-- a line that ends in LF, and what comes after it
 behind_line : (text line rest : List ℕ) (f : List ℕ → List (List ℕ)) → ((front more : List ℕ) → HasNoEnd front → f (front ++ 10 ∷ more) ≡ strip_carriage_return front ∷ f more) → IsLine text line → f (line ++ rest) ≡ text ∷ f rest
 behind_line text line rest f ended l =
     ap f (ap (λ (x : List ℕ). x ++ rest) l.ended ∙ append_assoc l.before (10 ∷ []) rest) ∙ (ended l.before rest l.whole ∙ ap (λ (t : List ℕ). t ∷ f rest) (sym l.told))
@@ -89,7 +89,7 @@ ended_front (text ∷ texts) given y ended not_yet h =
 
 -- ---- the lines that are used
 
--- what is used of a rest, where so many bytes may be
+-- what is used of a rest, where this many bytes may be used
 abbrev pub rest_within : (left : ℕ) → (over : Bool) → List ℕ → List (List ℕ)
 rest_within left true x = ended_lines (take left x)
 rest_within left false x = lines x

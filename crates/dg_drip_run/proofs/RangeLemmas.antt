@@ -16,7 +16,7 @@ each_more {A} f n =
     sym (ap (flat_map f) (counted 0 n) ∙ (flat_map-append f (range_with_len 0 n) ((0 + n) ∷ [])
     ∙ ap (λ (xs : List A). flat_map f (range_with_len 0 n) ++ xs) (append-nil (f (0 + n)) ∙ ap f here)))
 
--- what is said of the numbers behind the first k
+-- what is said of the numbers after the first k
 pub each_rest : {A : Type 0} (f : ℕ → List A) (k d : ℕ) → (rest : List A) × (flat_map f (range_with_len 0 k) ++ rest ≡ flat_map f (range_with_len 0 (k + d)))
 each_rest {A} f k zero = let here : k ≡ k + 0 = omega arith in ([], append-nil (flat_map f (range_with_len 0 k)) ∙ ap (λ n. flat_map f (range_with_len 0 n)) here)
 each_rest {A} f k (suc d) =

@@ -1,4 +1,4 @@
--- Lines that are read, played and told, one after the other.
+-- Lines that are read, played and reported, one after the other.
 use Rattle.std.proofs.Common.{◌≡◌, ◌≢◌, ◌∙◌, ◌⊎◌, inl, inr, ⊎_elim, ℕ, ◌<◌, ◌≤◌, ◌+◌, ◌-◌, Bool, true, false, List, [], ◌∷◌, ◌++◌, length, take, refl, ap, sym, subst, append-nil, append_assoc, length-append, arith, Result, Ok, Err, Option, Some}
 use Rattle.std.specs.Prelude.{codes, IsErrAnd}
 use Rattle.dg_words.specs.Counts.{Rose}
@@ -65,7 +65,7 @@ some_put status wanted told piece before after failed h = ⊎_elim (λ k. (told 
 nothing_put : (before after : Option (List ℕ)) → after ≡ before → (more : List ℕ) × Puts before after more
 nothing_put before after same = ([], subst (λ (o : Option (List ℕ)). Puts before o []) (sym same) (Puts-nil before))
 
--- nothing more is told before the closing
+-- nothing more is reported before the closing
 report_whole : (p : Player) (s : DripScript) (b : List ℕ) → Plays p s b → report_of s ++ [] ≡ report_of (played s)
 report_whole p s b h = append-nil (report_of s) ∙ ap report_of (sym (played_all s h.few))
 
@@ -101,7 +101,7 @@ joined_taken : (a b c : Option (List ℕ)) (given ahead more line rest : List �
 joined_taken a b c given ahead more line rest first next parts =
     subst (λ (xs : List ℕ). Takes a c xs) (append_assoc given ahead more ∙ (ap (λ (xs : List ℕ). given ++ xs) parts ∙ sym (append_assoc given line rest))) (Takes-join a b c (given ++ ahead) more first next)
 
--- one line more
+-- one more line
 pub lines_step : (ended : Type 0) (first : AroundDrip) (p q : DripStage) (more : List ℕ) (number : ℕ) (writes : Type 0)
     → (i : LinesPlayed ⊥ first number p) → Takes p.around.left q.around.left more → (g : Gives (p.reader.ahead ++ more) p.reader q.reader (AtEnd q.around.left))
     → IsLine q.reader.text g.first.line ⊎ (IsLastLine q.reader.text g.first.line × ended) → (line : DripLine) → drip_line_of (standing_of i.script) q.reader.text ≡ Ok line
@@ -377,7 +377,7 @@ script_ended status first last now number same spread h ends =
       near = rest_only now.reader.ahead (omega (arith, ap length h.0.1));
     }
 
--- nothing was read, since there was no memory
+-- out of memory: nothing was read
 pub dripped_none : (a : AroundDrip) → Dripped statuses.Memory a a
 dripped_none a = record {
   input = [];

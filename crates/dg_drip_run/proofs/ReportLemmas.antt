@@ -17,7 +17,7 @@ use Rattle.dg_drip_run.specs.declared.player.Player.{Player}
 use Rattle.dg_drip_run.specs.declared.player.PlayStop.{PlayStop}
 use Rattle.dg_drip_run.specs.declared.player.PlayStop.TheVariants.{TooMany}
 
--- ---- fronts
+-- ---- prefixes
 
 take_behind : (x y : List ℕ) (n : ℕ) → take (length x + n) (x ++ y) ≡ x ++ take n y
 take_behind [] y n = let e : 0 + n ≡ n = omega arith in ap (λ (k : ℕ). take k y) e
@@ -39,7 +39,7 @@ front_more a b x y p = (
   subst (λ (t : List ℕ). Puts a b t) (sym (take-append-le p.0 x y p.1)) p.2,
 )
 
--- ---- the end behind events that are too many
+-- ---- the end after too many events
 
 pub closed_behind : (r wanted : Status) (old mid new : Option (List ℕ)) (text piece : List ℕ) (rose failed : Type 0) → (rose → failed) → Puts old mid text
     → ((r ≡ wanted) × Puts mid new piece) ⊎ ((r ≡ statuses.WriteFault) × rose × PutsPrefix mid new piece) → Closed r wanted text piece old new failed
@@ -54,7 +54,7 @@ closed_behind r wanted old mid new text piece rose failed spread first next =
 pub played_all : (t : DripScript) → length t.items ≤ most_events → played t ≡ t
 played_all t few = ap (λ (is : List DripItem). record t { items = is }) (take_all most_events t.items few)
 
--- a player that told all it kept
+-- a player that reported all it kept
 pub cleared_plays : (p q : Player) (s : DripScript) (before : List ℕ) → Plays p s before → q.network ≡ p.network → q.standing ≡ p.standing → q.events ≡ p.events → q.text.items ≡ [] → Plays q s (report_of s)
 cleared_plays p q s before h network standing events text = record {
   standing = standing ∙ h.standing;
@@ -73,7 +73,7 @@ cleared_plays p q s before h network standing events text = record {
 pub cleared_playing : (p q : Player) → IsPlaying p → q.network ≡ p.network → q.standing ≡ p.standing → q.events ≡ p.events → q.text.items ≡ [] → IsPlaying q
 cleared_playing p q h network standing events text = (h.0, report_of h.0, cleared_plays p q h.0 h.1 h.2 network standing events text)
 
--- what such a player tells of a line that it played
+-- what such a player reports of a line that it played
 pub tells : (q : Player) (s t : DripScript) (text : List ℕ) → Plays q t (report_of s) → text ≡ q.text.items → TellsMore s t text
 tells q s t text h is = ap (λ (u : List ℕ). report_of s ++ u) is ∙ (h.reported ∙ ap report_of (sym (played_all t h.few)))
 

@@ -104,7 +104,7 @@ sweep_rest (x ∷ links) (suc n) =
       append_assoc xs (ys ++ pairs_items (take n links)) r.0 ∙ ap (λ (zs : List DripItem). xs ++ zs) (append_assoc ys (pairs_items (take n links)) r.0 ∙ ap (λ (zs : List DripItem). ys ++ zs) r.1),
     )
 
--- behind the first round of a link, and behind its second
+-- after the first round of a link, and after its second
 pub first_rest : (links : List (ℕ × ℕ)) (n : ℕ) (l : ℕ × ℕ) → n < length links → l ≡ get_or links n l → (zs : List DripItem) × ((pairs_items (take n links) ++ unreported_items (drip_round l.0 l.1)) ++ zs ≡ pairs_items links)
 first_rest links n l within is =
     let r = sweep_rest links (n + 1) in

@@ -1,4 +1,4 @@
--- What is told of the lines that were played, and what was taken behind them.
+-- What is reported of the lines that were played, and what was taken after them.
 use Rattle.std.proofs.Common.{◌≡◌, ◌⊎◌, inl, inr, ⊎_elim, ℕ, ◌≤◌, ◌+◌, ◌-◌, List, [], ◌∷◌, ◌++◌, length, take, drop, take-append-drop, refl, sym, append-nil, arith}
 use Rattle.std.proofs.lemmas.List.{length-drop}
 use Rattle.dg_base.specs.Outside.{Puts}

@@ -1,7 +1,7 @@
--- What stands around a replay of nodes: its source and its sink (the arguments of `drip`).
+-- What surrounds a replay of nodes: its source and its sink (the arguments of `drip`).
 use Rattle.std.specs.Prelude.{ℕ, List, Option}
 
--- what is left of the input, where that is told, how many reads failed, what was written, where that is told,
+-- what is left of the input, if the source exposes that, how many reads failed, what was written, if the sink exposes that,
 -- and how many writes failed
 pub record AroundDrip : Type 0 where
   pub left : Option (List ℕ)

@@ -1,4 +1,4 @@
--- How the rules say that a script of nodes ends, by its bytes alone (docs/SCRIPTS.md, "Scripts of nodes").
+-- How a script of nodes ends by the rules, from its bytes alone (docs/SCRIPTS.md, "Scripts of nodes").
 use Rattle.std.specs.Prelude.{◌≡◌, ◌⊎◌, ℕ, ◌+◌, ◌<◌, ◌≤◌, ◌==◌, nat_lt, Bool, true, false, if◌then◌else◌}
 use Rattle.std.specs.Prelude.{List, [], ◌∷◌, ◌++◌, length, take, Some, Result, Ok, Err}
 use Rattle.std.specs.List.{slice_split}
@@ -16,7 +16,7 @@ use Rattle.dg_drip_script.specs.declared.line.DripFault.TheVariants as fault
 use Rattle.dg_drip_run.specs.AroundDrip.{AroundDrip}
 use Rattle.dg_drip_run.specs.Dripped.{Ending, Ends, BadLine, TooManyEvents, Over, status_of, Dripped}
 
--- the texts of the lines that end in LF, of the parts between the LFs: what stands after the last LF is none
+-- the texts of the lines that end in LF, of the parts between the LFs: what comes after the last LF is not one
 abbrev pub ended_parts : List (List ℕ) → List (List ℕ)
 ended_parts [] = []
 ended_parts (x ∷ []) = []
@@ -41,7 +41,7 @@ ending_by_line (Err f) s number go = BadLine number f
 ending_by_line (Ok line) s number go =
     let t = with_drip_line s line in if nat_lt most_events (length t.items) then TooManyEvents else go t
 
--- the first line that ends the script does, and else its end
+-- the ending by the first line that ends the script, or by its end if no line does
 unfoldable pub ending_by_lines : (over : Bool) → DripScript → (number : ℕ) → List (List ℕ) → Ending
 ending_by_lines over s number [] = ending_behind over s number
 ending_by_lines over s number (text ∷ texts) =
@@ -54,7 +54,8 @@ ending_within most over input = ending_by_lines over first_script 1 (lines_withi
 unfoldable pub drip_ending_of : List ℕ → Ending
 drip_ending_of input = ending_within most_used_bytes (nat_lt most_used_bytes (length input)) input
 
--- The status is the one that the rules give. Memory alone is free, and a fault of the outside has risen its count.
+-- The status is the one that the rules give. `Memory` may be returned at any time, and a fault of the outside has raised its
+-- count.
 abbrev pub IsDripCaused : Status → Ending → (read_failed write_failed : Type 0) → Type 0
 IsDripCaused Memory ending r w = Unit {0}
 IsDripCaused ReadFault ending r w = r
@@ -74,7 +75,7 @@ pub record DripEnds (status : Status) (a b : AroundDrip) : Type 0 where
   -- whatever comes after the bytes that were taken, where the input is not at its end
   pub caused : (x : Dripped status a b) (more : List ℕ) → (AtEnd b.left → more ≡ [])
       → IsDripCaused status (drip_ending_of (x.input ++ more)) (Rose a.reads b.reads) (Rose a.writes b.writes)
-  -- so where the source tells its bytes, it is the ending of all of them
+  -- so if the source exposes its bytes, it is the ending of all of them
   pub told : (bytes : List ℕ) → a.left ≡ Some bytes
       → IsDripCaused status (drip_ending_of bytes) (Rose a.reads b.reads) (Rose a.writes b.writes)
   -- and a script in its grammar and limits is replayed to its end, where no read and no write fails, unless memory runs out

@@ -37,7 +37,7 @@ status_of (BadLine line fault) = statuses.BadInput
 status_of TooManyEvents = statuses.TooMany
 status_of Over = statuses.TooLong
 
--- the first events of a script, as many as may be
+-- the first events of a script, as many as are allowed
 abbrev pub played : DripScript → DripScript
 played s = record s { items = take most_events s.items }
 
@@ -77,16 +77,16 @@ abbrev pub Wrote : (status : Status) → DripScript → (lines passed : ℕ) →
 Wrote status s lines passed ahead a b =
     ((ending : Ending) × EndsBy ending s lines passed ahead (AtEnd b.left)
     × Closed status (status_of ending) (report_of (played s)) (closing s ending) a.written b.written (Rose a.writes b.writes))
-    -- a read failed: all whole lines that were taken are told, and these have a million events at most
+    -- a read failed: all whole lines that were taken are reported, and these have a million events at most
     ⊎ (((status ≡ statuses.ReadFault) × Rose a.reads b.reads × HasNoEnd ahead × (length s.items ≤ most_events)
     × (passed + length ahead ≤ most_used_bytes) × Puts a.written b.written (report_of (played s)))
     -- memory ran out
     ⊎ (((status ≡ statuses.Memory) × Puts a.written b.written (report_of (played s)))
-    -- a write failed of what the last line tells
+    -- a write failed of what is reported of the last line
     ⊎ ((status ≡ statuses.WriteFault) × Rose a.writes b.writes × PutsPrefix a.written b.written (report_of (played s)))))
 
 -- All that is reported of the lines before the last one that was played was written, and these have a million events at most.
--- So it is of all of them, unless the last one ended the replay.
+-- The report of the last one was written too, unless that one ended the replay.
 pub record AreTold (texts : List (List ℕ)) (before after : Option (List ℕ)) : Type 0 where
   pub first : List (List ℕ)
   pub last : (texts ≡ first) ⊎ ((text : List ℕ) × (texts ≡ first ++ text ∷ []))
@@ -100,7 +100,7 @@ pub record AreTold (texts : List (List ℕ)) (before after : Option (List ℕ)) 
 abbrev pub IsOneLine : List ℕ → Type 0
 IsOneLine bytes = (before : List ℕ) × HasNoEnd before × ((bytes ≡ before) ⊎ (bytes ≡ before ++ 10 ∷ []))
 
--- No more than one line and 300,002 bytes stand after the lines that were played.
+-- No more than one line and 300,002 bytes come after the lines that were played.
 pub record FewAhead (ahead : List ℕ) : Type 0 where
   pub next : List ℕ
   pub rest : List ℕ
@@ -140,7 +140,7 @@ LineStops status s t before after failed =
     ⊎ ((more : List ℕ) × TellsMore s t more × (((status ≡ statuses.WriteFault) × failed × PutsPrefix before after more)
     ⊎ ((most_events < length t.items) × Closed status statuses.TooMany more (codes "toomany" ++ 10 ∷ []) before after failed)))
 
--- a line was played and told, or the replay ends in it
+-- a line was played and reported, or the replay ends in it
 abbrev pub LineAnswer : Result (Unit {0}) Status → (s t : DripScript) → Player → (before after : Option (List ℕ))
     → (write_failed : Type 0) → Type 0
 LineAnswer (Ok done) s t q before after failed =
@@ -152,7 +152,7 @@ pub record LineRead : Type 0 where
   pub text : List ℕ
   pub number : ℕ
 
--- a text was read as a line, which was played and told; or the replay ends at it
+-- a text was read as a line, which was played and reported; or the replay ends at it
 abbrev pub TextAnswer : Result (Unit {0}) Status → DripScript → LineRead → Player → (before after : Option (List ℕ))
     → (write_failed : Type 0) → Type 0
 TextAnswer r s read q before after failed =
@@ -172,7 +172,7 @@ pub record BadText (passed : ℕ) (bytes : List ℕ) (s : DripScript) (f : DripF
   pub near : length rest ≤ most_kept
   pub bad : drip_line_of (standing_of s) text ≡ Err f
 
--- where a replay stands: its reader, its player, and what is around it
+-- where a replay stands: its reader, its player, and what surrounds it
 pub record DripStage : Type 0 where
   pub reader : Reading
   pub player : Player
@@ -203,7 +203,7 @@ NextPlays (Err status) bytes s p q =
     × Closed status statuses.TooLong [] (codes "toolong" ++ 10 ∷ []) p.around.written q.around.written
     (Rose p.around.writes q.around.writes))))
 
--- Lines were read, played and told, and of the bytes that were taken these are left.
+-- Lines were read, played and reported, and of the bytes that were taken these are left.
 pub record LinesPlayed (ended : Type 0) (first : AroundDrip) (number : ℕ) (now : DripStage) : Type 0 where
   pub texts : List (List ℕ)
   pub given : List ℕ

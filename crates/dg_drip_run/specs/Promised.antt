@@ -12,7 +12,7 @@ use Rattle.dg_drip_script.specs.Scripts.{DripScript, events_of, network_of}
 use Rattle.dg_drip_run.specs.AroundDrip.{AroundDrip}
 use Rattle.dg_drip_run.specs.Dripped.{Dripped, played}
 
--- each node keeps of a key the greatest among none, what was set there, and what it heard
+-- each node keeps of a key the greatest of what was set there and what it heard, or no entry
 abbrev pub GreatestIsKept : DripScript → Type 0
 GreatestIsKept s =
     (node key : ℕ) → IsGreatestOf (entry_at (network_of s) node key) (all_brought (start s.links) (events_of s.items) node key)
@@ -43,7 +43,7 @@ SweepsBringTheGreatest s = (front rest back : List DripEvent) (h key : ℕ) (e :
 
 -- all of this, of whatever run a replay may have played
 pub record ValuesSpread (status : Status) (a b : AroundDrip) : Type 0 where
-  -- each node keeps of a key the greatest among none, what was set there, and what it heard
+  -- each node keeps of a key the greatest of what was set there and what it heard, or no entry
   pub greatest : (x : Dripped status a b) → GreatestIsKept (played x.script)
   -- what it keeps never falls
   pub rises : (x : Dripped status a b) → NothingFalls (played x.script)

@@ -102,20 +102,20 @@ fn read_and_play<S: Source, K: Sink>(alloc: Global, input: &mut S, out: &mut K) 
 /// Replays the script that `input` spells over nodes that keep nothing at first, and writes the report to `out`. A status
 /// other than [`Status::Done`] writes its line last, where it has one.
 ///
-/// The input is read line by line, and what is reported of a line is written before the next one is asked for: no more than a
-/// line and 300,002 bytes are taken after the lines that were played, and a read that fails finds all whole lines told. No more
-/// than a million events are played, no more than 16,777,216 bytes of the input are used, and no more than one byte past them is
-/// taken.
+/// The input is read line by line, and what is reported of a line is written before the next one is asked for. No more than a
+/// line and 300,002 bytes are taken after the lines that were played. If a read fails, all whole lines are reported. No more
+/// than a million events are played, no more than 16,777,216 bytes of the input are used, and no more than one byte past them
+/// is taken.
 pub fn drip<S: Source, K: Sink>(alloc: Global, input: &mut S, out: &mut K) -> Status
     // The bytes written are the report of the run of the script's events from nodes that keep nothing.
     ensures replayed { Dripped result
         (around_drip (S.left input.old) (S.faults input.old) (K.written out.old) (K.faults out.old))
         (around_drip (S.left input.new) (S.faults input.new) (K.written out.new) (K.faults out.new)) }
-    // The status is the one that the rules give to the bytes of the input, but for want of memory and faults of the outside.
+    // The status is the one that the rules give to the bytes of the input, unless memory runs out or the outside has a fault.
     ensures ends { DripEnds result
         (around_drip (S.left input.old) (S.faults input.old) (K.written out.old) (K.faults out.old))
         (around_drip (S.left input.new) (S.faults input.new) (K.written out.new) (K.faults out.new)) }
-    // Of the run that it played all laws of how values spread hold.
+    // All laws of how values spread hold of the run that it played.
     ensures spread { ValuesSpread result
         (around_drip (S.left input.old) (S.faults input.old) (K.written out.old) (K.faults out.old))
         (around_drip (S.left input.new) (S.faults input.new) (K.written out.new) (K.faults out.new)) }

@@ -27,7 +27,7 @@ fn put_text<K: Sink>(out: &mut K, text: &[u8]) -> Result<(), WriteFailed>
     out.write(text)
 }
 
-// What follows a line whose events were played as far as they may be.
+// What follows a line whose events were played as far as allowed.
 fn end_full<K: Sink>(out: &mut K, text: &[u8]) -> Status
     ensures ends { Closed result Status.TooMany text.now (codes "toomany" ++ 10 ∷ []) (K.written out.old) (K.written out.new)
         (Rose (K.faults out.old) (K.faults out.new)) }

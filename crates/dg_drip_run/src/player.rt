@@ -45,7 +45,7 @@ fn push_text(text: &mut Vec<u8>, report: &Option<DripReport>) -> Result<(), Play
     }
 }
 
-// Want of memory, as a stop.
+// Out of memory, as a stop.
 fn remembered(done: Result<(), AllocError>) -> Result<(), PlayStop>
     ensures ok { OnOk result (IsOk done) }
     ensures stop { OnErr result (result ≡ Err PlayStop.Memory) }
@@ -103,7 +103,7 @@ impl Player {
         push_text(&mut self.text, &report)
     }
 
-    /// One node tells another one what it keeps of a key.
+    /// One node sends another one what it keeps of a key.
     fn play_key(&mut self, a: u8, b: u8, key: u8) -> Result<(), PlayStop>
         requires playing { IsPlaying self.old }
         requires begun { self.old.standing.begun ≡ true }
@@ -129,7 +129,7 @@ impl Player {
         Ok(())
     }
 
-    /// One node tells another one all that it keeps.
+    /// One node sends another one all that it keeps.
     fn play_round(&mut self, a: u8, b: u8) -> Result<(), PlayStop>
         requires playing { IsPlaying self.old }
         requires begun { self.old.standing.begun ≡ true }
@@ -158,7 +158,7 @@ impl Player {
         Ok(())
     }
 
-    /// So many sweeps.
+    /// Plays this many sweeps.
     fn play_sweeps(&mut self, count: u32) -> Result<(), PlayStop>
         requires playing { IsPlaying self.old }
         requires begun { self.old.standing.begun ≡ true }

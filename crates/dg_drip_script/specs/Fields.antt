@@ -3,7 +3,7 @@ use Rattle.std.specs.Prelude.{ℕ, nat_le, nat_lt, ◌&&◌, List, [], ◌∷◌
 use Rattle.dg_base.specs.Numbers.{number_of}
 use Rattle.dg_script.specs.Results.{◌>>?◌, kept_if}
 
--- a field is a number, or none
+-- a field: its number, or None if it is not one
 abbrev pub Field : Type 0
 Field = Option ℕ
 

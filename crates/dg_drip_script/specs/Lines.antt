@@ -33,7 +33,7 @@ has_nodes at = not (at.nodes == 0)
 abbrev pub may_link : Standing → Bool
 may_link at = has_nodes at && not at.begun
 
--- two nodes that are not the same
+-- two different nodes
 abbrev pub pair_of : (nodes : ℕ) → Field × Field → Option (ℕ × ℕ)
 pair_of nodes fields = field_below nodes fields.0 >>? λ a. field_below nodes fields.1 >>? λ b. kept_if (not (b == a)) (a, b)
 

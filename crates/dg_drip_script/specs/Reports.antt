@@ -45,7 +45,7 @@ value_text node key e = if e.number == 0 then [] else entry_line (codes "value")
 abbrev pub node_text : Network → ℕ → List ℕ
 node_text w node = flat_map (λ key. value_text node key (entry_at w node key)) (range_with_len 0 key_count)
 
--- how many events there were, and each entry that is not none, by node and key
+-- how many events there were, and each entry that is kept, by node and key
 abbrev pub final_text : Network → (nodes events : ℕ) → List ℕ
 final_text w nodes events = drip_report_line (End events) ++ flat_map (node_text w) (range_with_len 0 nodes)
 

@@ -12,7 +12,7 @@ use Rattle.dg_drip_script.specs.declared.line.DripLine.TheVariants.{Nothing, Nod
 use Rattle.dg_drip_script.specs.declared.line.DripFault.{DripFault}
 use Rattle.dg_drip_script.specs.declared.line.Standing.{Standing}
 
--- an event, and whether it is told that it sent a frame: in rounds it is not
+-- an event, and whether a frame that it sends is reported: in rounds it is not
 pub record DripItem : Type 0 where
   pub event : DripEvent
   pub reported : Bool
@@ -32,7 +32,7 @@ first_script = record { nodes = 0; begun = false; links = []; items = [] }
 abbrev pub standing_of : DripScript → Standing
 standing_of s = record { nodes = s.nodes; begun = s.begun }
 
--- ---- what lines bring
+-- ---- what lines add
 
 abbrev pub unreported_items : List DripEvent → List DripItem
 unreported_items events = map (λ e. record { event = e; reported = false }) events
@@ -81,7 +81,7 @@ events_of items = map (λ i. i.event) items
 abbrev pub network_of : DripScript → Network
 network_of s = run (start s.links) (events_of s.items)
 
--- what is told of events, one after the other
+-- what is reported of events, one after the other
 abbrev pub text_of_run : Network → List DripItem → List ℕ
 text_of_run w [] = []
 text_of_run w (i ∷ items) = reported_text (report_of_event w i.reported i.event) ++ text_of_run (applied w i.event) items

@@ -7,7 +7,7 @@ ghost use Rattle.dg_drip_script.specs.Fields.{four_numbers, five_numbers};
 use dg_base::parse_u32;
 use dg_script::next_word;
 
-/// The number that a field writes, where it is one.
+/// The number in a field, if it is one.
 pub type Field = Option<u32>;
 
 /// The only field of a text.

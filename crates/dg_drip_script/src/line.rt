@@ -13,22 +13,22 @@ pub enum DripLine {
     Link { a: u8, b: u8 },
     /// An event happens.
     Event { event: DripEvent },
-    /// One node tells another one all that it keeps.
+    /// One node sends another one all that it keeps.
     Round { a: u8, b: u8 },
-    /// So many sweeps: in each, a round both ways over every link.
+    /// This many sweeps: in each, a round both ways over every link.
     Sweeps { count: u32 },
 }
 
-/// The first thing that is wrong with a line, in the order in which they are told.
+/// The first fault of a line, in the order in which they are reported.
 #[derive(Clone, Copy, Debug, PartialEq, Eq)]
 pub enum DripFault {
     /// The line has more than 300,000 bytes.
     Long,
-    /// The first word begins no line, or has another number of fields.
+    /// The first word is not a verb, or has another number of fields.
     Verb,
     /// The line may not stand there.
     Place,
-    /// A field is no number, or not in its range.
+    /// A field is not a number, or not in its range.
     Number,
 }
 

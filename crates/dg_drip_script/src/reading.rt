@@ -27,7 +27,7 @@ fn may_link(at: Standing) -> bool
     has_nodes(at) && !at.begun
 }
 
-// Two nodes that are not the same.
+// Two different nodes.
 fn pair(nodes: u8, fields: (Field, Field)) -> Option<(u8, u8)>
     ensures is { result ≡ pair_of nodes fields }
     ensures within { IfSome result (λ p. (p.0 < nodes) × (p.1 < nodes)) }

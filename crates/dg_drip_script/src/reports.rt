@@ -61,7 +61,7 @@ fn push_refused(out: &mut Vec<u8>, node: u8, cause: DripCause) -> Result<(), All
     Ok(())
 }
 
-/// Appends a word, a node, a key and what stands there.
+/// Appends a word, a node, a key and its entry.
 pub fn push_entry(
     out: &mut Vec<u8>,
     word: &[u8],

@@ -4,7 +4,7 @@ use Rattle.dg_drip_run.specs.AroundDrip.{around_drip}
 use Rattle.dg_drip_run.specs.Dripped.{LinesPlayed, drip_stage}
 use Rattle.dg_drip_run.proofs.call.play_lines.Given as goal
 
--- some lines that end in LF were read, played and told
+-- some lines that end in LF were read, played and reported
 abbrev pub invariant-loop-number : goal.invariant-loop-number
 invariant-loop-number g l =
     LinesPlayed ⊥ (around_drip (g.S.Source.left l.fn.input) (g.S.Source.faults l.fn.input) (g.K.Sink.written l.fn.out) (g.K.Sink.faults l.fn.out)) l.number

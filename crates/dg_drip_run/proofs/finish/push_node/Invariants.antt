@@ -5,6 +5,6 @@ use Rattle.dg_drip_replay.specs.Standing.{Stands}
 use Rattle.dg_drip_script.specs.Reports.{value_text}
 use Rattle.dg_drip_run.proofs.finish.push_node.Given as goal
 
--- what is kept of the keys below this one was told
+-- what is kept of the keys below this one was reported
 abbrev pub invariant-loop-key : goal.invariant-loop-key
 invariant-loop-key l = (w : Network) → Stands l.network w → l.text.items ≡ l.fn.text.items ++ flat_map (λ key. value_text l.node key (entry_at w l.node key)) (range_with_len 0 l.key)

@@ -5,6 +5,6 @@ use Rattle.dg_drip_replay.specs.Standing.{Stands}
 use Rattle.dg_drip_script.specs.Reports.{node_text}
 use Rattle.dg_drip_run.proofs.finish.push_nodes.Given as goal
 
--- what the nodes below this one keep was told
+-- what the nodes below this one keep was reported
 abbrev pub invariant-loop-node : goal.invariant-loop-node
 invariant-loop-node l = (w : Network) → Stands l.network w → l.text.items ≡ l.fn.text.items ++ flat_map (node_text w) (range_with_len 0 l.node)
