@@ -1,4 +1,4 @@
--- What is known of a replay behind a line whose items were played.
+-- What is known of a replay after a line whose items were played.
 use Rattle.std.proofs.Common.{false, ◌≡◌, ℕ, ◌<◌, true, List, [], ◌∷◌, ◌++◌, length, refl, ap, sym, ◌∙◌, subst}
 use Rattle.std.specs.Prelude.{Option, Some, None, Result, Ok, Err, IfSome}
 use Rattle.std.specs.List.{AllByRecursion}
@@ -30,7 +30,7 @@ use Rattle.dg_replay.proofs.PlayLemmas.{false_not, event_at, round_at, sweeps_at
 use Rattle.dg_replay.proofs.LineRanges.{cut_in_range}
 use Rattle.dg_replay.proofs.StandLemmas.{joined_next, stood_next, busy_runs, line_begun}
 
--- A line behind others has these items. It changes nothing of where the run begins, and needs no more boards.
+-- A line after others has these items. It changes nothing of where the run begins, and needs no more boards.
 pub record HasItems (done : List Line) (line : Line) (items : List Item) : Type 0 where
   pub are : item_by (place_behind first_place done) line ≡ items
   pub begins : (g : StartState) (b : Beginning) → (begin_by g b line).world ≡ b.world
@@ -118,7 +118,7 @@ sweeps_has done n links known =
       stops = λ left w board image initial now s. s;
     }
 
--- ---- what playing them answers
+-- ---- the results of playing them
 
 -- a board that stopped in an item of a line
 stopped_in : (motes : ℕ) (done : List Line) (line : Line) (items left : List Item) (w : World) (initial now : List Device) → HasItems done line items → length w.sites ≡ motes → StopsInItem w left initial now → StoppedIn motes (line ∷ []) left (Some w) initial now
@@ -177,7 +177,7 @@ busy_in table r p q done None line items report_before told initial old now has 
 busy_in table r p q done (Some w) line items report_before told initial old now has stands fits ready place s play =
     busy_as table r p q done w line items report_before told initial old now has stands fits place s (play w s.world.0 s.boards)
 
--- ---- what they ask
+-- ---- what playing them requires
 
 -- the world that is kept stands for one of the motes of its place
 pub kept_for : (p : Player) (boards : List Device) → Ready p boards → p.place.ready ≡ true → (u : World) × IsWorld p.world boards u × (length u.sites ≡ p.place.motes)

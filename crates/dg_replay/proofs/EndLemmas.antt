@@ -193,7 +193,7 @@ stopped_ends {table} {S = S} {G = G} NotAVolume result script over input at_end 
 stopped_ends {table} NotAVolume result script over input at_end number initial now before mid after failed later reads worse spread widen near settled f (inr (same, cut, rose)) =
     cut_at_end result script over input at_end number initial now before mid after later reads worse widen near f.came no_volume_line (inl (f.there.0.more, f.there.0.next, refl)) f.reported f.limits f.stood (inr (inr (inl f.there.0))) f.there.2.1 f.there.1 f.there.2.0 same cut rose
 
--- a script all of whose lines were played
+-- a script whose lines were all played
 lines_done : {table : List Row} {S G : Saw} (ends : Bool) (script : Script) (n : ℕ) (p : Player) (initial now : List Device) (before mid : Option (List ℕ)) → (r : Reached table ends script [] n p (span initial now before mid S G)) → r.done ++ [] ≡ script.lines
 unfolding script_from
 lines_done ends script n p initial now before mid r = r.lines
@@ -207,7 +207,7 @@ few_done ends script n p initial now before mid r =
     let same : r.done ≡ script.lines = sym (append-nil r.done) ∙ lines_done ends script n p initial now before mid r in
     record { events = subst (λ (ls : List Line). events_in ls ≤ most_events) same r.few; boards_enough = subst (λ (ls : List Line). lacking (length initial) ls ≡ None) same r.boards_enough }
 
--- as far as that
+-- a script that was played to its end
 abbrev came_to : {table : List Row} {S G : Saw} (ends : Bool) (script : Script) (n : ℕ) (p : Player) (initial now : List Device) (before mid : Option (List ℕ)) (last : Option World) → (r : Reached table ends script [] n p (span initial now before mid S G)) → r.last ≡ last → Progress table script
 came_to ends script n p initial now before mid last r is =
     record {
@@ -236,7 +236,7 @@ ready_done ends script e n p initial now before mid r all closes =
     let came = came_to ends script n p initial now before mid r.last r refl in
     record { came = came; reported = r.reported; boards = r.stood.boards; left = (untouched_done came initial now r.untouched, r.seen); all = all came refl; line = closes r.last; limits = bounds_done ends script n p initial now before mid r; stood = λ uses. (r.grounded uses).1 }
 
--- nothing stands behind the last line
+-- nothing comes after the last line
 nothing_near : (n : ℕ) (input : List ℕ) → behind_lines n input ≡ [] → FewBytesBehind n input
 nothing_near n input e = omega (arith, ap length e)
 
@@ -251,7 +251,7 @@ over_ends {table} {S = S} {G = G} result script input at_end n p initial now bef
     subst (λ (x : Ending). ScriptReplayed table result script x (bytes_taken input at_end) (span initial now before after S G) (failures reads worse)) (sym e)
     (ended result script Over _ input at_end initial now before mid after failed reads worse spread ready (inr settled) (inr (whole ready.came)) (λ text. tt) done)
 
--- a script that ends before its second line, or behind a cut
+-- a script that ends before its second line, or after a cut
 pub short_ends : {table : List Row} {S G : Saw} (result : Status) (script : Script) (input : List ℕ) (n : ℕ) (fault : LineFault) (p : Player) (initial now : List Device) (before mid after : Option (List ℕ)) (failed reads worse : Type 0) → (failed → worse) → fault_at_end p.place ≡ Some fault → behind_lines n input ≡ []
     → Reached table true script [] n p (span initial now before mid S G) → EndsWith result status.BadInput (ending_line (FaultAt n fault)) mid after failed → ScriptReplayed table result script (ending_from (length initial) false script) (bytes_taken input ⊤) (span initial now before after S G) (failures reads worse)
 short_ends {table} {S = S} {G = G} result script input n fault p initial now before mid after failed reads worse spread early behind r done =
@@ -261,7 +261,7 @@ short_ends {table} {S = S} {G = G} result script input n fault p initial now bef
     subst (λ (x : Ending). ScriptReplayed table result script x (bytes_taken input ⊤) (span initial now before after S G) (failures reads worse)) (sym e)
     (ended result script (FaultAt n fault) _ input ⊤ initial now before mid after failed reads worse spread ready (inl tt) (inl tt) (λ text. nothing_near n input behind) done)
 
--- a player that is behind the second line has a world
+-- a player that is after the second line has a world
 finish_as : {table : List Row} {S G : Saw} (result : Status) (script : Script) (input : List ℕ) (w : World) (n : ℕ) (p : Player) (initial now new : List Device) (before mid after : Option (List ℕ)) (failed reads worse : Type 0) → (failed → worse)
     → (r : Reached table true script [] n p (span initial now before mid S G)) → SameBoards now new → r.last ≡ Some w → motes_in r.done ≡ length w.sites → FinishesWith result w initial new mid after failed → ScriptReplayed table result script Ends (bytes_taken input ⊤) (span initial new before after S G) (failures reads worse)
 finish_as result script input w n p initial now new before mid after failed reads worse spread r read is count (inl (ends, boards)) =
@@ -331,7 +331,7 @@ pub script_all : (input : List ℕ) → length input ≤ most_used_bytes → scr
 unfolding script_of
 script_all input few = ap (λ (b : Bool). script_from (not b) first_place 1 (lines (if b then whole_lines (take most_used_bytes input) else input))) (over_not input few)
 
--- and of one that is, where these bytes are used
+-- the script of an input that is too long, of which these bytes are used
 pub script_over : (input front : List ℕ) → most_used_bytes < length input → used input ≡ front → script_of input ≡ script_from false first_place 1 (lines front)
 unfolding script_of
 script_over input front more is = ap (λ (xs : List ℕ). script_from (not (has_unused_bytes input)) first_place 1 (lines xs)) is ∙ ap (λ (b : Bool). script_from (not b) first_place 1 (lines front)) (is_over-true input more)

@@ -65,7 +65,7 @@ ends_near TooManyEvents input c text near = near
 ends_near (FaultAt line f) input c text near = near
 ends_near Over input c text near = near
 
--- the end of the report was written, or a front of it, or memory ran out
+-- the end of the report was written, or a prefix of it, or memory ran out
 pub ended : {table : List Row} {S G : Saw} (result : Status) (script : Script) (e : Ending) (piece input : List ℕ) (at_end : Type 0) (initial now : List Device) (before mid after : Option (List ℕ)) (failed reads worse : Type 0) → (failed → worse)
     → (r : ReadyToEnd table script e piece (span initial now before mid S G)) → at_end ⊎ IsSettled (length initial) input → at_end ⊎ DoneIsWhole input r.came.done r.came.rest r.came.begun → ((text : List ℕ) → ReadsNear (status_of e) e input r.came text)
     → EndsWith result (status_of e) piece mid after failed → ScriptReplayed table result script e (bytes_taken input at_end) (span initial now before after S G) (failures reads worse)
@@ -171,7 +171,7 @@ pub board_ending : (over : Bool) (script : Script) (initial : List Device) (mote
 board_ending over script initial motes done more short none lines =
     ap (λ (o : Option ℕ). by_boards o (length initial) (by_events over script)) (ap (lacking (length initial)) (sym lines) ∙ lacking_behind (length initial) motes done more short none)
 
--- an event behind some others is one more
+-- an event after some others is one more
 one_more : (before : List Item) (step : Step) (reported : Bool) (more : List Item) → events_among before ≡ most_events → most_events < events_among (before ++ Applies step reported ∷ more)
 one_more before step reported more full =
     let parts : events_among (before ++ Applies step reported ∷ more) ≡ events_among before + events_among (Applies step reported ∷ more) = events_among-append before (Applies step reported ∷ more) in
@@ -194,7 +194,7 @@ items_come done (line ∷ rest) begun left next parts =
       items_split done (line ∷ rest) ∙ ap (λ (xs : List Item). items_of done ++ xs) (first ∙ here) ∙ sym (append_assoc (items_of done) begun (Applies next.step next.reported ∷ (next.more ++ behind))),
     )
 
--- a million events, and one more behind them
+-- a million events, and one more after them
 pub many_ending : {table : List Row} (over : Bool) (script : Script) (initial : List Device) (c : Progress table script) → lacking (length initial) script.lines ≡ None → AtTooMany c.left c.played → ending_from (length initial) over script ≡ TooManyEvents
 many_ending over script initial c enough at =
     let come = items_come c.done c.rest c.begun c.left at.next c.parts in

@@ -14,7 +14,7 @@ use Rattle.dg_world.specs.Boards.{WorldStands}
 use Rattle.dg_replay.specs.Boards.{StoppedIn}
 use Rattle.dg_world.proofs.EndureLemmas.{boards_through, board_stops, chips_read}
 
--- one of which stopped
+-- one of the boards stopped
 pub read_stopped : (w : World) (board : ℕ) (initial old new : List Device) → board < length w.sites → SameBoards old new → ((m : ℕ) → length w.sites ≤ m → slice_get new m ≡ slice_get old m) → ReadFlash board old new → WorldStands w initial old
     → (motes : ℕ) → motes ≡ length w.sites → StoppedIn motes [] [] (Some w) initial new
 read_stopped w board initial old new known same others f b motes count =

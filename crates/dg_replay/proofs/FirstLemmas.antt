@@ -23,7 +23,7 @@ items_range : (motes : ℕ) (played : List Played) → AllByRecursion (PlayedInR
 items_range motes [] h = tt
 items_range motes (p ∷ ps) h = (h.0, items_range motes ps h.1)
 
--- a run that leads to no world was played of nothing, and none leads to one then
+-- if one run leads to no world, no run from the same beginning leads to one
 no_world : (o : Option World) (ps qs : List Played) (u : World) → RunsTo o ps None → RunsTo o qs (Some u) → ⊥
 no_world None ps qs u a b = absurd (let e : Some u ≡ None = b.1 in cc)
 no_world (Some w) ps qs u (v, is, plays) b = absurd (let e : None ≡ Some v = is in cc)
@@ -55,7 +55,7 @@ module _ {table : List Row} (input : List ℕ) (c : Progress table (script_of in
         left_fits = all_append (ItemInRange motes) (map item_played f.rest) c.left (items_range motes f.rest (all_rest (PlayedInRange motes) f.played f.rest ranges)) r.left_fits;
       }
 
-  -- where all of it is of such a run
+  -- what was played first is such a run, if all of it is
   pub first_run : ((v : World) → c.last ≡ Some v → ScriptRun c.ground c.done (beginning_of c.ground c.done) c.left c.played v) → (u : World) → f.last ≡ Some u
       → ScriptRun c.ground c.done (beginning_of c.ground c.done) (map item_played f.rest ++ c.left) f.played u
   first_run all u is = by_last c.last refl

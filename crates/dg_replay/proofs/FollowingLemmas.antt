@@ -51,7 +51,7 @@ next_halted (read_stop.Long line) halt bytes old new A F N P is h none long =
     subst (λ (x : Halt). NextPlayed (Err x) (bytes_taken bytes A) old new F N P) (sym (is ∙ ap (λ (k : ℕ). Stopped (BadInput k line_fault.Long)) h.0))
     (h.1.text, h.1.rest, record { first = h.1.first; used = h.1.used; near = h.1.near }, long h.1.text h.1.long)
 
--- what is played of a text, from a player that stands behind lines, and which boards keep their bytes
+-- what is played of a text, from a player that stands after lines, and which boards keep their bytes
 abbrev pub TextPlays : Result (Unit {0}) Stop → (text : List ℕ) → (number : ℕ) → (a b : ReplayState) → (failed : Type 0) → Type 0
 TextPlays r text number a b failed = TextKeepsBytes a.player.place text a.boards b.boards
     × ((basis : Baseline) (so_far : DoneSoFar) → Stood a.player so_far.lines so_far.world basis.boards a.boards → TextAnswer basis r (line_read text number) so_far a b failed)

@@ -1,4 +1,4 @@
--- The first lines of a script, and what comes behind them.
+-- The first lines of a script, and what comes after them.
 use Rattle.std.proofs.Common.{◌≡◌, inl, inr, ℕ, ◌+◌, ◌-◌, ◌<◌, ◌≤◌, ◌==◌, Bool, true, false, not, List, [], ◌∷◌, ◌++◌, length, map, take, append-nil, append_assoc, length-append, refl, ap, sym, ◌∙◌, subst, arith}
 use Rattle.std.specs.Prelude.{Some, Result, Ok, Err, if◌then◌else◌}
 use Rattle.std.specs.List.{slice_split, onto_first}
@@ -23,7 +23,7 @@ use Rattle.dg_replay.proofs.WholeLemmas.{are_whole_lines}
 abbrev feed : ℕ → Bool
 feed = λ b. b == 10
 
--- the parts of bytes up to an LF, whatever comes behind it
+-- the parts of bytes up to an LF, whatever comes after it
 record Splits (before : List ℕ) : Type 0 where
   first : List ℕ
   others : List (List ℕ)
@@ -90,7 +90,7 @@ unfolding whole_lines
 whole_before [] xs = feed_up (whole_lines xs)
 whole_before (c ∷ before) xs = ap (up_to c) (whole_before before xs) ∙ front_up c before (whole_lines xs)
 
--- bytes that end in LF are whole lines, and those behind them add theirs
+-- bytes that end in LF are whole lines, and those after them add theirs
 pub whole_lines_front : (front xs : List ℕ) → IsWholeLines front → whole_lines (front ++ xs) ≡ front ++ whole_lines xs
 whole_lines_front front xs (inl none) = ap (λ (f : List ℕ). whole_lines (f ++ xs)) none ∙ ap (λ (f : List ℕ). f ++ whole_lines xs) (sym none)
 whole_lines_front front xs (inr (before, is)) =
@@ -131,7 +131,7 @@ begins_line (Ok line) n f g h = record {
   fault = λ at is. ap (λ (s : Script). record { lines = line ∷ s.lines; fault = s.fault }) ((h line).fault at is);
 }
 
--- texts that follow others leave their lines as they are
+-- texts that follow others leave their lines unchanged
 pub texts_begin : (ends : Bool) (place : Place) (n : ℕ) (texts more : List (List ℕ)) → BeginsAs (script_from false place n texts) (script_from ends place n (texts ++ more))
 unfolding script_from
 texts_begin ends place n [] more = record { rest = (script_from ends place n more).lines; lines = refl; fault = λ at is. cc }
@@ -169,7 +169,7 @@ reads_next texts done place n text line r spelled = record {
       ∙ ap (λ (ls : List Line). record { lines = ls; fault = (script_from ends (place_after place line) (n + 1) more).fault }) (sym (append_assoc done (line ∷ []) (script_from ends (place_after place line) (n + 1) more).lines));
 }
 
--- the next text does not, and the script ends there
+-- the next text does not spell a line, and the script ends there
 pub reads_fault : (texts : List (List ℕ)) (done : List Line) (place : Place) (n : ℕ) (text : List ℕ) (fault : LineFault) → ReadsTo texts done place n → line_of place text ≡ Err fault
     → (ends : Bool) (more : List (List ℕ)) → script_from ends first_place 1 (texts ++ text ∷ more) ≡ record { lines = done; fault = Some (n, fault) }
 reads_fault texts done place n text fault r spelled ends more =

@@ -52,7 +52,7 @@ abbrev pub GoldenWay : Type 0
 GoldenWay = (g : GoldenNetwork) (played : List Played) (v : World) → PlaysGolden g played v
     → AllByRecursion IsHonestThen played → PlaysFrom (network_world g) played v
 
--- so is what holds to a table, over boards that agree with it
+-- the same of events that hold to a table, over boards that agree with it
 abbrev pub BoardsWay : Type 0
 BoardsWay = (table : List Row) (stores : List Store) (links : List (ℕ × ℕ)) (narrow : List Bool) (played : List Played) (v : World) → PlaysBoards table stores links narrow played v
     → StoresAgree table stores → AllByRecursion (HoldsToThen table) played → PlaysFrom (first_world table links narrow stores) played v
@@ -110,11 +110,11 @@ module _ {table : List Row} (input : List ℕ) (c : Progress table (script_of in
     pub honest_runs : Ways → (P : List Played → Type 0) → P [] → ((u v : World) (played : List Played) → PlaysFrom u played v → P played) → FramesAreHonest f → P f.played
     honest_runs ways P none law honest = honest_worlds ways (λ ps last. P ps) none law honest
 
-    -- where it ends with a rest of enough sweeps
+    -- if it ends with a rest of enough sweeps
     pub ended_complete : Ways → EndsLaw → (w v : World) (n k : ℕ) → FramesAreHonest f → f.last ≡ Some v → EndsInRest f.played w n v → IsEnough w k → k ≤ n → KeepsNewest v
     ended_complete ways law w v n k honest is ends enough most = let x = from_at ways honest v is in law x.first f.played w v n k x.from ends enough most
 
-    -- where it ends with a rest of any number of sweeps
+    -- if it ends with a rest of any number of sweeps
     pub ended_pipelined : Ways → EndsPipelineLaw → (w v : World) (t : ℕ) → FramesAreHonest f → f.last ≡ Some v → EndsInRest f.played w t v → PagesCome w t v
     ended_pipelined ways law w v t honest is ends = let x = from_at ways honest v is in law x.first f.played w v t x.from ends
 

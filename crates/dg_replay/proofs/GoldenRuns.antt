@@ -30,7 +30,7 @@ pub record Formatted : Type 0 where
   pub used : ℕ
   pub content : List ℕ
 
--- the boards of so many motes are formatted with golden, or they are used as they are
+-- the boards of this many motes are formatted with golden, or they are used as they are
 pub record ByGolden (motes : ℕ) (table : List Row) (stores : List Store) : Type 0 where
   pub golden : Formatted
   pub is_golden : IsGolden golden.name golden.used golden.content
@@ -52,7 +52,7 @@ pub record Carries (motes : ℕ) (table : List Row) (stores : List Store) (b : B
   pub world : b.world ≡ Some (first_world table links narrow stores)
   pub count : b.motes ≡ motes
 
--- behind `golden` or `boards` the lines add links and narrow motes alone
+-- after `golden` or `boards` the lines add only links and narrow motes
 module _ (motes : ℕ) (table : List Row) (stores : List Store) (g : StartState) where
   carries : (b : Beginning) (place : Place) (lines : List Line) → IsBehind place → place.motes ≡ motes → LinesFit place lines → Carries motes table stores b → Carries motes table stores (begin_behind g b lines)
   unfolding LinesFit begin_behind
@@ -83,7 +83,7 @@ module _ (motes : ℕ) (table : List Row) (stores : List Store) (g : StartState)
   carries b place (Round x y ∷ lines) behind count h k = carries b (place_after place (Round x y)) lines (record { ready = behind.ready; some = behind.some }) count h.3 k
   carries b place (Sweeps n ∷ lines) behind count h k = carries b (place_after place (Sweeps n)) lines (record { ready = behind.ready; some = behind.some }) count h.3 k
 
--- behind golden no line says how many motes there are
+-- after golden no line says how many motes there are
 pub lacking_none : (boards : ℕ) (place : Place) (lines : List Line) → IsBehind place → LinesFit place lines → lacking boards lines ≡ None
 unfolding LinesFit lacking
 lacking_none boards place [] behind h = refl
@@ -101,7 +101,7 @@ lacking_none boards place (Sweeps n ∷ lines) behind h = lacking_none boards (p
 
 -- ---- where a run begins
 
--- it begins with golden or on the boards as they are, all its items are in their ranges, and so is the place behind them
+-- it begins with golden or on the boards as they are, all its items are in their ranges, and the place after them is too
 pub record Begun (g : StartState) (lines : List Line) (b : Beginning) (w : World) (items : List Item) (place : Place) : Type 0 where
   pub table : List Row
   pub stores : List Store

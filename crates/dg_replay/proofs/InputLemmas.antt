@@ -133,7 +133,7 @@ lines_over {S = S} {H = H} a b c reads writes old more number p q initial was no
 
 -- ---- a line at which a replay stops
 
--- a stop is known by more of what was done
+-- a stop with one more property of what was done
 stops_with : {table : List Row} (stop : Stop) (script : Script) (W : Progress table script → Type 0) (number : ℕ) (initial now : List Device) (before after : Option (List ℕ)) (failed : Type 0) (S H : Saw) → ((c : Progress table script) → IsLeft (span initial now before after S H) c → W c)
     → StopsThere table stop script number (span initial now before after S H) failed → StopsAtText table stop script W number (span initial now before after S H) failed
 stops_with Memory script W number initial now before after failed S H w f = record { came = f.came; text = f.text; more = f.more; reported = f.reported; whole = f.whole; limits = f.limits; stood = f.stood; there = (f.there.0, w f.came f.there.1) }
@@ -185,7 +185,7 @@ ends_same table (NoBoard motes boards) input more number initial now before afte
 ends_same table NoImage input more number initial now before after failed S H f g = tt
 ends_same table NotAVolume input more number initial now before after failed S H f g = tt
 
--- the rules end every input there that begins with these bytes
+-- the rules end every input that begins with these bytes there
 settled_by : (stop : Stop) (input : List ℕ) (at_end : Type 0) (n : ℕ) → ((more : List ℕ) → ByRules stop (ending_of n (input ++ more) ≡ ending_of n input)) → ByRules stop (at_end ⊎ IsSettled n input)
 settled_by Memory input at_end n same = tt
 settled_by (BadInput line fault) input at_end n same = inr same

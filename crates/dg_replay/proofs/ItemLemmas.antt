@@ -30,7 +30,7 @@ use Rattle.dg_replay.specs.Playing.{ItemsRun}
 pub some_is : {A : Type 0} (x y : A) → Some x ≡ Some y → x ≡ y
 some_is x y e = cc
 
--- ---- the items of lines, and of others behind them
+-- ---- the items of lines, and of others after them
 
 items_apart : (place : Place) (done rest : List Line)
     → items_behind place (done ++ rest) ≡ items_behind place done ++ items_behind (place_behind place done) rest
@@ -43,7 +43,7 @@ items_apart place (l ∷ done) rest =
 pub items_split : (done rest : List Line) → items_of (done ++ rest) ≡ items_of done ++ items_behind (place_behind first_place done) rest
 items_split done rest = items_apart first_place done rest
 
--- the first of the lines behind others, and those behind it
+-- the first of the lines after others, and those after it
 pub items_first : (place : Place) (line : Line) (rest : List Line) → items_behind place (line ∷ rest) ≡ item_by place line ++ items_behind (place_after place line) rest
 unfolding items_behind
 items_first place line rest = refl
@@ -88,7 +88,7 @@ taken_step (Some k) w row e taken =
       told = sym (ap (λ (o : Option Row). declared_lines o row) e ∙ ap (λ (b : Bool). if b then report.Taken row.image row.version ∷ [] else []) taken);
     }
 
--- a world with as many sites, in which so many more events were applied
+-- a world with the same number of sites, in which this many more events were applied
 pub record Counts (w v : World) (n : ℕ) : Type 0 where
   pub sites : length v.sites ≡ length w.sites
   pub events : v.events ≡ w.events + n
@@ -150,7 +150,7 @@ plays_none w v played none same = subst (λ (ps : List Played). Plays w ps v) (s
 pub played_more : (ps qs : List Played) → played_text (ps ++ qs) ≡ played_text ps ++ played_text qs
 played_more ps qs = flat_map-append (λ (q : Played). report_text q.reports) ps qs
 
--- a run from where it begins goes on from the world that it leads to
+-- a run from where it begins continues from the world that it leads to
 pub runs_append : (o : Option World) (u v : World) (ps qs : List Played) → RunsTo o ps (Some u) → Plays u qs v → RunsTo o (ps ++ qs) (Some v)
 runs_append None u v ps qs (none, is) more = absurd (let e : Some u ≡ None = is in cc)
 runs_append (Some w) u v ps qs (z, is, plays) more = (v, refl, plays_append w u v ps qs (subst (λ (x : World). Plays w ps x) (sym (some_is u z is)) plays) more)

@@ -1,4 +1,4 @@
--- What playing one item answers, and items behind others.
+-- The results of playing one item, and items after others.
 use Rattle.std.proofs.Common.{◌≡◌, ℕ, ◌<◌, ◌≤◌, ◌≢◌, ◌⊎◌, ⊎_elim, Bool, false, if◌then◌else◌, List, [], ◌∷◌, ◌++◌, length, refl, append-nil, append_assoc, ap, sym, ◌∙◌, subst, arith}
 use Rattle.std.proofs.lemmas.List.{length-set}
 use Rattle.std.specs.List.{filter}
@@ -40,7 +40,7 @@ use Rattle.dg_replay.proofs.ItemLemmas.{items_run_none, items_run_one, items_run
 use Rattle.dg_replay.proofs.ShownLemmas.{shows_none, shows_same, shows_join}
 use Rattle.dg_world.proofs.EndureLemmas.{boards_through, board_stops, event_within, sites_same, other_than, stands_next}
 
--- ---- the boards behind an event
+-- ---- the boards after an event
 
 -- an event at which a board stopped was not one too many
 pub not_full : (r : Result (Unit {0}) WorldFault) (board n : ℕ) → r ≡ Err (Flash board) → n ≤ most_events → (n ≡ most_events → (r ≡ Err TooManyFault) ⊎ (r ≡ Err MemoryFault)) → n < most_events
@@ -55,7 +55,7 @@ not_full r board n is few full = less n most_events few (λ e. ⊎_elim (λ x. d
     lacks : ◌≡◌ {A = Result (Unit {0}) WorldFault} (Err (Flash board)) (Err MemoryFault) → ⊥
     lacks e = cc
 
--- nor was one that found no image
+-- an event that found no image was not one too many
 pub image_not_full : (r : Result (Unit {0}) WorldFault) (n : ℕ) → r ≡ Err NoImageFault → n ≤ most_events → (n ≡ most_events → r ≡ Err TooManyFault) → n < most_events
 image_not_full r n is few full = less n most_events few (λ e. differs (sym is ∙ full e))
   where
@@ -121,7 +121,7 @@ applied_stands : (w : World) (x : Step) (reported : Bool) (v v2 : KeptWorld) (in
 applied_stands w x reported v v2 initial old new before reports may is stands a =
     stands_next w a.world v2 (mote_of x.event) initial old new (step_within v old w x is may) (step_counts w a.world x a.reports a.step).sites a.stood a.boards a.calm stands
 
--- an event was applied, and told
+-- an event was applied, and reported
 applied_played : (w : World) (x : Step) (reported : Bool) (v v2 : KeptWorld) (initial old new : List Device) (before reports : List Report) (report_before told : Told) → before ≡ [] → MayStep v old x → (a : Applied w x reported (deployed v old before) (deployed v2 new reports))
     → Shows report_before.saw told.saw w (applied_one a reports ∷ []) → told.text ≡ report_before.text ++ report_text reports → IsWorld v old w → WorldStands w initial old → ItemsPlayed w (Applies x reported ∷ []) v2 initial new report_before told
 applied_played w x reported v v2 initial old new before reports report_before told none may a shown is_reported is stands =
@@ -135,7 +135,7 @@ applied_played w x reported v v2 initial old new before reports report_before to
       shown = shown;
     }
 
--- it was applied, and there was no memory to tell it
+-- it was applied, and there was no memory to report it
 pub applied_untold : (w : World) (x : Step) (reported : Bool) (v v2 : KeptWorld) (initial old new : List Device) (before reports : List Report) (F G : Saw) → before ≡ [] → MayStep v old x → (a : Applied w x reported (deployed v old before) (deployed v2 new reports)) → Shows F G w (applied_one a reports ∷ []) → IsWorld v old w → WorldStands w initial old
     → ItemsBegun w (Applies x reported ∷ []) F G (λ u left text. WorldStands u initial new)
 applied_untold w x reported v v2 initial old new before reports F G none may a shown is stands =
@@ -197,7 +197,7 @@ pub ended_shown : (w : World) (event : Event) (cut : Option PowerCut) (v : KeptW
 ended_shown w event cut v initial old new F G may is few e ended = λ stores events lead f.
     subst (λ (es : List Played). G stores es) (sym (append-nil events)) (ended stores events w lead (record { few = few; cut = cut; after = e.world; ends = e.ends; stand = e.stood }) f)
 
--- it was applied, and this came of reporting it
+-- it was applied, and this is the outcome of reporting it
 pub told_as : (r : Result (Unit {0}) Stop) (w : World) (x : Step) (reported : Bool) (v v2 : KeptWorld) (initial old new : List Device) (before reports : List Report) (report_before told : Told) → before ≡ [] → MayStep v old x → (a : Applied w x reported (deployed v old before) (deployed v2 new reports)) → Shows report_before.saw told.saw w (applied_one a reports ∷ [])
     → OnOk r (told.text ≡ report_before.text ++ report_text reports) → OnErr r (r ≡ Err Memory) → IsWorld v old w → WorldStands w initial old → ItemsPlayedAs r w (Applies x reported ∷ []) v2 initial report_before (boards_told new told)
 told_as (Ok u) w x reported v v2 initial old new before reports report_before told none may a shown is_reported memory is stands = applied_played w x reported v v2 initial old new before reports report_before told none may a shown is_reported is stands
@@ -225,7 +225,7 @@ applied_shown w event cut reported v v2 old new before reports shown F G none sa
     } in
     applied stores events (applied_one a reports) lead (subst (λ (rs : List Report). IsApplied (applied_one a reports) event reported (deployed v2 new rs)) (sym same) there) f
 
--- the world that is kept goes on behind an event
+-- the world that is kept after an event
 pub goes_on : (r : Result (Unit {0}) Stop) (k k2 : KeptWorld) (old new : List Device) → ((w : World) → IsWorld k old w → (u : World) × IsWorld k2 new u × (length u.sites ≡ length w.sites)) → KeepsMotes r k k2 old new
 goes_on (Ok u) k k2 old new goes = goes
 goes_on (Err stop) k k2 old new goes = tt
@@ -260,7 +260,7 @@ declared_played w z row reports v2 initial now report_before told step kept is_r
       shown = shows_none report_before.saw told.saw w stays;
     }
 
--- it was declared with another name or content, and this came of reporting it
+-- it was declared with another name or content, and this is the outcome of reporting it
 pub taken_as : (r : Result (Unit {0}) Stop) (w : World) (row : Row) (v2 : KeptWorld) (initial now : List Device) (reports : List Report) (report_before told : Told) → DeclareStep w row w reports → OnOk r (told.text ≡ report_before.text ++ report_text reports) → OnErr r (r ≡ Err Memory) → StaysSeen report_before.saw told.saw
     → IsWorld v2 now w → WorldStands w initial now → ItemsPlayedAs r w (Declares row ∷ []) v2 initial report_before (boards_told now told)
 taken_as (Ok u) w row v2 initial now reports report_before told step is_reported memory stays is stands = declared_played w w row reports v2 initial now report_before told step is is_reported stays stands
@@ -268,7 +268,7 @@ taken_as (Err stop) w row v2 initial now reports report_before told step is_repo
     let same : stop ≡ Memory = err_is stop Memory memory in
     subst (λ (e : Stop). ItemsPlayedAs (Err e) w (Declares row ∷ []) v2 initial report_before (boards_told now told)) (sym same) (begun_none w (Declares row ∷ []) report_before.saw told.saw (λ u left text. WorldStands u initial now) is.few_events stays stands)
 
--- a row was declared that is not taken: nothing is told
+-- a row was declared that is not taken: nothing is reported
 pub declared_step : (o : Option Row) (w : World) (row : Row) → row_at w.declared row.image row.version ≡ o → is_taken o row ≡ false → DeclareStep w row (declared_as o w row) []
 declared_step o w row e free =
     record {
@@ -280,7 +280,7 @@ declared_step o w row e free =
     untold None free = refl
     untold (Some k) free = ap (λ (b : Bool). if b then report.Taken row.image row.version ∷ [] else []) free
 
--- ---- items behind others
+-- ---- items after others
 
 next_more : (left more : List Item) → EventNext left → EventNext (left ++ more)
 next_more left more n = record { step = n.step; reported = n.reported; more = n.more ++ more; is = ap (λ (xs : List Item). xs ++ more) n.is }
@@ -308,7 +308,7 @@ begun_later w u xs ys more whole before F G H P Q a shown b is f =
       there = f b.world b.left b.text b.there;
     }
 
--- one part played behind another
+-- one part played after another
 pub played_join : (w : World) (xs ys : List Item) (k k2 : KeptWorld) (initial mid now : List Device) (t0 t1 t2 : Told) (a : ItemsPlayed w xs k initial mid t0 t1) → ItemsPlayed a.world ys k2 initial now t1 t2 → ItemsPlayed w (xs ++ ys) k2 initial now t0 t2
 played_join w xs ys k k2 initial mid now t0 t1 t2 a b =
     record {

@@ -29,7 +29,7 @@ use Rattle.dg_replay.specs.declared.stop.Stop.TheVariants.{Memory, BadInput, Wri
 use Rattle.dg_replay.proofs.FrontLemmas.{front_begins}
 use Rattle.dg_replay.proofs.GoldenRuns.{all_front}
 
--- ---- a run goes over to a longer script
+-- ---- a run of a script is one of a longer script
 
 none_begun : {A : Type 0} (xs ys : List A) → [] ≡ xs ++ ys → xs ≡ []
 none_begun [] ys e = refl
@@ -134,7 +134,7 @@ module _ (front ahead : List ℕ) (is : IsWholeLines front) (few : length front 
   next_of done [] more line behind e are = absurd (let f : [] ≡ line ∷ behind = e in cc)
   next_of done (l ∷ rest) more line behind e are = front_whole (done ++ l ∷ []) rest (append_assoc done (l ∷ []) rest ∙ are)
 
-  -- so is the one at which a board stopped
+  -- the line at which a board stopped is whole too
   pub next_whole : {table : List Row} (c : Progress table (script_from false first_place 1 (lines front))) (more : List Line) (line : Line) (behind : List Line) → c.rest ≡ line ∷ behind → NextIsWhole (front ++ ahead) c.done (c.rest ++ more)
   next_whole c more line behind e = next_of c.done c.rest more line behind e c.lines
 
@@ -143,7 +143,7 @@ module _ (front ahead : List ℕ) (is : IsWholeLines front) (few : length front 
   done_of done [] more (x ∷ begun) left e are = absurd (let f : [] ≡ x ∷ (begun ++ left) = e in cc)
   done_of done (line ∷ rest) more (x ∷ begun) left e are = front_whole (done ++ line ∷ []) rest (append_assoc done (line ∷ []) rest ∙ are)
 
-  -- and one that was begun
+  -- a line that was begun is whole too
   pub done_whole : {table : List Row} (c : Progress table (script_from false first_place 1 (lines front))) (more : List Line) → DoneIsWhole (front ++ ahead) c.done (c.rest ++ more) c.begun
   done_whole c more = done_of c.done c.rest more c.begun c.left c.parts c.lines
 

@@ -27,7 +27,7 @@ use Rattle.dg_replay.proofs.NearLemmas.{behind_next, behind_none, behind_whole}
 use Rattle.dg_replay.proofs.ReplayLemmas.{reached_first, stopped_at}
 use Rattle.dg_replay.proofs.NextLineLemmas.{reached_next}
 
--- the lines of these bytes, which are so many, were played
+-- the lines of these bytes, this many of them, were played
 pub record PrefixPlayed (front : List ℕ) (given : ℕ) (p : Player) (initial now : List Device) (before after : Option (List ℕ)) (first saw : Saw) : Type 0 where
   pub is : IsWholeLines front
   pub behind : (more : List ℕ) → behind_lines given (front ++ more) ≡ more

@@ -83,7 +83,7 @@ one_more P xs x h k = all_append P xs (x ∷ []) h (k, tt)
 
 -- ---- the events of rounds
 
--- P holds of all events of a round over a link, to and fro
+-- P holds of all events of a round over a link, in both directions
 pub record HoldsOver (P : Event → Type 0) (l : ℕ × ℕ) : Type 0 where
   pub near : P (paced l.0)
   pub far : P (paced l.1)
@@ -127,9 +127,9 @@ quiet_fits motes l h =
       back = record { event = record { first = h.second; second = h.first; two = λ same. h.two (sym same) }; cut = tt };
     }
 
--- ---- lines behind golden
+-- ---- lines after golden
 
--- The boards are formatted, and there are so many motes. A cut that waits is in its range, and so are the links.
+-- The boards are formatted, and there are this many motes. A cut that waits and the links are in their ranges.
 pub record IsKept (motes : ℕ) (place : Place) : Type 0 where
   pub behind : IsBehind place
   pub count : place.motes ≡ motes

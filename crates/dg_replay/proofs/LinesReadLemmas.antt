@@ -58,16 +58,16 @@ lines_first left reader p initial before none unread first place = record {
   played = front_first p initial before place;
 }
 
--- what is played of a text, from a player that stands behind lines
+-- what is played of a text, from a player that stands after lines
 abbrev pub PlaysText : Result (Unit {0}) Stop → (text : List ℕ) → (number : ℕ) → (initial : List Device) → (a b : ReplayState) → (failed : Type 0) → Type 0
 PlaysText r text number initial a b failed = TextKeepsBytes a.player.place text a.boards b.boards
     × ((done : List Line) (w : Option World) (table : List Row) → Stood a.player done w initial a.boards → TextAnswer (based_on table initial) r (line_read text number) (done_so_far done w) a b failed)
 
--- the bytes that came behind the lines
+-- the bytes that came after the lines
 pub joined : (a b c : Option (List ℕ)) (front ahead more : List ℕ) → Takes a b (front ++ ahead) → Takes b c more → Takes a c (front ++ (ahead ++ more))
 joined a b c front ahead more first next = subst (λ (xs : List ℕ). Takes a c xs) (append_assoc front ahead more) (Takes-join a b c (front ++ ahead) more first next)
 
--- and those behind one line more
+-- the bytes that came after one more line
 pub joined_line : (a c : Option (List ℕ)) (front line rest bytes : List ℕ) → bytes ≡ line ++ rest → Takes a c (front ++ bytes) → Takes a c ((front ++ line) ++ rest)
 joined_line a c front line rest bytes parts taken =
     subst (λ (xs : List ℕ). Takes a c xs) (ap (λ (xs : List ℕ). front ++ xs) parts ∙ sym (append_assoc front line rest)) taken
@@ -103,7 +103,7 @@ lines_next a b c old new more number p q initial was now before mid after at_end
     (λ l. absurd (let e : true ≡ false = sym l.2.1 ∙ more_lines in cc))
     g.first.is
 
--- a reader has passed more where it gave a line
+-- a reader has passed more bytes after it gave a line
 pub passes : (bytes : List ℕ) (old new : Reading) (at_end : Type 0) → Gives bytes old new at_end → (old.passed < new.passed) × (new.passed ≤ most_used_bytes)
 passes bytes old new at_end g =
     let long : length bytes ≡ length g.first.line + length new.ahead = ap length g.first.parts ∙ length-append g.first.line new.ahead in
@@ -128,7 +128,7 @@ last_text front text line is l =
     some_of [] some = absurd (some refl)
     some_of (x ∷ xs) some = omega arith
 
--- behind the last line
+-- after the last line
 pub behind_last : (front text line : List ℕ) (given : ℕ) → ((more : List ℕ) → behind_lines given (front ++ more) ≡ more) → IsLastLine text line → behind_lines (given + 1) (front ++ line) ≡ []
 behind_last front text line given behind l = behind_next given (front ++ line) ∙ ap behind_line (behind line) ∙ behind_endless line l.whole
 

@@ -1,4 +1,4 @@
--- What stands behind the lines of bytes.
+-- What comes after the lines of bytes.
 use Rattle.std.proofs.Common.{◌≡◌, ◌≢◌, ℕ, zero, suc, ◌+◌, ◌-◌, ◌≤◌, ◌==◌, Bool, true, false, List, [], ◌∷◌, ◌++◌, length, append_assoc, refl, ap, ◌∙◌, add-one, arith}
 use Rattle.std.specs.Prelude.{if◌then◌else◌}
 use Rattle.std.proofs.lemmas.Bool.{ne_eqb}
@@ -6,7 +6,7 @@ use Rattle.std.proofs.lemmas.List.Elements.{All-head, All-tail}
 use Rattle.dg_script.specs.LineReading.{HasNoEnd, IsLine}
 use Rattle.dg_replay.specs.Near.{behind_line, behind_lines, FewBytesBehind}
 
--- one line more
+-- one more line
 pub behind_next : (n : ℕ) (bytes : List ℕ) → behind_lines (n + 1) bytes ≡ behind_line (behind_lines n bytes)
 unfolding behind_lines
 behind_next n bytes = let e : n + 1 ≡ suc n = add-one n in ap (λ k. behind_lines k bytes) e
@@ -26,12 +26,12 @@ behind_feed (c ∷ before) rest h =
     ap (λ (b : Bool). if b then before ++ 10 ∷ rest else behind_line (before ++ 10 ∷ rest)) (ne_eqb c 10 (All-head (λ x. x ≢ 10) c before h))
     ∙ behind_feed before rest (All-tail (λ x. x ≢ 10) c before h)
 
--- behind a line that ends in LF
+-- after a line that ends in LF
 pub behind_whole : (text line rest : List ℕ) → IsLine text line → behind_line (line ++ rest) ≡ rest
 behind_whole text line rest l =
     ap (λ (xs : List ℕ). behind_line (xs ++ rest)) l.ended ∙ ap behind_line (append_assoc l.before (10 ∷ []) rest) ∙ behind_feed l.before rest l.whole
 
--- behind bytes without LF
+-- after bytes without LF
 pub behind_endless : (bytes : List ℕ) → HasNoEnd bytes → behind_line bytes ≡ []
 unfolding behind_line
 behind_endless [] h = refl

@@ -33,7 +33,7 @@ use Rattle.dg_world.specs.Mounted.{StandFor}
 use Rattle.dg_replay.proofs.ShownLemmas.{IsFirst, begins_first, shows_from}
 use Rattle.dg_replay.proofs.StandLemmas.{few_in, grounded_next}
 
--- an answer that is another one
+-- two results that differ
 pub ok_differs : {A E : Type 0} (r : Result A E) (x : A) (e : E) → r ≡ Ok x → r ≡ Err e → ⊥
 ok_differs r x e is other = absurd (let f : Ok x ≡ Err e = sym is ∙ other in cc)
 
@@ -42,14 +42,14 @@ err_differs r x e is differs other = differs (let f : Err x ≡ Err e = sym is �
 
 -- ---- the script
 
--- the script behind a line that is read
+-- the script after a line that is read
 pub script_line : (ends : Bool) (place : Place) (n : ℕ) (text : List ℕ) (texts : List (List ℕ)) (line : Line) → line_of place text ≡ Ok line
     → script_from ends place n (text ∷ texts)
     ≡ record { lines = line ∷ (script_from ends (place_after place line) (n + 1) texts).lines; fault = (script_from ends (place_after place line) (n + 1) texts).fault }
 unfolding script_from
 script_line ends place n text texts line spelled = ap (λ (o : Result Line LineFault). with_line o (λ l. script_from ends (place_after place l) (n + 1) texts) n) spelled
 
--- and one that ends at a line that is not
+-- the script that ends at a line that is not read
 pub script_fault : (ends : Bool) (place : Place) (n : ℕ) (text : List ℕ) (texts : List (List ℕ)) (fault : LineFault) → line_of place text ≡ Err fault → script_from ends place n (text ∷ texts) ≡ record { lines = []; fault = Some (n, fault) }
 unfolding script_from
 script_fault ends place n text texts fault spelled = ap (λ (o : Result Line LineFault). with_line o (λ l. script_from ends (place_after place l) (n + 1) texts) n) spelled
@@ -85,7 +85,7 @@ lacking_next boards done line none one = lacking_append boards done (line ∷ []
 
 -- ---- events are counted
 
--- a run to a world that has no more than a million has no more
+-- a run to a world with no more than a million events has no more
 few_played : (ground : StartState) (done : List Line) (v : Option World) (ps : List Played) → RunsTo (beginning_of ground done).world ps v → IfSome v (λ u. u.events ≤ most_events) → events_among (map item_played ps) ≤ most_events
 few_played ground done None ps run few = subst (λ (xs : List Played). events_among (map item_played xs) ≤ most_events) (sym (runs_from_none (beginning_of ground done).world ps run).1) (omega arith)
 few_played ground done (Some v) ps run few = subst (λ (k : ℕ). k ≤ most_events) (run_counts ground done ps v run) few
@@ -95,7 +95,7 @@ pub too_many_played : (ground : StartState) (done : List Line) (v : Option World
 too_many_played ground done None ps left run full = absurd full
 too_many_played ground done (Some v) ps left run full = record { events = sym (run_counts ground done ps v run) ∙ full.full; next = full.next }
 
--- ---- a run goes on
+-- ---- a run continues
 
 -- a run to a world, and items that run from there
 pub record Over (o : Option World) (ps : List Played) (items : List Item) (v : Option World) (t : List ℕ) (before after : Saw) : Type 0 where
@@ -128,18 +128,18 @@ over {G = G} {H = H} (Some w0) (Some w) ps items v t begins (u, is, plays) (z, a
       shown = shows_from G H (Some w0) ps runs.played w begins (u, is, plays) shown;
     }
 
--- where nothing is played, nothing is told
+-- if nothing is played, nothing is reported
 none_told : (ps : List Played) → map item_played ps ≡ [] → played_text ps ≡ []
 none_told [] e = refl
 none_told (p ∷ ps) e = cc
 
--- what is reported of items is reported of some
+-- if something is reported of items, there are some
 pub begun_some : {G H : Saw} (o v : Option World) (ps : List Played) (begun : List Item) (t : List ℕ) → Over o ps begun v t G H → t ≢ [] → begun ≢ []
 begun_some o v ps begun t x some none = some (x.reported ∙ none_told x.now (x.are ∙ none))
 
 -- ---- the next line
 
--- the lines behind one more line
+-- the lines after one more line
 pub next_lines : (ends : Bool) (script : Script) (texts : List (List ℕ)) (text : List ℕ) (n : ℕ) (place : Place) (done : List Line) (line : Line) → line_of place text ≡ Ok line → done ++ (script_from ends place n (text ∷ texts)).lines ≡ script.lines
     → done ++ line ∷ (script_from ends (place_after place line) (n + 1) texts).lines ≡ script.lines
 next_lines ends script texts text n place done line spelled lines = ap (λ (x : Script). done ++ x.lines) (sym (script_line ends place n text texts line spelled)) ∙ lines
@@ -190,7 +190,7 @@ reached_next ends script texts text n p q initial old now before mid after r kep
 
 -- ---- what was written
 
--- more was told, and a front of it was written
+-- more is reported, and a prefix of it was written
 pub front_put : {table : List Row} (script : Script) {P : Progress table script → List ℕ → Type 0} (initial : List Device) (before mid after : Option (List ℕ)) (ps : List Played) (t : List ℕ) (came : Progress table script) → Puts before mid (played_text ps) → played_text came.played ≡ played_text ps ++ t
     → PutsPrefix mid after t → InBounds (length initial) came.done (map item_played came.played) → (UsesBoards came.done → StandFor (motes_in came.done) came.ground.stores initial) → ((k : ℕ) → P came (played_text ps ++ take k t)) → PlayedPrefix table script initial before after P
 front_put script initial before mid after ps t came told tells put limits stood there =
@@ -206,7 +206,7 @@ front_put script initial before mid after ps t came told tells put limits stood 
       there = there k;
     }
 
--- what is reported of the lines that were done before is what was told then
+-- what is reported of the lines that were done before is what was reported before
 pub told_front : (done all : List Line) (ps behind : List Played) → take (length done) all ≡ done → map item_played ps ≡ items_of done → played_text (take (length (items_of (take (length done) all))) (ps ++ behind)) ≡ played_text ps
 told_front done all ps behind front items =
     let count : length ps ≡ length (items_of done) = sym (length-map ps item_played) ∙ ap length items in
@@ -227,7 +227,7 @@ all_put before mid after ps qs t told tells put = subst (λ (xs : List ℕ). Put
 
 -- ---- how far a replay came
 
--- It began no line behind those that were done.
+-- It began no line after those that were done.
 abbrev pub at_line : {table : List Row} {S G : Saw} (ends : Bool) (script : Script) (texts : List (List ℕ)) (n : ℕ) (p : Player) (initial now : List Device) (before mid : Option (List ℕ)) → Reached table ends script texts n p (span initial now before mid S G) → Progress table script
 at_line ends script texts n p initial now before mid r =
     record {

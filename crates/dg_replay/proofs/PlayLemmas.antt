@@ -18,7 +18,7 @@ use Rattle.dg_replay.specs.declared.player.Player.{Player}
 pub false_not : {A : Type 0} (b : Bool) → b ≡ true → b ≡ false → A
 false_not b holds fails = absurd (let e : true ≡ false = sym holds ∙ fails in cc)
 
--- what is not played does not come
+-- a line that is not played does not occur
 pub unplayed : {A : Type 0} → false ≡ true → A
 unplayed e = absurd (let f : false ≡ true = e in cc)
 
@@ -77,7 +77,7 @@ pub no_world : (p : Player) (w : Option World) (now : List Device) → p.place.r
 no_world p None now before kept = refl
 no_world p (Some w) now before k = false_not p.place.ready k.2 before
 
--- a player that keeps the same world, where there are as many motes
+-- a player that keeps the same world, with the same number of motes
 pub in_world_as : (p q : Player) (w : Option World) (now : List Device) → q.world ≡ p.world → q.place.motes ≡ p.place.motes → q.place.ready ≡ p.place.ready → InWorld p w now → InWorld q w now
 in_world_as p q None now world motes ready k = ready ∙ k
 in_world_as p q (Some w) now world motes ready k = (subst (λ (v : KeptWorld). IsWorld v now w) (sym world) k.0, k.1 ∙ sym motes, ready ∙ k.2, subst (λ (n : ℕ). 0 < n) (sym motes) k.3)

@@ -92,7 +92,7 @@ memory_begun {H = H} ends script texts text n p initial old now before mid after
       ),
     ))
 
--- all that was told before a line that was played was written
+-- all that was reported before a line that was played was written
 told_line : {table : List Row} {S G H : Saw} (ends : Bool) (script : Script) (texts : List (List ℕ)) (text : List ℕ) (n : ℕ) (p q : Player) (initial old now : List Device) (before mid after : Option (List ℕ))
     → (r : Reached table ends script (text ∷ texts) n p (span initial old before mid S G)) → (t : TextPlayed (based_on table initial) text (done_so_far r.done r.last) (replay_state p old mid G) (replay_state q now after H)) → (on : RunsOn table initial r.done t.line t.to.world t.to.text r.played) → (told : List ℕ) (k : ℕ) → told ≡ t.to.text
     → ReportedBefore n (behind_line ends script texts text n p q initial old now before mid after r t on) (played_text r.played ++ take k told)
@@ -140,7 +140,7 @@ cut_told ends script texts text n p q initial old now before mid after r kept t 
       ),
     ))
 
--- all that was told before a line that was begun was written
+-- all that was reported before a line that was begun was written
 told_begun : {table : List Row} {S G H : Saw} {P : Option World → List Item → List ℕ → Type 0} (ends : Bool) (script : Script) (texts : List (List ℕ)) (text : List ℕ) (n : ℕ) (p : Player) (initial old : List Device) (before mid : Option (List ℕ)) (line : Line)
     → (r : Reached table ends script (text ∷ texts) n p (span initial old before mid S G)) → (spelled : line_of p.place text ≡ Ok line) → (b : LineBegun r.done line r.last G H P) → (o : Over (beginning_of r.ground r.done).world r.played b.begun b.world b.text G H) → (within : b.left ≡ [] → b.begun ≡ []) → (k : ℕ)
     → ReportedBefore n (in_line ends script texts text n p initial old before mid line r spelled b o within) (played_text r.played ++ take k b.text)
@@ -152,7 +152,7 @@ told_begun ends script texts text n p initial old before mid line r spelled b o 
   reported = ap (λ (xs : List ℕ). xs ++ take k b.text) (sym (told_front r.done r.done r.played o.now (take_all (length r.done) r.done (omega arith)) r.items));
 }
 
--- a line was begun, and so
+-- a line was begun, and what is reported of it was not all written
 cut_begun : {table : List Row} {S G H : Saw} (ends : Bool) (script : Script) (texts : List (List ℕ)) (text : List ℕ) (n : ℕ) (p : Player) (initial old now : List Device) (before mid after : Option (List ℕ)) (line : Line) (r : Reached table ends script (text ∷ texts) n p (span initial old before mid S G))
     → TextKeepsBytes p.place text old now → line_of p.place text ≡ Ok line → (b : LineBegun r.done line r.last G H (λ v left t. CutAtStop r.done line v left t (span initial now mid after G H) ⊎ (CutAtTooMany v left t (span initial now mid after G H) ⊎ CutAtImage v left t (span initial now mid after G H))))
     → CutAtStop r.done line b.world b.left b.text (span initial now mid after G H) ⊎ (CutAtTooMany b.world b.left b.text (span initial now mid after G H) ⊎ CutAtImage b.world b.left b.text (span initial now mid after G H))
@@ -190,7 +190,7 @@ cut_begun ends script texts text n p initial old now before mid after line r kep
       (kept_begun ends script texts text n p initial old now before mid line r kept spelled b o within, λ f. o.shown (r.seen f)),
     ))
 
--- all that was told before a line that was begun was told, whatever follows all that is reported of that
+-- all that is reported before a line that was begun was written, whatever follows the report of that line
 image_told : {table : List Row} {S G H : Saw} {P : Option World → List Item → List ℕ → Type 0} (ends : Bool) (script : Script) (texts : List (List ℕ)) (text : List ℕ) (n : ℕ) (p : Player) (initial old : List Device) (before mid : Option (List ℕ)) (line : Line)
     → (r : Reached table ends script (text ∷ texts) n p (span initial old before mid S G)) → (spelled : line_of p.place text ≡ Ok line) → (b : LineBegun r.done line r.last G H P) → (o : Over (beginning_of r.ground r.done).world r.played b.begun b.world b.text G H) → (within : b.left ≡ [] → b.begun ≡ []) → (more : List ℕ)
     → ReportedBefore n (in_line ends script texts text n p initial old before mid line r spelled b o within) (played_text (r.played ++ o.now) ++ more)
@@ -264,7 +264,7 @@ many_begun {G = G} {H = H} ends script texts text n p initial old now before mid
       );
     }
 
--- nothing was done behind the lines that were done
+-- nothing was done after the lines that were done
 nothing_more : {table : List Row} {S G H : Saw} (ends : Bool) (script : Script) (texts : List (List ℕ)) (n : ℕ) (p q : Player) (initial old now : List Device) (before mid after : Option (List ℕ))
     → Reached table ends script texts n p (span initial old before mid S G) → NothingDone (replay_state p old mid G) (replay_state q now after H) → PlayedPrefix table script initial before after (λ c text. BoardsStand c.last initial now × IsLeft (span initial now before after S H) c)
 nothing_more ends script texts n p q initial old now before mid after r none =
@@ -284,7 +284,7 @@ at_line_put ends script texts n p initial old before mid after r none there =
       there = there;
     }
 
--- a script all of whose lines were done
+-- a script whose lines were all done
 pub all_done : {table : List Row} {S G : Saw} (ends : Bool) (script : Script) (texts : List (List ℕ)) (n : ℕ) (p : Player) (initial now : List Device) (before mid : Option (List ℕ)) → (r : Reached table ends script texts n p (span initial now before mid S G))
     → (script_from ends p.place n texts).lines ≡ [] → HasFew script initial
 all_done ends script texts n p initial now before mid r none =
@@ -302,7 +302,7 @@ image_uses : {table : List Row} {S G H : Saw} {ends : Bool} {script : Script} {t
 image_uses r found line spelled begun left parts world told runs lacks =
     ⊎_elim (λ uses. uses) (λ alone. absurd (found alone (record { line = line; spelled = spelled; there = record { begun = begun; left = left; parts = parts; world = world; text = told; runs = runs; there = lacks } }))) (uses_or (list_any is_boards r.done))
 
--- a stop at a line, behind the lines that were done
+-- a stop at a line, after the lines that were done
 pub stopped_at : {table : List Row} {S G H : Saw} (stop : Stop) (ends : Bool) (script : Script) (texts : List (List ℕ)) (text : List ℕ) (n : ℕ) (p q : Player) (initial old now : List Device) (before mid after : Option (List ℕ)) (failed worse : Type 0) → (failed → worse)
     → (r : Reached table ends script (text ∷ texts) n p (span initial old before mid S G)) → ((UsesBoards r.done → ⊥) → TextRead text p (λ line. LineBegun r.done line r.last G H (λ v left t. InSome v (λ u. LacksImage u left initial now))) → ⊥)
     → TextKeepsBytes p.place text old now → TextAnswer (based_on table initial) (Err stop) (line_read text n) (done_so_far r.done r.last) (replay_state p old mid G) (replay_state q now after H) failed → StopsThere table stop script n (span initial now before after S H) worse

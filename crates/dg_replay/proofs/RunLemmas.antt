@@ -164,7 +164,7 @@ abbrev pub memory_unread : {table : List Row} (bytes : List ℕ) (lb la wb : Opt
 memory_unread bytes lb la wb rb ra k old taken few reads =
     record { input = bytes; taken = taken; few_bytes = few; came = none_played (script_of bytes); text = []; written = Puts-nil wb; report = record { more = []; front = refl }; read = inr (none_whole bytes); near = tt; limits = none_bound (length old); stood = λ uses. absurd (cc); boards = refl; untouched = λ none m away. refl; caused = tt; read_faults = λ other. reads; write_faults = λ other. refl }
 
--- the status of an ending that is the script's
+-- the status of the script's ending
 by_status : {table : List Row} (s : Status) (input : List ℕ) (at_end : Type 0) (c : Progress table (script_of input)) (text : List ℕ) (r w b v i uses : Type 0) (n : ℕ) → RestsOnTaken s n (bytes_taken input at_end) c text → IsCaused s (ending_of n input) r w b v i → (r → ⊥) → (w → ⊥)
     → (b → at_end ⊎ NextIsWhole input c.done c.rest → ⊥) → (v → at_end ⊎ NextIsWhole input c.done c.rest → ⊥) → (i → at_end ⊎ NextIsWhole input c.done c.rest → uses) → (at_end ⊎ IsSettled n input → ending_of n input ≡ Ends) → IsComplete uses s
 by_status Memory input at_end c text r w b v i uses n enough caused reads writes stops none lacks ends = inr (inl refl)
@@ -182,7 +182,7 @@ by_status TooLong input at_end c text r w b v i uses n enough caused reads write
 by_status TooMany input at_end c text r w b v i uses n enough caused reads writes stops none lacks ends = inl (caused ∙ ap status_of (ends enough))
 by_status NoBoard input at_end c text r w b v i uses n enough caused reads writes stops none lacks ends = inl (caused ∙ ap status_of (ends enough))
 
--- A script in its limits, whose bytes are told, was replayed to its end, unless memory ran out or the outside failed.
+-- A script in its limits, whose bytes the source exposes, was replayed to its end, unless memory ran out or the outside failed.
 told_end : (bytes input : List ℕ) (la : Option (List ℕ)) (n : ℕ) → Takes (Some bytes) la input → InLimits n bytes → AtEnd la ⊎ IsSettled n input → ending_of n input ≡ Ends
 told_end bytes input la n taken limits (inl at_end) = subst (λ (xs : List ℕ). ending_of n xs ≡ Ends) (Takes-all bytes input la taken at_end) (in_limits n bytes limits)
 told_end bytes input la n taken limits (inr settled) =
@@ -241,7 +241,7 @@ told_boards bytes input la done (line ∷ rest) more taken front next (inr whole
     first_is : (x y : Line) (xs ys : List Line) → x ∷ xs ≡ y ∷ ys → x ≡ y
     first_is x y xs ys e = cc
 
--- the board that is no volume is one of the script's
+-- the board that is not a volume is one of the script's
 told_known : (bytes input : List ℕ) (la : Option (List ℕ)) (done rest : List Line) (board : ℕ) → Takes (Some bytes) la input → done ++ rest ≡ (script_of input).lines → board < motes_in done → AtEnd la ⊎ NextIsWhole input done rest → board < motes_in (script_of bytes).lines
 told_known bytes input la done rest board taken front known (inl at_end) =
     subst (λ (xs : List ℕ). board < motes_in (script_of xs).lines) (sym (Takes-all bytes input la taken at_end)) (known_in_script input done rest board front known)
@@ -252,7 +252,7 @@ told_known bytes input la done (line ∷ rest) board taken front known (inr whol
     subst (λ (xs : List ℕ). board < motes_in (script_of xs).lines) (sym told.1)
     (known_in_script (input ++ told.0) done (line ∷ more.0) board (sym (append_assoc done (line ∷ []) more.0) ∙ more.1) known)
 
--- The boards of a script's motes are volumes, where it uses them as they are.
+-- The boards of a script's motes are volumes, if it uses them as they are.
 completed : {table : List Row} (s : Status) (bytes : List ℕ) (a b : Around) → IsUnfailed bytes a b → (UsesBoards (script_of bytes).lines → AreVolumes (motes_in (script_of bytes).lines) a.boards)
     → Replayed table s a b → IsComplete (UsesBoards (script_of bytes).lines) s
 completed s bytes a b all volumes x =
@@ -266,7 +266,7 @@ completed s bytes a b all volumes x =
     (λ i enough. told_uses bytes x.input b.left x.came.done x.came.rest taken x.came.lines i.0 enough)
     (λ enough. told_end bytes x.input b.left (length old) taken all.limits enough)
 
--- without boards as they are no start lacks an image
+-- if the boards are not used as they are, no start lacks an image
 completed_golden : (uses : Type 0) (s : Status) → (uses → ⊥) → IsComplete uses s → (s ≡ Done) ⊎ (s ≡ Memory)
 completed_golden uses s alone (inl done) = inl done
 completed_golden uses s alone (inr (inl memory)) = inr memory
@@ -278,7 +278,7 @@ replays_all s a b x = record {
   boards = λ bytes all volumes. completed s bytes a b all (λ uses. volumes) x;
 }
 
--- what a replay comes to
+-- statuses that a replay never has
 abbrev pub IsNever : Status → Type 0
 IsNever s = (s ≢ Usage) × (s ≢ Refused) × (s ≢ LinkFault)
 
@@ -287,7 +287,7 @@ replayed_never s a b x =
     let P : Status → Type 0 = λ t. Wrote t (ending_of (length a.boards) x.input) x.came x.text in
     (λ is. subst P is x.report, λ is. subst P is x.report, λ is. subst P is x.report)
 
--- a script with golden has volumes, and golden starts where nothing else does
+-- a script with golden has volumes, and golden starts if nothing else does
 golden_never : {table : List Row} (s : Status) (a b : Around) → (x : Replayed table s a b) → (UsesBoards (script_of x.input).lines → ⊥) → (s ≢ NotAVolume) × (s ≢ NoImage)
 golden_never s a b x alone =
     let P : Status → Type 0 = λ t. BoardsLeft t x.came a.boards b.boards in

@@ -1,4 +1,4 @@
--- What a watcher saw where a replay came to.
+-- What a watcher saw, at the point to which a replay came.
 use Rattle.std.proofs.Common.{◌≡◌, ℕ, Bool, List, [], refl, sym, subst}
 use Rattle.std.specs.Prelude.{Option}
 use Rattle.dg_base.specs.declared.answers.Status.{Status}

@@ -39,7 +39,7 @@ events_counted (p ∷ ps) =
     let one : length (cond (is_event p.item) (p ∷ events_played ps) (events_played ps)) ≡ cond (is_event p.item) 1 0 + length (events_played ps) = one_event (is_event p.item) p (events_played ps) in
     omega (arith, sum, count_item p.item, events_counted ps, one)
 
--- none where all was declared
+-- no events if only declarations were played
 pub declared_none : (ps : List Played) → AllByRecursion IsDeclaration (map item_played ps) → events_played ps ≡ []
 declared_none [] all = refl
 declared_none (p ∷ ps) all = by_item p.item p ps all.0 (declared_none ps all.1)
@@ -150,13 +150,13 @@ shows_join F G H w u xs ys first run next = λ stores events lead f.
     subst (λ (es : List Played). H stores es) (append_assoc events (events_played xs) (events_played ys) ∙ ap (λ (es : List Played). events ++ es) (sym (events_played-append xs ys)))
     (next stores (events ++ events_played xs) (lead_on stores events w u xs lead run) (first stores events lead f))
 
--- what is shown before a world is there
+-- what is shown before there is a world
 pub shows_nothing : (F G : Saw) (o : Option World) (ps : List Played) → RunsTo o ps None → (F [] [] → G [] []) → F (stores_in o) (events_played ps) → G [] []
 shows_nothing F G o ps r on f =
     let e = runs_from_none o ps r in
     on (subst (λ (es : List Played). F [] es) (ap events_played e.1) (subst (λ (x : Option World). F (stores_in x) (events_played ps)) e.0 f))
 
--- a run goes on
+-- a run continues
 pub shows_from : (F G : Saw) (o : Option World) (ps qs : List Played) (w : World) → IfSome o IsFirst → RunsTo o ps (Some w) → Shows F G w qs → F (stores_in o) (events_played ps) → G (stores_in o) (events_played (ps ++ qs))
 shows_from F G o ps qs w first run shown f =
     subst (λ (es : List Played). G (stores_in o) es) (sym (events_played-append ps qs)) (shown (stores_in o) (events_played ps) (lead_from o ps w first run) f)

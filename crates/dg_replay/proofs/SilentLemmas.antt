@@ -1,4 +1,4 @@
--- What is known of a replay behind the lines that have no item.
+-- What is known of a replay after the lines that have no item.
 use Rattle.std.proofs.Common.{⊎_elim, ◌≡◌, ℕ, ◌<◌, ◌≤◌, Bool, true, false, if◌then◌else◌, List, [], ◌∷◌, length, replicate, refl, append-nil, ap, sym, ◌∙◌, subst, arith, eqb-true}
 use Rattle.std.specs.Prelude.{Option, Some, None, Result, Ok, Err, OnOk, OnErr, nat_lt, slice_get, slice_index_or}
 use Rattle.std.proofs.lemmas.Option.{slice_get_cases}
@@ -48,7 +48,7 @@ use Rattle.dg_replay.proofs.StandLemmas.{joined_next, stood_next, grounded_next,
 pub memory_line : (table : List Row) (p q : Player) (done : List Line) (w : Option World) (line : Line) (report_before told : Told) (initial now : List Device) → StaysSeen report_before.saw told.saw → Stood p done w initial now → PlayedAs (based_on table initial) (Err Memory) q (done_so_far done w) line (boards_told now report_before) (boards_told now told)
 memory_line table p q done w line report_before told initial now stays s = none_begun p done line w now s.world stays s.boards
 
--- of a line that was not played to its end nothing is said of the player
+-- after a line that was not played to its end, nothing is said of the player
 pub stop_as : (table : List Row) (stop : Stop) (p q : Player) (done : List Line) (w : Option World) (line : Line) (report_before told : Told) (initial old now : List Device)
     → PlayedAs (based_on table initial) (Err stop) p (done_so_far done w) line (boards_told old report_before) (boards_told now told) → PlayedAs (based_on table initial) (Err stop) q (done_so_far done w) line (boards_told old report_before) (boards_told now told)
 stop_as table Memory p q done w line report_before told initial old now x = x
@@ -321,7 +321,7 @@ boards_stopped table p q done None motes board before told initial old new unrea
     } in
     (tt, none_begun p done Boards None old s.world stays (stop, same_text ∙ sym (append-nil before.text)))
 
--- a board is no volume
+-- a board is not a volume
 pub boards_refused : (table : List Row) (p q : Player) (done : List Line) (w : Option World) (motes board : ℕ) (before told : Told) (initial old new : List Device) → p.place.ready ≡ false → motes ≡ p.place.motes
     → SameBoards old new → NoVolumeAt board motes old new → NoneRose old new → StaysSeen before.saw told.saw → Stood p done w initial old → PlayedAs (based_on table initial) (Err NotAVolume) q (done_so_far done w) Boards (boards_told old before) (boards_told new told)
 boards_refused table p q done (Some w) motes board before told initial old new unready count same lacking calm stays s = false_not p.place.ready s.world.2 unready

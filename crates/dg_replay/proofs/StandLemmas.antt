@@ -1,4 +1,4 @@
--- What one more line makes of where a replay stands, and of its run.
+-- How one more line changes where a replay stands, and its run.
 use Rattle.std.proofs.Common.{◌≡◌, ℕ, ◌≤◌, Bool, true, false, ◌||◌, List, [], ◌∷◌, ◌++◌, length, map, refl, append-nil, ap, sym, ◌∙◌, subst, arith, eqb-true, inl, inr}
 use Rattle.std.specs.Prelude.{Option, Some, None, option_map, IfSome, replicate}
 use Rattle.std.specs.List.{AllByRecursion}
@@ -35,7 +35,7 @@ use Rattle.dg_replay.proofs.ShownLemmas.{declared_none, first_stores, begins_fir
 
 -- ---- where a replay stands
 
--- how many motes there are behind a line
+-- how many motes there are after a line
 motes_next : (g : StartState) (place : Place) (b : Beginning) (line : Line) → place.motes ≡ b.motes → (place_after place line).motes ≡ (begin_by g b line).motes
 motes_next g place b Nothing e = e
 motes_next g place b (Motes n) e = refl
@@ -90,7 +90,7 @@ joined_next place (EventLine event) stands fits all = all
 joined_next place (Round a b) stands fits all = all
 joined_next place (Sweeps n) stands fits all = all
 
--- the player and the boards behind one more line
+-- the player and the boards after one more line
 pub stood_next : (p q : Player) (done : List Line) (line : Line) (w v : Option World) (initial old now : List Device) → Joined (place_after p.place line) → Stood p done w initial old
     → q.place ≡ place_after p.place line → Seated q.place (length now) → IfSome (place_after p.place line).cut FitsCut → InWorld q v now → BoardsStand v initial now → Stood q (done ++ line ∷ []) v initial now
 stood_next p q done line w v initial old now links s place seats cut_fits world boards =
@@ -128,7 +128,7 @@ uses_next (l ∷ done) line plain uses = by_first (is_boards l) uses (uses_next 
     by_first true e f = refl
     by_first false e f = f e
 
--- the ground behind a line that neither says how many motes there are nor uses boards as they are
+-- the start state after a line that neither says how many motes there are nor uses boards as they are
 pub grounded_next : {table : List Row} {initial : List Device} (g : StartState) (done : List Line) (line : Line) → is_boards line ≡ false → ((b : Beginning) → (begin_by no_start_state b line).motes ≡ b.motes) → Grounded table initial g done → Grounded table initial g (done ++ line ∷ [])
 grounded_next {table} {initial} g done line plain same h = λ uses.
     let e : motes_in (done ++ line ∷ []) ≡ motes_in done = ap (λ (b : Beginning). b.motes) (begin_next no_start_state no_beginning done line) ∙ same (beginning_of no_start_state done) in
@@ -171,7 +171,7 @@ run_none : (o : Option World) (played : List Played) (u : World) → o ≡ Some 
 run_none None played u e r = cc
 run_none (Some w) played u e r = let f : None ≡ Some r.0 = r.1 in cc
 
--- where no world is there yet, no boards are used as they are
+-- before there is a world, no boards are used as they are
 pub grounded_motes : {table : List Row} {initial : List Device} (g : StartState) (done : List Line) (n : ℕ) (played : List Played) → RunsTo (beginning_of g done).world played None → Grounded table initial g (done ++ Motes n ∷ [])
 grounded_motes g done n played r = λ uses.
     let some = uses_some g no_beginning done (uses_next done (Motes n) refl uses) in absurd (run_none (beginning_of g done).world played some.0 some.1 r)
@@ -240,7 +240,7 @@ golden_runs {F = F} {G = G} done name used content motes is placed = λ g played
           (first_stores (golden_row name content ∷ []) [] none_narrow (replicate motes (fresh name content used))) placed f;
     }
 
--- the boards are used as they are, and held against any table
+-- the boards are used as they are, and checked against any table
 pub boards_runs : {initial : List Device} {F G : Saw} (done : List Line) (table : List Row) (stores : List Store) → StandFor (motes_in done) stores initial → AreShaped stores → (F [] [] → G stores []) → LineRuns table initial done Boards None (Some (first_world table [] none_narrow stores)) (line_told [] F G)
 boards_runs {initial} {F} {G} done table stores stand shaped placed = λ g played before items r.
     let ground : StartState = record { stores = stores; table = table } in
@@ -265,7 +265,7 @@ boards_runs {initial} {F} {G} done table stores stand shaped placed = λ g playe
 
 -- ---- links and narrow motes
 
--- What may be said of a world before its first event: declarations look at it no more than it looks at them.
+-- What a line may set in a world before its first event: declarations do not depend on it, and it does not depend on them.
 record Sets (f : World → World) : Type 0 where
   declared : (w : World) → (f w).declared ≡ w.declared
   sites : (w : World) → (f w).sites ≡ w.sites
@@ -285,7 +285,7 @@ narrow_sets m = record { declared = λ w. refl; sites = λ w. refl; rows = by_ro
     by_row None w row = refl
     by_row (Some k) w row = refl
 
--- what was played, in worlds of which that is said too
+-- what was played, in worlds in which that is set too
 abbrev set_in : (World → World) → Played → Played
 set_in f p = record p { before = f p.before; after = f p.after }
 
@@ -330,7 +330,7 @@ seen_set f s F G o v ps all is stays seen =
     (subst (λ (ss : List Store). G ss (events_played (map (set_in f) ps))) (sym (stores_set f s o))
     (subst (λ (es : List Played). G (stores_in o) es) (sym (events_set f ps all)) (stays (stores_in o) (events_played ps) seen)))
 
--- behind such a line, the same was played from a world of which it says that
+-- after such a line, the same was played from a world in which it is set
 set_runs : {table : List Row} {initial : List Device} {F G : Saw} (f : World → World) → Sets f → (done : List Line) (line : Line) (w : World) → AllByRecursion IsDeclaration (items_of done) → item_by (place_behind first_place done) line ≡ []
     → ((g : StartState) (b : Beginning) → (begin_by g b line).world ≡ option_map f b.world) → is_boards line ≡ false → ((b : Beginning) → (begin_by no_start_state b line).motes ≡ b.motes) → StaysSeen F G → LineRuns table initial done line (Some w) (Some (f w)) (line_told [] F G)
 set_runs {F = F} {G = G} f s done line w all none begins plain counts stays = λ g played before items r.

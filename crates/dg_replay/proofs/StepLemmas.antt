@@ -1,4 +1,4 @@
--- What playing one item, and one after the other, answers.
+-- The results of playing one item, and items one after another.
 use Rattle.std.proofs.Common.{◌≡◌, ℕ, zero, suc, ◌+◌, ◌-◌, ◌<◌, ◌≤◌, false, List, [], ◌∷◌, ◌++◌, length, replicate, get_or, take, drop, refl, append-nil, append_assoc, ap, sym, ◌∙◌, subst, arith}
 use Rattle.std.proofs.lemmas.List.{map-append}
 use Rattle.std.specs.List.{AllByRecursion}
@@ -21,7 +21,7 @@ use Rattle.dg_replay.proofs.ItemStepLemmas.{played_none, played_join, stopped_la
 
 -- ---- what a loop over items keeps
 
--- So many items were played, from a kept world and boards to these.
+-- These items were played, from a kept world and boards to these.
 pub record PlayedSoFar (items : List Item) (first kept : KeptWorld) (old now : List Device) (report_before told : Told) : Type 0 where
   pub goes : (w : World) → IsWorld first old w → (v : World) × IsWorld kept now v × (length v.sites ≡ length w.sites)
   pub played : (w : World) (initial : List Device) → IsWorld first old w → WorldStands w initial old → ItemsPlayed w items kept initial now report_before told
@@ -55,7 +55,7 @@ pub unreported_join : (xs ys more all : List Event) → xs ++ (ys ++ more) ≡ a
 unreported_join xs ys more all e =
     ap unreported (sym e) ∙ unreported-append xs (ys ++ more) ∙ ap (λ (zs : List Item). unreported xs ++ zs) (unreported-append ys more)
 
--- of the one behind others
+-- of the one after others
 all_at : {A : Type 0} (P : A → Type 0) (xs : List A) (y : A) (ys all : List A) → xs ++ y ∷ ys ≡ all → AllByRecursion P all → P y
 all_at {A = A} P xs y ys all e h = behind xs (subst (λ (zs : List A). AllByRecursion P zs) (sym e) h)
   where
@@ -176,7 +176,7 @@ pub so_far_one : (xs : List Item) (first kept : KeptWorld) (old now : List Devic
     → PlayedSoFar xs first kept old now report_before told
 so_far_one xs first kept old now report_before told goes played = record { goes = goes; played = played }
 
--- a call behind others
+-- a call after others
 pub so_far_then : (xs ys : List Event) (first k k2 : KeptWorld) (old mid now : List Device) (t0 t1 t2 : Told) → PlayedSoFar (unreported xs) first k old mid t0 t1
     → ((w : World) → IsWorld k mid w → (v : World) × IsWorld k2 now v × (length v.sites ≡ length w.sites))
     → ((w : World) (initial : List Device) → IsWorld k mid w → WorldStands w initial mid → ItemsPlayed w (unreported ys) k2 initial now t1 t2)
@@ -184,7 +184,7 @@ pub so_far_then : (xs ys : List Event) (first k k2 : KeptWorld) (old mid now : L
 so_far_then xs ys first k k2 old mid now t0 t1 t2 s goes played =
     subst (λ (zs : List Item). PlayedSoFar zs first k2 old now t0 t2) (sym (unreported-append xs ys)) (so_far_more (unreported xs) (unreported ys) first k k2 old mid now t0 t1 t2 s goes played)
 
--- a call behind others at which the replay stops
+-- a call after others at which the replay stops
 pub so_far_stop : (stop : Stop) (xs ys more all : List Event) (first k k2 : KeptWorld) (old mid now : List Device) (t0 t1 t2 : Told) → PlayedSoFar (unreported xs) first k old mid t0 t1
     → ((w : World) (initial : List Device) → IsWorld k mid w → WorldStands w initial mid → ItemsPlayedAs (Err stop) w (unreported ys) k2 initial t1 (boards_told now t2)) → xs ++ (ys ++ more) ≡ all
     → (w : World) (initial : List Device) → IsWorld first old w → WorldStands w initial old → ItemsPlayedAs (Err stop) w (unreported all) k2 initial t0 (boards_told now t2)
@@ -206,7 +206,7 @@ sweep_first : (l : ℕ × ℕ) (links : List (ℕ × ℕ)) → sweep (l ∷ link
 unfolding sweep
 sweep_first l links = sym (append_assoc (round l.0 l.1) (round l.1 l.0) _)
 
--- the rounds over the link at a place, and those before and behind
+-- the rounds over the link at a place, and those before it and after it
 pub sweep_at : (links : List (ℕ × ℕ)) (i : ℕ) (d : ℕ × ℕ) → i < length links → sweep (take i links) ++ (both (get_or links i d) ++ sweep (drop (i + 1) links)) ≡ sweep links
 sweep_at [] i d h = absurd (omega arith)
 sweep_at (l ∷ links) zero d h = ap (λ (zs : List Event). zs ++ (both l ++ sweep links)) sweep_nil ∙ sym (sweep_first l links)

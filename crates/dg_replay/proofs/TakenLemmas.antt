@@ -1,4 +1,4 @@
--- What the bytes that were taken tell of an input that goes on behind them.
+-- What the bytes that were taken say of an input that continues after them.
 use Rattle.std.proofs.Common.{◌≡◌, ℕ, ◌<◌, Bool, true, List, [], ◌∷◌, ◌++◌, length, take, length-append, append_assoc, refl, ap, sym, ◌∙◌, subst, arith}
 use Rattle.std.specs.Prelude.{None, if◌then◌else◌, not}
 use Rattle.std.specs.Str.Lines.{lines}
@@ -100,14 +100,14 @@ counted_once (EventLine event ∷ done) rest h some = none_yet (event_at first_p
 counted_once (Round x y ∷ done) rest h some = none_yet (later_at first_place h.0.fits).1
 counted_once (Sweeps n ∷ done) rest h some = none_yet (later_at first_place h.0.fits).1
 
--- a board behind the first lines of a script is one that the script uses
+-- a board after the first lines of a script is one that the script uses
 pub known_in_script : (input : List ℕ) (done rest : List Line) (board : ℕ) → done ++ rest ≡ (script_of input).lines → board < motes_in done → board < motes_in (script_of input).lines
 known_in_script input done rest board lines known =
     let some : 0 < motes_in done = omega (arith, known) in
     let same : motes_in (done ++ rest) ≡ motes_in done = counted_once done rest (subst (LinesFit first_place) (sym lines) (script_of_fits input)) some in
     subst (λ (n : ℕ). board < n) (sym same ∙ ap motes_in lines) known
 
--- a board that stopped behind the first lines of a script is one that the script uses
+-- a board that stopped after the first lines of a script is one that the script uses
 pub stopped_of_script : (input : List ℕ) (done rest : List Line) (old new : List Device) → done ++ rest ≡ (script_of input).lines → BoardStopped (motes_in done) old new → BoardStopped (motes_in (script_of input).lines) old new
 stopped_of_script input done rest old new lines s =
     let some : 0 < motes_in done = omega (arith, s.known) in

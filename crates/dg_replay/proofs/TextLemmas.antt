@@ -1,4 +1,4 @@
--- What comes of one text of a script.
+-- The outcome of one text of a script.
 use Rattle.std.proofs.Common.{◌≡◌, ◌≢◌, ◌⊎◌, inl, inr, ℕ, List, [], refl, sym, subst}
 use Rattle.std.specs.Prelude.{Option, Result, Ok, Err, OnOk, OnErr}
 use Rattle.dg_base.specs.Outside.{Puts, PutsPrefix}
@@ -28,7 +28,7 @@ same_stop s t e = cc
 begun_then : {done : List Line} {line : Line} {w : Option World} {F G : Saw} {P Q : Option World → List Item → List ℕ → Type 0} → ((v : Option World) (left : List Item) (t : List ℕ) → P v left t → Q v left t) → LineBegun done line w F G P → LineBegun done line w F G Q
 begun_then f b = record { begun = b.begun; left = b.left; parts = b.parts; world = b.world; text = b.text; runs = b.runs; there = f b.world b.left b.text b.there }
 
--- a line was played, and what is reported of it was written, or a front of it
+-- a line was played, and what is reported of it was written, or a prefix of it
 pub told_as : (table : List Row) (r : Result (Unit {0}) Stop) (text : List ℕ) (number : ℕ) (p q : Player) (done : List Line) (w : Option World) (initial old new : List Device) (before after : Option (List ℕ)) (failed : Type 0) (F G : Saw) (line : Line) (told : List ℕ)
     → line_of p.place text ≡ Ok line → PlayedLine (based_on table initial) q (done_so_far done w) line (told_so_far [] F) (boards_told new (told_so_far told G)) → q.place ≡ place_after p.place line
     → OnOk r (Puts before after told) → OnErr r (PutsPrefix before after told × (told ≢ [])) → OnErr r ((r ≡ Err WriteFault) × failed)
@@ -40,7 +40,7 @@ told_as table (Err s) text number p q done w initial old new before after failed
     let played : TextPlayed (based_on table initial) text (done_so_far done w) (replay_state p old before F) (replay_state q new after G) = record { line = line; spelled = spelled; reported = told; to = to; behind = behind } in
     subst P (sym (same_stop s WriteFault cause.0)) (cause.1, inl (record { played = played; written = cut.0 }))
 
--- a line was not played, or begun, and what is reported of that was written, or a front of it
+-- a line was not played, or begun, and what is reported of that was written, or a prefix of it
 pub begun_as : (table : List Row) (stop result : Stop) (text : List ℕ) (number : ℕ) (p q : Player) (done : List Line) (w : Option World) (initial old new : List Device) (before after : Option (List ℕ)) (failed : Type 0) (F G : Saw) (line : Line) (told : List ℕ)
     → line_of p.place text ≡ Ok line → PlayedAs (based_on table initial) (Err stop) q (done_so_far done w) line (boards_told old (told_so_far [] F)) (boards_told new (told_so_far told G)) → BegunWritten stop result told before after failed
     → TextAnswer (based_on table initial) (Err result) (line_read text number) (done_so_far done w) (replay_state p old before F) (replay_state q new after G) failed

@@ -1,4 +1,4 @@
--- What is used of the bytes that were taken, where no line ends among those behind the lines that were played.
+-- What is used of the bytes that were taken, if no line ends after the lines that were played.
 use Rattle.std.proofs.Common.{◌≡◌, ◌≢◌, ℕ, ◌+◌, ◌-◌, ◌<◌, ◌≤◌, Bool, false, List, [], ◌∷◌, ◌++◌, length, take, append-nil, refl, ap, sym, ◌∙◌, arith}
 use Rattle.std.specs.Prelude.{if◌then◌else◌, Option}
 use Rattle.std.proofs.Math.Seq.{take-append-add}

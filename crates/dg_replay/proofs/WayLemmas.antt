@@ -1,4 +1,4 @@
--- The way of a line: it is played where the player stands, then the place goes on behind it, and what is reported of it is written.
+-- The steps of a line: it is played where the player stands, then the place moves past it, and what is reported of it is written.
 use Rattle.std.proofs.Common.{◌≡◌, ◌≢◌, ◌⊎◌, inl, inr, ℕ, ◌+◌, ◌≤◌, Bool, List, [], ◌++◌, length, Ok, Err, Some, refl, sym, ◌∙◌, subst}
 use Rattle.std.specs.Prelude.{Option, Result, OnOk, OnErr}
 use Rattle.dg_base.specs.Outside.{Puts, PutsPrefix, Takes, AtEnd}
@@ -38,7 +38,7 @@ use Rattle.dg_replay.proofs.RunLemmas.{HeadlineLaw, replay_done, replayed_of}
 use Rattle.dg_replay.proofs.SilentLemmas.{nothing_played, cut_played, stop_as}
 use Rattle.dg_replay.proofs.TextLemmas.{told_as, begun_as, not_found_as}
 
--- nothing is to do in an empty line, nor in one whose cut waits for its event
+-- there is nothing to do in an empty line, or in one whose cut waits for its event
 pub waits_played : (table : List Row) (p : Player) (done : List Line) (w : Option World) (line : Line) (told : Told) (initial now : List Device) → (line ≡ Nothing) ⊎ ((cut : CutOfPower) × (line ≡ Cut cut)) → FitsLine p.place.motes line → Stood p done w initial now
     → PlayedLine (based_on table initial) (gone_on p line) (done_so_far done w) line told (boards_told now told)
 waits_played table p done w line told initial now (inl is) fits s = subst (λ (x : Line). PlayedLine (based_on table initial) (gone_on p x) (done_so_far done w) x told (boards_told now told)) (sym is) (nothing_played p (gone_on p Nothing) done w told initial now refl refl s)
@@ -46,7 +46,7 @@ waits_played table p done w line told initial now (inr (cut, is)) fits s =
     subst (λ (x : Line). PlayedLine (based_on table initial) (gone_on p x) (done_so_far done w) x told (boards_told now told)) (sym is)
     (cut_played p (gone_on p (Cut cut)) done w cut told initial now (subst (λ (x : Line). FitsLine p.place.motes x) is fits) refl refl s)
 
--- the place went on behind a line that was played
+-- the place moved past a line that was played
 pub passed_played : (table : List Row) (p : Player) (place : Place) (done : List Line) (w : Option World) (line passed : Line) (report_before told : Told) (initial now : List Device) → place ≡ place_after p.place passed
     → PlayedLine (based_on table initial) (gone_on p passed) (done_so_far done w) line report_before (boards_told now told) → PlayedLine (based_on table initial) (record p { place = place }) (done_so_far done w) line report_before (boards_told now told)
 passed_played table p place done w line passed report_before told initial now behind played = subst (λ (x : Place). PlayedLine (based_on table initial) (record p { place = x }) (done_so_far done w) line report_before (boards_told now told)) (sym behind) played
@@ -61,7 +61,7 @@ LinePlays r p q line report_before told old now = (basis : Baseline) (so_far : D
 pub text_unread : (stop : Stop) (text : List ℕ) (number : ℕ) (p : Player) (old : List Device) (before : Option (List ℕ)) (failed : Type 0) (F : Saw) → NotFound p.place text number stop → TextPlays (Err stop) text number (replay_state p old before F) (replay_state p old before F) failed
 text_unread stop text number p old before failed F missing = (text_same p.place text old old refl, λ basis so_far s. not_found_as basis.table stop text number p p so_far.lines so_far.world basis.boards old before failed F missing)
 
--- a line was played, its place went on, and what is reported of it was written, or a front of it
+-- a line was played, its place went on, and what is reported of it was written, or a prefix of it
 pub text_played : (r : Result (Unit {0}) Stop) (text : List ℕ) (number : ℕ) (p q : Player) (place : Place) (old now : List Device) (line passed : Line) (cleared told shown : List ℕ) (before after : Option (List ℕ)) (failed : Type 0) (F G : Saw)
     → line_of p.place text ≡ Ok line → cleared ≡ [] → shown ≡ told → LinePlays (Ok tt) p (gone_on q passed) line (told_so_far cleared F) (told_so_far told G) old now → place_after q.place passed ≡ place_after p.place line → place ≡ place_after q.place passed
     → OnOk r (Puts before after shown) → OnErr r (PutsPrefix before after shown × (shown ≢ [])) → OnErr r ((r ≡ Err WriteFault) × failed)
@@ -74,7 +74,7 @@ text_played r text number p q place old now line passed cleared told shown befor
       told_as basis.table r text number p (record q { place = place }) so_far.lines so_far.world basis.boards old now before after failed F G line shown spelled (passed_played basis.table q place so_far.lines so_far.world line passed (told_so_far [] F) (told_so_far shown G) basis.boards now at to) (at ∙ behind) ok cut cause,
 )
 
--- a line was not played, or begun, and what is reported of that was written, or a front of it
+-- a line was not played, or begun, and what is reported of that was written, or a prefix of it
 pub text_begun : (stop result : Stop) (text : List ℕ) (number : ℕ) (p q gone : Player) (old now : List Device) (line : Line) (cleared told shown : List ℕ) (before after : Option (List ℕ)) (failed : Type 0) (F G : Saw)
     → line_of p.place text ≡ Ok line → cleared ≡ [] → shown ≡ told → LinePlays (Err stop) p gone line (told_so_far cleared F) (told_so_far told G) old now → BegunWritten stop result shown before after failed
     → LineKeepsBytes p.place line old now → TextPlays (Err result) text number (replay_state p old before F) (replay_state q now after G) failed
@@ -86,11 +86,11 @@ text_begun stop result text number p q gone old now line cleared told shown befo
       begun_as basis.table stop result text number p q so_far.lines so_far.world basis.boards old now before after failed F G line shown spelled (stop_as basis.table stop gone q so_far.lines so_far.world line (told_so_far [] F) (told_so_far shown G) basis.boards old now to) written,
 )
 
--- there was no memory for the place behind a line that left the boards as they were
+-- there was no memory for the place after a line that left the boards unchanged
 pub text_forgotten : (text : List ℕ) (number : ℕ) (p q : Player) (old now : List Device) (before : Option (List ℕ)) (failed : Type 0) (F G : Saw) → now ≡ old → StaysSeen F G → TextPlays (Err Memory) text number (replay_state p old before F) (replay_state q now before G) failed
 text_forgotten text number p q old now before failed F G same stays = (text_same p.place text old now same, λ basis so_far s. inl (record { boards = same; written = refl; seen = stays }))
 
--- what is answered where the next line was given, and this became of it
+-- the result if the next line was given and playing it had this result
 pub given_answer : (r : Result Bool Halt) (o : Option ℕ) (n : ℕ) (text : List ℕ) (old new : Reading) (at_end read_failed : Type 0) (Took : List ℕ → Type 0) (a b : ReplayState) (failed : Type 0) → o ≡ Some n → text ≡ new.text
     → ((more : List ℕ) × Took more × NextAnswer (Ok o) (old.ahead ++ more) old new at_end read_failed) → GivenPlayed r (λ x. TextPlays x text n a b failed)
     → (more : List ℕ) × Took more × NextPlayed r (bytes_taken (old.ahead ++ more) at_end) old new read_failed (AllAsBefore a b) (λ x t. TextPlays x t (old.number + 1) a b failed)
@@ -102,7 +102,7 @@ given_answer r o n text old new at_end read_failed Took a b failed some same cam
 
 -- ---- how a replay ends
 
--- what a replay did whose script was replayed
+-- what a replay did, from how its script was replayed
 pub replay_ended : {F G : Saw} (s : Status) (a b : Around) → HeadlineLaw → (bytes : List ℕ) → Takes a.left b.left bytes
     → ((table : List Row) → (length bytes ≤ most_used_bytes + 1) × ScriptReplayed table s (script_of bytes) (ending_of (length a.boards) bytes) (bytes_taken bytes (AtEnd b.left)) (span a.boards b.boards a.written b.written F G) (failures (Rose a.reads b.reads) (Rose a.writes b.writes)))
     → (s ≢ status.ReadFault → b.reads ≡ a.reads) → (s ≢ status.WriteFault → b.writes ≡ a.writes) → ReplayDone s a b

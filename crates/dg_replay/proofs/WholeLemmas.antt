@@ -1,4 +1,4 @@
--- The whole lines of bytes are their longest front that ends in LF.
+-- The whole lines of bytes are their longest prefix that ends in LF.
 use Rattle.std.proofs.Common.{◌≡◌, ◌≢◌, ◌⊎◌, inl, inr, ℕ, Bool, true, false, ◌==◌, if◌then◌else◌, List, [], ◌∷◌, ◌++◌, refl, ap, sym, ◌∙◌, subst, eqb-true, eq-eqb}
 use Rattle.std.specs.List.{AllByRecursion}
 use Rattle.dg_replay.specs.Ending.{up_to, whole_lines}

@@ -1,9 +1,9 @@
--- What stands around a program: its source, its sink and its boards (the arguments of `replay`).
+-- What is outside a program: its source, its sink and its boards (the arguments of `replay`).
 use Rattle.std.specs.Prelude.{ℕ, List, Option}
 use Rattle.dg_nor.specs.Device.{Device}
 
--- what is left of the input, where that is told, how many reads failed, what was written, where that is told,
--- how many writes failed, and the boards
+-- what is left of the input, if the source exposes it, how many reads failed, what was written, if the sink exposes it, how many
+-- writes failed, and the boards
 pub record Around : Type 0 where
   pub left : Option (List ℕ)
   pub reads : ℕ

@@ -19,41 +19,42 @@ use Rattle.dg_world.specs.Applied.{SameBoards}
 use Rattle.dg_world.specs.Mounted.{NoVolumeAt, MountedTo}
 use Rattle.dg_script.specs.Items.{Item, Applies}
 
--- before the boards are formatted none is used
+-- before there is a world, no board is used
 abbrev pub BoardsStand : Option World → List Device → List Device → Type 0
 BoardsStand None old new = new ≡ old
 BoardsStand (Some w) old new = WorldStands w old new
 
 -- ---- a board that stopped
 
--- The boards of a world's motes but this one stand for its stores. None of them came stopped, and all others are as before.
+-- The boards of a world's motes, except this one, stand for its stores. No mote's board was stopped on entry, and all other
+-- boards are as before.
 pub record OthersStand (w : World) (board : ℕ) (old new : List Device) : Type 0 where
   pub all : BoardsEndure old new
   pub stands : (m : ℕ) (d : Device) → m < length w.sites → m ≢ board → slice_get new m ≡ Some d → Stands d.image (store_at w m)
   pub came : (m : ℕ) (d : Device) → m < length w.sites → slice_get old m ≡ Some d → d.stopped ≡ false
   pub others : (m : ℕ) → length w.sites ≤ m → slice_get new m ≡ slice_get old m
 
--- The boards before this one stand for the store, and did not come stopped. Those after it are as before.
+-- The boards before this one stand for the store, and were not stopped on entry. Those after it are as before.
 pub record OthersFormatted (chip : Store) (board : ℕ) (old new : List Device) : Type 0 where
   pub all : BoardsEndure old new
   pub stands : (m : ℕ) (d : Device) → m < board → slice_get new m ≡ Some d → Stands d.image chip
   pub came : (m : ℕ) (d : Device) → m < board → slice_get old m ≡ Some d → d.stopped ≡ false
   pub others : (m : ℕ) → board < m → slice_get new m ≡ slice_get old m
 
--- A board that goes through these stores stopped where this many operations were done. A cut did not come before.
+-- A board that goes through these stores stopped after some of the operations, and before any cut.
 pub record StopsOn (trail : Trail Store) (cut : Option CutOfPower) (image : List ℕ) : Type 0 where
   pub made : ℕ
   pub within : made ≤ operations trail
   pub uncut : IfSome cut (λ c. made ≤ c.after - 1)
   pub leaves : MayLeave Stands IsNear trail made image
 
--- The boards were only read up to this one, which stopped. Those before it are volumes, and did not come stopped.
--- Those after it are as before.
+-- The boards were only read up to this one, which stopped. Those before it are volumes, and were not stopped on entry. Those
+-- after it are as before.
 pub record OthersMounted (board : ℕ) (old new : List Device) : Type 0 where
   pub mounted : MountedTo board old new
   pub read : SameBoards old new
 
--- In an event it is the board of the event's mote. There were no million events before it.
+-- A board that stops in an event is that of the event's mote. There were fewer than a million events before it.
 pub record EventStops (w : World) (step : Step) (board : ℕ) (image : List ℕ) (old new : List Device) : Type 0 where
   pub few : w.events < most_events
   pub at : board ≡ mote_of step.event
@@ -86,17 +87,17 @@ BoardStops [] left None board image old new = ⊥
 BoardStops [] left (Some w) board image old new = ReadingStops w board image old new
 BoardStops (line ∷ rest) left last board image old new = LineStops line left last board image old new
 
--- A board of this many motes is stopped where a replay had come to this world, with these lines to do,
--- and these items of the first of them.
+-- A board of this many motes stopped when a replay had come to this world, with these lines left to do, and these items of the
+-- first of them.
 pub record StoppedIn (motes : ℕ) (rest : List Line) (left : List Item) (last : Option World) (old new : List Device) : Type
     0 where
   pub stopped : BoardStopped motes old new
   pub there : BoardStops rest left last stopped.board stopped.after.image old new
 
--- ---- a script that ends before its end
+-- ---- a replay that ends before its script
 
--- One of the boards of the motes, which are used as they are, is not a volume. Those before it are volumes, and did not come
--- stopped. All were only read, those after it are as before, and no board's count rose.
+-- One of the boards of the motes, which are used as they are, is not a volume. Those before it are volumes, and were not stopped
+-- on entry. All were only read, those after it are as before, and no board's count rose.
 pub record NoVolumeIn (motes : ℕ) (old new : List Device) : Type 0 where
   pub board : ℕ
   pub at : NoVolumeAt board motes old new
@@ -115,8 +116,8 @@ abbrev pub InSome : Option World → (World → Type 0) → Type 0
 InSome None P = ⊥
 InSome (Some w) P = P w
 
--- The next item is an event, which finds no image to start. The boards stand for the world in which the run ends then,
--- and no board's count rose.
+-- The next item is an event, which finds no image to start. The boards stand for the world in which the run ends, and no board's
+-- count rose.
 pub record LacksImage (w : World) (left : List Item) (old new : List Device) : Type 0 where
   pub next : EventNext left
   pub after : World

@@ -12,8 +12,8 @@ use Rattle.dg_replay.specs.Around.{Around}
 use Rattle.dg_replay.specs.Replayed.{Replayed, IsComplete, AreVolumes}
 use Rattle.dg_replay.specs.Promised.{Headline}
 
--- These are all bytes of the source. They spell a script in its grammar and limits, for whose motes there are boards,
--- and no read, no write and no board of them failed.
+-- These are all bytes of the source. They spell a script in its grammar and limits, there are boards for its motes, and no read,
+-- no write and no such board failed.
 pub record IsUnfailed (bytes : List ℕ) (a b : Around) : Type 0 where
   pub told : a.left ≡ Some bytes
   pub limits : InLimits (length a.boards) bytes
@@ -21,8 +21,8 @@ pub record IsUnfailed (bytes : List ℕ) (a b : Around) : Type 0 where
   pub writes : Rose a.writes b.writes → ⊥
   pub boards : BoardStopped (motes_in (script_of bytes).lines) a.boards b.boards → ⊥
 
--- Such a script is replayed to its end, unless memory runs out. So is one that uses the boards as they are,
--- where they are volumes, but that a start may find no image among them.
+-- Such a script is replayed to its end, unless memory runs out. The same holds of one that uses the boards as they are, if they
+-- are volumes, except that a start may find no image on them.
 pub record ReplaysAll (status : Status) (a b : Around) : Type 0 where
   pub golden : (bytes : List ℕ) → IsUnfailed bytes a b → (UsesBoards (script_of bytes).lines → ⊥) → (status ≡ Done)
       ⊎ (status ≡ Memory)
@@ -32,14 +32,14 @@ pub record ReplaysAll (status : Status) (a b : Around) : Type 0 where
 -- What a replay did, and how it ended.
 pub record ReplayDone (status : Status) (a b : Around) : Type 0 where
   -- The report is true, whatever frames are brought from outside: it is that of a run of the rules over the items of the script,
-  -- and each status comes where the rules say. That holds whichever table the boards are held against where a script uses them
-  -- as they are.
+  -- and each status comes where the rules say. If a script uses the boards as they are, this holds whichever table they are
+  -- checked against.
   pub replayed : (table : List Row) → Replayed table status a b
   -- what was played keeps all parts of the headline
   pub headline : (table : List Row) (x : Replayed table status a b) → Headline x.came
   pub complete : ReplaysAll status a b
-  -- where a script does not use the boards as they are, they are formatted, so that they are volumes,
-  -- and golden starts where nothing else does
+  -- if a script does not use the boards as they are, they are formatted, so that they are volumes, and golden starts if nothing
+  -- else does
   pub golden : (table : List Row) (x : Replayed table status a b) → (UsesBoards (script_of x.input).lines → ⊥)
       → (status ≢ NotAVolume) × (status ≢ NoImage)
   -- a replay refuses nothing but its script, and there is no link to a peer

@@ -15,12 +15,12 @@ use Rattle.dg_rules.specs.Sizes.{most_events}
 use Rattle.dg_script.specs.Items.{Item, items_of}
 use Rattle.dg_replay.specs.Items.{lacking, events_among}
 
--- the byte, and the bytes up to the last LF after it, and nothing where there is no LF
+-- the byte, and the bytes up to the last LF after it, or nothing if there is no LF
 abbrev pub up_to : ℕ → List ℕ → List ℕ
 up_to c [] = if c == 10 then c ∷ [] else []
 up_to c (d ∷ ds) = c ∷ d ∷ ds
 
--- the bytes up to the last LF and with it
+-- the bytes up to and including the last LF
 unfoldable pub whole_lines : List ℕ → List ℕ
 whole_lines [] = []
 whole_lines (c ∷ cs) = up_to c (whole_lines cs)
@@ -29,7 +29,7 @@ whole_lines (c ∷ cs) = up_to c (whole_lines cs)
 abbrev pub has_unused_bytes : List ℕ → Bool
 has_unused_bytes input = nat_lt most_used_bytes (length input)
 
--- the bytes that are used: all, or where there are more the lines that end within the first 16,777,216
+-- the bytes that are used: all, or if there are more, the lines that end within the first 16,777,216
 abbrev pub used : List ℕ → List ℕ
 used input = if has_unused_bytes input then whole_lines (take most_used_bytes input) else input
 
@@ -61,8 +61,8 @@ abbrev pub by_boards : Option ℕ → ℕ → Ending → Ending
 by_boards None boards other = other
 by_boards (Some motes) boards other = NoBoards motes boards
 
--- A script needs as many boards as it says that there are motes. Else it ends at the event after 1,000,000, else at its first
--- fault, and else its length ends it where its input is too long.
+-- A script with more motes than there are boards ends at its `motes` line. Otherwise it ends at the event after 1,000,000,
+-- otherwise at its first fault, and otherwise by its length if its input is too long.
 abbrev pub ending_from : ℕ → Bool → Script → Ending
 ending_from boards over script = by_boards (lacking boards script.lines) boards (by_events over script)
 
@@ -90,7 +90,7 @@ status_of TooManyEvents = TooMany
 status_of (FaultAt line fault) = BadInput
 status_of Over = TooLong
 
--- the last line of an ending, empty where it has none
+-- the last line of an ending, empty if it has none
 abbrev pub ending_line : Ending → List ℕ
 ending_line Ends = []
 ending_line (NoBoards motes boards) = codes "noboard " ++ decimal motes ++ 32 ∷ decimal boards ++ 10 ∷ []

@@ -1,4 +1,4 @@
--- What reading the next line and playing it answers (docs/ARCHITECTURE.md, "The way of a script line").
+-- The result of reading the next line and playing it (docs/ARCHITECTURE.md, "The way of a script line").
 use Rattle.std.specs.Prelude.{◌≡◌, ℕ, ◌+◌, ◌≤◌, Bool, true, false, List, length, Result, Ok, Err}
 use Rattle.dg_script.specs.LineReading.{Reading, most_kept, most_used_bytes, HasNoEnd, FirstLine, Gives, IsAtEnd, IsTooLong}
 use Rattle.dg_script.specs.declared.fault.LineFault.TheVariants as line_fault
@@ -11,7 +11,7 @@ use Rattle.dg_replay.specs.declared.halt.Halt.TheVariants.{ReadFault, TooLong, S
 use Rattle.dg_replay.specs.declared.stop.Stop.{Stop}
 use Rattle.dg_replay.specs.declared.stop.Stop.TheVariants.{BadInput}
 
--- The next line was taken, of which this is the text, and these bytes after it.
+-- The next line, with this text, was taken, and these bytes after it.
 pub record LineTaken (bytes : List ℕ) (old : Reading) (at_end : Type 0) (text rest : List ℕ) : Type 0 where
   pub first : FirstLine bytes at_end text rest
   pub used : old.passed + length bytes ≤ most_used_bytes
@@ -30,7 +30,7 @@ HaltedAs read_stop.ReadFault halt = halt ≡ ReadFault
 HaltedAs read_stop.TooLong halt = halt ≡ TooLong
 HaltedAs (read_stop.Long line) halt = halt ≡ Stopped (BadInput line line_fault.Long)
 
--- a line that was given was played, of which P says what became of it
+-- a line that was given was played, and P holds of the result
 abbrev pub GivenPlayed : Result Bool Halt → (P : Result (Unit {0}) Stop → Type 0) → Type 0
 GivenPlayed (Ok true) P = P (Ok tt)
 GivenPlayed (Ok false) P = ⊥
@@ -38,7 +38,7 @@ GivenPlayed (Err ReadFault) P = ⊥
 GivenPlayed (Err TooLong) P = ⊥
 GivenPlayed (Err (Stopped stop)) P = P (Err stop)
 
--- what reading and playing the next line answers, where these are the bytes that were there and those that came
+-- the result of reading and playing the next line, from the bytes that were there and those that came
 abbrev pub NextPlayed : Result Bool Halt → (taken : BytesTaken) → (old new : Reading) → (read_failed nothing : Type 0)
     → (P : Result (Unit {0}) Stop → (text : List ℕ) → Type 0) → Type 0
 NextPlayed (Ok true) taken old new failed nothing P = Gives taken.bytes old new taken.at_end × P (Ok tt) new.text

@@ -1,4 +1,4 @@
--- What the lines of a script say of its run: where it begins, and what may come of it (docs/SCRIPTS.md, "The script").
+-- What the lines of a script say of its run: where it begins, and what its outcome may be (docs/SCRIPTS.md, "The script").
 use Rattle.std.specs.Prelude.{◌≡◌, ℕ, nat_lt, Bool, true, false, if◌then◌else◌, List, [], ◌∷◌, ◌++◌, replicate, slice_set, Option}
 use Rattle.std.specs.Prelude.{Some, None, option_map}
 use Rattle.std.specs.List.{count_by, list_any}
@@ -14,14 +14,14 @@ use Rattle.dg_script.specs.declared.line.Line.TheVariants.{Happens as EventLine}
 use Rattle.dg_script.specs.declared.line.Line.TheVariants.{Round, Sweeps}
 use Rattle.dg_rules.specs.World.{World, first_world}
 
--- What a script does not say itself: what the boards of its motes stand for where they are used as they are, and the table
--- of images that all is held against then. A script with golden looks at neither.
+-- What a script does not say itself: what the boards of its motes stand for if they are used as they are, and the table of images
+-- that all is checked against then. A script with golden depends on neither.
 pub record StartState : Type 0 where
   pub stores : List Store
   pub table : List Row
 
--- How many motes there are, and the world in which their run begins, None before they are formatted. It has all
--- links and narrow motes of these lines, though an image may be declared before one of them: declarations look at neither
+-- How many motes there are, and the world in which their run begins, None before their boards are used. It has all links and
+-- narrow motes of these lines, though an image may be declared before one of them: declarations depend on neither
 pub record Beginning : Type 0 where
   pub motes : ℕ
   pub world : Option World
@@ -62,7 +62,7 @@ no_beginning = record { motes = 0; world = None }
 abbrev pub beginning_of : StartState → List Line → Beginning
 beginning_of g lines = begin_behind g no_beginning lines
 
--- where nothing is known of the boards
+-- without any knowledge of the boards
 abbrev pub no_start_state : StartState
 no_start_state = record { stores = []; table = [] }
 

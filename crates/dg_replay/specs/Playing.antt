@@ -1,4 +1,4 @@
--- What playing the items of a line, and the line, does (docs/ARCHITECTURE.md, "The way of a script line").
+-- What playing the items of a line, and the line itself, does (docs/ARCHITECTURE.md, "The way of a script line").
 use Rattle.std.specs.Prelude.{◌≡◌, ◌⊎◌, ℕ, ◌<◌, ◌≤◌, true, false, List, [], ◌∷◌, ◌++◌, length, map, Option, Some, None, slice_get}
 use Rattle.std.specs.Prelude.{IfSome, OnOk, Result, Ok, Err}
 use Rattle.std.specs.List.{AllByRecursion}
@@ -41,7 +41,7 @@ use Rattle.dg_replay.specs.declared.stop.Stop.TheVariants.{NotAVolume}
 
 -- ---- items
 
--- Items were played from a world to a world, and this is reported of them. There were no more than a million events then.
+-- Items were played from a world to a world, and this is reported of them. There were no more than a million events afterwards.
 pub record ItemsRun (w : World) (items : List Item) (v : World) (text : List ℕ) : Type 0 where
   pub played : List Played
   pub are : map item_played played ≡ items
@@ -49,8 +49,8 @@ pub record ItemsRun (w : World) (items : List Item) (v : World) (text : List ℕ
   pub reported : text ≡ played_text played
   pub few : v.events ≤ most_events
 
--- Items were played, and the boards, which were `initial` when the replay began, stand for the world then. A watcher was shown
--- what was played.
+-- Items were played, and the boards, which were `initial` when the replay began, stand for the world after them. A watcher was
+-- shown what was played.
 pub record ItemsPlayed (w : World) (items : List Item) (kept : KeptWorld) (initial now : List Device)
     (told_before told : Told) : Type 0 where
   pub world : World
@@ -61,8 +61,8 @@ pub record ItemsPlayed (w : World) (items : List Item) (kept : KeptWorld) (initi
   pub report_now : told.text ≡ told_before.text ++ text
   pub shown : Shows told_before.saw told.saw w runs.played
 
--- Of these items the first were played, which a watcher was shown, and P holds of the world then, of those that are left,
--- and of what is reported of those that were played.
+-- The first of these items were played, and a watcher was shown this. P holds of the world after them, of the items that are
+-- left, and of what is reported of those that were played.
 pub record ItemsBegun (w : World) (items : List Item) (before after : Saw)
     (P : World → (left : List Item) → (text : List ℕ) → Type 0) : Type 0 where
   pub begun : List Item
@@ -84,7 +84,8 @@ pub record StopsInItem (w : World) (left : List Item) (initial now : List Device
   pub stopped : BoardStopped (length w.sites) initial now
   pub there : ItemStops left (Some w) stopped.board stopped.after.image initial now
 
--- What playing items answers, where this was told before, and b are the boards and what is told then.
+-- The result of playing items. `before` is what was reported and shown before it, and b has the boards and what is reported and
+-- shown after it.
 abbrev pub ItemsPlayedAs : Result (Unit {0}) Stop → World → List Item → KeptWorld → (initial : List Device)
     → (before : Told) → (b : BoardsTold) → Type 0
 ItemsPlayedAs (Ok u) w items kept initial before b = ItemsPlayed w items kept initial b.boards before b.told
@@ -104,7 +105,7 @@ ItemsPlayedAs (Err (NoBoard motes boards)) w items kept initial before b = ⊥
 ItemsPlayedAs (Err (BadInput n fault)) w items kept initial before b = ⊥
 ItemsPlayedAs (Err WriteFault) w items kept initial before b = ⊥
 
--- the world that is kept stands for one with as many motes as before
+-- the world that is kept stands for one with the same number of motes as before
 abbrev pub KeepsMotes : Result (Unit {0}) Stop → (before after : KeptWorld) → (old new : List Device) → Type 0
 KeepsMotes result before after old new =
     OnOk result ((w : World) → IsWorld before old w → (v : World) × IsWorld after new v × (length v.sites ≡ length w.sites))
@@ -141,12 +142,12 @@ pub record Stood (p : Player) (done : List Line) (w : Option World) (initial now
   pub links : Joined p.place
   pub cut_fits : IfSome p.place.cut FitsCut
   pub motes : p.place.motes ≡ motes_in done
-  -- before the first event, all that was played was declared
+  -- before the first event, only declarations were played
   pub early : p.place.events ≡ false → AllByRecursion IsDeclaration (items_of done)
   pub world : InWorld p w now
   pub boards : BoardsStand w initial now
 
--- the code's side alone: some world is kept, if any should be
+-- the code's side alone: some world is kept, if one has to be
 pub record Ready (p : Player) (boards : List Device) : Type 0 where
   pub seats : Seated p.place (length boards)
   pub links : Joined p.place
@@ -161,13 +162,13 @@ pub record MayPlay (line : Line) (p : Player) (boards : List Device) : Type 0 wh
   pub fits : FitsLine p.place.motes line
   pub played : IsPlayed line
 
--- the player whose place went on after a line
+-- the player after its place moved past a line
 abbrev pub gone_on : Player → Line → Player
 gone_on p line = record p { place = place_after p.place line }
 
 -- ---- a line
 
--- Where the boards are used as they are by these lines, they stood for the ground's stores, which are held against this table.
+-- If these lines use the boards as they are, the boards stood for the stores of g, which are checked against this table.
 abbrev pub Grounded : (table : List Row) → (initial : List Device) → StartState → List Line → Type 0
 Grounded table initial g done = UsesBoards done → IsGround g table (motes_in done) × StandFor (motes_in done) g.stores initial
 
@@ -181,25 +182,25 @@ pub record RunsOn (table : List Row) (initial : List Device) (done : List Line) 
   pub grounded : Grounded table initial ground (done ++ line ∷ [])
   pub run : RunsTo (beginning_of ground (done ++ line ∷ [])).world now v
   pub reported : played_text now ≡ played_text played ++ text
-  -- where something is reported, it goes on after what was played before
+  -- if anything is reported, what was played now begins with what was played before
   pub on : (text ≡ []) ⊎ ((more : List Played) × (now ≡ played ++ more))
 
--- A line goes on with such a run, and a watcher that saw what was played before sees what was played then.
+-- A line leads to such a run, and a watcher that saw what was played before has seen what was played now.
 pub record GoesOn (basis : Baseline) (done : List Line) (line : Line) (v : Option World) (told : LineTold) (g : StartState)
     (played : List Played) : Type 0 where
   pub on : RunsOn basis.table basis.boards done line v told.text played
   pub shown : GoesOnSeen told.before told.after (beginning_of g done).world played
       (beginning_of on.ground (done ++ line ∷ [])).world on.now
 
--- What a line after others makes of a run that leads to a world. Behind a link or a narrow mote it is the run of the same
--- items from a world that has it.
+-- What a line after others makes of a run that leads to a world. After a `link` or `narrow` line it is the run of the same items
+-- from a world with this link or narrow mote.
 abbrev pub LineRuns : (table : List Row) → (initial : List Device) → (done : List Line) → (line : Line)
     → (w v : Option World) → (told : LineTold) → Type 0
 LineRuns table initial done line w v told = (g : StartState) (played : List Played) → Grounded table initial g done
     → map item_played played ≡ items_of done → RunsTo (beginning_of g done).world played w
     → GoesOn (based_on table initial) done line v told g played
 
--- A line was played after others, and this is told of it.
+-- A line was played after others, and this is reported and shown of it.
 pub record PlayedLine (basis : Baseline) (q : Player) (behind : DoneSoFar) (line : Line) (before : Told)
     (b : BoardsTold) : Type 0 where
   pub world : Option World
@@ -209,14 +210,14 @@ pub record PlayedLine (basis : Baseline) (q : Player) (behind : DoneSoFar) (line
   pub stood : Stood q (behind.lines ++ line ∷ []) world basis.boards b.boards
   pub boards_enough : lacking_by (length basis.boards) line None ≡ None
 
--- items run from a world, which a watcher was shown, and none where there is no world yet
+-- items run from a world, which a watcher was shown; before there is a world, there are no items
 abbrev pub RunsFrom : Option World → List Item → Option World → LineTold → Type 0
 RunsFrom None items v told = (items ≡ []) × (v ≡ None) × (told.text ≡ []) × StaysSeen told.before told.after
 RunsFrom (Some w) items v told =
     (u : World) × (v ≡ Some u) × (x : ItemsRun w items u told.text) × Shows told.before told.after w x.played
 
--- A line after others was begun: of its items the first were played, which a watcher was shown, and P holds of the world then,
--- of those that are left, and of what is reported of those that were played.
+-- A line after others was begun: the first of its items were played, and a watcher was shown this. P holds of the world after
+-- them, of the items that are left, and of what is reported of those that were played.
 pub record LineBegun (done : List Line) (line : Line) (w : Option World) (before after : Saw)
     (P : Option World → (left : List Item) → (text : List ℕ) → Type 0) : Type 0 where
   pub begun : List Item
@@ -234,8 +235,8 @@ pub record LacksBoards (line : Line) (motes boards : ℕ) (initial old new : Lis
   pub missing : boards < motes
   pub same : new ≡ old
 
--- What playing a line answers, from a player and boards that stand for the world after other lines. The boards and what is
--- told were a before it, and are b then.
+-- The result of playing a line, from a player and boards that stand for the world after other lines. The boards and what is
+-- reported and shown are a before it, and b after it.
 abbrev pub PlayedAs : Baseline → Result (Unit {0}) Stop → Player → (behind : DoneSoFar) → Line → (a b : BoardsTold) → Type 0
 PlayedAs basis (Ok u) q behind line a b = PlayedLine basis q behind line a.told b
 PlayedAs basis (Err Memory) q behind line a b =
@@ -258,7 +259,7 @@ PlayedAs basis (Err WriteFault) q behind line a b = ⊥
 
 -- ---- the parts of a line
 
--- what formatting the boards of this many motes answers
+-- the result of formatting the boards of this many motes
 pub record FormattedAs (result : Result (Unit {0}) FormatStopped) (motes : ℕ) (chip : Store) (old new : List Device) : Type
     0 where
   pub formatted : OnOk result ((m : ℕ) (d : Device) → m < motes → slice_get new m ≡ Some d → Stands d.image chip)
@@ -272,7 +273,7 @@ abbrev pub mount_stop : MountStopped → Stop
 mount_stop (Flash board) = FlashFault
 mount_stop (NoVolume board) = NotAVolume
 
--- what mounting the boards of this many motes answers
+-- the result of mounting the boards of this many motes
 pub record MountedAs (result : Result (Unit {0}) MountStopped) (motes : ℕ) (old new : List Device) : Type 0 where
   pub stands : OnOk result ((stores : List Store) × StandFor motes stores new
       × ((m : ℕ) → m < motes → IsShaped (store_of stores m)))

@@ -10,7 +10,7 @@ use Rattle.dg_script.specs.declared.place.Place.{Place}
 abbrev pub IsWholeLines : List ℕ → Type 0
 IsWholeLines front = (front ≡ []) ⊎ ((before : List ℕ) × (front ≡ before ++ 10 ∷ []))
 
--- A script begins as a first one does: with its lines, and it is that one where that one has a fault.
+-- A script begins as a first one does: with its lines. It is the first one itself if that has a fault.
 pub record BeginsAs (first script : Script) : Type 0 where
   pub rest : List Line
   pub lines : script.lines ≡ first.lines ++ rest

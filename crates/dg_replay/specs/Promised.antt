@@ -18,8 +18,8 @@ use Rattle.dg_rules.specs.Begins.{StoresAgree, HoldsTo, HoldsToThen}
 use Rattle.dg_replay.specs.Items.{IsNoFrame, UsesBoards, beginning_of}
 use Rattle.dg_replay.specs.Replayed.{Progress, RunsTo, item_played}
 
--- What was played first of a script, all or less, and the world that it leads to. What is promised of honest events is promised
--- of each such part: an event that breaks the premise takes nothing from what was played before it.
+-- A first part of what was played of a script, or all of it, and the world that it leads to. What is promised of honest events is
+-- promised of each such part: an event that breaks the premise does not affect what was played before it.
 pub record PlayedFirst {table : List Row} {script : Script} (c : Progress table script) : Type 0 where
   pub played : List Played
   pub rest : List Played
@@ -27,30 +27,30 @@ pub record PlayedFirst {table : List Row} {script : Script} (c : Progress table 
   pub parts : c.played ≡ played ++ rest
   pub run : RunsTo (beginning_of c.ground c.done).world played last
 
--- Each frame from outside is honest by the table of its moment. Where the boards are used as they are, what they stood for
--- agrees with the table, and no image version of that table is injected with another content, unless the rules refuse it. A
--- script with golden meets that.
+-- Each frame from outside is honest by the table of its moment. If the boards are used as they are, what they stood for agrees
+-- with the table, and no image version of that table is injected with another content, unless the rules refuse it. A script with
+-- golden meets this second premise.
 pub record FramesAreHonest {table : List Row} {script : Script} {c : Progress table script} (f : PlayedFirst c) : Type 0 where
   pub frames : AllByRecursion IsHonestThen f.played
   pub agree : UsesBoards c.done → StoresAgree c.ground.table c.ground.stores
   pub hold : UsesBoards c.done → AllByRecursion (HoldsToThen c.ground.table) f.played
 
--- lines that bring no frame from outside meet that
+-- without a `boards` line, lines that bring no frame from outside meet these premises
 abbrev pub HonestWithoutFrames : {table : List Row} {script : Script} → Progress table script → Type 0
 HonestWithoutFrames c = AllByRecursion IsNoFrame c.done → (UsesBoards c.done → ⊥) → (f : PlayedFirst c) → FramesAreHonest f
 
--- Where the next event is honest too, each store that the chip may stand for, wherever a stop comes in it,
--- agrees with the table after it.
+-- If the next event is honest too, each store that the chip may stand for, wherever a stop comes in it, agrees with the table
+-- after it.
 abbrev pub HalvesAgree : {table : List Row} {script : Script} {c : Progress table script} → PlayedFirst c → Type 0
 HalvesAgree {c = c} f = (w : World) (step : Step) (reported : Bool) (more : List Item) → f.last ≡ Some w
     → map item_played f.rest ++ c.left ≡ Applies step reported ∷ more → HonestEvent w.table step.event
     → (UsesBoards c.done → HoldsTo c.ground.table w step.event) → StopsAgree w step.event
 
--- where it ends with a rest, pages came along the links as in a pipeline, by this many sweeps as the rest has
+-- if it ends with a rest, pages travelled along the links as in a pipeline, by as many sweeps as the rest has
 abbrev pub RestsFillThePipeline : {table : List Row} {script : Script} {c : Progress table script} → PlayedFirst c → Type 0
 RestsFillThePipeline f = (w v : World) (t : ℕ) → f.last ≡ Some v → EndsInRest f.played w t v → PagesCome w t v
 
--- where it ends with a rest of enough sweeps, every mote keeps the newest version of each image whole
+-- if it ends with a rest of enough sweeps, every mote keeps the newest version of each image whole
 abbrev pub RestsComplete : {table : List Row} {script : Script} {c : Progress table script} → PlayedFirst c → Type 0
 RestsComplete f = (w v : World) (n k : ℕ) → f.last ≡ Some v → EndsInRest f.played w n v → IsEnough w k → k ≤ n → KeepsNewest v
 
@@ -66,21 +66,21 @@ pub record HonestRun {table : List Row} {script : Script} {c : Progress table sc
   -- Every chip, also one that a cut left half done, every mote that is on and every frame that was sent agrees with the table:
   -- after each item, and in the last world.
   pub agrees : AllByRecursion LeavesAgreement f.played × IfSome f.last WorldAgrees
-  -- so does the store of each half-done chip, wherever a stop comes in the next event
+  -- the store of each half-done chip agrees too, wherever a stop comes in the next event
   pub halves : HalvesAgree f
-  -- Each round that was played between two neighbours, both wide or both narrow, both on and with room for three commits at
-  -- its end, and in which no power was cut, brought the second one a page of the least image in which the first was ahead; and
-  -- the 50 ticks with which one begins brought their mote to rest.
+  -- Each round that was played between two neighbours, both wide or both narrow, brought the second one a page of the least image
+  -- in which the first was ahead. Both were on, and had room for three commits at its end, and no power was cut in it. The 50
+  -- ticks with which a round begins brought their mote to rest.
   pub rounds : RoundsBring f.played
-  -- Where it ends with an undisturbed rest of t sweeps, in which all motes are wide, or all are narrow and no image above 3
-  -- has a row, and in which every mote is on and has room for three commits at its end, a mote within j links of a whole image
-  -- has t + 1 - j pages of it, or all, if every smaller image was whole everywhere.
+  -- It may end with an undisturbed rest of t sweeps. Every mote is on, and has room for three commits at its end. All motes are
+  -- wide, or all are narrow and no image above 3 has a row. If every smaller image was whole everywhere, a mote within j links of
+  -- a whole image then has t + 1 - j pages of it, or all.
   pub pipeline : RestsFillThePipeline f
-  -- And where such a rest has enough sweeps, every mote keeps the newest version of every image whole.
+  -- If such a rest has enough sweeps, every mote keeps the newest version of every image whole.
   pub completes : RestsComplete f
 
--- Behind each item, and in the last world, every store is consistent. What starts is golden, or an object that fits its
--- own descriptor. And wherever a stop comes in the next event, each store that the chip may then stand for is consistent.
+-- After each item, and in the last world, every store is consistent. What starts is golden, or an object that fits its own
+-- descriptor. And wherever a stop comes in the next event, each store that the chip may then stand for is consistent.
 pub record StaysConsistent (golden : Row) (played : List Played) (last : Option World) (left : List Item) : Type 0 where
   pub stores : AllByRecursion (LeavesConsistent golden) played
   pub ends : IfSome last (WorldConsistent golden)
@@ -98,7 +98,7 @@ StoresStayConsistent c = (UsesBoards c.done → ⊥) → (golden : Row) (w : Wor
 -- All parts of it, for a script that was played so far.
 pub record Headline {table : List Row} {script : Script} (c : Progress table script) : Type 0 where
   pub honest : (f : PlayedFirst c) → FramesAreHonest f → HonestRun f
-  -- lines that bring no frame from outside meet that premise
+  -- without a `boards` line, lines that bring no frame from outside meet these premises
   pub frames : HonestWithoutFrames c
   -- Whatever bytes its frames carry, every store is consistent: after each item, in the last world, and wherever a stop comes in
   -- the next event. What starts is golden byte for byte, or an object that fits its own descriptor.

@@ -44,34 +44,34 @@ item_played p = p.item
 abbrev pub played_text : List Played → List ℕ
 played_text ps = flat_map (λ p. report_text p.reports) ps
 
--- a run of the rules from where it begins, which is nowhere before the boards are formatted
+-- a run of the rules from the world in which it begins; before there is a world, nothing is played
 abbrev pub RunsTo : Option World → List Played → Option World → Type 0
 RunsTo None played last = (played ≡ []) × (last ≡ None)
 RunsTo (Some w) played last = (v : World) × (last ≡ Some v) × Plays w played v
 
--- what the boards of this many motes stand for where they are used as they are, held against this table: a store for each,
--- in its shape
+-- what the boards of this many motes stand for if they are used as they are, checked against this table: a store for each, in its
+-- shape
 pub record IsGround (g : StartState) (table : List Row) (motes : ℕ) : Type 0 where
   pub held : g.table ≡ table
   pub count : length g.stores ≡ motes
   pub shaped : AreShaped g.stores
 
--- How far a replay came in a script, all of which is held against a table where it uses the boards as they are.
+-- How far a replay came in a script. If the script uses the boards as they are, all of it is checked against a table.
 pub record Progress (table : List Row) (script : Script) : Type 0 where
-  -- what the script does not say, which counts where the boards are used as they are
+  -- what the script does not say; it matters only if the boards are used as they are
   pub ground : StartState
   -- the lines that were done, and those after them
   pub done : List Line
   pub rest : List Line
-  -- of the items of the next line those that were played, where the replay stopped within it, and the others
+  -- the items of the next line: those that were played, if the replay stopped within it, and the others
   pub begun : List Item
   pub left : List Item
-  -- a run of the rules over all that was played, and the world that it leads to, None before the boards are formatted
+  -- a run of the rules over all that was played, and the world that it leads to, None before the boards are used
   pub played : List Played
   pub last : Option World
   pub lines : done ++ rest ≡ script.lines
   pub parts : next_items done rest ≡ begun ++ left
-  -- nothing is begun of a line of which nothing is left
+  -- a line with no item left does not count as begun
   pub within : left ≡ [] → begun ≡ []
   pub items : map item_played played ≡ items_of done ++ begun
   pub run : RunsTo (beginning_of ground done).world played last
@@ -95,8 +95,8 @@ pub record AtTooMany (left : List Item) (played : List Played) : Type 0 where
   pub events : events_among (map item_played played) ≡ most_events
   pub next : EventNext left
 
--- What comes before the ending was played: everything, up to the `motes` line where boards are missing,
--- and a million events where there are more.
+-- What comes before the ending was played: everything, or all up to the `motes` line if boards are missing, or a million events
+-- if there are more.
 abbrev pub ReachesEnding : {table : List Row} {script : Script} → Ending → Progress table script → Type 0
 ReachesEnding (NoBoards motes boards) c = (more : List Line) × (c.rest ≡ Motes motes ∷ more)
 ReachesEnding TooManyEvents c = AtTooMany c.left c.played
@@ -110,12 +110,12 @@ pub record IsWholeReport {table : List Row} {script : Script} (ending : Ending) 
   pub all : ReachesEnding ending c
   pub reported : text ≡ played_text c.played ++ closing ending c.last
 
--- a front of the lines that are reported before the end
+-- a prefix of the lines that are reported before the end
 pub record IsPrefixOfLines (played : List Played) (text : List ℕ) : Type 0 where
   pub more : List ℕ
   pub front : text ++ more ≡ played_text played
 
--- the last lines that no ending has: the boards end the replay
+-- the last lines of replays that the boards end; no ending has them
 abbrev pub no_volume_line : List ℕ
 no_volume_line = codes "notavolume" ++ 10 ∷ []
 
@@ -128,7 +128,7 @@ abbrev pub BoardsEndIt : {table : List Row} {script : Script} → Progress table
 BoardsEndIt c line = ((more : List Line) × (c.rest ≡ Boards ∷ more) × (line ≡ no_volume_line))
     ⊎ (UsesBoards c.done × EventNext c.left × (line ≡ no_image_line))
 
--- a front of the report, whose end may have begun
+-- a prefix of the report, whose end may have begun
 pub record IsPrefixOfReport {table : List Row} {script : Script} (ending : Ending) (c : Progress table script)
     (text : List ℕ) : Type 0 where
   pub more : List ℕ
@@ -136,7 +136,7 @@ pub record IsPrefixOfReport {table : List Row} {script : Script} (ending : Endin
       ⊎ (IsWholeReport ending c (text ++ more) ⊎ ((line : List ℕ) × BoardsEndIt c line
       × ((text ++ more) ≡ played_text c.played ++ line)))
 
--- A board is used by the next line, or in reading what the end of the report tells.
+-- A board is used by the next line, or is read for the end of the report.
 abbrev pub StopsAt : Ending → List Line → Type 0
 StopsAt ending [] = ending ≡ Ends
 StopsAt ending (line ∷ rest) = UsesBoard line
@@ -156,7 +156,7 @@ Wrote NotAVolume ending c text = text ≡ played_text c.played ++ no_volume_line
 Wrote NoImage ending c text = text ≡ played_text c.played ++ no_image_line
 Wrote _ ending c text = ⊥
 
--- a board is stopped where the replay came to
+-- a board stopped at the point to which the replay came
 abbrev pub BoardStoppedThere : {table : List Row} {script : Script} → Progress table script → (old new : List Device) → Type 0
 BoardStoppedThere c old new = StoppedIn (motes_in c.done) c.rest c.left c.last old new
 
@@ -170,8 +170,8 @@ pub record NoVolumeThere {table : List Row} {script : Script} (c : Progress tabl
 abbrev pub NoImageThere : {table : List Row} {script : Script} → Progress table script → (old new : List Device) → Type 0
 NoImageThere c old new = InSome c.last (λ w. LacksImage w c.left old new)
 
--- How the boards are left. Where a board stops within a round or sweeps, what is reported of the events before it may fail to be
--- written, and so may the last line where boards that are used as they are end the replay.
+-- How the boards are left. If a board stops within a round or sweeps, writing what is reported of the events before it may fail.
+-- If boards that are used as they are end the replay, writing the last line may fail.
 abbrev pub BoardsLeft : {table : List Row} {script : Script} → Status → Progress table script → (old new : List Device) → Type 0
 BoardsLeft FlashFault c old new = BoardStoppedThere c old new
 BoardsLeft WriteFault c old new = BoardsStand c.last old new
@@ -180,13 +180,14 @@ BoardsLeft NotAVolume c old new = NoVolumeThere c old new
 BoardsLeft NoImage c old new = NoImageThere c old new
 BoardsLeft _ c old new = BoardsStand c.last old new
 
--- Where no line of the script formats the boards, as where it uses them as they are: the board of a mote at which no event was
--- played, nor is left of the line that was begun, has its very bytes.
+-- No line of the script may format the boards; a script that uses them as they are meets this. A board then keeps its bytes
+-- unless an event was played at its mote, or one is left of the line that was begun.
 abbrev pub Untouched : {table : List Row} {script : Script} → Progress table script → (old new : List Device) → Type 0
 Untouched {script = script} c old new =
     AllByRecursion FormatsNone script.lines → KeepBytes (map item_played c.played ++ c.left) old new
 
--- The status is the one that the rules give to the input. Memory alone is free, and a fault of the outside has risen its count.
+-- The status is the one that the rules give to the input. Only Memory may be returned at any time, and a fault from outside has
+-- raised its count.
 abbrev pub IsCaused : Status → Ending → (reads_failed writes_failed board_stopped no_volume no_image : Type 0) → Type 0
 IsCaused Memory ending r w b n i = Unit {0}
 IsCaused ReadFault ending r w b n i = r
@@ -196,8 +197,8 @@ IsCaused NotAVolume ending r w b n i = n
 IsCaused NoImage ending r w b n i = i
 IsCaused status ending r w b n i = status ≡ status_of ending
 
--- what a replay of a script in its limits answers, whose boards do not stop: it is done, or memory ran out,
--- or boards that are used as they are lack an image
+-- the status of a replay of a script in its limits whose boards do not stop: it is done, or memory ran out, or boards that are
+-- used as they are lack an image
 abbrev pub IsComplete : (uses : Type 0) → Status → Type 0
 IsComplete uses status = (status ≡ Done) ⊎ ((status ≡ Memory) ⊎ ((status ≡ NoImage) × uses))
 
@@ -213,12 +214,12 @@ IsSettled boards input = (more : List ℕ) → ending_of boards (input ++ more) 
 abbrev pub AreWhole : List ℕ → List Line → Type 0
 AreWhole input done = (more : List ℕ) → (rest : List Line) × (done ++ rest ≡ (script_of (input ++ more)).lines)
 
--- and so does the next one
+-- the same with the next line
 abbrev pub NextIsWhole : List ℕ → (done rest : List Line) → Type 0
 NextIsWhole input done [] = ⊥
 NextIsWhole input done (line ∷ rest) = AreWhole input (done ++ line ∷ [])
 
--- so does each line of which something was done
+-- each line of which something was done ends within the bytes
 abbrev pub DoneIsWhole : List ℕ → (done rest : List Line) → (begun : List Item) → Type 0
 DoneIsWhole input done rest [] = AreWhole input done
 DoneIsWhole input done rest (item ∷ begun) = NextIsWhole input done rest
@@ -232,10 +233,9 @@ pub record AllRead (texts : List (List ℕ)) (done : List Line) : Type 0 where
 abbrev pub AllWhole : List ℕ → List Line → Type 0
 AllWhole input done = AllRead (lines (whole_lines input)) done
 
--- What was done rests on what was taken of the input alone.
--- A status of the rules is that of every input that begins with these bytes, or the input is at its end.
--- A read that failed leaves all whole lines done. Another fault and want of memory leave only whole lines done and begun, or the
--- input is at its end; the line in which a board stopped is whole too.
+-- What was done depends only on what was taken of the input. A status of the rules is that of every input that begins with these
+-- bytes, or the input is at its end. After a read that failed all whole lines are done. After another fault, or out of memory,
+-- only whole lines are done and begun, or the input is at its end. The line in which a board stopped is whole too.
 abbrev pub RestsOnTaken : {table : List Row} {script : Script} → Status → (boards : ℕ) → BytesTaken → Progress table script
     → (text : List ℕ) → Type 0
 RestsOnTaken Memory boards taken c text = taken.at_end ⊎ DoneIsWhole taken.bytes c.done c.rest c.begun
@@ -274,24 +274,24 @@ pub record EndBegun {table : List Row} {script : Script} (ending : Ending) (inpu
   pub reported : text ≡ played_text c.played ++ more
   pub near : EndsNear ending input
 
--- Not much more was taken than the lines that were needed: no more than 300,002 bytes after a line with a fault,
--- and after the first line whose report was not wholly written.
+-- Not much more was taken than the lines that were needed: no more than 300,002 bytes after a line with a fault, and after the
+-- first line whose report was not completely written.
 abbrev pub ReadsNear : {table : List Row} {script : Script} → Status → Ending → (input : List ℕ) → Progress table script
     → (text : List ℕ) → Type 0
 ReadsNear BadInput (FaultAt line fault) input c text = FewBytesBehind line input
 ReadsNear WriteFault ending input c text = ReportedAndNear input c text ⊎ EndBegun ending input c text
 ReadsNear _ ending input c text = Unit {0}
 
--- What a replay did. Some bytes were taken from the source: the bytes left before it and after it, where they are told,
--- say which. What was written is told in the same way.
+-- What a replay did. Some bytes were taken from the source: the bytes left before it and after it, if the source exposes them,
+-- say which. The same holds of what was written and the sink.
 pub record Replayed (table : List Row) (status : Status) (a b : Around) : Type 0 where
-  -- what was taken of the input, whatever comes of it: no more than one byte past those that are used
+  -- what was taken of the input, whatever the outcome: no more than one byte past those that are used
   pub input : List ℕ
   pub taken : Takes a.left b.left input
   pub few_bytes : length input ≤ most_used_bytes + 1
   -- how far its script was played
   pub came : Progress table (script_of input)
-  -- what was written is the report of that run, or a front of it
+  -- what was written is the report of that run, or a prefix of it
   pub text : List ℕ
   pub written : Puts a.written b.written text
   pub report : Wrote status (ending_of (length a.boards) input) came text
@@ -301,14 +301,14 @@ pub record Replayed (table : List Row) (status : Status) (a b : Around) : Type 0
   pub limits : InBounds (length a.boards) came.done (map item_played came.played)
   -- where the boards were used as they are, they stood for the stores from which the run begins
   pub stood : UsesBoards came.done → StandFor (motes_in came.done) came.ground.stores a.boards
-  -- the boards of the motes stand for that world's stores, but for one that is stopped, and the others are as before
+  -- the boards of the motes, except one that is stopped, stand for that world's stores, and all other boards are as before
   pub boards : BoardsLeft status came a.boards b.boards
   -- boards at which nothing happens keep their very bytes, also at a `boards` line and in the reading at the end
   pub untouched : Untouched came a.boards b.boards
-  -- the status is the one that the rules give to the input, but for running out of memory and faults of the outside
+  -- the status is the one that the rules give to the input, except for out of memory and faults from outside
   pub caused : IsCaused status (ending_of (length a.boards) input) (Rose a.reads b.reads) (Rose a.writes b.writes)
       (BoardStopped (motes_in came.done) a.boards b.boards) (NoVolumeThere came a.boards b.boards) (UsesBoards came.done
       × NoImageThere came a.boards b.boards)
-  -- a read or a write that fails is always told: its count rises with its own answer alone
+  -- a read or a write that fails is always reported: its count rises only with its own status
   pub read_faults : status ≢ ReadFault → b.reads ≡ a.reads
   pub write_faults : status ≢ WriteFault → b.writes ≡ a.writes

@@ -55,12 +55,12 @@ pub record TextPlayed (basis : Baseline) (text : List ℕ) (so_far : DoneSoFar) 
   pub to : PlayedLine basis b.player so_far line (told_so_far [] a.saw) (boards_told b.boards (told_so_far reported b.saw))
   pub behind : b.player.place ≡ place_after a.player.place line
 
--- and what is reported of it was written
+-- the same, and what is reported of the line was written
 pub record TextReported (basis : Baseline) (text : List ℕ) (behind : DoneSoFar) (a b : ReplayState) : Type 0 where
   pub played : TextPlayed basis text behind a b
   pub written : Puts a.written b.written played.reported
 
--- or a front of it
+-- the same, and a prefix of what is reported of the line was written
 pub record TextCut (basis : Baseline) (text : List ℕ) (behind : DoneSoFar) (a b : ReplayState) : Type 0 where
   pub played : TextPlayed basis text behind a b
   pub written : PutsPrefix a.written b.written played.reported
@@ -89,33 +89,33 @@ pub record LineFound (place : Place) (text : List ℕ) (line : Line) : Type 0 wh
   pub fits : FitsLine place.motes line
   pub played : IsPlayed line
 
--- no line was found: there was no memory, or the text spells none
+-- no line was found: out of memory, or the text does not spell one
 abbrev pub NotFound : Place → (text : List ℕ) → ℕ → Stop → Type 0
 NotFound place text number stop =
     (stop ≡ Memory) ⊎ ((fault : LineFault) × (stop ≡ BadInput number fault) × (line_of place text ≡ Err fault))
 
--- a board stopped within a line of which these items are left, and what is reported of the others, which is something,
--- was not all written
+-- a board stopped within a line of which these items are left, and what is reported of the others is not empty, and was not all
+-- written
 abbrev pub CutAtStop : (done : List Line) → Line → Option World → (left : List Item) → (text : List ℕ) → Span → Type 0
 CutAtStop done line v left text s =
     (text ≢ []) × StoppedIn (motes_in done) (line ∷ []) left v s.initial s.now × PutsPrefix s.before s.after text
 
--- the same where an event was not played, since there were a million before it
+-- the same for an event that was not played, since there were a million before it
 abbrev pub CutAtTooMany : Option World → (left : List Item) → (text : List ℕ) → Span → Type 0
 CutAtTooMany v left text s =
     InSome v (λ u. IsOneTooMany u left) × BoardsStand v s.initial s.now × PutsPrefix s.before s.after text
 
--- the same where an event found no image to start, which no script with golden meets
+-- the same for an event that found no image to start, which never happens in a script with golden
 abbrev pub CutAtImage : Option World → (left : List Item) → (text : List ℕ) → Span → Type 0
 CutAtImage v left text s =
     (text ≢ []) × InSome v (λ u. LacksImage u left s.initial s.now) × PutsPrefix s.before s.after text
 
--- all of it was written, or a front
+-- all of the text was written, or a prefix of it
 abbrev pub BegunWrittenOr : Stop → Stop → (text : List ℕ) → (before after : Option (List ℕ)) → (write_failed : Type 0) → Type 0
 BegunWrittenOr stop result text before after failed =
     ((result ≡ stop) × Puts before after text) ⊎ ((result ≡ WriteFault) × failed × (text ≢ []) × PutsPrefix before after text)
 
--- what comes of writing what is reported of a line that the replay did not end, and why it stops then
+-- the outcome of writing what is reported of a line that the replay did not complete, and why the replay stops then
 abbrev pub BegunWritten : Stop → Stop → (text : List ℕ) → (before after : Option (List ℕ)) → (write_failed : Type 0) → Type 0
 BegunWritten TooMany result text before after failed = BegunWrittenOr TooMany result text before after failed
 BegunWritten FlashFault result text before after failed = BegunWrittenOr FlashFault result text before after failed
@@ -128,8 +128,8 @@ BegunAndCut initial behind a b line = LineBegun behind.lines line behind.world a
     (λ v left t. CutAtStop behind.lines line v left t (span_between initial a b)
     ⊎ (CutAtTooMany v left t (span_between initial a b) ⊎ CutAtImage v left t (span_between initial a b)))
 
--- What playing the text of a line answers after some lines. The player, the boards and what was written were a before it,
--- and are b then.
+-- The result of playing the text of a line after some lines. The player, the boards and what was written are a before it, and b
+-- after it.
 abbrev pub TextAnswer : Baseline → Result (Unit {0}) Stop → LineRead → (behind : DoneSoFar) → (a b : ReplayState)
     → (write_failed : Type 0) → Type 0
 TextAnswer basis (Ok u) read behind a b failed = TextReported basis read.text behind a b
@@ -177,16 +177,16 @@ pub record Reached (table : List Row) (ends : Bool) (script : Script) (texts : L
   -- there are boards for the motes of every line that was done
   pub boards_enough : lacking (length s.initial) done ≡ None
 
--- where nothing is said of what a watcher saw
+-- what a watcher saw, if nothing is said of it
 abbrev pub unseen : Saw
 unseen = λ stores events. Unit {0}
 
--- what a watcher saw that was shown the events of a run from where it begins
+-- what a watcher saw that was shown the events of a run from its beginning
 abbrev pub seen_of : (from : Option World) → (played : List Played) → Saw
 seen_of from played = λ stores events. (stores ≡ stores_in from) × (events ≡ events_played played)
 
--- A script was played so far, what was written is a front of what is reported of that, and P holds of how far,
--- and of what was written.
+-- A script was played so far, what was written is a prefix of what is reported of that, and P holds of how far it was played and
+-- of what was written.
 pub record PlayedPrefix (table : List Row) (script : Script) (initial : List Device) (before after : Option (List ℕ))
     (P : Progress table script → List ℕ → Type 0) : Type 0 where
   pub came : Progress table script
@@ -255,32 +255,32 @@ StopsAtText table NotAVolume script W number s failed =
 abbrev pub IsLeft : {table : List Row} {script : Script} → Span → Progress table script → Type 0
 IsLeft s c = Untouched c s.initial s.now × (s.first [] [] → IsSeen s.saw c)
 
--- the same where that is said
+-- the same with this condition
 abbrev pub StopsThere : (table : List Row) → Stop → (script : Script) → (number : ℕ) → Span → (write_failed : Type 0) → Type 0
 StopsThere table stop script number s failed = StopsAtText table stop script (λ c. IsLeft s c) number s failed
 
--- Each line of which something was done is whole among these bytes, and so is the one at which the boards end the replay.
+-- Each line of which something was done is whole among these bytes. The one at which the boards end the replay is whole too.
 abbrev pub IsWholeAt : Stop → (input : List ℕ) → (done rest : List Line) → (begun : List Item) → Type 0
 IsWholeAt FlashFault input done rest begun = NextIsWhole input done rest
 IsWholeAt NoImage input done rest begun = NextIsWhole input done rest
 IsWholeAt NotAVolume input done rest begun = NextIsWhole input done rest
 IsWholeAt stop input done rest begun = DoneIsWhole input done rest begun
 
--- the same where these bytes were taken, on which alone rests what was done
+-- the same if these bytes were taken; what was done depends on them alone
 abbrev pub StopsInTaken : (table : List Row) → Stop → (script : Script) → BytesTaken → (number : ℕ) → Span
     → (write_failed : Type 0) → Type 0
 StopsInTaken table stop script taken number s failed =
     StopsAtText table stop script (λ c. (taken.at_end ⊎ IsWholeAt stop taken.bytes c.done c.rest c.begun) × IsLeft s c) number s
     failed
 
--- where the rules end the script there, S holds
+-- if the rules end the script there, S holds
 abbrev pub ByRules : Stop → Type 0 → Type 0
 ByRules (BadInput line fault) S = S
 ByRules TooMany S = S
 ByRules (NoBoard motes boards) S = S
 ByRules stop S = Unit {0}
 
--- What playing the lines of an input as they are read answers, where these bytes were taken.
+-- The result of playing the lines of an input as they are read, if these bytes were taken.
 abbrev pub InputAnswer : (table : List Row) → Result (Player × ℕ) Halt → BytesTaken → Span → Failures → Type 0
 InputAnswer table (Ok reached) taken s failed =
     taken.at_end × (length taken.bytes ≤ most_used_bytes) × (behind_lines reached.1 taken.bytes ≡ [])
@@ -313,7 +313,7 @@ EndsWith result wanted piece before after failed =
     ⊎ ((result ≡ status.WriteFault) × PutsPrefix before after piece × failed)
     ⊎ ((result ≡ status.Memory) × (after ≡ before))
 
--- the same where it asks for no memory
+-- the same if writing needs no memory
 abbrev pub EndsWritten : Status → Status → List ℕ → (before after : Option (List ℕ)) → (write_failed : Type 0) → Type 0
 EndsWritten result wanted piece before after failed =
     ((result ≡ wanted) × Puts before after piece) ⊎ ((result ≡ status.WriteFault) × PutsPrefix before after piece × failed)

@@ -34,8 +34,8 @@ stores_in (Some w) = map (λ x. x.store) w.sites
 
 -- ---- the boards
 
--- The boards of this many motes are used from now on, and stand for these stores, each in its shape. Where they were formatted
--- with so many commits told as spent, they are fresh.
+-- The boards of this many motes are used from now on, and stand for these stores, each in its shape. If they were formatted with
+-- this many commits counted as spent, they are fresh.
 pub record IsPlaced (motes : ℕ) (used : Option ℕ) (boards : List Device) (stores : List Store) : Type 0 where
   pub some : 1 ≤ motes
   pub few : motes ≤ most_motes
@@ -69,7 +69,7 @@ pub record IsApplied (p : Played) (event : Event) (reported : Bool) (after : Dep
   pub was : IsOf before p.before
   pub none : before.reported ≡ []
   pub stands : IsOf after p.after
-  -- and all else that is promised of that
+  -- everything else that is promised of applying it
   pub done : ApplyDone (Ok tt) (step_of event cut) reported before after
 
 -- An event found no image to start. The boards stand for the world in which the run ends.
@@ -80,7 +80,7 @@ pub record IsEnding (w : World) (event : Event) (boards : List Device) : Type 0 
   pub ends : EndsRun w (step_of event cut) after
   pub stand : (m : ℕ) (d : Device) → m < length after.sites → slice_get boards m ≡ Some d → Stands d.image (store_at after m)
 
--- ---- what goes on
+-- ---- runs that continue
 
 -- what was seen before is what is seen after
 abbrev pub StaysSeen : (before after : Saw) → Type 0
@@ -91,7 +91,7 @@ abbrev pub Shows : (before after : Saw) → World → List Played → Type 0
 Shows before after w played = (stores : List Store) (events : List Played) → LeadTo stores events w → before stores events
     → after stores (events ++ events_played played)
 
--- what was played from where one run begins was seen, and so is what was played from where another one does
+-- if what was played from the beginning of one run was seen, what was played from the beginning of another is seen too
 abbrev pub GoesOnSeen : (before after : Saw) → (from : Option World) → (played : List Played) → (on : Option World)
     → (now : List Played) → Type 0
 GoesOnSeen before after from played on now = before (stores_in from) (events_played played)

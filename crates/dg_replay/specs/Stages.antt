@@ -1,4 +1,4 @@
--- Where a replay stands: what it is held against, how far it came, what stands outside then, and what may have failed there
+-- The state of a replay: what it is checked against, how far it came, the state outside, and what may have failed there
 -- (docs/ARCHITECTURE.md, "The way of a script line").
 use Rattle.std.specs.Prelude.{ℕ, List, Option}
 use Rattle.dg_nor.specs.Device.{Device}
@@ -8,7 +8,7 @@ use Rattle.dg_script.specs.declared.line.Line.{Line}
 use Rattle.dg_replay.specs.Shown.{Saw}
 use Rattle.dg_replay.specs.declared.player.Player.{Player}
 
--- What a replay is held against: a table of images, and the boards as they were when it began.
+-- What a replay is checked against: a table of images, and the boards as they were when it began.
 pub record Baseline : Type 0 where
   pub table : List Row
   pub boards : List Device
@@ -24,7 +24,7 @@ pub record DoneSoFar : Type 0 where
 abbrev pub done_so_far : (lines : List Line) (world : Option World) → DoneSoFar
 done_so_far lines world = record { lines = lines; world = world }
 
--- What was told so far: the text that is reported of lines, and what a watcher saw.
+-- What was reported and shown so far: the text that is reported of lines, and what a watcher saw.
 pub record Told : Type 1 where
   pub text : List ℕ
   pub saw : Saw
@@ -32,7 +32,7 @@ pub record Told : Type 1 where
 abbrev pub told_so_far : (text : List ℕ) (saw : Saw) → Told
 told_so_far text saw = record { text = text; saw = saw }
 
--- What is told of a line: the text that is reported of it, and what a watcher saw before it and after it.
+-- What is reported and shown of a line: the text that is reported of it, and what a watcher saw before it and after it.
 pub record LineTold : Type 1 where
   pub text : List ℕ
   pub before : Saw
@@ -41,7 +41,7 @@ pub record LineTold : Type 1 where
 abbrev pub line_told : (text : List ℕ) (before after : Saw) → LineTold
 line_told text before after = record { text = text; before = before; after = after }
 
--- The boards, and what was told of lines so far.
+-- The boards, and what was reported and shown of lines so far.
 pub record BoardsTold : Type 1 where
   pub boards : List Device
   pub told : Told
@@ -49,7 +49,7 @@ pub record BoardsTold : Type 1 where
 abbrev pub boards_told : (boards : List Device) (told : Told) → BoardsTold
 boards_told boards told = record { boards = boards; told = told }
 
--- The state of a replay: its player, the boards, what was written, where that is told, and what a watcher saw.
+-- The state of a replay: its player, the boards, what was written, if the sink exposes it, and what a watcher saw.
 pub record ReplayState : Type 1 where
   pub player : Player
   pub boards : List Device
@@ -67,7 +67,7 @@ pub record LineRead : Type 0 where
 abbrev pub line_read : (text : List ℕ) (number : ℕ) → LineRead
 line_read text number = record { text = text; number = number }
 
--- The boards when a replay began and now, what was written before and now, where that is told, and what a watcher saw before
+-- The boards when a replay began and now, what was written before and now, if the sink exposes it, and what a watcher saw before
 -- and now.
 pub record Span : Type 1 where
   pub initial : List Device

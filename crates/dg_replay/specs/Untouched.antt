@@ -11,11 +11,11 @@ use Rattle.dg_script.specs.declared.line.Line.TheVariants.{Happens as EventLine}
 use Rattle.dg_script.specs.declared.line.Line.TheVariants.{Round, Sweeps}
 use Rattle.dg_script.specs.declared.place.Place.{Place}
 
--- the bytes of a board, None where there is no such one
+-- the bytes of a board, None if there is no such board
 abbrev pub image_at : ℕ → List Device → Option (List ℕ)
 image_at m boards = option_map (λ d. d.image) (slice_get boards m)
 
--- an item is no event at this mote
+-- an item is not an event at this mote
 abbrev pub IsElsewhere : ℕ → Item → Type 0
 IsElsewhere m (Declares row) = Unit {0}
 IsElsewhere m (Applies step reported) = mote_of step.event ≢ m

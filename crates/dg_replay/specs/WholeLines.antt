@@ -1,8 +1,8 @@
--- What the whole lines of bytes are, told of the bytes as a whole (docs/SCRIPTS.md, "The script").
+-- What the whole lines of bytes are, defined by the bytes as a whole (docs/SCRIPTS.md, "The script").
 use Rattle.std.specs.Prelude.{◌≡◌, ◌≢◌, ◌⊎◌, ℕ, List, [], ◌∷◌, ◌++◌}
 use Rattle.std.specs.List.{AllByRecursion}
 
--- The longest front of the bytes that is empty or ends in LF: no LF stands after it.
+-- The longest prefix of the bytes that is empty or ends in LF: no LF stands after it.
 pub record AreWholeLines (bytes front : List ℕ) : Type 0 where
   pub behind : List ℕ
   pub parts : bytes ≡ front ++ behind

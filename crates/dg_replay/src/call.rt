@@ -18,8 +18,8 @@ use dg_nor::Nor;
 use dg_script::LineReader;
 use std::alloc::Global;
 
-/// Replays the script that `input` spells over the boards, and writes the report to `out`. A status other than
-/// [`Status::Done`] writes its line last, where it has one.
+/// Replays the script that `input` spells over the boards, and writes the report to `out`. A status other than [`Status::Done`]
+/// writes its line last, if it has one.
 ///
 /// The input is read line by line, and what a line reports is written before the next one is asked for: no more than
 /// 300,002 bytes are taken after the line that is played.
@@ -35,8 +35,8 @@ pub fn replay<S: Source, K: Sink, N: Nor>(
     ensures done { ReplayDone result (around (S.left input.old) (S.faults input.old) (K.written out.old) (K.faults out.old)
         (map N.device boards.old.items))
         (around (S.left input.new) (S.faults input.new) (K.written out.new) (K.faults out.new) (map N.device boards.new.items)) }
-    // All arrays of bytes that are alive at once in a mote's call have no more than 256, and beside the outbox and its sets
-    // none lies in the value of a mote.
+    // The arrays of bytes that are alive at once in a mote's call have no more than 256 bytes in all. The value of a mote holds
+    // no array of bytes except the outbox and its sets.
     ensures buffers { BuffersFit × ValuesAreSmall }
     ensures reads { S.faults input.old ≤ S.faults input.new }
     ensures writes { K.faults out.old ≤ K.faults out.new }
@@ -44,8 +44,8 @@ pub fn replay<S: Source, K: Sink, N: Nor>(
     replay_watched(alloc, input, out, boards, &mut Unwatched)
 }
 
-/// The same, and `watcher` is shown what is played: where it had seen nothing before, it saw exactly the events that were
-/// played, however the replay ends.
+/// The same, and `watcher` is shown what is played: if it had seen nothing before, it saw exactly the events that were played,
+/// however the replay ends.
 pub fn replay_watched<S: Source, K: Sink, N: Nor, W: Watcher<N>>(
     alloc: Global,
     input: &mut S,
@@ -60,8 +60,8 @@ pub fn replay_watched<S: Source, K: Sink, N: Nor, W: Watcher<N>>(
         (around (S.left input.old) (S.faults input.old) (K.written out.old) (K.faults out.old) (map N.device boards.old.items))
         (around (S.left input.new) (S.faults input.new) (K.written out.new) (K.faults out.new) (map N.device boards.new.items)))
         × IsSeen (W.saw watcher.new) x.came }
-    // All arrays of bytes that are alive at once in a mote's call have no more than 256, and beside the outbox and its sets
-    // none lies in the value of a mote.
+    // The arrays of bytes that are alive at once in a mote's call have no more than 256 bytes in all. The value of a mote holds
+    // no array of bytes except the outbox and its sets.
     ensures buffers { BuffersFit × ValuesAreSmall }
     ensures reads { S.faults input.old ≤ S.faults input.new }
     ensures writes { K.faults out.old ≤ K.faults out.new }

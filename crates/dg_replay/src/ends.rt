@@ -18,7 +18,7 @@ use dg_base::{Sink, Status};
 use dg_nor::Nor;
 use std::alloc::Global;
 
-/// The status of a replay that stopped, whose last line is written where it has one.
+/// The status of a replay that stopped. Its last line is written, if it has one.
 pub fn end_at_stop<K: Sink>(alloc: Global, out: &mut K, stop: Stop) -> Status
     ensures full { stop ≡ Stop.TooMany → (result ≡ Status.TooMany) ⊎ (result ≡ Status.WriteFault) }
     ensures ends { StopEnds stop result (K.written out.old) (K.written out.new) (Rose (K.faults out.old) (K.faults out.new)) }
@@ -37,7 +37,7 @@ pub fn end_at_stop<K: Sink>(alloc: Global, out: &mut K, stop: Stop) -> Status
     }
 }
 
-/// Ends a replay all of whose lines were played, where its input is not too long.
+/// Ends a replay whose lines were all played and whose input is not too long.
 pub fn end_script<K: Sink, N: Nor>(
     alloc: Global,
     player: &Player,

@@ -35,7 +35,7 @@ fn halted(stop: ReadStop) -> Halt
     }
 }
 
-/// Reads the next line, plays it and writes what it reports. Answers whether there was one.
+/// Reads the next line, plays it and writes what it reports. Returns whether there was one.
 fn play_next<S: Source, K: Sink, N: Nor, W: Watcher<N>>(
     alloc: Global,
     reader: &mut LineReader,
@@ -87,8 +87,8 @@ fn play_next<S: Source, K: Sink, N: Nor, W: Watcher<N>>(
     }
 }
 
-/// Reads the lines of an input one after another and plays each before the next one is asked for. Answers where the replay
-/// then stands, with the number of the line after the last.
+/// Reads the lines of an input one after another and plays each before the next one is asked for. Returns where the replay then
+/// stands, with the number of the line after the last.
 pub fn play_lines<S: Source, K: Sink, N: Nor, W: Watcher<N>>(
     alloc: Global,
     reader: &mut LineReader,

@@ -6,7 +6,7 @@ use crate::stop::Stop;
 pub enum Halt {
     /// A read failed.
     ReadFault,
-    /// There are more bytes than are used, and no further line ends among those that are.
+    /// The input has more bytes than are used, and no further line ends among the used ones.
     TooLong,
     /// The replay stopped at a line.
     Stopped(Stop),

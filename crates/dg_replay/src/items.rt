@@ -94,7 +94,7 @@ pub fn play_image<N: Nor, W: Watcher<N>>(
     }
 }
 
-/// Plays an event with the cut that waits for it. Its frame is reported where `reported` is true.
+/// Plays an event with the cut that waits for it. Its frame is reported if `reported` is true.
 #[inline(always)]
 pub fn play_event<N: Nor, W: Watcher<N>>(
     world: &mut World,

@@ -22,22 +22,22 @@ pub fn whole_lines_are_longest()
     ensures { (bytes : List ℕ) → AreWholeLines bytes (whole_lines bytes) }
 {}
 
-/// The first lines of a script are read the same, whatever follows them. An input that begins with whole lines, of at most
-/// 16,777,216 bytes, has a script that begins as theirs, and that is theirs where one of them has a fault.
+/// The first lines of a script are read the same, whatever follows them. If an input begins with whole lines, of at most
+/// 16,777,216 bytes, its script begins with their script, and is their script if one of them has a fault.
 pub fn first_lines_are_read_the_same()
     ensures { (front more : List ℕ) → whole_lines front ≡ front → length front ≤ most_used_bytes
         → BeginsAs (script_from false first_place 1 (lines front)) (script_of (front ++ more)) }
 {}
 
-/// However far a script was played, and of each part that was played first: where each frame from outside is honest by
-/// the table of its moment, and boards that are used as they are agree with a table no image version of which is injected
-/// with another content, unless the rules refuse it, each step is legal, no version falls, what starts is a row of the
-/// table, and the chips, the motes that are on and the frames that were sent agree with the table, and so does the store
-/// of each half-done chip, wherever a stop comes in the next event. Lines that bring no frame meet that. Each round of
-/// two wide motes, or of two narrow ones, brought a page to one that was behind. Where what was played ends with an
-/// undisturbed rest, and all motes are wide, or all are narrow and no image above 3 has a row, pages come along the links
-/// as in a pipeline, and after enough sweeps every mote keeps the newest version of every image whole. Whatever bytes
-/// frames carry, every store stays consistent, and what starts is golden, or fits its own descriptor.
+/// What holds of a script, however far it was played, and of each part that was played first. There are two premises. Each frame
+/// from outside is honest by the table of its moment. Boards that are used as they are agree with a table, and no image version
+/// of it is injected with another content, unless the rules refuse it. Then each step is legal, no version falls, and what starts
+/// is a row of the table. The chips, the motes that are on and the frames that were sent agree with the table. The store of each
+/// half-done chip agrees too, wherever a stop comes in the next event. Without a `boards` line, lines that bring no frame from
+/// outside meet both premises. Each round of two wide motes, or of two narrow ones, brought a page to one that was behind. If
+/// what was played ends with an undisturbed rest, and all motes are wide, or all are narrow and no image above 3 has a row, pages
+/// travel along the links as in a pipeline. After enough sweeps of such a rest every mote keeps the newest version of every image
+/// whole. Whatever bytes frames carry, every store stays consistent, and what starts is golden, or fits its own descriptor.
 pub fn replays_keep_the_rules()
     ensures { (table : List Row) (input : List ℕ) (c : Progress table (script_of input)) → Headline c }
 {

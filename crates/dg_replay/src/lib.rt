@@ -1,8 +1,7 @@
 //! Replays a script over boards: `replay` reads it line by line, plays each line, and writes what it reports.
 //!
-//! Scripts are of 1 to 16 motes: their chips are formatted, images are declared, injected, ordered and started, time
-//! passes, frames are sent, heard and brought from outside, rounds and sweeps bring pages from mote to mote, and power is
-//! cut.
+//! Scripts are of 1 to 16 motes. Their chips are formatted, images are declared, injected, ordered and started, and time passes.
+//! Frames are sent, heard and brought from outside, rounds and sweeps bring pages from mote to mote, and power is cut.
 #![tactic(auto)]
 
 mod call;

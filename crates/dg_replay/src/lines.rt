@@ -24,7 +24,7 @@ pub fn put_piece<K: Sink>(out: &mut K, piece: &[u8]) -> Result<(), Stop>
     }
 }
 
-/// Writes what is reported of a line, in one piece, where it is something.
+/// Writes what is reported of a line, in one piece, if anything is.
 pub fn write_text<K: Sink>(out: &mut K, text: &[u8]) -> Result<(), Stop>
     ensures ok { OnOk result (Puts (K.written out.old) (K.written out.new) text.now) }
     ensures front { OnErr result (PutsPrefix (K.written out.old) (K.written out.new) text.now × (text.now ≢ [])) }
@@ -38,7 +38,7 @@ pub fn write_text<K: Sink>(out: &mut K, text: &[u8]) -> Result<(), Stop>
     put_piece(out, text)
 }
 
-/// Writes what is reported of the items of a line before the one at which the replay stops, and answers why it does.
+/// Writes what is reported of the items of a line before the one at which the replay stops, and returns why it stops.
 pub fn write_begun<K: Sink>(out: &mut K, text: &[u8], stop: Stop) -> Stop
     ensures written { BegunWritten stop result text.now (K.written out.old) (K.written out.new)
         (Rose (K.faults out.old) (K.faults out.new)) }

@@ -23,7 +23,7 @@ use std::mem;
 #[derive(Drop)]
 pub struct Player {
     pub place: Place,
-    /// The world of the motes. It has none before the boards are used.
+    /// The world of the motes. It has no motes before the boards are used.
     pub world: World,
 }
 
@@ -39,7 +39,7 @@ impl Player {
     }
 }
 
-/// There are this many motes, for which boards are needed.
+/// Plays the `motes` line: there are this many motes, and each needs a board.
 fn play_motes<N: Nor, W: Watcher<N>>(
     motes: u8,
     boards: &Vec<N>,
@@ -95,7 +95,7 @@ fn format<N: Nor>(
     format_first(boards.as_mut_slice(), motes, name, used, content)
 }
 
-/// There is golden, with which the boards of the motes are formatted.
+/// Plays the `golden` line: the boards of the motes are formatted with golden.
 fn play_golden<N: Nor, W: Watcher<N>>(
     alloc: Global,
     player: &mut Player,
@@ -159,7 +159,7 @@ fn mount_stop(stopped: MountStopped) -> Stop
     }
 }
 
-/// The boards of the motes are used as they are.
+/// Plays the `boards` line: the boards of the motes are used as they are.
 fn play_boards<N: Nor, W: Watcher<N>>(
     alloc: Global,
     player: &mut Player,
@@ -199,8 +199,8 @@ fn take_bytes(alloc: Global, bytes: &mut Bytes) -> Bytes
     mem::replace(bytes, Bytes::new(Vec::new(alloc)))
 }
 
-/// Plays a line where the player stands, whose place does not go on after it yet. The bytes of an image are taken out of the
-/// line, which its place does not go on by. A cut waits for its event. What is reported of the line is appended.
+/// Plays a line where the player stands, but does not move the player past it yet. The bytes of an image are taken out of the
+/// line, since the move does not need them. A cut waits for its event. What is reported of the line is appended.
 pub fn play_line<N: Nor, W: Watcher<N>>(
     alloc: Global,
     line: &mut Line,

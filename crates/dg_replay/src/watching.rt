@@ -22,18 +22,18 @@ pub trait Watcher<N: Nor> {
     fn begun(&mut self, motes: u8)
         ensures { saw self.old [] [] → saw self.new [] [] };
 
-    /// The boards of the motes are used from now on: they were formatted with this many commits told as spent, or mounted as
+    /// The boards of the motes are used from now on: they were formatted with this many commits counted as spent, or mounted as
     /// they are.
     fn placed(&mut self, motes: u8, used: Option<u32>, boards: &[N])
         ensures { (stores : List Store) → IsPlaced motes used (map N.device boards.now) stores → saw self.old [] []
             → saw self.new stores [] };
 
-    /// An image was not declared, which is reported by a line.
+    /// An image was not declared, since its version was declared with another name or content. A line reports this.
     fn taken(&mut self)
         ensures { (stores : List Store) (events : List Played) → saw self.old stores events → saw self.new stores events };
 
-    /// An event was applied, also where it was refused or cut, and these lines are reported of it. A frame that it sent is
-    /// reported only where `reported` is true: events of rounds and sweeps do not tell theirs.
+    /// An event was applied, also if it was refused or cut, and these lines are reported of it. A frame that it sent is reported
+    /// only if `reported` is true: the frames of rounds and sweeps are not.
     fn applied(
         &mut self,
         world: &World,
@@ -46,13 +46,13 @@ pub trait Watcher<N: Nor> {
             → IsApplied p event.now reported (deployed world.now (map N.device boards.now) reports.now)
             → saw self.old stores events → saw self.new stores (events ++ p ∷ []) };
 
-    /// An event found no image to start, and ends the replay. It is none of those that were applied.
+    /// An event found no image to start, and ends the replay. It is not one of those that were applied.
     fn ended(&mut self, event: &Event, boards: &[N])
         ensures { (stores : List Store) (events : List Played) (w : RuleWorld) → LeadTo stores events w
             → IsEnding w event.now (map N.device boards.now) → saw self.old stores events → saw self.new stores events };
 }
 
-/// Nobody watches.
+/// A watcher that does nothing.
 #[derive(Clone, Copy, Debug, PartialEq, Eq)]
 pub struct Unwatched;
 

@@ -1,4 +1,4 @@
--- Cuts of power are told by their operation and their mask.
+-- A cut of power is determined by its operation and its mask.
 use Rattle.std.proofs.Common.{◌≡◌, ℕ, List, sym, ap, ◌∙◌}
 use Rattle.std.specs.Prelude.{Result, Ok}
 use Rattle.dg_base.specs.declared.events.Cut.{Cut}

@@ -39,7 +39,7 @@ last_unfailed r wanted None a b h other = ap (λ (o : OutputState). o.writes) h.
 last_unfailed r wanted (Some text) a b h other =
     ⊎_elim (λ d. d.2) (λ x. ⊎_elim (λ w. absurd (other w.0)) (λ m. ap (λ (o : OutputState). o.writes) m.1) x) h
 
--- no trial comes to a write that failed
+-- no outcome of a trial is a failed write
 writes_last : (outcome : Outcome) (motes pages seed : ℕ) (old new : List Device) → TrialComesTo outcome motes pages seed old new → outcome_status outcome ≢ status.WriteFault
 writes_last (Ok text) motes pages seed old new comes is = cc
 writes_last (Err ends.Memory) motes pages seed old new comes is = cc
@@ -53,7 +53,7 @@ trial_cause r outcome motes pages seed a b old new comes h = last_cause r (outco
 pub trial_unfailed : (r : Status) (outcome : Outcome) (a b : OutputState) → WritesAnswer r outcome a b → r ≢ status.WriteFault → b.writes ≡ a.writes
 trial_unfailed r outcome a b h = last_unfailed r (outcome_status outcome) (outcome_line outcome) a b h
 
--- ---- what it comes to
+-- ---- its outcome
 
 told_is : (motes pages seed : ℕ) (old new : List Device) (s : Summary) (t : TrialPlayed motes pages seed old new) → TellsTrial motes pages seed t.last s → summary_line s.motes s.pages s.sweeps s.events s.whole ≡ trial_text motes pages seed t.last
 told_is motes pages seed old new s t h =
@@ -77,15 +77,15 @@ run_fails ends.Memory motes pages seed old new enough h = h
 run_fails ends.FlashFault motes pages seed old new enough h = (enough, h)
 run_fails end motes pages seed old new enough h = absurd h
 
--- what a trial is lent, and the rest
+-- what a trial uses, and the rest
 abbrev pub standing : OutputState → List Device → Outside → Outside
 standing output boards rest = record rest { output = output; boards = boards }
 
--- where there is no rest
+-- the same without a rest
 abbrev pub alone : OutputState → Outside
 alone output = record { input = record { left = None; reads = 0 }; output = output; link = record { inboxes = None; failures = 0; port = None }; clock = None; boards = [] }
 
--- what a trial came to is written, and gives the status
+-- the outcome of a trial is written, and gives the status
 pub trial_ends : WholeLaw → (r : Status) (outcome : Outcome) (motes pages seed : ℕ) (a b : OutputState) (old new : List Device) (rest : Outside) → 2 ≤ motes → motes ≤ most_motes → 2 ≤ pages → pages ≤ 65 → TrialComesTo outcome motes pages seed old new
     → WritesAnswer r outcome a b → TrialEnds r motes pages seed (standing a old rest) (standing b new rest)
 trial_ends law r (Ok text) motes pages seed a b old new rest some few some_pages few_pages comes h =
@@ -118,7 +118,7 @@ counts_events motes pages seed v some run =
     let sweeps : s * (404 * (motes - 1)) ≡ s * (2 * (motes - 1) * 202) = ap (λ (n : ℕ). s * n) links in
     omega (arith, played, count, sweeps)
 
--- where it was played and told, the line says that every mote keeps the image whole
+-- if it was played and reported, the line says that every mote keeps the image whole
 pub tells_whole : (r : Status) (motes pages seed : ℕ) (a b : OutputState) (old new : List Device) (rest : Outside) → 1 ≤ motes → TrialEnds r motes pages seed (standing a old rest) (standing b new rest) → r ≡ status.Done → TellsWhole motes pages a.written b.written
 tells_whole r motes pages seed a b old new rest some told is =
     let d : TrialComplete motes pages seed (standing a old rest) (standing b new rest) = subst (λ (s : Status). TrialEnds s motes pages seed (standing a old rest) (standing b new rest)) is told in

@@ -1,4 +1,4 @@
--- Motes in a line: ways between them, and how many commits a sweep may take at one of them.
+-- Motes in a line: paths between them, and how many commits a sweep may take at one of them.
 use Rattle.std.proofs.Common.{◌≡◌, ◌≢◌, inl, inr, ℕ, zero, suc, ◌+◌, ◌*◌, ◌<◌, ◌≤◌, ◌==◌, List, [], ◌∷◌, ◌++◌, length, replicate, Contains, refl, subst, ◌∙◌, arith}
 use Rattle.std.specs.List.{AllByRecursion, sum_by}
 use Rattle.std.proofs.lemmas.Bool.{cases_eq, cases_lt, cond_both, eqb-true}
@@ -12,7 +12,7 @@ use Rattle.dg_completion.proofs.GrowLemmas.{all_append, all_replicate, all_times
 use Rattle.dg_trial.specs.Schedule.{line_links}
 use Rattle.dg_trial.proofs.FitLemmas.{length-round}
 
--- ---- ways
+-- ---- paths
 
 line_contains : (n m : ℕ) → m + 1 < n → Contains (line_links n) (m, m + 1)
 unfolding line_links
@@ -85,7 +85,8 @@ link_none m a b es first second =
     let u = none_there m (round b a) (round_apart m b a second first) in
     omega (arith, x, y, z, u)
 
--- at a mote of a line of n: none where it is no mote of it, those of one link at the last one, those of two links at any
+-- the commits at mote m of a line of n: none if m is not on the line, those of one link at the last mote, and at most those of
+-- two links
 record LineSum (m n : ℕ) : Type 0 where
   far : n ≤ m → sum_by (commits_at m) (sweep (line_links n)) ≡ 0
   end : n ≤ m + 1 → sum_by (commits_at m) (sweep (line_links n)) ≤ 1212
@@ -118,6 +119,6 @@ times_sum m (suc k) b es h =
     let c = times_sum m k b es h in
     omega (arith, a, c, h)
 
--- so many commits at a mote in so many sweeps
+-- at most 2,424 commits at a mote in each sweep
 pub sweeps_few : (m n k : ℕ) → sum_by (commits_at m) (times k (sweep (line_links n))) ≤ k * 2424
 sweeps_few m n k = times_sum m k 2424 (sweep (line_links n)) (line_sum m n).all

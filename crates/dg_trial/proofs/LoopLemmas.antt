@@ -14,7 +14,7 @@ use Rattle.dg_end.specs.declared.ends.End.{End}
 use Rattle.dg_trial.proofs.PartLemmas.{SoFar, so_far_none, so_far_more, so_far_stop, may_next}
 use Rattle.dg_trial.proofs.ScheduleLemmas.{resets_none, resets_more, events_join, events_more, disturbances_none, disturbances_split, times_none, times_more}
 
--- fronts of a list, each with one piece more
+-- prefixes of a list, each with one more piece
 pub record Fronts (front piece : ℕ → List SchedulePart) : Type 0 where
   pub none : front 0 ≡ []
   pub more : (k : ℕ) → front (k + 1) ≡ front k ++ piece k
@@ -120,7 +120,7 @@ pub events_all : (all given left : List Event) (first kept : KeptWorld) (old now
 events_all all given left first kept old now s none =
     (subst (λ (xs : List Event). SoFar (map always xs) first kept old now) (sym (append-nil given) ∙ ap (λ (xs : List Event). given ++ xs) (sym none) ∙ s.parts) s.so_far).played
 
--- ---- five pieces, one behind the other
+-- ---- five pieces, one after the other
 
 pub record Five (r i d s whole : List SchedulePart) : Type 0 where
   pub first : [] ++ (r ++ (i ++ (d ++ (r ++ s)))) ≡ whole

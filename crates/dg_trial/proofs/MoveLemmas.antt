@@ -35,7 +35,7 @@ pub record Laws : Type 0 where
   pub free : FreeLaw
   pub spend : SpendLaw
 
--- From w to v at most so many commits were made at each mote, and no page of a newest version was lost.
+-- From w to v at most this many commits were made at each mote, and no page of a newest version was lost.
 pub record Moves (spent : ℕ) (w v : World) : Type 0 where
   pub good : WorldAgrees v
   pub table : v.table ≡ w.table
@@ -69,7 +69,7 @@ pages_unchanged : (s t : Store) (row : Row) → t.kept ≡ s.kept → pages_kept
 pages_unchanged s t row e =
     ap (λ (kept : List (Option Held)). if is_version (slice_index_or kept row.image None) row.version then done_of (slice_index_or kept row.image None) else 0) e
 
--- what holds of the other site at the mote, and of each site as it was, holds of each then
+-- what holds of the new site at the mote, and of each other site as it was, holds of each site after the reset
 module _ (w v : World) (m dt : ℕ) (cut : Option Cut) (r : Restarted w m dt cut v) (within : m < length w.sites) where
   abbrev mid : World
   mid = record (counted w dt) { table = w.table }

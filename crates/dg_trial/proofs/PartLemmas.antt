@@ -1,4 +1,4 @@
--- What playing one part, and one after the other, answers.
+-- The results of playing one part, and parts one after another.
 use Rattle.std.proofs.Common.{◌≡◌, ℕ, ◌<◌, false, List, [], ◌∷◌, ◌++◌, length, refl, append_assoc, ap, sym, ◌∙◌, subst, arith}
 use Rattle.std.specs.Prelude.{Ok, Err}
 use Rattle.dg_base.specs.declared.events.Step.{Step}
@@ -22,7 +22,7 @@ use Rattle.dg_end.specs.declared.ends.End.TheVariants as ends
 use Rattle.dg_trial.proofs.RunLemmas.{step_counts, leads_none, leads_one, leads_then, may_front}
 use Rattle.dg_world.proofs.EndureLemmas.{board_stops, event_within, sites_same, other_than, stands_next}
 
--- ---- the boards behind a step
+-- ---- the boards after a step
 
 flash_next : (u : World) (x : Step) (board : ℕ) (initial old new : List Device) → mote_of x.event < length u.sites → FlashAt u x board old new → WorldStands u initial old → StopsInStep u x initial new
 flash_next u x board initial old new within f b =
@@ -76,7 +76,7 @@ stopped_in motes w x p v board initial old new may at is f stands =
     begun_none w (p ∷ []) (λ u left. StopsInPart u left initial new)
     (record { part = p; more = []; next = refl; stops = subst (λ (y : Step). StopsInStep w y initial new) (sym at) (flash_next w x board initial old new (step_within motes v old w x is may) f stands) })
 
--- a part may be played as the step that it is after so many frames
+-- a part may be played as the step that it is after this many frames
 pub may_only : (motes : ℕ) (k : KeptWorld) (old : List Device) (x : Step) (p : SchedulePart) → (m : MayPlayOver motes k old (p ∷ [])) → p (length m.world.sent) ≡ x → MayPlayOver motes k old (only x)
 may_only motes k old x p m at =
     record {
@@ -101,9 +101,9 @@ not_full motes k old x m e = let few = m.may.few in omega (arith, few, e)
 pub not_lacking : ((w v : World) (x : Step) → WorldKeepsGolden w → StepInRange (length w.sites) x → EndsRun w x v → ⊥) → (motes : ℕ) (k : KeptWorld) (old new : List Device) (x : Step) (m : MayPlayOver motes k old (only x)) → RunEnded m.world x old new → ⊥
 not_lacking law motes k old new x m e = law m.world e.world x m.may.keeps (step_fits motes m.world x m.may) e.ends
 
--- ---- parts behind others
+-- ---- parts after others
 
--- So many parts were played, from a kept world and boards to these.
+-- These parts were played, from a kept world and boards to these.
 pub record SoFar (parts : List SchedulePart) (first kept : KeptWorld) (old now : List Device) : Type 0 where
   pub played : (w : World) (initial : List Device) → IsWorld first old w → WorldStands w initial old → PartsPlayed w parts kept initial now
 

@@ -58,7 +58,7 @@ module _ (name bytes : List ℕ) where
   unfolding newest largest
   newest_one = refl
 
-  -- of the other images that motes hand on there is none
+  -- no other image that motes forward has a row
   newest_other : (i : ℕ) → 2 ≤ i → newest rows i ≡ None
   unfolding newest largest
   newest_other i low =

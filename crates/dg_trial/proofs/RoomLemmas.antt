@@ -13,7 +13,7 @@ use Rattle.dg_volume.specs.Trails.{committing}
 use Rattle.dg_volume.specs.Start.{Runs, Boot, behind, counts, count_trail, by_gesture, order_waits, is_set_to, blank_by, blank_trail, copy_trail, app_of, kept_runs, order_boot, golden_done, finish_trail, golden_copied, golden_stays, golden_by, golden_boot, kept_by, kept_boot, waived_once, boot_counted, boot, sound}
 use Rattle.dg_volume.specs.declared.volume.StartCause.{StartCause}
 
--- so many commits are left
+-- this many commits are left
 abbrev pub Roomy : ℕ → Store → Type 0
 Roomy c s = c ≤ s.room
 

@@ -1,4 +1,4 @@
--- Runs of parts: one behind another, and what they count.
+-- Runs of parts: one after another, and what they count.
 use Rattle.std.proofs.Common.{◌≡◌, ℕ, ◌+◌, ◌≤◌, true, false, Bool, List, [], ◌∷◌, ◌++◌, length, refl, sym, ap, subst, ◌∙◌, arith, length-append}
 use Rattle.std.specs.List.{AllByRecursion}
 use Rattle.std.specs.Prelude.{Option, Some, None}
@@ -16,13 +16,13 @@ use Rattle.dg_trial.specs.Playing.{LeadsTo, MayPlayParts, PartFits, PartsGoOnLaw
 
 -- ---- one step
 
--- a world with as many motes, one event more, and at most one frame more
+-- a world with the same number of motes, one more event, and at most one more frame
 pub record Counts (w v : World) : Type 0 where
   pub sites : length v.sites ≡ length w.sites
   pub events : v.events ≡ w.events + 1
   pub sent : length v.sent ≤ length w.sent + 1
 
--- the same, of as many frames
+-- the same, with no new frame
 record Quiet (w v : World) : Type 0 where
   sites : length v.sites ≡ length w.sites
   events : v.events ≡ w.events + 1

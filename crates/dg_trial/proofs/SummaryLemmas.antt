@@ -1,4 +1,4 @@
--- The last lines of a world tell how many of its motes keep the image whole.
+-- The last lines of a world report how many of its motes keep the image whole.
 use Rattle.std.proofs.Common.{◌≡◌, lit≤, ℕ, zero, suc, ◌+◌, ◌-◌, ◌*◌, ◌%◌, ◌<◌, ◌≤◌, ◌==◌, ◌&&◌, nat_le, Bool, true, false, cond, if◌then◌else◌, List, [], ◌∷◌, length, refl, ap, sym, ◌∙◌, arith}
 use Rattle.std.specs.Prelude.{Option, Some, None, slice_index_or, count_by}
 use Rattle.std.specs.List.{cons_option, filter_map, flat_map, range_with_len}
@@ -19,7 +19,7 @@ use Rattle.dg_trial.specs.Schedule.{size_by, row_by}
 use Rattle.dg_trial.specs.Lines.{tells_whole}
 use Rattle.dg_trial.specs.Trials.{keeps_all, wholes}
 
--- how many lines an option gives that tell it
+-- how many lines of an option report a whole image
 told_in : ℕ → Option Report → ℕ
 told_in pages None = 0
 told_in pages (Some r) = cond (tells_whole pages r) 1 0
@@ -50,7 +50,7 @@ first_told pages m (Some h) some = ap (λ (b : Bool). cond {A = ℕ} b 1 0) (by_
 not_one : (i : ℕ) → 2 ≤ i → (i == 1) ≡ false
 not_one i low = ne_eqb i 1 (λ e. let f : i ≡ 1 = e in omega (arith, f, low))
 
--- the lines on the other images tell nothing of it
+-- the lines on the other images report nothing of it
 others_told : (pages m : ℕ) (s : Store) (i n : ℕ) → 2 ≤ i → ◌≡◌ {A = ℕ} (count_by (tells_whole pages) (filter_map (λ j. kept_line m j (held s j)) (range_with_len i n))) 0
 others_told pages m s i zero low = refl
 others_told pages m s i (suc n) low =
@@ -96,7 +96,7 @@ module _ (row : Row) (image : row.image ≡ 1) (version : row.version ≡ 1) (pa
       let one : count_by (tells_whole pages) (site_lines a (F a)) ≡ cond (keeps_all row x) 1 0 = site_told a (F a) ∙ ap (λ (y : Site). cond (keeps_all row y) 1 0) here in
       all ∙ ap (λ (n : ℕ). n + count_by (tells_whole pages) lines) one ∙ ap (λ (n : ℕ). cond (keeps_all row x) 1 0 + n) rest ∙ sym (sum_by-cons (λ (y : Site). cond {A = ℕ} (keeps_all row y) 1 0) x xs)
 
-  -- the lines that tell it are as many as the motes that keep all pages
+  -- as many lines report it as motes keep all pages
   pub world_told : (w : World) → count_by (tells_whole pages) (final_lines w) ≡ wholes row w
   world_told w = sites_told (λ m. site w m) 0 w.sites (λ k h. ap (λ (n : ℕ). site w n) (let e : 0 + k ≡ k = omega arith in e))
 

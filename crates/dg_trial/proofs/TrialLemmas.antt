@@ -1,4 +1,4 @@
--- A whole trial: from boards as they come to the line that is told.
+-- A whole trial: from the boards as they are to the line that is reported.
 use Rattle.std.proofs.Common.{◌≡◌, inl, inr, ⊎_elim, ℕ, ◌*◌, ◌<◌, ◌≤◌, List, [], ◌∷◌, ◌++◌, length, map, replicate, append-nil, refl, ap, sym, subst, ◌∙◌, arith}
 use Rattle.std.specs.Prelude.{Some, slice_get, Result, Ok, Err}
 use Rattle.rand_pcg.specs.Lcg.{Lcg}
@@ -47,7 +47,7 @@ row_drawn pages seed word g start e at =
     let h : (word, g) ≡ pcg32 (first_generator seed) = e ∙ ap pcg32 at in
     (ap (λ (x : ℕ × Lcg). row_by pages seed x.0) h, ap (λ (x : ℕ × Lcg). x.1) h)
 
--- the schedule may be played behind the beginning
+-- the schedule may be played after the beginning
 pub schedule_may : (motes pages seed s : ℕ) (g : Lcg) (links : List (ℕ × ℕ)) (row : Row) (v : KeptWorld) (old new : List Device) → 2 ≤ motes → motes ≤ 16 → s ≤ 79 → links ≡ line_links motes
     → Formatted motes old new → IsWorld v new (first motes row) → MayPlayOver motes v new (parts_by motes s g links)
 schedule_may motes pages seed s g links row v old new some few short line_is f is =
@@ -70,7 +70,7 @@ unstarted motes pages seed old new f =
       there = first_stands motes (row_of_seed pages seed) old new f;
     }
 
--- what came of playing it
+-- the outcome of playing it
 pub schedule_played : (motes pages seed s : ℕ) (g : Lcg) (links : List (ℕ × ℕ)) (row : Row) (v k : KeptWorld) (old mid new : List Device) → parts_by motes s g links ≡ schedule motes pages seed → row ≡ row_of_seed pages seed
     → Formatted motes old mid → IsWorld v mid (first motes row) → PartsPlay (Ok tt) (parts_by motes s g links) v k mid new → SchedulePlayed motes pages seed k old new
 schedule_played motes pages seed s g links row v k old mid new parts e f is plays =
@@ -107,7 +107,7 @@ pub read_unread : (motes pages seed : ℕ) (w : World) (initial new : List Devic
 read_unread motes pages seed w initial new run stands =
     inr (record { begun = schedule motes pages seed; left = []; split = sym (append-nil (schedule motes pages seed)); world = w; run = run; there = stands })
 
--- one of which stopped
+-- one of the boards stopped
 pub read_stopped : (motes pages seed : ℕ) (w : World) (board : ℕ) (initial old new : List Device) → TrialRun motes pages seed w → length w.sites ≡ motes → board < length w.sites → SameBoards old new → ((m : ℕ) → length w.sites ≤ m → slice_get new m ≡ slice_get old m) → ReadFlash board old new → WorldStands w initial old
     → StopsReading motes pages seed initial new
 read_stopped motes pages seed w board initial old new run count known same others f b =
@@ -119,7 +119,7 @@ read_stopped motes pages seed w board initial old new run count known same other
       others = λ m past. others m (omega (arith, past, count)) ∙ b.others m (omega (arith, past, count));
     }
 
--- ---- what is told
+-- ---- what is reported
 
 pub whole_read : (pages seed : ℕ) (w : World) (reports : List Report) → 2 ≤ pages → reports ≡ final_lines w → count_by (tells_whole pages) reports ≡ wholes (row_of_seed pages seed) w
 whole_read pages seed w reports some e =

@@ -1,4 +1,4 @@
--- Where the schedule of a trial leads, every mote keeps the image whole.
+-- After the schedule of a trial every mote keeps the image whole.
 use Rattle.std.proofs.Common.{◌≡◌, inl, inr, lit≤, ℕ, zero, suc, ◌+◌, ◌*◌, ◌/◌, ◌%◌, ◌<◌, ◌≤◌, ◌==◌, nat_lt, Bool, true, false, if◌then◌else◌, List, [], ◌∷◌, ◌++◌, length, map, Option, Some, None, refl, ap, subst, ◌∙◌, arith}
 use Rattle.std.specs.Prelude.{slice_index_or}
 use Rattle.std.specs.List.{AllByRecursion}

@@ -1,4 +1,4 @@
--- Which last lines of a world tell of an image that is kept whole (docs/COMMANDS.md, "Trial").
+-- Which last lines of a world report an image that is kept whole (docs/COMMANDS.md, "Trial").
 use Rattle.std.specs.Prelude.{ℕ, nat_le, ◌==◌, ◌&&◌, Bool, false}
 use Rattle.dg_script.specs.declared.report.Report.{Report}
 use Rattle.dg_script.specs.declared.report.Report.TheVariants.{Kept}

@@ -43,8 +43,8 @@ first motes row = record (first_world (golden ∷ []) (line_links motes) none_na
 
 -- ---- the boards
 
--- A board stopped in a step: it stands for a store that the event's trail leaves where this many operations were done,
--- and a cut did not come before. All other boards are as they were before the step.
+-- A board stopped in a step, after this many operations and before any cut. It stands for a store that the event's trail leaves
+-- there. All other boards are as they were before the step.
 pub record StopsInStep (w : World) (x : Step) (old new : List Device) : Type 0 where
   pub stopped : BoardStopped (length w.sites) old new
   pub at : stopped.board ≡ mote_of x.event
@@ -56,16 +56,16 @@ pub record StopsInStep (w : World) (x : Step) (old new : List Device) : Type 0 w
       → Stands d.image (store_at w m)
   pub others : (m : ℕ) → length w.sites ≤ m → slice_get new m ≡ slice_get old m
 
--- ---- what playing answers
+-- ---- the results of playing
 
--- Parts were played, and the boards, which were `initial` when the trial began, stand for the world then.
+-- Parts were played, and the boards, which were `initial` when the trial began, stand for the world after them.
 pub record PartsPlayed (w : World) (parts : List SchedulePart) (kept : KeptWorld) (initial now : List Device) : Type 0 where
   pub world : World
   pub run : LeadsTo w parts world
   pub kept_now : IsWorld kept now world
   pub boards : WorldStands world initial now
 
--- Of these parts the first were played, and P holds of the world then, and of the parts that are left.
+-- The first of these parts were played, and P holds of the world after them and of the parts that are left.
 pub record PartsBegun (w : World) (parts : List SchedulePart) (P : World → (left : List SchedulePart) → Type 0) : Type 0 where
   pub begun : List SchedulePart
   pub left : List SchedulePart
@@ -87,7 +87,7 @@ PartsPlayedAs (Err ends.Memory) w parts kept initial now = PartsBegun w parts (�
 PartsPlayedAs (Err ends.FlashFault) w parts kept initial now = PartsBegun w parts (λ v left. StopsInPart v left initial now)
 PartsPlayedAs (Err end) w parts kept initial now = ⊥
 
--- playing parts answers this, from a kept world and boards to these, whatever world they stood for
+-- playing parts has this result, from a kept world and boards to these, whatever world they stood for
 abbrev pub PartsPlay : Result (Unit {0}) End → List SchedulePart → (first kept : KeptWorld) → (old now : List Device) → Type 0
 PartsPlay result parts first kept old now = (w : World) (initial : List Device) → IsWorld first old w
     → WorldStands w initial old → PartsPlayedAs result w parts kept initial now
@@ -106,7 +106,7 @@ pub record MayPlayParts (motes : ℕ) (w : World) (parts : List SchedulePart) : 
   pub sent : length w.sent ≤ w.events
   pub fits : AllByRecursion (PartFits motes) parts
 
--- So it is with the world that is kept, over boards that stand for it.
+-- The same for the world that is kept, over boards that stand for it.
 pub record MayPlayOver (motes : ℕ) (kept : KeptWorld) (boards : List Device) (parts : List SchedulePart) : Type 0 where
   pub world : World
   pub initial : List Device
@@ -114,7 +114,7 @@ pub record MayPlayOver (motes : ℕ) (kept : KeptWorld) (boards : List Device) (
   pub stands : WorldStands world initial boards
   pub may : MayPlayParts motes world parts
 
--- Behind parts that were played those that follow may be played.
+-- After parts that were played, those that follow may be played.
 abbrev pub PartsGoOnLaw : Type 0
 PartsGoOnLaw = (motes : ℕ) (w v : World) (xs ys : List SchedulePart) → MayPlayParts motes w (xs ++ ys) → LeadsTo w xs v
     → MayPlayParts motes v ys

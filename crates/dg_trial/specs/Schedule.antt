@@ -1,4 +1,4 @@
--- The schedule of a trial: its steps in their order, made from a seed (docs/COMMANDS.md, "Trial"). A disturbance may look at
+-- The schedule of a trial: its steps in their order, made from a seed (docs/COMMANDS.md, "Trial"). A disturbance may depend on
 -- how many frames were sent before it.
 use Rattle.std.specs.Prelude.{ℕ, zero, suc, ◌+◌, ◌-◌, ◌*◌, ◌/◌, ◌%◌, ◌==◌, nat_lt, if◌then◌else◌, List, [], ◌∷◌, ◌++◌, map, codes}
 use Rattle.std.specs.Prelude.{Some}
@@ -21,7 +21,7 @@ use Rattle.dg_world.specs.Alone.{uncut}
 abbrev pub SchedulePart : Type 0
 SchedulePart = ℕ → Step
 
--- it is the same however many frames were sent
+-- a step that is the same however many frames were sent
 abbrev pub always : Event → SchedulePart
 always event = λ sent. uncut event
 
@@ -42,7 +42,7 @@ unfoldable pub resets : ℕ → List Event
 resets zero = []
 resets (suc n) = resets n ++ Reset n 0 0 ∷ []
 
--- one for each page, and one for each link but the first
+-- one for each page, and one for each link except the first
 abbrev pub sweep_count : (motes pages : ℕ) → ℕ
 sweep_count motes pages = pages + motes - 2
 

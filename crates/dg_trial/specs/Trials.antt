@@ -1,4 +1,4 @@
--- What a trial did, and what it tells (docs/COMMANDS.md, "Trial").
+-- What a trial did, and what it reports (docs/COMMANDS.md, "Trial").
 use Rattle.std.specs.Prelude.{◌≡◌, ◌⊎◌, ℕ, ◌<◌, ◌≤◌, nat_le, Bool, false, List, [], ◌∷◌, ◌++◌, length, codes, slice_get, count_by}
 use Rattle.std.specs.Prelude.{Option, Some}
 use Rattle.std.specs.Fmt.{decimal}
@@ -43,13 +43,13 @@ wholes row w = count_by (keeps_all row) w.sites
 abbrev pub AllKeep : ℕ → Row → World → Type 0
 AllKeep motes row w = (m : ℕ) → m < motes → held (store_at w m) row.image ≡ Some (held_whole row)
 
--- Where a trial leads, every mote keeps the image whole, and this many are counted.
+-- In the world after a trial every mote keeps the image whole, and this many are counted.
 abbrev pub WholeLaw : Type 0
 WholeLaw = (motes pages seed : ℕ) (v : World) → 2 ≤ motes → motes ≤ most_motes → 2 ≤ pages → pages ≤ most_pages
     → TrialRun motes pages seed v
     → AllKeep motes (row_of_seed pages seed) v × (wholes (row_of_seed pages seed) v ≡ motes)
 
--- ---- what is told
+-- ---- what is reported
 
 abbrev pub summary_line : (motes pages sweeps events whole : ℕ) → List ℕ
 summary_line motes pages sweeps events whole =
@@ -66,7 +66,7 @@ no_board_line motes boards = line (codes "noboard" ++ numbers (motes ∷ boards 
 
 -- ---- what is done
 
--- The boards of the motes were formatted, and did not come stopped. All others are as before, and no count rose.
+-- The boards of the motes were formatted, and none of them was stopped on entry. All others are as before, and no count rose.
 pub record Formatted (motes : ℕ) (old new : List Device) : Type 0 where
   pub stands : (m : ℕ) (d : Device) → m < motes → slice_get new m ≡ Some d → Stands d.image chip
   pub awake : (m : ℕ) (d : Device) → m < motes → slice_get old m ≡ Some d → d.stopped ≡ false
@@ -77,7 +77,7 @@ pub record Formatted (motes : ℕ) (old new : List Device) : Type 0 where
 abbrev pub StopsFormatting : (motes : ℕ) → (old new : List Device) → Type 0
 StopsFormatting motes old new = (board : ℕ) × FormatStops board motes chip old new
 
--- a front of the schedule was played, and P holds of the world then, and of the parts that are left
+-- a prefix of the schedule was played, and P holds of the world after it and of the parts that are left
 abbrev pub Front : (motes pages seed : ℕ) → (World → List SchedulePart → Type 0) → Type 0
 Front motes pages seed P = PartsBegun (trial_start motes pages seed) (schedule motes pages seed) P
 
@@ -96,7 +96,7 @@ pub record StopsReading (motes pages seed : ℕ) (old new : List Device) : Type 
   pub stands : (m : ℕ) (d : Device) → m < motes → slice_get new m ≡ Some d → Stands d.image (store_at last m)
   pub others : (m : ℕ) → motes ≤ m → slice_get new m ≡ slice_get old m
 
--- where a trial stands that was stopped: a front of its schedule was played, or none of it
+-- what an unfinished trial leaves: a prefix of its schedule was played, or the boards are unchanged
 abbrev pub Unplayed : (motes pages seed : ℕ) → (old new : List Device) → Type 0
 Unplayed motes pages seed old new = (new ≡ old) ⊎ Front motes pages seed (λ w left. WorldStands w old new)
 
@@ -113,7 +113,7 @@ pub record TrialLacksBoards (motes : ℕ) (old new : List Device) : Type 0 where
   pub missing : length old < motes
   pub same : new ≡ old
 
--- The trial was played and told, and every mote keeps the image whole.
+-- The trial was played and reported, and every mote keeps the image whole.
 pub record TrialComplete (motes pages seed : ℕ) (a b : Outside) : Type 0 where
   pub boards : motes ≤ length a.boards
   pub played : TrialPlayed motes pages seed a.boards b.boards
@@ -127,12 +127,12 @@ pub record TrialCut (motes pages seed : ℕ) (a b : Outside) : Type 0 where
   pub played : TrialPlayed motes pages seed a.boards b.boards
   pub written : PutsPrefix a.output.written b.output.written (trial_text motes pages seed played.last)
 
--- the line of a trial in which every mote keeps the image whole. Its numbers are those of the motes and the pages
+-- the line of a trial in which every mote keeps the image whole. Its numbers follow from the motes and the pages
 abbrev pub TellsWhole : (motes pages : ℕ) → (before after : Option (List ℕ)) → Type 0
 TellsWhole motes pages before after =
     Puts before after (summary_line motes pages (sweep_count motes pages) (event_count motes pages) motes)
 
--- How a trial ends, by its status. Only a write that failed raises the count of such.
+-- How a trial ends, by its status. Only a write that failed raises the count of failed writes.
 abbrev pub TrialEnds : Status → (motes pages seed : ℕ) → (a b : Outside) → Type 0
 TrialEnds Done motes pages seed a b = TrialComplete motes pages seed a b
 TrialEnds NoBoard motes pages seed a b =

@@ -60,7 +60,7 @@ fn size(pages: u8, word: u32) -> u32
     (u32::from(pages) - 1) * page - word % page
 }
 
-/// The image of a trial is declared.
+/// Declares the image of a trial.
 pub fn declare(alloc: Global, world: &mut World, pages: u8, seed: u32, word: u32) -> Result<(), End>
     requires some { 2 ≤ pages }
     requires few { pages ≤ 65 }

@@ -24,7 +24,7 @@ use dg_seed::Draws;
 use dg_world::{FinishFault, World};
 use std::alloc::Global;
 
-/// How many sweeps end a trial: one for each page, and one for each link but the first.
+/// How many sweeps end a trial: one for each page, and one for each link except the first.
 fn sweeps_of(motes: u8, pages: u8) -> u32
     requires { 2 ≤ motes + pages }
     ensures { result ≡ sweep_count motes pages }
@@ -115,7 +115,7 @@ fn run<N: Nor>(
     summarize(alloc, &world, motes, pages, boards)
 }
 
-/// Plays a trial, and makes the line that tells of it.
+/// Plays a trial, and makes the line that reports it.
 fn play_and_tell<N: Nor>(
     alloc: Global,
     motes: u8,
@@ -155,14 +155,14 @@ pub fn trial<K: Sink, N: Nor>(
     requires some_pages { 2 ≤ pages }
     requires few_pages { pages ≤ 65 }
     // The boards' stores are those at the end of a run of the schedule, every mote keeps the image whole, page by page, and the
-    // line counts that run. Each other status comes with its cause, and what it leaves.
+    // line has the counts of that run. Each other status comes with its cause and with what it leaves.
     ensures ends { (rest : Outside) → TrialEnds result motes pages seed
         (with_boards (map N.device boards.old.items) (with_output (K.Sink, out.old) rest))
         (with_boards (map N.device boards.new.items) (with_output (K.Sink, out.new) rest)) }
-    // where it is played and told, the line says that every mote keeps the image whole, and its number of events is that of
-    // the motes and the pages
+    // if it is played and reported, the line says that every mote keeps the image whole, and its number of events is the one for
+    // this many motes and pages
     ensures whole { result ≡ Status.Done → TellsWhole motes pages (K.written out.old) (K.written out.new) }
-    // only a write that failed raises the count of such
+    // only a write that failed raises the count of failed writes
     ensures cause { result ≡ Status.WriteFault → Rose (K.faults out.old) (K.faults out.new) }
     ensures unfailed { result ≢ Status.WriteFault → K.faults out.new ≡ K.faults out.old }
     ensures writes { K.faults out.old ≤ K.faults out.new }

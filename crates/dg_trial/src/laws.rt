@@ -9,14 +9,14 @@ use dg_completion::{
 use dg_rules::{agreement_is_kept, golden_is_found, scripts_with_golden};
 use dg_volume::{a_start_ends, acts_end};
 
-/// Where parts were played that may be played, those that follow them may be played.
+/// If a list of parts may be played and the first of them were played, those that follow may be played.
 pub fn what_is_left_may_be_played()
     ensures { PartsGoOnLaw }
 {
     golden_is_found();
 }
 
-/// Where the schedule of a trial leads, every mote keeps the image whole: the sweeps at its end are enough.
+/// After the schedule of a trial every mote keeps the image whole: the sweeps at its end are enough.
 pub fn trials_end_whole()
     ensures { WholeLaw }
 {

@@ -20,7 +20,7 @@ pub struct Summary {
     pub whole: u32,
 }
 
-/// Whether a last line of a world tells that a mote keeps the image of a trial whole.
+/// Whether a last line of a world reports that a mote keeps the image of a trial whole.
 fn tells_whole(report: &Report, pages: u8) -> bool
     ensures { result ≡ tells_whole pages report.now }
 {
@@ -45,7 +45,7 @@ pub fn count_whole(reports: &[Report], pages: u8) -> usize
         .count()
 }
 
-/// How many events a line counts: none, but for the first of the last lines of a world.
+/// How many events a line counts: 0, except for the first of the last lines of a world.
 fn events_in(report: &Report) -> u32
     ensures { (events : ℕ) → report.now ≡ Report.End events → result ≡ events }
 {
@@ -55,7 +55,7 @@ fn events_in(report: &Report) -> u32
     }
 }
 
-/// How many events were played, by the last lines of a world. 0 where they do not begin with the line that counts them.
+/// How many events were played, by the last lines of a world. 0 if they do not begin with the line that counts them.
 pub fn count_events(reports: &[Report]) -> u32
     ensures { (events : ℕ) (rest : List Report) → reports.now ≡ Report.End events ∷ rest → result ≡ events }
 {

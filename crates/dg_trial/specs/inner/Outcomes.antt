@@ -1,4 +1,4 @@
--- What the parts of a trial come to: words of the inner functions.
+-- The outcomes of the parts of a trial: definitions for the inner functions.
 use Rattle.std.specs.Prelude.{◌≡◌, ◌⊎◌, ℕ, ◌≤◌, List, length, Result, Ok, Err}
 use Rattle.dg_nor.specs.Device.{Device}
 use Rattle.dg_rules.specs.World.{World}
@@ -34,7 +34,7 @@ ScheduleEnds (Err ends.FlashFault) motes pages seed old new =
     StopsFormatting motes old new ⊎ Front motes pages seed (λ w left. StopsInPart w left old new)
 ScheduleEnds (Err end) motes pages seed old new = ⊥
 
--- what the numbers of a trial tell that was played
+-- what the numbers of a trial that was played report
 pub record TellsTrial (motes pages seed : ℕ) (last : World) (s : Summary) : Type 0 where
   pub motes_reported : s.motes ≡ motes
   pub pages_reported : s.pages ≡ pages

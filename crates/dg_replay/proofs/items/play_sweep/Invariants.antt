@@ -6,7 +6,7 @@ use Rattle.dg_replay.specs.Untouched.{KeepBytes}
 use Rattle.dg_replay.proofs.StepLemmas.{PlayedSoFar}
 use Rattle.dg_replay.proofs.items.play_sweep.Given as goal
 
--- the rounds over so many links are played
+-- the rounds over this many links are played
 abbrev pub invariant-loop-link : goal.invariant-loop-link
 invariant-loop-link g l =
     PlayedSoFar (unreported (sweep (take l.link-index l.links))) l.fn.world l.world (map g.N.Nor.device l.fn.boards.items) (map g.N.Nor.device l.boards.items) (told_so_far l.fn.line_report.text.items (g.W.Watcher.saw l.fn.watcher)) (told_so_far l.line_report.text.items (g.W.Watcher.saw l.watcher))

@@ -6,7 +6,7 @@ use Rattle.dg_replay.specs.Untouched.{KeepBytes}
 use Rattle.dg_replay.proofs.StepLemmas.{PlayedSoFar}
 use Rattle.dg_replay.proofs.items.play_sweeps.Given as goal
 
--- so many sweeps are played
+-- this many sweeps are played
 abbrev pub invariant-loop : goal.invariant-loop
 invariant-loop g l =
     PlayedSoFar (unreported (times l.counter (sweep l.links))) l.fn.world l.world (map g.N.Nor.device l.fn.boards.items) (map g.N.Nor.device l.boards.items) (told_so_far l.fn.line_report.text.items (g.W.Watcher.saw l.fn.watcher)) (told_so_far l.line_report.text.items (g.W.Watcher.saw l.watcher))

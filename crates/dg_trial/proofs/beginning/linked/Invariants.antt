@@ -8,7 +8,7 @@ use Rattle.dg_world.specs.Worlds.{IsWorld}
 use Rattle.dg_trial.specs.Playing.{golden, chip}
 use Rattle.dg_trial.proofs.beginning.linked.Given as goal
 
--- so many links are made
+-- this many links are made
 abbrev pub invariant-loop-link : goal.invariant-loop-link
 invariant-loop-link l = (boards : List Device) → l.fn.motes ≤ length boards → ((m : ℕ) (d : Device) → m < l.fn.motes → slice_get boards m ≡ Some d → Stands d.image chip)
     → IsWorld l.world boards (first_world (golden ∷ []) (take l.link-index l.links) none_narrow (replicate l.fn.motes chip))

@@ -5,7 +5,7 @@ use Rattle.dg_trial.proofs.PartLemmas.{SoFar}
 use Rattle.dg_trial.proofs.LoopLemmas.{disturbed_front}
 use Rattle.dg_trial.proofs.playing.play_disturbances.Given as goal
 
--- so many disturbances are played, and three draws were taken for each
+-- this many disturbances are played, and three draws were taken for each
 abbrev pub invariant-loop : goal.invariant-loop
 invariant-loop g l = record {
   draws : generator_of l.draws ≡ drawn l.counter (generator_of l.fn.draws);

@@ -4,6 +4,6 @@ use Rattle.dg_trial.proofs.PartLemmas.{SoFar}
 use Rattle.dg_trial.proofs.LoopLemmas.{swept_front}
 use Rattle.dg_trial.proofs.playing.play_sweeps.Given as goal
 
--- so many sweeps are played
+-- this many sweeps are played
 abbrev pub invariant-loop : goal.invariant-loop
 invariant-loop g l = SoFar (swept_front (sweep l.links) l.counter) l.fn.world l.world (map g.N.Nor.device l.fn.boards.items) (map g.N.Nor.device l.boards.items)
