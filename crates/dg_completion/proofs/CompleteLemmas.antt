@@ -101,7 +101,7 @@ all_on wide w v g all m there = ap (λ narrow. is_wide_mote narrow m) g.narrow �
 abbrev pub Known : Bool → World → Type 0
 Known wide w = (i : ℕ) (row : Row) → i < images → newest w.table i ≡ Some row → i ≤ known_images wide
 
--- what passes for all is so for the row that is found
+-- what holds of all rows holds of the row that is found
 found_passes : (P : Row → Type 0) (rows : List Row) (i n : ℕ) (row : Row) → AllByRecursion P rows → row_at rows i n ≡ Some row → P row
 found_passes P [] i n row all is = absurd (no_row is)
   where
@@ -156,7 +156,7 @@ module _ (free : FreeLaw) (law : RoundLaw) (wide : Bool) (links : List (ℕ × �
 
   -- ---- one image
 
-  -- a run goes on from a world in which every image below i is whole
+  -- a run continues from a world in which every image below i is whole
   record Stepped (i : ℕ) (qs : List (ℕ × ℕ)) (w v : World) : Type 0 where
     u : World
     rest : List Event

@@ -1,4 +1,4 @@
--- What is played to its end with a rest.
+-- Runs that end with a rest.
 use Rattle.std.proofs.Common.{◌≡◌, ℕ, zero, suc, ◌+◌, ◌<◌, ◌&&◌, ◌||◌, cond, eqb, true, List, [], ◌∷◌, ◌++◌, drop, length, replicate, append_assoc, Option, Some, None, refl, sym, ap, subst, ◌∙◌}
 use Rattle.std.specs.List.{AllByRecursion, list_any}
 use Rattle.dg_object.specs.Object.{Row}
@@ -26,7 +26,7 @@ use Rattle.dg_completion.specs.Ends.{event_in, events_of, IsUncutItem, IsUncut, 
 use Rattle.dg_completion.specs.Played.{Passes, DrainedLaw, RoundsBring, RoundsLaw}
 use Rattle.dg_completion.proofs.GrowLemmas.{all_replicate, round_free, rounds_free}
 
--- ---- the front and the rest of what was played
+-- ---- what was played before the rest, and the rest
 
 front : {A : Type 0} (P : A → Type 0) (xs ys : List A) → AllByRecursion P (xs ++ ys) → AllByRecursion P xs
 front P [] ys all = tt
@@ -43,7 +43,7 @@ plays_split (x ∷ xs) ys w v run =
     let rest = plays_split xs ys x.after v run.2 in
     (rest.0, (run.0, run.1, rest.1), rest.2)
 
--- what is played begins in one world
+-- a run begins in exactly one world
 begins_once : (ps : List Played) (u w v : World) → Plays u ps v → Plays w ps v → u ≡ w
 unfolding Plays
 begins_once [] u w v a b = a ∙ sym b
@@ -70,7 +70,7 @@ last_same : (rows : List Row) (w : World) (from to now word : ℕ) (o : Option S
 last_same rows w from to now word None = refl
 last_same rows w from to now word (Some f) = hear_same rows w (store_at w to) (site w to).runs now word f.bytes
 
--- a free event does not look at them
+-- a free event does not depend on them
 does_same : (rows : List Row) (w : World) (e : Event) → IsFree e → does (declaring rows w) e ≡ does w e
 unfolding does
 does_same rows w (Tick m dt word) free = tick_same rows w (store_at w m) (site w m).runs (w.moment + dt) word
@@ -82,7 +82,7 @@ does_same rows w (Inject m image version dt word) free = absurd cc
 does_same rows w (OrderEvent m number image version dt word) free = absurd cc
 does_same rows w (Frame m dt word bytes) free = absurd cc
 
--- nor does what it leads to
+-- the world after it differs in these rows alone
 sent_declaring : (rows : List Row) (u : World) (m : ℕ) (o : Option Message) → and_sent (declaring rows u) m o ≡ declaring rows (and_sent u m o)
 sent_declaring rows u m None = refl
 sent_declaring rows u m (Some message) = refl
@@ -111,7 +111,7 @@ declares_nothing : (rows : List Row) (o : Option Row) (w : World) (row : Row) �
 declares_nothing rows None w row = refl
 declares_nothing rows (Some kept) w row = refl
 
--- a step that is not to be cut
+-- a step without a cut
 uncut : (w v : World) (x : Step) (reports : List Report) → x.cut ≡ None → WorldStep w x v reports → WorldStep w (record { event = x.event; cut = None }) v reports
 uncut w v x reports none did = subst (λ c. WorldStep w (record { event = x.event; cut = c }) v reports) none did
 
@@ -165,7 +165,7 @@ module _ (free : FreeLaw) where
       let one = item_stays p.item (events_of ps) p.before p.after p.reports (subst WorldAgrees (sym run.0) agrees) run.1 whole.0 all in
       stays_then w p.after v (subst (λ u. Stays u p.after) run.0 one.0) (plays_stay ps p.after v leaves.0 run.2 leaves.1 whole.1 one.1)
 
--- ---- what is said of enough sweeps does not look at declared rows
+-- ---- whether sweeps are enough does not depend on declared rows
 
 within_same : (rows : List Row) (w : World) (row : Row) (h m : ℕ) → within (declaring rows w) row h m ≡ within w row h m
 unfolding within
@@ -204,7 +204,7 @@ declaring_agrees w v a b = record {
   sent = a.sent;
 }
 
--- the front of what was played
+-- the part before the rest
 played_front : (u v w : World) (xs ys : List Played) → PlaysFrom u (xs ++ ys) v → Plays u xs w → PlaysFrom u xs w
 played_front u v w xs ys from plays = record {
   agrees = from.agrees;
@@ -271,13 +271,13 @@ unfolding Plays
 plays_join [] ys w u v a b = subst (λ (z : World). Plays z ys v) (sym a) b
 plays_join (x ∷ xs) ys w u v a b = (a.0, a.1, plays_join xs ys x.after u v a.2 b)
 
--- what has an event begins in one world
+-- a run with an event begins in exactly one world
 starts_same : (ps : List Played) (e : Event) (more : List Event) (u w x v : World) → events_of ps ≡ e ∷ more → Plays u ps x → Plays w ps v → u ≡ w
 unfolding Plays events_of
 starts_same [] e more u w x v some a b = absurd (let f : [] ≡ e ∷ more = some in cc)
 starts_same (p ∷ ps) e more u w x v some a b = sym a.0 ∙ b.0
 
--- of nothing no event was played
+-- an empty run has no event
 none_passes : {A : Type 0} (w v : World) (e : Event) (more : List Event) → Passes [] w (e ∷ more) v → A
 unfolding events_of
 none_passes w v e more p = by_parts p.before p.part p.parts p.events
@@ -287,7 +287,7 @@ none_passes w v e more p = by_parts p.before p.part p.parts p.events
     by_parts [] (q ∷ qs) parts events = absurd (let f : [] ≡ q ∷ (qs ++ p.behind) = parts in cc)
     by_parts (q ∷ qs) part parts events = absurd (let f : [] ≡ q ∷ (qs ++ (part ++ p.behind)) = parts in cc)
 
--- from a world that agrees with its table, which may have declared more, the events lead on
+-- the world agrees with its table, also with all rows that are declared later, and the events lead on from there
 record LeadsOn (w : World) (es : List Event) (v : World) : Type 0 where
   good : WorldAgrees (declaring v.declared w)
   run : Follows (declaring v.declared w) es v

@@ -155,7 +155,7 @@ module _ (laws : Laws) (w : World) (good : WorldAgrees w) where
 
   -- ---- the world then
 
-  -- a frame more changes no site
+  -- one more frame changes no site
   pub record SameBut (u v : World) : Type 0 where
     pub sites : v.sites ≡ u.sites
     pub table : v.table ≡ u.table

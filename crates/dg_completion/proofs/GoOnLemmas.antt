@@ -1,4 +1,4 @@
--- What was played of a script goes on with a rest.
+-- What was played of a script continues with a rest.
 use Rattle.std.proofs.Common.{◌≡◌, ℕ, Bool, List, [], ◌∷◌, ◌++◌, length, map, refl, sym, ap, subst, arith}
 use Rattle.std.specs.List.{AllByRecursion, filter}
 use Rattle.dg_script.specs.Items.{Item}

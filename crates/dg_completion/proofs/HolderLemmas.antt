@@ -32,7 +32,7 @@ there_any f (x ∷ xs) l c h = by_place c.0 c.1 c.2 (there_any f xs l)
     by_place zero less is rest = or_left (f x) (list_any f xs) (ap f is ∙ h)
     by_place (suc k) less is rest = or_right (f x) (list_any f xs) (rest (k, omega (arith, less), is) h)
 
--- ---- within, and ways
+-- ---- `within`, and paths
 
 module _ (w : World) (row : Row) where
   -- this link leads to mote m from one that is within h links
@@ -186,7 +186,7 @@ enough_over w reached (suc k) i from to =
 pub enough_law : EnoughLaw
 enough_law w reached = enough_over w reached wide_images 1 (omega arith) (omega arith)
 
--- ---- and only one
+-- ---- only one number is enough
 
 one_for : (w : World) (o : Option Row) (m n : ℕ) → IsEnoughFor w o m → IsEnoughFor w o n → m ≡ n
 one_for w None m n a b = a ∙ sym b

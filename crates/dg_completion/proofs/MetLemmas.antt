@@ -1,4 +1,4 @@
--- Free events can be applied, and take few commits. So can a rest.
+-- Free events can be applied, and take few commits. A rest can be applied too.
 use Rattle.std.proofs.Common.{◌≡◌, ℕ, ◌+◌, ◌<◌, Bool, cond, List, [], ◌∷◌, length, get_or, Option, Some, None, refl, sym, ap, subst, ◌∙◌, inl, inr, arith}
 use Rattle.std.specs.List.{AllByRecursion, sum_by}
 use Rattle.std.proofs.lemmas.Bool.{cases_eq, eq-eqb}
@@ -31,7 +31,7 @@ use Rattle.dg_completion.proofs.SpendLemmas.{Spends, TakeLaws, golden_sound, sta
 
 -- ---- what a free event does
 
--- a mote goes on, and few commits were made
+-- a mote continues, and few commits were made
 pub record FewDeed (w : World) (m : ℕ) (d : Deed) : Type 0 where
   pub goes_on : (runs : Option Running) × (d.runs ≡ Some runs)
   pub spends : Spends most_commits (store_at w m) (last d.trail)
@@ -92,7 +92,7 @@ module _ (laws : Laws) (takes : TakeLaws) (w : World) (good : WorldAgrees w) whe
   unfolding WorldStep
   applies e free = applies_by e (does w e) (few_does e free)
 
-  -- ---- and few commits are made at its mote
+  -- ---- few commits are made at its mote
 
   module _ (v : World) (e : Event) (reports : List Report) where
     spends_at : (x : Site) → mote_of e < length w.sites → v.sites ≡ (with_site w (mote_of e) x).sites → Spends most_commits (store_at w (mote_of e)) x.store → (m : ℕ) → Spends (commits_at m e) (store_at w m) (store_at v m)
@@ -131,7 +131,7 @@ spend_law laws takes w v e reports good free did = spends laws takes w good v e 
 -- ---- a rest
 
 module _ (free : FreeLaw) (apply : AppliesLaw) (spend : SpendLaw) where
-  -- what comes of these events
+  -- the outcome of these events
   pub record Came (w : World) (es : List Event) : Type 0 where
     pub v : World
     pub run : Follows w es v

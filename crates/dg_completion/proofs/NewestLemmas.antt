@@ -15,7 +15,7 @@ pub record HasNewest (table : List Row) (i v : ℕ) : Type 0 where
   pub is : newest table i ≡ Some row
   pub bound : v ≤ row.version
 
--- what is found is of the image version
+-- what is found has the image version
 pub found_version : (rows : List Row) (i n : ℕ) (r : Row) → row_at rows i n ≡ Some r → (r.image ≡ i) × (r.version ≡ n)
 found_version [] i n r e = absurd (no_row r e)
   where
@@ -34,7 +34,7 @@ found_version (x ∷ xs) i n r e = by_version (cases_Bool (has_image_version i n
 skip : (x : Row) (xs : List Row) (i n : ℕ) → has_image_version i n x ≡ false → row_at (x ∷ xs) i n ≡ row_at xs i n
 skip x xs i n k = ap (λ b. cond b (Some x) (find (has_image_version i n) xs)) k
 
--- a row of that image version, or nothing was said
+-- version 0, or a row of that image version
 abbrev Attained : List Row → ℕ → ℕ → Type 0
 Attained rows i n = (n ≡ 0) ⊎ ((r : Row) × (row_at rows i n ≡ Some r))
 

@@ -93,7 +93,7 @@ alike_on a b w u g alike = wide_on w u a g ∙ alike ∙ sym (wide_on w u b g)
 pub hears_same : (w : World) (a b : ℕ) (x : Spot) (message : Message) → WorldAgrees w → At w b x → Alike w a b → Spelled (wide_at w a) message → Spelled x.mote.wide message
 hears_same w a b x message good at alike said = subst (λ wide. Spelled wide message) (alike ∙ sym (mote_wide w b x good at)) said
 
--- a tick at a that sends, and b hears it: so often
+-- for each message, a tick at a that sends it, and b hears it
 pub record Paired (ms : List Message) (a b : ℕ) (w v : World) (xa xb : Spot) : Type 0 where
   pub at_a : At v a (after_ticks (length ms) xa w.moment)
   pub at_b : At v b (hears_all ms xb w.moment)

@@ -1,4 +1,4 @@
--- Pages go along the links, a sweep a link: from the law of a round.
+-- Pages travel along the links, one link per sweep: from the law of a round.
 use Rattle.std.proofs.Common.{◌≡◌, ℕ, zero, suc, ◌+◌, ◌-◌, ◌<◌, ◌≤◌, min, Bool, true, ◌&&◌, ◌||◌, eqb, List, [], ◌∷◌, ◌++◌, length, Some, append_assoc, refl, sym, ap, subst, ◌∙◌, inl, inr, arith}
 use Rattle.std.proofs.lemmas.Bool.{eq-eqb, eqb-true, and_parts, or_cases}
 use Rattle.std.specs.List.{AllByRecursion, list_any}
@@ -12,7 +12,7 @@ use Rattle.dg_completion.specs.Completion.{Follows, Grows, FreeLaw, IsOn, HasRoo
 use Rattle.dg_completion.proofs.GrowLemmas.{grows_none, grows_then, free_grows, follows_split, round_free, rounds_free, all_map, link_ends}
 
 module _ (free : FreeLaw) where
-  -- ---- one row, to which all that is said below belongs
+  -- ---- one row, for all that follows
 
   module _ (row : Row) (Fits : World → Type 0) (fits_on : (w v : World) → Grows w v → Fits w → Fits v)
       (raise : (w v : World) (a b : ℕ) → WorldAgrees w → Fits w → linked w a b ≡ true → IsOn w a → IsOn w b → Follows w (round a b) v
@@ -103,7 +103,7 @@ module _ (free : FreeLaw) where
     -- ---- sweeps
 
     module _ (w0 : World) (links0 : w0.links ≡ links) where
-      -- after t sweeps a mote at j links from a whole holder holds so many pages, and a whole holder holds all
+      -- after t sweeps a mote within j links of a whole holder holds t + 1 - j pages, or all, and a whole holder holds all
       pub record Level (t : ℕ) (w : World) : Type 0 where
         pub whole : (m : ℕ) → within w0 row 0 m ≡ true → page_count row ≤ p w m
         pub far : (m j : ℕ) → 1 ≤ j → within w0 row j m ≡ true → min (page_count row) (t + 1 - j) ≤ p w m
@@ -143,7 +143,7 @@ module _ (free : FreeLaw) where
           subst (λ k. Level k v) (omega arith)
           (pipeline n (t + 1) u v one.1 all (rested_on w u one.4 r) one.2 one.3 room (level_up t w u r one.4 one.5 l))
 
-      -- the same, with more rounds behind it
+      -- the same, with more rounds after it
       pub pipeline_on : (n t : ℕ) (qs : List (ℕ × ℕ)) (w v : World) (es : List Event) → AllByRecursion IsLink (rounds_of links) → Rested w → HasRounds (times n (rounds_of links) ++ qs) es → Follows w es v → AllHaveRoom v → Level t w
           → (u : World) × (rest : List Event) × HasRounds qs rest × Follows u rest v × Grows w u × Level (t + n) u
       unfolding times

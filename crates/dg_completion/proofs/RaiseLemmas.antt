@@ -1,4 +1,5 @@
--- A round brings the mote at its end one page more of the least image that is not whole everywhere, or as many as the other has.
+-- After a round the mote at its end has one more page of the least image that is not whole everywhere, or as many as the other
+-- mote.
 use Rattle.std.proofs.Common.{◌≡◌, ℕ, zero, suc, ◌+◌, ◌<◌, ◌≤◌, min, Bool, true, false, ◌&&◌, ◌||◌, cond, eqb, leb, ltb, List, length, Option, Some, None, IfSome, refl, sym, ap, subst, ◌∙◌, inl, inr, arith}
 use Rattle.std.proofs.lemmas.Bool.{cond-true, cond-false, eq-eqb, ne_eqb, le-leb, le-ltb, lt-ltb, cases_lt, cases_eq}
 use Rattle.std.proofs.lemmas.List.{length-take}
@@ -38,7 +39,7 @@ more_ahead (Some h) p v b l = elim (cases_eq h.version v) [
       | inr other ↦ (λ k. le-leb 1 (length h.complete) (omega (arith, l)) k && (lt-ltb g.version h.version (omega (arith, e, other, b)) k || (eqb g.version h.version && ltb (length g.complete) (length h.complete))), (h, refl, e))
     ]
 
--- against what is whole in the largest version nothing is ahead
+-- nothing is ahead of what is whole in the largest version
 none_ahead : (o p : Option Held) (v n : ℕ) → 1 ≤ n → IfSome o (λ h. (h.version ≤ v) × (h.version ≡ v → length h.complete ≤ n)) → n ≤ count p v → is_ahead o p ≡ false
 none_ahead None p v n some b l = refl
 none_ahead (Some h) None v n some b l = absurd (omega (arith, some, l))

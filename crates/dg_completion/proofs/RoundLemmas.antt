@@ -31,7 +31,7 @@ use Rattle.dg_completion.proofs.GrowLemmas.{free_grows, follows_split, all_appen
 use Rattle.dg_completion.proofs.WalkLemmas.{Spelled, WalkLaws, said_at, well_at, IsTold, At, Beside, mote_wide, wide_on, newer_frame, frame_told, tick_walks, ticks_walk}
 use Rattle.dg_completion.proofs.PairLemmas.{hear_walks, at_beside, linked_beside, Between, between_none, between_first, between_second, frame_said, Alike, alike_on, hears_same, pairs_walk}
 
--- ---- ahead, as adverts tell it
+-- ---- ahead, by what adverts say
 
 alike : (table : List Row) (i : ℕ) (h g : Held) → KeepsRow table i h → KeepsRow table i g → h.version ≡ g.version → (h.pages ≡ g.pages) × (h.crc ≡ g.crc)
 alike table i h g a b e =
@@ -39,7 +39,7 @@ alike table i h g a b e =
     let row : a.row ≡ b.row = cc in
     (a.pages ∙ ap (λ r. (profile r).pages) row ∙ sym b.pages, a.crc ∙ ap (λ r. (profile r).crc) row ∙ sym b.crc)
 
--- the tests of an advert and of the stores are one
+-- the test of an advert is the same as that of the stores
 same_ahead : (table : List Row) (i : ℕ) (o p : Option Held) → IfSome o (KeepsRow table i) → IfSome p (KeepsRow table i) → is_ahead o p ≡ advertiser_ahead (entry_by o) p
 same_ahead table i None None a b = refl
 same_ahead table i None (Some g) a b = refl
@@ -54,7 +54,7 @@ same_ahead table i (Some h) (Some g) a b = elim (cases_eq h.version g.version) [
       (ne_eqb g.version h.version (λ e. other (sym e)) ∙ sym (λ k. (ne_eqb h.version g.version other k && eqb h.pages g.pages) && eqb h.crc g.crc))
 ]
 
--- one test finds what another finds that is the same at each of the numbers
+-- two tests with the same result at each of the numbers find the same one
 find_same : (f g : ℕ → Bool) (k j : ℕ) → ((i : ℕ) → j ≤ i → i < j + k → f i ≡ g i) → find f (range_with_len j k) ≡ find g (range_with_len j k)
 find_same f g zero j same = refl
 find_same f g (suc k) j same =

@@ -31,7 +31,7 @@ use Rattle.dg_mote.specs.declared.mote.Heard.{Heard}
 use Rattle.dg_rules.proofs.BootLemmas.{waits_whole}
 use Rattle.dg_completion.proofs.StoreLemmas.{StartLaws, ChangeLaws, whole_sound}
 
--- at most n commits make the second store of the first
+-- at most n commits lead from the first store to the second
 abbrev pub Spends : ℕ → Store → Store → Type 0
 Spends n s t = s.room ≤ t.room + n
 
@@ -95,7 +95,7 @@ take_few : (o : Option Held) → take_commits o ≤ 2
 take_few None = omega arith
 take_few (Some h) = omega arith
 
--- the rest of an advert begins at this store, and takes an image at most
+-- the remaining part of an advert begins at this store, and takes at most one image
 record Rest (u : Store) (t : Trail Store) : Type 0 where
   first : t.first ≡ u
   spends : Spends 2 u (last t)
@@ -160,7 +160,7 @@ module _ (laws : TakeLaws) (entries : List Entry) where
 
 -- ---- a frame
 
--- whatever it is
+-- any frame
 pub heard_spends : TakeLaws → ChangeLaws → (m : MoteState) (s : Store) (now word : ℕ) (bytes : List ℕ) → Spends 3 s (last (heard_of m s now word bytes).trail)
 unfolding heard_of
 heard_spends takes laws m s now word bytes = by_read (message_of bytes m.wide) refl

@@ -114,11 +114,11 @@ module _ (laws : StartLaws) where
 
 -- ---- frames
 
--- what is kept of an image that has no place
+-- what is kept of an image outside the range
 count_past : (s : Store) (i v : ℕ) → length s.kept ≤ i → count (held s i) v ≡ 0
 count_past s i v h = ap (λ o. count o v) (get_or_past s.kept i None h)
 
--- an entry of which the advertiser has a page is a row's
+-- an entry of which the advertiser has a page belongs to a row
 entry_row : (table : List Row) (i : ℕ) (e : Entry) → HonestEntry table i e → 1 ≤ e.have → (row : Row) × (row_at table i e.version ≡ Some row)
 entry_row table i e (inl none) some = absurd (omega (arith, some, ap (λ (x : Entry). x.have) none))
 entry_row table i e (inr row) some = (row.0, row.1)
@@ -142,7 +142,7 @@ behind_count table entries i row o is honest low behind = elim (cases_lt (length
       older_count o (entry_for entries i).version row.version behind.older (omega (arith, m.bound, ap (λ (r : Row). r.version) same))
 ]
 
--- of one image kept anew
+-- only what is kept of one image changes
 stays_but : (table : List Row) (s t : Store) (image : ℕ) (here : Option Held) → t.room ≤ s.room → t.kept ≡ set s.kept image here
     → ((row : Row) → newest table row.image ≡ Some row → row.image ≡ image → count (held s image) row.version ≤ count here row.version) → Stays table s t
 stays_but table s t image here room kept more = record { room = room; pages = each }

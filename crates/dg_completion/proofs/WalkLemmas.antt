@@ -35,7 +35,7 @@ pub record At (w : World) (m : ℕ) (x : Spot) : Type 0 where
   pub image_version : ImageVersion
   pub site_is : site w m ≡ record { store = x.store; runs = Some (record { image_version = image_version; mote = x.mote }) }
 
--- nothing but mote m changed, and the moment
+-- nothing changed except mote m and the moment
 pub record Beside (m : ℕ) (w u : World) : Type 0 where
   pub count : length u.sites ≡ length w.sites
   pub others : (j : ℕ) → j ≢ m → site u j ≡ site w j
@@ -104,14 +104,14 @@ pub made_moment : (w : World) (m dt : ℕ) (x : Site) (sent : Option Message) �
 made_moment w m dt x None = refl
 made_moment w m dt x (Some s) = refl
 
--- a mote that did not meet NoImage goes on
+-- a mote that did not end with NoImage continues
 went : (o : Option MoteState) (started : Option Runs) (image_version : ImageVersion) (before : MoteState) (runs : Option Running) → option_map (runs_by started (Some image_version)) o ≡ Some runs
     → (k : ImageVersion) × (runs ≡ Some (record { image_version = k; mote = mote_or o before }))
 went None started image_version before runs e = absurd cc
 went (Some m) None image_version before runs e = (image_version, cc)
 went (Some m) (Some r) image_version before runs e = (image_version_of r, cc)
 
--- an event at mote m made spot x into y, and it sent this
+-- after an event at mote m its spot is y, and it sent this
 pub record Walks (m : ℕ) (w u : World) (y : Spot) (sent : Option Message) (dt : ℕ) : Type 0 where
   pub at : At u m y
   pub beside : Beside m w u
@@ -197,7 +197,7 @@ unfolding frame_told
 newer_told m wide None before f i e = e
 newer_told m wide (Some s) before f i e = (refl, i)
 
--- what came of n ticks at m
+-- the outcome of n ticks at m
 pub record Walked (n : ℕ) (m : ℕ) (w v : World) (x : Spot) (before : Option Message) : Type 0 where
   pub at : At v m (after_ticks n x w.moment)
   pub beside : Beside m w v

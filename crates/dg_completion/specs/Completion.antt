@@ -53,8 +53,8 @@ pages_kept s row = if is_version (held s row.image) row.version then done_of (he
 
 -- ---- free events
 
--- The world still agrees with its table, which stays, and so do the links and who is narrow. Motes that are on stay on, room
--- does not grow, and no page of a newest version is lost.
+-- The world still agrees with its table. The table, the links and which motes are narrow stay unchanged, motes that are on stay
+-- on, room does not grow, and no page of a newest version is lost.
 pub record Grows (w v : World) : Type 0 where
   pub good : WorldAgrees v
   pub table : v.table ≡ w.table
@@ -66,14 +66,14 @@ pub record Grows (w v : World) : Type 0 where
   pub pages : (m : ℕ) (row : Row) → newest w.table row.image ≡ Some row
       → pages_kept (store_at w m) row ≤ pages_kept (store_at v m) row
 
--- So it is after each tick and each heard frame, at any moment and with any word, refused ones too.
+-- This holds after each tick and each heard frame, at any moment and with any word, also a refused one.
 abbrev pub FreeLaw : Type 0
 FreeLaw = (w v : World) (e : Event) (reports : List Report) → WorldAgrees w → IsFree e
     → WorldStep w (record { event = e; cut = None }) v reports → Grows w v
 
 -- ---- a round
 
--- what is kept first is more: it has a page, and the other has nothing, or an older version, or fewer pages
+-- the first copy is ahead of the second: it has a page, and the second is missing, or an older version, or has fewer pages
 abbrev pub is_ahead : Option Held → Option Held → Bool
 is_ahead None b = false
 is_ahead (Some h) None = nat_le 1 (length h.complete)
@@ -81,17 +81,17 @@ is_ahead (Some h) (Some g) =
     nat_le 1 (length h.complete) && (nat_lt g.version h.version
     || ((g.version == h.version) && nat_lt (length g.complete) (length h.complete)))
 
--- the least image in which the first store is ahead of the second, of those that wide motes hand on, or narrow ones
+-- the least image in which the first store is ahead of the second, of those that wide motes forward, or narrow ones
 unfoldable pub least_ahead : (wide : Bool) → Store → Store → Option ℕ
 least_ahead wide s t = find (λ i. is_ahead (held s i) (held t i)) (shared wide)
 
--- one page more of the version that is ahead, or its first page
+-- one more page of the version that is ahead, or its first page
 abbrev pub RaisedFrom : Option Held → Held → Held → Type 0
 RaisedFrom None ahead now = (now.version ≡ ahead.version) × (length now.complete ≡ 1)
 RaisedFrom (Some h) ahead now =
     (now.version ≡ ahead.version) × (length now.complete ≡ (if h.version == ahead.version then length h.complete + 1 else 1))
 
--- from t to `after` one page more of image i is kept, of the version that s keeps, and what is kept of others stays
+-- t becomes `after` by one page of image i, of the version that s keeps; what is kept of other images stays
 pub record Raises (s t : Store) (i : ℕ) (after : Store) : Type 0 where
   pub ahead : Held
   pub held_there : held s i ≡ Some ahead
@@ -104,8 +104,8 @@ pub record Raises (s t : Store) (i : ℕ) (after : Store) : Type 0 where
 abbrev pub HasRoomAt : World → ℕ → Type 0
 HasRoomAt w m = spare_room ≤ (store_at w m).room
 
--- A round from a to its neighbour b, both on, and both wide or both narrow: where a is ahead, b has one page more in the
--- least image in which it is. What a keeps stays, and so do all other motes.
+-- A round from a to its neighbour b, both on, and both wide or both narrow: if a is ahead, b has one more page of the least image
+-- in which a is ahead. What a keeps and all other motes are unchanged.
 abbrev pub RoundLaw : Type 0
 RoundLaw = (w v : World) (a b i : ℕ) → WorldAgrees w → linked w a b ≡ true → wide_at w a ≡ wide_at w b → IsOn w a → IsOn w b
     → Follows w (round a b) v → HasRoomAt v a → HasRoomAt v b
@@ -130,7 +130,7 @@ pub record IsHops (w : World) (row : Row) (h : ℕ) : Type 0 where
   pub all : AllWithin w row h
   pub least : (k : ℕ) → 1 ≤ k → AllWithin w row k → h ≤ k
 
--- the sweeps for an image: one for each page, and one for each link but the first
+-- the sweeps for an image: one for each page, and one for each link except the first
 abbrev pub IsEnoughFor : World → Option Row → ℕ → Type 0
 IsEnoughFor w None n = n ≡ 0
 IsEnoughFor w (Some row) n = (h : ℕ) × IsHops w row h × (n ≡ page_count row + h - 1)
@@ -140,7 +140,7 @@ unfoldable pub IsEnoughOver : World → List ℕ → ℕ → Type 0
 IsEnoughOver w [] n = n ≡ 0
 IsEnoughOver w (i ∷ is) n = (x y : ℕ) × IsEnoughFor w (newest w.table i) x × IsEnoughOver w is y × (n ≡ x + y)
 
--- this many sweeps are enough: those for each image that wide motes hand on
+-- this many sweeps are enough: those for each image that wide motes forward
 abbrev pub IsEnough : World → ℕ → Type 0
 IsEnough w n = IsEnoughOver w (shared true) n
 
@@ -159,8 +159,8 @@ abbrev pub DoneBelow : World → ℕ → Type 0
 DoneBelow w i = (j : ℕ) (row : Row) (m : ℕ) → 1 ≤ j → j < i → newest w.table j ≡ Some row → m < length w.sites
     → pages_kept (store_at w m) row ≡ page_count row
 
--- Pages go along the links, as in a pipeline: after t sweeps a mote within j links of a whole image has t + 1 - j pages
--- of it, or all.
+-- Pages travel along the links, as in a pipeline: after t sweeps a mote within j links of a whole image has t + 1 - j pages of
+-- it, or all.
 abbrev pub PipelineLaw : Type 0
 PipelineLaw = (w v : World) (t : ℕ) (es : List Event) (i : ℕ) (row : Row) → Rests w t es v → DoneBelow w i → 1 ≤ i
     → i < images → newest w.table i ≡ Some row

@@ -13,7 +13,7 @@ use Rattle.dg_rules.specs.Begins.{PlaysFrom}
 use Rattle.dg_completion.specs.Rests.{IsFree, IsRest}
 use Rattle.dg_completion.specs.Completion.{Follows, IsOn, HasRoomAt, newest, page_count, pages_kept, within, DoneBelow, IsEnough}
 
--- the event of an item: a declaration is none
+-- the event of an item; a declaration has none
 abbrev pub event_in : Item → List Event
 event_in (Declares row) = []
 event_in (Applies step reported) = step.event ∷ []
@@ -23,7 +23,7 @@ unfoldable pub events_of : List Played → List Event
 events_of [] = []
 events_of (p ∷ ps) = event_in p.item ++ events_of ps
 
--- no power is to be cut in it
+-- the item has no cut
 abbrev pub IsUncutItem : Item → Type 0
 IsUncutItem (Declares row) = Unit {0}
 IsUncutItem (Applies step reported) = step.cut ≡ None
@@ -31,8 +31,8 @@ IsUncutItem (Applies step reported) = step.cut ≡ None
 abbrev pub IsUncut : Played → Type 0
 IsUncut p = IsUncutItem p.item
 
--- What was played without cuts, of events that disturb no rest, is a run of its events, from the world that has all rows
--- which are declared meanwhile.
+-- What was played has no cuts, and its events disturb no rest. Then these events are a run from the world in which all rows that
+-- are declared meanwhile are declared already.
 abbrev pub PlayedLaw : Type 0
 PlayedLaw = (ps : List Played) (w v : World) → AllByRecursion IsUncut ps → AllByRecursion IsFree (events_of ps)
     → Plays w ps v → Follows (record w { declared = v.declared }) (events_of ps) v
@@ -56,20 +56,20 @@ abbrev pub KeepsNewest : World → Type 0
 KeepsNewest v = (i : ℕ) (row : Row) (m : ℕ) → 1 ≤ i → i < images → newest v.table i ≡ Some row → m < length v.sites
     → held (store_at v m) i ≡ Some (held_whole row)
 
--- What is played from a world that agrees with its table, with true events: where it ends with a rest of enough sweeps,
--- every mote keeps the newest version of each image whole.
+-- If a run of true events from a world that agrees with its table ends with a rest of enough sweeps, every mote keeps the newest
+-- version of each image whole.
 abbrev pub EndsLaw : Type 0
 EndsLaw = (u : World) (played : List Played) (w v : World) (n k : ℕ) → PlaysFrom u played v → EndsInRest played w n v
     → IsEnough w k → k ≤ n → KeepsNewest v
 
--- From world w pages came along the links as in a pipeline, by t sweeps that lead to world v: of the newest row of an image,
--- where every smaller image was whole everywhere, a mote within j links of a whole one has t + 1 - j pages, or all.
+-- Pages travelled along the links as in a pipeline, by t sweeps from world w to world v. If every smaller image was whole
+-- everywhere, a mote within j links of a whole copy of an image's newest row has t + 1 - j pages of it, or all.
 abbrev pub PagesCome : (w : World) (t : ℕ) (v : World) → Type 0
 PagesCome w t v = (i : ℕ) (row : Row) → DoneBelow w i → 1 ≤ i → i < images → newest w.table i ≡ Some row
     → (m j : ℕ) → m < length w.sites → 1 ≤ j → within w row j m ≡ true
     → min (page_count row) (t + 1 - j) ≤ pages_kept (store_at v m) row
 
--- So it is after a rest, also of fewer sweeps than enough.
+-- This holds after a rest, also of fewer sweeps than enough.
 abbrev pub EndsPipelineLaw : Type 0
 EndsPipelineLaw =
     (u : World) (played : List Played) (w v : World) (t : ℕ) → PlaysFrom u played v → EndsInRest played w t v → PagesCome w t v

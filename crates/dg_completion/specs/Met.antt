@@ -30,7 +30,7 @@ most_commits = 3
 abbrev pub commits_at : ℕ → Event → ℕ
 commits_at m e = if mote_of e == m then most_commits else 0
 
--- A tick or a heard frame makes no more.
+-- A tick or a heard frame makes no more commits than these.
 abbrev pub SpendLaw : Type 0
 SpendLaw = (w v : World) (e : Event) (reports : List Report) → WorldAgrees w → IsFree e
     → WorldStep w (record { event = e; cut = None }) v reports
@@ -44,13 +44,13 @@ pub record MayRest (w : World) (n : ℕ) (es : List Event) : Type 0 where
   pub widths : OneWidth w
   pub room : (m : ℕ) → m < length w.sites → spare_room + sum_by (commits_at m) es ≤ (store_at w m).room
 
--- Then the rest can be applied, and meets what completion asks for.
+-- Such a rest can be applied, and meets the premises of completion.
 abbrev pub MetLaw : Type 0
 MetLaw = (w : World) (n : ℕ) (es : List Event) → MayRest w n es → (v : World) × Rests w n es v
 
 -- ---- scripts
 
--- an event that is not to be cut, as an item of a script
+-- an event without a cut, as an item of a script
 abbrev pub applying : Bool → Event → Item
 applying reported e = Applies (record { event = e; cut = None }) reported
 
@@ -63,7 +63,7 @@ pub record MayGoOn (motes : ℕ) (w : World) (n : ℕ) (es : List Event) : Type 
   pub widths : OneWidth w
   pub room : (m : ℕ) → m < length w.sites → spare_room + sum_by (commits_at m) es ≤ (store_at w m).room
 
--- What was played before goes on with these events, and so ends with a rest of n sweeps that begins in world w.
+-- What was played before continues with these events, and so ends with a rest of n sweeps that begins in world w.
 pub record GoesOnInRest (u : World) (before : List Played) (w : World) (n : ℕ) (es : List Event) (reported : Bool) : Type 0 where
   pub rest : List Played
   pub items : map (λ p. p.item) rest ≡ map (applying reported) es
@@ -71,7 +71,7 @@ pub record GoesOnInRest (u : World) (before : List Played) (w : World) (n : ℕ)
   pub plays : PlaysFrom u (before ++ rest) v
   pub ends : EndsInRest (before ++ rest) w n v
 
--- Whatever was played from a world that agrees with its table, with true events, goes on so.
+-- Every run of true events from a world that agrees with its table can continue like this.
 abbrev pub GoesOnLaw : Type 0
 GoesOnLaw = (u : World) (before : List Played) (w : World) (n : ℕ) (es : List Event) (reported : Bool) → PlaysFrom u before w
     → MayGoOn (length u.sites) w n es → GoesOnInRest u before w n es reported

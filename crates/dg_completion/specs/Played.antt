@@ -26,15 +26,15 @@ pub record Passes (played : List Played) (w : World) (es : List Event) (v : Worl
 
 -- ---- the ticks with which a round begins
 
--- a mote that is on ticks 50 times, and has room for three commits then
+-- a mote that is on ticks 50 times, and has room for three commits afterwards
 pub record TicksPlayed (played : List Played) (w : World) (m : ℕ) (v : World) : Type 0 where
   pub passes : Passes played w (replicate drain_ticks (paced m)) v
   pub there : m < length w.sites
   pub on : IsOn w m
   pub room : HasRoomAt v m
 
--- It is on and drained then: it maintains, nothing equal was heard in its interval, no short starts are counted, no order
--- waits, and it may ask for any image. What it keeps is as before, and all other motes are.
+-- It is on and drained afterwards: it maintains, nothing consistent was heard in its interval, no short starts are counted, no
+-- order waits, and it may ask for any image. What it keeps and all other motes are as before.
 pub record ComesToRest (w : World) (m : ℕ) (v : World) : Type 0 where
   pub running : Running
   pub runs : (site v m).runs ≡ Some running
@@ -42,12 +42,12 @@ pub record ComesToRest (w : World) (m : ℕ) (v : World) : Type 0 where
   pub kept : SameKept (store_at w m) (store_at v m)
   pub others : (j : ℕ) → j ≢ m → site v j ≡ site w j
 
--- So it is from every world that agrees with its table.
+-- This holds from every world that agrees with its table.
 abbrev pub DrainedLaw : Type 0
 DrainedLaw = (w v : World) (m : ℕ) → WorldAgrees w → m < length w.sites → IsOn w m
     → Follows w (replicate drain_ticks (paced m)) v → HasRoomAt v m → ComesToRest w m v
 
--- ---- whole rounds
+-- ---- complete rounds
 
 -- a round of two neighbours, from a to b, both wide or both narrow: both are on before it, and have room for three commits at
 -- its end
@@ -60,20 +60,20 @@ pub record RoundPlayed (played : List Played) (w : World) (a b : ℕ) (v : World
   pub room_a : HasRoomAt v a
   pub room_b : HasRoomAt v b
 
--- b has one page more of the version of image i that a keeps, or its first page. What else b keeps stays, and so does what a
--- keeps, and all other motes.
+-- b has one more page of the version of image i that a keeps, or its first page. What else b keeps, what a keeps, and all other
+-- motes are unchanged.
 pub record RaisesOne (w : World) (a b i : ℕ) (v : World) : Type 0 where
   pub raises : Raises (store_at w a) (store_at w b) i (store_at v b)
   pub kept : SameKept (store_at w a) (store_at v a)
   pub others : (j : ℕ) → j ≢ a → j ≢ b → site v j ≡ site w j
 
--- What rounds bring, wherever they were played: their first ticks bring a mote to rest, and a whole one raises the second
--- mote in the least image in which the first one is ahead.
+-- The effect of rounds, wherever they were played. Their first ticks bring a mote to rest, and a complete one brings the second
+-- mote a page of the least image in which the first one is ahead.
 pub record RoundsBring (played : List Played) : Type 0 where
   pub rests : (w v : World) (m : ℕ) → TicksPlayed played w m v → ComesToRest w m v
   pub raises : (w v : World) (a b i : ℕ) → RoundPlayed played w a b v
       → least_ahead (wide_at w a) (store_at w a) (store_at w b) ≡ Some i → RaisesOne w a b i v
 
--- Whatever was played from a world that agrees with its table, with true events, brought that.
+-- The rounds of every run of true events from a world that agrees with its table have this effect.
 abbrev pub RoundsLaw : Type 0
 RoundsLaw = (u : World) (played : List Played) (v : World) → PlaysFrom u played v → RoundsBring played

@@ -18,8 +18,7 @@ use dg_mote::{
 use dg_rules::{agreement_is_kept, every_step_is_legal};
 use dg_volume::{a_start_ends, a_table_holds_sound_rows, acts_end, starts_end, trails_begin};
 
-/// Sweeps one after the other are a rest, and so are ticks and heard frames, with no sweep. Rests that follow one another
-/// are one rest.
+/// Sweeps in a row are a rest, and ticks and heard frames are a rest of no sweeps. Rests that follow one another are one rest.
 pub fn sweeps_are_a_rest()
     ensures swept { (links : List (ℕ × ℕ)) (n : ℕ) → IsRest links n (times n (sweep links)) }
     ensures free { (links : List (ℕ × ℕ)) (es : List Event) → AllByRecursion IsFree es → IsRest links 0 es }
@@ -27,9 +26,8 @@ pub fn sweeps_are_a_rest()
         → IsRest links (m + n) (es ++ fs) }
 {}
 
-/// A tick or a heard frame, at any moment and with any word, keeps a world that agrees with its table: it still agrees,
-/// the table, the links, the narrow motes and those that are on stay, room does not grow, and no page of the newest version
-/// of an image is lost.
+/// A tick or a heard frame, at any moment and with any word, keeps a world in agreement with its table. The table, the links, the
+/// narrow motes and those that are on stay, room does not grow, and no page of the newest version of an image is lost.
 pub fn a_free_event_keeps_a_good_world()
     ensures { FreeLaw }
 {
@@ -42,8 +40,8 @@ pub fn a_free_event_keeps_a_good_world()
     a_table_holds_sound_rows();
 }
 
-/// A round from a mote to its neighbour, both wide or both narrow, brings that one a page of the least image in which the
-/// first is ahead, of those that such motes speak of, and changes nothing else that is kept.
+/// A round from a mote to its neighbour, both wide or both narrow, brings the neighbour one page. It is of the least image in
+/// which the first mote is ahead, of those that such motes speak of. Nothing else that is kept changes.
 pub fn a_round_raises()
     ensures { RoundLaw }
 {
@@ -57,7 +55,7 @@ pub fn a_round_raises()
     a_page_comes();
 }
 
-/// The 50 ticks with which a round begins bring a mote to rest: it is drained then, and keeps what it kept.
+/// The 50 ticks with which a round begins bring a mote to rest: it is drained afterwards, and what it keeps is unchanged.
 pub fn a_round_brings_a_mote_to_rest()
     ensures { DrainedLaw }
 {
@@ -67,9 +65,9 @@ pub fn a_round_brings_a_mote_to_rest()
     a_mote_drains();
 }
 
-/// In a rest each sweep brings every page one link further: after t sweeps a mote within j links of a whole image has
-/// t + 1 - j pages of it, where every smaller image is whole everywhere. All motes are wide, or all are narrow and no image
-/// that such motes do not speak of has a row.
+/// In a rest each sweep brings every page one link further. After t sweeps a mote within j links of a whole image has t + 1 - j
+/// pages of it, or all, if every smaller image is whole everywhere. All motes are wide, or all are narrow and no image that such
+/// motes do not speak of has a row.
 pub fn sweeps_fill_the_pipeline()
     ensures { PipelineLaw }
 {
@@ -77,8 +75,8 @@ pub fn sweeps_fill_the_pipeline()
     a_round_raises();
 }
 
-/// After a rest of enough sweeps every mote keeps the newest version of every image whole, where all motes are wide, or all
-/// are narrow and no image that such motes do not speak of has a row. Networks that are mixed are promised nothing.
+/// After a rest of enough sweeps every mote keeps the newest version of every image whole. All motes are wide, or all are narrow
+/// and no image that such motes do not speak of has a row. Nothing is promised of mixed networks.
 pub fn enough_sweeps_complete()
     ensures { CompletionLaw }
 {
@@ -86,19 +84,19 @@ pub fn enough_sweeps_complete()
     a_round_raises();
 }
 
-/// How far all motes are from one that keeps a row whole, in links, and how many sweeps are enough. Where a way leads to
-/// every mote from one that keeps the newest row of an image whole, for each image that has a row, one number is enough
-/// and no smaller one is called so.
+/// How far all motes are from one that keeps a row whole, in links, and how many sweeps are enough. If for each image that has a
+/// row a path leads to every mote from one that keeps the newest row whole, there is exactly one number of sweeps that is called
+/// enough.
 pub fn distances_are_paths()
     ensures within { WithinLaw }
     ensures enough { EnoughLaw }
     ensures one { OneEnoughLaw }
 {}
 
-/// What is played from a world that agrees with its table, with true events: where it ends with a rest of enough sweeps,
-/// every mote keeps the newest version of each image whole. Where the sweeps are fewer, each brings every page one link
-/// further, if every smaller image is whole everywhere. All motes are wide in both, or all are narrow and no image that such
-/// motes do not speak of has a row. What is played of free events that are not cut is a run of them.
+/// A run of true events begins in a world that agrees with its table. If it ends with a rest of enough sweeps, every mote keeps
+/// the newest version of each image whole. If the sweeps are fewer, each brings every page one link further, provided that every
+/// smaller image is whole everywhere. In both cases all motes are wide, or all are narrow and no image that such motes do not
+/// speak of has a row. Free events that were played without a cut are a run of these events.
 pub fn scripts_end_complete()
     ensures completes { EndsLaw }
     ensures pipeline { EndsPipelineLaw }
@@ -110,9 +108,9 @@ pub fn scripts_end_complete()
     enough_sweeps_complete();
 }
 
-/// Wherever a round was played from a world that agrees with its table, with true events, and no power was cut in it: its
-/// first ticks brought its mote to rest, and a whole one between two wide motes, or two narrow ones, brought the second a page
-/// of the least image in which the first was ahead.
+/// A round was played somewhere in a run of true events from a world that agrees with its table, and no power was cut in it. Then
+/// its first ticks brought its mote to rest. A complete round between two wide motes, or two narrow ones, brought the second a
+/// page of the least image in which the first was ahead.
 pub fn rounds_of_scripts_bring_pages()
     ensures brings { RoundsLaw }
     ensures nothing { RoundsBring [] }
@@ -139,8 +137,8 @@ pub fn a_free_event_can_be_applied()
     trails_begin();
 }
 
-/// The premises of completion can be met: where every mote is on, all are of one width, and each has room for what it may
-/// commit, a rest can be applied.
+/// The premises of completion can be met: if every mote is on, all are of one width, and each has room for what it may commit, a
+/// rest can be applied.
 pub fn a_rest_can_be_applied()
     ensures { MetLaw }
 {
@@ -148,9 +146,8 @@ pub fn a_rest_can_be_applied()
     a_free_event_can_be_applied();
 }
 
-/// What was played from a world that agrees with its table, with true events, can go on with a rest: where every mote is on,
-/// all are of one width, and each has room for what it may commit, there is what is played of these items, and it ends with a
-/// rest of this many sweeps.
+/// A run of true events from a world that agrees with its table can continue with a rest. If every mote is on, all are of one
+/// width, and each has room for what it may commit, these items can be played. The run then ends with a rest of this many sweeps.
 pub fn a_script_goes_on_with_a_rest()
     ensures { GoesOnLaw }
 {

@@ -77,7 +77,7 @@ pub record IsGood (table : List Row) (s : Store) : Type 0 where
   pub well : StoreIsWell table s
   pub order : OrderFits s.order
 
--- room is no part of it
+-- it does not depend on room
 pub good_room : (table : List Row) (s : Store) (room : ℕ) → IsGood table s → IsGood table (record s { room = room })
 good_room table s room g = record { well = record { count = g.well.count; agrees = record { golden = g.well.agrees.golden; kept = g.well.agrees.kept; app = g.well.agrees.app } }; order = g.order }
 

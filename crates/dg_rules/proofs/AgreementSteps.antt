@@ -41,7 +41,7 @@ mote_within n (Frame m dt word bytes) fits = fits.0
 pub step_within : (w : World) (x : Step) → StepInRange (length w.sites) x → mote_of x.event < length w.sites
 step_within w x fits = mote_within (length w.sites) x.event fits.event
 
--- a frame more was sent
+-- one more frame was sent
 sent_agrees : (u : World) (m : ℕ) (o : Option Message) → IfSome o (λ message. SentIsWell u.table (record { by = m; bytes = frame_of message })) → WorldAgrees u → WorldAgrees (and_sent u m o)
 sent_agrees u m None is a = a
 sent_agrees u m (Some message) is a = record {

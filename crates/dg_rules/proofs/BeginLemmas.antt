@@ -1,4 +1,4 @@
--- What is played from a world that agrees with its table: each item fits, and there are as many motes in the end.
+-- What is played from a world that agrees with its table: each item fits, and the number of motes stays.
 use Rattle.std.proofs.Common.{◌≡◌, ℕ, List, [], ◌∷◌, length, refl, sym, ap, subst, ◌∙◌}
 use Rattle.std.specs.List.{AllByRecursion}
 use Rattle.dg_volume.specs.Table.{row_at}
@@ -27,7 +27,7 @@ fits_played : (motes : ℕ) (past : List Played) (p : Played) → length p.befor
     → (length p.after.sites ≡ motes) × PlayedFits p
 fits_played motes past p count range did = (item_count motes p.item p.before p.after p.reports count range.0 did, item_fits motes p.item p.before count range.0 range.1)
 
--- the last world agrees where each item leaves agreement
+-- the last world agrees if each item keeps agreement
 ends_agree : (played : List Played) (w v : World) → Plays w played v → WorldAgrees w → AllByRecursion LeavesAgreement played → WorldAgrees v
 unfolding Plays
 ends_agree [] w v run agrees all = subst WorldAgrees run agrees

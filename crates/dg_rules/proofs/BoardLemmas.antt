@@ -1,4 +1,4 @@
--- What is played over chips as they stand begins in a world that agrees with its table.
+-- What is played over chips as they are begins in a world that agrees with its table.
 use Rattle.std.proofs.Common.{◌≡◌, ℕ, ◌<◌, ◌≤◌, ◌^◌, Bool, true, false, cond, List, [], length, refl, sym, ap, subst, ◌⊎◌, inl, inr, arith, IsTrue}
 use Rattle.std.specs.Prelude.{◌==◌, ◌&&◌, nat_le, nat_lt}
 use Rattle.std.specs.List.{AllByRecursion}
@@ -20,7 +20,7 @@ use Rattle.dg_script.specs.Ranges.{EventInRange}
 use Rattle.dg_base.specs.declared.events.Event.{Event}
 use Rattle.std.proofs.lemmas.Bool.{cases_Bool}
 
--- ---- an order in its ranges can be told in a frame
+-- ---- an order in its ranges fits into a frame
 
 record Named (n i v : ℕ) : Type 0 where
   number : 1 ≤ n

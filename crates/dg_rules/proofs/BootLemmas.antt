@@ -41,7 +41,7 @@ MayRun s r = (image_version_of r ≡ golden_image_version) ⊎ ((option_map app_
 abbrev pub InMemory : Option App → Runs → Type 0
 InMemory app r = (option_map app_image_version app ≡ Some (image_version_of r)) ⊎ ((app ≡ None) × (image_version_of r ≡ golden_image_version))
 
--- a chip whose third short start is counted has no room to choose by it
+-- where the third short start is counted, no room is left
 abbrev pub IsSettled : Store → Type 0
 IsSettled s = s.gesture ≡ short_starts → s.room ≡ 0
 
@@ -270,7 +270,7 @@ order_start s waits old =
 
 -- ---- a start
 
--- the start of a store that differs in no more than this, behind a trail that makes it
+-- the start of a store that differs in no more than this, after a trail that makes it
 behind_start : (s : Store) (gesture : ℕ) (waived : Bool) (room : ℕ) (t : Trail Store) (b : Boot) → t.first ≡ s → last t ≡ record s { gesture = gesture; waived = waived; room = room }
     → IsStart (record s { gesture = gesture; waived = waived; room = room }) b → IsStart s (behind t b)
 unfolding joined

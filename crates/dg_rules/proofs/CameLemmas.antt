@@ -31,7 +31,7 @@ use Rattle.dg_rules.proofs.DeedLemmas.{CameTo as SiteCame, CameBy, WorldCame}
 
 -- ---- modes
 
--- a page that goes on
+-- a page whose download continues
 continues_there : (m : ℕ) (wide : Bool) (old new : Past) (mode : Mode) (comes : (image version page q : ℕ) → Type 0) (r : Receiving)
     → ((image version page q : ℕ) → CameTo m wide image version page q old → CameTo m wide image version page q new) → ((image version page q : ℕ) → comes image version page q → CameTo m wide image version page q new)
     → IfReceives (AllThere m wide old) mode → Continues mode comes r → AllThere m wide new r
@@ -99,7 +99,7 @@ started_then_more m j wide past (Some r) other image version page q had = starte
 
 -- ---- every event
 
--- the past behind a deed, by whether its power was cut
+-- the past after an event, by whether its power was cut
 abbrev Behind : Past → World → Event → Deed → Bool → Past
 Behind past w e d b = started_then (started_unless b d.started) (mote_of e) (came_then (brought w e) (mote_of e) past)
 

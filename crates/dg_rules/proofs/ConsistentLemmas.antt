@@ -1,4 +1,5 @@
--- Steps and declarations keep every store consistent, also where they are stopped, whatever frames come. Nothing here speaks of a table.
+-- Steps and declarations keep every store consistent, also where they are stopped, whatever frames come. Nothing here depends on
+-- a table.
 use Rattle.std.proofs.Common.{◌≡◌, ℕ, ◌+◌, ◌<◌, Bool, List, length, Option, Some, None, IfSome, sym, ap, subst, ◌∙◌, arith}
 use Rattle.std.specs.List.{AllByRecursion}
 use Rattle.std.proofs.lemmas.List.{length-set}

@@ -30,7 +30,7 @@ pub record RunLaws : Type 0 where
   pub declared : (golden : Row) (w v : World) (row : Row) (reports : List Report) → WorldConsistent golden w → IsDeclared row → DeclareStep w row v reports → WorldConsistent golden v
   pub starts : (golden : Row) (w : World) (e : Event) → WorldConsistent golden w → EventInRange (length w.sites) e → StartsSoundDoes golden (does w e)
 
--- every store is consistent, and the motes are so many
+-- every store is consistent, and there are this many motes
 record Holds (golden : Row) (motes : ℕ) (w : World) : Type 0 where
   world : WorldConsistent golden w
   count : length w.sites ≡ motes

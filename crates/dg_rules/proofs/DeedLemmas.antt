@@ -51,7 +51,7 @@ use Rattle.dg_rules.proofs.LegalLemmas.{mote, holds_at, legal_start, chosen_star
 use Rattle.dg_rules.proofs.MessageLemmas.{AllThere}
 use Rattle.dg_rules.proofs.HeardLemmas.{IsCalm, calm_settled, tick_calm, clear_small, heard_ends}
 
--- a mote that is on has no room where its third short start is counted
+-- a mote that is on has no room left if its third short start is counted
 abbrev pub WorldSettled : World → Type 0
 WorldSettled w = (m : ℕ) → m < length w.sites → IfSome (site w m).runs (λ r. IsSettled (store_at w m))
 
@@ -66,7 +66,7 @@ CameBy past narrow w = (m : ℕ) → m < length w.sites → CameTo past m (is_wi
 abbrev pub WorldCame : Past → World → Type 0
 WorldCame past w = CameBy past w.narrow w
 
--- what an event may do at mote m that brings this frame
+-- what an event that brings this frame may do at mote m
 pub record LegalDeed (past : Past) (w : World) (m : ℕ) (frame : Option (List ℕ)) (e : Event) (d : Deed) : Type 0 where
   pub whole : (runs : Option Running) → d.runs ≡ Some runs → LegalAt (step_facts past w.declared false (wide_at w m) frame) w.table e (small_mote (site w m)) (mote (last d.trail) runs) d.table
   pub cut : Through (λ s. LegalAt (step_facts past w.declared true (wide_at w m) frame) w.table e (small_mote (site w m)) (mote s None) d.table) d.trail
@@ -98,7 +98,7 @@ larger s order e =
     cond_both (nat_le order.number s.order.number) (Some (order_fault.OldOrder s.order.number)) _ (λ (o : Option OrderFault). o ≡ None → s.order.number < order.number)
     (λ _ f. cc) (λ low _. leb-false order.number s.order.number low) e
 
--- a mote goes on with the image version that it ran
+-- a mote continues with the image version that it ran
 same_running_version : (t : Store) (a b : Option Running) → running_image_version a ≡ running_image_version b → mote t a ≡ mote t b
 same_running_version t a b e = λ j. record { holdings = (mote t a).holdings; app = (mote t a).app; order = t.order; runs = e j }
 
@@ -114,7 +114,7 @@ none_reloaded : (o : Option Running) (now word : ℕ) → o ≡ None → reloade
 none_reloaded None now word e = refl
 none_reloaded (Some r) now word e = absurd cc
 
--- one holding is another
+-- one holding is replaced
 inject_small : (x : Site) (row : Row) (image : ℕ) (t : Store) (way : OnInject x.store row t) (runs then : Option Running) → row.image ≡ image → running_image_version runs ≡ running_image_version then
     → mote t runs ≡ record (taking (small_mote x) image (option_map holding way.here)) { runs = running_image_version then }
 inject_small x row image t way runs then image_is runs_is =
@@ -133,12 +133,12 @@ module _ (laws : StepLaws) (past : Past) (w : World) (agrees : WorldAgrees w) (s
   one_settled : (r : Running) (runs : Option Running) (t : Store) → IsSettled t → IfSome runs (λ q. IsSettled t)
   one_settled r runs t s = if_any (IsSettled t) runs s
 
-  -- it goes on with the image version that it ran
+  -- it continues with the image version that it ran
   on_version : (m : ℕ) (r : Running) (n : MoteState) (runs : Option Running) → (site w m).runs ≡ Some r → ◌≡◌ {A = Option (Option Running)} (Some (Some (record { image_version = r.image_version; mote = n }))) (Some runs)
       → running_image_version runs ≡ running_image_version (site w m).runs
   on_version m r n runs on e = ap running_image_version (sym (same_running (Some (record { image_version = r.image_version; mote = n })) runs e)) ∙ sym (ap running_image_version on)
 
-  -- nothing of the small state changes, but that the mote is off
+  -- nothing of the small state changes, except that the mote is off
   stays_cut : (may : ImageVersion → Type 0) (x : Site) (s : Store) → mote s None ≡ record (small_mote x) { runs = None } → CutStart may (small_mote x) (mote s None)
   stays_cut may x s same = record { app = (small_mote x).app; how = inl refl; change = same }
 
@@ -257,7 +257,7 @@ module _ (laws : StepLaws) (past : Past) (w : World) (agrees : WorldAgrees w) (s
 
   -- ---- orders
 
-  -- the store of a mote that goes on with its new volume
+  -- the store of a mote that continues with its new volume
   reload_settled : (m now word : ℕ) (t : Store) (runs : Option Running) → m < length w.sites → (IsSettled (store_at w m) → IsSettled t) → Some (reloaded (site w m).runs now word) ≡ Some runs → IfSome runs (λ r. IsSettled t)
   reload_settled m now word t runs here f e =
       let o = (site w m).runs in

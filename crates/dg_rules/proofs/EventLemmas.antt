@@ -42,7 +42,7 @@ order_of number image version = record { number = number; image = image; version
 
 -- ---- what is done
 
--- what runs from now on, None where there was no image to start
+-- what runs from now on, None if there was no image to start
 abbrev pub running_by : Option Runs → (id : ℕ) (wide : Bool) (now word : ℕ) → Option (Option Running)
 running_by None id wide now word = None
 running_by (Some r) id wide now word = Some (Some (record { image_version = image_version_of r; mote = begun_mote id wide now word }))
@@ -51,7 +51,7 @@ running_by (Some r) id wide now word = Some (Some (record { image_version = imag
 abbrev pub starts : World → Boot → (id : ℕ) (wide : Bool) (now word : ℕ) → Does
 starts w b id wide now word = Goes (record { trail = b.trail; table = w.table; started = b.runs; sent = None; runs = running_by b.runs id wide now word })
 
--- the mote that runs this image version goes on
+-- the mote that runs this image version continues
 abbrev pub going_on : World → Trail Store → Option Message → ImageVersion → MoteState → Deed
 going_on w t sent image_version n = record { trail = t; table = w.table; started = None; sent = sent; runs = Some (Some (record { image_version = image_version; mote = n })) }
 
@@ -126,7 +126,8 @@ module _ (Q : Sent → Type 0) where
 
 -- ---- every event
 
--- what holds of each kind of event that is refused or not holds of every event; Q holds of the frames that were sent
+-- what holds of every refused event, and of each kind of event that is not refused, holds of every event; Q holds of the frames
+-- that were sent
 module _
     (laws : RestartLaws)
     (w : World)
@@ -148,7 +149,7 @@ module _
     → P (Inject m image version dt word) (acts w m (inject_trail (store_at w m) row) (with_row w.table row) (w.moment + dt) word))
     (ordering : (m number image version dt word : ℕ) → order_refusal (store_at w m) (order_of number image version) ≡ None
     → P (OrderEvent m number image version dt word) (acts w m (order_trail (store_at w m) (order_of number image version)) w.table (w.moment + dt) word)) where
-  -- by what the tick answers
+  -- by the result of the tick
   tick_answers : (m dt word : ℕ) (r : Running) → (site w m).runs ≡ Some r → (a : Did) → (tick_of r.mote (store_at w m) (w.moment + dt) word).answer ≡ a
       → P (Tick m dt word) (of_effect w (tick_by a (tick_of r.mote (store_at w m) (w.moment + dt) word) (w.moment + dt) word) (Some r.image_version))
   tick_answers m dt word r is did.Sent answer = ticking m dt word r is
@@ -170,7 +171,7 @@ module _
   tick_case m dt word None is = refused (Tick m dt word) cause.Off
   tick_case m dt word (Some r) is = tick_answers m dt word r is (tick_of r.mote (store_at w m) (w.moment + dt) word).answer refl
 
-  -- what a frame does that is heard
+  -- what a frame that is heard does
   frame_case : (e : Event) (m now word : ℕ) (bytes : List ℕ) → ((r : Running) → (site w m).runs ≡ Some r → P e (hears w m now word bytes r))
       → (o : Option Running) → (site w m).runs ≡ o → P e (hear_by w (store_at w m) o now word bytes)
   unfolding frame_effect

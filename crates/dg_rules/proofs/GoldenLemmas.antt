@@ -1,4 +1,4 @@
--- Golden stays, and a start finds it. Nothing here speaks of a table.
+-- Golden stays, and a start finds it. Nothing here depends on a table.
 use Rattle.std.proofs.Common.{◌≡◌, ◌≢◌, ℕ, ◌+◌, ◌<◌, ◌≤◌, Bool, List, length, Option, Some, None, IfSome, refl, ap, subst, ◌∙◌}
 use Rattle.std.specs.Prelude.{slice_index_or}
 use Rattle.dg_nor.specs.Through.{Through}

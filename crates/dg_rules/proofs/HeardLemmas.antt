@@ -1,4 +1,4 @@
--- A frame that is heard changes what is legal, and short starts stay as they are.
+-- A frame that is heard makes only legal changes, and the count of short starts does not rise.
 use Rattle.std.proofs.Common.{◌≡◌, ◌⊎◌, ℕ, ◌≤◌, Bool, true, false, List, Option, Result, Ok, Err, refl, sym, ap, subst, ◌∙◌, inl, inr, ⊎_elim, arith}
 use Rattle.dg_nor.specs.Trail.{Trail, last, resting}
 use Rattle.dg_nor.specs.Through.{Through}
@@ -27,7 +27,7 @@ use Rattle.dg_rules.proofs.LegalLemmas.{mote}
 use Rattle.dg_rules.proofs.ChangesLemmas.{ChangeLaws, refused_trail}
 use Rattle.dg_rules.proofs.MessageLemmas.{AllThere, advert_legal, packet_legal}
 
--- short starts are as before, or none, and there is no more room
+-- the count of short starts is as before, or 0, and room does not grow
 pub record IsCalm (s t : Store) : Type 0 where
   pub gesture : (t.gesture ≡ s.gesture) ⊎ (t.gesture ≡ 0)
   pub room : t.room ≤ s.room
@@ -40,7 +40,7 @@ calm_settled s t calm old three =
 same_calm : (s t : Store) → t ≡ s → IsCalm s t
 same_calm s t same = subst (IsCalm s) (sym same) (record { gesture = inl refl; room = omega arith })
 
--- a tick leaves the small state as it is
+-- a tick leaves the small state unchanged
 pub tick_calm : (laws : ChangeLaws) (m : MoteState) (s : Store) (now word : ℕ) → IsCalm s (last (tick_of m s now word).trail)
 tick_calm laws m s now word =
     let t = (tick_of m s now word).trail in
@@ -56,7 +56,7 @@ module _ (laws : ChangeLaws) (table : List Row) (past : Past) (m : ℕ) (x : Sit
   abbrev Step : Trail Store
   Step = (heard_of n x.store now word bytes).trail
 
-  -- this store may be left, by whether the power was cut, where the frame is read so
+  -- this store may be left, by how the frame is read and by whether the power was cut
   abbrev May : Result Message FrameFault → Bool → Store → Type 0
   May r fired t = LegalMessage (Came m bytes past) fired m wide r (small_mote x) (mote t x.runs) × IsCalm x.store t
 

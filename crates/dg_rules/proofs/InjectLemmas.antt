@@ -1,4 +1,4 @@
--- What an injection keeps on its way, and what it leaves.
+-- What an injection keeps on its trail, and what it leaves.
 use Rattle.std.proofs.Common.{◌≡◌, ℕ, ◌+◌, ◌<◌, ◌≤◌, true, false, List, [], ◌∷◌, take, drop, length, Option, Some, None, option_map, IfSome, refl, sym, ap, subst, ◌∙◌, inl, inr, ⊎_elim, arith, eqb-true, ltb-false}
 use Rattle.std.proofs.lemmas.Bool.{cond_both, eqb-false, cases_eq}
 use Rattle.std.proofs.lemmas.Bool.Decides.{nat_tests}
@@ -24,7 +24,7 @@ use Rattle.dg_volume.proofs.FillLemmas.{fill_first}
 use Rattle.dg_rules.specs.Small.{Holding, holding, whole}
 use Rattle.dg_rules.specs.Legal.{MayInject, CutHolding}
 
--- what is kept of the row's image alone is another
+-- only what is kept of the row's image differs
 pub record OnInject (s : Store) (row : Row) (t : Store) : Type 0 where
   pub here : Option Held
   pub kept : t.kept ≡ slice_set s.kept row.image here

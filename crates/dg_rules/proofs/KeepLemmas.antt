@@ -1,4 +1,4 @@
--- What is legal lets no version fall.
+-- In a legal step no version falls.
 use Rattle.std.proofs.Common.{◌≡◌, ◌⊎◌, ℕ, ◌<◌, Bool, true, false, List, length, Option, Some, None, Result, Ok, Err, refl, sym, ap, subst, ◌∙◌, inl, inr, ⊎_elim, arith}
 use Rattle.std.proofs.lemmas.Bool.{cases_eq, cases_lt}
 use Rattle.std.proofs.lemmas.List.{get_or-set_same, get_or-set_other, get_or_past}
@@ -171,7 +171,7 @@ framed : (wide : Bool) (frame : Option (List ℕ)) (fired : Bool) (i : ℕ) (h :
 framed wide None fired i h past m old mid had legal = absurd legal
 framed wide (Some bytes) fired i h past m old mid had legal = framed_by wide bytes fired i h old mid had (Came m bytes past) m (message_of bytes wide) refl legal
 
--- the same, where the mote is off behind a cut
+-- the same, where the mote is off after a cut
 framed_then : (wide : Bool) (frame : Option (List ℕ)) (fired : Bool) (i : ℕ) (h : Holding) (past : Past) (m : ℕ) (old mid new : SmallMote) → holds old i ≡ Some h → LegalFrame past fired m wide frame old mid → new ≡ off_after fired mid
     → Framed wide frame fired i h (holds new i)
 framed_then wide frame fired i h past m old mid new had legal is =

@@ -1,4 +1,5 @@
--- What holds whatever is kept of an image, and whatever room is left, holds on the way of an injection of the image.
+-- What holds whatever is kept of an image, and whatever room is left, holds of each store on the trail of an injection of the
+-- image.
 use Rattle.std.proofs.Common.{ℕ, List, [], ◌∷◌, drop, Option, Some, None, option_map}
 use Rattle.std.proofs.lemmas.Bool.{cond_both}
 use Rattle.dg_nor.specs.Trail.{last, joined, resting, stepping}

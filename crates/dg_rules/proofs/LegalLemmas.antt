@@ -37,7 +37,7 @@ holds_at x i = get_or-map (option_map holding) x.store.kept i None
 
 -- ---- an image that is kept whole
 
--- what a row's image is where it is whole
+-- what a row's image is if it is whole
 pub record Whole (table : List Row) (image version : ℕ) (o : Option Held) : Type 0 where
   pub row : Row
   pub in_table : row_at table image version ≡ Some row
@@ -78,7 +78,7 @@ holds_whole table x image_version o here w = record {
 
 -- ---- starts
 
--- program memory on the way: as before, blank, or what runs
+-- program memory during a start: as before, blank, or what runs
 abbrev AppOnWay : Option App → Option Runs → Option App → Type 0
 AppOnWay old runs new = (new ≡ old) ⊎ ((new ≡ None) ⊎ ((r : Runs) × (runs ≡ Some r) × (new ≡ Some (app_of r))))
 
@@ -145,7 +145,7 @@ module _ (ends : (k : StartCause) (s : Store) → Boots s (boot k s)) (table : L
       })
       b.trail (ends k x.store).way
 
-  -- a tick starts the order's image alone
+  -- a tick starts only the order's image
   pub tick_starts : IsTable table → ((row : Row) → IsRow row → RowLaws row) → order_waits x.store ≡ true → IsSettled x.store
       → (boot cause.Order x.store).runs ≡ Some (kept_runs x.store x.store.order.image x.store.order.version)
   tick_starts is_table laws waits settled =

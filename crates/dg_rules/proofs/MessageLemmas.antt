@@ -28,7 +28,7 @@ AllThere m wide past r = (q : ℕ) → is_some (packet r.packets q) ≡ true →
 pub stays_small : (x : Site) (t : Store) → t ≡ x.store → mote t x.runs ≡ small_mote x
 stays_small x t same = ap (λ (s : Store). mote s x.runs) same
 
--- one holding is as it was
+-- one holding is unchanged
 pub same_holding_stays : (x : SmallMote) (i : ℕ) → x ≡ taking x i (holds x i)
 same_holding_stays x i = λ j. record { holdings = sym (set-get_or x.holdings i None) j; app = x.app; order = x.order; runs = x.runs }
 

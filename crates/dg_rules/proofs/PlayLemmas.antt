@@ -4,12 +4,13 @@ use Rattle.std.specs.List.{AllByRecursion}
 use Rattle.dg_rules.specs.World.{World}
 use Rattle.dg_rules.specs.Runs.{Played, ItemStep, Plays, EachAfter}
 
--- what holds in the end, behind all that was played
+-- what holds in the end, after all that was played
 pub record Ended (I : List Played → World → Type 0) (v : World) : Type 0 where
   pub past : List Played
   pub holds : I past v
 
--- what holds before an item that fits, with what was played before it, and is kept by it, holds in the end; and what each item has, all have
+-- if each item that fits keeps what holds of the world and of what was played before it, that holds in the end; and what a step
+-- proves of its item holds of all items
 module _ (I : List Played → World → Type 0) (Fits : Played → Type 0) (Has : List Played → Played → Type 0)
     (step : (past : List Played) (p : Played) → I past p.before → Fits p → ItemStep p.before p.item p.after p.reports → I (p ∷ past) p.after × Has past p) where
   pub plays : (past played : List Played) (w v : World) → Plays w played v → AllByRecursion Fits played → I past w → Ended I v × EachAfter Has past played
@@ -28,7 +29,7 @@ module _ (P Q : List Played → Played → Type 0) (f : (past : List Played) (p 
   each_then past (p ∷ ps) each = (f past p each.0, each_then (p ∷ past) ps each.1)
 
 module _ (P : List Played → Played → Type 0) (Q : Played → Type 0) (f : (past : List Played) (p : Played) → P past p → Q p) where
-  -- and does not look back
+  -- the same, if what follows does not depend on what was played before
   pub all_then : (past played : List Played) → EachAfter P past played → AllByRecursion Q played
   unfolding EachAfter
   all_then past [] each = tt

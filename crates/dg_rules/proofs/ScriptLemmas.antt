@@ -33,7 +33,7 @@ use Rattle.dg_rules.proofs.EventLemmas.{RestartLaws, does_cases, all_sent, EndsA
 use Rattle.dg_rules.proofs.PlayLemmas.{Ended, plays, all_then, all_both}
 use Rattle.dg_rules.proofs.SoundLemmas.{At, declared_sites}
 
--- ---- the table has no rows but golden and declared ones
+-- ---- the table has no rows except golden and declared ones
 
 abbrev KnownRows : List Row → List Row → Type 0
 KnownRows table declared = (image version : ℕ) (row : Row) → 1 ≤ image → row_at table image version ≡ Some row → row_at declared image version ≡ Some row
@@ -266,7 +266,7 @@ module _ (g : GoldenNetwork) (played : List Played) (v : World) (script : PlaysG
     are_true = true_plays restarts g.motes played Begins v script.plays script.ranges honest Start;
   }
 
-  -- what is played more from there is of such a script too
+  -- what is played further from there is played of such a script too
   pub script_more : (more : List Played) (z : World) → PlaysFrom Begins (played ++ more) z → PlaysGolden g (played ++ more) z × AllByRecursion IsHonestThen (played ++ more)
   script_more more z from = (
     record {

@@ -36,7 +36,7 @@ declared_small : (o : Option Row) (w : World) (row : Row) → small (declared_as
 declared_small None w row = refl
 declared_small (Some kept) w row = refl
 
--- what looks at the sites alone holds of a world with the same ones
+-- what depends on the sites alone holds of every world with the same sites
 abbrev pub At : (ℕ → Site → Type 0) → List Site → Type 0
 At P sites = (m : ℕ) → m < length sites → P m (get_or sites m no_site)
 

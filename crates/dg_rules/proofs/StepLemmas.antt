@@ -23,7 +23,7 @@ abbrev pub LandsDoes : (Bool → Site → Type 0) → Does → Type 0
 LandsDoes P (Refuses why) = Unit {0}
 LandsDoes P (Goes d) = Lands P d
 
--- ---- a frame more changes no site
+-- ---- one more frame changes no site
 
 pub sent_sites : (T : ℕ → Site → Type 0) (u : World) (m : ℕ) (o : Option Message) → ((j : ℕ) → j < length u.sites → T j (site u j)) → (j : ℕ) → j < length (and_sent u m o).sites → T j (site (and_sent u m o) j)
 sent_sites T u m None all = all
@@ -47,7 +47,7 @@ sent_narrow u m (Some message) = refl
 
 -- ---- a step
 
--- which motes are narrow stays
+-- which motes are narrow stays unchanged
 module _ (w : World) (x : Step) (v : World) (reports : List Report) where
   narrow_by : (D : Does) → StepDoes D w x v reports → v.narrow ≡ w.narrow
   narrow_by (Refuses why) did = ap (λ (u : World). u.narrow) did.0
@@ -62,7 +62,7 @@ module _ (w : World) (x : Step) (v : World) (reports : List Report) where
   step_narrow did = narrow_by (does w x.event) did
 
 module _ (w : World) (x : Step) (v : World) (reports : List Report) (fits : StepInRange (length w.sites) x) where
-  -- P holds where the event is, T of each site then
+  -- P holds of the site of the event, and T of each site after it
   module _ (P : Bool → Site → Type 0) (T : ℕ → Site → Type 0)
       (closed : (s : Store) (room : ℕ) → P true (off_site s) → P true (off_site (record s { room = room })))
       (there : (b : Bool) (y : Site) → P b y → T (mote_of x.event) y)
@@ -120,7 +120,7 @@ module _ (w : World) (x : Step) (v : World) (reports : List Report) (fits : Step
           let y : Site = record { store = last d.trail; runs = e.0 } in
           ap (λ (u : World). length u.sites) e.2 ∙ ap length (sent_same (ended_world w x d y) (mote_of x.event) d.sent) ∙ site_count mid (mote_of x.event) y
 
-  -- the motes are as many
+  -- the number of motes stays
   pub step_count : WorldStep w x v reports → length v.sites ≡ length w.sites
   unfolding WorldStep
   step_count did = count_by (does w x.event) did

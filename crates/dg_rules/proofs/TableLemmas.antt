@@ -1,4 +1,4 @@
--- Rows of a table, and a table with one row more.
+-- Rows of a table, and a table with one more row.
 use Rattle.std.proofs.Common.{◌≡◌, ◌⊎◌, ℕ, ◌≤◌, arith, Bool, true, false, ◌==◌, ◌||◌, List, [], ◌∷◌, ◌++◌, Some, None, refl, sym, ap, subst, ◌∙◌, inl, inr, find, eq-eqb}
 use Rattle.std.specs.List.{list_any, AllByRecursion, IsDistinct}
 use Rattle.std.proofs.lemmas.Bool.{cases_Bool, and_from, or_parts, cond-true, cond-false}
@@ -29,7 +29,7 @@ none_passes p (y ∷ ys) e = let parts = or_parts (p y) (list_any p ys) e in (pa
 pub has_own_image_version : (row : Row) → has_image_version row.image row.version row ≡ true
 has_own_image_version row = and_from (row.image == row.image) (row.version == row.version) (eq-eqb row.image row.image refl) (eq-eqb row.version row.version refl)
 
--- ---- one row more
+-- ---- one more row
 
 abbrev known : List Row → Row → Bool
 known rows row = list_any (same_image_version row) rows
@@ -40,7 +40,7 @@ with_row-known rows row e = cond-true (known rows row) rows (row ∷ rows) e
 with_row-new : (rows : List Row) (row : Row) → known rows row ≡ false → with_row rows row ≡ row ∷ rows
 with_row-new rows row e = cond-false (known rows row) rows (row ∷ rows) e
 
--- a row of the list is behind a new one
+-- a new row in front hides no row of the list
 behind_new : (rows : List Row) (row r : Row) (image version : ℕ) → known rows row ≡ false → row_at rows image version ≡ Some r → has_image_version image version row ≡ false
 behind_new rows row r image version new e =
     elim (cases_Bool (has_image_version image version row)) [
@@ -103,7 +103,7 @@ row_at-kept rows row r image version none e =
 
 -- ---- tables
 
--- a row of another image adds none of image 0
+-- a row of another image adds no row of image 0
 other_alone : (rows : List Row) (row r : Row) (version : ℕ) → IsTable rows → 1 ≤ row.image → row_at (row ∷ rows) 0 version ≡ Some r → version ≡ 1
 other_alone rows row r version table some e =
     elim (row_at-cons rows row r 0 version e) [ inl here ↦ absurd (omega (arith, some, here.1)) | inr there ↦ table.alone version r there ]
@@ -123,7 +123,7 @@ table_cons rows row table is some new =
       alone = λ version r e. other_alone rows row r version table some e;
     }
 
--- a table with one row more, which is not of image 0, is a table
+-- a table with one more row, which is not of image 0, is a table
 pub IsTable-with_row : (rows : List Row) (row : Row) → IsTable rows → IsRow row → 1 ≤ row.image → IsTable (with_row rows row)
 IsTable-with_row rows row table is some =
     elim (cases_Bool (known rows row)) [
@@ -131,7 +131,7 @@ IsTable-with_row rows row table is some =
       | inr new ↦ subst IsTable (sym (with_row-new rows row new)) (table_cons rows row table is some new)
     ]
 
--- a row alone is a table, where it is golden
+-- a single row is a table, if it is golden
 pub IsTable-one : (row : Row) → IsRow row → row.image ≡ 0 → row.version ≡ 1 → IsTable (row ∷ [])
 unfolding IsDistinct
 IsTable-one row is image version =
@@ -142,7 +142,7 @@ IsTable-one row is image version =
       alone = λ v r e. one_alone row r v version e;
     }
 
--- ---- a row behind the others
+-- ---- a row after the others
 
 -- a row that is found was there, or is the last one
 pub row_at-of_push : (rows : List Row) (row r : Row) (image version : ℕ) → row_at (rows ++ row ∷ []) image version ≡ Some r

@@ -1,4 +1,4 @@
--- What is played over chips as they stand: each row of the table is one of those that it began with, or was declared.
+-- What is played over chips as they are: each row of the table is one of those that it began with, or was declared.
 use Rattle.std.proofs.Common.{◌≡◌, ◌⊎◌, ℕ, Bool, List, [], Option, Some, None, sym, ap, subst, ◌∙◌, ⊎_elim, inl, inr}
 use Rattle.std.specs.List.{AllByRecursion}
 use Rattle.dg_object.specs.Object.{Row}
@@ -74,7 +74,7 @@ module _ (began : List Row) where
   item_come restarts (Declares row) w v reports come did = subst RowsCome (sym did.world) (declared_come (row_at w.declared row.image row.version) w row come)
   item_come restarts (Applies x reported) w v reports come did = step_come restarts w x v did.0 come did.1
 
-  -- ---- an injection that brings no other content for these rows brings none for any
+  -- ---- an injection that brings no other content for these rows brings no other content for any row
 
   event_true : (w : World) → RowsCome w → (e : Event) → HoldsTo began w e → TrueEvent w e
   event_true w come (Tick m dt word) holds = tt
@@ -103,7 +103,7 @@ pub boards_true : RestartLaws → (table : List Row) (stores : List Store) (link
 boards_true restarts table stores links narrow played v script holds =
     all_then (λ past p. IsTrueThen p) IsTrueThen (λ past p is_true. is_true) [] played (boards_come restarts table stores links narrow played v script holds).1
 
--- and so is the next event
+-- the next event is true too
 pub next_true : RestartLaws → (table : List Row) (stores : List Store) (links : List (ℕ × ℕ)) (narrow : List Bool) (played : List Played) (v : World) → PlaysBoards table stores links narrow played v → AllByRecursion (HoldsToThen table) played
     → (e : Event) → HoldsTo table v e → TrueEvent v e
 next_true restarts table stores links narrow played v script holds e here = event_true table v (boards_come restarts table stores links narrow played v script holds).0.holds e here

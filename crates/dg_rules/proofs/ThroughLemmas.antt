@@ -11,7 +11,7 @@ module _ (P : Store → Type 0) (closed : (s : Store) (room : ℕ) → P s → P
   near_holds : (a s : Store) → P a → IsNear a s → P s
   near_holds a s p near = subst P (sym near.same) (closed a s.room p)
 
-  -- what looks at no room holds of what a cut leaves
+  -- what does not depend on room holds of what a cut leaves
   pub cut_holds : (t : Trail Store) (k : ℕ) (s : Store) → Through P t → Leaves IsNear t k s → P s
   cut_holds t k s through l = Leaves-through IsNear P near_holds t k s through l
 
@@ -24,7 +24,7 @@ module _ (P Q : Store → Type 0) (f : (s : Store) → P s → Q s) where
   pub Through-map : (t : Trail Store) → Through P t → Through Q t
   Through-map t through = (f t.first through.0, all_map t.stages through.1)
 
--- room is no part of agreement
+-- agreement does not depend on room
 pub agrees_room : (table : List Row) (s : Store) (room : ℕ) → Agrees table s → Agrees table (record s { room = room })
 agrees_room table s room a = record { golden = a.golden; kept = a.kept; app = a.app }
 

@@ -1,4 +1,4 @@
--- Which motes are narrow stays, and what a narrow mote refuses.
+-- Which motes are narrow stays unchanged, and what a narrow mote refuses.
 use Rattle.std.proofs.Common.{◌≡◌, ℕ, ◌+◌, ◌<◌, Bool, false, cond, List, [], ◌∷◌, Option, Some, None, refl, sym, ap, ◌∙◌}
 use Rattle.std.specs.Prelude.{nat_le, ◌||◌}
 use Rattle.std.proofs.lemmas.Bool.{lt-leb}

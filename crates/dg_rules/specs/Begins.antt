@@ -1,5 +1,5 @@
--- What is played from worlds that agree with their tables, and over chips as they stand (docs/PROMISES.md, "The report and what
--- it tells").
+-- What is played from worlds that agree with their tables, and over chips as they are (docs/PROMISES.md, "The report and what it
+-- tells").
 use Rattle.std.specs.Prelude.{◌≡◌, ℕ, ◌<◌, ◌≤◌, Bool, List, length, slice_index_or, Some}
 use Rattle.std.specs.List.{AllByRecursion}
 use Rattle.dg_object.specs.Object.{Row}
@@ -26,7 +26,7 @@ pub record PlaysFrom (u : World) (played : List Played) (v : World) : Type 0 whe
   pub ranges : AllByRecursion (PlayedInRange (length u.sites)) played
   pub are_true : AllByRecursion IsTrueThen played
 
--- ---- chips as they stand
+-- ---- chips as they are
 
 -- what the chip of mote m stands for
 abbrev pub store_of : List Store → ℕ → Store
@@ -37,12 +37,12 @@ pub record StoresAgree (table : List Row) (stores : List Store) : Type 0 where
   pub is_table : IsTable table
   pub each : (m : ℕ) → m < length stores → Agrees table (store_of stores m)
 
--- Each has a slot for each image, and an order in its ranges, as whatever a chip stands for.
+-- Each has a slot for each image, and an order in its ranges, as has every store that a chip stands for.
 abbrev pub AreShaped : List Store → Type 0
 AreShaped stores = (m : ℕ) → m < length stores → IsShaped (store_of stores m)
 
--- An event holds to a table: a frame that it brings from outside is honest by the table of its moment, and a row that it
--- injects is this table's, where the rules take the injection and this table has its image version.
+-- An event holds to a table under two conditions. A frame that it brings from outside is honest by the table of its moment. A row
+-- that it injects is this table's, if the rules take the injection and this table has its image version.
 abbrev pub HoldsTo : List Row → World → Event → Type 0
 HoldsTo table w (Tick mote dt word) = Unit {0}
 HoldsTo table w (Hear mote dt word frame) = Unit {0}

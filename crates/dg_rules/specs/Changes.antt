@@ -49,7 +49,7 @@ sent_line m (Some (Request source to image version page want)) = SentRequest m t
 sent_line m (Some (Packet source image version page packet bytes)) = SentData m image version page packet ∷ []
 sent_line m (Some (Wide source entries order)) = SentAdvert m ∷ []
 
--- `sent` lines are reported where they are wanted
+-- `sent` lines are reported if they are asked for
 abbrev pub is_reported : Bool → Report → Bool
 is_reported reported (SentAdvert mote) = reported
 is_reported reported (SentRequest mote to image version page count) = reported
@@ -79,7 +79,7 @@ abbrev pub kept_line : ℕ → ℕ → Option Held → Option Report
 kept_line m i None = None
 kept_line m i (Some h) = Some (Kept m i h.version (length h.complete))
 
--- of a mote: what runs, and what is kept of each image but golden
+-- of a mote: what runs, and what is kept of each image except golden
 abbrev pub site_lines : ℕ → Site → List Report
 site_lines m x = mote_line m x.runs ∷ filter_map (λ i. kept_line m i (held x.store i)) (range_with_len 1 (images - 1))
 

@@ -24,8 +24,8 @@ use Rattle.dg_base.specs.declared.events.Event.TheVariants.{Tick, Hear, Last, Re
 use Rattle.dg_script.specs.declared.report.Cause.{Cause}
 use Rattle.dg_script.specs.declared.report.Cause.TheVariants as cause
 
--- what an event does that is not refused, unless its power is cut: the stores on the way, the table then, what was
--- started and sent, and the mote then, None where there was no image to start
+-- What an event that is not refused does, unless its power is cut: the stores of its trail, the table after it, what was started
+-- and sent, and the mote after it. The mote is None if there was no image to start.
 pub record Deed : Type 0 where
   pub trail : Trail Store
   pub table : List Row
@@ -47,7 +47,7 @@ abbrev pub trail_of : Does → Store → Trail Store
 trail_of (Refuses why) s = resting s 0
 trail_of (Goes d) s = d.trail
 
--- the mote at which an event is, and its step of time
+-- the mote at which an event happens, and the milliseconds since the event before
 abbrev pub mote_of : Event → ℕ
 mote_of (Tick mote dt word) = mote
 mote_of (Hear mote dt word frame) = mote
@@ -109,8 +109,8 @@ heard_last w from to now word (Some f) = hear_by w (store_at w to) (site w to).r
 
 -- ---- injections and orders
 
--- The cause that is reported of a refused injection. `inject_refusal` never says Stopped, since a stop is no refusal: a board
--- that stops ends the run, and nothing is reported of the event. So the first line is for no event.
+-- The cause that is reported of a refused injection. `inject_refusal` never says Stopped, since a stop is not a refusal: a board
+-- that stops ends the run, and nothing is reported of the event. The first line is therefore never used.
 abbrev pub inject_cause : Row → InjectFault → Cause
 inject_cause row inject.Stopped = cause.Empty
 inject_cause row inject.Empty = cause.Empty
@@ -120,7 +120,7 @@ inject_cause row inject.Reserved = cause.Reserved
 inject_cause row (inject.Worn room) = cause.Worn room
 inject_cause row inject.Taken = cause.Taken
 
--- a mote that is on goes on with its new volume
+-- a mote that is on continues with its new volume
 abbrev pub reloaded : Option Running → (now word : ℕ) → Option Running
 reloaded None now word = None
 reloaded (Some r) now word = Some (record r { mote = maintains r.mote now word })

@@ -27,11 +27,11 @@ pub record SiteKeepsGolden (x : Site) : Type 0 where
   pub kept : KeepsGoldenRow x.store
   pub asks : IfSome x.runs (λ r. AsksForOthers r.mote.mode)
 
--- every mote does
+-- every mote keeps golden, and does not ask for it
 abbrev pub WorldKeepsGolden : World → Type 0
 WorldKeepsGolden w = (m : ℕ) → m < length w.sites → SiteKeepsGolden (site w m)
 
--- an event that is not refused does not find that there is no image to start
+-- an event that is not refused finds an image, if it has to start one
 abbrev pub FindsImage : Does → Type 0
 FindsImage (Refuses why) = Unit {0}
 FindsImage (Goes d) = d.runs ≢ None
@@ -52,7 +52,7 @@ network_row g = golden_row g.name g.bytes
 abbrev pub network_world : GoldenNetwork → World
 network_world g = first_world (network_row g ∷ []) g.links g.narrow (replicate g.motes (fresh g.name g.bytes g.used))
 
--- what is played of a script with golden: such motes begin, and every number is in its range
+-- what is played of a script with golden: it begins with such motes, and every number is in its range
 pub record PlaysGolden (g : GoldenNetwork) (played : List Played) (v : World) : Type 0 where
   pub is_row : IsRow (network_row g)
   pub plays : Plays (network_world g) played v

@@ -47,8 +47,8 @@ abbrev pub MayInject : Option Holding → Row → Type 0
 MayInject None row = Unit {0}
 MayInject (Some h) row = (h.version < row.version) ⊎ ((h.version ≡ row.version) × (h.pages ≤ (whole row).pages))
 
--- where a cut fired: what was kept stays; or this many pages of the new version are kept, no fewer than before; or nothing,
--- where an older version was kept
+-- after a cut that fired: what was kept stays; or this many pages of the new version are kept, no fewer than before; or nothing
+-- is kept, if an older version was
 abbrev pub CutHolding : Option Holding → Row → Option Holding → Type 0
 CutHolding old row None = (old ≡ None) ⊎ ((h : Holding) × (old ≡ Some h) × (h.version < row.version))
 CutHolding old row (Some new) =
@@ -122,7 +122,7 @@ pub record LegalAdvert (fired : Bool) (entries : List Entry) (order : Order) (ol
       × ((held ≡ Some (record { version = (entry_for entries image).version; pages = 0 })) ⊎ ((fired ≡ true) × (held ≡ None))))
   pub change : new ≡ taking (record old { order = kept_order }) image held
 
--- a page more is kept where all of its packets came
+-- one more page is kept if all of its packets came
 pub record LegalPacket (all_came : Type 0) (image version page : ℕ) (old new : SmallMote) : Type 0 where
   pub held : Option Holding
   pub held_change : (held ≡ holds old image)
@@ -144,11 +144,11 @@ LegalMessage past fired m wide (Ok (Wide source entries order)) old new = LegalA
 
 -- ---- a step
 
--- A mote that is off changes by Reset, Inject and Order alone.
+-- Only Reset, Inject and Order change a mote that is off.
 abbrev pub SmallIsOn : SmallMote → Type 0
 SmallIsOn x = (image_version : ImageVersion) × (x.runs ≡ Some image_version)
 
--- A Tick may also change nothing, and it starts the ordered row alone.
+-- A Tick may also change nothing, and it starts only the ordered row.
 abbrev pub LegalTick : List Row → Bool → SmallMote → SmallMote → Type 0
 LegalTick table false old new = (new ≡ old) ⊎ ((s : LegalStart table old new) × OrdersWholeRow table old s.image_version)
 LegalTick table true old new = CutStart (OrdersWholeRow table old) old new
@@ -162,7 +162,7 @@ abbrev pub LegalFrame : Past → (fired : Bool) → ℕ → (wide : Bool) → Op
 LegalFrame past fired m wide None old new = ⊥
 LegalFrame past fired m wide (Some bytes) old new = LegalMessage (Came m bytes past) fired m wide (message_of bytes wide) old new
 
--- What is known of a step beside the small state: the past, what is declared, whether its cut fired, whether its mote is wide,
+-- What is known of a step besides the small state: the past, what is declared, whether its cut fired, whether its mote is wide,
 -- and the frame that it brings.
 pub record StepFacts : Type 0 where
   pub past : Past
@@ -175,7 +175,7 @@ abbrev pub step_facts : Past → (declared : List Row) → (fired wide : Bool) �
 step_facts past declared fired wide frame =
     record { past = past; declared = declared; fired = fired; wide = wide; frame = frame }
 
--- What an event that is not refused may change at its mote, from one table to another. A cut that fired makes the mote off.
+-- What an event that is not refused may change at its mote, from one table to another. A cut that fired turns the mote off.
 abbrev pub LegalAt : StepFacts → List Row → Event → SmallMote → SmallMote → List Row → Type 0
 LegalAt f table (Tick m dt word) old new after = SmallIsOn old × LegalTick table f.fired old new × (after ≡ table)
 LegalAt f table (Reset m dt word) old new after = LegalReset table f.fired old new × (after ≡ table)
@@ -195,7 +195,7 @@ LegalAt f table (Frame m dt word bytes) old new after =
     SmallIsOn old × (mid : SmallMote) × LegalFrame f.past f.fired m f.wide f.frame old mid
     × (new ≡ off_after f.fired mid) × (after ≡ table)
 
--- An event that is not refused changes only what its kind allows, at its mote alone.
+-- An event that is not refused changes only its mote, and there only what its kind allows.
 pub record LegalStep (facts : StepFacts) (event : Event) (mote : ℕ) (old new : Small) : Type 0 where
   pub there : LegalAt facts old.table event (small_mote_at old mote) (small_mote_at new mote) new.table
   pub others : (m : ℕ) → m ≢ mote → small_mote_at new m ≡ small_mote_at old m

@@ -31,12 +31,12 @@ abbrev pub started_then : Option Runs → ℕ → Past → Past
 started_then None m past = past
 started_then (Some r) m past = Started m past
 
--- a start whose power was cut is none
+-- a start whose power was cut does not count
 abbrev pub started_unless : Bool → Option Runs → Option Runs
 started_unless true started = None
 started_unless false started = started
 
--- what a step adds to it: nothing where its event is refused, and else the frame that it brings and the start that it makes
+-- what a step adds to it: nothing if its event is refused, and otherwise the frame that it brings and the start that it makes
 abbrev pub past_by : Does → World → Step → Past → Past
 past_by (Refuses why) w x past = past
 past_by (Goes d) w x past =

@@ -23,7 +23,7 @@ use Rattle.dg_rules.specs.Runs.{Played}
 use Rattle.dg_base.specs.declared.events.Event.{Event}
 use Rattle.dg_base.specs.declared.events.Event.TheVariants.{Tick, Hear, Last, Reset, Inject, Order as OrderEvent, Frame}
 
--- a mote that is on has the number of its site as its id, and its width, agrees, is in time, and can say what it says
+-- a mote that is on has the id and width of its site, agrees with the table, is in time, and what it says fits into frames
 pub record RunsWell (table : List Row) (m : ℕ) (wide : Bool) (now : ℕ) (s : Store) (r : Running) : Type 0 where
   pub id : r.mote.id ≡ m
   pub wide_is : r.mote.wide ≡ wide
@@ -35,8 +35,8 @@ pub record SiteIsWell (table : List Row) (m : ℕ) (wide : Bool) (now : ℕ) (x 
   pub order : OrderFits x.store.order
   pub runs : IfSome x.runs (RunsWell table m wide now x.store)
 
--- A frame that was sent spells a message of its sender, which is honest, and whose fields fit into a frame. That is what
--- wide motes read; a narrow one reads the same or nothing.
+-- A frame that was sent spells a message of its sender, which is honest, and whose fields fit into a frame. Wide motes read this
+-- message; a narrow one reads the same or nothing.
 pub record SentIsWell (table : List Row) (f : Sent) : Type 0 where
   pub message : Message
   pub spelled : message_of f.bytes true ≡ Ok message
@@ -66,8 +66,8 @@ abbrev pub HonestEvent : List Row → Event → Type 0
 HonestEvent table (Frame mote dt word bytes) = IsHonest table bytes
 HonestEvent table event = Unit {0}
 
--- An event is true in a world: a frame that it brings from outside is honest by the table before it, and a row that it
--- injects is the table's, where the rules take the injection and the table has its image version
+-- An event is true in a world under two conditions. A frame that it brings from outside is honest by the table before it. A row
+-- that it injects is the table's, if the rules take the injection and the table has its image version
 abbrev pub TrueEvent : World → Event → Type 0
 TrueEvent w (Tick mote dt word) = Unit {0}
 TrueEvent w (Hear mote dt word frame) = Unit {0}
@@ -86,7 +86,7 @@ ItemFits (Applies step reported) w = StepInRange (length w.sites) step × TrueEv
 abbrev pub PlayedFits : Played → Type 0
 PlayedFits p = ItemFits p.item p.before
 
--- the same where nothing is said of the world: of a script with this many motes
+-- the same without a world: for a script with this many motes
 abbrev pub ItemInRange : ℕ → Item → Type 0
 ItemInRange motes (Declares row) = IsDeclared row
 ItemInRange motes (Applies step reported) = StepInRange motes step

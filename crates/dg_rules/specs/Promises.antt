@@ -1,5 +1,5 @@
--- What holds of each item of a run: it is legal, what is kept stays, what starts is one row of the table, byte for byte, and
--- wherever it is stopped, the chip agrees with the table (docs/PROMISES.md, "The report and what it tells").
+-- What holds of each item of a run: it is legal, what is kept stays, and what starts is one row of the table, byte for byte.
+-- Wherever it is stopped, the chip agrees with the table (docs/PROMISES.md, "The report and what it tells").
 use Rattle.std.specs.Prelude.{◌≡◌, ◌⊎◌, ℕ, ◌<◌, ◌≤◌, true, List, length, Option, Some, None, IfSome, Bool, Ok}
 use Rattle.dg_nor.specs.Trail.{Leaves}
 use Rattle.dg_object.specs.Object.{Row, object}
@@ -43,7 +43,7 @@ IsLegal past p = LegalItem p.item (past_of past) p.before p.after
 
 -- ---- what is kept stays
 
--- this version with as many complete pages or more, or a newer version
+-- this version with at least as many complete pages, or a newer version
 abbrev pub IsKeptIn : Option Holding → Holding → Type 0
 IsKeptIn None h = ⊥
 IsKeptIn (Some k) h = (h.version < k.version) ⊎ ((h.version ≡ k.version) × (h.pages ≤ k.pages))
@@ -90,7 +90,7 @@ KeepsItem (Applies step reported) w v = (m i : ℕ) (h : Holding) → holds (sma
 abbrev pub KeepsAll : Played → Type 0
 KeepsAll p = KeepsItem p.item p.before p.after
 
--- what is kept of golden stays as it is
+-- what is kept of golden stays unchanged
 abbrev pub GoldenStays : Played → Type 0
 GoldenStays p = (m : ℕ) → holds (small_mote_at (small p.after) m) 0 ≡ holds (small_mote_at (small p.before) m) 0
 

@@ -13,7 +13,7 @@ pub record Played : Type 0 where
   pub after : World
   pub reports : List Report
 
--- what an item makes of a world, and the lines that are reported of it
+-- the world after an item, and the lines that are reported of it
 abbrev pub ItemStep : World → Item → World → List Report → Type 0
 ItemStep w (Declares row) v reports = DeclareStep w row v reports
 ItemStep w (Applies step reported) v reports =

@@ -14,7 +14,7 @@ use Rattle.dg_base.specs.declared.events.Step.{Step}
 use Rattle.dg_script.specs.declared.report.Report.{Report}
 use Rattle.dg_script.specs.declared.report.Report.TheVariants.{Off, Refused}
 
--- A cut blows in the operation with its number, where the event makes this many.
+-- A cut fires in the operation with its number, if the event makes this many.
 abbrev pub blows : Option Cut → Trail Store → Bool
 blows None t = false
 blows (Some cut) t = nat_le cut.after (operations t)
@@ -41,7 +41,7 @@ cut_world w m dt d s = with_site (record (counted w dt) { table = d.table }) m (
 abbrev pub done_reports : World → ℕ → Deed → List Report
 done_reports w m d = changes m (store_at w m) (last d.trail) ++ start_line m d.started ++ sent_line m d.sent
 
--- the event was not stopped: what comes is a function of the world and the event
+-- the event was not stopped: the outcome is a function of the world and the event
 abbrev pub IsDone : World → (m dt : ℕ) → Deed → World → List Report → Type 0
 IsDone w m dt d v reports =
     (runs : Option Running) × (d.runs ≡ Some runs) × (v ≡ done_world w m dt d runs) × (reports ≡ done_reports w m d)
@@ -79,8 +79,8 @@ abbrev pub declared_as : Option Row → World → Row → World
 declared_as None w row = record w { declared = w.declared ++ row ∷ [] }
 declared_as (Some kept) w row = w
 
--- A row is declared: it is added where its image version is not there. Where that has another name or content,
--- this is reported and nothing changes
+-- A row is declared: it is added if its image version is not declared yet. If that is declared with another name or content, this
+-- is reported and nothing changes
 pub record DeclareStep (w : World) (row : Row) (v : World) (reports : List Report) : Type 0 where
   pub world : v ≡ declared_as (row_at w.declared row.image row.version) w row
   pub told : reports ≡ declared_lines (row_at w.declared row.image row.version) row

@@ -14,7 +14,7 @@ pub record Running : Type 0 where
   pub image_version : ImageVersion
   pub mote : MoteState
 
--- what the chip of a mote stands for, and the mote, None where it is off
+-- what the chip of a mote stands for, and the mote, None if it is off
 pub record Site : Type 0 where
   pub store : Store
   pub runs : Option Running
@@ -55,14 +55,14 @@ first_world table links narrow stores =
       sites = map off_site stores;
     }
 
--- a chip that no mote has: the answer for a number that is no mote
+-- a chip that no mote has: the result for a number that is not a mote's
 abbrev pub no_site : Site
 no_site = off_site (fresh [] [] 0)
 
 abbrev pub site : World → ℕ → Site
 site w m = slice_index_or w.sites m no_site
 
--- a mote is wide unless it is said to be narrow
+-- a mote is wide unless it is listed as narrow
 abbrev pub is_wide_mote : (narrow : List Bool) → ℕ → Bool
 is_wide_mote narrow m = not (is_narrow narrow m)
 
@@ -75,7 +75,7 @@ store_at w m = (site w m).store
 abbrev pub with_site : World → ℕ → Site → World
 with_site w m x = record w { sites = slice_set w.sites m x }
 
--- an event comes: the moment grows, and it is counted
+-- before an event is applied, the moment advances, and the event is counted
 abbrev pub counted : World → ℕ → World
 counted w dt = record w { moment = w.moment + dt; events = w.events + 1 }
 

@@ -33,7 +33,7 @@ use dg_volume::{
     a_start_ends, a_whole_image_is_sound, trails_keep_agreement, trails_keep_consistency,
 };
 
-/// No step and no declaration changes which motes are narrow, nor does a start that ends the run.
+/// No step, no declaration and no start that ends the run changes which motes are narrow.
 pub fn widths_stay()
     ensures stepped { (w v : World) (x : Step) (reports : List Report) → WorldStep w x v reports → v.narrow ≡ w.narrow }
     ensures ended { (w v : World) (x : Step) → EndsRun w x v → v.narrow ≡ w.narrow }
@@ -41,8 +41,8 @@ pub fn widths_stay()
     ensures played { (w v : World) (played : List Played) → Plays w played v → v.narrow ≡ w.narrow }
 {}
 
-/// A narrow mote takes no image that its frames do not speak of: whatever else is wrong, its injection and an order of it
-/// are refused for the image.
+/// A narrow mote accepts no image that its frames do not speak of: an injection and an order of one are refused with the image as
+/// the cause, whatever else is wrong.
 pub fn narrow_motes_know_few_images()
     ensures injects { (w : World) (m image version dt word : ℕ) → wide_at w m ≡ false → narrow_images < image
         → does w (Inject m image version dt word) ≡ Refuses Image }
@@ -56,10 +56,10 @@ pub fn what_a_cut_leaves_agrees()
         → Agrees table s }
 {}
 
-/// A world that agrees with its table still does after a step, also a cut one, where a frame from outside is honest and
-/// what is injected, where the rules take it, is the table's row if the table has its image version, and after a
-/// declaration. Wherever a stop comes in such an event, each store that the chip may then stand for agrees with the table
-/// after the event. And no moment of a mote that is on is later than the world's, whatever frames come.
+/// A world that agrees with its table still does after a declaration, and after a step, also a cut one, that meets two premises.
+/// A frame from outside is honest. What is injected is the table's row, if the rules take the injection and the table has its
+/// image version. Wherever a stop comes in such an event, each store that the chip may then stand for agrees with the table after
+/// the event. Whatever frames come, no moment of a mote that is on is later than the world's.
 pub fn agreement_is_kept()
     ensures stepped { (w v : World) (x : Step) (reports : List Report) → WorldAgrees w → StepInRange (length w.sites) x
         → TrueEvent w x.event → WorldStep w x v reports → WorldAgrees v }
@@ -79,7 +79,7 @@ pub fn agreement_is_kept()
     one_spelling();
 }
 
-/// What an event starts is a row of the table, whose length and CRC are told.
+/// What an event starts is a row of the table, with the length and CRC that are reported.
 pub fn what_starts_is_a_row()
     ensures { (w : World) (e : Event) → WorldAgrees w → EventInRange (length w.sites) e → StartsDoes (does w e) w.table }
 {
@@ -87,8 +87,8 @@ pub fn what_starts_is_a_row()
     a_restart_is_for_the_order();
 }
 
-/// Where every mote keeps golden whole, each still does after a step, also a cut one, and no event finds that there is no
-/// image to start, so that none ends the run. Whether anything agrees with a table, or a frame is honest, is no matter.
+/// If every mote keeps golden whole, each still does after a step, also a cut one. Every start finds an image then, so that no
+/// event ends the run. This asks neither for agreement with a table nor for honest frames.
 pub fn golden_is_found()
     ensures stepped { (w v : World) (x : Step) (reports : List Report) → WorldKeepsGolden w → StepInRange (length w.sites) x
         → WorldStep w x v reports → WorldKeepsGolden v }
@@ -103,10 +103,9 @@ pub fn golden_is_found()
     a_restart_is_for_the_order();
 }
 
-/// In a run from a world that agrees with its table and in which no mote is on, where every event is true, each step is
-/// legal after those before it, each item leaves agreement and starts only rows of the table, and no version falls. Where
-/// the next event is true too, then wherever a stop comes in it, each store that the chip may then stand for agrees with
-/// the table after it.
+/// A run of true events begins in a world that agrees with its table and in which no mote is on. Then each step is legal after
+/// those before it, each item keeps agreement and starts only rows of the table, and no version falls. If the next event is true
+/// too, each store that the chip may stand for after a stop in it, wherever the stop comes, agrees with the table after it.
 pub fn every_step_is_legal()
     ensures legal { (w v : World) (played : List Played) → PlaysFrom w played v → EachAfter IsLegal [] played }
     ensures agrees { (w v : World) (played : List Played) → PlaysFrom w played v → AllByRecursion LeavesAgreement played
@@ -127,15 +126,15 @@ pub fn every_step_is_legal()
     a_restart_is_for_the_order();
 }
 
-/// What is legal lets no version fall, and no complete page be lost, but to a newer version. Golden stays as it is.
+/// In a legal step no version falls, and no complete page is lost except to a newer version. Golden stays unchanged.
 pub fn versions_do_not_fall()
     ensures versions { (past : List Played) (p : Played) → IsLegal past p → KeepsAll p }
     ensures golden { (past : List Played) (p : Played) → IsLegal past p → GoldenStays p }
 {}
 
-/// Where every store is consistent, each still is after a step, also a cut one, and after a declaration, whatever bytes a
-/// frame carries. Wherever a stop comes in an event, each store that the chip may then stand for is consistent. What an
-/// event starts is golden, or fits its own descriptor.
+/// If every store is consistent, each still is after a step, also a cut one, and after a declaration, whatever bytes a frame
+/// carries. Wherever a stop comes in an event, each store that the chip may then stand for is consistent. What an event starts is
+/// golden, or fits its own descriptor.
 pub fn consistency_is_kept()
     ensures stepped { (golden : Row) (w v : World) (x : Step) (reports : List Report) → WorldConsistent golden w
         → StepInRange (length w.sites) x → WorldStep w x v reports → WorldConsistent golden v }
@@ -152,8 +151,8 @@ pub fn consistency_is_kept()
     a_restart_is_for_the_order();
 }
 
-/// A script with golden, whatever bytes its frames carry and wherever its power is cut: every store is consistent at the
-/// end of each event, also where the event was stopped, and what starts is golden, or fits its own descriptor.
+/// In a script with golden, whatever bytes its frames carry and wherever its power is cut, every store is consistent at the end
+/// of each event, also of one that was stopped. What starts is golden, or fits its own descriptor.
 pub fn any_frames_leave_stores_consistent()
     ensures kept { (g : GoldenNetwork) (played : List Played) (v : World) → PlaysGolden g played v
         → AllByRecursion (LeavesConsistent (network_row g)) played × WorldConsistent (network_row g) v }
@@ -166,11 +165,11 @@ pub fn any_frames_leave_stores_consistent()
     consistency_is_kept();
 }
 
-/// A script with golden, over freshly formatted chips. Whatever is played of it, the next event finds an image to start.
-/// Where each frame from outside is honest by the table of its moment, each step is legal, versions do not fall, what
-/// starts is a row of the table, and the chips, the motes that are on and the frames that were sent agree with the table;
-/// and where the next event is honest too, then wherever a stop comes in it, each store that the chip may then stand for
-/// agrees with the table after it.
+/// A script with golden, over freshly formatted chips. However much of it was played, the next event finds an image to start. If
+/// each frame from outside is honest by the table of its moment, each step is legal, versions do not fall, and what starts is a
+/// row of the table. The chips, the motes that are on and the frames that were sent agree with the table then. If the next event
+/// is honest too, each store that the chip may stand for after a stop in it, wherever the stop comes, agrees with the table after
+/// it.
 pub fn scripts_with_golden()
     ensures legal { (g : GoldenNetwork) (played : List Played) (v : World) → PlaysGolden g played v
         → AllByRecursion IsHonestThen played → EachAfter IsLegal [] played }
@@ -184,10 +183,10 @@ pub fn scripts_with_golden()
         → EventInRange g.motes e → FindsImage (does v e) }
     ensures halves { (g : GoldenNetwork) (played : List Played) (v : World) (e : Event) → PlaysGolden g played v
         → AllByRecursion IsHonestThen played → EventInRange g.motes e → HonestEvent v.table e → StopsAgree v e }
-    // each row of the table but golden was declared, so that it is played from a world that agrees, and every event is true
+    // each row of the table except golden was declared, so that it is played from a world that agrees, and every event is true
     ensures plays { (g : GoldenNetwork) (played : List Played) (v : World) → PlaysGolden g played v
         → AllByRecursion IsHonestThen played → PlaysFrom (network_world g) played v }
-    // and what is played more from there, with true events, is of a script with golden, over honest frames
+    // and what is played further from there, with true events, is played of a script with golden, over honest frames
     ensures more { (g : GoldenNetwork) (played more : List Played) (w v : World) → PlaysGolden g played w
         → PlaysFrom (network_world g) (played ++ more) v
         → PlaysGolden g (played ++ more) v × AllByRecursion IsHonestThen (played ++ more) }
@@ -197,11 +196,11 @@ pub fn scripts_with_golden()
     a_restart_is_for_the_order();
 }
 
-/// A script over chips as they stand, which agree with a table. Where each event holds to it, so that each frame from
-/// outside is honest and no image version of the table is injected with another content, unless the rules refuse it, each
-/// step is legal, versions do not fall, what starts is a row of the table, and the chips, the motes that are on and the
-/// frames that were sent agree with the table; and where the next event holds to it too, then wherever a stop comes in it,
-/// each store that the chip may then stand for agrees with the table after it.
+/// A script over chips as they are, which agree with a table. Each event holds to it: a frame from outside is honest, and no
+/// image version of the table is injected with another content, unless the rules refuse it. Then each step is legal, versions do
+/// not fall, and what starts is a row of the table. The chips, the motes that are on and the frames that were sent agree with the
+/// table. If the next event holds to it too, each store that the chip may stand for after a stop in it, wherever the stop comes,
+/// agrees with the table after it.
 pub fn scripts_with_boards()
     ensures legal { (table : List Row) (stores : List Store) (links : List (ℕ × ℕ)) (narrow : List Bool)
         (played : List Played) (v : World) → PlaysBoards table stores links narrow played v
