@@ -1,4 +1,4 @@
--- What contents write.
+-- What contents encode.
 use Rattle.std.proofs.Common.{◌≡◌, ℕ, ◌+◌, ◌%◌, ◌^◌, ◌<◌, ◌⊎◌, ◌&&◌, nat_le, nat_lt, inl, inr, ⊎_elim, Bool, true, false, if◌then◌else◌, List, [], ◌∷◌, ◌++◌, length, set, take, drop, codes, Option, Some, None, Any, refl, sym, ap, ◌∙◌, subst, arith}
 use Rattle.std.proofs.lemmas.Bool.{cases_lt, ltb-true}
 use Rattle.std.proofs.lemmas.List.{take_more_set, get_or_past}
@@ -15,7 +15,7 @@ use Rattle.dg_script.specs.Words.{same, halves_of}
 use Rattle.dg_script.specs.Contents.{generated, generated_byte, generated_of, content_of}
 use Rattle.dg_script.proofs.ResultLemmas.{bound_some, kept_some, behind_test}
 
--- Digits that are odd in number, or of which one is no digit, write no bytes.
+-- An odd number of digits encodes no bytes. Bytes of which one is not a digit encode none either.
 refused : (digits : List ℕ) (o : Option (List ℕ)) → hex_bytes digits ≡ o → (length digits % 2 ≡ 1) ⊎ Any (λ c. is_hex_digit c ≡ false) digits → o ≡ None
 refused digits None e why = refl
 refused digits (Some bytes) e (inl odd) =
@@ -37,7 +37,7 @@ hex_bytes-digit digits bad = refused_digits digits (inr bad)
 
 pub ruleset refusals = (hex_bytes-odd, hex_bytes-digit)
 
--- ---- bytes that a seed makes
+-- ---- bytes that a seed generates
 
 pub length-generated : (len seed : ℕ) → length (generated len seed) ≡ len
 unfolding generated

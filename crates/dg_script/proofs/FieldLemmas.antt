@@ -1,4 +1,4 @@
--- What the fields of a line are where they are read: in their ranges, and what was spelled.
+-- The fields of a line that are read are in their ranges, and are what was spelled.
 use Rattle.std.proofs.Common.{◌≡◌, ◌≢◌, ℕ, ◌<◌, ◌≤◌, ◌^◌, ◌==◌, ◌&&◌, not, nat_le, nat_lt, Bool, true, false, List, length, Result, Ok, refl, sym, ap, subst, arith}
 use Rattle.std.specs.Coded.{le_prop}
 use Rattle.std.proofs.lemmas.Bool.{leb-true, le-leb, ltb-true, eqb-false, not-true}

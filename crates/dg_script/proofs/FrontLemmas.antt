@@ -1,11 +1,11 @@
--- Fronts of a text that was to be appended.
+-- Prefixes of a text that was to be appended.
 use Rattle.std.proofs.Common.{◌≡◌, ℕ, zero, suc, ◌<◌, ◌≤◌, List, [], ◌∷◌, ◌++◌, length, take, drop, get_or, append_assoc, Result, Ok, Err, OnErr, refl, sym, ap, ◌∙◌, subst, arith}
 use Rattle.std.proofs.lemmas.List.{length-take, take-append-le}
 use Rattle.std.proofs.Math.Seq.{take-append_seam}
 use Rattle.dg_script.specs.Spelling.{field_text, fields_text, IsPrefixOf}
 use Rattle.dg_script.specs.declared.spelling.Field.{Field}
 
--- where an answer is an error, one fact follows from another
+-- if a result is an error, one fact follows from another
 pub on_err : {T E P Q : Type 0} (r : Result T E) → (P → Q) → OnErr r P → OnErr r Q
 on_err (Ok x) f h = tt
 on_err (Err e) f h = f h
@@ -21,13 +21,13 @@ front_none before after text e =
     let P : List ℕ → Type 0 = λ xs. IsPrefixOf xs (before ++ text) in
     subst P (sym e) (take-append_seam before text)
 
--- a front of the first part
+-- a prefix of the first part
 pub front_first : (whole after more : List ℕ) → IsPrefixOf after whole → IsPrefixOf after (whole ++ more)
 front_first whole after more h =
     let short : length after ≤ length whole = omega (arith, ap length h, length-take (length after) whole) in
     take-append-le (length after) whole more short ∙ h
 
--- the text of fields, up to one of them, that one, and behind it
+-- the text of fields: of those before one of them, of that one, and of those after it
 fields_split : (fields : List Field) (i : ℕ) (d : Field) → i < length fields
     → fields_text fields ≡ fields_text (take i fields) ++ ((32 ∷ field_text (get_or fields i d)) ++ fields_text (drop (suc i) fields))
 fields_split [] i d h = absurd (omega (arith, h))
@@ -36,7 +36,7 @@ fields_split (f ∷ fs) (suc i) d h =
     ap (λ (xs : List ℕ). (32 ∷ field_text f) ++ xs) (fields_split fs i d (omega (arith, h)))
     ∙ sym (append_assoc (32 ∷ field_text f) (fields_text (take i fs)) _)
 
--- the fields up to one of them, and a front of that one
+-- the fields before one of them, and a prefix of that one
 pub front_at : (before mid after : List ℕ) (fields : List Field) (i : ℕ) (d : Field) → i < length fields → mid ≡ before ++ fields_text (take i fields)
     → IsPrefixOf after (mid ++ 32 ∷ field_text (get_or fields i d)) → IsPrefixOf after (before ++ fields_text fields)
 front_at before mid after fields i d h there front =

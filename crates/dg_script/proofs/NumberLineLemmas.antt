@@ -1,4 +1,4 @@
--- Numbers that are read where they stand, in the words of their text.
+-- Numbers that are parsed in place are those of the words of their text.
 use Rattle.std.proofs.Common.{◌≡◌, ◌≢◌, ℕ, zero, suc, ◌+◌, ◌-◌, ◌*◌, ◌++◌, ◌<◌, ◌≤◌, ◌^◌, ◌==◌, ◌&&◌, ◌||◌, not, nat_lt, Bool, true, false, List, [], ◌∷◌, length, drop, take, get_or, map, Some, None, if◌then◌else◌, refl, ap, sym, ◌∙◌, arith, min, inl, inr}
 use Rattle.std.proofs.lemmas.Bool.{and_parts, and_from, lt-ltb, or_left, or_right, not_from_false, ne_eqb, eq-eqb, cases_eq}
 use Rattle.std.proofs.lemmas.List.{take-take, take_more, length-take, length-drop, get_or-drop}
@@ -17,7 +17,7 @@ use Rattle.dg_script.specs.NumberLines.{tick_with, last_with}
 use Rattle.dg_script.specs.declared.place.Place.{Place}
 use Rattle.dg_script.proofs.WordLemmas.{no_word, words_after_space, first_word}
 
--- what holds where a test answers true
+-- what holds if a test returns true
 pub holds : {P : Type 0} (b : Bool) → b ≡ true → OnTrue b P → P
 holds true e h = h
 holds false e h = cc
@@ -25,7 +25,7 @@ holds false e h = cc
 own : IsNumeralModel (λ ds. all_ascii_digits ds ≡ true) (digits_value 10)
 own = numerals_by_value _ tells_all_ascii_digits
 
--- nine digits write a number below 10 ^ 9
+-- nine digits encode a number below 10 ^ 9
 pub short_value : (ds : List ℕ) → all_ascii_digits ds ≡ true → length ds ≤ 9 → digits_value 10 ds < 1000000000
 short_value ds h few = digits_value_short own ds 9 h few
 
@@ -70,7 +70,7 @@ digits_append (x ∷ xs) c h digit =
     let parts = and_parts (is_ascii_digit x) (all_ascii_digits xs) h in
     and_from _ _ parts.0 (digits_append xs c parts.1 digit)
 
--- the digits so far, with one digit more
+-- the digits so far, with one more digit
 pub digit_more : (text : List ℕ) (i : ℕ) → i < length text → all_ascii_digits (take i text) ≡ true → is_ascii_digit (get_or text i 0) ≡ true
     → all_ascii_digits (take (i + 1) text) ≡ true
 digit_more text i within h digit = ap all_ascii_digits (take_more text i 0 within) ∙ digits_append (take i text) (get_or text i 0) h digit
@@ -79,7 +79,7 @@ digit_more text i within h digit = ap all_ascii_digits (take_more text i 0 withi
 digit_is : (c : ℕ) → is_ascii_digit c ≡ true → (48 ≤ c) × (c ≤ 57) × (digit_value c ≡ c - 48)
 digit_is c h = (grind (arith, nat_tests), grind (arith, nat_tests), grind (arith, nat_tests))
 
--- the number so far, with one digit more, which is below 10 ^ 9
+-- the number so far, with one more digit, which is below 10 ^ 9
 pub record More (text : List ℕ) (i number : ℕ) : Type 0 where
   pub low : 48 ≤ get_or text i 0
   pub high : get_or text i 0 ≤ 57
@@ -98,7 +98,7 @@ number_more text i number few within h value digit =
     let below = short_value (take (i + 1) text) all short in
     record { low = one.0; high = one.1; all = all; value = next; small = omega (arith, next, below) }
 
--- a number behind a space, which a space or the end of the text follows
+-- a number after a space, followed by a space or the end of the text
 pub number_found : (text behind front rest : List ℕ) (most number count : ℕ) → 0 < length text → get_or text 0 0 ≡ 32 → behind ≡ drop 1 text
     → front ≡ take most behind → most ≤ 9 → count ≤ length front → all_ascii_digits (take count front) ≡ true → number ≡ digits_value 10 (take count front)
     → (get_or front 0 0 ≡ 48 → count ≤ 1) → 0 < count → rest ≡ drop count behind → (0 < length rest → get_or rest 0 0 ≡ 32)

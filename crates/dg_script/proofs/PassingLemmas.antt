@@ -1,4 +1,4 @@
--- Lines that are read on, over bytes that come piece by piece.
+-- Lines that are read from bytes that come piece by piece.
 use Rattle.std.proofs.Common.{◌≡◌, ◌≢◌, ℕ, ◌+◌, ◌-◌, ◌<◌, ◌≤◌, ◌==◌, Bool, true, false, cond, List, [], ◌∷◌, ◌++◌, length, get_or, take, drop, Option, Some, None, Result, Ok, Err, IsErrAnd, refl, sym, ap, ◌∙◌, subst, arith, inl, inr, ⊎_elim, append_assoc, length-append}
 use Rattle.std.specs.Prelude.{slice_range, ⊤}
 use Rattle.std.specs.Str.Lines.{strip_carriage_return}
@@ -10,7 +10,7 @@ use Rattle.dg_script.specs.declared.line_reader.ReadStop.TheVariants.{ReadFault,
 use Rattle.dg_script.specs.LineReading.{Reading, most_kept, most_used_bytes, HasNoEnd, EndsAt, NextAnswer, FillAnswer, PassAnswer}
 use Rattle.dg_script.proofs.ReaderLemmas.{view, part_long, no_end_join, answer_if}
 
--- ---- what is kept is let go
+-- ---- what is kept is dropped
 
 pub record LetsGo (old now : Reading) : Type 0 where
   pub none : now.ahead ≡ []
@@ -92,7 +92,7 @@ pass_on n more old mid new A F l h some ends =
 
 -- ---- all of a line that is too long
 
--- pieces were passed over, and the line went on behind each
+-- pieces were skipped, and the line went on after each
 pub record Passing (left_old left_now : Option (List ℕ)) (old now : Reading) : Type 0 where
   pub more : List ℕ
   pub taken : Takes left_old left_now more
@@ -234,7 +234,7 @@ looking_on n a b c old now new before looked A F l none all some more taken h =
       none = subst HasNoEnd (sym front) none;
     }
 
--- an answer speaks of what there was before by its numbers alone
+-- a result depends on what there was before only by its numbers
 answer_since : (r : Result (Option ℕ) Stop) (bytes : List ℕ) (old now new : Reading) (A F : Type 0) → now.passed ≡ old.passed → now.number ≡ old.number
     → NextAnswer r bytes now new A F → NextAnswer r bytes old new A F
 answer_since (Ok (Some n)) bytes old now new A F p q h = (
@@ -257,7 +257,7 @@ answer_since (Err (Long line)) bytes old now new A F p q h = (
 )
 answer_since (Err TooLong) bytes old now new A F p q h = record { all = omega (arith, h.all, p); none = subst (λ k. HasNoEnd (take (most_used_bytes - k) bytes)) p h.none }
 
--- a line was looked for, and this was answered of the bytes that are kept
+-- a line was searched for, and this is the result for the bytes that are kept
 pub looking_answers : (r : Result (Option ℕ) Stop) (a b : Option (List ℕ)) (old now new : Reading) (looked : ℕ) (A F : Type 0) → Looking a b old now looked
     → NextAnswer r now.ahead now new A F → (all : List ℕ) × Takes a b all × NextAnswer r (old.ahead ++ all) old new A F
 looking_answers r a b old now new looked A F l h = (
@@ -270,7 +270,7 @@ pub looking_gives : (r : Result (Option ℕ) Stop) (a b : Option (List ℕ)) (ol
     → NextAnswer r now.ahead now new ⊥ ⊥ → (all : List ℕ) × Takes a b all × NextAnswer r (old.ahead ++ all) old new A F
 looking_gives r a b old now new looked A F l h = looking_answers r a b old now new looked A F l (answer_if F r now.ahead now new (λ (e : ⊥). absurd e) h)
 
--- nothing came, and this was answered of the bytes that are kept
+-- nothing came, and this is the result for the bytes that are kept
 pub looking_rest : (n : ℕ) (r : Result (Option ℕ) Stop) (a b c : Option (List ℕ)) (old now new last : Reading) (looked : ℕ) (A F : Type 0) → Looking a b old now looked
     → (more : List ℕ) → Takes b c more → FillAnswer (Ok n) more now new A F → n ≡ 0 → NextAnswer r new.ahead new last ⊤ ⊥ → (all : List ℕ) × Takes a c all × NextAnswer r (old.ahead ++ all) old last A F
 looking_rest n r a b c old now new last looked A F l more taken h zero answer = (
@@ -280,7 +280,7 @@ looking_rest n r a b c old now new last looked A F l more taken h zero answer = 
       (subst (λ (xs : List ℕ). NextAnswer r xs new last A F) (h.1 ∙ ap (λ (xs : List ℕ). xs ++ more) l.ahead ∙ append_assoc old.ahead l.more more) (answer_if F r new.ahead new last (λ (e : ⊤). h.4 zero) answer)),
 )
 
--- the buffer is full, and the line was passed over
+-- the buffer is full, and the line was skipped
 pub looking_passes : (stop : Stop) (a b c : Option (List ℕ)) (old now new : Reading) (looked : ℕ) (A F : Type 0) → Looking a b old now looked
     → (more : List ℕ) → Takes b c more → NextAnswer (Err stop) (now.ahead ++ more) now new A F → (all : List ℕ) × Takes a c all × NextAnswer (Err stop) (old.ahead ++ all) old new A F
 looking_passes stop a b c old now new looked A F l more taken h = (
@@ -311,7 +311,7 @@ looking_stops TooLong a b c old now new last looked A F l none more taken h =
     )
 looking_stops (Long line) a b c old now new last looked A F l none more taken h = absurd h
 
--- a stop is handed on as it is
+-- a stop is passed on unchanged
 pub stop_is : (r : Result (Option ℕ) Stop) (stop : Stop) → IsErrAnd r (λ e. e ≡ stop) → Err stop ≡ r
 stop_is (Ok n) stop h = absurd h
 stop_is (Err e) stop h = ap Err (sym h)

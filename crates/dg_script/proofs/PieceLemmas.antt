@@ -6,14 +6,14 @@ use Rattle.dg_script.specs.Pieces.{HasNoSpace, GoesOnSpaced, AreWords}
 not_nil : (c : ℕ) (cs : List ℕ) → c ∷ cs ≡ [] → ⊥
 not_nil c cs e = cc
 
--- a space more before the words
+-- one more space before the words
 spaced : (text : List ℕ) (words : List (List ℕ)) → AreWords text words → AreWords (32 ∷ text) words
 unfolding AreWords
 spaced text [] h = (refl, h)
 spaced text (w ∷ words) (gap, behind, b, h) =
     (32 ∷ gap, behind, record { parts = ap (λ (xs : List ℕ). 32 ∷ xs) b.parts; spaces = (refl, b.spaces); some = b.some; whole = b.whole; ended = b.ended }, h)
 
--- a text up to its first space, and what is behind
+-- a text up to its first space, and what is after it
 record IsSplit (text : List ℕ) (s : Split) : Type 0 where
   behind : List ℕ
   parts : text ≡ s.front ++ behind

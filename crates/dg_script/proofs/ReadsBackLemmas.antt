@@ -1,4 +1,4 @@
--- A line that is written is read as the same.
+-- A line that is written is read back as the same line.
 use Rattle.std.proofs.Common.{◌≡◌, ℕ, ◌<◌, ◌≤◌, true, false, List, [], ◌∷◌, ◌++◌, length, Ok, decimal, refl, sym, arith}
 use Rattle.dg_base.specs.Hexadecimal.{hex_text}
 use Rattle.dg_base.specs.Sizes.{longest_frame}

@@ -1,4 +1,4 @@
--- What is written of a report is read again.
+-- What is written of a report is read back.
 use Rattle.std.proofs.Common.{◌≡◌, ℕ, ◌+◌, ◌-◌, ◌*◌, ◌/◌, ◌%◌, ◌<◌, ◌^◌, ◌==◌, true, false, List, [], ◌∷◌, ◌++◌, length, take, codes, Result, Ok, Err, is_err, OnOk, unwrap_or, decimal, refl, ap, ◌∙◌, subst, arith, eqb-true, eq-eqb}
 use Rattle.std.specs.Int.{to_be_bytes, w16}
 use Rattle.std.specs.Char.{is_ascii_digit}
@@ -166,7 +166,7 @@ here (MoteOn m i v) f = let a = small_here m f.0 in let b = small_here i f.1 in 
 here (MoteOff m) f = let a = small_here m f in cc
 here (Kept m i v n) f = let a = small_here m f.0 in let b = small_here i f.1 in let c = number_here v f.2 in let d = small_here n f.3 in cc
 
--- the text of a line is the line but for its LF
+-- the text of a line is the line without its LF
 text_of_line : (text : List ℕ) → take (length (text ++ 10 ∷ []) - 1) (text ++ 10 ∷ []) ≡ text
 text_of_line text = take_at text (10 ∷ []) (length (text ++ 10 ∷ []) - 1) (omega (arith, length-append text (10 ∷ [])))
 
@@ -186,7 +186,7 @@ pub on_ok : {T E P : Type 0} (r : Result T E) → is_err r ≡ false → OnOk r 
 on_ok (Ok x) fine h = h
 on_ok (Err e) fine h = absurd (let f : true ≡ false = fine in cc)
 
--- where what is written differs from the line, the line is not written of it
+-- if what is written for a report differs from the line, the report is not written as the line
 pub not_written : (r s : Report) (line text : List ℕ) → s ≡ r → text ≡ report_line s → report_line r ≡ line → same text line ≡ false → ⊥
 not_written r s line text e w is other =
     let f : text ≡ line = w ∙ ap report_line e ∙ is in

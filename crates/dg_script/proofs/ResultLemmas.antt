@@ -1,9 +1,9 @@
--- Values that follow from others, and values behind tests.
+-- Values that follow from others, and values that tests guard.
 use Rattle.std.proofs.Common.{◌≡◌, Bool, true, false, if◌then◌else◌, Option, Some, None, Result, Ok, Err, refl, subst}
 use Rattle.dg_script.specs.Results.{◌>>?◌, kept_if, ◌>>=◌, guarded, or_fault}
 use Rattle.dg_script.specs.declared.fault.LineFault.{LineFault}
 
--- ---- values that may be there
+-- ---- optional values
 
 pub bound_some : {A B : Type 0} (o : Option A) (f : A → Option B) (y : B) → (o >>? f) ≡ Some y → (x : A) × (o ≡ Some x) × (f x ≡ Some y)
 bound_some (Some x) f y h = (x, refl, h)
@@ -31,7 +31,7 @@ pub or_fault_ok : {A : Type 0} (fault : LineFault) (o : Option A) (y : A) → or
 or_fault_ok fault (Some x) y h = cc
 or_fault_ok fault None y h = cc
 
--- what a test says of the value behind it
+-- what a test says of the value that it guards
 pub tested : {A : Type 0} (test : Bool) (fault : LineFault) (x y : A) (P : A → Type 0) → guarded test fault x ≡ Ok y → (test ≡ true → P x) → P y
 tested test fault x y P h holds =
     let here = guarded_ok test fault x y h in

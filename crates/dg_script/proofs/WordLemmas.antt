@@ -4,7 +4,7 @@ use Rattle.std.proofs.lemmas.List.{get_or-drop, take_all}
 use Rattle.std.proofs.lemmas.Bool.Decides.{nat_tests}
 use Rattle.dg_script.specs.Words.{split_of, words_of, with_word, halves_of}
 
--- a space in front changes no word
+-- a leading space changes no word
 words_of-space : (cs : List ℕ) → words_of (32 ∷ cs) ≡ words_of cs
 unfolding words_of split_of
 words_of-space cs = refl
@@ -27,7 +27,7 @@ with_word-take (c ∷ cs) (suc n) some h ws = refl
 not_space : (c : ℕ) → c ≢ 32 → (c == 32) ≡ false
 not_space c other = grind (arith, nat_tests)
 
--- the first n bytes are the first word, or a part of it that is not begun with a space
+-- the first n bytes are the first word, or a part of it that does not begin with a space
 pub split_of-at : (text : List ℕ) (n : ℕ) → n ≤ length text → ((k : ℕ) → k < n → get_or text k 0 ≢ 32) → (n < length text → get_or text n 0 ≡ 32) → split_of text ≡ record { front = take n text; behind = words_of (drop n text) }
 unfolding words_of split_of
 split_of-at [] zero h none stops = refl
@@ -46,7 +46,7 @@ pub first_word : (text : List ℕ) (n : ℕ) → 0 < n → n ≤ length text →
 unfolding words_of
 first_word text n some h none stops = ap (λ s. with_word s.front s.behind) (split_of-at text n h none stops) ∙ with_word-take text n some h (words_of (drop n text))
 
--- behind the spaces a word has at least one byte
+-- after the spaces a word has at least one byte
 pub word_begins : (text rest : List ℕ) (s n : ℕ) → rest ≡ drop s text → 0 < length rest → (s < length text → get_or text s 0 ≢ 32) → (n < length rest → get_or rest n 0 ≡ 32) → 0 < n
 word_begins text rest s (suc n) back some begins stops = omega arith
 word_begins text rest s zero back some begins stops =

@@ -16,7 +16,7 @@ use Rattle.dg_script.specs.Words.{same, halves_of}
 unfoldable pub spelled_name : List ℕ → Result (List ℕ) LineFault
 spelled_name word = guarded (spells_name word) Name word
 
--- byte j of those that a seed makes
+-- byte j of those that a seed generates
 abbrev pub generated_byte : (seed j : ℕ) → ℕ
 generated_byte seed j = (seed + 31 * j + j / 256) % 256
 
@@ -37,7 +37,7 @@ content_of word =
     else if same (take 4 word) (codes "gen:") then generated_of (drop 4 word)
     else None
 
--- bytes that are not too few or too many
+-- the bytes, if there are least to most of them
 abbrev pub sized : (fault : LineFault) → (least most : ℕ) → List ℕ → Result (List ℕ) LineFault
 sized fault least most bytes = guarded (nat_le least (length bytes) && nat_le (length bytes) most) fault bytes
 

@@ -1,4 +1,4 @@
--- The words by which faults of lines are told (docs/SCRIPTS.md, "The script").
+-- The words that report the faults of lines (docs/SCRIPTS.md, "The script").
 use Rattle.std.specs.Prelude.{ℕ, List, codes}
 use Rattle.dg_script.specs.declared.fault.LineFault.{LineFault}
 use Rattle.dg_script.specs.declared.fault.LineFault.TheVariants.{Memory, Verb, Few, Many, Number, Mote, Image, Version, Name}

@@ -10,7 +10,7 @@ use Rattle.dg_script.specs.declared.fault.LineFault.TheVariants.{Number, Mote, I
 unfoldable pub number_in : List ℕ → Result ℕ LineFault
 number_in word = or_fault Number (number_of word)
 
--- a number from least to most, which has this fault outside of them
+-- a number from least to most; any other number has this fault
 unfoldable pub ranged_in : (fault : LineFault) → (least most : ℕ) → List ℕ → Result ℕ LineFault
 ranged_in fault least most word = number_in word >>= λ n. guarded (nat_le least n && nat_le n most) fault n
 
@@ -41,7 +41,7 @@ version_in = ranged_in Version 1 most_number
 abbrev pub counted_in : List ℕ → Result ℕ LineFault
 counted_in = ranged_in Number 1 most_number
 
--- commits that are told as spent
+-- commits that the chips count as spent
 abbrev pub used_in : List ℕ → Result ℕ LineFault
 used_in = ranged_in Number 0 most_used
 

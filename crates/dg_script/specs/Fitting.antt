@@ -38,7 +38,7 @@ pub record IsTimed (d w : ℕ) : Type 0 where
   pub dt : d < 2 ^ 32
   pub word : w < 2 ^ 32
 
--- the numbers of an event that its range does not bound from above are of 32 bits
+-- the numbers of an event that its range does not bound from above have 32 bits
 abbrev pub AreNumbers : Event → Type 0
 AreNumbers (Tick mote dt word) = IsTimed dt word
 AreNumbers (Hear mote dt word frame) = IsTimed dt word × (frame < 2 ^ 32)
@@ -56,7 +56,7 @@ FitsEvent motes event = EventInRange motes event × AreNumbers event
 abbrev pub declared_row : (image version : ℕ) (name content : List ℕ) → Row
 declared_row image version name content = row_of image version name content
 
--- the fields of a line are in their ranges, where there are this many motes
+-- the fields of a line are in their ranges, if there are this many motes
 abbrev pub FitsLine : ℕ → Line → Type 0
 FitsLine motes Nothing = Unit {0}
 FitsLine motes (Motes n) = (1 ≤ n) × (n ≤ most_motes)

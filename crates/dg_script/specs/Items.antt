@@ -11,7 +11,7 @@ use Rattle.dg_script.specs.declared.line.Line.TheVariants.{Nothing, Motes, Golde
 use Rattle.dg_script.specs.declared.line.Line.TheVariants.{Happens as EventLine, Round, Sweeps}
 use Rattle.dg_script.specs.declared.place.Place.{Place}
 
--- A row is declared, or an event is applied. One that a round or a sweep gave is unreported: no frame that it sent is reported.
+-- A row is declared, or an event is applied. An event of a round or a sweep is unreported: no frame that it sent is reported.
 pub data Item : Type 0 where
   Declares : (row : Row) → Item
   Applies : (step : Step) → (reported : Bool) → Item

@@ -171,7 +171,7 @@ fields_of verb.Cut place fields = cut_of place fields
 fields_of verb.Round place fields = round_of place fields
 fields_of verb.Sweeps place fields = sweeps_of place fields
 
--- the verb of a word, where its lines are played
+-- the verb of a word, if its lines are played
 unfoldable pub played_verb : List ℕ → Result Verb LineFault
 played_verb word = or_fault fault.Verb (verb_of word) >>= λ v. guarded (is_played v) fault.Verb v
 

@@ -1,4 +1,4 @@
--- The commonest lines, whose fields are numbers alone, by these numbers (docs/SCRIPTS.md, "The script").
+-- The most common lines, whose fields are all numbers, by these numbers (docs/SCRIPTS.md, "The script").
 use Rattle.std.specs.Prelude.{ℕ, ◌==◌, nat_lt, not, Result, Ok}
 use Rattle.dg_base.specs.declared.events.Event.TheVariants as event
 use Rattle.dg_script.specs.Results.{◌>>=◌, guarded}

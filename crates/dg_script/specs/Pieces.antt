@@ -1,4 +1,4 @@
--- What the words of a text are, told of the text as a whole (docs/SCRIPTS.md, "The script").
+-- What the words of a text are, stated for the text as a whole (docs/SCRIPTS.md, "The script").
 use Rattle.std.specs.Prelude.{◌≡◌, ◌≢◌, ◌⊎◌, ℕ, List, [], ◌∷◌, ◌++◌}
 use Rattle.std.specs.List.{AllByRecursion}
 
@@ -9,7 +9,7 @@ AreSpaces text = AllByRecursion (λ c. c ≡ 32) text
 abbrev pub HasNoSpace : List ℕ → Type 0
 HasNoSpace text = AllByRecursion (λ c. c ≢ 32) text
 
--- the text is at its end, or goes on with a space
+-- the text is at its end, or continues with a space
 abbrev pub GoesOnSpaced : List ℕ → Type 0
 GoesOnSpaced text = (text ≡ []) ⊎ ((behind : List ℕ) × (text ≡ 32 ∷ behind))
 

@@ -40,7 +40,7 @@ joins a b link = (link.0 == a && link.1 == b) || (link.0 == b && link.1 == a)
 abbrev pub is_linked : List (ℕ × ℕ) → (a b : ℕ) → Bool
 is_linked links a b = list_any (joins a b) links
 
--- a mote was said to be narrow
+-- a mote was declared narrow
 abbrev pub is_narrow : List Bool → ℕ → Bool
 is_narrow narrow mote = slice_index_or narrow mote false
 

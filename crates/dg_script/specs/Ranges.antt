@@ -1,5 +1,5 @@
 -- The ranges of what is declared and of what is applied: of rows, events, cuts and steps (docs/SCRIPTS.md, "The script"). Each
--- of these stands here alone; that the other numbers of a line are of 32 bits is said in Fitting.
+-- of these is defined only here. Fitting has the bound of 32 bits for the other numbers of a line.
 use Rattle.std.specs.Prelude.{◌≢◌, ℕ, ◌<◌, ◌≤◌, ◌^◌, IsTrue, List, length, IfSome}
 use Rattle.dg_words.specs.Cells.{AreBytes}
 use Rattle.dg_base.specs.Texts.{spells_name}
@@ -11,7 +11,7 @@ use Rattle.dg_base.specs.declared.events.Step.{Step}
 use Rattle.dg_object.specs.Object.{Row}
 use Rattle.dg_script.specs.Sizes.{most_image, most_content}
 
--- What the script language lets be declared. Only what is injected has 1 to 70,656 bytes
+-- What the script language allows to be declared. Only what is injected must have 1 to 70,656 bytes.
 pub record IsDeclared (row : Row) : Type 0 where
   pub not_golden : 1 ≤ row.image
   pub image : row.image ≤ most_image

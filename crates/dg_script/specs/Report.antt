@@ -1,4 +1,4 @@
--- The lines of a report: the words and numbers by which each fact is told (docs/SCRIPTS.md, "The report").
+-- The lines of a report: the words and numbers that report each fact (docs/SCRIPTS.md, "The report").
 use Rattle.std.specs.Prelude.{ℕ, List, [], ◌∷◌, ◌++◌, codes}
 use Rattle.std.specs.List.{flat_map}
 use Rattle.std.specs.Fmt.{decimal}

@@ -1,5 +1,5 @@
--- What a line of a report says (docs/SCRIPTS.md, "The report"). A line is one exactly where what it says is written as this
--- line.
+-- What a line of a report says (docs/SCRIPTS.md, "The report"). A text is such a line exactly if what it says is written as
+-- this line.
 use Rattle.std.specs.Prelude.{ℕ, ◌+◌, ◌-◌, ◌*◌, ◌%◌, ◌^◌, ◌<◌, ◌==◌, nat_le, List, [], length, codes, slice_index, slice_index_or}
 use Rattle.std.specs.Prelude.{unwrap_or, if◌then◌else◌}
 use Rattle.dg_base.specs.Numbers.{number_of}

@@ -17,7 +17,7 @@ numbered n None = None
 numbered n (Some fault) = Some (n, fault)
 
 -- A script that ends before its second line, or after a cut that waits for its event, has its fault in the line after its last.
--- Whether it ends is not known where its input is cut off.
+-- If its input is cut off, it is not known whether it ends.
 abbrev pub end_fault : Bool → Place → ℕ → Option (ℕ × LineFault)
 end_fault false place n = None
 end_fault true place n = numbered n (fault_at_end place)

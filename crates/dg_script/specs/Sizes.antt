@@ -1,5 +1,5 @@
--- The ranges of the numbers in a script. They are this project's own profile, and each number stands here alone, but for those
--- of the crates below.
+-- The ranges of the numbers in a script. They are this project's own profile. Each number is defined only here, except for
+-- those of the crates below.
 use Rattle.std.specs.Prelude.{ℕ, ◌+◌, ◌-◌}
 use Rattle.dg_base.specs.Sizes.{most_input}
 use Rattle.dg_control.specs.Sizes.{most_room}
@@ -10,7 +10,7 @@ pub use Rattle.dg_base.specs.Sizes.{most_motes, most_content}
 abbrev pub most_image : ℕ
 most_image = slots - 1
 
--- the commits that are told as spent: as many as a chip has
+-- the commits that the chips count as spent, at most: as many as a chip has
 abbrev pub most_used : ℕ
 most_used = most_room
 

@@ -62,7 +62,7 @@ line_words (Sweeps n) = codes "sweeps" ∷ decimal n ∷ []
 unfoldable pub line_text : Line → List ℕ
 line_text line = spaced (line_words line)
 
--- a line's content has at most this many bytes that the line can be read again: that of any line but `image` has
+-- the content of a line is short enough for the line to be read back: only that of an `image` line may not be
 abbrev pub IsShort : Line → Type 0
 IsShort Nothing = Unit {0}
 IsShort (Motes n) = Unit {0}
@@ -76,6 +76,6 @@ IsShort (EventLine event) = Unit {0}
 IsShort (Round a b) = Unit {0}
 IsShort (Sweeps n) = Unit {0}
 
--- some bytes are a front of others
+-- some bytes are a prefix of others
 abbrev pub IsPrefixOf : (front whole : List ℕ) → Type 0
 IsPrefixOf front whole = take (length front) whole ≡ front

@@ -28,7 +28,7 @@ word_of Cut = codes "cut"
 word_of Round = codes "round"
 word_of Sweeps = codes "sweeps"
 
--- Whether lines of a verb are played: all are. A line that is not played would be told as one of an unknown verb.
+-- Whether lines of a verb are played: all are. A line that is not played would be reported as one with an unknown verb.
 abbrev pub is_played : Verb → Bool
 is_played Motes = true
 is_played Golden = true
@@ -47,7 +47,7 @@ is_played Cut = true
 is_played Round = true
 is_played Sweeps = true
 
--- the verbs of events, one of which follows a cut
+-- the verbs of events; after a cut comes an event
 abbrev pub is_event_verb : Verb → Bool
 is_event_verb Motes = false
 is_event_verb Golden = false
@@ -96,7 +96,7 @@ stands Sweeps place = is_later place
 abbrev pub follows : Verb → Place → Bool
 follows verb place = if is_some place.cut then is_event_verb verb else true
 
--- a line of the verb stands at its place, which is told before what follows a cut
+-- a line of the verb stands at its place; the fault of the place comes before that of the cut
 unfoldable pub standing : Verb → Place → Result (Unit {0}) LineFault
 standing verb place = allowed_if (stands verb place) fault.Place >>= λ u. allowed_if (follows verb place) fault.Cut
 

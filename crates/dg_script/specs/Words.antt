@@ -49,7 +49,7 @@ abbrev pub spaced : List (List ℕ) → List ℕ
 spaced [] = []
 spaced (w ∷ ws) = w ++ behind_spaces ws
 
--- Exactly one field, exactly two, and so on. Fewer and more are told.
+-- Exactly one field, exactly two, and so on. Fewer or more are a fault.
 abbrev pub one_of : List (List ℕ) → Result (List ℕ) LineFault
 one_of [] = Err Few
 one_of (a ∷ []) = Ok a

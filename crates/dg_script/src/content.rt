@@ -25,7 +25,7 @@ pub fn name(alloc: Global, word: &[u8]) -> Result<Bytes, LineFault>
     }
 }
 
-// The bytes that digits write, or the fault of other digits.
+// The bytes that digits encode, or the given fault.
 #[tactic(auto, using(crate::proofs::ContentLemmas::refusals))]
 fn digits(alloc: Global, digits: &[u8], fault: LineFault) -> Result<Bytes, LineFault>
     ensures { Reads result (or_fault fault (hex_bytes digits.now)) }
@@ -38,7 +38,7 @@ fn digits(alloc: Global, digits: &[u8], fault: LineFault) -> Result<Bytes, LineF
     }
 }
 
-// Writes the bytes that a seed makes.
+// Writes the bytes that a seed generates.
 fn fill(seed: u32, into: &mut [u8])
     requires { length into.old ≤ most_content }
     ensures { into.new ≡ generated (length into.old) seed }
@@ -48,7 +48,7 @@ fn fill(seed: u32, into: &mut [u8])
     }
 }
 
-/// So many bytes that a seed makes. The only fault is [`LineFault::Memory`].
+/// The first `length` bytes that a seed generates. The only fault is [`LineFault::Memory`].
 pub fn generate(alloc: Global, length: u32, seed: u32) -> Result<Bytes, LineFault>
     requires { length ≤ most_content }
     ensures { Reads result (Ok (generated length seed)) }
@@ -62,7 +62,7 @@ pub fn generate(alloc: Global, length: u32, seed: u32) -> Result<Bytes, LineFaul
     }
 }
 
-// The bytes that a length and a seed, with a colon between them, write.
+// The bytes that a length and a seed, with a colon between them, generate.
 #[tactic(auto, unfolding(crate::specs::Contents::generated_of))]
 fn generated(alloc: Global, fields: &[u8]) -> Result<Bytes, LineFault>
     ensures { Reads result (or_fault LineFault.Content (generated_of fields.now)) }
@@ -96,7 +96,7 @@ fn content(alloc: Global, word: &[u8]) -> Result<Bytes, LineFault>
     }
 }
 
-// Bytes that are not too few or too many, or the fault of others.
+// The bytes, if there are `least` to `most` of them, or the given fault.
 fn sized(bytes: Bytes, least: usize, most: usize, fault: LineFault) -> Result<Bytes, LineFault>
     ensures read { Reads result (sized fault least most bytes) }
     ensures low { IfOk result (λ b. least ≤ length b) }
@@ -112,7 +112,7 @@ fn sized(bytes: Bytes, least: usize, most: usize, fault: LineFault) -> Result<By
     Ok(bytes)
 }
 
-/// The bytes of a content, where they are not too few or too many.
+/// The bytes of a content, if there are `least` to `most` of them.
 #[tactic(auto, unfolding(crate::specs::Contents::sized_content))]
 pub fn sized_content(
     alloc: Global,

@@ -1,5 +1,5 @@
-//! Reads the lines of events. The commonest, `tick` and `last`, are read by their numbers where they stand, and by their words
-//! where that gives up.
+//! Reads the lines of events. The most common ones, `tick` and `last`, are parsed in place as numbers, and word by word if
+//! that gives up.
 ghost use Rattle.std.specs.Prelude.{◌≡◌};
 ghost use Rattle.dg_script.specs.NumberLines.{tick_with, last_with};
 ghost use Rattle.dg_script.specs.Words.{words_of};

@@ -21,7 +21,7 @@ pub fn number(word: &[u8]) -> Result<u32, LineFault>
     }
 }
 
-// A number from least to most, which has a fault outside of them.
+// A number from `least` to `most`. Any other number has the given fault.
 #[tactic(auto, unfolding(crate::specs::Fields::ranged_in))]
 fn ranged(word: &[u8], least: u32, most: u32, fault: LineFault) -> Result<u32, LineFault>
     ensures read { result ≡ ranged_in fault least most word.now }
@@ -121,7 +121,7 @@ pub fn counted(word: &[u8]) -> Result<u32, LineFault>
     ranged(word, 1, u32::MAX, LineFault::Number)
 }
 
-/// How many commits are told as spent, up to 520,223.
+/// How many commits the chips count as spent, up to 520,223.
 pub fn used(word: &[u8]) -> Result<u32, LineFault>
     ensures { result ≡ used_in word.now }
 {

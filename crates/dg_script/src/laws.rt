@@ -1,4 +1,4 @@
-//! What holds of the definitions alone. These functions do nothing: their contracts are the laws.
+//! Laws of the definitions alone. These functions do nothing: their contracts are the laws.
 ghost use Rattle.std.specs.Prelude.{◌≡◌, ℕ, List, Ok};
 ghost use Rattle.dg_script.specs.Words.{words_of};
 ghost use Rattle.dg_script.specs.Pieces.{AreWords};
@@ -7,8 +7,8 @@ ghost use Rattle.dg_script.specs.Fitting.{StandsAt, FitsLine, IsPlayed};
 ghost use Rattle.dg_script.specs.declared.line.Line.{Line};
 ghost use Rattle.dg_script.specs.declared.place.Place.{Place};
 
-/// The words of a text are its longest pieces without a space, in their order: none is empty, and all other bytes are
-/// spaces.
+/// The words of a text are its longest pieces without a space, in their order: no word is empty, and all other bytes
+/// are spaces.
 pub fn words_are_pieces()
     ensures { (text : List ℕ) → AreWords text (words_of text) }
 {}

@@ -12,11 +12,11 @@ pub enum Line {
     /// The boards are formatted with a golden image.
     Golden {
         name: Bytes,
-        /// The commits that are told as spent.
+        /// The commits that the chips count as spent.
         used: u32,
         content: Bytes,
     },
-    /// The boards are used as they are.
+    /// The boards are used unchanged.
     Boards,
     /// Two motes are neighbours.
     Link(u8, u8),
@@ -30,12 +30,12 @@ pub enum Line {
         name: Bytes,
         content: Bytes,
     },
-    /// The power is cut in the event that comes.
+    /// The power is cut in the next event.
     Cut(Cut),
     /// An event happens at a mote.
     Happens(Event),
     /// A mote brings a page to another.
     Round(u8, u8),
-    /// So many times there are rounds over each link in both directions.
+    /// Rounds over each link in both directions, this many times.
     Sweeps(u32),
 }

@@ -1,5 +1,5 @@
-//! Numbers that are read where they stand, in one pass over the fields of a line. It gives up (None) at all that is odd, such
-//! as two spaces or ten digits: the words of the line are read then, which also tell what is wrong.
+//! Numbers that are parsed in place, in one pass over the fields of a line. It gives up (None) at anything unusual, such as
+//! two spaces or ten digits. Then the words of the line are read, which also gives the fault.
 ghost use Rattle.std.specs.Prelude.{◌≡◌, ◌<◌, ◌≤◌, ◌∷◌, [], Some, true, IfSome, length, map, take, slice_index};
 ghost use Rattle.std.specs.Bool.{OnTrue};
 ghost use Rattle.std.specs.Str.{all_ascii_digits};
@@ -7,10 +7,11 @@ ghost use Rattle.std.specs.Str.Parse.{digits_value};
 ghost use Rattle.dg_base.specs.Numbers.{number_of};
 ghost use Rattle.dg_script.specs.Words.{words_of};
 
-/// The most digits of a number that is read without a look at whether it is too large.
+/// The most digits of a number that is read without a check whether it is too large.
 const SHORT_NUMBER: usize = 9;
 
-// The number that the digits at the beginning of a short text write, and how many they are. A leading 0 is the only one.
+// The number that the digits at the beginning of a short text encode, and how many digits there are. A leading 0 is the
+// only digit.
 #[inline(always)]
 fn leading_number(text: &[u8]) -> (u32, usize)
     requires { length text.now ≤ 9 }
@@ -46,7 +47,7 @@ fn ends_a_word(text: &[u8]) -> bool
     text[0] == b' '
 }
 
-// The number that stands after one space, and the text after it.
+// The number after one space, and the text after it.
 #[inline(always)]
 fn next_number(text: &[u8]) -> Option<(u32, &[u8])>
     ensures { IfSome result (λ p. map number_of (words_of text.now) ≡ Some p.0 ∷ map number_of (words_of p.1.now)) }

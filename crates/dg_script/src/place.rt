@@ -7,12 +7,12 @@ use crate::line::Line;
 use dg_base::{Cut, MOST_MOTES, Pairs};
 use std::alloc::{AllocError, Global};
 
-/// Where a line stands: what the lines before it said decides which line may come.
+/// Where a line stands: the lines before it decide which line may come.
 #[derive(Debug, Drop)]
 pub struct Place {
-    /// How many motes there are, 0 before the first line says it.
+    /// How many motes there are, 0 before the first line, which gives the number.
     pub motes: u8,
-    /// Whether the second line was read, which formats the boards or uses them as they are.
+    /// Whether the second line was read, which formats the boards or uses them unchanged.
     pub ready: bool,
     /// Whether an event, a round or a sweep was read.
     pub events: bool,
@@ -39,7 +39,7 @@ impl Place {
         }
     }
 
-    /// Goes on to the place after a line. Without memory, for which a link alone asks, nothing changes.
+    /// Moves on to the place after a line. If memory runs out, nothing changes. Only a link allocates.
     pub fn pass(&mut self, line: Line) -> Result<(), AllocError>
         ensures ok { OnOk result (self.new ≡ place_after self.old line) }
         ensures err { OnErr result (self.new ≡ self.old) }
@@ -98,7 +98,7 @@ impl Place {
         self.links.as_slice().iter().any(|link| joins(*link, a, b))
     }
 
-    /// Whether a mote was said to be narrow.
+    /// Whether a mote was declared narrow.
     pub(crate) fn is_narrow(&self, mote: u8) -> bool
         ensures { result ≡ is_narrow self.now.narrow mote }
     {

@@ -20,7 +20,7 @@ use crate::verbs::Verb;
 use crate::words::next_word;
 use std::alloc::Global;
 
-// The verb of a word, where its lines are played.
+// The verb of a word, if its lines are played.
 #[tactic(auto, unfolding(crate::specs::Lines::played_verb))]
 fn played_verb(word: &[u8]) -> Result<Verb, LineFault>
     ensures { result ≡ played_verb word.now }
@@ -60,7 +60,7 @@ fn verb_line(alloc: Global, verb: Verb, fields: &[u8], place: &Place) -> Result<
 
 /// Reads the text of a line that stands at `place`. The text is without its line end.
 ///
-/// The answer is what the text says, or the first fault that it has. Only running out of memory comes in place of these.
+/// The result is what the text says, or its first fault. Only running out of memory replaces these.
 #[tactic(auto, unfolding(crate::specs::Lines::line_of))]
 pub fn read_line(alloc: Global, text: &[u8], place: &Place) -> Result<Line, LineFault>
     ensures read { Reads result (line_of place.now text.now) }

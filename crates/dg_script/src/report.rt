@@ -7,7 +7,7 @@ pub enum Cause {
     Off,
     /// No such frame was sent.
     Frame,
-    /// The two motes are no neighbours.
+    /// The two motes are not neighbours.
     Link,
     /// The image is not declared.
     Image,
@@ -21,7 +21,7 @@ pub enum Cause {
     Stale { version: u32 },
     /// The version is kept with another content.
     Taken,
-    /// So few commits are left in the control sectors.
+    /// Only this many commits are left in the control sectors.
     Worn { room: u32 },
     /// The number of the kept order is not smaller.
     OldOrder { number: u32 },
@@ -37,7 +37,7 @@ pub enum Report {
         image: u8,
         version: u32,
     },
-    /// A mote keeps nothing of an image any more.
+    /// A mote no longer keeps anything of an image.
     Lost {
         mote: u8,
         image: u8,
@@ -61,7 +61,7 @@ pub enum Report {
     Off {
         mote: u8,
     },
-    /// A mote sent what it has.
+    /// A mote advertised what it has.
     SentAdvert {
         mote: u8,
     },

@@ -28,7 +28,7 @@ fn is_same(word: &[u8], other: &[u8]) -> bool
     word == other
 }
 
-// The word with this number, from 0 on. It is empty where there are not that many.
+// The word with this number, from 0 on. It is empty if there are fewer words.
 fn word(text: &[u8], at: usize) -> &[u8]
     ensures { result.now ≡ word_at (words_of text.now) at }
 {
@@ -43,7 +43,7 @@ fn word(text: &[u8], at: usize) -> &[u8]
     }
 }
 
-// The number that a word writes, or 0.
+// The number that a word encodes, or 0.
 #[tactic(auto, unfolding(crate::specs::ReportReading::number_at))]
 fn number(text: &[u8], at: usize) -> u32
     ensures { result ≡ number_at (words_of text.now) at }
@@ -76,7 +76,7 @@ fn digit_value(digit: u8) -> u16
     u16::from(value % 16)
 }
 
-// The number that four hex digits write, or 0.
+// The number that four hex digits encode, or 0.
 #[tactic(auto, unfolding(crate::specs::ReportReading::crc_of_digits))]
 fn crc(digits: &[u8]) -> u16
     ensures { result ≡ crc_of_digits digits.now }
@@ -244,7 +244,7 @@ fn mote(text: &[u8]) -> Report
     }
 }
 
-// What a text says, if it is that of a report's line.
+// What a text says, if it is a line of a report.
 #[tactic(auto, unfolding(crate::specs::ReportReading::report_said))]
 fn said(text: &[u8]) -> Report
     ensures { result ≡ report_said (words_of text.now) }
@@ -289,8 +289,8 @@ fn said(text: &[u8]) -> Report
 
 /// Reads a line of a report, with its LF. `scratch` is overwritten.
 ///
-/// What is written is read again, and nothing else is: the line is read as what it says where that is written as this
-/// line, which [`write_report`] decides.
+/// What is written is read back, and nothing else is accepted: a line is read as what it says only if
+/// [`write_report`] writes exactly this line for that.
 pub fn read_report(line: &[u8], scratch: &mut Vec<u8>) -> Result<Report, ReportFault>
     ensures written { (report : Report) → FitsReport report → report_line report ≡ line.now → (result ≡ Ok report)
         ⊎ (result ≡ Err ReportFault.Memory) }

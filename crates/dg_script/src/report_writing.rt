@@ -8,7 +8,7 @@ use crate::spelling::Field::{Crc, Number, Small, Word};
 use crate::spelling::{push_line, push_line_of};
 use std::alloc::AllocError;
 
-/// Appends the line of a report and LF. Where memory runs out, a prefix of these was appended.
+/// Appends the line of a report and LF. If memory runs out, a prefix of these was appended.
 #[tactic(auto, unfolding(crate::specs::Report::report_line))]
 pub fn write_report(report: &Report, out: &mut Vec<u8>) -> Result<(), AllocError>
     ensures ok { OnOk result (out.new.items ≡ out.old.items ++ report_line report.now) }

@@ -1,4 +1,4 @@
-//! Reads the lines that are no events.
+//! Reads the lines that are not events.
 ghost use Rattle.std.specs.Prelude.{◌≡◌};
 ghost use Rattle.dg_script.specs.Words.{words_of};
 ghost use Rattle.dg_script.specs.Lines.{motes_of, golden_of, boards_of, link_of, narrow_of, image_of, cut_of, round_of};

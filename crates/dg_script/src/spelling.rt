@@ -12,7 +12,7 @@ pub enum Field<'a> {
     Small(u8),
     /// A number in decimal.
     Number(u32),
-    /// Bytes as they are.
+    /// Bytes, unchanged.
     Word(&'a [u8]),
     /// A CRC as four hex digits.
     Crc(u16),
@@ -32,7 +32,7 @@ fn push_content(out: &mut Vec<u8>, bytes: &[u8]) -> Result<(), AllocError>
     push_hex(out, bytes)
 }
 
-// Appends the decimal digits of a number. Most numbers of a line have one digit. Without memory `out` stays as it was.
+// Appends the decimal digits of a number. Most numbers of a line have one digit. If memory runs out, `out` is unchanged.
 #[tactic(auto, using(std::proofs::lemmas::Fmt::decimal_digit))]
 fn push_number(out: &mut Vec<u8>, n: u32) -> Result<(), AllocError>
     ensures ok { OnOk result (out.new.items ≡ out.old.items ++ decimal n) }
@@ -93,7 +93,7 @@ fn push_fields(out: &mut Vec<u8>, fields: &[Field]) -> Result<(), AllocError>
     Ok(())
 }
 
-/// Appends a word, the fields after it, and LF. Where memory runs out, a prefix of them was appended.
+/// Appends a word, the fields after it, and LF. If memory runs out, a prefix of them was appended.
 pub fn push_line(out: &mut Vec<u8>, word: &[u8], fields: &[Field]) -> Result<(), AllocError>
     ensures ok { OnOk result (out.new.items ≡ out.old.items ++ (word.now ++ fields_text fields.now ++ 10 ∷ [])) }
     ensures err { OnErr result (IsPrefixOf out.new.items (out.old.items ++ (word.now ++ fields_text fields.now ++ 10 ∷ []))) }

@@ -34,7 +34,7 @@ fn is_same(word: &[u8], other: &[u8]) -> bool
     word == other
 }
 
-// Whether a word has just these four letters. Most words of a script are so short.
+// Whether a word has just these four letters. Most words of a script are that short.
 fn is_four(word: &[u8], letters: [u8; 4]) -> bool
     ensures { result ≡ same word.now letters }
 {
@@ -73,7 +73,7 @@ fn event_verb(word: &[u8]) -> Option<Verb>
     None
 }
 
-// The verb of a line that is no event.
+// The verb of a line that is not an event.
 fn other_verb(word: &[u8]) -> Option<Verb>
     ensures { result ≡ other_verb_of word.now }
 {
@@ -132,7 +132,7 @@ impl Verb {
         }
     }
 
-    // Whether its lines are events, one of which follows a cut.
+    // Whether its lines are events. After a cut comes an event.
     fn is_event(self) -> bool
         ensures { result ≡ is_event_verb self }
     {
@@ -170,8 +170,8 @@ impl Verb {
         }
     }
 
-    /// Whether a line of the verb may stand at a place. It may not at another one, and not in place of the
-    /// event after a cut.
+    /// Whether a line of the verb may stand at a place. It is a fault at any other place, and in place of
+    /// the event after a cut.
     #[tactic(auto, unfolding(crate::specs::Verbs::standing))]
     pub fn stand(self, place: &Place) -> Result<(), LineFault>
         ensures { result ≡ standing self place.now }
@@ -186,7 +186,7 @@ impl Verb {
     }
 }
 
-// Whether only the number of motes was said.
+// Whether only the number of motes was given.
 fn is_second(place: &Place) -> bool
     ensures { result ≡ is_second place.now }
 {

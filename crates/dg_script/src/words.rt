@@ -24,7 +24,7 @@ fn spaces(text: &[u8]) -> usize
     text.len()
 }
 
-// How many bytes come before the first that is `stop`. The bytes of a long text are looked at many at a time.
+// How many bytes come before the first that is `stop`. The bytes of a long text are searched many at a time.
 fn length_before(text: &[u8], stop: u8) -> usize
     ensures bound { result ≤ length text.now }
     ensures word { (k : ℕ) → k < result → slice_index text.now k ≢ stop }
@@ -54,7 +54,7 @@ fn far_before(text: &[u8], stop: u8) -> usize
     }
 }
 
-/// The bytes up to the first colon, and those after it. None where there is no colon.
+/// The bytes up to the first colon, and those after it. None if there is no colon.
 pub fn halves(text: &[u8]) -> Option<(&[u8], &[u8])>
     ensures { option_map (λ h. (h.0.now, h.1.now)) result ≡ halves_of text.now }
 {
@@ -65,7 +65,7 @@ pub fn halves(text: &[u8]) -> Option<(&[u8], &[u8])>
     Some((&text[..length], &text[length + 1..]))
 }
 
-/// The first word of a text, and the text after it. None where there is no word.
+/// The first word of a text, and the text after it. None if there is no word.
 #[tactic(auto, using(crate::proofs::WordLemmas::first_word))]
 pub fn next_word(text: &[u8]) -> Option<(&[u8], &[u8])>
     ensures none { IfNone result (words_of text.now ≡ []) }
@@ -78,7 +78,7 @@ pub fn next_word(text: &[u8]) -> Option<(&[u8], &[u8])>
     Some(text.split_at(length_before(text, b' ')))
 }
 
-/// The only word of a text. There may be fewer words or more.
+/// The only word of a text. Fewer words or more are a fault.
 pub fn one_word(text: &[u8]) -> Result<&[u8], LineFault>
     ensures { each_as (λ a. a.now) result ≡ one_of (words_of text.now) }
 {
@@ -91,7 +91,7 @@ pub fn one_word(text: &[u8]) -> Result<&[u8], LineFault>
     Ok(first)
 }
 
-/// The words of a text that has two. There may be fewer words or more.
+/// The words of a text that has two. Fewer words or more are a fault.
 pub fn two_words(text: &[u8]) -> Result<(&[u8], &[u8]), LineFault>
     ensures { each_as (λ t. (t.0.now, t.1.now)) result ≡ two_of (words_of text.now) }
 {
@@ -102,7 +102,7 @@ pub fn two_words(text: &[u8]) -> Result<(&[u8], &[u8]), LineFault>
     Ok((first, second))
 }
 
-/// The words of a text that has three. There may be fewer words or more.
+/// The words of a text that has three. Fewer words or more are a fault.
 pub fn three_words(text: &[u8]) -> Result<(&[u8], &[u8], &[u8]), LineFault>
     ensures { each_as (λ t. (t.0.now, t.1.now, t.2.now)) result ≡ three_of (words_of text.now) }
 {
@@ -113,7 +113,7 @@ pub fn three_words(text: &[u8]) -> Result<(&[u8], &[u8], &[u8]), LineFault>
     Ok((first, second, third))
 }
 
-/// The words of a text that has four. There may be fewer words or more.
+/// The words of a text that has four. Fewer words or more are a fault.
 pub fn four_words(text: &[u8]) -> Result<(&[u8], &[u8], &[u8], &[u8]), LineFault>
     ensures { each_as (λ t. (t.0.now, t.1.now, t.2.now, t.3.now)) result ≡ four_of (words_of text.now) }
 {
@@ -124,7 +124,7 @@ pub fn four_words(text: &[u8]) -> Result<(&[u8], &[u8], &[u8], &[u8]), LineFault
     Ok((first, second, third, fourth))
 }
 
-/// The words of a text that has five. There may be fewer words or more.
+/// The words of a text that has five. Fewer words or more are a fault.
 pub fn five_words(text: &[u8]) -> Result<(&[u8], &[u8], &[u8], &[u8], &[u8]), LineFault>
     ensures { each_as (λ t. (t.0.now, t.1.now, t.2.now, t.3.now, t.4.now)) result ≡ five_of (words_of text.now) }
 {
@@ -135,7 +135,7 @@ pub fn five_words(text: &[u8]) -> Result<(&[u8], &[u8], &[u8], &[u8], &[u8]), Li
     Ok((first, second, third, fourth, fifth))
 }
 
-/// The words of a text that has six. There may be fewer words or more.
+/// The words of a text that has six. Fewer words or more are a fault.
 pub fn six_words(text: &[u8]) -> Result<(&[u8], &[u8], &[u8], &[u8], &[u8], &[u8]), LineFault>
     ensures { each_as (λ t. (t.0.now, t.1.now, t.2.now, t.3.now, t.4.now, t.5.now)) result ≡ six_of (words_of text.now) }
 {

@@ -12,10 +12,10 @@ use crate::spelling::{push_line, push_line_of};
 use dg_base::Event;
 use std::alloc::AllocError;
 
-/// Appends a line and LF, with its contents as hex digits. Where memory runs out, a prefix of these was appended.
+/// Appends a line and LF, with its contents as hex digits. If memory runs out, a prefix of these was appended.
 ///
 /// The fields of the line are in the ranges of some script, and its content has at most 149,000 bytes.
-/// Then the text is read as the same line, wherever such a line may stand and is played.
+/// Then the text is read back as the same line, wherever such a line may stand and is played.
 #[tactic(auto, using(crate::proofs::ReadsBackLemmas::line_reads), unfolding(crate::specs::Spelling::line_text))]
 pub fn write_line(line: &Line, out: &mut Vec<u8>) -> Result<(), AllocError>
     requires fits { FitsLine most_motes line.now }

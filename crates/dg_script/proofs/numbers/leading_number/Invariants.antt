@@ -1,4 +1,4 @@
--- the bytes so far are digits, and the number is what they write
+-- the bytes so far are digits, and the number is what they encode
 use Rattle.std.proofs.Common.{◌≡◌, true, take}
 use Rattle.std.specs.Str.{all_ascii_digits}
 use Rattle.std.specs.Str.Parse.{digits_value}

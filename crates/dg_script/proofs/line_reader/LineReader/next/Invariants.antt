@@ -3,7 +3,7 @@ use Rattle.dg_script.specs.LineReading.{most_kept}
 use Rattle.dg_script.proofs.PassingLemmas.{Looking}
 use Rattle.dg_script.proofs.line_reader.LineReader.next.Given as goal
 
--- some bytes came behind those that were there, and no LF is among those that were looked at
+-- some bytes came after those that were there, and no LF is among those that were searched
 abbrev pub invariant-loop-at : goal.invariant-loop-at
 invariant-loop-at g l =
     Looking (g.S.Source.left l.initial.input) (g.S.Source.left l.input) l.initial.self l.self l.looked
