@@ -1,4 +1,4 @@
--- Stored cells that are blank from one to another: a program of these copies, and what is erased or stored anew is blank too.
+-- A range of stored cells that is blank: to program them is to copy, and what is erased or newly stored is blank too.
 use Rattle.std.proofs.Common.{◌≡◌, ◌⊎◌, ℕ, ◌+◌, ◌-◌, ◌<◌, ◌≤◌, List, ◌++◌, length, get_or, refl, sym, ap, ◌∙◌, inl, inr, ⊎_elim, arith}
 use Rattle.std.proofs.lemmas.List.{length-append, get_or_append_left, get_or-append_right}
 use Rattle.std.proofs.lemmas.Bool.{cases_lt}

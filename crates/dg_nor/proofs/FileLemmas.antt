@@ -1,4 +1,4 @@
--- What a file has that was given bytes at their places, and how a board halts whose file failed.
+-- What a file has that was given bytes at their places, and how a board with a failed file halts.
 use Rattle.std.proofs.Common.{◌≡◌, ℕ, ◌+◌, ◌*◌, ◌≤◌, List, [], ◌++◌, Option, Some, None, IfSome, Bool, true, false, not, Result, OnOk, length, drop, subst, refl, sym, ap, ◌∙◌, inr, arith}
 use Rattle.std.proofs.lemmas.List.{append-nil, take_all, drop_all}
 use Rattle.std.proofs.lemmas.Bool.{both_ways}
@@ -87,7 +87,7 @@ has_cells Memory image awake file same = absurd (both_ways true file refl)
 has_cells (Mirrored file) image awake mirrors same = ap (λ bytes. Some bytes) same
 has_cells (Gone fault) image awake file same = absurd (both_ways true awake refl)
 
--- what a board ends with has the cells that were written, where it is awake and has a file
+-- the file of a board has the cells that were written, if the board ends awake and has a file
 pub ended_has_cells : {E : Type 0} (r : Result (Unit {0}) E) (old made new : BackedCells) → new ≡ made → OnOk r (is_gone made.backing ≡ false) → is_memory made.backing ≡ is_memory old.backing
     → OnOk r (is_memory old.backing ≡ false → mirrored_bytes new.backing ≡ Some (cells_image new.cells))
 ended_has_cells r old made new same awake memory =

@@ -1,4 +1,4 @@
--- Bits that are cleared one after another, as they stand on a chip: the program of one byte that clears the next.
+-- Bits that are cleared one after another, as they are on a chip: the program of one byte that clears the next.
 use Rattle.std.proofs.Common.{◌≡◌, ◌⊎◌, ℕ, ◌+◌, ◌-◌, ◌*◌, ◌/◌, ◌%◌, ◌^◌, ◌<◌, ◌≤◌, min, List, [], ◌∷◌, length, get_or, bit_and, sym, ap, ◌∙◌, inl, inr, ⊎_elim, arith}
 use Rattle.std.proofs.lemmas.Bool.{cases_lt, cases_eq}
 use Rattle.dg_words.specs.Bits.{cleared_bits}
@@ -8,7 +8,7 @@ use Rattle.dg_words.proofs.CellLemmas.{length-part, get_or-part}
 use Rattle.dg_nor.specs.Chip.{programmed}
 use Rattle.dg_nor.proofs.ChipLemmas.{length-programmed, get_or-programmed, get_or-programmed_outside}
 
--- what stands there
+-- what is there
 pub byte_now : (cells : List ℕ) (front bytes n : ℕ) → n < 8 * bytes → part cells front bytes ≡ cleared_bits bytes n → get_or cells (front + n / 8) 0 ≡ 2 ^ (8 - n % 8) - 1
 byte_now cells front bytes n h e =
     let inside : n / 8 < bytes = omega arith in

@@ -128,7 +128,7 @@ stored_pieces-le [] = omega arith
 stored_pieces-le (zero ∷ ps) = let m = stored_pieces-le ps in omega arith
 stored_pieces-le (suc p ∷ ps) = let m = stored_pieces-le ps in omega arith
 
--- One has no place yet, so there are fewer than all.
+-- One piece has no place yet, so not all pieces are stored.
 pub stored_pieces-lt : (places : List ℕ) (s : ℕ) → s < length places → get_or places s 0 ≡ 0 → stored_pieces places < length places
 unfolding stored_pieces
 stored_pieces-lt [] s h e = absurd (omega arith)
@@ -313,7 +313,7 @@ programmed_none cells at bs none h =
     ap (overwritten cells at) (same_number_lists (and_each (part cells at (length bs)) bs) (part cells at (length bs)) (omega arith) (λ k i. absurd (omega arith)))
     ∙ overwritten_same cells at (length bs) (omega arith)
 
--- two programs, the second behind the first
+-- two programs, the second after the first
 pub programmed_next : (cells : List ℕ) (at : ℕ) (bs cs : List ℕ) → at + (length bs + length cs) ≤ length cells → programmed (programmed cells at bs) (at + length bs) cs ≡ programmed cells at (bs ++ cs)
 unfolding programmed
 programmed_next cells at bs cs h =
@@ -353,7 +353,7 @@ overwritten_blank_none cells at n none h =
     let p = length-part cells at 0 (omega arith) in
     ap (overwritten cells at) (same_number_lists (blank n) (part cells at 0) (omega arith) (λ k i. absurd (omega arith))) ∙ overwritten_same cells at 0 (omega arith)
 
--- blank cells behind others that became blank
+-- blank cells after others that became blank
 pub overwritten_blank_next : (cells : List ℕ) (at m n : ℕ) → at + (m + n) ≤ length cells → overwritten (overwritten cells at (blank m)) (at + m) (blank n) ≡ overwritten cells at (blank (m + n))
 unfolding blank
 overwritten_blank_next cells at m n h =

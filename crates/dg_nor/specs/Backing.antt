@@ -28,7 +28,7 @@ is_memory Memory = true
 is_memory (Mirrored file) = false
 is_memory (Gone fault) = false
 
--- the bytes of its file, where it has one that did not fail
+-- the bytes of its file, if it has one that did not fail
 abbrev pub mirrored_bytes : Backing → Option (List ℕ)
 mirrored_bytes Memory = None
 mirrored_bytes (Mirrored file) = Some (file_bytes file)
@@ -40,7 +40,7 @@ fault_of Memory = None
 fault_of (Mirrored file) = None
 fault_of (Gone fault) = Some fault
 
--- Its file, where it has one that did not fail, has these bytes.
+-- Its file has these bytes, if it has one that did not fail.
 unfoldable pub Mirrors : Backing → List ℕ → Type 0
 Mirrors backing image = IfSome (mirrored_bytes backing) (λ bytes. bytes ≡ image)
 

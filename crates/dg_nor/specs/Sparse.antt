@@ -1,5 +1,5 @@
--- A chip of which only the pieces that were programmed are stored, in the order in which that was done first (docs/FLASH.md,
--- "The device"). `places` has a number for each piece: 0 where it is not stored, and else its place among those that are,
+-- A chip of which only the pieces that were programmed are stored, in the order in which they first were (docs/FLASH.md,
+-- "The device"). `places` has a number for each piece: 0 if it is not stored, otherwise its place among those that are,
 -- counted from 1. `stored` has their cells, one piece after the other.
 use Rattle.std.specs.Prelude.{◌≡◌, ℕ, zero, suc, ◌+◌, ◌*◌, ◌/◌, ◌%◌, ◌<◌, ◌≤◌, List, [], ◌∷◌, length, slice_index}
 use Rattle.dg_words.specs.Lists.{tabulate}
@@ -28,12 +28,12 @@ stored_pieces [] = 0
 stored_pieces (zero ∷ places) = stored_pieces places
 stored_pieces (suc before ∷ places) = suc (stored_pieces places)
 
--- So many pieces are stored as have a place. Each place is one of these, and no two pieces have the same.
+-- As many pieces are stored as have a place. Each place is that of a stored piece, and no two pieces have the same.
 pub record IsSparse (places stored : List ℕ) : Type 0 where
   pub count : length stored ≡ board_piece * stored_pieces places
   pub within : (s : ℕ) → slice_index places s ≤ stored_pieces places
   pub apart : (s t : ℕ) → 0 < slice_index places s → slice_index places s ≡ slice_index places t → s ≡ t
 
--- Each of these cells from one to another is blank.
+-- Each cell of this range is blank.
 pub record IsBlankIn (cells : List ℕ) (from to : ℕ) : Type 0 where
   pub each : (k : ℕ) → from ≤ k → k < to → slice_index cells k ≡ 255

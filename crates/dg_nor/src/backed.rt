@@ -11,7 +11,7 @@ use crate::cells::Cells;
 use crate::files::FileFault;
 use std::alloc::{AllocError, Global};
 
-/// The cells of a chip, and where they stand besides memory. A file among that has their bytes until it fails.
+/// The cells of a chip, and what backs them besides memory. If that is a file, it has their bytes until it fails.
 #[derive(Drop)]
 pub(crate) struct BackedCells {
     cells: Cells,
@@ -29,7 +29,7 @@ impl BackedCells {
         BackedCells { cells, backing }
     }
 
-    /// Cells of the same bytes.
+    /// Cells with the same bytes.
     pub(crate) fn copy(&self, alloc: Global) -> Result<Cells, AllocError>
         ensures { IfOk result (λ cells. cells_image cells ≡ cells_image self.now.cells) }
     {
@@ -58,7 +58,7 @@ impl BackedCells {
         self.cells.read(at, into);
     }
 
-    /// Each byte from `at` on becomes old AND new, and then is written to the file, if there is one. No where that fails.
+    /// Each byte from `at` on becomes old AND new, and then is written to the file, if there is one. False if that fails.
     pub(crate) fn program(&mut self, at: u32, bytes: &[u8]) -> bool
         requires in_chip { at + length bytes.now ≤ chip_size }
         requires in_sector { length bytes.now ≤ sector_size }
@@ -71,7 +71,7 @@ impl BackedCells {
         self.backing.save(&self.cells, at, bytes.len())
     }
 
-    /// The bytes of a sector become 0xFF, and then are written to the file, if there is one. No where that fails.
+    /// The bytes of a sector become 0xFF, and then are written to the file, if there is one. False if that fails.
     pub(crate) fn erase(&mut self, sector: u32) -> bool
         requires in_chip { sector < sectors }
         requires awake { is_gone self.old.backing ≡ false }

@@ -10,7 +10,7 @@ use crate::cells::Cells;
 use crate::files::{ChipFile, FileFault};
 use crate::sectors::sector_buffer;
 
-/// Where the bytes of a board stand besides memory.
+/// Where the bytes of a board are kept besides memory.
 #[derive(Drop)]
 pub(crate) enum Backing {
     /// Nowhere.
@@ -43,8 +43,8 @@ impl Backing {
         }
     }
 
-    /// Writes a range of cells at their place in the file, if there is one. Where that fails the file is gone, and the
-    /// answer is no.
+    /// Writes a range of cells at their place in the file, if there is one. If that fails, the file is gone, and the
+    /// result is false.
     pub(crate) fn save(&mut self, cells: &Cells, at: u32, count: usize) -> bool
         requires in_chip { at + count ≤ chip_size }
         requires in_sector { count ≤ sector_size }
@@ -61,7 +61,7 @@ impl Backing {
         }
     }
 
-    /// The same where there is a file.
+    /// The same, if there is a file.
     #[inline(never)]
     fn save_in_file(&mut self, cells: &Cells, at: u32, count: usize) -> bool
         requires in_chip { at + count ≤ chip_size }

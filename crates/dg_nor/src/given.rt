@@ -1,4 +1,4 @@
-//! The bytes that a file was given. They stand in proofs alone, and take no memory.
+//! The bytes that a file was given. They exist only in proofs, and take no memory.
 ghost use Rattle.std.specs.Prelude.{◌≡◌, ◌≤◌, ℕ, List, [], length};
 ghost use Rattle.std.specs.Borrow.{ftrue};
 ghost use Rattle.dg_words.specs.Cells.{overwritten};
@@ -30,7 +30,7 @@ impl Given {
         Given {}
     }
 
-    /// And a piece, over what stood at its place.
+    /// These bytes, with a piece written over them at its place.
     pub(crate) fn with(&self, _piece: &Piece<'_>) -> Given
         requires { _piece.now.at ≤ length self.now.bytes }
         ensures { result.bytes ≡ overwritten self.now.bytes _piece.now.at _piece.now.bytes.now }

@@ -1,4 +1,4 @@
-//! What holds of the sizes of a chip, and of a board on a file. The functions do nothing: their contracts are the laws.
+//! Laws of the sizes of a chip, and of a board on a file. The functions do nothing: their contracts are the laws.
 ghost use Rattle.std.specs.Prelude.{◌≡◌, IfSome};
 ghost use Rattle.dg_nor.specs.Sizes.{sectors, sector_size, chip_size, old_sectors, old_chip_size};
 ghost use Rattle.dg_nor.specs.Board.{board_image, file_of};
@@ -14,7 +14,7 @@ pub fn a_chip_has_these_sizes()
     ensures old_chip { OLD_CHIP_SIZE ≡ old_chip_size }
 {}
 
-/// At every moment the file of a board that did not fail was given the very bytes of the chip.
+/// At every moment the file of a board that did not fail was given exactly the bytes of the chip.
 pub fn a_file_has_the_bytes_of_its_board(_board: &Board)
     ensures { IfSome (file_of _board.now) (λ bytes. bytes ≡ board_image _board.now) }
 {}
