@@ -7,7 +7,7 @@ use Rattle.std.specs.Prelude.{slice_get}
 use Rattle.std.specs.Option.{option_or}
 use Rattle.dg_ihex.specs.Blocks.{Block, block_byte, byte_at, lowest_of, past_of}
 
--- ---- one block more
+-- ---- one more block
 
 option_or_assoc : (a b c : Option ℕ) → option_or (option_or a b) c ≡ option_or a (option_or b c)
 option_or_assoc None b c = refl

@@ -25,7 +25,7 @@ keeps_same shift cells f g same k = record {
   only = λ p y h. let o = k.only p y h in (o.0, o.1, same o.0 ∙ o.2);
 }
 
--- one byte more, at an address of which no cell is used
+-- one more byte, at an address whose cell is unused
 pub keeps_one : (shift : ℕ) (cells : List (Option ℕ)) (f g : ℕ → Option ℕ) (a b : ℕ) → (a + shift) % longest_image < length cells
     → ((x y : ℕ) → f x ≡ Some y → (x + shift) % longest_image ≢ (a + shift) % longest_image) → g a ≡ Some b → ((x : ℕ) → x ≢ a → g x ≡ f x)
     → Keeps shift cells f → Keeps shift (set cells ((a + shift) % longest_image) (Some b)) g
@@ -70,7 +70,7 @@ over_other f a b x h = ap (λ t. cond t (Some b) (f x)) (ne_eqb x a h)
 over_some : (f : ℕ → Option ℕ) (a b x y : ℕ) → over f a b x ≡ Some y → (x ≡ a) ⊎ (f x ≡ Some y)
 over_some f a b x y h = elim (cases_eq x a) [ inl same ↦ inl same | inr other ↦ inr (sym (over_other f a b x other) ∙ h) ]
 
--- the bytes of a block, at addresses of which no cell is used
+-- the bytes of a block, at addresses whose cells are unused
 pub keeps_written : (bytes : List ℕ) (shift : ℕ) (cells : List (Option ℕ)) (f g : ℕ → Option ℕ) (a from : ℕ) → from ≡ a + shift
     → ((k : ℕ) → k < length bytes → (from + k) % longest_image < length cells) → length bytes ≤ longest_image
     → ((x y k : ℕ) → f x ≡ Some y → k < length bytes → (x + shift) % longest_image ≢ (a + k + shift) % longest_image)

@@ -13,6 +13,6 @@ refused digits (Some bytes) e (inr (k, x, within, at, bad)) =
     let good : is_hex_digit x ≡ true = rw at at (read.1 k x within) in
     cc
 
--- Digits that are odd in number, or of which one is no digit, write no bytes.
+-- An odd number of digits encodes no bytes. Bytes of which one is not a digit encode none either.
 pub refused_digits : (digits : List ℕ) → (length digits % 2 ≡ 1) ⊎ Any (λ c. is_hex_digit c ≡ false) digits → hex_bytes digits ≡ None
 refused_digits digits why = refused digits (hex_bytes digits) refl why

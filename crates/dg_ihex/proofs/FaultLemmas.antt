@@ -24,7 +24,7 @@ below m n h = grind (arith, nat_tests)
 not_below : (m n : ℕ) → n ≤ m → nat_lt m n ≡ false
 not_below m n h = grind (arith, nat_tests)
 
--- what is wrong with the line behind some lines, and behind all
+-- what is wrong with the line after some lines, and after all lines
 line_fault : (before : List (List ℕ)) (text : List ℕ) (texts : List (List ℕ)) → fault_behind_lines (before ++ text ∷ texts) (length before) ≡ cause_of before text
 unfolding fault_behind_lines
 line_fault before text texts =
@@ -39,7 +39,7 @@ unfolding fault_behind_lines
 end_fault texts n h =
     ap (λ t. cond t (cause_of (take n texts) (get_or texts n [])) (cond (has_end (records_of texts)) None (Some End))) (not_below n (length texts) h)
 
--- no fault is behind fewer lines than those before
+-- no fault comes after fewer than m lines
 abbrev Clean : List (List ℕ) → ℕ → Type 0
 Clean texts m = (n : ℕ) → n < m → fault_behind_lines texts n ≡ None
 

@@ -16,7 +16,7 @@ use Rattle.dg_ihex.specs.Files.{base_behind, base_of, block_of, blocks_over, blo
 use Rattle.dg_ihex.specs.Records.{record_of}
 use Rattle.dg_ihex.specs.Reading.{Refuses, RefusesLine, ReaderSteps}
 
--- ---- one record more
+-- ---- one more record
 
 pub base_of-more : (before : List Record) (next : Record) → base_of (before ++ next ∷ []) ≡ base_behind (base_of before) next
 base_of-more before next = fold-append base_behind 0 before (next ∷ [])
@@ -68,7 +68,7 @@ with_block before next block overlap span end own p q r =
     ∙ ap (λ t. first_cause t (nat_lt longest_image (span_of (blocks_of before ++ block ∷ []))) (has_end before)) (or_false (overlaps (blocks_of before) block) ∙ p)
     ∙ ap (λ t. first_cause overlap t (has_end before)) q ∙ ap (first_cause overlap span) r
 
--- ---- the state behind a record
+-- ---- the state after a record
 
 pub blocks_same : (before : List Record) (next : Record) → block_of (base_of before) next ≡ [] → blocks_of before ≡ blocks_of (before ++ next ∷ [])
 blocks_same before next none = sym (blocks_of-more before next ∙ ap (λ t. blocks_of before ++ t) none ∙ append-nil (blocks_of before))
@@ -140,6 +140,6 @@ pub steps_open : {A : Type 0} (r : Result A HexCause) (before : List Record) (ne
     → After → ReaderSteps r (first_cause false false end) ⊤ → ReaderSteps r (cause_behind before next) After
 steps_open r before next end After none close h after s = steps_moved r (first_cause false false end) (cause_behind before next) ⊤ After (no_byte before next end none close h) (λ _. after) s
 
--- the refusal of a record behind the end
+-- the refusal of a record after the end
 pub refused_end : (cause : HexCause) (before : List Record) (next : Record) (end : Bool) → cause_behind before next ≡ first_cause false false end → RefusesLine cause (first_cause false false end) → RefusesLine cause (cause_behind before next)
 refused_end cause before next end is h = subst (RefusesLine cause) (sym is) h

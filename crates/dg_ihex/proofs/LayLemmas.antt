@@ -1,4 +1,4 @@
--- A file that is written is read again.
+-- A file that is written is read back.
 use Rattle.std.proofs.Common.{◌≡◌, ℕ, zero, suc, ◌+◌, ◌-◌, ◌<◌, ◌≤◌, ◌^◌, ◌||◌, inl, inr, false, List, [], ◌∷◌, ◌++◌, length, Option, Some, None, is_some, unwrap_or, refl, sym, ap, ◌∙◌, subst, arith}
 use Rattle.std.specs.Prelude.{slice_get}
 use Rattle.std.specs.List.{list_any, range_with_len}
@@ -63,7 +63,7 @@ lays_more blocks image bytes block h is fits =
       past = omega (arith, high, h.past, length-append image bytes);
     })
 
--- the addresses behind them are free
+-- the addresses after them are free
 none_given : (blocks : List Block) (n a : ℕ) → past_of blocks ≤ a → list_any (is_given blocks) (range_with_len a n) ≡ false
 none_given blocks zero a behind = refl
 none_given blocks (suc n) a behind =

@@ -21,7 +21,7 @@ use Rattle.dg_ihex.specs.Records.{record_of, record_of_bytes, record_of_digits}
 use Rattle.dg_ihex.specs.Files.{judged, records_of, to_list}
 use Rattle.dg_ihex.specs.Streams.{ReadsAlike, SaysAlike, Stays}
 
--- ---- digits, and those behind them
+-- ---- digits, and those after them
 
 behind_pair : (o p : Option ℕ) (r s : Option (List ℕ)) (bytes : List ℕ) (more : Option (List ℕ)) → onto_bytes o p r ≡ Some bytes → ((found : List ℕ) → r ≡ Some found → s ≡ ahead_of found more)
     → onto_bytes o p s ≡ ahead_of bytes more
@@ -47,7 +47,7 @@ either : (o : Option (List ℕ)) → (o ≡ None) ⊎ ((bytes : List ℕ) × (o 
 either None = inl refl
 either (Some bytes) = inr (bytes, refl)
 
--- a digit and a byte that is none, at one place
+-- a digit and a byte that is not a digit, at one place
 unlike : (digits more : List ℕ) → Any (λ c. is_hex_digit c ≡ false) digits → All (λ c. is_hex_digit c ≡ true) (digits ++ more) → ⊥
 unlike digits more (k, x, within, at, bad) good =
     let there : get_or (digits ++ more) k x ≡ x = get_or_append_left digits more x k within ∙ at in
@@ -90,7 +90,7 @@ hex_bytes-good digits even good =
       | inr found ↦ found
     ]
 
--- the front of digits
+-- a prefix of digits
 hex_bytes-front : (n : ℕ) (digits bytes : List ℕ) → hex_bytes digits ≡ Some bytes → 2 * n ≤ length digits → (front : List ℕ) × (hex_bytes (take (2 * n) digits) ≡ Some front) × (length front ≡ n)
 hex_bytes-front n digits bytes h few =
     let all = hex_bytes-some digits bytes h in
@@ -130,7 +130,7 @@ long_digits : (digits more bytes : List ℕ) → hex_bytes digits ≡ Some bytes
 long_digits digits more bytes h long =
     ap record_of_digits (hex_bytes-behind digits more bytes h) ∙ long_by bytes (hex_bytes more) long ((hex_bytes-some digits bytes h).2)
 
--- ---- fronts
+-- ---- prefixes
 
 alike_behind : (first : ℕ) (short digits : List ℕ) → ((more : List ℕ) → record_of_digits (hex_bytes (short ++ more)) ≡ record_of_digits (hex_bytes (digits ++ more))) → ReadsAlike (first ∷ short) (first ∷ digits)
 unfolding record_of
@@ -151,7 +151,7 @@ long_front first digits good long even =
     let h = hex_bytes-good digits even good in
     good_front 261 first digits h.0 h.1 (omega arith) (omega arith)
 
--- the bytes behind the first
+-- the bytes after the first
 pub digits_front : (front short shown : List ℕ) → list_all is_hex_digit shown ≡ true → shown ≡ take (length front - 1) (drop 1 front) → short ≡ take (longest_record + 2) front
     → longest_record + 1 < length front → length front % 2 ≡ 1 → ReadsAlike short front
 digits_front [] short shown good same is long odd = absurd (omega arith)
@@ -253,7 +253,7 @@ stays_more kept line bytes h = record {
       (subst (λ y. SaysAlike (strip_carriage_return (kept ++ (bytes ++ more))) (strip_carriage_return y)) (sym (append_assoc line bytes more)) (h.ended (bytes ++ more)));
 }
 
--- a line whose front is shortened
+-- a line whose prefix is shortened
 pub line_short : (line short kept : List ℕ) (front : ℕ) → ReadsAlike short (take front line) → 0 < front → front < length line → kept ≡ short ++ take (length line - front) (drop front line) → Stays kept line
 line_short line short kept front h some within is =
     let rest = drop front line in

@@ -1,4 +1,4 @@
--- A line that is written is read again.
+-- A line that is written is read back.
 use Rattle.std.proofs.Common.{◌≡◌, ℕ, ◌+◌, ◌-◌, ◌*◌, ◌/◌, ◌%◌, ◌<◌, ◌≤◌, ◌==◌, nat_lt, Bool, true, false, cond, List, [], ◌∷◌, ◌++◌, length, sum, get_or, take, All, Option, Some, None, unwrap_or, Result, refl, ap, ◌∙◌, arith}
 use Rattle.std.specs.Prelude.{slice_index, slice_range}
 use Rattle.std.specs.Char.{to_ascii_uppercase}
@@ -30,7 +30,7 @@ upper_digit v h =
     known (hex_value (to_ascii_uppercase (hex_digit v))) v
     (eqb-true _ _ (agree_below_at (λ v. unwrap_or (hex_value (to_ascii_uppercase (hex_digit v))) 255 == v) (λ _. true) 16 v refl h)) h
 
--- a byte that stands in no line's end
+-- a byte that is not part of a line's end
 abbrev pub IsPlain : ℕ → Type 0
 IsPlain b = 13 < b
 

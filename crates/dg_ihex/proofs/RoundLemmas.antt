@@ -1,4 +1,4 @@
--- A file that is written is read again, piece by piece.
+-- A file that is written is read back, piece by piece.
 use Rattle.std.proofs.Common.{◌≡◌, ℕ, zero, suc, ◌+◌, ◌-◌, ◌*◌, ◌/◌, ◌%◌, ◌<◌, ◌≤◌, inl, inr, min, nat_lt, Bool, true, false, cond, List, [], ◌∷◌, ◌++◌, length, take, drop, All, None, Ok, Err, append_assoc, refl, sym, ap, ◌∙◌, subst, arith}
 use Rattle.std.specs.List.{flat_map, range_with_len}
 use Rattle.std.proofs.lemmas.Bool.{cases_eq}
@@ -58,7 +58,7 @@ line_some : (kind offset : ℕ) (bytes : List ℕ) → 0 < length (line_of kind 
 unfolding line_of
 line_some kind offset bytes = omega arith
 
--- ---- the state behind lines
+-- ---- the state after lines
 
 pub record Laid (before : List (List ℕ)) (base : ℕ) (image : List ℕ) : Type 0 where
   pub over : base_of (records_of before) ≡ base
@@ -143,7 +143,7 @@ pub record Fits (image : List ℕ) : Type 0 where
   pub fits : length image ≤ longest_image
   pub each : All IsByte image
 
--- the line of the data of a piece, and the lines behind it
+-- the line of the data of a piece, and the lines after it
 one_piece : (image : List ℕ) (k : ℕ) (before tail : List (List ℕ)) → Fits image → k * piece_bytes < length image → Laid before (k * piece_bytes / segment * segment) (take (k * piece_bytes) image)
     → let line = data_line (k * piece_bytes % segment) (piece_at image k) in
     (file_from before (line ∷ tail) ≡ file_from (before ++ line ∷ []) tail) × Laid (before ++ line ∷ []) (base_before (k + 1)) (take ((k + 1) * piece_bytes) image)

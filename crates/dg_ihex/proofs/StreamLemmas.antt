@@ -1,4 +1,4 @@
--- Files that come by pieces.
+-- Files that come in pieces.
 use Rattle.std.proofs.Common.{◌≡◌, ◌≢◌, ℕ, ◌+◌, ◌-◌, ◌<◌, ◌≤◌, ◌==◌, Bool, true, false, is_some, get_or, List, [], ◌∷◌, ◌++◌, length, take, drop, append_assoc, All, Option, Some, None, Result, Ok, Err, refl, sym, ap, ◌∙◌, subst, arith, inl, inr}
 use Rattle.std.proofs.Math.Seq.{take-add, take-append_seam}
 use Rattle.std.proofs.lemmas.Bool.{eqb-false, eqb-true, ne_eqb}
@@ -64,7 +64,7 @@ pub file_more : (before : List (List ℕ)) (text : List ℕ) (texts : List (List
 unfolding file_from
 file_more before text texts fine = ap (λ o. unless o before (file_from (before ++ text ∷ []) texts)) fine
 
--- the file goes on with the line
+-- the file continues with the line
 file_line : (before : List (List ℕ)) (line bytes rest input : List ℕ) → ((rest : List ℕ) → file_from before (lines (line ++ rest)) ≡ hex_file (input ++ rest)) → Bare line → Bare bytes
     → unless (cause_of before (strip_carriage_return (line ++ bytes))) before (file_from (before ++ strip_carriage_return (line ++ bytes) ∷ []) (lines rest)) ≡ hex_file ((input ++ bytes ++ 10 ∷ []) ++ rest)
 unfolding file_from
@@ -80,7 +80,7 @@ behind_alike numbered before x y same h = record {
   stands = subst (Stands numbered.reader) (records_of-more before x ∙ ap (λ r. records_of before ++ r) same ∙ sym (records_of-more before y)) h.stands;
 }
 
--- what was told of the line that is kept is told of the line
+-- a result for the line that is kept is one for the line
 judges_alike : {A : Type 0} (r : Result A HexFileFault) (before : List (List ℕ)) (x y : List ℕ) (P Q : Type 0) → SaysAlike x y → (P → Q) → Judges r before x P → Judges r before y Q
 judges_alike (Ok a) before x y P Q same move h = (sym (same.causes before) ∙ h.0, move h.1)
 judges_alike (Err fault) before x y P Q same move h =
@@ -107,7 +107,7 @@ line_told (Ok a) old new input bytes g bare none h = going_ended old new input b
 line_told (Err fault) old new input bytes g bare none h =
     (λ other rest. sym (file_line g.before g.line bytes rest input g.file g.bare bare) ∙ h.0 other (file_from (g.before ++ strip_carriage_return (g.line ++ bytes) ∷ []) (lines rest)), h.1)
 
--- of the line that is kept, with the bytes before its LF
+-- for the line that is kept, with the bytes before its LF
 pub line_ends : {A : Type 0} (r : Result A HexFileFault) (old new : Stream) (input bytes : List ℕ) → (g : Going old input) → Bare bytes → new.kept.items ≡ []
     → Judges r g.before (strip_carriage_return (old.kept.items ++ bytes)) (Behind new.numbered (g.before ++ strip_carriage_return (old.kept.items ++ bytes) ∷ []))
     → Advances r (input ++ bytes ++ 10 ∷ []) (Going new (input ++ bytes ++ 10 ∷ []))
@@ -118,7 +118,7 @@ line_ends r old new input bytes g bare none h =
     line_told r old new input bytes g bare none
     (judges_alike r g.before kept text (Behind new.numbered (g.before ++ kept ∷ [])) (Behind new.numbered (g.before ++ text ∷ [])) same (behind_alike new.numbered g.before kept text same.records) h)
 
--- the same of what was handed on
+-- the same for the bytes that were passed on
 pub line_told_of : {A : Type 0} (r : Result A HexFileFault) (old new : Stream) (input bytes shown : List ℕ) → (g : Going old input) → Bare bytes → new.kept.items ≡ [] → shown ≡ old.kept.items ++ bytes
     → Judges r g.before (strip_carriage_return shown) (Behind new.numbered (g.before ++ strip_carriage_return shown ∷ []))
     → Advances r (input ++ bytes ++ 10 ∷ []) (Going new (input ++ bytes ++ 10 ∷ []))
@@ -137,7 +137,7 @@ piece_more input piece from next low =
 pub piece_whole : (input piece : List ℕ) (next : ℕ) → length piece ≤ next → input ++ take next piece ≡ input ++ piece
 piece_whole input piece next high = ap (λ t. input ++ t) (take_all next piece high)
 
--- a line of the piece that LF ends, which may stand behind a CR
+-- a line of the piece that LF ends, which may come after a CR
 bare_of : (bytes : List ℕ) → All (λ b. b ≢ 10) bytes → Bare bytes
 bare_of bytes h k d within = ne_eqb (get_or bytes k d) 10 (h k d within)
 
@@ -225,7 +225,7 @@ file_last stream input g some =
 abbrev nil_line : (kept line : List ℕ) → Stays kept line → SaysAlike kept line
 nil_line kept line h = subst (λ x. SaysAlike x line) (append-nil kept) (subst (SaysAlike (kept ++ [])) (append-nil line) (h.last []))
 
--- what was told of it
+-- the result for it
 pub last_faulty : (stream : Stream) (input shown : List ℕ) (fault : HexFileFault) → (g : Going stream input) → shown ≡ stream.kept.items → 0 < length stream.kept.items
     → ((later : Result (List ℕ) HexFileFault) → unless (cause_of g.before shown) g.before later ≡ Err fault) → hex_file input ≡ Err fault
 last_faulty stream input shown fault g is some h =

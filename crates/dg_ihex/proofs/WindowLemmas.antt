@@ -14,7 +14,7 @@ none_unless : (o : Option ℕ) → ((y : ℕ) → o ≡ Some y → ⊥) → o �
 none_unless None h = refl
 none_unless (Some y) h = absurd (h y refl)
 
--- No byte stands outside the bounds.
+-- No byte is outside the bounds.
 pub none_below : (blocks : List Block) (a : ℕ) → a < lowest_of blocks → None ≡ byte_at blocks a
 none_below blocks a low = sym (none_unless (byte_at blocks a) (λ y h. let w = byte_at-within blocks a y h in omega (arith, w.0)))
 
@@ -44,7 +44,7 @@ pub told_by_cell : (blocks : List Block) (a shift cell : ℕ) (cells : List (Opt
     → Keeps shift cells (byte_at blocks) → span_of blocks ≤ longest_image → lowest_of blocks ≤ a → a < past_of blocks → get_or cells cell None ≡ byte_at blocks a
 told_by_cell blocks a shift cell cells is k close low high = ap (λ n. get_or cells n None) (same_cell a shift cell is) ∙ cell_is blocks a shift cells k close low high
 
--- ---- a block more
+-- ---- one more block
 
 or_left : (a b : Bool) → (a || b) ≡ false → (a ≡ false) × (b ≡ false)
 or_left true b h = cc

@@ -28,17 +28,17 @@ is_given blocks address = is_some (byte_at blocks address)
 abbrev pub overlaps : List Block → Block → Bool
 overlaps before block = list_any (is_given before) (range_with_len block.address (length block.bytes))
 
--- the lowest address, 2 ^ 32 where there is none
+-- the lowest address, 2 ^ 32 if there is none
 unfoldable pub lowest_of : List Block → ℕ
 lowest_of [] = 2 ^ 32
 lowest_of (block ∷ blocks) = min block.address (lowest_of blocks)
 
--- the address after the highest, 0 where there is none
+-- the address after the highest, 0 if there is none
 unfoldable pub past_of : List Block → ℕ
 past_of [] = 0
 past_of (block ∷ blocks) = max (block.address + length block.bytes) (past_of blocks)
 
--- the highest address less the lowest, and 1
+-- the highest address minus the lowest, plus 1
 abbrev pub span_of : List Block → ℕ
 span_of blocks = past_of blocks - lowest_of blocks
 

@@ -17,6 +17,6 @@ cause_text Span = codes "span"
 cause_text End = codes "end"
 cause_text Memory = codes "memory"
 
--- want of memory, at line 0
+-- out of memory, at line 0
 abbrev pub out_of_memory : HexFileFault
 out_of_memory = record { line = 0; cause = Memory }

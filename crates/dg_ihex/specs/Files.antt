@@ -15,7 +15,7 @@ use Rattle.dg_ihex.specs.Blocks.{Block, overlaps, span_of, image_of}
 
 -- ---- what records say together
 
--- the base after a record, where another stood before it
+-- the base after a record, by the base before it
 abbrev pub base_behind : ℕ → Record → ℕ
 base_behind base (records.Data offset bytes) = base
 base_behind base records.End = base
@@ -40,7 +40,7 @@ abbrev pub blocks_over : ℕ → List Record → List Block
 blocks_over base [] = []
 blocks_over base (first ∷ others) = block_of base first ++ blocks_over (base_behind base first) others
 
--- the blocks of records, each over the base that stands after those before it
+-- the blocks of records, each over the base after the records before it
 unfoldable pub blocks_of : List Record → List Block
 blocks_of all = blocks_over 0 all
 
@@ -56,12 +56,12 @@ has_end all = list_any is_end all
 
 -- ---- faults
 
--- the first cause of which the test holds
+-- the first cause whose test holds
 abbrev pub first_cause : Bool → Bool → Bool → Option HexCause
 first_cause overlap span end = if overlap then Some Overlap else if span then Some Span else if end then Some End else None
 
--- What is wrong with blocks after those that are given: an address was given before; the highest address less the lowest,
--- and 1, is more than an image has bytes; or the end came before.
+-- What is wrong with blocks after those that are given. An address was given before; or the highest address minus the
+-- lowest, plus 1, is more than the longest image has bytes; or the end came before.
 abbrev pub cause_of_blocks : List Block → List Block → Bool → Option HexCause
 cause_of_blocks given own end = first_cause (list_any (overlaps given) own) (nat_lt longest_image (span_of (given ++ own))) end
 
@@ -103,11 +103,11 @@ abbrev pub unless : Option HexCause → List (List ℕ) → Result (List ℕ) He
 unless (Some cause) before rest = fault_behind before cause
 unless None before rest = rest
 
--- what a file gives whose lines are `before`, in which nothing is wrong, and then these
+-- what a file gives with the lines `before`, in which nothing is wrong, and then these
 unfoldable pub file_from : List (List ℕ) → List (List ℕ) → Result (List ℕ) HexFileFault
 file_from before [] = ended before
 file_from before (text ∷ texts) = unless (cause_of before text) before (file_from (before ++ text ∷ []) texts)
 
--- the image of a HEX file, or the first line in which something is wrong, counted from 1, and what
+-- the image of a HEX file, or the first line with a fault, counted from 1, and its cause
 unfoldable pub hex_file : List ℕ → Result (List ℕ) HexFileFault
 hex_file bytes = file_from [] (lines bytes)

@@ -13,7 +13,7 @@ fault_behind_lines texts n =
     else if has_end (records_of texts) then None
     else Some End
 
--- a fault is there, in a line or after the last one, and none is before it
+-- a fault is there, in a line or after the last one, and no fault is before it
 pub record IsFirstFault (texts : List (List ℕ)) (fault : HexFileFault) : Type 0 where
   pub behind : ℕ
   pub line : fault.line ≡ behind + 1

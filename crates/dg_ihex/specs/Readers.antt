@@ -8,19 +8,19 @@ use Rattle.dg_ihex.specs.declared.record.Record.{Record}
 use Rattle.dg_ihex.specs.Files.{base_of, blocks_of, cause_of, has_end, records_of, unless}
 use Rattle.dg_ihex.specs.Windows.{Holds}
 
--- a reader stands after records
+-- the state of a reader after records
 pub record Stands (reader : Reader) (before : List Record) : Type 0 where
   pub base : reader.base ≡ base_of before
   pub has_ended : reader.has_ended ≡ has_end before
   pub window : Holds reader.window (blocks_of before)
 
--- a reader stands after lines
+-- the state of a reader after lines
 pub record Behind (numbered : Numbered) (before : List (List ℕ)) : Type 0 where
   pub number : numbered.line ≡ length before + 1
   pub stands : Stands numbered.reader (records_of before)
 
--- what was told of a line after others: nothing is wrong, and a fact holds after it;
--- or this is what a file gives that goes on with it
+-- the result for a line after others: nothing is wrong, and a fact holds after it; or this is what
+-- a file gives that continues with it
 abbrev pub Judges : {A : Type 0} → Result A HexFileFault → List (List ℕ) → List ℕ → (After : Type 0) → Type 0
 Judges (Ok x) before text After = (cause_of before text ≡ None) × After
 Judges (Err fault) before text After =

@@ -1,15 +1,15 @@
--- What a reader tells (Intel Hexadecimal Object File Format Specification, revision A).
+-- What a reader reports (Intel Hexadecimal Object File Format Specification, revision A).
 use Rattle.std.specs.Prelude.{◌≡◌, ◌≢◌, ℕ, List, Option, Some, None, Result, Ok, Err}
 use Rattle.dg_ihex.specs.declared.faults.HexCause.{HexCause}
 use Rattle.dg_ihex.specs.declared.faults.HexFileFault.{HexFileFault}
 use Rattle.dg_ihex.specs.declared.faults.HexCause.TheVariants.{Hex, Memory}
 
--- a refusal is the one that is defined; nothing is claimed where memory ran out
+-- a refusal is the one that is defined; nothing is claimed if memory ran out
 abbrev pub Refuses : {A : Type 0} → HexCause → Result A HexCause → Type 0
 Refuses Memory defined = Unit {0}
 Refuses cause defined = defined ≡ Err cause
 
--- what a reader answered is what is defined
+-- what a reader returned is what is defined
 abbrev pub Reads : {A : Type 0} → Result A HexCause → Result A HexCause → Type 0
 Reads (Ok found) defined = defined ≡ Ok found
 Reads (Err cause) defined = Refuses cause defined
@@ -25,12 +25,12 @@ abbrev pub RefusesLine : HexCause → Option HexCause → Type 0
 RefusesLine Memory defined = Unit {0}
 RefusesLine cause defined = defined ≡ Some cause
 
--- what a step answered: nothing is wrong, and a fact holds after it; or what is wrong
+-- what a step returned: nothing is wrong, and a fact holds after it; or what is wrong
 abbrev pub ReaderSteps : {A : Type 0} → Result A HexCause → Option HexCause → Type 0 → Type 0
 ReaderSteps (Ok done) defined After = (defined ≡ None) × After
 ReaderSteps (Err cause) defined After = RefusesLine cause defined
 
--- what the reader of a file answered is what the file gives; nothing is claimed where memory ran out
+-- what the reader of a file returned is what the file gives; nothing is claimed if memory ran out
 abbrev pub ReadsFile : {A : Type 0} → (A → List ℕ) → Result A HexFileFault → Result (List ℕ) HexFileFault → Type 0
 ReadsFile view (Ok image) defined = defined ≡ Ok (view image)
 ReadsFile view (Err fault) defined = fault.cause ≢ Memory → defined ≡ Err fault

@@ -1,4 +1,4 @@
--- Records, and the lines that spell them (Intel Hexadecimal Object File Format Specification, revision A).
+-- Records, and the lines that encode them (Intel Hexadecimal Object File Format Specification, revision A).
 use Rattle.std.specs.Prelude.{ℕ, ◌+◌, ◌-◌, ◌*◌, ◌%◌, ◌==◌, nat_lt, if◌then◌else◌, List, [], ◌∷◌, length, sum, slice_index}
 use Rattle.std.specs.Prelude.{slice_range, Option, Some, None, Result, Ok, Err}
 use Rattle.dg_base.specs.Hexadecimal.{hex_bytes}
@@ -22,7 +22,7 @@ marker count kind bytes = if length bytes == count then Ok kind else Err Shape
 abbrev pub word_of : List ℕ → ℕ
 word_of bytes = slice_index bytes 0 * 256 + slice_index bytes 1
 
--- types 02 and 04, whose two bytes tell a base
+-- types 02 and 04, whose two bytes give a base
 unfoldable pub segment_record : List ℕ → Result Record HexCause
 segment_record bytes = if length bytes == 2 then Ok (records.Segment (word_of bytes)) else Err Shape
 
@@ -56,7 +56,7 @@ abbrev pub record_of_digits : Option (List ℕ) → Result Record HexCause
 record_of_digits None = Err Hex
 record_of_digits (Some bytes) = record_of_bytes bytes
 
--- the record that a line spells, which is not blank: `:` and hex digits of either case
+-- the record that a line encodes, which is not blank: `:` and hex digits of either case
 unfoldable pub record_of : List ℕ → Result Record HexCause
 record_of [] = Err Start
 record_of (c ∷ digits) = if c == 58 then record_of_digits (hex_bytes digits) else Err Start

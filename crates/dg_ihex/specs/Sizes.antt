@@ -11,14 +11,14 @@ longest_image = most_content
 abbrev pub most_text : ℕ
 most_text = most_input
 
--- the bytes that a unit of a base of type 02 counts, and those that a unit of a base of type 04 does
+-- the bytes in a unit of a base of type 02, and in a unit of a base of type 04
 abbrev pub paragraph : ℕ
 paragraph = 16
 
 abbrev pub segment : ℕ
 segment = 65536
 
--- the bytes of a record beside its data: the count, the offset, the type and the checksum
+-- the bytes of a record besides its data: the count, the offset, the type and the checksum
 abbrev pub record_fields : ℕ
 record_fields = 5
 

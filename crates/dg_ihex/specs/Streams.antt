@@ -1,4 +1,4 @@
--- Files that come by pieces (Intel Hexadecimal Object File Format Specification, revision A).
+-- Files that come in pieces (Intel Hexadecimal Object File Format Specification, revision A).
 use Rattle.std.specs.Prelude.{◌≡◌, ◌≢◌, ℕ, ◌≤◌, ◌<◌, ◌==◌, false, List, ◌++◌, length, All, Option, Some, None, Result, Ok, Err}
 use Rattle.std.specs.Str.Lines.{lines, strip_carriage_return}
 use Rattle.dg_ihex.specs.declared.faults.HexFileFault.{HexFileFault}
@@ -11,7 +11,7 @@ use Rattle.dg_ihex.specs.Readers.{Behind}
 
 -- ---- the open line
 
--- lines that give the same record, whatever comes after these fronts of them
+-- lines that give the same record, whatever comes after these prefixes of them
 pub record ReadsAlike (short front : List ℕ) : Type 0 where
   pub some : 0 < length short
   pub alike : (more : List ℕ) → record_of (short ++ more) ≡ record_of (front ++ more)
@@ -21,7 +21,7 @@ pub record SaysAlike (x y : List ℕ) : Type 0 where
   pub causes : (before : List (List ℕ)) → cause_of before x ≡ cause_of before y
   pub records : record_in x ≡ record_in y
 
--- What is kept of an open line says the same, whatever comes after, also less a CR at its end.
+-- What is kept of an open line says the same, whatever comes after, also without a CR at its end.
 pub record Stays (kept line : List ℕ) : Type 0 where
   pub some : 0 < length line → 0 < length kept
   pub only : 0 < length kept → 0 < length line
@@ -41,20 +41,20 @@ pub record Going (stream : Stream) (input : List ℕ) : Type 0 where
   pub behind : Behind stream.numbered before
   pub stays : Stays stream.kept.items line
 
--- the fault of each file that begins so
+-- the fault of each file that begins with this input
 abbrev pub HasFault : HexFileFault → List ℕ → Type 0
 HasFault fault input = (rest : List ℕ) → hex_file (input ++ rest) ≡ Err fault
 
--- nothing is claimed where memory ran out
+-- nothing is claimed if memory ran out, which is reported at line 0
 abbrev pub TellsFault : HexFileFault → List ℕ → Type 0
 TellsFault fault input = (fault.cause ≢ Memory → HasFault fault input) × (fault.cause ≡ Memory → fault.line ≡ 0)
 
--- what was told of an input: a fact, or its fault
+-- the result for an input: a fact, or its fault
 abbrev pub Advances : {A : Type 0} → Result A HexFileFault → List ℕ → (After : Type 0) → Type 0
 Advances (Ok x) input After = After
 Advances (Err fault) input After = TellsFault fault input
 
--- the same of a piece after an input, up to an offset in it
+-- the same for a piece after an input, up to an offset in it
 abbrev pub AdvancesTo : Result ℕ HexFileFault → (input piece : List ℕ) → (ℕ → Type 0) → Type 0
 AdvancesTo (Ok next) input piece After = After next
 AdvancesTo (Err fault) input piece After = TellsFault fault (input ++ piece)

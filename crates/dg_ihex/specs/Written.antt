@@ -17,7 +17,7 @@ with_checksum bytes = bytes ++ checksum_of bytes ∷ []
 abbrev pub upper_hex : List ℕ → List ℕ
 upper_hex bytes = map to_ascii_uppercase (hex_text bytes)
 
--- a record of a type, with its offset and its data, but for its checksum
+-- a record of a type, with its offset and its data, without its checksum
 abbrev pub fields_of : ℕ → ℕ → List ℕ → List ℕ
 fields_of kind offset bytes = length bytes ∷ offset / 256 ∷ offset % 256 ∷ kind ∷ bytes
 
@@ -42,7 +42,7 @@ pieces_of n = (n + (piece_bytes - 1)) / piece_bytes
 abbrev pub piece_at : List ℕ → ℕ → List ℕ
 piece_at bytes k = take piece_bytes (drop (k * piece_bytes) bytes)
 
--- Before each byte whose address is a positive multiple of 65,536 stands the line of a new base.
+-- The line of a new base comes before each byte whose address is a positive multiple of 65,536.
 abbrev pub base_lines : ℕ → List (List ℕ)
 base_lines k = if k * piece_bytes % segment == 0 && nat_lt 0 k then base_line (k * piece_bytes / segment) ∷ [] else []
 

@@ -5,13 +5,13 @@ use std::alloc::AllocError;
 use std::error::Error;
 use std::fmt;
 
-/// What is wrong with a line, or with the end of a file. Of several causes in one line the first
-/// named here counts.
+/// What is wrong with a line, or with the end of a file. Of several causes in one line, the first
+/// that is named here counts.
 #[derive(Clone, Copy, PartialEq, Eq, Debug)]
 pub enum HexCause {
     /// The line does not begin with `:`.
     Start,
-    /// A byte after the `:` is no hex digit, or their number is odd.
+    /// A byte after the `:` is not a hex digit, or their number is odd.
     Hex,
     /// The record has fewer than 5 bytes, or not 5 more than its first byte says.
     Count,
@@ -19,13 +19,13 @@ pub enum HexCause {
     Check,
     /// Its type is above 05.
     Kind,
-    /// It has not as many data bytes as its type wants, or passes the last address of its segment.
+    /// It does not have as many data bytes as its type requires, or passes the last address of its segment.
     Shape,
     /// It gives a byte at an address that an earlier record gave.
     Overlap,
     /// With it, the lowest and the highest address are too far apart for an image.
     Span,
-    /// It comes after the end record, or the file has none.
+    /// It comes after the end record, or the file has no end record.
     End,
     /// Memory ran out.
     Memory,
@@ -69,8 +69,8 @@ impl From<AllocError> for HexCause {
 /// Where a HEX file is refused, and why.
 #[derive(Clone, Copy, PartialEq, Eq, Debug)]
 pub struct HexFileFault {
-    /// The number of the line, counted from 1. A missing end is told at the line after the last, and
-    /// running out of memory at line 0.
+    /// The number of the line, counted from 1. A missing end record is reported at the line after
+    /// the last, and running out of memory at line 0.
     pub line: u32,
     pub cause: HexCause,
 }

@@ -1,4 +1,4 @@
-//! What holds of HEX files by their definition alone.
+//! Laws of HEX files, by their definition alone.
 ghost use Rattle.std.specs.Prelude.{◌≡◌, ℕ, ◌-◌, ◌<◌, ◌≤◌, List, length, All, slice_get, Some, None, Ok, Err};
 ghost use Rattle.std.specs.Str.Lines.{lines};
 ghost use Rattle.dg_ihex.specs.Blocks.{Block, byte_at, image_of, lowest_of, past_of};
@@ -15,9 +15,9 @@ use crate::stream::LONGEST_RECORD;
 use crate::window::{GAP_BYTE, LONGEST_IMAGE, NO_ADDRESS};
 use crate::writer::PIECE;
 
-/// The numbers are those of the format and of this profile: images of at most 1,048,576 bytes and texts of at most
-/// 16,777,216, bases in units of 16 and of 65,536 bytes, five bytes of a record beside its data, at most 521 bytes
-/// of its line, 16 data bytes of a record that is written, and the byte ff at addresses that no record gives.
+/// The numbers are those of the format and of this profile. Images have at most 1,048,576 bytes, and texts at most
+/// 16,777,216. Bases are in units of 16 and of 65,536 bytes. A record has five bytes besides its data, its line at most
+/// 521 bytes, and one that is written at most 16 data bytes. The byte at an address that no record gives is ff.
 pub fn the_numbers_are_these()
     ensures image { LONGEST_IMAGE ≡ longest_image }
     ensures text { MOST_TEXT ≡ most_text }
@@ -31,7 +31,7 @@ pub fn the_numbers_are_these()
     ensures base { HIGHEST_BASE ≡ highest_base }
 {}
 
-/// A file that is written is read again, and gives the image that was written.
+/// A file that is written is read back, and gives the image that was written.
 pub fn a_written_file_is_read_again()
     ensures { (image : List ℕ) → 1 ≤ length image → length image ≤ longest_image → All (λ b. b < 256) image
         → hex_file (written_file image) ≡ Ok image }
@@ -45,8 +45,8 @@ pub fn a_refused_file_has_its_first_fault()
     ensures image { (bytes image : List ℕ) → hex_file bytes ≡ Ok image → image ≡ image_of (blocks_of (records_of (lines bytes))) }
 {}
 
-/// In an image the lowest address is byte 0. Each byte that is given stands at its address, a byte that is
-/// not given is 0xFF, and the highest address is the last byte.
+/// In an image the lowest address is byte 0. Each byte that is given is at its address, a byte that is not
+/// given is 0xFF, and the highest address is the last byte.
 pub fn an_image_holds_what_is_given()
     ensures given { (blocks : List Block) (address byte : ℕ) → byte_at blocks address ≡ Some byte
         → slice_get (image_of blocks) (address - lowest_of blocks) ≡ Some byte }

@@ -174,7 +174,7 @@ impl Numbered {
         Ok(())
     }
 
-    /// The next line as it is before its LF.
+    /// The next line, as it was before its LF.
     pub fn take_ended(&mut self, alloc: Global, line: &[u8]) -> Result<(), HexFileFault>
         ensures { (before : List (List ℕ)) → Behind self.old before → length before ≤ most_text
             → Judges result before (strip_carriage_return line.now)
@@ -196,7 +196,7 @@ impl Numbered {
     }
 }
 
-// The end of the text of a line, less one CR at its end.
+// The end of the text of a line, without one CR at its end.
 fn text_end(line: &[u8]) -> usize
     ensures within { result ≤ length line.now }
     ensures text { take result line.now ≡ strip_carriage_return line.now }
@@ -212,7 +212,7 @@ fn text_end(line: &[u8]) -> usize
     }
 }
 
-// A fault in a line. Want of memory is told at line 0.
+// A fault in a line. Running out of memory is reported at line 0.
 fn fault_at(line: u32, cause: HexCause) -> HexFileFault
     ensures memory { cause ≡ HexCause.Memory → result ≡ out_of_memory }
     ensures fault { cause ≢ HexCause.Memory → result ≡ record { line = line; cause = cause } }

@@ -1,4 +1,4 @@
-//! Records, and the lines that spell them.
+//! Records, and the lines that encode them.
 ghost use Rattle.std.specs.Prelude.{◌≡◌, ◌+◌, ◌*◌, ◌%◌, ◌<◌, ◌≤◌, ◌==◌, length, slice_range, sum, Some, IfOk, IfErr};
 ghost use Rattle.dg_ihex.specs.Records.{data_record, linear_record, marker, record_of, record_of_bytes, segment_record};
 ghost use Rattle.dg_ihex.specs.Records.{typed_record};
@@ -12,13 +12,13 @@ use std::alloc::Global;
 /// The addresses of a segment.
 pub const SEGMENT: usize = 65_536;
 
-/// The bytes of a record beside its data: the count, two of the address, the type and the checksum.
+/// The bytes of a record besides its data: the count, two of the address, the type and the checksum.
 pub(crate) const FIELDS: usize = 5;
 
 /// What a record of a HEX file says.
 #[derive(Debug, Drop)]
 pub enum Record {
-    /// Type 00: these bytes stand from an offset over the base on.
+    /// Type 00: these bytes, from an offset above the base on.
     Data { offset: u16, bytes: Bytes },
     /// Type 01: the file ends.
     End,
@@ -30,7 +30,7 @@ pub enum Record {
     Start,
 }
 
-/// The record that a line spells, which is not blank.
+/// The record that a line encodes. The line is not blank.
 #[tactic(auto, unfolding(crate::specs::Records::record_of))]
 pub fn read_record(alloc: Global, text: &[u8]) -> Result<Record, HexCause>
     ensures { Reads result (record_of text.now) }
@@ -42,7 +42,7 @@ pub fn read_record(alloc: Global, text: &[u8]) -> Result<Record, HexCause>
     checked_record(alloc, &bytes)
 }
 
-// The bytes that pairs of hex digits write.
+// The bytes that pairs of hex digits encode.
 fn bytes_of_digits(alloc: Global, digits: &[u8]) -> Result<Vec<u8>, HexCause>
     ensures read { IfOk result (λ bytes. hex_bytes digits.now ≡ Some bytes.items) }
     ensures refused { IfErr result (λ cause. RefusesDigits cause (hex_bytes digits.now)) }
@@ -111,7 +111,7 @@ fn data_record(alloc: Global, offset: u16, bytes: &[u8]) -> Result<Record, HexCa
     Ok(Record::Data { offset, bytes })
 }
 
-// A record whose data is not looked at, but for its length.
+// A record of whose data only the length is checked.
 #[tactic(auto, unfolding(crate::specs::Records::marker))]
 fn marker(bytes: &[u8], count: usize, says: Record) -> Result<Record, HexCause>
     ensures { Reads result (marker count says bytes.now) }

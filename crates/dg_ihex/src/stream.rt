@@ -1,4 +1,4 @@
-//! Reads HEX files that come by pieces.
+//! Reads HEX files that come in pieces.
 ghost use Rattle.std.specs.Prelude.{◌≡◌, ◌≢◌, ℕ, ◌+◌, ◌≤◌, ◌<◌, ◌%◌, ◌==◌, ◌↔◌, List, [], ◌∷◌, ◌++◌, length, take, All, IfOk};
 ghost use Rattle.std.specs.Prelude.{IfErr, OnOk, false};
 ghost use Rattle.std.specs.List.{list_all};
@@ -17,15 +17,15 @@ use std::mem;
 /// The bytes of the longest line of a record: `:`, and two digits for each of 260 bytes.
 pub(crate) const LONGEST_RECORD: usize = 521;
 
-// The open line is shortened once it has that many bytes.
+// The open line is shortened once it has this many bytes.
 const LONG_LINE: usize = 1024;
 
 /// The lines of a file so far, and the line that has not ended.
 #[derive(Debug, Drop)]
 pub struct Stream {
     numbered: Numbered,
-    // What is kept of the open line. Of one that is too long for a record a shorter one is kept that is refused for the same
-    // cause, whatever comes after.
+    // What is kept of the open line. In place of a line that is too long for a record, a shorter one is kept that is refused
+    // for the same cause, whatever comes after.
     kept: Vec<u8>,
 }
 
@@ -42,7 +42,7 @@ impl Stream {
         }
     }
 
-    // The next bytes, after which stands an LF.
+    // Takes the next bytes, which an LF follows.
     fn end_line(&mut self, alloc: Global, bytes: &[u8]) -> Result<(), HexFileFault>
         ensures { (input : List ℕ) → Going self.old input → length input ≤ most_text → All (λ b. (b == 10) ≡ false) bytes.now
             → Advances result (input ++ bytes.now ++ 10 ∷ []) (Going self.new (input ++ bytes.now ++ 10 ∷ [])) }
@@ -55,7 +55,7 @@ impl Stream {
         self.numbered.take_ended(alloc, &line)
     }
 
-    // The bytes of a piece from an offset on, up to the end of their first line, and answers where that is.
+    // Takes the bytes of a piece from an offset to the end of their first line, and returns where that is.
     fn take_from(&mut self, alloc: Global, piece: &[u8], from: usize) -> Result<usize, HexFileFault>
         requires { from < length piece.now }
         ensures on { IfOk result (λ next. (from < next) × (next ≤ length piece.now)) }
@@ -72,7 +72,7 @@ impl Stream {
         Ok(next)
     }
 
-    // The next bytes.
+    // Takes the next bytes.
     fn take_piece(&mut self, alloc: Global, piece: &[u8]) -> Result<(), HexFileFault>
         ensures { (input : List ℕ) → Going self.old input → length input + length piece.now ≤ most_text + 1
             → Advances result (input ++ piece.now) (Going self.new (input ++ piece.now)) }
@@ -84,7 +84,7 @@ impl Stream {
         Ok(())
     }
 
-    // Keeps no more of the open line than tells what is wrong with it.
+    // Keeps no more of the open line than shows what is wrong with it.
     fn shorten(&mut self, alloc: Global) -> Result<(), AllocError>
         ensures { (input : List ℕ) → Going self.old input → OnOk result (Going self.new input) }
     {
@@ -110,19 +110,19 @@ impl Stream {
     }
 }
 
-// A shorter line than one that is too long for a record.
+// A shorter line, in place of one that is too long for a record.
 fn shortened(alloc: Global, line: &[u8]) -> Result<Vec<u8>, AllocError>
     requires { longest_record + 3 < length line.now }
     ensures { IfOk result (λ short. Stays short.items line.now) }
 {
-    // `:` and pairs of digits. What follows may come to end in a CR that is not of the text.
+    // `:` and pairs of digits. What follows may end in a CR that is not part of the text.
     let front = (line.len() - 2) / 2 * 2 + 1;
     let mut short = short_front(alloc, &line[..front])?;
     short.extend_from_slice(&line[front..])?;
     Ok(short)
 }
 
-// A shorter prefix of a line that is too long for a record.
+// A shorter text, in place of this prefix of a line that is too long for a record.
 fn short_front(alloc: Global, front: &[u8]) -> Result<Vec<u8>, AllocError>
     requires long { longest_record + 1 < length front.now }
     requires pairs { length front.now % 2 ≡ 1 }
@@ -153,9 +153,9 @@ fn bytes_of(alloc: Global, bytes: &[u8]) -> Result<Vec<u8>, AllocError>
     bytes.to_vec(alloc)
 }
 
-/// Reads a HEX file that comes by pieces. It keeps the line that has not ended, and what the records so far gave.
+/// Reads a HEX file that comes in pieces. It keeps the line that has not ended, and what the records so far gave.
 ///
-/// What is said of it holds for files of at most 16,777,217 bytes.
+/// Its contracts hold for files of at most 16,777,217 bytes.
 #[derive(Debug, Drop)]
 pub struct HexReader {
     stream: Stream,
@@ -210,7 +210,7 @@ impl HexReader {
         Ok(())
     }
 
-    /// The image of the file, whose bytes have all come.
+    /// The image of the file. All of its bytes have come.
     pub fn finish(&mut self, alloc: Global) -> Result<Vec<u8>, HexFileFault>
         ensures read { (input : List ℕ) → Fed self.old input → length input ≤ most_text
             → ReadsFile (λ image. image.items) result (hex_file input) }
@@ -226,10 +226,10 @@ impl HexReader {
 
 /// The image of a HEX file.
 ///
-/// A line ends at LF, or at CR and LF, and a blank line says nothing. The image begins at the lowest
+/// A line ends at LF, or at CR and LF, and a blank line is ignored. The image begins at the lowest
 /// address that a record gives a byte, and ends at the highest; what lies between and is not given
-/// is 0xFF. Where something is wrong, the first line with something wrong is told, and what is first
-/// wrong there.
+/// is 0xFF. If something is wrong, the first line with a fault is reported, with the first fault
+/// there.
 pub fn read_ihex(alloc: Global, bytes: &[u8]) -> Result<Vec<u8>, HexFileFault>
     requires { length bytes.now ≤ most_text }
     ensures read { ReadsFile (λ image. image.items) result (hex_file bytes.now) }

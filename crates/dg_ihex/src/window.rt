@@ -17,9 +17,9 @@ pub(crate) const NO_ADDRESS: usize = 4_294_967_296;
 /// The byte at addresses that no record gives: what an erased chip has.
 pub(crate) const GAP_BYTE: u8 = 0xff;
 
-/// Bytes at addresses of which no two are further apart than an image is long. So these differ
-/// modulo the length of an image, and the byte at an address is kept there, counted from the address
-/// that was given first. There are as many cells as the addresses so far need.
+/// Bytes at addresses of which no two are further apart than the longest image. So the addresses
+/// differ modulo its length, and that number is the cell of a byte, counted from the address that
+/// was given first. There are as many cells as the addresses so far need.
 #[derive(Debug, Drop)]
 pub struct Window {
     cells: Vec<Option<u8>>,
@@ -89,7 +89,7 @@ impl Window {
         past.saturating_sub(self.lowest.min(address))
     }
 
-    /// Gives the bytes of a block.
+    /// Adds the bytes of a block.
     pub fn give(&mut self, address: usize, bytes: &[u8]) -> Result<(), AllocError>
         requires { address < addresses }
         ensures { (blocks : List Block) → Holds self.old blocks
@@ -103,7 +103,7 @@ impl Window {
         Ok(())
     }
 
-    // Has the first cell for an address, where no other has it.
+    // Gives the first cell to an address, if no other address has it.
     fn begin_at(&mut self, address: usize)
         ensures { (blocks : List Block) → Holds self.old blocks → Holds self.new blocks }
     {
@@ -112,7 +112,7 @@ impl Window {
         }
     }
 
-    // Has a cell for each of this many addresses.
+    // Makes a cell for each of this many addresses, if it is missing.
     fn reach(&mut self, address: usize, count: usize) -> Result<(), AllocError>
         requires { address < addresses }
         ensures holds { (blocks : List Block) → Holds self.old blocks → OnOk result (Holds self.new blocks) }
@@ -160,7 +160,7 @@ impl Window {
     }
 }
 
-// The byte in a cell, if it has one. A cell that is not there has none.
+// The byte in a cell, if it has one. A missing cell has no byte.
 fn cell_at(cells: &[Option<u8>], cell: usize) -> Option<u8>
     ensures { result ≡ slice_index_or cells.now cell None }
 {

@@ -20,9 +20,9 @@ const END: u8 = 1;
 
 const BASE: u8 = 4;
 
-/// The HEX file of an image from address 0: data records of 16 bytes, of which the last may be
-/// shorter, a record of type 04 before each byte whose address is a positive multiple of 65,536, and
-/// the end record. Its lines are in upper case, and each ends with LF.
+/// The HEX file of an image from address 0. It has data records of 16 bytes, of which the last may
+/// be shorter, and the end record. A record of type 04 comes before each byte whose address is a
+/// positive multiple of 65,536. Its lines are in upper case, and each ends with LF.
 pub fn write_ihex(alloc: Global, bytes: &[u8]) -> Result<Vec<u8>, AllocError>
     requires some { 1 ≤ length bytes.now }
     requires fits { length bytes.now ≤ longest_image }
@@ -48,7 +48,7 @@ fn push_piece(text: &mut Vec<u8>, bytes: &[u8], piece: usize) -> Result<(), Allo
     push_line(text, DATA, (address % SEGMENT) as u16, &bytes[address..end])
 }
 
-// Appends the base of the addresses from a piece on, where it is a new one.
+// Appends the base of the addresses from a piece on, if it is a new one.
 fn push_base(text: &mut Vec<u8>, piece: usize) -> Result<(), AllocError>
     requires { piece * piece_bytes < longest_image }
     ensures { OnOk result (text.new.items ≡ text.old.items ++ flat_map ended_by_feed (base_lines piece)) }

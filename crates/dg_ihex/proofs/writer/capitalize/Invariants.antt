@@ -1,4 +1,4 @@
--- the text so far is in upper case, and the rest is as it was
+-- the text so far is in upper case, and the rest is unchanged
 use Rattle.std.proofs.Common.{◌≡◌, take, drop, map}
 use Rattle.std.specs.Char.{to_ascii_uppercase}
 use Rattle.dg_ihex.proofs.writer.capitalize.Given as goal
