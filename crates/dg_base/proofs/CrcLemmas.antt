@@ -41,7 +41,7 @@ times_x-xor a b h k =
     ∙ ap (λ t. bit_xor (bit_xor (2 * a) (2 * b)) t) (ap (λ t. t * generator) (xor_shr a b 15) ∙ top)
     ∙ xor_swap (2 * a) (2 * b) (a / 2 ^ 15 * generator) (b / 2 ^ 15 * generator)
 
--- below x^15 nothing is taken off
+-- below x^15 nothing is subtracted
 times_x-low : (r : ℕ) → r < 2 ^ 15 → times_x r ≡ 2 * r
 unfolding times_x
 times_x-low r h =
@@ -96,7 +96,7 @@ shifted-low (suc n) r h =
     let least : 2 * r * 1 ≤ 2 * r * 2 ^ n = mul-le (2 * r) 1 (2 * r) (2 ^ n) (omega arith) some in
     ap (shifted n) (times_x-low r (omega arith)) ∙ shifted-low n (2 * r) fits ∙ sym twice
 
--- ---- one byte more
+-- ---- one more byte
 
 -- the table
 pub after_1 : (v : ℕ) → v < 256 → get_or AFTER v 0 ≡ shifted 8 (v * 2 ^ 8)
@@ -139,7 +139,7 @@ pub crc_more-cons : (r byte : ℕ) (bytes : List ℕ) → crc_more r (byte ∷ b
 unfolding crc_more
 crc_more-cons r byte bytes = refl
 
--- The checksum of two parts is that of the second with the first's before it.
+-- The checksum of two parts is that of the second, continued from that of the first.
 pub crc_more-append : (r : ℕ) (xs ys : List ℕ) → crc_more (crc_more r xs) ys ≡ crc_more r (xs ++ ys)
 unfolding crc_more
 crc_more-append r [] ys = refl
@@ -153,7 +153,7 @@ unfolding crc_more
 crc_more-lt r [] h k = h
 crc_more-lt r (b ∷ bytes) h k = crc_more-lt (with_byte r b) bytes (with_byte-lt r b h (All-head (λ b. b < 2 ^ 8) b bytes k)) (All-tail (λ b. b < 2 ^ 8) b bytes k)
 
--- one byte more, by the table
+-- one more byte, by the table
 pub with_byte-table : (r byte : ℕ) → r < 2 ^ 16 → byte < 2 ^ 8 → bit_xor (shifted 8 (bit_xor (r / 2 ^ 8) byte * 2 ^ 8)) (r * 2 ^ 8 % 2 ^ 16) ≡ with_byte r byte
 with_byte-table r byte h k =
     let high = r / 2 ^ 8 in
@@ -236,7 +236,7 @@ crc_of-remainder bytes h = remainder-more 0 0 bytes (omega arith) h ([], refl)
 
 -- ---- the loop
 
--- one byte more of a rest
+-- one more byte of a rest
 pub crc_more-drop : (r : ℕ) (bytes : List ℕ) (i : ℕ) → i < length bytes → crc_more r (drop i bytes) ≡ crc_more (with_byte r (get_or bytes i 0)) (drop (i + 1) bytes)
 crc_more-drop r bytes i h = ap (crc_more r) (drop_more bytes i 0 h) ∙ crc_more-cons r (get_or bytes i 0) (drop (i + 1) bytes)
 
@@ -285,7 +285,7 @@ crc_more-first b n bytes e h k =
     ∙ crc_more-parts (shifted 8 (b * 2 ^ 8)) bytes (shifted-lt 8 (b * 2 ^ 8) (omega arith)) k
     ∙ ap (λ t. bit_xor t (crc_more 0 bytes)) (ap (λ m. shifted m (shifted 8 (b * 2 ^ 8))) (sym e) ∙ shifted-shifted 8 n (b * 2 ^ 8))
 
--- the register stands over the first two bytes
+-- the register overlaps the first two bytes
 register : (m n r b c : ℕ) → m ≡ 8 + n → r < 2 ^ 16 → b < 2 ^ 8 → c < 2 ^ 8
     → bit_xor (shifted m r) (bit_xor (shifted m (b * 2 ^ 8)) (shifted n (c * 2 ^ 8)))
     ≡ bit_xor (shifted m (bit_xor (r / 2 ^ 8) b * 2 ^ 8)) (shifted n (bit_xor (r % 2 ^ 8) c * 2 ^ 8))

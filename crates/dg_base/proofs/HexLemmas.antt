@@ -40,14 +40,14 @@ hex_value-by_bits c v small h =
 pub hex_value-read : (c v : ℕ) → is_hex_digit c ≡ true → ((w : ℕ) → hex_value c ≡ Some w → v ≡ w) → hex_value c ≡ Some v
 hex_value-read c v is read = valued (hex_value c) v is read
 
--- a byte that is no digit is one of the bytes
+-- a byte that is not a digit is one of the bytes
 refused_at : (digits : List ℕ) (k : ℕ) → k < length digits → is_hex_digit (get_or digits k 0) ≡ false → Any (λ c. is_hex_digit c ≡ false) digits
 refused_at digits k within h = (k, get_or digits k 0, within, get_or_default digits k _ 0 within, h)
 
 pub hex_value-hex_digit : (v : ℕ) → v < 16 → hex_value (hex_digit v) ≡ Some v
 hex_value-hex_digit v h = known (hex_value (hex_digit v)) v (sym (eqb-true _ _ (agree_below_at (λ v. unwrap_or (hex_value (hex_digit v)) 255 == v) (λ _. true) 16 v refl h))) h
 
--- two digits more
+-- two more digits
 onto_more : (xs : List ℕ) (high low : ℕ) (o : Option (List ℕ)) → ahead_of xs (onto_bytes (Some high) (Some low) o) ≡ ahead_of (xs ++ (high * 16 + low) ∷ []) o
 onto_more xs high low (Some bytes) = ap Some (sym (append_assoc xs ((high * 16 + low) ∷ []) bytes))
 onto_more xs high low None = refl
@@ -65,7 +65,7 @@ pub hex_bytes-nil : hex_bytes [] ≡ Some []
 unfolding hex_bytes
 hex_bytes-nil = refl
 
--- the bytes so far, with those of one pair more
+-- the bytes so far, with those of one more pair
 read_more : (digits into : List ℕ) (at high low : ℕ) → 2 * at + 1 < length digits → at < length into
     → hex_value (get_or digits (2 * at) 0) ≡ Some high → hex_value (get_or digits (2 * at + 1) 0) ≡ Some low
     → ahead_of (take at into) (hex_bytes (drop (2 * at) digits)) ≡ hex_bytes digits
@@ -80,7 +80,7 @@ read_more digits into at high low more room first second h =
     ∙ sym (hex_bytes-more (take at into) rest _ _ high low first second)
     ∙ ap (λ t. ahead_of (take at into) (hex_bytes t)) (sym pair) ∙ h
 
--- The bytes so far, and those of the digits behind them, are those of all digits. Or a byte that is no digit was seen.
+-- The bytes so far, and those of the digits after them, are those of all digits; or a byte that is not a digit was seen.
 abbrev pub ReadTo : (digits into : List ℕ) → (at : ℕ) → (all : Bool) → Type 0
 ReadTo digits into at all =
     OnTrue all (ahead_of (take at into) (hex_bytes (drop (2 * at) digits)) ≡ hex_bytes digits) × OnFalse all (Any (λ c. is_hex_digit c ≡ false) digits)
@@ -127,7 +127,7 @@ pub hex_text-nil : hex_text [] ≡ []
 unfolding hex_text
 hex_text-nil = refl
 
--- the digits so far, with those of one byte more
+-- the digits so far, with those of one more byte
 pub write_more : (bytes into : List ℕ) (at : ℕ) → at < length bytes → length into ≡ 2 * length bytes → take (2 * at) into ≡ hex_text (take at bytes)
     → take (2 * (at + 1)) (set (set into (2 * at) (hex_digit (get_or bytes at 0 / 16))) (2 * at + 1) (hex_digit (get_or bytes at 0 % 16))) ≡ hex_text (take (at + 1) bytes)
 write_more bytes into at more even h =
@@ -146,7 +146,7 @@ onto_bytes-some : (o p : Option ℕ) (r : Option (List ℕ)) (high low : ℕ) (b
     → onto_bytes o p r ≡ Some ((high * 16 + low) ∷ bytes)
 onto_bytes-some o p r high low bytes a b c = rw (a, b, c) refl
 
--- What the digits of bytes write is those bytes.
+-- The digits of bytes encode those bytes.
 pub hex_bytes-hex_text : (bytes : List ℕ) → All (λ b. b < 256) bytes → hex_bytes (hex_text bytes) ≡ Some bytes
 unfolding hex_bytes hex_text
 hex_bytes-hex_text [] h = refl
@@ -157,7 +157,7 @@ hex_bytes-hex_text (b ∷ bytes) h =
     (hex_bytes-hex_text bytes (All-tail (λ b. b < 256) b bytes h))
     ∙ ap (λ v. Some (v ∷ bytes)) whole
 
--- the digits and the bytes behind them, where they write bytes
+-- two digits and the bytes of those after them, if they encode bytes
 record Pair (o p : Option ℕ) (r : Option (List ℕ)) (bytes : List ℕ) : Type 0 where
   high : ℕ
   low : ℕ
@@ -179,7 +179,7 @@ onto_bytes-none (Some high) (Some low) None h = inr (inr refl)
 onto_bytes-none (Some high) None r h = inr (inl refl)
 onto_bytes-none None p r h = inl refl
 
--- Where digits write bytes, there are two for each, and each is a digit.
+-- If digits encode bytes, there are two for each byte, and each is a digit.
 pub hex_bytes-some : (text bytes : List ℕ) → hex_bytes text ≡ Some bytes
     → (length text ≡ 2 * length bytes) × All (λ c. is_hex_digit c ≡ true) text × All (λ b. b < 256) bytes
 unfolding hex_bytes
@@ -200,7 +200,7 @@ hex_bytes-some (c ∷ d ∷ text) bytes h =
       All-cons (λ b. b < 256) (p.high * 16 + p.low) p.rest (omega (arith, high, low)) ih.2,
     )
 
--- Where they write none, they are odd in number, or one is no digit.
+-- If they encode no bytes, their number is odd, or one is not a digit.
 pub hex_bytes-none : (text : List ℕ) → hex_bytes text ≡ None → (length text % 2 ≡ 1) ⊎ Any (λ c. is_hex_digit c ≡ false) text
 unfolding hex_bytes
 hex_bytes-none [] h = cc

@@ -25,7 +25,7 @@ lines-last front h some =
     ap lines_of_parts (slice_split_none (λ b. b == 10) front h)
     ∙ ap (λ t. cond t [] (front ∷ [])) (ne_eqb (length front) 0 (λ z. omega arith))
 
--- where no byte up to n is an LF
+-- no byte before n is an LF
 pub none_below : (hay : List ℕ) (n : ℕ) → n ≤ length hay → Nowhere (Passes (is_byte 10) hay) 0 n → All (λ b. (b == 10) ≡ false) (take n hay)
 none_below hay n within h =
     All-from_get_or (λ b. (b == 10) ≡ false) (take n hay) 0
@@ -37,7 +37,7 @@ none_below hay n within h =
 pub lacks_feed : (bytes : List ℕ) → All (λ b. (b == 10) ≡ false) bytes → All (λ b. b ≢ 10) bytes
 lacks_feed bytes h k d within e = eqb-false _ _ (h k d within) e
 
--- the first line of a rest, where LF stands at n and nowhere before
+-- the first line of a rest whose first LF is at n
 pub lines-at : (rest : List ℕ) (n : ℕ) → n < length rest → get_or rest n 0 ≡ 10 → All (λ b. (b == 10) ≡ false) (take n rest)
     → lines rest ≡ strip_carriage_return (take n rest) ∷ lines (drop (n + 1) rest)
 lines-at rest n within feed h =
@@ -60,11 +60,11 @@ ended_at rest n end within feed low cut =
           inl (line ∙ ap (λ m. take m rest ++ 10 ∷ []) (sym same))
     ]
 
--- what a search for an LF found: none
+-- a search for an LF found nothing
 pub none_in : (hay : List ℕ) → Nowhere (Passes (is_byte 10) hay) 0 (length hay) → All (λ b. (b == 10) ≡ false) hay
 none_in hay h = subst (All (λ b. (b == 10) ≡ false)) (take_all (length hay) hay (omega arith)) (none_below hay (length hay) (omega arith) h)
 
--- or the first one
+-- a search found the first LF
 pub record FirstFeed (hay : List ℕ) (n : ℕ) : Type 0 where
   pub within : n < length hay
   pub feed : get_or hay n 0 ≡ 10

@@ -15,7 +15,7 @@ abbrev pub one_more : Option ℕ → ℕ → Option ℕ
 one_more None c = None
 one_more (Some n) c = with_digit n c
 
--- the number so far, with the digits behind it
+-- the number so far, with the digits after it
 abbrev pub read_on : List ℕ → Option ℕ → Option ℕ
 read_on [] o = o
 read_on (c ∷ cs) o = read_on cs (one_more o c)
@@ -24,7 +24,7 @@ pub read_on-none : (cs : List ℕ) → read_on cs None ≡ None
 read_on-none [] = refl
 read_on-none (c ∷ cs) = read_on-none cs
 
--- the value of digits behind n, where it is below 2 ^ 32
+-- the value of n and the digits after it, if it is below 2 ^ 32
 abbrev value_on : ℕ → List ℕ → Option ℕ
 value_on n cs = if all_ascii_digits cs && nat_lt (digits_value_after 10 n cs) (2 ^ 32) then Some (digits_value_after 10 n cs) else None
 
@@ -116,7 +116,7 @@ pub number_of-digits : (bytes : List ℕ) → (length bytes ≡ 0 → ⊥) → (
 number_of-digits [] some other = absurd (some refl)
 number_of-digits (c ∷ cs) some other = number_of-read_on c cs other
 
--- reading stops at a digit that does not go on
+-- reading stops at a byte that does not continue the number
 pub read_on-stops : (bytes : List ℕ) (i n : ℕ) → i < length bytes → with_digit n (get_or bytes i 0) ≡ None → read_on (drop i bytes) (Some n) ≡ None
 read_on-stops bytes i n more h =
     ap (λ cs. read_on cs (Some n)) (drop_more bytes i 0 more) ∙ ap (read_on (drop (i + 1) bytes)) h ∙ read_on-none (drop (i + 1) bytes)

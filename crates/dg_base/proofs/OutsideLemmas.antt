@@ -13,7 +13,7 @@ pub Takes-join : (a b c : Option (List ℕ)) (x y : List ℕ) → Takes a b x �
 Takes-join a b None x y p q = p ∙ ap (ahead_of x) q
 Takes-join a b (Some rest) x y p q = p ∙ ap (ahead_of x) q ∙ ap Some (sym (append_assoc x y rest))
 
--- What a take did to an input that tells its bytes, and to one that does not.
+-- What a take did to an input that exposes its bytes, and to one that does not.
 pub Takes-told : (all bytes : List ℕ) (after : Option (List ℕ)) → Takes (Some all) after bytes → (rest : List ℕ) × (all ≡ bytes ++ rest) × (after ≡ Some rest)
 Takes-told all bytes None p = cc
 Takes-told all bytes (Some rest) p = (rest, cc, refl)
@@ -37,7 +37,7 @@ pub Puts-join : (a b c : Option (List ℕ)) (x y : List ℕ) → Puts a b x → 
 Puts-join None b c x y p q = q ∙ ap (λ o. followed_by o y) p
 Puts-join (Some bytes) b c x y p q = q ∙ ap (λ o. followed_by o y) p ∙ ap Some (append_assoc bytes x y)
 
--- A put of all is a put of some front, and so is one of nothing.
+-- A put of all bytes, and one of no bytes, are both puts of a prefix.
 pub PutsPrefix-all : (a b : Option (List ℕ)) (x : List ℕ) → Puts a b x → PutsPrefix a b x
 PutsPrefix-all a b x p = (length x, omega arith, p ∙ ap (followed_by a) (sym (take_all (length x) x (omega arith))))
 

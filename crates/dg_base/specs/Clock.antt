@@ -1,4 +1,4 @@
--- What a clock tells of its answers (the trait `Clock` of this crate).
+-- What a clock exposes of its answers (the trait `Clock` of this crate).
 use Rattle.std.specs.Prelude.{◌≡◌, ℕ, zero, suc, ◌+◌, ◌-◌, ◌^◌, min, Option, Some, None}
 
 -- the next answer, and by how much each further one is greater
@@ -15,8 +15,8 @@ unfoldable pub behind_all : ℕ → Answers → Answers
 behind_all zero a = a
 behind_all (suc n) a = next_answers (behind_all n a)
 
--- Where the answers are told, this one was next, and those after it are told from then on. Where they are not, they
--- are not told then either.
+-- If the answers are exposed, this one was next, and those after it are exposed from then on. If they are not
+-- exposed, they stay so.
 abbrev pub Answered : Option Answers → Option Answers → ℕ → Type 0
 Answered None after answer = after ≡ None
 Answered (Some told) after answer = (answer ≡ told.next) × (after ≡ Some (next_answers told))

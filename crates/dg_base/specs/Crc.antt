@@ -6,7 +6,7 @@ use Rattle.std.specs.Prelude.{ℕ, zero, suc, ◌*◌, ◌/◌, ◌+◌, ◌^◌
 abbrev pub generator : ℕ
 generator = 0x11021
 
--- the product of a remainder and x, less the generator where it reaches x^16
+-- the product of a remainder and x, minus the generator if it reaches x^16
 unfoldable pub times_x : ℕ → ℕ
 times_x r = bit_xor (2 * r) (r / 2 ^ 15 * generator)
 
@@ -15,7 +15,7 @@ unfoldable pub shifted : ℕ → ℕ → ℕ
 shifted zero r = r
 shifted (suc n) r = shifted n (times_x r)
 
--- the checksum of what came before and one byte more: its eight bits are added at the top of the register
+-- the checksum of what came before and one more byte: its eight bits are added at the top of the register
 abbrev pub with_byte : ℕ → ℕ → ℕ
 with_byte r byte = shifted 8 (bit_xor r (byte * 2 ^ 8))
 

@@ -1,4 +1,4 @@
--- Bytes as hex digits, two a byte, the high four bits first (docs/SCRIPTS.md, "The script").
+-- Bytes as hex digits, two for each byte, the high four bits first (docs/SCRIPTS.md, "The script").
 use Rattle.std.specs.Prelude.{ℕ, ◌+◌, ◌-◌, ◌*◌, ◌/◌, ◌%◌, nat_lt, Bool, List, [], ◌∷◌, Option, Some, None, is_some, if◌then◌else◌}
 use Rattle.std.specs.Int.{is_in_range}
 
@@ -22,14 +22,14 @@ hex_value c =
 abbrev pub is_hex_digit : ℕ → Bool
 is_hex_digit c = is_some (hex_value c)
 
--- the byte of two digits, in front of the bytes of those after them
+-- the byte of two digits, followed by the bytes of the digits after them
 abbrev pub onto_bytes : Option ℕ → Option ℕ → Option (List ℕ) → Option (List ℕ)
 onto_bytes (Some high) (Some low) (Some bytes) = Some ((high * 16 + low) ∷ bytes)
 onto_bytes (Some high) (Some low) None = None
 onto_bytes (Some high) None rest = None
 onto_bytes None low rest = None
 
--- the bytes that digits write, where they are pairs of digits
+-- the bytes that digits encode, if they are pairs of digits
 unfoldable pub hex_bytes : List ℕ → Option (List ℕ)
 hex_bytes [] = Some []
 hex_bytes (digit ∷ []) = None

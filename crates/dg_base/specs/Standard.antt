@@ -18,6 +18,6 @@ faults_read source = source.faults
 abbrev pub faults_written : {W : Type 0} → StdSink W → ℕ
 faults_written sink = sink.faults
 
--- The writer took some front of the bytes.
+-- The writer took a prefix of the bytes.
 abbrev pub AppendsPrefix : Option (List ℕ) → Option (List ℕ) → List ℕ → Type 0
 AppendsPrefix before after bytes = (n : ℕ) × (n ≤ length bytes) × Appends before after (take n bytes)

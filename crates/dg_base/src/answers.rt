@@ -28,7 +28,7 @@ pub enum Status {
     TooLong,
     /// The script has more than 1,000,000 events.
     TooMany,
-    /// A flash chip that the command needs was not handed in.
+    /// A flash chip that the command needs was not supplied.
     NoBoard,
     /// A start found no image that it may run.
     NoImage,

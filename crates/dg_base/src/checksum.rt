@@ -13,7 +13,7 @@ pub fn crc16(bytes: &[u8]) -> u16
     crc16_more(0, bytes)
 }
 
-/// The checksum of bytes whose checksum is `before`, and `bytes` after them.
+/// The checksum of bytes with the checksum `before`, followed by `bytes`.
 #[inline(always)]
 pub fn crc16_more(before: u16, bytes: &[u8]) -> u16
     ensures { result ≡ crc_more before bytes.now }
@@ -27,7 +27,7 @@ pub fn crc16_more(before: u16, bytes: &[u8]) -> u16
     with_last(crc, bytes, at)
 }
 
-// The checksum with the bytes from `at` on: eight at once where there are eight, and then the others.
+// The checksum with the bytes from `at` on: eight at once while there are eight, and then the others.
 #[inline(always)]
 fn with_last(before: u16, bytes: &[u8], at: usize) -> u16
     requires { at ≤ length bytes.now }
@@ -40,7 +40,7 @@ fn with_last(before: u16, bytes: &[u8], at: usize) -> u16
     }
 }
 
-// The checksum with the bytes from `at` on: four at once where there are four, and the others one at a time.
+// The checksum with the bytes from `at` on: four at once while there are four, and the others one at a time.
 #[inline(always)]
 fn with_rest(before: u16, bytes: &[u8], at: usize) -> u16
     requires { at ≤ length bytes.now }
@@ -66,7 +66,7 @@ fn with_each(before: u16, bytes: &[u8], at: usize) -> u16
     crc
 }
 
-// The checksum with one byte more.
+// The checksum with one more byte.
 #[inline]
 fn with_byte(crc: u16, byte: u8) -> u16
     ensures { result ≡ with_byte crc byte }
@@ -84,7 +84,7 @@ fn with_sixteen(crc: u16, bytes: &[u8], at: usize) -> u16
     with_eight(with_eight(crc, bytes, at), bytes, at + 8)
 }
 
-// The checksum with the eight bytes at `at`: the register stands over the first two.
+// The checksum with the eight bytes at `at`: the register overlaps the first two.
 #[inline]
 fn with_eight(crc: u16, bytes: &[u8], at: usize) -> u16
     requires { at + 8 ≤ length bytes.now }
@@ -98,7 +98,7 @@ fn with_eight(crc: u16, bytes: &[u8], at: usize) -> u16
     (middle ^ last) ^ first
 }
 
-// The checksum with the four bytes at `at`: the register stands over the first two.
+// The checksum with the four bytes at `at`: the register overlaps the first two.
 #[inline]
 fn with_four(crc: u16, bytes: &[u8], at: usize) -> u16
     requires { at + 4 ≤ length bytes.now }
@@ -171,7 +171,7 @@ fn after_8(byte: u8) -> u16
 /// The checksum is the remainder of the message, times x^16, by the generator. Over GF(2) the sum
 /// of a polynomial and its remainder is the product of the quotient and the divisor.
 ///
-/// The checksum of two parts is that of the second with the first's before it.
+/// The checksum of two parts is that of the second, continued from that of the first.
 pub fn checksum_is_a_remainder()
     ensures remainder { (bytes : List ℕ) → All (λ b. b < 256) bytes → (quotient : List Bool)
         × (bit_xor (polynomial_of bytes * 2 ^ 16) (crc_of bytes) ≡ product quotient generator) }

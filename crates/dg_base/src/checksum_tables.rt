@@ -1,6 +1,6 @@
 //! The table of the checksum. Its entry at a byte is what the byte at the top of the register becomes once
-//! one byte is shifted out, the entry 256 after that what it becomes once two are, and so on up to eight.
-//! It is one table, so that the code that goes by it keeps one address.
+//! one byte is shifted out. The entry 256 after that is what it becomes once two are, and so on up to
+//! eight. It is one table, so that the code that uses it keeps one address.
 
 pub static AFTER: [u16; 2048] = [
     0x0000, 0x1021, 0x2042, 0x3063, 0x4084, 0x50a5, 0x60c6, 0x70e7, 0x8108, 0x9129, 0xa14a, 0xb16b,

@@ -4,15 +4,15 @@ ghost use Rattle.dg_base.specs.Clock.{Answers, Answered, behind_all};
 
 use std::marker::Model;
 
-/// A clock, which answers moments in milliseconds. No answer is below an earlier one, and none fails.
+/// A clock, which answers with the time in milliseconds. No answer is below an earlier one, and no call fails.
 pub trait Clock {
-    // The answers to come, where the clock tells them.
+    // The answers to come, if the clock exposes them.
     ghost told: { Self → Option Answers };
 
-    // The moment that the clock has reached. No answer to come is below it.
+    // The time that the clock has reached. No later answer is below it.
     ghost reached: { Self → ℕ };
 
-    /// The moment, in milliseconds.
+    /// The time, in milliseconds.
     fn read(&mut self) -> u64
         ensures rises { reached self.old ≤ result }
         ensures reached { result ≤ reached self.new }

@@ -30,7 +30,7 @@ impl Model for FrameBytes {
 }
 
 impl FrameBytes {
-    /// The frame of these bytes.
+    /// The frame with these bytes.
     pub fn new(bytes: &[u8]) -> FrameBytes
         requires { length bytes.now ≤ longest_frame }
         ensures { result ≡ bytes.now }
@@ -158,14 +158,14 @@ impl Model for Pairs {
 }
 
 impl Pairs {
-    /// The pairs of a vector, which is kept as it is.
+    /// The pairs of a vector, which is kept unchanged.
     pub fn new(pairs: Vec<(u8, u8)>) -> Pairs
         ensures { result ≡ pairs.items }
     {
         Pairs { pairs }
     }
 
-    /// Appends a pair. Without memory nothing changes.
+    /// Appends a pair. If memory runs out, nothing changes.
     pub fn push(&mut self, pair: (u8, u8)) -> Result<(), AllocError>
         ensures ok { OnOk result (self.new ≡ self.old ++ pair ∷ []) }
         ensures err { OnErr result (self.new ≡ self.old) }

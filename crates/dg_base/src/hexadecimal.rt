@@ -1,4 +1,4 @@
-//! Bytes as hex digits, two a byte.
+//! Bytes as hex digits, two for each byte.
 ghost use Rattle.std.specs.Prelude.{◌≡◌, ℕ, ◌+◌, ◌*◌, ◌%◌, ◌<◌, ◌↔◌, List, ◌++◌, ◌⊎◌, length, Some, None, OnOk, OnErr, IfOk, All};
 ghost use Rattle.std.specs.Prelude.{Any, true, false};
 ghost use Rattle.std.specs.Bool.{OnTrue, OnFalse};
@@ -13,7 +13,7 @@ use std::fmt;
 pub enum HexFault {
     /// The number of digits is odd.
     Odd,
-    /// A byte is no hex digit.
+    /// A byte is not a hex digit.
     Digit,
     /// Memory ran out.
     Memory,
@@ -50,8 +50,8 @@ impl From<AllocError> for HexFault {
 // The lower case digits.
 static DIGITS: [u8; 16] = *b"0123456789abcdef";
 
-/// The bytes that pairs of hex digits of either case write. The number of digits is looked at first, so an odd
-/// one is told also where memory is wanting.
+/// The bytes that pairs of hex digits of either case encode. The number of digits is checked first, so an odd
+/// one is reported even if memory runs out.
 pub fn parse_hex(alloc: Global, bytes: &[u8]) -> Result<Vec<u8>, HexFault>
     ensures ok { IfOk result (λ read. hex_bytes bytes.now ≡ Some read.items) }
     ensures odd { result ≡ Err HexFault.Odd ↔ (length bytes.now % 2 ≡ 1) }
@@ -68,8 +68,8 @@ pub fn parse_hex(alloc: Global, bytes: &[u8]) -> Result<Vec<u8>, HexFault>
     }
 }
 
-// Whether a byte is a hex digit. This and the value are made with no branch and no table, so that many digits are read at
-// once.
+// Whether a byte is a hex digit. This and the value are computed without branches and tables, so that many digits are
+// read at once.
 #[inline(always)]
 fn is_digit(byte: u8) -> bool
     ensures { result ≡ is_hex_digit byte }
@@ -80,7 +80,7 @@ fn is_digit(byte: u8) -> bool
     digit | upper | lower
 }
 
-// The value of a hex digit: its low four bits, and 9 more for a letter. Other bytes are given some value too.
+// The value of a hex digit: its low four bits, plus 9 for a letter. Other bytes get some value too.
 #[inline(always)]
 fn value_of(digit: u8) -> u8
     ensures value { (v : ℕ) → hex_value digit ≡ Some v → result ≡ v }
@@ -98,7 +98,7 @@ fn digit_of(value: u8) -> u8
     DIGITS[value as usize]
 }
 
-// Writes the bytes of pairs of digits, and answers whether all of them are digits. It goes on after a byte that is none.
+// Writes the bytes of pairs of digits, and returns whether all of them are digits. It continues after a byte that is not one.
 fn read_pairs(digits: &[u8], into: &mut [u8]) -> bool
     requires { length digits.now ≡ 2 * length into.old }
     ensures read { OnTrue result (hex_bytes digits.now ≡ Some into.new) }
@@ -114,7 +114,7 @@ fn read_pairs(digits: &[u8], into: &mut [u8]) -> bool
     all
 }
 
-/// Appends two lower case digits for each byte. Without memory `out` stays as it was.
+/// Appends two lower case digits for each byte. If memory runs out, `out` is unchanged.
 pub fn push_hex(out: &mut Vec<u8>, bytes: &[u8]) -> Result<(), AllocError>
     ensures ok { OnOk result (out.new.items ≡ out.old.items ++ hex_text bytes.now) }
     ensures err { OnErr result (out.new.items ≡ out.old.items) }
@@ -143,8 +143,7 @@ fn write_pairs(bytes: &[u8], into: &mut [u8])
     }
 }
 
-/// What the digits of bytes write is those bytes. Bytes are read exactly from an even number of
-/// digits.
+/// The digits of bytes encode those bytes. Bytes are read exactly from an even number of digits.
 pub fn hex_reads_back()
     ensures round { (bytes : List ℕ) → All (λ b. b < 256) bytes → hex_bytes (hex_text bytes) ≡ Some bytes }
     ensures digits { (text bytes : List ℕ) → hex_bytes text ≡ Some bytes

@@ -1,5 +1,5 @@
-//! What every layer of the project stands on: the traits of the outside, numbers and texts as
-//! bytes, the types of events, and the checksum of pages and frames.
+//! What every layer of the project builds on: the traits of inputs, outputs and clocks, numbers and
+//! texts as bytes, the types of events, and the checksum of pages and frames.
 #![tactic(auto)]
 
 mod answers;

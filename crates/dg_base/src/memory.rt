@@ -1,4 +1,4 @@
-//! An input and an output in memory, of whose calls chosen ones fail.
+//! An input and an output in memory, whose chosen calls fail.
 ghost use Rattle.std.specs.Prelude.{◌≡◌, IsTrue, ◌+◌, ◌-◌, ◌^◌, ◌<◌, ◌≤◌, ◌↔◌, ◌⊎◌, min, [], length, take, drop, Ok, Some, IsErr};
 ghost use Rattle.std.specs.Prelude.{IfOk, OnOk, OnErr, MatchResult, Contains, vec_len};
 ghost use Rattle.dg_words.specs.Counts.{Rose};
@@ -8,9 +8,9 @@ use crate::outside::{ReadFailed, Sink, Source, WriteFailed};
 use std::alloc::{AllocError, Global};
 use std::marker::Model;
 
-/// An input in memory. Of its reads exactly those with the listed numbers fail.
+/// An input in memory. Exactly its reads with the listed numbers fail.
 ///
-/// Reads are numbered from 1. The numbers end at 4,294,967,295, and a later read has none.
+/// Reads are numbered from 1. The numbers end at 4,294,967,295: a later read has no number.
 #[derive(Drop)]
 pub struct MemSource {
     bytes: Vec<u8>,
@@ -70,7 +70,7 @@ impl Source for MemSource {
 
         // As many bytes as there are and fit.
         ensures most { IfOk result (λ n. n ≡ min (length into.old) (length self.old.left)) }
-        // The calls with a listed number fail, and no others.
+        // The calls with a listed number fail, and no other calls do.
         ensures fails { IsErr result ↔ Contains self.old.failing (self.old.calls + 1) }
         ensures listed { self.new.failing ≡ self.old.failing }
         ensures numbered { self.new.calls ≡ min (self.old.calls + 1) (2 ^ 32 - 1) }
@@ -89,10 +89,10 @@ impl Source for MemSource {
     }
 }
 
-/// An output in memory of `limit` bytes at most, for which it takes memory when it is made.
+/// An output in memory of `limit` bytes at most, which are allocated when it is made.
 ///
-/// A write fails exactly where its number is listed or the piece does not fit into the rest of the
-/// limit, and then appends nothing. Writes are numbered as the reads of [`MemSource`].
+/// A write fails exactly if its number is listed or the piece does not fit into the rest of the
+/// limit, and then appends nothing. Writes are numbered like the reads of [`MemSource`].
 #[derive(Drop)]
 pub struct MemSink {
     bytes: Vec<u8>,
@@ -156,7 +156,7 @@ impl Sink for MemSink {
         ensures counts { self.old.faults ≤ self.new.faults }
         ensures failed { OnErr result (Rose self.old.faults self.new.faults) }
 
-        // The calls with a listed number fail, those whose piece does not fit, and no others.
+        // The calls with a listed number fail, and those whose piece does not fit. No other calls do.
         ensures fails { IsErr result ↔ (Contains self.old.failing (self.old.calls + 1)
             ⊎ (self.old.limit < length self.old.written + length bytes.now)) }
         ensures nothing { OnErr result (self.new.written ≡ self.old.written) }
@@ -187,7 +187,7 @@ fn is_failing(failing: &[u32], calls: u32) -> bool
     }
 }
 
-// Copies as many bytes as there are and fit, and answers how many.
+// Copies as many bytes as there are and fit, and returns how many.
 fn copy_prefix(into: &mut [u8], bytes: &[u8]) -> usize
     ensures count { result ≡ min (length into.old) (length bytes.now) }
     ensures front { take result into.new ≡ take result bytes.now }

@@ -5,7 +5,7 @@ ghost use Rattle.dg_base.specs.Numbers.{number_of, with_digit};
 use itoa::Buffer;
 use std::alloc::AllocError;
 
-/// The number that `bytes` write in decimal, without sign or leading zero, up to 4,294,967,295.
+/// The number that `bytes` encode in decimal, without sign or leading zero, up to 4,294,967,295.
 #[inline(always)]
 pub fn parse_u32(bytes: &[u8]) -> Option<u32>
     ensures { result ≡ number_of bytes.now }
@@ -33,7 +33,7 @@ fn with_digit(number: u32, byte: u8) -> Option<u32>
     }
 }
 
-/// Appends the decimal digits of `n`. Without memory `out` stays as it was.
+/// Appends the decimal digits of `n`. If memory runs out, `out` is unchanged.
 pub fn push_u32(out: &mut Vec<u8>, n: u32) -> Result<(), AllocError>
     ensures ok { OnOk result (out.new.items ≡ out.old.items ++ decimal n) }
     ensures err { OnErr result (out.new.items ≡ out.old.items) }
@@ -41,7 +41,7 @@ pub fn push_u32(out: &mut Vec<u8>, n: u32) -> Result<(), AllocError>
     out.extend_from_slice(Buffer::new().format(n).as_bytes())
 }
 
-/// A number is read exactly where the bytes are those that print it, and it is below 2 ^ 32.
+/// A number is read exactly if the bytes are those that print it, and it is below 2 ^ 32.
 pub fn reads_what_is_printed()
     ensures reads { (bytes : List ℕ) (n : ℕ) → number_of bytes ≡ Some n → (bytes ≡ decimal n) × (n < 2 ^ 32) }
     ensures printed { (bytes : List ℕ) (n : ℕ) → bytes ≡ decimal n → n < 2 ^ 32 → number_of bytes ≡ Some n }

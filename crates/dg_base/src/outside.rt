@@ -1,7 +1,7 @@
-//! Where bytes come from and go to.
+//! Inputs and outputs of bytes.
 //!
-//! Each trait counts its faults. A call answers its failure only where the count rose in that call,
-//! and a call that answers Ok leaves the count as it is. At the end of a `u64` the count stands still.
+//! Each trait counts its faults. A call returns an error only if the count rose in that call, and a
+//! call that returns Ok leaves the count unchanged. The count saturates at the greatest `u64`.
 ghost use Rattle.std.specs.Prelude.{◌≡◌, ℕ, Option, ◌<◌, ◌≤◌, List, length, take, Ok, Some, IfOk, OnOk, OnErr, MatchResult};
 ghost use Rattle.std.specs.Prelude.{codes};
 ghost use Rattle.dg_words.specs.Counts.{Rose};
@@ -40,14 +40,14 @@ impl Error for WriteFailed {}
 
 /// An input of bytes.
 pub trait Source {
-    // The bytes that are left, where the source tells them.
+    // The bytes that are left, if the source exposes them.
     ghost left: { Self → Option (List ℕ) };
 
     // How many reads failed.
     ghost faults: { Self → ℕ };
 
-    /// Reads the next bytes into the beginning of `into`, and answers how many. 0 comes only at the
-    /// end of the input.
+    /// Reads the next bytes into the beginning of `into`, and returns how many. It returns 0 only
+    /// at the end of the input.
     fn read(&mut self, into: &mut [u8]) -> Result<usize, ReadFailed>
         requires { 0 < length into.old }
         ensures count { IfOk result (λ n. n ≤ length into.old) }
@@ -61,7 +61,7 @@ pub trait Source {
 
 /// An output of bytes.
 pub trait Sink {
-    // The bytes that were written, where the sink tells them.
+    // The bytes that were written, if the sink exposes them.
     ghost written: { Self → Option (List ℕ) };
 
     // How many writes failed.

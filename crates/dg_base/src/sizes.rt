@@ -16,8 +16,8 @@ pub const MOST_CONTENT: usize = 1_048_576;
 /// The most bytes of an input that are used: of a script, or of the text of an image.
 pub const MOST_INPUT: usize = 16_777_216;
 
-/// The bounds are those of this profile: frames of at most 64 bytes, masks of at most 2,048, 16 motes, ports
-/// up to 65,500, contents of at most 1,048,576 bytes, and inputs of at most 16,777,216.
+/// The bounds are those of this profile: frames of at most 64 bytes, masks of at most 2,048, 16 motes, and
+/// ports up to 65,500. Contents have at most 1,048,576 bytes, and inputs at most 16,777,216.
 pub fn the_sizes_are_these()
     ensures frame { LONGEST_FRAME ≡ longest_frame }
     ensures mask { LONGEST_MASK ≡ longest_mask }

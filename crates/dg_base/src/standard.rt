@@ -8,7 +8,7 @@ ghost use Rattle.dg_base.specs.Standard.{reader_of, writer_of, faults_read, faul
 use crate::outside::{ReadFailed, Sink, Source, WriteFailed};
 use std::io::{Read, Write};
 
-/// A reader of std as a source that tells no bytes, as standard input.
+/// A reader of std as a source that does not expose its bytes, such as standard input.
 #[derive(Drop)]
 pub struct StdSource<R> {
     reader: R,
@@ -36,7 +36,7 @@ impl<R: Read> Source for StdSource<R> {
         ensures counts { faults_read self.old ≤ faults_read self.new }
         ensures failed { OnErr result (Rose (faults_read self.old) (faults_read self.new)) }
 
-        // What the reader tells of its bytes.
+        // What the reader exposes of its bytes.
         ensures reader { ReadConsumes (R.remaining (reader_of self.old)) (R.remaining (reader_of self.new)) result into.new }
         ensures unfailed { OnOk result (faults_read self.new ≡ faults_read self.old) }
     {
@@ -50,7 +50,7 @@ impl<R: Read> Source for StdSource<R> {
     }
 }
 
-/// A writer of std as a sink that tells no bytes, as standard output.
+/// A writer of std as a sink that does not expose its bytes, such as standard output.
 #[derive(Drop)]
 pub struct StdSink<W> {
     writer: W,
@@ -72,12 +72,12 @@ impl<W: Write> Sink for StdSink<W> {
 
     ghost faults = { faults_written };
 
-    /// Writes again what the writer left of a piece. A write that takes nothing is a fault.
+    /// Continues after a short write. A write that accepts nothing is a fault.
     fn write(&mut self, bytes: &[u8]) -> Result<(), WriteFailed>
         ensures counts { faults_written self.old ≤ faults_written self.new }
         ensures failed { OnErr result (Rose (faults_written self.old) (faults_written self.new)) }
 
-        // What the writer tells of its bytes.
+        // What the writer exposes of its bytes.
         ensures whole { OnOk result (Appends (W.contents (writer_of self.old)) (W.contents (writer_of self.new)) bytes.now) }
         ensures front { OnErr result (AppendsPrefix (W.contents (writer_of self.old)) (W.contents (writer_of self.new))
             bytes.now) }
@@ -91,7 +91,7 @@ impl<W: Write> Sink for StdSink<W> {
     }
 }
 
-// Writes all of `bytes`. It gives up, and answers false, at an error and at a write that takes
+// Writes all of `bytes`. It gives up, and returns false, at an error and at a write that accepts
 // nothing.
 fn write_whole<W: Write>(writer: &mut W, bytes: &[u8]) -> bool
     ensures whole { OnTrue result (Appends (W.contents writer.old) (W.contents writer.new) bytes.now) }

@@ -123,8 +123,8 @@ fn sink_in_memory(rt: HostRuntime) -> Result<(), Fail> {
     Ok(())
 }
 
-// A reader whose second call fails, and a writer that takes two bytes, and from its third call on
-// none.
+// A reader whose second call fails, and a writer that takes two bytes in a call, and none from its
+// third call on.
 #[derive(Drop)]
 struct Fake {
     calls: u8,

@@ -10,7 +10,7 @@ use std::marker::Model;
 /// Where the text of the line that begins at `from` ends, and where the next line begins.
 ///
 /// A line ends at LF or at the end of `bytes`. One CR before the LF is not part of its text. The
-/// two offsets differ exactly where an LF ended the line.
+/// two offsets differ exactly if an LF ended the line.
 pub fn next_line(bytes: &[u8], from: usize) -> (usize, usize)
     requires { from ≤ length bytes.now }
     ensures start { from ≤ result.0 }
@@ -33,7 +33,7 @@ pub fn next_line(bytes: &[u8], from: usize) -> (usize, usize)
     }
 }
 
-// The end of a text from `from` to `to`, less one CR at its end.
+// The end of a text from `from` to `to`, without one CR at its end.
 fn text_end(bytes: &[u8], from: usize, to: usize) -> usize
     requires ordered { from ≤ to }
     requires within { to ≤ length bytes.now }
@@ -67,7 +67,7 @@ fn is_name_byte(byte: u8) -> bool
     byte.is_ascii_alphanumeric() || byte == b'_' || byte == b'-' || byte == b'.'
 }
 
-/// Bytes that contracts see as their list.
+/// Bytes that contracts view as a list.
 #[derive(Debug, Drop)]
 pub struct Bytes {
     bytes: Vec<u8>,
@@ -80,7 +80,7 @@ impl Model for Bytes {
 }
 
 impl Bytes {
-    /// The bytes of a vector, which is kept as it is.
+    /// The bytes of a vector, which is kept unchanged.
     pub fn new(bytes: Vec<u8>) -> Bytes
         ensures { result ≡ bytes.items }
     {

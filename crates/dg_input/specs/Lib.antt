@@ -1,1 +1,1 @@
--- No definitions: the contracts speak in words of dg_base.
+-- No definitions: the contracts use those of dg_base.

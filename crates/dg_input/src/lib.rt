@@ -1,4 +1,4 @@
-//! The input of a command, read by pieces and as far as it is used.
+//! The input of a command, read in pieces and as far as it is used.
 #![tactic(auto)]
 
 ghost use Rattle.std.specs.Prelude.{◌≡◌, ◌≢◌, ◌⊎◌, ℕ, ◌+◌, ◌<◌, ◌≤◌, List, ◌++◌, length, IfOk, OnOk};
@@ -16,7 +16,7 @@ pub use piece::read_piece;
 use std::alloc::{AllocError, Global};
 pub use whole::read_whole;
 
-/// Bytes that are asked for at once.
+/// The bytes that are requested at once.
 const PIECE: usize = 65_536;
 
 /// Why an input is not read to its end.
@@ -26,7 +26,7 @@ pub enum ReadStop {
     ReadFault,
 }
 
-// Gives a reader the next piece, of at most this many bytes, and answers how many came.
+// Gives a reader the next piece, of at most this many bytes, and returns how many came.
 fn feed_piece<S: Source>(
     alloc: Global,
     source: &mut S,
@@ -54,7 +54,7 @@ fn feed_piece<S: Source>(
     }
 }
 
-// Reads an input by pieces.
+// Reads an input in pieces.
 fn read_pieces<S: Source>(
     alloc: Global,
     source: &mut S,
@@ -81,7 +81,7 @@ fn read_pieces<S: Source>(
 
 /// Gives a reader of HEX files an input to its end, or one byte past those that are used.
 ///
-/// Whatever it answers, some bytes were taken from the source, in their order and no more than that; after Ok they
+/// Whatever it returns, some bytes were taken from the source, in their order and no more than that. After Ok they
 /// are those that the reader was given.
 pub fn read_input<S: Source>(alloc: Global, source: &mut S) -> Result<HexReader, ReadStop>
     ensures taken { (bytes : List ℕ) × Takes (S.left source.old) (S.left source.new) bytes × (length bytes ≤ most_input + 1)

@@ -5,10 +5,10 @@ ghost use Rattle.dg_base.specs.Outside.{Takes, AtEnd};
 
 use dg_base::{ReadFailed, Source};
 
-/// Reads the next bytes of an input into the beginning of `piece`, at most this many, and answers how many came: none at the end.
+/// Reads the next bytes of an input into the beginning of `piece`, at most this many, and returns how many came: 0 at the end.
 ///
-/// All that read an input by bytes read it so: commands that keep it or give it to a reader, and a base mote, which plays
-/// what came before it asks for more.
+/// All code that reads an input as bytes uses this: commands that keep it or give it to a reader, and a base mote, which
+/// plays what came before it reads more.
 pub fn read_piece<S: Source>(
     source: &mut S,
     piece: &mut [u8],

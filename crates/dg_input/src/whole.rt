@@ -8,7 +8,7 @@ use crate::{PIECE, ReadStop, read_piece};
 use dg_base::{MOST_INPUT, ReadFailed, Source};
 use std::alloc::{AllocError, Global};
 
-// Reads a piece after the bytes, up to one byte past those that are used, and answers how many
+// Reads a piece after the bytes, up to one byte past those that are used, and returns how many
 // bytes came.
 fn keep_piece<S: Source>(
     source: &mut S,
@@ -35,7 +35,7 @@ fn keep_piece<S: Source>(
     }
 }
 
-// Reads an input by pieces.
+// Reads an input in pieces.
 fn read_pieces<S: Source>(
     alloc: Global,
     source: &mut S,
@@ -61,8 +61,8 @@ fn read_pieces<S: Source>(
 
 /// Reads an input to its end, or one byte past those that are used.
 ///
-/// Whatever it answers, some bytes were taken from the source, in their order and no more than that; after Ok they
-/// are those of the answer.
+/// Whatever it returns, some bytes were taken from the source, in their order and no more than that. After Ok they
+/// are those of the result.
 pub fn read_whole<S: Source>(alloc: Global, source: &mut S) -> Result<Vec<u8>, ReadStop>
     ensures taken { (bytes : List ℕ) × Takes (S.left source.old) (S.left source.new) bytes × (length bytes ≤ most_input + 1)
         × IfOk result (λ v. v.items ≡ bytes) }

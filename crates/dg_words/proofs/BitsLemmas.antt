@@ -33,7 +33,7 @@ all_below p n k h lt = let e : 0 + k ≡ k = omega arith in subst (λ (m : ℕ).
 pub shifted_byte : (c : ℕ) → c ≤ 8 → 255 / 2 ^ c ≡ 2 ^ (8 - c) - 1
 shifted_byte c h = eqb-true (255 / 2 ^ c) (2 ^ (8 - c) - 1) (all_below (λ k. 255 / 2 ^ k == 2 ^ (8 - k) - 1) 9 c refl (omega arith))
 
--- the same with one bit less to begin with
+-- the same with one bit fewer to begin with
 pub shifted_next : (c : ℕ) → c < 8 → 127 / 2 ^ c ≡ 2 ^ (8 - (c + 1)) - 1
 shifted_next c h = eqb-true (127 / 2 ^ c) (2 ^ (8 - (c + 1)) - 1) (all_below (λ k. 127 / 2 ^ k == 2 ^ (8 - (k + 1)) - 1) 8 c refl h)
 
@@ -50,7 +50,7 @@ pub and_next : (c : ℕ) → c < 8 → bit_and (2 ^ (8 - c) - 1) (2 ^ (8 - (c + 
 and_next c h = eqb-true (bit_and (2 ^ (8 - c) - 1) (2 ^ (8 - (c + 1)) - 1)) (2 ^ (8 - (c + 1)) - 1)
     (all_below (λ k. bit_and (2 ^ (8 - k) - 1) (2 ^ (8 - (k + 1)) - 1) == 2 ^ (8 - (k + 1)) - 1) 8 c refl h)
 
--- and takes its value away
+-- and subtracts its value
 pub byte_next : (c : ℕ) → c < 8 → 2 ^ (8 - c) - 1 ≡ 2 ^ (8 - (c + 1)) - 1 + 2 ^ (7 - c)
 byte_next c h = eqb-true (2 ^ (8 - c) - 1) (2 ^ (8 - (c + 1)) - 1 + 2 ^ (7 - c))
     (all_below (λ k. 2 ^ (8 - k) - 1 == 2 ^ (8 - (k + 1)) - 1 + 2 ^ (7 - k)) 8 c refl h)

@@ -1,4 +1,4 @@
--- Parts of lists, and lists that are written over.
+-- Parts of lists, and lists that are overwritten.
 use Rattle.std.proofs.Common.{◌≡◌, ℕ, ◌+◌, ◌-◌, ◌<◌, ◌≤◌, ◌⊎◌, List, Fits, w8, ◌++◌, length, get_or, take, drop, refl, sym, ap, ◌∙◌, inl, inr, arith, ⊎_elim}
 use Rattle.std.proofs.lemmas.List.{length-take, length-drop, length-append, get_or-take, get_or-drop, get_or_append_left, get_or-append_right, same_lists, length-take-le, take_all}
 use Rattle.std.proofs.lemmas.Bool.{cases_lt}
@@ -52,9 +52,9 @@ pub get_or-overwritten_outside : (xs : List ℕ) (at : ℕ) (bs : List ℕ) (k d
 get_or-overwritten_outside xs at bs k d h (inl l) = get_or-overwritten_before xs at bs k d h l
 get_or-overwritten_outside xs at bs k d h (inr l) = get_or-overwritten_after xs at bs k d h l
 
--- ---- parts of a list that was written over
+-- ---- parts of a list that was overwritten
 
--- what was written stands there
+-- what was written is there
 pub part-overwritten_at : (xs : List ℕ) (at : ℕ) (bs : List ℕ) → at + length bs ≤ length xs → part (overwritten xs at bs) at (length bs) ≡ bs
 part-overwritten_at xs at bs h =
     let o = length-overwritten xs at bs h in
@@ -73,7 +73,7 @@ part-overwritten_within xs at bs i n h l =
     get_or-part (overwritten xs at bs) (at + i) n k d (omega arith) ∙ ap (λ j. get_or (overwritten xs at bs) j d) e
     ∙ get_or-overwritten_inside xs at bs (i + k) d h (omega arith) ∙ sym (get_or-part bs i n k d (omega arith)))
 
--- a part that lies before or behind it
+-- a part that lies before or after it
 pub part-overwritten_apart : (xs : List ℕ) (at : ℕ) (bs : List ℕ) (i n : ℕ) → at + length bs ≤ length xs → i + n ≤ length xs → (i + n ≤ at) ⊎ (at + length bs ≤ i) → part (overwritten xs at bs) i n ≡ part xs i n
 part-overwritten_apart xs at bs i n h l apart =
     let o = length-overwritten xs at bs h in
@@ -120,7 +120,7 @@ part-part xs base m at n h l =
     get_or-part (part xs base m) at n k d (omega arith) ∙ get_or-part xs base m (at + k) d (omega arith)
     ∙ ap (λ j. get_or xs j d) e ∙ sym (get_or-part xs (base + at) n k d (omega arith)))
 
--- two neighbours
+-- two adjacent parts
 pub part-append-part : (xs : List ℕ) (at m n : ℕ) → at + (m + n) ≤ length xs → part xs at m ++ part xs (at + m) n ≡ part xs at (m + n)
 part-append-part xs at m n h =
     let p : length (part xs at m) ≡ m = length-part xs at m (omega arith) in
@@ -143,9 +143,9 @@ part_whole xs n h =
     let e : 0 + k ≡ k = omega arith in
     get_or-part xs 0 n k d (omega arith) ∙ ap (λ j. get_or xs j d) e)
 
--- ---- one writing after another
+-- ---- one write after another
 
--- what stands there is written again
+-- what is there is written again
 pub overwritten_same : (xs : List ℕ) (at n : ℕ) → at + n ≤ length xs → overwritten xs at (part xs at n) ≡ xs
 overwritten_same xs at n h =
     let q : length (part xs at n) ≡ n = length-part xs at n h in
@@ -163,7 +163,7 @@ overwritten_same xs at n h =
     (cases_lt k (at + n)))
     (cases_lt k at))
 
--- the second writing covers the first
+-- the second write covers the first
 pub overwritten_twice : (xs : List ℕ) (at : ℕ) (bs cs : List ℕ) → at + length bs ≤ length xs → length cs ≡ length bs → overwritten (overwritten xs at bs) at cs ≡ overwritten xs at cs
 overwritten_twice xs at bs cs h same =
     let o = length-overwritten xs at bs h in
@@ -183,7 +183,7 @@ overwritten_twice xs at bs cs h same =
     (cases_lt k (at + length cs)))
     (cases_lt k at))
 
--- the second stands right behind the first
+-- the second write is directly after the first
 pub overwritten_next : (xs : List ℕ) (at : ℕ) (bs cs : List ℕ) → at + (length bs + length cs) ≤ length xs → overwritten (overwritten xs at bs) (at + length bs) cs ≡ overwritten xs at (bs ++ cs)
 overwritten_next xs at bs cs h =
     let both = length-append bs cs in

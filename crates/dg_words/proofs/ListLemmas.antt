@@ -1,4 +1,4 @@
--- What stands in lists that are filled up, told by a function of the place, or joined.
+-- The elements of lists that are padded, given by a function of the position, or joined.
 use Rattle.std.proofs.Common.{◌≡◌, ℕ, ◌+◌, ◌-◌, ◌*◌, ◌<◌, ◌≤◌, suc, zero, List, [], ◌++◌, length, take, drop, get_or, map, replicate, refl, sym, ap, ◌∙◌, subst, arith, append_assoc, length-append, length-take, length-drop, take-append-drop, add-zero, inl, inr}
 use Rattle.std.proofs.Math.Seq.{take-append-add}
 use Rattle.std.proofs.lemmas.Bool.{cases_lt}
@@ -17,7 +17,7 @@ pub padded_none : (n x : ℕ) → padded n x [] ≡ replicate n x
 unfolding padded
 padded_none n x = ap (λ (m : ℕ). replicate m x) (sub-zero n)
 
--- the list itself stands in front
+-- the list itself comes first
 pub take-padded : (n x k : ℕ) (xs : List ℕ) → length xs ≡ k → take k (padded n x xs) ≡ xs
 unfolding padded
 take-padded n x k xs e = take_at xs (replicate (n - length xs) x) k e
@@ -26,14 +26,14 @@ pub get_or-padded_front : (n x k d : ℕ) (xs : List ℕ) → k < length xs → 
 unfolding padded
 get_or-padded_front n x k d xs h = get_or_append_left xs (replicate (n - length xs) x) d k h
 
--- behind it stands the filling
+-- the padding comes after it
 pub get_or-padded_behind : (n x k d : ℕ) (xs : List ℕ) → length xs ≤ k → k < n → get_or (padded n x xs) k d ≡ x
 unfolding padded
 get_or-padded_behind n x k d xs low high =
     get_or-append_right xs (replicate (n - length xs) x) (length xs) k d refl low
     ∙ get_or-replicate (n - length xs) (k - length xs) x d (omega arith)
 
--- a piece that is put behind the list takes the place of filling
+-- a piece that is appended to the list replaces padding
 pub padded-append : (n x k j : ℕ) (front piece : List ℕ) → length front ≡ k → length piece ≡ j → put_mid k j (padded n x front) piece ≡ padded n x (front ++ piece)
 unfolding padded
 padded-append n x k j front piece e f =
@@ -66,7 +66,7 @@ pub take-padded_front : (n x k : ℕ) (xs : List ℕ) → k ≤ length xs → ta
 unfolding padded
 take-padded_front n x k xs h = take-append-le k xs (replicate (n - length xs) x) h
 
--- a list that is long enough is filled up already
+-- a list of the full length gets no padding
 pub padded_full : (n x : ℕ) (xs : List ℕ) → length xs ≡ n → padded n x xs ≡ xs
 unfolding padded
 padded_full n x xs h = ap (λ (m : ℕ). xs ++ replicate m x) none ∙ append-nil xs
@@ -74,7 +74,7 @@ padded_full n x xs h = ap (λ (m : ℕ). xs ++ replicate m x) none ∙ append-ni
     none : n - length xs ≡ 0
     none = omega arith
 
--- the chunk at place k and all that is joined behind it, where more than a chunk is left
+-- the chunk at place k and all that is joined after it, if more than a chunk is left
 chunk_more : (s x k : ℕ) (bytes rest : List ℕ) → s < length bytes - k → take (length bytes - (k + s)) rest ≡ drop (k + s) bytes
     → take (length bytes - k) (padded s x (take s (drop k bytes)) ++ rest) ≡ drop k bytes
 chunk_more s x k bytes rest more behind =
@@ -90,7 +90,7 @@ chunk_more s x k bytes rest more behind =
     parts : length bytes - k ≡ length (take s (drop k bytes)) + (length bytes - (k + s))
     parts = omega (arith, full)
 
--- and where it is the last
+-- and if it is the last
 chunk_last : (s x k : ℕ) (bytes rest : List ℕ) → length bytes - k ≤ s → take (length bytes - k) (padded s x (take s (drop k bytes)) ++ rest) ≡ drop k bytes
 chunk_last s x k bytes rest last =
     take-append-le (length bytes - k) (padded s x (take s (drop k bytes))) rest (omega (arith, length-padded s x (take s (drop k bytes)) short))
@@ -100,7 +100,7 @@ chunk_last s x k bytes rest last =
     short : length (take s (drop k bytes)) ≤ s
     short = omega (arith, length-take s (drop k bytes))
 
--- a chunk, the last one filled up, and all that is joined behind it
+-- a chunk, padded if it is the last, and all that is joined after it
 chunk_step : (s x a : ℕ) (bytes chunk rest : List ℕ) → 1 ≤ a → chunk ≡ padded s x (take s (drop ((a - 1) * s) bytes))
     → take (length bytes - (a + 1 - 1) * s) rest ≡ drop ((a + 1 - 1) * s) bytes → take (length bytes - (a - 1) * s) (chunk ++ rest) ≡ drop ((a - 1) * s) bytes
 chunk_step s x a bytes chunk rest low is behind =
@@ -116,7 +116,7 @@ chunk_step s x a bytes chunk rest low is behind =
     next : (a + 1 - 1) * s ≡ (a - 1) * s + s
     next = ap (λ (n : ℕ). n * s) before ∙ omega arith
 
--- Bytes in chunks of s: joined, and without the filling, they are the bytes again.
+-- Bytes in chunks of s: joined, and without the padding, they are the bytes again.
 pub joined_chunks : (s x : ℕ) (f : ℕ → List ℕ) (bytes : List ℕ) (a m : ℕ) → ((p : ℕ) → 1 ≤ p → f p ≡ padded s x (take s (drop ((p - 1) * s) bytes)))
     → 1 ≤ a → length bytes ≤ (a - 1 + m) * s → take (length bytes - (a - 1) * s) (concatenated (map f (range_with_len a m))) ≡ drop ((a - 1) * s) bytes
 joined_chunks s x f bytes a zero each low room =

@@ -3,7 +3,7 @@ use Rattle.std.specs.Prelude.{ℕ, ◌-◌, ◌*◌, ◌/◌, ◌%◌, ◌^◌, 
 use Rattle.std.specs.Int.{bit_at}
 use Rattle.dg_words.specs.Lists.{tabulate}
 
--- that many bytes of bits of which the first n are cleared and the others are set, the most
+-- this many bytes of bits, of which the first n are cleared and the others are set, the most
 -- significant bit of a byte first
 unfoldable pub cleared_bits : ℕ → ℕ → List ℕ
 cleared_bits bytes n = tabulate bytes (λ j. 2 ^ (8 - min 8 (n - 8 * j)) - 1)

@@ -6,7 +6,7 @@ use Rattle.std.specs.Prelude.{ℕ, ◌+◌, ◌<◌, List, ◌++◌, length, tak
 unfoldable pub part : List ℕ → ℕ → ℕ → List ℕ
 part xs at n = take n (drop at xs)
 
--- xs, with bs over what stands from offset `at` on
+-- xs, with bs written over it from offset `at` on
 unfoldable pub overwritten : List ℕ → ℕ → List ℕ → List ℕ
 overwritten xs at bs = take at xs ++ bs ++ drop (at + length bs) xs
 

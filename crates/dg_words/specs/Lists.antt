@@ -1,4 +1,4 @@
--- Lists that are told by a function of the position, and lists that are filled up (beside the lists of std).
+-- Lists that are given by a function of the position, and padded lists (in addition to the lists of std).
 use Rattle.std.specs.Prelude.{ℕ, ◌-◌, List, ◌++◌, length, map, replicate}
 use Rattle.std.specs.List.{range_with_len, flat_map}
 
@@ -6,7 +6,7 @@ use Rattle.std.specs.List.{range_with_len, flat_map}
 abbrev pub tabulate : {A : Type 0} → ℕ → (ℕ → A) → List A
 tabulate n f = map f (range_with_len 0 n)
 
--- the list, and as many x after it as make n of them
+-- the list, padded with x to n elements
 unfoldable pub padded : ℕ → ℕ → List ℕ → List ℕ
 padded n x xs = xs ++ replicate (n - length xs) x
 

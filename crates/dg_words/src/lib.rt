@@ -1,4 +1,4 @@
-//! Words that the contracts of several crates share, and what holds of them.
+//! Definitions that the contracts of several crates share, and a law of them.
 #![tactic(auto)]
 
 mod laws;

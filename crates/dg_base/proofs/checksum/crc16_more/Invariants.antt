@@ -1,4 +1,4 @@
--- The checksum so far, with the bytes behind it, is that of all bytes.
+-- The checksum so far, continued with the bytes after it, is that of all bytes.
 use Rattle.std.proofs.Common.{◌≡◌, ◌≤◌, ◌-◌, drop, length}
 use Rattle.dg_base.specs.Crc.{crc_more}
 use Rattle.dg_base.proofs.checksum.crc16_more.Given as goal

@@ -1,4 +1,4 @@
--- The checksum so far, with the bytes behind it, is that of all bytes from `at` on.
+-- The checksum so far, continued with the bytes after it, is that of all bytes from `at` on.
 use Rattle.std.proofs.Common.{◌≡◌, drop}
 use Rattle.dg_base.specs.Crc.{crc_more}
 use Rattle.dg_base.proofs.checksum.with_each.Given as goal

@@ -1,4 +1,4 @@
--- The number so far, with the digits behind it, is that of all digits.
+-- The number so far, continued with the digits after it, is that of all digits.
 use Rattle.std.proofs.Common.{◌≡◌, Some, drop}
 use Rattle.dg_base.proofs.NumberLemmas.{read_on}
 use Rattle.dg_base.proofs.numbers.parse_u32.Given as goal

@@ -1,4 +1,4 @@
--- A write puts the next bytes behind those that were written.
+-- A write appends the next bytes to those that were written.
 use Rattle.std.proofs.Common.{ℕ, ◌+◌, ◌-◌, ◌≤◌, length, take, drop, List, sym, subst, arith, take-add, Option}
 use Rattle.std.proofs.lemmas.List.{take_rest, length-take}
 use Rattle.std.proofs.KnownBytes.{Appends-trans}

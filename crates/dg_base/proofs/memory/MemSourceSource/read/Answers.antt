@@ -1,4 +1,4 @@
--- What was left is what was copied, and then what is left behind it.
+-- What was left is what was copied, and then what is left now.
 use Rattle.std.proofs.Common.{◌≡◌, ℕ, ◌+◌, ◌-◌, List, ◌++◌, length, Some, sym, ap, ◌∙◌, take, drop}
 use Rattle.std.proofs.lemmas.List.{drop-drop, take-append-drop, take_rest}
 use Rattle.dg_base.specs.Memory.{Input}
