@@ -1,4 +1,4 @@
--- What a meter shows: all that its chip shows, and what was made of it.
+-- What a meter exposes: all that its chip exposes, and the operations that were made on it.
 use Rattle.dg_nor.specs.Device.{Device}
 use Rattle.dg_meter.specs.declared.meter.Metered.{Metered}
 use Rattle.dg_meter.specs.declared.tally.Tally.{Tally}
@@ -7,7 +7,7 @@ use Rattle.dg_meter.specs.declared.tally.Tally.{Tally}
 abbrev pub chip_of : {N : Type 0} → Metered N → N
 chip_of m = m.inner
 
--- what was made of it
+-- the operations that were made on it
 abbrev pub tally_of : {N : Type 0} → Metered N → Tally
 tally_of m = m.tally
 

@@ -3,7 +3,7 @@ use Rattle.std.specs.Prelude.{ℕ, ◌-◌, ◌%◌, ◌==◌, nat_lt, if◌then
 use Rattle.dg_meter.specs.declared.region.Region.{Region}
 use Rattle.dg_meter.specs.declared.region.Region.TheVariants.{Ledger, Control, Program, Head, Page}
 
--- of a slot's sectors the first is its header
+-- the first of a slot's sectors is its header
 abbrev pub slot_part : ℕ → Region
 slot_part k = if k % 66 == 0 then Head else Page
 

@@ -5,7 +5,7 @@ use Rattle.dg_meter.specs.declared.shares.Shares.{Shares}
 use Rattle.dg_meter.specs.declared.region.Region.{Region}
 use Rattle.dg_meter.specs.declared.region.Region.TheVariants.{Ledger, Control, Program, Head, Page}
 
--- a count ends at the greatest u64
+-- a count saturates at the greatest u64
 abbrev pub up : ℕ → ℕ → ℕ
 up n more = min (n + more) (2 ^ 64 - 1)
 

@@ -28,8 +28,8 @@ pub record Erased (sector : ℕ) (a b : Tally) : Type 0 where
   pub last : b.last ≡ Some (record { kind = Erase; region = region_of sector; sector = sector; bytes = sector_size })
   pub headers : b.headers ≡ a.headers
 
--- A program of this many bytes from `at` on was counted, and nothing else. One of a whole sector is none of its own: it is what a
--- fuse leaves of an erase that it interrupts, and that was counted.
+-- A program of this many bytes from `at` on was counted, and nothing else. One of a whole sector is not counted: it is what a
+-- fuse leaves of an erase that it interrupts, and that erase was counted.
 pub record Programmed (at bytes : ℕ) (a b : Tally) : Type 0 where
   pub whole : bytes ≡ sector_size → b ≡ a
   pub operations : bytes ≢ sector_size → b.operations ≡ up a.operations 1

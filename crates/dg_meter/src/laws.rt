@@ -1,4 +1,4 @@
-//! What holds of the definitions alone. The function does nothing: its contract is the law.
+//! A law of the definitions alone. The function does nothing: its contract is the law.
 ghost use Rattle.std.specs.Prelude.{◌≡◌, ◌≢◌, ℕ};
 ghost use Rattle.dg_meter.specs.Shares.{one_more, share_at, noted};
 ghost use Rattle.dg_meter.specs.declared.region.Region.{Region};

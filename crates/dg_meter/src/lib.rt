@@ -1,6 +1,6 @@
 //! A chip whose programs and erases are counted: how many, of how many bytes, and where they are made.
 //!
-//! A meter stands between a chip and who works on it, hands each call on, and shows all that the chip shows.
+//! A meter wraps a chip, forwards each call to it, and exposes all that the chip exposes.
 #![tactic(auto)]
 
 mod laws;

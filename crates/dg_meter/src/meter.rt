@@ -29,14 +29,14 @@ impl<N: Nor> Metered<N> {
         }
     }
 
-    /// What was made since then.
+    /// The operations that were made since then.
     pub fn tally(&self) -> &Tally
         ensures { result.now ≡ tally_of self.now }
     {
         &self.tally
     }
 
-    /// A slot that stands already has this many pages.
+    /// A slot that exists already has this many pages.
     pub fn know_pages(&mut self, slot: usize, pages: u8)
         ensures inner { chip_of self.new ≡ chip_of self.old }
     {
@@ -65,7 +65,7 @@ impl<N: Nor> Nor for Metered<N> {
         ensures gave { OnOk result ((metered_device N.device self.new).taken
             ≡ taken_more (length into.old) (metered_device N.device self.old).taken) }
         ensures took { Took (length into.old) (metered_device N.device self.old) (metered_device N.device self.new) }
-        // a read is no operation
+        // a read is not an operation
         ensures same_tally { tally_of self.new ≡ tally_of self.old }
     {
         self.inner.read(at, into)
@@ -85,7 +85,7 @@ impl<N: Nor> Nor for Metered<N> {
         ensures same_taken { (metered_device N.device self.new).taken ≡ (metered_device N.device self.old).taken }
         ensures blows { (metered_device N.device self.old).stopped ≡ false
             → (metered_device N.device self.old).left ≡ Some 0 → (metered_device N.device self.new).blown ≡ true }
-        // it is counted where it was made, and only there
+        // it is counted if it was made, and only then
         ensures counted { OnOk result (Programmed at (length bytes.now) (tally_of self.old) (tally_of self.new)) }
         ensures uncounted { OnErr result (tally_of self.new ≡ tally_of self.old) }
     {

@@ -2,7 +2,7 @@
 ghost use Rattle.std.specs.Prelude.{◌≡◌};
 ghost use Rattle.dg_meter.specs.Regions.{region_of, slot_part};
 
-/// The first sector of program memory: before it stand the ledger and the control sectors.
+/// The first sector of program memory: before it are the ledger and the control sectors.
 const FIRST_PROGRAM: u32 = 3;
 
 /// The first sector of slots, which is the header of the first one.
@@ -28,7 +28,7 @@ pub enum Region {
 pub const REGIONS: usize = 5;
 
 impl Region {
-    /// The part in which a sector stands.
+    /// The part that a sector belongs to.
     pub fn of(sector: u32) -> Region
         ensures { result ≡ region_of sector }
     {

@@ -2,7 +2,7 @@
 ghost use Rattle.std.specs.Prelude.{◌≡◌};
 ghost use Rattle.dg_meter.specs.Shares.{no_share, one_more, both, those_since};
 
-/// How many of something there were, and their bytes. Both end at the greatest `u64`, where they stay.
+/// How many of something there were, and their bytes. Both saturate at the greatest `u64`.
 #[derive(Clone, Copy, Debug, PartialEq, Eq)]
 pub struct Share {
     pub count: u64,
@@ -10,7 +10,7 @@ pub struct Share {
 }
 
 impl Share {
-    /// There were none.
+    /// Nothing was counted.
     pub fn none() -> Share
         ensures { result ≡ no_share }
     {

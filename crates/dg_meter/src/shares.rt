@@ -1,11 +1,11 @@
-//! What there was of something in each part of a chip.
+//! How many of something there were, and their bytes, in each part of a chip.
 ghost use Rattle.std.specs.Prelude.{◌≡◌};
 ghost use Rattle.dg_meter.specs.Shares.{no_share, no_shares, share_at, noted};
 
 use crate::region::Region;
 use crate::share::Share;
 
-/// What there was of something in each part of a chip.
+/// How many of something there were, and their bytes, in each part of a chip.
 #[derive(Clone, Copy, Debug, PartialEq, Eq)]
 pub struct Shares {
     pub ledger: Share,
@@ -16,7 +16,7 @@ pub struct Shares {
 }
 
 impl Shares {
-    /// There was nothing.
+    /// Nothing was counted.
     pub fn none() -> Shares
         ensures { result ≡ no_shares }
     {
@@ -30,7 +30,7 @@ impl Shares {
         }
     }
 
-    /// What there was in a part.
+    /// How many there were in a part, and their bytes.
     pub fn at(&self, region: Region) -> Share
         ensures { result ≡ share_at self.now region }
     {

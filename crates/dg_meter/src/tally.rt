@@ -1,4 +1,4 @@
-//! What was made of a chip.
+//! The operations that were made on a chip.
 ghost use Rattle.std.specs.Prelude.{◌≡◌, ◌≢◌, length};
 ghost use Rattle.dg_nor.specs.Sizes.{sector_size};
 ghost use Rattle.dg_meter.specs.Tallies.{Erased, Programmed, NoOperations, shares_of};
@@ -13,10 +13,10 @@ pub const SLOTS: usize = 7;
 /// The bytes of a header that are programmed as a slot is taken.
 const HEADER: usize = 10;
 
-/// Where in a header the number of pages stands.
+/// Where the number of pages is in a header.
 const HEADER_PAGES: usize = 3;
 
-/// What an operation does.
+/// The kind of an operation.
 #[derive(Clone, Copy, Debug, PartialEq, Eq)]
 pub enum Kind {
     Program,
@@ -32,23 +32,23 @@ pub struct Operation {
     pub bytes: usize,
 }
 
-/// The operations that were made of a chip since its meter was made.
+/// The operations that were made on a chip since its meter was made.
 #[derive(Clone, Copy, Debug, PartialEq, Eq)]
 pub struct Tally {
-    /// How many there were of either kind.
+    /// How many there were, of both kinds together.
     pub operations: u64,
     pub programs: Shares,
     pub erases: Shares,
     /// The last one.
     pub last: Option<Operation>,
-    /// Headers that were written as slots were taken.
+    /// The headers that were written when slots were taken.
     pub headers: u64,
-    /// How many pages the header of each slot told that was written last.
+    /// The number of pages in the header that was last written for each slot.
     pub pages: [u8; SLOTS],
 }
 
 impl Tally {
-    /// Nothing was made.
+    /// No operation was made.
     pub fn none() -> Tally
         ensures { NoOperations result }
     {
@@ -62,7 +62,7 @@ impl Tally {
         }
     }
 
-    /// What was made of a kind.
+    /// The operations of a kind.
     pub fn of(&self, kind: Kind) -> &Shares
         ensures { result.now ≡ shares_of self.now kind }
     {
@@ -87,7 +87,8 @@ impl Tally {
         });
     }
 
-    /// A program was made. One of a whole sector is what a fuse leaves of an erase that it interrupts, which was counted.
+    /// A program was made. One of a whole sector is not counted: it is what a fuse leaves of an erase that it interrupts,
+    /// and that erase was counted.
     pub fn program(&mut self, at: u32, bytes: &[u8])
         ensures { Programmed at (length bytes.now) self.old self.new }
     {
@@ -107,7 +108,7 @@ impl Tally {
         self.note_header(region, sector, bytes);
     }
 
-    /// The header of a slot tells its pages.
+    /// Notes the number of pages in the header of a slot.
     fn note_header(&mut self, region: Region, sector: u32, bytes: &[u8])
         ensures operations { self.new.operations ≡ self.old.operations }
         ensures programs { self.new.programs ≡ self.old.programs }
