@@ -60,6 +60,7 @@ pub fn line_event(line: &Line) -> &Event
 {
     match line {
         Line::Happens(event) => event,
+        // The line was made of an event, so that its frame stands once. The type `Line` does not say of what it was made.
         _ => unreachable!(),
     }
 }

@@ -80,6 +80,7 @@ fn apply_alone<N: Nor>(
             board,
             outcome,
         ),
+        // A network that runs over boards alone has none of these events. The type `Event` is that of a script.
         Event::Hear { .. } | Event::Last { .. } | Event::Inject { .. } | Event::Order { .. } => {
             unreachable!()
         }
