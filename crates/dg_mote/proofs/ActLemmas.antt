@@ -1,4 +1,4 @@
--- What a mote does that does not clear its short starts, by its mode.
+-- What a mote that does not clear its short starts does, by its mode.
 use Rattle.std.proofs.Common.{◌≡◌, ◌≢◌, ◌⊎◌, ℕ, Bool, true, false, cond, List, Option, Some, None, refl, sym, ap, subst, ◌∙◌, inl, ⊎_elim, arith}
 use Rattle.std.proofs.lemmas.Bool.Decides.{nat_tests}
 use Rattle.std.specs.Prelude.{◌==◌, nat_le, nat_lt}
@@ -32,7 +32,7 @@ use Rattle.dg_mote.specs.declared.mote.Mote.{Mote}
 use Rattle.dg_mote.specs.declared.mote.Mode.{Mode as ModeValue}
 use Rattle.dg_mote.specs.declared.mote.Mode.TheVariants as value
 
--- ---- steps that leave the chip as it is
+-- ---- steps that leave the chip unchanged
 
 pub rests_done : (t : MoteStep Did) (old new : Device) (v : Mote) (n : MoteState) (s : Store) (did : Did) → t.mote ≡ n → t.trail ≡ resting s 0 → did ≡ t.answer → Looked old new → IsMote new.image v n s → Done t old new v did
 rests_done t old new v n s did mote trail answer looked is = record {

@@ -64,7 +64,7 @@ is_ahead entries s i e =
     let r = find_in_range (λ j. advertiser_ahead (entry_for entries j) (held s j)) 1 (length entries) i e in
     record { low = r.0; high = omega (arith, r.1); ahead = r.2 }
 
--- it has a page, and where this version is kept here it has more
+-- it has a page, and if this version is kept here it has more
 pub some_page : (e : Entry) (o : Option Held) → advertiser_ahead e o ≡ true → 1 ≤ e.have
 some_page e None is = leb-true 1 e.have is
 some_page e (Some h) is = leb-true 1 e.have (and_parts (nat_le 1 e.have) _ is).0
@@ -130,7 +130,7 @@ none_came =
 pub no_packet : (q : ℕ) (bytes : List ℕ) → packet no_packets q ≡ Some bytes → ⊥
 no_packet q bytes e = let none : packet no_packets q ≡ None = none_in q in cc
 
--- ---- what is promised below
+-- ---- what lower crates promise
 
 pub record TakeLaws (table : List Row) : Type 0 where
   pub rows : TableLaws

@@ -14,7 +14,7 @@ use Rattle.dg_mote.specs.Summary.{entry_for, entry_by, same_entry, same_order, o
 use Rattle.dg_mote.specs.Adverts.{better_trail}
 use Rattle.dg_mote.proofs.ServeLemmas.{chosen, passed}
 
--- what is found of so many numbers from a on
+-- what is found among the n numbers from a on
 found_from : (p : ℕ → Bool) (n a k : ℕ) → a ≤ k → k < a + n → ((j : ℕ) → a ≤ j → j < k → p j ≡ false) → p k ≡ true → find p (range_with_len a n) ≡ Some k
 found_from p zero a k low high before is = absurd (omega (arith, low, high))
 found_from p (suc n) a k low high before is = elim (cases_lt a k) [
@@ -43,7 +43,7 @@ not_all_from p (suc n) a k low high out = elim (cases_eq a k) [
     either true c e = e
     either false c e = refl
 
--- ---- the least image in which an advertiser is ahead
+-- ---- the lowest image in which an advertiser is ahead
 
 pub ahead_found : (entries : List Entry) (s : Store) (i : ℕ) → 1 ≤ i → i ≤ length entries → ((j : ℕ) → 1 ≤ j → j < i → advertiser_ahead (entry_for entries j) (held s j) ≡ false) → advertiser_ahead (entry_for entries i) (held s i) ≡ true → ahead_in entries s ≡ Some i
 unfolding ahead_in
@@ -53,7 +53,7 @@ pub ahead_none : (entries : List Entry) (s : Store) → ((j : ℕ) → 1 ≤ j �
 unfolding ahead_in
 ahead_none entries s out = none_from (λ j. advertiser_ahead (entry_for entries j) (held s j)) (length entries) 1 (λ j from to. out j from (omega (arith, to)))
 
--- ---- whether an advert is what a mote would say
+-- ---- whether an advert is what a mote would advertise
 
 abbrev is_said : List Entry → Store → ℕ → Bool
 is_said entries s = λ i. same_entry (entry_for entries i) (entry_by (held s i))
@@ -66,9 +66,9 @@ pub other_entries : (entries : List Entry) (order : Order) (wide : Bool) (s : St
 unfolding is_own
 other_entries entries order wide s k low high out = ap (λ b. b && same_order order (own_order wide s)) (not_all_from (is_said entries s) (length entries) 1 k low (omega (arith, high)) out)
 
--- ---- an advertiser that says the same is ahead in nothing
+-- ---- the advertiser of an equal advert is ahead in no image
 
--- each of so many numbers passes, where all do
+-- each of the n numbers from a on passes, if all do
 each_from : (p : ℕ → Bool) (n a k : ℕ) → list_all p (range_with_len a n) ≡ true → a ≤ k → k < a + n → p k ≡ true
 each_from p zero a k hold low high = absurd (omega (arith, low, high))
 each_from p (suc n) a k hold low high =

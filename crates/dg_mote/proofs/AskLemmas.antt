@@ -81,7 +81,7 @@ order_stops_alone (order_fault.OldOrder kept) none = absurd (none (λ e. cc))
 
 -- ---- a slot that is opened
 
--- a slot that may be taken: nothing but a stop keeps it from being done
+-- if a slot may be taken, taking it fails only by a stop
 pub take_stops_alone : (fault : TakeFault) → (fault ≢ take_fault.Stopped → ⊥) → fault ≡ take_fault.Stopped
 take_stops_alone take_fault.Stopped none = refl
 take_stops_alone (take_fault.Stale kept) none = absurd (none (λ e. cc))
@@ -338,7 +338,7 @@ better_mote a b v w m s timer order is mode acted lent =
     let still : ModeStands b.image w t v.mode (Maintain timer) = maintains_still a.image b.image v.volume w s t timer v.mode (λ i. lent i ∙ free i) stands in
     record { id = is.id; since = is.since; wide = is.wide; noted = is.noted; mounted = acted.mounted; mode = subst (λ (y : Mode). ModeStands b.image w t v.mode y) (sym mode) still; known = is.known }
 
--- it is compared with what the mote says, by its width
+-- it is compared with what the mote advertises, by its width
 pub said_same : (own : Bool) (entries : List Entry) (order : Order) (wide : Bool) (m : MoteState) (s : Store) → wide ≡ m.wide → own ≡ is_own entries order wide s → own ≡ is_own entries order m.wide s
 said_same own entries order wide m s alike e = e ∙ ap (λ w. is_own entries order w s) alike
 

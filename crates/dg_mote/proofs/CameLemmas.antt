@@ -1,4 +1,4 @@
--- The packets that came: how many they are, and the page that they make.
+-- The packets that came: how many there are, and the page that they make up.
 use Rattle.std.proofs.Common.{◌≡◌, ℕ, zero, suc, ◌+◌, ◌<◌, ◌≤◌, true, false, ◌&&◌, eqb, leb, ltb, List, ◌∷◌, map, Option, Some, None, is_some, refl, sym, ap, subst, ◌∙◌, inl, inr, arith}
 use Rattle.std.proofs.lemmas.Bool.{cases_Bool, cases_eq, eqb-true, and_parts, ltb-true}
 use Rattle.std.proofs.lemmas.Bool.Decides.{nat_tests}
@@ -47,7 +47,7 @@ all_of n s below full k less =
       | inr out ↦ let e : set.len (up_to s n) ≡ set.len s = ap set.len (up_to-all s n below) in absurd (omega (arith, e, full, len_without n k s less out))
     ]
 
--- where all are there, they are as many
+-- if all n are there, there are at least n
 len_full : (n : ℕ) (s : Numbers) → ((q : ℕ) → q < n → set.contains s q ≡ true) → n ≤ set.len (up_to s n)
 len_full zero s all = omega arith
 len_full (suc n) s all =
@@ -79,12 +79,12 @@ some_is : (o : Option (List ℕ)) → is_some o ≡ true → (bytes : List ℕ) 
 some_is None e = cc
 some_is (Some bytes) e = (bytes, refl)
 
--- where all came, each is there
+-- if all came, each is there
 pub came_all : (ps : Packets) → set.len (came ps) ≡ packets → (q : ℕ) → q < packets → (bytes : List ℕ) × (packet ps q ≡ Some bytes)
 came_all ps full q less =
     some_is (packet ps q) (and_parts (is_some (packet ps q)) (ltb q packets) (sym (came_has ps q) ∙ all_of packets (came ps) (came_below ps) full q less)).0
 
--- ---- the page that they make
+-- ---- the page that they make up
 
 map_same : {A : Type 0} (f g : ℕ → A) (a n : ℕ) → ((k : ℕ) → k < a + n → f k ≡ g k) → map f (range_with_len a n) ≡ map g (range_with_len a n)
 map_same f g a zero e = refl

@@ -168,7 +168,7 @@ module _ (ends : (s : Store) (p : Outline) → last (take_trail s p) ≡ taken s
   abbrev TakesThere : Bool → Store → Type 0
   TakesThere stopped t = TakesAdvert entries order stopped s t
 
-  -- the order is kept_better, and nothing else changes
+  -- a better order may have been kept, and nothing else changes
   record OrderTaken (u : Store) : Type 0 where
     pub order_is : (u.order ≡ s.order) ⊎ ((u.order ≡ order) × (s.order.number < order.number))
     pub kept : u.kept ≡ s.kept
@@ -199,7 +199,7 @@ module _ (ends : (s : Store) (p : Outline) → last (take_trail s p) ≡ taken s
       (record { order_is = inr (refl, low); kept = refl; app = refl; gesture = refl; room = omega arith }))
       (λ _. Through-resting OrderTaken s 0 same)
 
-  -- ---- one image is begun anew
+  -- ---- one image is restarted
 
   module _ (u : Store) (h : OrderTaken u) (i : ℕ) (low : 1 ≤ i) (behind : IsBehind (entry_for entries i) (held s i)) where
     abbrev P : Outline
@@ -271,7 +271,7 @@ module _ (ends : (s : Store) (p : Outline) → last (take_trail s p) ≡ taken s
 
   -- ---- the whole advert
 
-  -- the rest of it begins at this store, and goes on and ends so
+  -- the rest of the trail begins at this store, goes through such stores, and ends at one
   record Goes (u : Store) (t : Trail Store) : Type 0 where
     pub first : t.first ≡ u
     pub way : Through (TakesThere true) t
@@ -327,7 +327,7 @@ module _ (ends : (s : Store) (p : Outline) → last (take_trail s p) ≡ taken s
       cond_both (asks m u now i (entry_for entries i)) _ _ (λ (step : MoteStep Heard). Goes u step.trail)
       (λ _. ask_goes u i h k.0 k.1) (λ _. noting_goes own m timer u now word h)
 
-  -- it goes so, and ends so
+  -- the trail goes through such stores, and ends at one
   abbrev Both : MoteStep Heard → Type 0
   Both step = Through (TakesThere true) step.trail × TakesThere false (last step.trail)
 

@@ -37,9 +37,9 @@ tick_acts m s now word e = ap (λ (b : Bool). cond b (clear_turn m s) (mode_tick
 pub clears_room : (m : MoteState) (s : Store) (v : Volume) (now : ℕ) → clears m s now ≡ true → Tells v s → 1 ≤ room_of v
 clears_room m s v now e tells = let room = tells.room in grind (arith, nat_tests)
 
--- ---- what a commit of it leaves as it is
+-- ---- what its commit leaves unchanged
 
--- no slot is lent or goes back, jobs stay, and so does what is kept
+-- no slot is lent or returned; jobs and what is kept stay
 pub record IsSame (c d : List ℕ) (v w : Volume) (s t : Store) : Type 0 where
   pub lent : (i : ℕ) → is_lent w i ≡ is_lent v i
   pub job : (j : PageJob) (h : Held) (ps : Packets) → IsJob c j h ps → IsJob d j h ps

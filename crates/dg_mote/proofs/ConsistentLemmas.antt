@@ -56,7 +56,7 @@ use Rattle.dg_mote.proofs.KeepLemmas.{through_both, through_then}
 use Rattle.dg_mote.proofs.WellStores.{HasSlots, take_slots}
 use Rattle.dg_mote.proofs.AdvertLemmas.{is_ahead}
 
--- ---- what is promised below
+-- ---- what lower crates promise
 
 pub record ActLaws (golden : Row) : Type 0 where
   pub order : (s : Store) (o : Order) → Consistent golden s → Through (Consistent golden) (order_trail s o)
@@ -284,7 +284,7 @@ stop_consistent golden turn law stopped (Err e) a b v stops = λ here.
       consistent = stopped (turn here.state here.store).trail (stops here.state here.store here.stands).done leaves.store t.way leaves.allowed;
     }
 
--- what holds for each golden, holds where a call answered so
+-- if a call's answer implies P for each golden image, it implies P for all of them
 pub on_each : {T E A : Type 0} (P : A → Type 0) (r : Result T E) → ((a : A) → OnOk r (P a)) → OnOk r ((a : A) → P a)
 on_each P (Ok x) each = each
 on_each P (Err e) each = tt

@@ -48,7 +48,7 @@ use Rattle.dg_mote.proofs.ModeLemmas.{mounted_but}
 use Rattle.dg_mote.proofs.CameLemmas.{came_has, came_few, came_all}
 use Rattle.dg_mote.proofs.ServeLemmas.{chosen, passed}
 
--- ---- a turn that comes behind a trail
+-- ---- a turn that follows a trail
 
 pub done_behind : (t : Trail Store) (x : MoteStep Heard) (a b c : Device) (v : Mote) (answer : Heard) → last t ≡ x.trail.first → Ran (operations t) a b → Done x b c v answer → Done (turn_behind t x) a c v answer
 done_behind t x a b c v answer same ran done = record {
@@ -304,7 +304,7 @@ made_whole a b v m s r version server now q asking new job filled bytes known is
       };
     }
 
--- ---- the slot goes back
+-- ---- the slot is returned
 
 pub whole_fills : (c : List ℕ) (v : Mote) (m : MoteState) (s : Store) (r : Receiving) (h : Held) (ps : Packets) (version server : ℕ) (asking : Reception) (job : PageJob) → PageIsWhole c v m s r h ps → v.mode ≡ value.Receive version server asking job → Fills c s r.image job h ps
 whole_fills c v m s r h ps version server asking job whole code =

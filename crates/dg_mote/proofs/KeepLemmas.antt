@@ -16,7 +16,7 @@ use Rattle.dg_mote.specs.Summary.{no_entry, entry_by, entries_of, advert_of, ent
 use Rattle.dg_mote.specs.Agreement.{ModeAgrees, HonestEntry, HonestMessage}
 use Rattle.dg_mote.specs.Well.{SendsHonest}
 
--- a step goes through stores of P, leaves a mode that agrees, and sends what is honest
+-- a step goes through stores of P, leaves a mode that agrees, and sends only what is honest
 pub record Keeps {A : Type 0} (P : Store → Type 0) (table : List Row) (step : MoteStep A) : Type 0 where
   pub way : Through P step.trail
   pub mode : ModeAgrees table (last step.trail) step.mote.mode
@@ -40,7 +40,7 @@ all_then P Q f (stage ∷ stages) p = (f stage.after p.0, all_then P Q f stages 
 pub through_then : {S : Type 0} (P Q : S → Type 0) (then_q : (s : S) → P s → Q s) (t : Trail S) → Through P t → Through Q t
 through_then P Q f t p = (f t.first p.0, all_then P Q f t.stages p.1)
 
--- ---- a step that leaves the store as it is
+-- ---- a step that leaves the store unchanged
 
 pub rests : {A : Type 0} (P : Store → Type 0) (table : List Row) (m : MoteState) (s : Store) (n : ℕ) (sent : Option Message) (answer : A) → P s → ModeAgrees table s m.mode → SendsHonest table sent
     → Keeps P table (record { mote = m; trail = resting s n; sent = sent; answer = answer })
@@ -73,7 +73,7 @@ mode_same table s t e (Transmit x) a = record {
   owed = a.owed;
 }
 
--- ---- the own summary
+-- ---- the mote's own advert
 
 pub entry_is : (wide : Bool) (s : Store) (i : ℕ) → 1 ≤ i → i ≤ known_images wide → entry_for (entries_of wide s) i ≡ entry_by (held s i)
 entry_is wide s i low high = get_or-map-range_with_len (λ j. entry_by (held s j)) 1 (known_images wide) (i - 1) i no_entry (omega (arith, low, high)) (omega (arith, low))

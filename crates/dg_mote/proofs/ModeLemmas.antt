@@ -54,9 +54,9 @@ at_transmit c v s image version page owed (Transmit t) h = record { t = t; is = 
 at_transmit c v s image version page owed (Maintain timer) h = absurd h
 at_transmit c v s image version page owed (Receive r) h = absurd h
 
--- ---- the slot of a page that is given up goes back
+-- ---- the slot of a page that is given up is returned
 
--- a volume that tells a store tells it, but for any slots
+-- a volume that exposes a store exposes it whatever slots are left out
 pub mounted_but : {P : ℕ → Type 0} (c : List ℕ) (v : Volume) (s : Store) → Mounted c v s → MountedBut P c v s
 mounted_but c v s m = record {
   control = m.control;
@@ -64,7 +64,7 @@ mounted_but c v s m = record {
   tells = record { says = m.tells.says; room = m.tells.room; kept = λ i known other. m.tells.kept i known (λ h. h) };
 }
 
--- what a slot that goes back makes of the volume
+-- what the return of a slot does to the volume
 pub record GoesBack (v w : Volume) (slot : OpenSlot) : Type 0 where
   pub mounted : (c : List ℕ) (s : Store) (h : Held) → MountedBut (λ i. i ≡ (outline_of_slot slot).image) c v s → held s (outline_of_slot slot).image ≡ Some h → Opens slot h → Mounted c w s
   pub back : is_lent w (outline_of_slot slot).image ≡ false

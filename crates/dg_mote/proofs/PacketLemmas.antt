@@ -54,7 +54,7 @@ put_are_of page ps q bytes before new k came e =
       | inr other ↦ before k came (sym (get_or-set_other ps q k (Some bytes) None other) ∙ e)
     ]
 
--- where all came they make the page
+-- if all came they make up the page
 pub makes_page : ((page : List ℕ) → length page ≡ page_size → page_from (packets_of page) ≡ page) → (page : List ℕ) (ps : Packets) → length page ≡ page_size → AreOf page ps → set.len (came ps) ≡ packets → page_from ps ≡ page
 makes_page law page ps size are full =
     same_page ps (packets_of page) (λ q less.
@@ -76,7 +76,7 @@ wanted r image version page q e =
     let two = and_parts (r.image == image) (r.version == version) three.0 in
     record { image_is = eqb-true r.image image two.0; version_is = eqb-true r.version version two.1; page_is = eqb-true r.page page three.1 }
 
--- ---- what is promised below
+-- ---- what lower crates promise
 
 pub record PageLaws (table : List Row) : Type 0 where
   pub rows : TableLaws

@@ -44,7 +44,7 @@ use Rattle.dg_mote.specs.Rules.{MoteEvent, Ticks, Hears, sent_while, AllBetween,
 use Rattle.dg_mote.specs.declared.mote.Did.{Did}
 use Rattle.dg_mote.specs.declared.mote.Heard.{Heard}
 
--- windows that stay shut up to a moment: what is noted meanwhile does not open them
+-- windows that forbid asking until a given time: what is noted meanwhile does not end them earlier
 pub record Shuts (image from until : ℕ) (Noting : Noted → Type 0) : Type 0 where
   pub request : (n : Noted) (now i : ℕ) → from ≤ now → Noting n → Noting (with_request n now i)
   pub packet : (n : Noted) (now i : ℕ) → from ≤ now → Noting n → Noting (with_packet n now i)
@@ -52,7 +52,7 @@ pub record Shuts (image from until : ℕ) (Noting : Noted → Type 0) : Type 0 w
 
 -- ---- both windows
 
--- the image was noted at this moment or later
+-- the image was noted at this time or later
 abbrev pub IsNoted : Moments → (image from : ℕ) → Type 0
 IsNoted moments image from = (moment : ℕ) × (map.get moments image ≡ Some moment) × (from ≤ moment)
 

@@ -41,7 +41,7 @@ use Rattle.dg_mote.specs.declared.mote.Heard.{Heard}
 use Rattle.dg_mote.proofs.AdvertLemmas.{is_ahead}
 use Rattle.dg_mote.proofs.PacketLemmas.{Wanted, wanted}
 
--- it goes on as it is
+-- it continues unchanged
 goes_on : (old : Mode) (comes : (image version page q : ℕ) → Type 0) (r : Receiving) → old ≡ Receive r → Continues old comes r
 goes_on old comes r was = record { before = r; was = was; image = refl; version = refl; page = refl; packets_are = λ q is. inl is }
 

@@ -38,7 +38,7 @@ record Calm (x : Spot) (now : ℕ) (timer : Timer) : Type 0 where
 abbrev next : Spot → Timer → (now : ℕ) → Spot
 next x t now = record { store = x.store; mote = record x.mote { mode = Maintain (after_tick t now 0) } }
 
--- the timer after it, and what it does, by whether it has fired
+-- the timer after a tick, and what it does, by whether it has fired
 fires : (t : Timer) (now : ℕ) → t.fired ≡ false → t.count ≡ 0 → IsRunning t → t.begin + pace ≤ now → (act_of t now ≡ act.Send) × (after_tick t now 0 ≡ record t { fired = true })
 fires t now f c r h =
     let due : is_due t now ≡ true = λ i. not (f i) && le-leb (t.begin + t.t) now (omega (arith, r.before_end, r.longest)) i in (
@@ -61,7 +61,7 @@ tick_is x now t c =
     (tick_by_mode x (now + pace) (Maintain t) (not_clearing x.mote x.store (now + pace) c.gesture) c.maintains
     ∙ ap (λ b. cond b (record { mote = x.mote; trail = resting x.store 0; sent = None; answer = Restart }) (maintain_by (act_of t (now + pace)) (next x t (now + pace)).mote x.store)) c.order)
 
--- what came of one tick
+-- the outcome of one tick
 record OneTick (x : Spot) (now : ℕ) (t u : Timer) : Type 0 where
   calm : Calm (ticked x (now + pace)) (now + pace) u
   store : (ticked x (now + pace)).store ≡ x.store

@@ -1,4 +1,4 @@
--- A drained mote that hears the summary of a mote ahead of it asks for a page, and its next tick sends the request.
+-- A drained mote that hears the advert of a mote ahead of it asks for a page, and its next tick sends the request.
 use Rattle.std.proofs.Common.{◌≡◌, ◌≢◌, ℕ, ◌+◌, ◌≤◌, Bool, true, false, not, ◌&&◌, cond, leb, List, length, take, get_or, Option, Some, None, IfSome, Ok, refl, sym, ap, subst, ◌∙◌, inl, inr, arith}
 use Rattle.std.proofs.lemmas.Bool.{ne_eqb, le-leb, le-ltb, or_right, cases_Bool, cases_eq}
 use Rattle.std.specs.List.{find}
@@ -48,7 +48,7 @@ use Rattle.dg_mote.proofs.RoundNext.{found, asked_store, IsNext, next_by, can_ke
 abbrev receiving : (now server i page version : ℕ) → Receiving
 receiving now server i page version = record { image = i; version = version; page = page; server = server; tries = (reception_begun now 0).tries; due = (reception_begun now 0).due; packets = no_packets }
 
--- what is promised below of the acts
+-- what lower crates promise of the acts
 pub record ActLaws : Type 0 where
   pub order : (s : Store) (o : Order) → last (order_trail s o) ≡ ordered s o
   pub take : (s : Store) (p : Outline) → last (take_trail s p) ≡ taken s p
@@ -85,7 +85,7 @@ module _ (laws : ActLaws) where
       by true = refl
       by false = (laws.take_begins s (outline i e)).first
 
-  -- the summary of another mote, of either width, is heard as an advert of its entries and its order
+  -- the message of another mote, of either width, is heard as an advert of its entries and its order
   hears_summary : (wide : Bool) (m : MoteState) (here : Store) (now id : ℕ) (s : Store) → id ≢ m.id
       → by_message (Ok (advert_of id wide s)) m here now 0 ≡ on_advert m.mode m here now 0 (offer id (entries_of wide s)) (own_order wide s)
   hears_summary true m here now id s other = ap (λ b. cond b (dropped m here) (on_message m here now 0 (advert_of id true s))) (ne_eqb id m.id other)
@@ -132,7 +132,7 @@ module _ (laws : ActLaws) where
         → hears x now summary ≡ spot_of (turn_behind t (cond (may i) (asking x.mote s1 now 0 id i (e_of i)) (noting x.mote timer s1 now 0 own)))
     hears_ahead i other is a = hears_advert other is ∙ ap (λ o. spot_of (turn_behind t (by_ahead o x.mote s1 now 0 (offer id entries) (noting x.mote timer s1 now 0 own)))) (ahead_same ∙ a)
 
-    -- it would not ask only where there is no room
+    -- it would fail to ask only if there is no room
     quiet_store : (b : Bool) → last (turn_behind t (noting x.mote timer s1 now 0 b)).trail ≡ s1
     quiet_store true = last-joined t (resting s1 0) (last_better x.store order) ∙ last-resting s1 0
     quiet_store false = last-joined t (resting s1 0) (last_better x.store order) ∙ last-resting s1 0

@@ -1,4 +1,4 @@
--- What a mote has still to do that hears nothing, and how a tick leaves less of it.
+-- What a mote that hears nothing still has to do, and how a tick reduces it.
 use Rattle.std.proofs.Common.{◌≡◌, ◌⊎◌, ℕ, zero, suc, ◌+◌, ◌-◌, ◌*◌, ◌≤◌, Bool, true, false, not, ◌&&◌, cond, eqb, leb, Some, None, min, nat_cmp, refl, sym, ap, subst, ◌∙◌, inl, inr, arith}
 use Rattle.std.proofs.lemmas.Bool.{le-leb, leb-true, and_parts, both_ways}
 use Rattle.std.specs.FinSet as set
@@ -64,7 +64,7 @@ timer_falls_by t now true f r h =
 
 -- ---- what a tick leaves
 
--- nothing was noted after that moment
+-- nothing was noted after that time
 abbrev MomentsPast : Moments → ℕ → Type 0
 MomentsPast ms last = (image moment : ℕ) → map.get ms image ≡ Some moment → moment ≤ last
 
@@ -74,7 +74,7 @@ NotedBy n last = MomentsPast n.requests last × MomentsPast n.packets last
 pub past_none : (last : ℕ) → MomentsPast map.empty last
 past_none last image moment e = let none : map.get (map.empty {K = ℕ} {X = ℕ} {R = nat_cmp}) image ≡ None = map.get-empty nat_cmp image in cc
 
--- n ticks lower the debt by as much, make no other commits, and keep the rest
+-- n ticks lower the debt by n, make no other commits, and keep the rest
 pub record Paid (n : ℕ) (x y : Spot) : Type 0 where
   pub debt : spare_room ≤ y.store.room → debt y ≤ debt x - n
   pub kept : y.store.kept ≡ x.store.kept
@@ -99,7 +99,7 @@ and_false : (b : Bool) → (b && false) ≡ false
 and_false true = refl
 and_false false = refl
 
--- with less room no more waits
+-- if a implies b, an order that is pending with a is pending with b
 waits_less : (s : Store) (a b : Bool) → (a ≡ true → b ≡ true) → one_if (waits_with s a) ≤ one_if (waits_with s b)
 waits_less s true b h = subst (λ c. one_if (waits_with s true) ≤ one_if (waits_with s c)) (sym (h refl)) (omega arith)
 waits_less s false b h =
@@ -133,7 +133,7 @@ pays_clear x now e =
       noted = λ last p. p;
     })
 
--- ---- none are, or there is no room to
+-- ---- no short starts are counted, or there is no room to clear them
 
 abbrev pub Calm : Store → Type 0
 Calm s = (leb 1 s.gesture ≡ false) ⊎ (s.room ≡ 0)
@@ -150,7 +150,7 @@ pub no_start : (g : ℕ) → leb 1 g ≡ false → g ≡ 0
 no_start zero e = refl
 no_start (suc g) e = absurd (both_ways (leb 1 (suc g)) e (le-leb 1 (suc g) (omega arith)))
 
--- ---- the store stays, and the mode goes on
+-- ---- the store stays, and the mode continues
 
 pub pays_mode : (x : Spot) (now : ℕ) (mode next : Mode) → x.mote.mode ≡ mode → mode_debt next ≤ mode_debt mode - 1
     → ticked x now ≡ record { store = x.store; mote = record x.mote { mode = next } } → (1 ≤ mode_debt mode) ⊎ (order_waits x.store ≡ false) → Calm x.store → Paid 1 x (ticked x now)

@@ -1,4 +1,4 @@
--- Which page a mote asks for that hears an advert, and what it keeps then.
+-- Which page a mote that hears an advert asks for, and what it then keeps.
 use Rattle.std.proofs.Common.{◌≡◌, ◌≢◌, ◌⊎◌, ℕ, ◌<◌, ◌≤◌, Bool, true, false, ◌&&◌, cond, eqb, leb, ltb, length, Option, Some, None, refl, sym, ap, subst, ◌∙◌, inl, inr, arith}
 use Rattle.std.proofs.lemmas.Bool.{eq-eqb, ne_eqb, eqb-true, leb-true, ltb-true, and_parts, or_cases, both_ways}
 use Rattle.std.proofs.lemmas.List.{get_or-set_same, get_or-set_other, length-set}
@@ -140,7 +140,7 @@ next_by (Some h) s i ahead is there e =
           })
     ]
 
--- ---- the order is kept_better before
+-- ---- a better order is kept first
 
 abbrev pub can_keep_better : Store → Order → Bool
 can_keep_better s o = ltb s.order.number o.number && leb 1 s.room

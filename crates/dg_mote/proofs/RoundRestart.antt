@@ -1,4 +1,4 @@
--- A tick that finds an order waiting starts it, and then none waits.
+-- A tick that finds a pending order starts it, and then no order is pending.
 use Rattle.std.proofs.Common.{◌≡◌, ℕ, ◌+◌, ◌-◌, Bool, true, false, not, ◌&&◌, ◌||◌, eqb, leb, ltb, cond, Some, None, is_some, refl, sym, ap, ◌∙◌}
 use Rattle.std.proofs.lemmas.Bool.{eq-eqb}
 use Rattle.dg_nor.specs.Trail.{last, last_of, joined, resting}
@@ -19,7 +19,7 @@ use Rattle.dg_mote.specs.declared.mote.Did.{Did}
 use Rattle.dg_mote.specs.declared.mote.Did.TheVariants.{Restart}
 use Rattle.dg_mote.proofs.RoundTicks.{spot_from, ticked_by}
 
--- what is promised below of starts
+-- what lower crates promise of starts
 pub record OrderLaws : Type 0 where
   pub count : (k : StartCause) (s : Store) → last (count_trail k s) ≡ cond (counts k s) (record (spent s) { gesture = s.gesture + 1 }) s
   pub counted : (k : StartCause) (s : Store) → ((boot k s).runs ≡ (boot_counted (last (count_trail k s))).runs) × (last (boot k s).trail ≡ last (boot_counted (last (count_trail k s))).trail)
@@ -27,7 +27,7 @@ pub record OrderLaws : Type 0 where
   pub begins : (k : StartCause) (s : Store) → BeginsAt s (boot k s).trail
 
 module _ (laws : OrderLaws) where
-  -- a start for the order does not count, and starts it
+  -- a start for the order is not counted as short, and starts it
   boot_ends : (s : Store) → s.gesture ≡ 0 → order_waits s ≡ true → sound s s.order.image ≡ true → BootEnds (boot cause.Order s) (ordered_runs s) (order_started s)
   boot_ends s g waits fine =
       let not_golden : by_gesture s ≡ false = ap (λ n. eqb n short_starts && (ltb 0 s.room || (not (is_some s.app) || is_set_to s.app 0 golden_version))) g in
@@ -58,7 +58,7 @@ module _ (laws : OrderLaws) where
       restart : Effect → Effect
       restart e = record e { trail = joined (resting x.store 0) e.trail }
 
--- ---- then none waits
+-- ---- then no order is pending
 
 pub and_none : (a b c : Bool) → (a && (b && (c && false))) ≡ false
 and_none true true true = refl

@@ -1,4 +1,4 @@
--- A mote that asks takes the packets of a page in order, and has one page more.
+-- A mote that asks takes the packets of a page in order, and has one more page.
 use Rattle.std.proofs.Common.{◌≡◌, ◌≢◌, ℕ, zero, suc, ◌+◌, ◌*◌, ◌<◌, Bool, true, false, not, ◌&&◌, cond, eqb, ltb, List, [], length, map, take, get_or, Some, None, is_some, refl, sym, ap, subst, ◌∙◌, arith}
 use Rattle.std.proofs.lemmas.Bool.{eq-eqb, ne_eqb, le-ltb, lt-ltb}
 use Rattle.std.proofs.lemmas.Option.{same_Some}
@@ -103,7 +103,7 @@ module _ (whole : (page : List ℕ) → length page ≡ page_size → page_from 
   abbrev part : (x : Spot) → Receiving → (now n : ℕ) → MoteStep Heard
   part x r now n = record { mote = record x.mote { mode = Receive (with_one r now n) }; trail = resting x.store 1; sent = None; answer = Took n }
 
-  -- it is one that it wants, and the page is sealed where it was the last one
+  -- it is one that it wants, and the page is sealed if it was the last one
   heard_one : (n : ℕ) (x : Spot) (now : ℕ) → n < packets → sender ≢ x.mote.id → (f : Fills n x)
       → hears x now (says n) ≡ spot_of (cond (eqb (n + 1) packets) (seal_by (held x.store f.r.image) x.mote f.r x.store now 0 (page_from (with_one f.r now n).packets)) (part x f.r now n))
   heard_one n x now h other f =

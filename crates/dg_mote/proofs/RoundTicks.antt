@@ -37,14 +37,14 @@ ticked_by x now t e = ap (λ (t : MoteStep Did). spot_from x.mote (tick_by t.ans
 pub not_clearing : (m : MoteState) (s : Store) (now : ℕ) → s.gesture ≡ 0 → clears m s now ≡ false
 not_clearing m s now e = ap (λ g. (leb 1 g && leb (m.since + long_run) now) && leb 1 s.room) e
 
--- where no short starts are cleared, a tick goes by the mode
+-- if no short starts are cleared, the mode decides what a tick does
 pub tick_by_mode : (x : Spot) (now : ℕ) (mode : Mode) → clears x.mote x.store now ≡ false → x.mote.mode ≡ mode → tick_of x.mote x.store now 0 ≡ mode_tick mode x.mote x.store now 0
 unfolding tick_of
 tick_by_mode x now mode none is =
     ap (λ b. cond b (record { mote = x.mote; trail = clear_trail x.store; sent = None; answer = Idle }) (mode_tick x.mote.mode x.mote x.store now 0)) none
     ∙ ap (λ k. mode_tick k x.mote x.store now 0) is
 
--- ---- it maintains, and no order waits
+-- ---- it maintains, and no order is pending
 
 maintain_spot : (a : Act) (m before : MoteState) (s : Store) (now : ℕ) → spot_from before (tick_by (maintain_by a m s).answer (maintain_by a m s) now 0) ≡ record { store = s; mote = m }
 unfolding last_of
@@ -64,7 +64,7 @@ ticks_maintain x now t none is waits =
 
 -- ---- it asks
 
--- a request is due, and it did not ask too often
+-- a request is due, and not all requests were made yet
 pub asks_now : (r : Receiving) (now : ℕ) → r.due ≤ now → r.tries < most_requests → ask_of (reception r) now ≡ ask.Request (missing (reception r))
 asks_now r now late few =
     ap (λ b. cond b ask.Wait (cond (leb most_requests r.tries) ask.GiveUp (ask.Request (missing (reception r))))) (le-ltb now r.due late)

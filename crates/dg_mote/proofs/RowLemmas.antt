@@ -12,7 +12,7 @@ use Rattle.dg_volume.specs.Agreement.{KeepsRow, Agrees}
 
 -- ---- what is found in a table
 
--- as it is promised below
+-- what lower crates promise of a table
 pub record TableLaws : Type 0 where
   pub image_version : (table : List Row) (image version : ℕ) (row : Row) → row_at table image version ≡ Some row → (row.image ≡ image) × (row.version ≡ version)
   pub row : (table : List Row) (image version : ℕ) (row : Row) → IsTable table → row_at table image version ≡ Some row → IsRow row

@@ -266,7 +266,7 @@ module _ (m : MoteState) (s : Store) (now word source to image version page : �
   unfolding tick_of
   request_told = cond_both (clears m s now) _ _ (λ (x : MoteStep Did). AsksSo x.sent) (λ _ e. cc) (λ _. mode_told m.mode refl)
 
--- an advert that is sent is the own summary
+-- an advert that is sent is the mote's own advert
 module _ (m : MoteState) (s : Store) (now word : ℕ) (wide : Bool) (source : ℕ) (entries : List Entry) (order : Order) where
   abbrev Says : Option Message → Type 0
   Says sent = sent ≡ Some (advert_by wide source entries order) → advert_by wide source entries order ≡ advert_of m.id m.wide s
@@ -277,7 +277,7 @@ module _ (m : MoteState) (s : Store) (now word : ℕ) (wide : Bool) (source : �
   maintain_says act.Expired x same alike e = cc
   maintain_says act.Nothing x same alike e = cc
 
-  -- a message of another kind is none
+  -- a message of another kind is not an advert
   no_advert : (w : Bool) (message : Message) → ((source : ℕ) (entries : List Entry) (order : Order) → message ≢ Advert source entries order) → ((source : ℕ) (entries : List Entry) (order : Order) → message ≢ Wide source entries order)
       → message ≢ advert_by w source entries order
   no_advert true message narrow many = many source entries order

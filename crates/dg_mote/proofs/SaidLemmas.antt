@@ -1,4 +1,4 @@
--- What a well mote sends is read as it says it.
+-- What a well mote sends is read back unchanged.
 use Rattle.std.proofs.Common.{◌≡◌, ◌≢◌, ℕ, zero, suc, ◌+◌, ◌*◌, ◌<◌, ◌≤◌, ◌^◌, Bool, true, false, not, ◌&&◌, List, [], length, map, Option, Some, None, IfSome, MatchOption, All, Ok, refl, sym, ap, subst, ◌∙◌, inl, inr, ⊎_elim, arith}
 use Rattle.std.specs.Prelude.{nat_lt, nat_le, slice_index_or}
 use Rattle.std.proofs.lemmas.Bool.{cond_both, cases_lt, lt-ltb, ltb-true, leb-true, false≢true}
@@ -48,7 +48,7 @@ use Rattle.dg_mote.proofs.CameLemmas.{came_below, full_of}
 use Rattle.dg_mote.proofs.KeepLemmas.{entry_is, length_entries}
 use Rattle.dg_volume.specs.Filling.{packet_of}
 
--- what is promised below of rows and frames
+-- what lower crates promise of rows and frames
 pub record SpellLaws : Type 0 where
   pub rows : TableLaws
   pub some : (row : Row) → IsRow row → 2 ≤ pages_for (length row.bytes)
@@ -62,7 +62,7 @@ pub record SpellLaws : Type 0 where
   pub ranges : (wide : Bool) (m : Message) → IsInRange wide m → in_range wide m ≡ true
   pub written : (wide : Bool) (m : Message) → FitsTypes m → in_range wide m ≡ true → message_of (frame_of m) wide ≡ Ok m
 
--- the order as a mote of this width tells it
+-- the order that a mote of this width advertises
 order_told : (wide : Bool) (s : Store) → OrderFits s.order → OrderFits (own_order wide s) × OrderInRange (known_images wide) (own_order wide s)
 unfolding own_order
 order_told true s fits = (fits, fits.in_range)
@@ -84,7 +84,7 @@ module _ (laws : SpellLaws) where
   crc_small row is = laws.crc (descriptor_page row) (all_bytes (descriptor_page row) (subst AreBytes (laws.first row) (laws.bytes row 0 is)))
 
   module _ (table : List Row) (is_table : IsTable table) (s : Store) (w : StoreIsWell table s) (id : ℕ) (small : id < 2 ^ 16) (wide : Bool) where
-    -- ---- the own summary
+    -- ---- the mote's own advert
 
     entry_in : (i : ℕ) (o : Option Held) → IfSome o (KeepsRow table i) → EntryInRange (entry_by o)
     entry_in i None k = inl refl

@@ -1,4 +1,4 @@
--- What a mote says fits into frames.
+-- What a mote sends fits into frames.
 use Rattle.std.proofs.Common.{◌≡◌, ◌≢◌, ℕ, zero, suc, ◌+◌, ◌<◌, ◌≤◌, Bool, true, false, not, ◌&&◌, ◌||◌, List, map, length, Option, Some, None, IfSome, IsTrue, refl, sym, ap, subst, ◌∙◌, arith, cond, get_or, inl, inr, [], ◌∷◌}
 use Rattle.std.proofs.lemmas.Bool.{cond_both, cond-true, cond-false, false≢true, cases_lt, lt-ltb, and_from}
 use Rattle.std.proofs.lemmas.Bool.Decides.{nat_tests}
@@ -60,7 +60,7 @@ entry_by_fits c v i (Some h) known m is = entry_of_kept h (kept_fits c v i (told
 held_fits : (c : List ℕ) (v : Volume) (s : Store) (i : ℕ) → i < images → Mounted c v s → entry_fits (entry_by (held s i)) ≡ true
 held_fits c v s i known m = entry_by_fits c v i (held s i) known (s, m) (m.tells.kept i known (λ h. h))
 
--- the order as a mote of this width tells it
+-- the order that a mote of this width advertises
 pub order_told : (wide : Bool) (s : Store) → wide || nat_le s.order.image narrow_images ≡ true → own_order wide s ≡ s.order
 unfolding own_order
 order_told wide s e = cond-true (wide || nat_le s.order.image narrow_images) s.order no_order e
@@ -111,7 +111,7 @@ narrow_said id false s entries o is e f = λ i. Advert id (e i) (f i)
 
 -- ---- a request
 
--- what is not in a set with fewer numbers
+-- a set with fewer numbers lacks one
 both_left : (a b : Bool) → a ≡ true → a && not b ≡ false → b ≡ true
 both_left true true e f = refl
 both_left true false e f = cc
@@ -153,7 +153,7 @@ request_fits c v s job r wide id to version now asking want named receives of_ve
 
 -- ---- a packet
 
--- a page that is served, where it stands on the chip
+-- a page that is served, as it is on the chip
 pub record StandsIn (c : List ℕ) (s : Store) (t : Sending) : Type 0 where
   pub known_image : t.image < images
   pub known_page : t.page < most_pages
@@ -189,7 +189,7 @@ unfolding in_range
 packet_in_range true id image version page q bytes a b c d e = grind (arith, nat_tests)
 packet_in_range false id image version page q bytes a b c d e = grind (arith, nat_tests)
 
--- the message of a packet that is read where the page stands
+-- the message of a packet that is read from the page on the chip
 pub record PacketSays (c : List ℕ) (s : Store) (t : Sending) (image version page q : ℕ) : Type 0 where
   pub known_page : page < most_pages
   pub fits : (wide : Bool) (id : ℕ) → NamesKnown wide (Transmit t) → in_range wide (Packet id image version page q (packet_in c (page_sector image page) q)) ≡ true

@@ -135,7 +135,7 @@ serving_more c v m s t i version page a b d now owed want is mode code one two t
     same_page : (a b d x y z : ℕ) → a ≡ x → b ≡ y → d ≡ z → (a == x) && (b == y) && (d == z) ≡ true
     same_page a b d x y z e f h = grind (arith, nat_tests)
 
--- it does not, where another page is asked for
+-- it does not, if another page is requested
 pub serving_other : (c : List ℕ) (v : Mote) (m : MoteState) (s : Store) (t : Sending) (i version page a b d now : ℕ) (owed : Owed) (want : Numbers) → IsMote c v m s → m.mode ≡ Transmit t → v.mode ≡ value.Transmit i version page owed
     → (i ≢ a) ⊎ ((version ≢ b) ⊎ (page ≢ d)) → ChipStays (to_it (Transmit t) m s now (page_request a b d want)) c s v heard.Dropped
 serving_other c v m s t i version page a b d now owed want is mode code other =

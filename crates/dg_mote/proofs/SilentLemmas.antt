@@ -26,7 +26,7 @@ use Rattle.dg_mote.specs.Hears.{source_of, on_message, by_message, heard_of}
 use Rattle.dg_mote.specs.declared.mote.Heard.{Heard}
 use Rattle.dg_mote.specs.declared.mote.Heard.TheVariants.{Refused, Dropped, Noted, Same, Other, Asks, Serves, Merged, Took, Sealed, Bad}
 
--- by the answer to a message: it is not Refused, and where it is Dropped nothing changed
+-- by the answer to a message: it is not Refused, and if it is Dropped nothing changed
 abbrev Unchanged : MoteState → Store → MoteStep Heard → Heard → Type 0
 Unchanged m s step (Refused cause) = ⊥
 Unchanged m s step Dropped = (step.mote ≡ m) × (step.trail ≡ resting s 0)
@@ -109,7 +109,7 @@ pub heard_silent : (m : MoteState) (s : Store) (now word : ℕ) (bytes : List �
 unfolding heard_of
 heard_silent m s now word bytes = by_silent (message_of bytes m.wide) m s now word
 
--- a refusal is told
+-- a refusal is reported
 by_told : (r : Result Message FrameFault) (m : MoteState) (s : Store) (now word : ℕ) (cause : FrameFault) → r ≡ Err cause → by_message r m s now word ≡ record { mote = m; trail = resting s 0; sent = None; answer = Refused cause }
 by_told r m s now word cause e = ap (λ (x : Result Message FrameFault). by_message x m s now word) e
 

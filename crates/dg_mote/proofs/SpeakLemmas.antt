@@ -103,7 +103,7 @@ tells_boot k s b o = through_then (OnTheWay s (boot k s).runs) TellsOrder (λ t 
 
 -- ---- steps
 
--- a mode names a server that a frame can tell, and an image that the mote's frames speak of, if any
+-- a mode names a server that fits into a frame, and an image that the mote's frames can name, if any
 abbrev pub ModeFits : (wide : Bool) → Mode → Type 0
 ModeFits wide mode = ServerFits mode × NamesKnown wide mode
 

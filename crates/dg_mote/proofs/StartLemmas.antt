@@ -17,7 +17,7 @@ use Rattle.dg_volume.specs.Agreement.{HoldsRow, Agrees}
 use Rattle.dg_volume.specs.declared.volume.StartCause.{StartCause}
 use Rattle.dg_mote.proofs.RowLemmas.{keeps_row}
 
--- what is promised below of starts and of rows
+-- what lower crates promise of starts and of rows
 pub record BootLaws (table : List Row) : Type 0 where
   pub count : (k : StartCause) (s : Store) → last (count_trail k s) ≡ cond (counts k s) (record (spent s) { gesture = s.gesture + 1 }) s
   pub counted : (k : StartCause) (s : Store) → ((boot k s).runs ≡ (boot_counted (last (count_trail k s))).runs) × (last (boot k s).trail ≡ last (boot_counted (last (count_trail k s))).trail)

@@ -1,4 +1,4 @@
--- A mote that heard its own summary keeps quiet in that interval.
+-- A mote that heard an advert equal to its own stays silent in that interval.
 use Rattle.std.proofs.Common.{◌≡◌, ◌≢◌, ℕ, ◌+◌, ◌*◌, ◌<◌, ◌≤◌, min, Bool, true, false, ◌&&◌, ◌||◌, cond, List, [], ◌∷◌, Option, Some, None, Result, Ok, Err, find, refl, sym, ap, subst, ◌∙◌, inl, inr, arith}
 use Rattle.std.specs.Prelude.{◌==◌, nat_le, nat_lt}
 use Rattle.std.specs.List.{list_all}
@@ -54,7 +54,7 @@ pub advert_does : (m : MoteState) (s : Store) (now word : ℕ) (wide : Bool) (so
 advert_does m s now word true source entries order = refl
 advert_does m s now word false source entries order = refl
 
--- ---- an advert that equals the own summary
+-- ---- an advert that equals the mote's own
 
 none_found : {X : Type 0} (p q : X → Bool) (xs : List X) → ((x : X) → q x ≡ true → p x ≡ false) → list_all q xs ≡ true → find p xs ≡ None
 none_found p q [] not_both all = refl
@@ -78,7 +78,7 @@ same_not_ahead e o same =
           | inr not_ahead ↦ not_ahead
         ]
 
--- the order that a mote tells is not better than the one that it keeps
+-- the order that a mote advertises is not better than the one that it keeps
 own_not_better : (wide : Bool) (s : Store) → (own_order wide s).number ≤ s.order.number
 unfolding own_order
 own_not_better wide s = cond_both (wide || nat_le s.order.image narrow_images) s.order no_order (λ (o : Order). o.number ≤ s.order.number) (λ _. omega arith) (λ _. omega arith)
@@ -99,7 +99,7 @@ unfolding better_trail
 own_order_stays s order same =
     ap (λ b. cond (b && nat_le 1 s.room) (order_trail s order) (resting s 0)) (le-ltb s.order.number order.number (omega (arith, same)))
 
--- nothing comes before it
+-- the empty trail before it changes nothing
 behind_none : (s : Store) (m : MoteState) (answer : Heard) → turn_behind (resting s 0) (record { mote = m; trail = resting (last (resting s 0)) 0; sent = None; answer = answer }) ≡ record { mote = m; trail = resting s 0; sent = None; answer = answer }
 unfolding last_of
 behind_none s m answer = ap (λ (t : Trail Store). record { mote = m; trail = t; sent = None; answer = answer }) (joined_none (resting s 0))
@@ -142,7 +142,7 @@ ticks_on timer t now word q early =
     cond_both (is_due t now) (record t { fired = true }) _ (λ x. Suppressed timer (Maintain x)) (λ _. q)
     (λ _. cond_both (is_over t now) (interval_begun (min (2 * t.interval) longest_interval) now word) t (λ x. Suppressed timer (Maintain x)) (λ over. absurd (not_over t now (omega (arith, early, q.0, q.1)) over)) (λ _. q))
 
--- at t it keeps quiet
+-- at t it stays silent
 no_send : (t : Timer) (now : ℕ) (m : MoteState) (s : Store) → 1 ≤ t.count → (maintain_by (act_of t now) m s).sent ≡ None
 no_send t now m s heard =
     let P : Act → Type 0 = λ a. (maintain_by a m s).sent ≡ None in
@@ -172,7 +172,7 @@ unfolding tick_of
 tick_quiet timer m s now word q early =
     cond_both (clears m s now) _ _ (StaysQuiet timer) (λ _. record { silent = refl; mode = q }) (λ _. mode_quiet timer m.mode m s now word q q early)
 
--- a frame that leaves it in the interval leaves it so
+-- a frame that leaves it in the interval leaves it suppressed
 abbrev Counts : Timer → MoteStep Heard → Type 0
 Counts timer step = IsInInterval timer step.mote.mode → Suppressed timer step.mote.mode
 

@@ -1,4 +1,4 @@
--- Motes that agree and are in time, through ticks, frames and starts.
+-- Motes that agree and are timely, through ticks, frames and starts.
 use Rattle.std.proofs.Common.{◌≡◌, ℕ, Bool, List, length, Option, Some, None, IsSomeAnd, sym, ap, subst, ◌∙◌}
 use Rattle.dg_nor.specs.Trail.{Trail, last, joined, Leaves}
 use Rattle.dg_nor.specs.Through.{Through}
@@ -57,7 +57,7 @@ stopped_well table t k s way left = Leaves-through IsNear (StoreIsWell table) (n
 
 -- ---- starts
 
--- what is promised below of starts
+-- what lower crates promise of starts
 pub record StartLaws (table : List Row) : Type 0 where
   pub way : (k : StartCause) (s : Store) → Agrees table s → Through (Agrees table) (boot k s).trail
   pub ends : (k : StartCause) (s : Store) → Boots s (boot k s)

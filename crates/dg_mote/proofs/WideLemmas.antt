@@ -1,4 +1,4 @@
--- Motes that are wide or narrow: how many images their frames name, and the orders that they tell.
+-- Motes that are wide or narrow: how many images their frames name, and the orders that they advertise.
 use Rattle.std.proofs.Common.{◌≡◌, ⊎_elim, ◌<◌, ◌≤◌, Bool, true, false, List, length, inl, inr, arith}
 use Rattle.dg_control.specs.declared.snapshot.Order.{Order}
 use Rattle.dg_volume.specs.Sizes.{images}
@@ -31,6 +31,6 @@ names_many false entries is count = cc
 pub kept_few : (wide : Bool) (entries : List Entry) → length entries ≤ known_images wide → length entries < images
 kept_few wide entries few = omega (arith, few, known_kept wide)
 
--- an order that a narrow advert tells is one that a wide advert tells
+-- an order that a narrow advert can carry is one that a wide advert can carry
 pub narrow_order : (o : Order) → OrderInRange narrow_images o → OrderInRange wide_images o
 narrow_order o range = ⊎_elim (λ none. inl none) (λ some. inr (record { number = some.number; image = omega (arith, some.image); version = some.version })) range

@@ -27,8 +27,8 @@ pub record IsBehind (e : Entry) (old : Option Held) : Type 0 where
   pub some : 1 ≤ e.have
   pub older : IfSome old (λ h. h.version < e.version)
 
--- The order becomes a better one, or stays. One image, which is not golden, is begun anew for the entry, or stays; where
--- the power stops, it may be given up. All else stays, but that room may be spent.
+-- The order becomes a better one, or stays. One image, which is not golden, is restarted for the entry, or stays; if power is
+-- lost, it may be given up. All else stays, except that room may be spent.
 pub record TakesAdvert (entries : List Entry) (order : Order) (stopped : Bool) (s t : Store) : Type 0 where
   pub order_is : (t.order ≡ s.order) ⊎ ((t.order ≡ order) × (s.order.number < order.number))
   pub image : ℕ
@@ -43,7 +43,7 @@ pub record TakesAdvert (entries : List Entry) (order : Order) (stopped : Bool) (
 
 -- ---- a packet
 
--- the page that is asked for is complete then: each of its packets had come, but for this one
+-- the page that is asked for is then complete: each of its packets had arrived, except this one
 pub record Completes (mode : Mode) (image version page q : ℕ) (s t : Store) : Type 0 where
   pub r : Receiving
   pub receives : mode ≡ Receive r
@@ -66,12 +66,12 @@ abbrev pub Brings : List ℕ → (wide : Bool) → (image version page q : ℕ) 
 Brings bytes wide image version page q =
     (source : ℕ) × (content : List ℕ) × (message_of bytes wide ≡ Ok (Packet source image version page q content))
 
--- a page is begun that is not one of golden: no packet of it came yet
+-- a page, not of golden, is begun: no packet of it has arrived yet
 pub record IsBegun (r : Receiving) : Type 0 where
   pub not_golden : 1 ≤ r.image
   pub none : (q : ℕ) → packet r.packets q ≡ None
 
--- the same page was asked for before, and each packet that is there was there, or comes now
+-- the same page was asked for before, and each packet that is there was there before, or comes now
 pub record Continues (old : Mode) (comes : (image version page q : ℕ) → Type 0) (r : Receiving) : Type 0 where
   pub before : Receiving
   pub was : old ≡ Receive before

@@ -1,5 +1,5 @@
--- What a round does at each of its two motes: they are drained, one tells what it keeps, the other asks for a page, and the
--- page goes over (docs/PROMISES.md, "Laws over the definitions alone").
+-- What a round does at each of its two motes: they are drained, one advertises what it keeps, the other asks for a page, and
+-- the page is transferred (docs/PROMISES.md, "Laws over the definitions alone").
 use Rattle.std.specs.Prelude.{◌≡◌, ◌≢◌, ◌⊎◌, Bool, ℕ, ◌+◌, ◌*◌, ◌<◌, ◌≤◌, List, [], ◌∷◌, length, map, slice_index_or, Option}
 use Rattle.std.specs.Prelude.{Some, None}
 use Rattle.std.specs.List.{range_with_len}
@@ -32,17 +32,17 @@ pub record IsDrained (table : List Row) (x : Spot) (now : ℕ) : Type 0 where
   pub id : (after_ticks drain_ticks x now).mote.id ≡ x.mote.id
   pub wide : (after_ticks drain_ticks x now).mote.wide ≡ x.mote.wide
 
--- A well mote, whatever it was doing, is drained in this many ticks, where it has room at their end.
+-- A well mote, whatever it was doing, is drained in this many ticks, if it has room at their end.
 abbrev pub DrainLaw : Type 0
 DrainLaw = (table : List Row) (x : Spot) (now : ℕ) → IsTable table → SpotIsWell table x now
     → HasRoom (after_ticks drain_ticks x now) → IsDrained table x now
 
--- the commits that ticks may take: one clears the short starts, and two start the order
+-- the commits that ticks may make: one clears the short starts, and two start the order
 abbrev pub tick_commits : ℕ
 tick_commits = 3
 
--- A well mote that only ticks takes no more, however often it does.
--- So it has room at the end where it has that much more at first.
+-- A well mote that only ticks makes no more, however many ticks there are. So it has room at the end if it has that much more
+-- at first.
 abbrev pub TickSpendLaw : Type 0
 TickSpendLaw = (table : List Row) (x : Spot) (now n : ℕ) → IsTable table → SpotIsWell table x now
     → x.store.room ≤ (after_ticks n x now).store.room + tick_commits
@@ -55,17 +55,17 @@ pub record StaysDrained (table : List Row) (x : Spot) (now n : ℕ) : Type 0 whe
   pub id : (after_ticks n x now).mote.id ≡ x.mote.id
   pub wide : (after_ticks n x now).mote.wide ≡ x.mote.wide
 
--- So does a drained mote that only ticks, however often it does.
+-- A drained mote that only ticks stays so, however many ticks there are.
 abbrev pub RestLaw : Type 0
 RestLaw = (table : List Row) (x : Spot) (now n : ℕ) → SpotIsWell table x now → Drained x now → StaysDrained table x now n
 
--- a mote that has just started, over a chip that was formatted with this many commits told as spent
+-- a mote that has just started, over a chip that was formatted with this many commits declared as spent
 abbrev pub fresh_spot : (name bytes : List ℕ) → (used id : ℕ) → (wide : Bool) → (now word : ℕ) → Spot
 fresh_spot name bytes used id wide now word = record { store = fresh name bytes used; mote = begun_mote id wide now word }
 
--- ---- telling
+-- ---- advertising
 
--- it stays drained over the same store, and the last message that it sends is its own summary
+-- it stays drained over the same store, and the last message that it sends is its own advert
 pub record Advertises (table : List Row) (x : Spot) (now : ℕ) : Type 0 where
   pub drained : Drained (after_ticks advert_ticks x now) (now + advert_ticks * pace)
   pub well : SpotIsWell table (after_ticks advert_ticks x now) (now + advert_ticks * pace)
@@ -74,7 +74,7 @@ pub record Advertises (table : List Row) (x : Spot) (now : ℕ) : Type 0 where
   pub wide : (after_ticks advert_ticks x now).mote.wide ≡ x.mote.wide
   pub sent : (before : Option Message) → last_sent advert_ticks x now before ≡ Some (advert_of x.mote.id x.mote.wide x.store)
 
--- A well and drained mote tells what it keeps in this many ticks.
+-- A well and drained mote advertises what it keeps within this many ticks.
 abbrev pub AdvertLaw : Type 0
 AdvertLaw = (table : List Row) (x : Spot) (now : ℕ) → SpotIsWell table x now → Drained x now → Advertises table x now
 
@@ -87,8 +87,8 @@ pub record TookProfile (ahead kept : Held) : Type 0 where
   pub crc : kept.crc ≡ ahead.crc
   pub complete : kept.complete ≡ []
 
--- What is kept of an image once a page of this version is asked for: as before where the version is kept,
--- and else nothing of it yet, in place of an older one.
+-- What is kept of an image once a page of this version is asked for: as before if the version is kept, and otherwise no page
+-- of it yet, in place of an older version.
 abbrev pub KeepsNext : Option Held → Held → Held → Type 0
 KeepsNext None ahead kept = TookProfile ahead kept
 KeepsNext (Some h) ahead kept =
@@ -104,7 +104,7 @@ pub record AsksPage (x : Spot) (image : ℕ) (kept : Held) : Type 0 where
   pub fresh : r.packets ≡ no_packets
   pub held_now : held x.store image ≡ Some kept
 
--- x has become y: it asks the mote `id`, which keeps `ahead` of the image and so more of it
+-- x has become y: it asks the mote `id`, which keeps `ahead` of the image, and so more pages of it
 pub record Asked (table : List Row) (x y : Spot) (now id image : ℕ) (ahead : Held) : Type 0 where
   pub kept : Held
   pub asks : AsksPage y image kept
@@ -120,15 +120,15 @@ pub record Asked (table : List Row) (x y : Spot) (now id image : ℕ) (ahead : H
   pub wide_is : y.mote.wide ≡ x.mote.wide
   pub well : SpotIsWell table y now
 
--- A drained mote that hears the summary of a mote of its width that is ahead of it asks it for the first image in which it is
--- ahead.
+-- A drained mote that hears the advert of a mote of its width that is ahead of it asks that mote for the first image in which
+-- it is ahead.
 abbrev pub AskLaw : Type 0
 AskLaw = (table : List Row) (x : Spot) (now id : ℕ) (s : Store) (image : ℕ) → SpotIsWell table x now → Drained x now
     → Agrees table s → id ≢ x.mote.id
     → ahead_in (entries_of x.mote.wide s) x.store ≡ Some image → HasRoom (hears x now (advert_of id x.mote.wide s))
     → (ahead : Held) × (held s image ≡ Some ahead) × Asked table x (hears x now (advert_of id x.mote.wide s)) now id image ahead
 
--- x has become y in one tick: it asks still, and sent a request for all packets of the page
+-- x has become y in one tick: it still asks, and has sent a request for all packets of the page
 pub record Requested (x y : Spot) (now image : ℕ) (kept : Held) (server : ℕ) : Type 0 where
   pub asks : AsksPage y image kept
   pub store : y.store ≡ x.store
@@ -158,7 +158,7 @@ unfoldable pub SendsEach : List Message → Spot → (now : ℕ) → Type 0
 SendsEach [] x now = Unit {0}
 SendsEach (m ∷ ms) x now = ((tick_at x (now + pace)).sent ≡ Some m) × SendsEach ms (ticked x (now + pace)) (now + pace)
 
--- x has become y: it sends the page, a packet a tick, and maintains after the last one over the same store
+-- x has become y: it sends the page, one packet per tick, and after the last one maintains over the same store
 pub record ServesPage (x y : Spot) (now image version page : ℕ) (bytes : List ℕ) : Type 0 where
   pub sends : SendsEach (page_messages x.mote.id image version page bytes) y now
   pub ends : after_ticks packets y now ≡ record { store = x.store; mote = maintains x.mote (now + packets * pace) 0 }
@@ -172,7 +172,7 @@ ServeLaw = (x : Spot) (now from image page : ℕ) (h : Held) → Drained x now �
 
 -- ---- taking
 
--- A mote that asks for a page, and hears the packets of the row's in order, has one page more and maintains.
+-- A mote that asks for a page, and hears the packets of the row's page in order, has one more page and maintains.
 abbrev pub TakeLaw : Type 0
 TakeLaw = (table : List Row) (x : Spot) (now sender image : ℕ) (kept : Held) (row : Row) → IsTable table
     → SpotIsWell table x now → AsksPage x image kept → sender ≢ x.mote.id

@@ -21,7 +21,7 @@ pub record StoreIsConsistent (golden : Row) (s : Store) : Type 0 where
   pub count : length s.kept ≡ images
   pub consistent : Consistent golden s
 
--- A step goes through such stores, and the mote then asks for a known image, if for any.
+-- A step goes through such stores, and the mote then asks for a known image, if any.
 pub record TurnIsConsistent {A : Type 0} (golden : Row) (step : MoteStep A) : Type 0 where
   pub way : Through (StoreIsConsistent golden) step.trail
   pub asks : AsksForKnown step.mote.mode
@@ -34,7 +34,7 @@ pub record ChipIsConsistent (golden : Row) (c : List ℕ) : Type 0 where
   pub stands : Stands c store
   pub consistent : StoreIsConsistent golden store
 
--- a mote over such a chip, which asks for a known image, if for any
+-- a mote over such a chip, which asks for a known image, if any
 pub record MoteIsConsistent (golden : Row) (c : List ℕ) (v : Mote) : Type 0 where
   pub state : MoteState
   pub store : Store

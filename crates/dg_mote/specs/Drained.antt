@@ -1,5 +1,5 @@
--- Motes that are drained: nothing is left to be done but to tell what they keep (docs/PROMISES.md, "Laws over the definitions
--- alone").
+-- Motes that are drained: nothing is left to do except to advertise what they keep (docs/PROMISES.md, "Laws over the
+-- definitions alone").
 use Rattle.std.specs.Prelude.{◌≡◌, ◌≢◌, ℕ, ◌≤◌, true, false}
 use Rattle.dg_trickle.specs.Timer.{Timer}
 use Rattle.dg_quiet.specs.Noted.{may_ask}
@@ -8,8 +8,8 @@ use Rattle.dg_volume.specs.Start.{order_waits}
 use Rattle.dg_mote.specs.Model.{Maintain}
 use Rattle.dg_mote.specs.Spots.{Spot}
 
--- It maintains, nothing equal was heard in this interval, no short starts are counted, no order waits,
--- and from now on it may ask for any image.
+-- It maintains, nothing equal was heard in this interval, no short starts are counted, no order is pending, and from now on
+-- it may ask for any image.
 pub record Drained (x : Spot) (now : ℕ) : Type 0 where
   pub timer : Timer
   pub maintains : x.mote.mode ≡ Maintain timer

@@ -13,7 +13,7 @@ use Rattle.dg_mote.specs.Hears.{heard_of}
 use Rattle.dg_mote.specs.declared.mote.Did.{Did}
 use Rattle.dg_mote.specs.declared.mote.Did.TheVariants.{Sent, Idle, Restart}
 
--- the mote then, None where there was no image to start; the stores on the way; what was started, and what was sent
+-- the mote afterwards, None if there was no image to start; the trail; what was started, and what was sent
 pub record Effect : Type 0 where
   pub mote : Option MoteState
   pub trail : Trail Store
@@ -28,7 +28,7 @@ boot_by (Some r) t id wide now word =
 abbrev pub boots : StartCause → Store → (id : ℕ) (wide : Bool) (now word : ℕ) → Effect
 boots k s id wide now word = let b = boot k s in boot_by b.runs b.trail id wide now word
 
--- its power came
+-- it powers on
 unfoldable pub reset_effect : Store → (id : ℕ) (wide : Bool) (now word : ℕ) → Effect
 reset_effect s id wide now word = boots cause.Power s id wide now word
 
@@ -39,7 +39,7 @@ on step = record { mote = Some step.mote; trail = step.trail; started = None; se
 abbrev pub silent : {A : Type 0} → MoteStep A → Effect
 silent step = record { mote = Some step.mote; trail = step.trail; started = None; sent = None }
 
--- a tick that answers Restart goes on with a start
+-- a tick that answers Restart continues with a start
 abbrev pub tick_by : Did → MoteStep Did → (now word : ℕ) → Effect
 tick_by Restart step now word =
     let e = boots cause.Order (last step.trail) step.mote.id step.mote.wide now word in

@@ -27,13 +27,13 @@ use Rattle.dg_mote.specs.declared.mote.Heard.TheVariants.{Refused, Dropped, Seal
 use Rattle.dg_mote.specs.declared.mote.Mote.{Mote}
 use Rattle.dg_mote.specs.declared.mote.Mode.TheVariants as value
 
--- the chip stays as it is
+-- the chip is unchanged
 pub record ChipStays (turn : MoteStep Heard) (c : List ℕ) (s : Store) (v : Mote) (answer : Heard) : Type 0 where
   pub trail : turn.trail ≡ resting s 0
   pub mote : IsMote c v turn.mote s
   pub answers : answer ≡ turn.answer
 
--- where a frame is refused or dropped, this holds
+-- if a frame is refused or dropped, this holds
 abbrev pub StaysIf : Heard → Type 0 → Type 0
 StaysIf (Refused fault) P = P
 StaysIf Dropped P = P
@@ -54,7 +54,7 @@ is_sealed (sealing.Sealed o) = true
 is_sealed (sealing.Bad kept found o) = false
 is_sealed (sealing.Unfit o) = false
 
--- all packets of the page came that is asked for
+-- all packets of the page that is asked for came
 pub record PageIsWhole (c : List ℕ) (v : Mote) (m : MoteState) (s : Store) (r : Receiving) (h : Held)
     (ps : Packets) : Type 0 where
   pub id : v.id ≡ m.id
@@ -69,7 +69,7 @@ pub record PageIsWhole (c : List ℕ) (v : Mote) (m : MoteState) (s : Store) (r 
   pub next : length h.complete ≡ r.page
   pub all : (q : ℕ) → q < packets → is_some (packet ps q) ≡ true
 
--- a whole page is sealed where it fits, and the mote maintains anew
+-- a whole page is sealed if it fits, and the mote returns to maintaining
 abbrev pub page_ends : MoteState → Receiving → Held → Store → (now word : ℕ) → List ℕ → MoteStep Heard
 page_ends m r h s now word page =
     if may_seal r.image h page
@@ -83,7 +83,8 @@ page_ends m r h s now word page =
 
 -- ---- a page that is asked for
 
--- the advertiser is ahead in an image, by this entry, and its slot need not be taken, or there is room to take it
+-- the advertiser is ahead in an image, by this entry, and either its slot need not be taken, or there is room to take
+-- it
 pub record MayTake (s : Store) (i : ℕ) (e : Entry) : Type 0 where
   pub not_golden : 1 ≤ i
   pub known : i < images
@@ -95,7 +96,7 @@ pub record MayTake (s : Store) (i : ℕ) (e : Entry) : Type 0 where
 abbrev pub slot_trail : Store → ℕ → Entry → Trail Store
 slot_trail s i e = if is_version (held s i) e.version then resting s 0 else take_trail s (outline i e)
 
--- the slot is open for the entry's version, of which pages are missing
+-- the slot is open for the entry's version, some of whose pages are missing
 pub record Opened (c : List ℕ) (s : Store) (i : ℕ) (e : Entry) (o : OpenSlot) : Type 0 where
   pub of_image : (outline_of_slot o).image ≡ i
   pub kept : Held

@@ -38,7 +38,7 @@ pub data Mode : Type 0 where
   Receive : (r : Receiving) → Mode
   Transmit : (t : Sending) → Mode
 
--- the image that it asks for, or serves, is one that its frames speak of
+-- the image that it asks for, or serves, is one that its frames name
 abbrev pub NamesKnown : (wide : Bool) → Mode → Type 0
 NamesKnown wide (Maintain timer) = Unit {0}
 NamesKnown wide (Receive r) = (1 ≤ r.image) × (r.image ≤ known_images wide)
@@ -48,12 +48,12 @@ pub record MoteState : Type 0 where
   pub id : ℕ
   -- whether its radio is wide: that never changes
   pub wide : Bool
-  -- the moment of its start
+  -- when it started
   pub since : ℕ
   pub noted : Noted
   pub mode : Mode
 
--- a mote that was started, and one that begins to maintain anew
+-- a mote that was started, and one that returns to maintaining
 abbrev pub begun_mote : (id : ℕ) (wide : Bool) (now word : ℕ) → MoteState
 begun_mote id wide now word =
     record { id = id; wide = wide; since = now; noted = nothing_noted; mode = Maintain (started now word) }
@@ -68,7 +68,7 @@ came ps = set.from_list (filter (λ q. is_some (packet ps q)) (range_with_len 0 
 abbrev pub reception : Receiving → Reception
 reception r = record { got = came r.packets; tries = r.tries; due = r.due }
 
--- what a step makes of a mote over a store, and what it answers
+-- what a step does to a mote over a store, and what it answers
 pub record MoteStep (A : Type 0) : Type 0 where
   pub mote : MoteState
   pub trail : Trail Store

@@ -21,8 +21,8 @@ use Rattle.dg_mote.specs.declared.outbox.Outbox.{Outbox}
 use Rattle.dg_mote.specs.declared.mote.Mode.{Mode as ModeValue}
 use Rattle.dg_mote.specs.declared.mote.Mode.TheVariants as value
 
--- In a reception the slot is lent, and no other is. The job stands for the next page with the packets that came,
--- and some are missing.
+-- While it receives, its slot is lent, and no other is. The job stands for the next page with the packets that
+-- came, and some are missing.
 pub record Receives (c : List ℕ) (v : Volume) (s : Store) (job : PageJob) (r : Receiving) : Type 0 where
   pub image : (outline_of_slot (slot_of job)).image ≡ r.image
   pub not_golden : 1 ≤ r.image
@@ -66,7 +66,7 @@ wide_told v = v.wide
 abbrev pub volume_of : Mote → Volume
 volume_of v = v.volume
 
--- the bytes of the frame that waits in an outbox, which keeps its message
+-- the bytes of the frame in an outbox, which keeps its message
 abbrev pub sent_in : Outbox → Option (List ℕ)
 sent_in o = option_map frame_of o.message
 
@@ -74,7 +74,7 @@ sent_in o = option_map frame_of o.message
 abbrev pub IsRead : (wide : Bool) → Message → Type 0
 IsRead wide message = message_of (frame_of message) wide ≡ Ok message
 
--- a call did what the rules say: the chip went the trail, and the mote is where they say
+-- a call did what the rules say: the chip completed the trail, and the mote is in the state that they give
 pub record Done {A : Type 0} (turn : MoteStep A) (old new : Device) (v : Mote) (answer : A) : Type 0 where
   pub ran : Ran (operations turn.trail) old new
   pub mote : IsMote new.image v turn.mote (last turn.trail)

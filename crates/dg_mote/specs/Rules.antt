@@ -19,19 +19,20 @@ use Rattle.dg_mote.specs.Hears.{heard_of}
 
 -- ---- pages
 
--- a page is of use here: it is kept, or is the next one, of the kept version, or it is the first of a newer one
+-- a page is of use here: it is one of the kept version that is kept or next, or the first one of a newer version, or the
+-- first one if nothing is kept
 abbrev pub IsOfUse : Option Held → (version page : ℕ) → Type 0
 IsOfUse None version page = page ≡ 0
 IsOfUse (Some h) version page = ((h.version ≡ version) × (page ≤ length h.complete)) ⊎ ((h.version < version) × (page ≡ 0))
 
--- a page is complete here. How many pages its image has is not looked at
+-- a page is complete here. How many pages its image has is not checked
 pub record HasPage (s : Store) (image version page : ℕ) : Type 0 where
   pub kept : Held
   pub here : held s image ≡ Some kept
   pub version_is : kept.version ≡ version
   pub complete : page < length kept.complete
 
--- it asks its server for the packets of a page that did not come
+-- it asks its server for the missing packets of a page
 pub record AsksFor (m : MoteState) (source to image version page : ℕ) (want : Numbers) : Type 0 where
   pub r : Receiving
   pub receives : m.mode ≡ Receive r
@@ -44,7 +45,7 @@ pub record AsksFor (m : MoteState) (source to image version page : ℕ) (want : 
 
 -- ---- restarts
 
--- it maintains, no short starts are to be cleared, and the order waits
+-- it maintains, no short starts are to be cleared, and the order is pending
 pub record MayRestart (m : MoteState) (s : Store) (now : ℕ) : Type 0 where
   pub timer : Timer
   pub maintains : m.mode ≡ Maintain timer
@@ -53,7 +54,7 @@ pub record MayRestart (m : MoteState) (s : Store) (now : ℕ) : Type 0 where
 
 -- ---- what happens to a mote
 
--- it ticks, or hears a frame, with the moment and the word
+-- it ticks, or hears a frame, with the time and the word
 pub data MoteEvent : Type 0 where
   Ticks : (now word : ℕ) → MoteEvent
   Hears : (now word : ℕ) (bytes : List ℕ) → MoteEvent
@@ -62,7 +63,7 @@ abbrev pub moment_of : MoteEvent → ℕ
 moment_of (Ticks now word) = now
 moment_of (Hears now word bytes) = now
 
--- what a mote sends while all this happens, one after the other, and it is not started anew
+-- what a mote sends during these events, in order, if it is not restarted
 unfoldable pub sent_while : List MoteEvent → MoteState → Store → List (Option Message)
 sent_while [] m s = []
 sent_while (Ticks now word ∷ rest) m s =
@@ -70,7 +71,7 @@ sent_while (Ticks now word ∷ rest) m s =
 sent_while (Hears now word bytes ∷ rest) m s = let step =
     heard_of m s now word bytes in step.sent ∷ sent_while rest step.mote (last step.trail)
 
--- each moment is one of these
+-- each event is at `from` or later, and before `until`
 abbrev pub AllBetween : (from until : ℕ) → List MoteEvent → Type 0
 AllBetween from until events = AllByRecursion (λ e. (from ≤ moment_of e) × (moment_of e < until)) events
 
@@ -100,7 +101,7 @@ IsInInterval timer (Maintain t) = (t.begin ≡ timer.begin) × (t.interval ≡ t
 IsInInterval timer (Receive r) = ⊥
 IsInInterval timer (Transmit t) = ⊥
 
--- all this happens in it: ticks before its end, and frames that leave the mote in it
+-- all these events are in it: ticks before its end, and frames that leave the mote in it
 unfoldable pub AllInInterval : Timer → List MoteEvent → MoteState → Store → Type 0
 AllInInterval timer [] m s = Unit {0}
 AllInInterval timer (Ticks now word ∷ rest) m s =

@@ -1,4 +1,4 @@
--- How a step that leaves its chip as it is shows in the code (the type `Mote` of this crate).
+-- How a step that leaves its chip unchanged shows in the code (the type `Mote` of this crate).
 use Rattle.std.specs.Prelude.{◌≡◌, IfSome, option_map}
 use Rattle.dg_nor.specs.Trail.{resting}
 use Rattle.dg_volume.specs.Store.{Store}

@@ -12,26 +12,27 @@ use Rattle.dg_mote.specs.declared.buffers.TheConstants.{SIZE_OF_PACKET_SET, SIZE
 use Rattle.dg_mote.specs.declared.mote.TheConstants.{MOTE_SIZE}
 use Rattle.dg_mote.specs.declared.outbox.TheConstants.{OUTBOX_SIZE}
 
--- the images that a wide mote, or a narrow one, hands on: those that its frames speak of
+-- the images that a wide mote, or a narrow one, forwards: those that its frames name
 abbrev pub shared : (wide : Bool) → List ℕ
 shared wide = range_with_len 1 (known_images wide)
 
--- a mote that runs so long clears the count of short starts, in milliseconds
+-- how long a mote runs before it clears the count of short starts, in milliseconds
 abbrev pub long_run : ℕ
 long_run = 5000
 
 -- ---- the arrays of bytes of a mote and of its calls
 --
--- They hold frames, packet sets, packets, and pieces of pages, of the ledger and of snapshots. Each has a type, which stands in
--- the signature of the function that fills it, and is counted by the size of that type. What a mote knows of time and of its
--- chip is in numbers, and not counted among them; nor are the up to four bytes in which a single number is read. The bytes of a
--- frame that is heard are its caller's.
+-- They hold frames, packet sets, packets, and pieces of pages, of the ledger and of snapshots. Each has a type, which is in the
+-- signature of the function that fills it, and is counted by the size of that type. What a mote knows of time and of its chip
+-- is in numbers, which are not counted. The up to four bytes in which a single number is read are not counted either. The bytes
+-- of a frame that is heard belong to the caller.
 
 -- the bytes of the outbox: it keeps a message, and counts as the longest frame
 abbrev pub outbox_bytes : ℕ
 outbox_bytes = frame_bytes
 
--- the packet sets of a mote: as it asks it knows what came in two of them, and as it serves, what it owes and what is asked for
+-- the packet sets of a mote: while it receives, both record which packets have arrived; while it serves, they are what it owes,
+-- and a request
 abbrev pub packet_sets : ℕ
 packet_sets = 2
 
@@ -59,8 +60,8 @@ buffered_size = kept_size + scratch_bytes
 abbrev pub most_buffered : ℕ
 most_buffered = 256
 
--- The arrays that are alive at once, by their types, with the outbox and the sets: in no call they have more. The outbox, the
--- sets and the largest array have exactly this many bytes.
+-- The arrays that are alive at once in a call, by their types, with the outbox and the sets, have no more bytes than that. The
+-- outbox, the sets and the largest array have exactly 220.
 pub record BuffersFit : Type 0 where
   pub counted : buffered_size ≡ 220
   pub largest : buffered_size ≤ most_buffered
@@ -90,8 +91,8 @@ pub record BuffersFit : Type 0 where
 
 -- ---- the value of a mote
 
--- The bytes of a mote in memory: 192 of them are the moments of its windows, 180 its volume, and 72 its mode, with both
--- packet sets. No array lies in it beside those.
+-- The bytes of a mote in memory: 192 of them are the times of its windows, 180 its volume, and 72 its mode, with both packet
+-- sets. It contains no other array.
 abbrev pub most_mote_size : ℕ
 most_mote_size = 464
 

@@ -15,7 +15,7 @@ pub record Spot : Type 0 where
   pub store : Store
   pub mote : MoteState
 
--- its mote and its store agree with the table and are in time
+-- its mote and its store agree with the table and are timely
 abbrev pub SpotIsWell : List Row → Spot → (now : ℕ) → Type 0
 SpotIsWell table x now = IsWell table x.mote x.store now
 
@@ -31,7 +31,7 @@ newer_of (Some m) before = Some m
 abbrev pub tick_at : Spot → (now : ℕ) → Effect
 tick_at x now = tick_effect x.mote x.store now 0
 
--- Where a start met no image, which no well mote does, the mote is written as before.
+-- If a start found no image, which no well mote does, the mote stays as before.
 unfoldable pub ticked : Spot → (now : ℕ) → Spot
 ticked x now = record { store = last (tick_at x now).trail; mote = mote_or (tick_at x now).mote x.mote }
 
@@ -40,7 +40,7 @@ unfoldable pub after_ticks : ℕ → Spot → (now : ℕ) → Spot
 after_ticks zero x now = x
 after_ticks (suc n) x now = after_ticks n (ticked x (now + pace)) (now + pace)
 
--- the message that was sent last in them, or before
+-- the last message that was sent in these ticks, or before them
 unfoldable pub last_sent : ℕ → Spot → (now : ℕ) → Option Message → Option Message
 last_sent zero x now before = before
 last_sent (suc n) x now before = last_sent n (ticked x (now + pace)) (now + pace) (newer_of (tick_at x (now + pace)).sent before)

@@ -1,4 +1,4 @@
--- Motes that agree with a table and are in time, and what keeps them so (docs/PROMISES.md, "The report and what it tells").
+-- Motes that agree with a table and are timely, and what keeps them so (docs/PROMISES.md, "The report and what it tells").
 use Rattle.std.specs.Prelude.{◌≡◌, ℕ, List, length, Option, Ok, IfSome, IsSomeAnd}
 use Rattle.dg_nor.specs.Trail.{last}
 use Rattle.dg_nor.specs.Through.{Through}
@@ -34,7 +34,7 @@ pub record TurnIsWell {A : Type 0} (table : List Row) (step : MoteStep A) (now :
   pub mote : IsWell table step.mote (last step.trail) now
   pub sent : SendsHonest table step.sent
 
--- So does an event. Where it starts the chip, there is an image to start, and it is a row of the table.
+-- An event does the same. If it starts the chip, there is an image to start, and it is a row of the table.
 pub record EffectIsWell (table : List Row) (e : Effect) (now : ℕ) : Type 0 where
   pub way : Through (StoreIsWell table) e.trail
   pub mote : IsSomeAnd e.mote (λ m. IsWell table m (last e.trail) now)

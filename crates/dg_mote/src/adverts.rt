@@ -1,4 +1,4 @@
-//! Adverts that are heard: a better order is kept, and an image is asked for in which the advertiser is ahead.
+//! Adverts that are heard: a better order is kept, and an image in which the advertiser is ahead is asked for.
 ghost use Rattle.std.specs.Prelude.{◌≡◌, ◌≢◌, ℕ, ◌+◌, ◌<◌, ◌≤◌, ◌^◌, ◌&&◌, ◌||◌, ◌==◌, nat_le, nat_lt, true, false, List, length};
 ghost use Rattle.std.specs.Prelude.{Option, Some, All, IfOk, OnOk, OnErr, IfSome};
 ghost use Rattle.dg_trickle.specs.Timer.{Timer};
@@ -59,7 +59,7 @@ impl Mote {
         }
     }
 
-    /// A mote that maintains heard an advert. Whether that equals what it would say counts before the order is kept.
+    /// A mote that maintains heard an advert. The advert is compared with the mote's own before its order is kept.
     fn compare_advert<N: Nor>(
         &mut self,
         nor: &mut N,
@@ -89,15 +89,15 @@ impl Mote {
         trails_begin();
         let same = would_say(self.wide, &self.volume, entries, order);
         keep_better(nor, &mut self.volume, order)?;
-        // an advertiser that says the same is ahead in no image
+        // the advertiser of an equal advert is ahead in no image
         if same {
             return Ok(self.note_advert(true, now, word));
         }
         self.follow(nor, now, word, source, entries)
     }
 
-    /// Asks for the least image in which the advertiser of something other is ahead, where that may be asked for. Else the
-    /// advert is noted.
+    /// Asks for the lowest image in which the advertiser of a different advert is ahead, if it may be asked for. Otherwise
+    /// the advert is noted.
     #[inline(never)]
     fn follow<N: Nor>(
         &mut self,
@@ -134,7 +134,7 @@ impl Mote {
         self.ask(nor, now, word, source, image, entry)
     }
 
-    /// Whether no window of an image is open, and its slot need not be taken, or there is room to take it.
+    /// Whether no window of an image is open, and either its slot need not be taken, or there is room to take it.
     fn may_ask(&self, now: u64, image: u8, entry: Entry) -> bool
         requires not_golden { 1 ≤ image }
         requires known { image < images }
@@ -143,7 +143,7 @@ impl Mote {
         self.windows.may_ask(now, image) && can_open(&self.volume, image, entry.version)
     }
 
-    /// Notes that an equal or another advert was heard.
+    /// Notes that an equal advert, or a different one, was heard.
     fn note_advert(&mut self, same: bool, now: u64, word: u32) -> Heard
         requires mote { (c : List ℕ) × (m : MoteState) × (s : Store) × (timer : Timer) × IsMote c self.old m s
             × (m.mode ≡ Maintain timer) }
@@ -152,7 +152,7 @@ impl Mote {
             → ChipStays (noting m timer s now word same) c s self.new result }
         ensures not_dropped { StaysIf result ⊥ }
     {
-        // no other mote compares adverts
+        // only a mote that maintains compares adverts
         let Mode::Maintain(trickle) = &mut self.mode else {
             return Heard::Dropped;
         };
@@ -200,7 +200,7 @@ impl Mote {
     }
 }
 
-/// Whether an advert equals what a wide mote, or a narrow one, would say that keeps this, of the images that it names.
+/// Whether an advert equals that of a wide or narrow mote that keeps this, in the images that the advert names.
 fn would_say(wide: bool, volume: &Volume, entries: &[Entry], order: &Order) -> bool
     requires { length entries.now < images }
     ensures { (s : Store) → Tells volume.now s → result ≡ is_own entries.now order.now wide s }
@@ -217,7 +217,7 @@ fn is_same_order(a: &Order, b: &Order) -> bool
     a == b
 }
 
-/// Whether entries equal what a mote would say that keeps this.
+/// Whether entries equal those that a mote that keeps this would advertise.
 fn says_entries(volume: &Volume, entries: &[Entry]) -> bool
     requires { length entries.now < images }
     ensures told { result ≡ true → (s : Store) → Tells volume.now s → (i : ℕ) → 1 ≤ i → i ≤ length entries.now
@@ -240,7 +240,7 @@ fn is_same_entry(a: &Entry, b: &Entry) -> bool
     a == b
 }
 
-/// The least image in which an advertiser is ahead of a mote that keeps this.
+/// The lowest image in which an advertiser is ahead of a mote that keeps this.
 fn first_ahead(volume: &Volume, entries: &[Entry]) -> Option<u8>
     requires { length entries.now < images }
     ensures least { (s : Store) → Tells volume.now s → result ≡ ahead_in entries.now s }
@@ -257,8 +257,8 @@ fn first_ahead(volume: &Volume, entries: &[Entry]) -> Option<u8>
     None
 }
 
-/// Whether an advertiser is ahead in an image of which this is kept here: it has a page, and tells of a larger version,
-/// or of more pages of the same object.
+/// Whether an advertiser is ahead in an image of which this is kept here: it has a page, and advertises a larger version,
+/// or more pages of the same object.
 fn is_ahead(kept: Option<Kept>, entry: Entry) -> bool
     ensures { (h : Option Held) → kept ≡ told h → result ≡ advertiser_ahead entry h }
 {
@@ -272,7 +272,7 @@ fn is_ahead(kept: Option<Kept>, entry: Entry) -> bool
     }
 }
 
-/// Whether an entry tells of the object that is kept.
+/// Whether an entry describes the object that is kept.
 fn is_same_object(kept: Kept, entry: Entry) -> bool
     ensures { result ≡ (entry.version == kept.version) && (entry.pages == kept.pages) && (entry.crc == kept.crc) }
 {
@@ -337,7 +337,7 @@ fn keep_better<N: Nor>(nor: &mut N, volume: &mut Volume, order: &Order) -> Resul
     }
     match volume.order(nor, order.number, order.image, order.version) {
         Ok(()) => Ok(()),
-        // it may be kept, so that this was stopped
+        // it may be kept, so the only possible fault is a stop
         Err(_) => Err(Stopped),
     }
 }

@@ -1,10 +1,10 @@
-//! The bytes that what a mote and its calls buffer takes in memory, by the types.
+//! How many bytes of memory the buffers of a mote and of its calls take, by the sizes of their types.
 use dg_bits::PageBits;
 use dg_frame::{Entry, Frame, WIDE_IMAGES};
 use dg_object::PACKETS;
 use std::mem::size_of;
 
-/// The packets of a page that are asked for, or that came.
+/// The packets of a page that are requested, or that have arrived.
 pub type PacketSet = PageBits<PACKETS>;
 
 /// The entries of a wide advert.
@@ -16,5 +16,5 @@ pub const SIZE_OF_PACKET_SET: usize = size_of::<PacketSet>();
 /// The bytes that the entries of a wide advert take.
 pub const SIZE_OF_ENTRIES: usize = size_of::<WideEntries>();
 
-/// The bytes that a frame takes: its array, and how many bytes of it are the frame's.
+/// The bytes that a frame takes: its array, and the length of the frame in it.
 pub const SIZE_OF_FRAME: usize = size_of::<Frame>();

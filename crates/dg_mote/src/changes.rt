@@ -16,10 +16,10 @@ ghost use Rattle.dg_mote.specs.Changes.{MayClear, TakesAdvert, Completes, IfRece
 
 use dg_volume::{acts_end, trails_begin};
 
-/// What a tick and a frame may change of what the chip keeps, also where the power stops in them.
+/// What a tick and a frame may change of what the chip keeps, also if power is lost during them.
 ///
-/// A tick clears short starts at most. An advert may bring a better order, and begin one image anew for a newer version.
-/// A request changes nothing. A packet may complete one page, where it is the last of its packets to come.
+/// A tick clears short starts at most. An advert may bring a better order, and restart one image for a newer version. A
+/// request changes nothing. A packet may complete one page, if it is the last packet of that page to arrive.
 pub fn what_a_mote_may_change()
     ensures ticked { (m : MoteState) (s : Store) (now word : ℕ) → Through (MayClear s) (tick_of m s now word).trail }
     ensures advert { (m : MoteState) (s : Store) (now word : ℕ) (bytes : List ℕ) (wide : Bool) (source : ℕ)
@@ -40,8 +40,8 @@ pub fn what_a_mote_may_change()
     trails_begin();
 }
 
-/// A page that a mote asks for is not one of golden, and its packets came in frames: a tick brings none, and a frame the
-/// one that it spells.
+/// A page that a mote asks for is not a page of golden, and its packets came in frames: a tick adds no packet, and a
+/// frame adds only the packet that it spells.
 pub fn packets_come_in_frames()
     ensures ticked { (m : MoteState) (s : Store) (now word : ℕ)
         → IfReceives (Continues m.mode (λ image version page q. ⊥)) (tick_of m s now word).mote.mode }

@@ -1,4 +1,4 @@
-//! How long a mote rests.
+//! How long a mote is idle.
 ghost use Rattle.std.specs.Prelude.{◌≡◌, ℕ, ◌<◌, false, List};
 ghost use Rattle.dg_volume.specs.Store.{Store};
 ghost use Rattle.dg_volume.specs.Stands.{Tells};
@@ -12,14 +12,14 @@ use crate::{Mode, Mote};
 use dg_boot::order_waits;
 
 impl Mote {
-    /// The moment before which a tick changes nothing and sends nothing. It is 0 where an order waits. Nothing is read.
+    /// The time before which a tick changes nothing and sends nothing. It is 0 if an order is pending. The chip is not read.
     pub fn due(&self) -> u64
         ensures { (c : List ℕ) (m : MoteState) (s : Store) → IsMote c self.now m s → RestsUntil m s result }
     {
         self.clearing_due().min(self.mode_due())
     }
 
-    /// The moment before which no short starts are cleared.
+    /// The time before which no short starts are cleared.
     fn clearing_due(&self) -> u64
         ensures { (m : MoteState) (s : Store) (now : ℕ) → self.now.since ≡ m.since → Tells self.now.volume s → now < result
             → clears m s now ≡ false }
@@ -31,7 +31,7 @@ impl Mote {
         }
     }
 
-    /// The moment before which its mode asks for nothing.
+    /// The time before which the mode of the mote does nothing.
     fn mode_due(&self) -> u64
         ensures { (c : List ℕ) (m : MoteState) (s : Store) (now word : ℕ) → IsMote c self.now m s → now < result
             → mode_tick m.mode m s now word ≡ idle m s }

@@ -1,4 +1,4 @@
-//! What a mote does that hears a frame.
+//! What a mote does when it hears a frame.
 ghost use Rattle.std.specs.Prelude.{◌≡◌, ℕ, ◌<◌, ◌^◌, true, Ok, IfOk, OnOk, OnErr};
 ghost use Rattle.dg_frame.specs.Grammar.{in_range};
 ghost use Rattle.dg_frame.specs.Ranges.{IsInRange};
@@ -20,15 +20,15 @@ use dg_frame::{Message, read, refusal};
 use dg_nor::{Nor, Stopped};
 
 impl Mote {
-    /// Hears the bytes of a frame at this moment, in milliseconds, with a word for random choices. The answer says what the
-    /// mote did. Bytes that are no frame, and the mote's own frames, change nothing.
+    /// Hears the bytes of a frame at the time `now`, in milliseconds, with a `word` for random choices. The answer says what the
+    /// mote did. Bytes that are not a frame, and the mote's own frames, change nothing.
     ///
-    /// A mote that maintains keeps a better order, asks the sender of an advert for the next page of what it lacks, and
-    /// begins to serve a page that it is asked for. One that receives a page puts each packet that is missing into flash,
-    /// and seals the page with the last one. Requests and packets that others exchange keep it from asking for a while.
-    /// These are the rules of Deluge (Hui and Culler, SenSys 2004).
+    /// A mote that maintains keeps a better order, asks the sender of an advert for the next page of what it lacks, and begins
+    /// to serve a page that it is asked for. A mote that receives a page programs each missing packet into flash, and seals the
+    /// page after the last one. Requests and packets that others exchange keep it from asking for a while. These are the rules
+    /// of Deluge (Hui and Culler, SenSys 2004).
     ///
-    /// After `Stopped` the mote is not used again: its board is started anew.
+    /// After `Stopped` the mote must not be used again: its board is restarted.
     pub fn hear<N: Nor>(
         &mut self,
         nor: &mut N,
@@ -45,7 +45,7 @@ impl Mote {
         ensures same_reference { (N.device nor.new).references ≡ (N.device nor.old).references }
         ensures stopped { OnErr result ((m : MoteState) (s : Store) → IsMote (N.device nor.old).image self.old m s
             → Stops (heard_of m s now word bytes.now).trail (N.device nor.old) (N.device nor.new)) }
-        // whatever is heard: a consistent chip stays so, also where it stops
+        // whatever is heard, a consistent chip stays consistent, also if it stops
         ensures consistent { OnOk result ((golden : Row) → MoteIsConsistent golden (N.device nor.old).image self.old
             → MoteIsConsistent golden (N.device nor.new).image self.new) }
         ensures stops_consistent { OnErr result ((golden : Row) → MoteIsConsistent golden (N.device nor.old).image self.old
@@ -59,7 +59,7 @@ impl Mote {
     }
 
     /// Hears the frame of a message: does what [`Mote::hear`] does with the bytes of that frame, without making them. The fields
-    /// of the message are in the ranges of a wide reader. A world that keeps what was sent as messages calls it.
+    /// of the message are in the ranges of a wide reader. It is for a world that keeps sent frames as messages.
     pub fn hear_sent<N: Nor>(
         &mut self,
         nor: &mut N,

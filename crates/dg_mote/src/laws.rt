@@ -32,7 +32,7 @@ use dg_volume::{
     trails_keep_consistency,
 };
 
-/// No moment of a mote is later than the present one, and what is due is due soon. Every effect keeps this.
+/// No past event is recorded in a mote with a time later than now, and what is due is due soon. Every effect preserves this.
 pub fn a_mote_stays_timely()
     ensures begins { (id now word : ℕ) (wide : Bool) → Timely (begun_mote id wide now word) now }
     ensures later { (m : MoteState) (now then : ℕ) → now ≤ then → Timely m now → Timely m then }
@@ -42,7 +42,7 @@ pub fn a_mote_stays_timely()
         → Timely (heard_of m s now word bytes).mote now }
 {}
 
-/// The trails of steps begin at the store before them, and may follow others.
+/// The trail of a step begins at the store before the step, and may follow another trail.
 pub fn steps_begin()
     ensures ticked { (m : MoteState) (s : Store) (now word : ℕ) → BeginsAt s (tick_of m s now word).trail }
     ensures heard { (m : MoteState) (s : Store) (now word : ℕ) (bytes : List ℕ) → BeginsAt s (heard_of m s now word bytes).trail }
@@ -50,7 +50,7 @@ pub fn steps_begin()
     trails_begin();
 }
 
-/// An agreeing mote that ticks, or hears an honest frame, still agrees, and so does every store on the way. What it sends
+/// An agreeing mote that ticks, or hears an honest frame, still agrees, and so does every intermediate store. What it sends
 /// is honest, and a page that came in honest packets is never Bad.
 pub fn a_mote_keeps_agreement()
     ensures begins { (table : List Row) (s : Store) (id now word : ℕ) (wide : Bool)
@@ -79,9 +79,9 @@ pub fn a_mote_keeps_agreement()
     one_reading();
 }
 
-/// A mote that agrees and is in time stays so as it ticks, at any moment and with any word, as it hears honest frames and
-/// as it starts, and every store on the way agrees, also one that a stop leaves. A start over such a store finds an
-/// image, which is a row of the table.
+/// A mote that agrees and is timely stays so as it ticks, at any time and with any word, as it hears honest frames and as it
+/// starts. Every intermediate store agrees, also one that a stop leaves. A start over such a store finds an image, which is
+/// a row of the table.
 pub fn a_mote_stays_well()
     ensures begins { (table : List Row) (s : Store) (id now word : ℕ) (wide : Bool) → StoreIsWell table s
         → IsWell table (begun_mote id wide now word) s now }
@@ -111,8 +111,9 @@ pub fn a_mote_stays_well()
     a_row_is_its_pages();
 }
 
-/// A mote that asks for an image that its chip can keep, or for none, goes through consistent stores as it ticks and as it
-/// hears a frame, whatever its bytes are, and then asks for such an image or for none. So is every store that a stop leaves.
+/// A mote that asks for no image, or for one that its chip can keep, goes through consistent stores as it ticks and as it
+/// hears a frame, whatever the bytes are. Afterwards it again asks for no image, or for one that its chip can keep. Every
+/// store that a stop leaves is consistent too.
 pub fn a_mote_keeps_consistency()
     ensures begins { (id now word : ℕ) (wide : Bool) → AsksForKnown (begun_mote id wide now word).mode }
     ensures reloaded { (m : MoteState) (now word : ℕ) → AsksForKnown (maintains m now word).mode }
@@ -126,8 +127,8 @@ pub fn a_mote_keeps_consistency()
     trails_keep_consistency();
 }
 
-/// What a well mote sends is honest, names the mote, and is read as it was said by motes of its width, where its id has two
-/// bytes and its store's order fits into a wide frame. Ticks, starts and frames whose fields fit keep this.
+/// What a well mote sends is honest, names the mote, and is read back unchanged by motes of its width, if its id has two
+/// bytes and its store's order fits into a wide frame. Ticks, starts and frames whose fields fit preserve this.
 pub fn what_is_sent_is_read()
     ensures said { (table : List Row) (m : MoteState) (s : Store) (now word : ℕ) → IsTable table → IsWell table m s now
         → Speaks m s → IfSome (tick_of m s now word).sent (IsSaid m.id m.wide) }
@@ -159,10 +160,10 @@ pub fn what_is_sent_is_read()
     one_spelling();
 }
 
-/// The outbox, the packet sets and the largest array of a call have 220 bytes by their types, which are 214 where a set is
-/// counted in the form that a frame gives it. All arrays of bytes that are alive at once in a call, or as a chip is
-/// mounted, have no more than 256 by their types, and beside the outbox and the sets no array lies in the value of a mote.
-/// Each frame that is read, by a wide reader or a narrow one, has room in the outbox.
+/// The outbox, the packet sets and the largest array of a call have 220 bytes by their types, or 214 if a set is counted in
+/// the form that a frame gives it. All arrays of bytes that are alive at once in a call, or while a chip is mounted, have at
+/// most 256 bytes by their types. The value of a mote contains no array except the outbox and the sets. Each frame that is
+/// read, by a wide reader or a narrow one, fits into the outbox.
 pub fn a_mote_buffers_little()
     ensures counted { buffered_bytes ≡ 214 }
     ensures typed { buffered_size ≡ 220 }

@@ -1,4 +1,5 @@
-//! One mote over the flash of its board: it says what it keeps, asks for what it lacks, and serves what it is asked for.
+//! One mote over the flash of its board: it advertises what it keeps, requests what it lacks, and serves what is
+//! requested of it.
 //!
 //! The three states and the rules of asking and serving are those of Deluge (Hui and Culler, SenSys 2004); adverts are
 //! timed by Trickle (RFC 6206). A mote keeps no packet bytes and allocates nothing.

@@ -17,8 +17,8 @@ use dg_trickle::Trickle;
 use dg_volume::Volume;
 use std::mem::{self, size_of};
 
-/// The packet sets of a mote: as it asks it knows what came in two of them, and as it serves, what it owes and what is
-/// asked for.
+/// The packet sets of a mote. While it receives, both record which packets have arrived. While it serves, they are the
+/// packets that it owes, and those of a request.
 const SETS: usize = 2;
 
 /// The bytes of the largest array of a call: the piece in which a start copies a page.
@@ -30,10 +30,10 @@ const BUFFERED: u32 = (FRAME_BYTES + SETS * SET_BYTES + SCRATCH_BYTES) as u32;
 /// The bytes that the value of a mote takes in memory.
 pub const MOTE_SIZE: usize = size_of::<Mote>();
 
-/// What a mote is about.
+/// What a mote is doing.
 #[derive(Drop)]
 pub enum Mode {
-    /// It says what it keeps, as the timer tells.
+    /// It advertises what it keeps, as its timer decides.
     Maintain(Trickle),
     /// It asks a server for the next page of an image.
     Receive {
@@ -51,14 +51,14 @@ pub enum Mode {
     },
 }
 
-/// A mote, beside the chip of its board. Moments are milliseconds and never fall, and a word stands for a random number.
-/// After `Stopped` a mote is not used again.
+/// A mote, without the chip of its board. Times are in milliseconds and never decrease, and a `word` is a random number.
+/// After `Stopped` a mote must not be used again.
 #[derive(Drop)]
 pub struct Mote {
     pub(crate) id: u16,
-    /// Whether its radio is wide: what it says and reads then names images 1 to 6, and else 1 to 3.
+    /// Whether its radio is wide: the frames that it sends and reads then name images 1 to 6, and otherwise 1 to 3.
     pub(crate) wide: bool,
-    /// The moment of its start.
+    /// When it started.
     pub(crate) since: u64,
     pub(crate) windows: Windows,
     pub(crate) volume: Volume,
@@ -72,40 +72,40 @@ pub enum Did {
     Sent,
     /// Nothing is sent.
     Idle,
-    /// An order waits, and nothing is done: the caller starts the chip for the order.
+    /// An order is pending, and nothing was done: the caller starts the chip for the order.
     Restart,
 }
 
-/// What came of a frame that was heard.
+/// The outcome of a frame that was heard.
 #[derive(Clone, Copy, Debug, PartialEq, Eq)]
 pub enum Heard {
-    /// The bytes are no frame.
+    /// The bytes are not a frame.
     Refused(FrameFault),
     /// Nothing is done.
     Dropped,
-    /// A request or a packet for others, of use here, is noted.
+    /// A request or a packet for another mote, which would be of use here, was noted.
     Noted,
-    /// An advert equals what the mote would say.
+    /// An advert equals what the mote would advertise.
     Same,
-    /// An advert says something other.
+    /// An advert differs from what the mote would advertise.
     Other,
     /// The mote begins to ask for this page.
     Asks { image: u8, page: u8 },
     /// It begins to serve this page.
     Serves { image: u8, page: u8 },
-    /// It serves the page, and adds what is asked for.
+    /// It already serves the page, and adds the packets that are requested.
     Merged,
-    /// It keeps this packet of the page that it asks for.
+    /// It has programmed this packet of the page that it asks for.
     Took { packet: u8 },
-    /// The last packet came, and the page is complete.
+    /// The last packet arrived, and the page is complete.
     Sealed { image: u8, page: u8 },
-    /// The last packet came, and the page does not fit.
+    /// The last packet arrived, and the page fails its check.
     Bad { image: u8, page: u8 },
 }
 
 impl Mote {
-    /// A mote that was started at this moment, over the volume of its board. A wide one speaks of images 1 to 6, and a narrow
-    /// one, with the old radio, of images 1 to 3.
+    /// A mote that was started at the time `now`, over the volume of its board. The frames of a wide mote name images 1 to 6.
+    /// Those of a narrow mote, with the old radio, name images 1 to 3.
     pub fn new(volume: Volume, id: u16, wide: bool, now: u64, word: u32) -> Mote
         requires free { NothingLent volume }
         requires moment { now < 2 ^ 62 }
@@ -121,7 +121,7 @@ impl Mote {
         }
     }
 
-    /// The mote goes on with a new volume, and maintains anew. Its start and its windows stay.
+    /// The mote continues with a new volume, and returns to maintaining. The time of its start and its windows stay.
     pub fn reload(&mut self, volume: Volume, now: u64, word: u32)
         requires free { NothingLent volume }
         requires moment { now < 2 ^ 62 }
@@ -133,7 +133,7 @@ impl Mote {
         self.mode = Mode::Maintain(Trickle::new(now, word));
     }
 
-    /// The mote maintains anew. A slot that is lent goes back as it is.
+    /// The mote returns to maintaining. A slot that is lent is returned unchanged.
     pub(crate) fn maintain_anew(&mut self, now: u64, word: u32)
         requires mote { (c : List ℕ) × (m : MoteState) × (s : Store) × IsMote c self.old m s }
         requires moment { now < 2 ^ 62 }

@@ -1,4 +1,4 @@
-//! The slot of an image is opened, and its next page is begun.
+//! Opens the slot of an image, and begins its next page.
 ghost use Rattle.std.specs.Prelude.{◌≡◌, ◌≢◌, ℕ, true, false, IfOk, OnOk, OnErr};
 ghost use Rattle.dg_nor.specs.Trail.{last};
 ghost use Rattle.dg_volume.specs.Store.{Store};
@@ -70,7 +70,7 @@ fn open<N: Nor>(
     };
     match volume.take(nor, image, &profile) {
         Ok(slot) => Ok(slot),
-        // it may be taken, so that this was stopped
+        // it may be taken, so the only possible fault is a stop
         Err(_) => Err(Stopped),
     }
 }

@@ -9,8 +9,8 @@ use std::mem::size_of;
 /// The bytes that the value of an outbox takes in memory.
 pub const OUTBOX_SIZE: usize = size_of::<Outbox>();
 
-/// At most one frame. It is kept as its message, and its bytes are made where they are asked for: motes that hear it in the
-/// same memory need none.
+/// At most one frame. It is kept as its message, and its bytes are made on request: motes that hear it in the same memory
+/// do not need them.
 #[derive(Drop)]
 pub struct Outbox {
     pub(crate) message: Option<Message>,

@@ -1,4 +1,4 @@
-//! Packets that are heard: put into the page that is asked for, which is sealed when it is whole, or noted.
+//! Packets that are heard: programmed into the page that the mote asks for, which is sealed when it is whole; or noted.
 ghost use Rattle.std.specs.Prelude.{◌≡◌, ◌≢◌, ℕ, ◌<◌, ◌≤◌, ◌^◌, true, false, List, length, IfOk, OnOk};
 ghost use Rattle.std.specs.Prelude.{OnErr};
 ghost use Rattle.std.specs.FinSet as set;
@@ -28,8 +28,8 @@ use dg_volume::{Volume, a_lent_slot_is_filled, what_is_after_the_commits_does_no
 use std::mem;
 
 impl Mote {
-    /// A packet of a page was heard. One that is missing of the page that is asked for is programmed, 1 operation, and the last
-    /// makes the page whole.
+    /// A packet of a page was heard. If it is missing from the page that the mote asks for, it is programmed, which is 1
+    /// operation. The last packet makes the page whole.
     pub(crate) fn hear_packet<N: Nor>(
         &mut self,
         nor: &mut N,
@@ -76,7 +76,7 @@ impl Mote {
         }
     }
 
-    /// A page is sent to another mote: that is noted where it would be of use here.
+    /// A page is sent to another mote. This is noted if the page would be of use here.
     fn overhear_packet(&mut self, now: u64, name: PageName) -> Heard
         requires { PageInRange (known_images self.old.wide) name.image name.version name.page }
         ensures rests { (c : List ℕ) (m : MoteState) (s : Store) (timer : Timer) (word packet : ℕ) (bytes : List ℕ)
@@ -92,7 +92,7 @@ impl Mote {
         Heard::Noted
     }
 
-    /// Seals the page that is whole, and maintains anew.
+    /// Seals the page that is whole, and returns to maintaining.
     fn end_page<N: Nor>(&mut self, nor: &mut N, now: u64, word: u32) -> Result<Heard, Stopped>
         requires moment { now < 2 ^ 62 }
         requires whole { (m : MoteState) × (s : Store) × (r : Receiving) × (h : Held) × (ps : Packets)
@@ -107,7 +107,7 @@ impl Mote {
             → Stops (page_ends m r h s now word (page_from ps)).trail (N.device nor.old) (N.device nor.new)) }
     {
         let maintain = Mode::Maintain(Trickle::new(now, word));
-        // no other mote fills a page
+        // only a mote that receives fills a page
         let Mode::Receive { job, .. } = mem::replace(&mut self.mode, maintain) else {
             return Ok(Heard::Dropped);
         };
@@ -121,7 +121,7 @@ impl Mote {
     }
 }
 
-/// Whether a packet is missing of the page that a job fills.
+/// Whether a packet is missing from the page that a job fills.
 fn is_wanted(version: u32, job: &PageJob, name: PageName, packet: u8) -> bool
     requires { packet ≤ last_packet }
     ensures value { (c : List ℕ) (h : Held) (r : Receiving) → IsJob c job.now h r.packets
@@ -135,7 +135,7 @@ fn is_wanted(version: u32, job: &PageJob, name: PageName, packet: u8) -> bool
         && !job.got().has(packet)
 }
 
-/// Makes a page complete that is whole, where it fits: the answer says whether it does. The slot goes back.
+/// Seals a whole page if it fits, and returns the slot. The answer says whether the page fits.
 fn seal<N: Nor>(nor: &mut N, volume: &mut Volume, job: PageJob) -> Result<bool, Stopped>
     requires whole { (q : ℕ) → q < packets → set.contains (got_of_job job) q ≡ true }
     requires lent { is_lent volume.old (outline_of_slot (slot_of job)).image ≡ true }

@@ -36,7 +36,7 @@ impl PageName {
 }
 
 impl Mote {
-    /// A request of these packets of a page was heard, which is made of the mote `to`.
+    /// A request to the mote `to` for these packets of a page was heard.
     pub(crate) fn hear_request(
         &mut self,
         now: u64,
@@ -57,7 +57,7 @@ impl Mote {
         }
     }
 
-    /// Another mote is asked for a page: that is noted where it would be of use here.
+    /// Another mote is asked for a page. This is noted if the page would be of use here.
     fn overhear_request(&mut self, now: u64, name: PageName) -> Heard
         requires { PageInRange (known_images self.old.wide) name.image name.version name.page }
         ensures rests { (c : List ℕ) (m : MoteState) (s : Store) → IsMote c self.old m s
@@ -86,7 +86,7 @@ impl Mote {
         }
     }
 
-    /// Begins to serve a page, where it is kept.
+    /// Begins to serve a page, if it is kept.
     fn serve(&mut self, now: u64, name: PageName, want: PageBits<PACKETS>) -> Heard
         requires range { PageInRange (known_images self.old.wide) name.image name.version name.page }
         requires some { want ≢ set.empty }
@@ -110,7 +110,7 @@ impl Mote {
         }
     }
 
-    /// Adds what a further request asks for, where it is of the page that is served.
+    /// Adds the packets of a further request, if it is for the page that is being served.
     fn serve_more(&mut self, name: PageName, want: PageBits<PACKETS>) -> Heard
         ensures rests { (c : List ℕ) (m : MoteState) (s : Store) (t : Sending) (now : ℕ) → IsMote c self.old m s
             → m.mode ≡ Transmit t
@@ -133,7 +133,7 @@ impl Mote {
         Heard::Merged
     }
 
-    /// Whether a page, or a later one of that version, is one that would be of use here.
+    /// Whether a page is at most the next page of that version that this mote would ask for.
     pub(crate) fn concerns(&self, name: PageName) -> bool
         requires { PageInRange (known_images self.now.wide) name.image name.version name.page }
         ensures { (c : List ℕ) (m : MoteState) (s : Store) → IsMote c self.now m s

@@ -14,9 +14,9 @@ use crate::laws::a_mote_stays_well;
 use dg_slot::a_page_is_its_packets;
 use dg_volume::{a_table_holds_sound_rows, acts_end, starts_end, trails_begin};
 
-/// A mote that agrees and is in time, whatever it was doing, is drained after 50 ticks of a round: it maintains, no
-/// order waits, no short starts are counted, and it may ask for any image. It keeps what it kept. Room for three commits
-/// has to be left at the end.
+/// A mote that agrees and is timely, whatever it was doing, is drained after 50 ticks of a round. It then maintains, no
+/// order is pending, no short starts are counted, and it may ask for any image. It keeps what it kept. Room for three
+/// commits must be left at the end.
 pub fn a_mote_drains()
     ensures { DrainLaw }
 {
@@ -26,8 +26,8 @@ pub fn a_mote_drains()
     trails_begin();
 }
 
-/// A mote that only ticks makes no more than three commits, however often it does: one clears the count of short starts,
-/// and two start the order. So one that has room for six has room for three after any number of ticks.
+/// A mote that only ticks makes at most three commits, however many ticks there are: one clears the count of short starts,
+/// and two start the order. So a mote with room for six commits has room for three after any number of ticks.
 pub fn ticks_take_few_commits()
     ensures { TickSpendLaw }
 {
@@ -42,9 +42,9 @@ pub fn a_drained_mote_rests()
     ensures { RestLaw }
 {}
 
-/// A mote that has just started over a chip that was formatted is drained, and agrees with each table that has its
-/// golden image. Where the chip was formatted with room for three commits, it has that room after any number of ticks.
-/// So such motes, wide or narrow, are what the laws of a round ask for.
+/// A mote that has just started over a chip that was formatted is drained, and agrees with each table that has its golden
+/// image. If the chip was formatted with room for three commits, it has that room after any number of ticks. So such motes,
+/// wide or narrow, meet the preconditions of the laws of a round.
 pub fn a_fresh_mote_is_drained()
     ensures well { (table : List Row) (name bytes : List ℕ) (used id now word : ℕ) (wide : Bool)
         → row_at table 0 golden_version ≡ Some (golden_row name bytes)
@@ -59,13 +59,13 @@ pub fn a_fresh_mote_is_drained()
     a_drained_mote_rests();
 }
 
-/// A drained mote tells what it keeps within three ticks more, and stays drained over the same store.
+/// A drained mote advertises what it keeps within three more ticks, and stays drained over the same store.
 pub fn a_drained_mote_advertises()
     ensures { AdvertLaw }
 {}
 
-/// A drained mote that hears the summary of a mote of its width that is ahead of it asks that mote for the next page of the
-/// first image in which it is ahead, and its next tick sends the request for all packets of that page.
+/// A drained mote that hears the advert of a mote of its width that is ahead of it asks that mote for the next page of the
+/// first image in which it is ahead. Its next tick sends the request for all packets of that page.
 pub fn a_drained_mote_asks()
     ensures asks { AskLaw }
     ensures requests { RequestLaw }
@@ -74,12 +74,12 @@ pub fn a_drained_mote_asks()
     trails_begin();
 }
 
-/// A drained mote that is asked for a page that it keeps sends packets 0 to 47 of it, one a tick, and then maintains.
+/// A drained mote that is asked for a page that it keeps sends packets 0 to 47 of it, one per tick, and then maintains.
 pub fn a_drained_mote_serves()
     ensures { ServeLaw }
 {}
 
-/// A mote that asks for a page and hears its packets in order has one page more, and maintains.
+/// A mote that asks for a page and hears its packets in order has one more page, and maintains.
 pub fn a_page_comes()
     ensures { TakeLaw }
 {

@@ -26,9 +26,9 @@ ghost use Rattle.dg_mote.specs.Rules.{NoRequest, AsksNotFor, AllInInterval};
 ghost use Rattle.dg_mote.specs.declared.mote.Did.TheVariants as did;
 ghost use Rattle.dg_mote.specs.declared.mote.Heard.TheVariants as heard;
 
-/// A mote that hears its own summary told by another sends nothing in the rest of that interval of its timer, whatever
-/// it hears meanwhile (RFC 6206, section 4.2, steps 3 and 4, with a redundancy of 1). A wide mote that hears a narrow advert
-/// looks at the images that this names, and at its order.
+/// A mote that hears an advert equal to its own sends nothing in the rest of that timer interval, whatever it hears (RFC
+/// 6206, section 4.2, steps 3 and 4, with a redundancy of 1). A wide mote compares a narrow advert by the images that the
+/// advert names, and by its order.
 pub fn an_equal_advert_keeps_a_mote_silent()
     ensures heard { (m : MoteState) (s : Store) (timer : Timer) (now word : ℕ) (bytes : List ℕ) (wide : Bool) (source : ℕ)
         (entries : List Entry) (order : Order)
@@ -45,9 +45,8 @@ pub fn an_equal_advert_keeps_a_mote_silent()
         → IsSilent (sent_while events m s) }
 {}
 
-/// A mote that overhears a request of a page that would be of use to it leaves the image to those who ask already: it does
-/// not begin to ask for it for 128,000 milliseconds (suppression, Hui and Culler, SenSys 2004). A mote that asks for it
-/// already goes on.
+/// A mote that overhears a request for a page that would be of use to it does not begin to ask for that image for 128,000
+/// milliseconds (suppression, Hui and Culler, SenSys 2004). A mote that already asks for it continues.
 pub fn an_overheard_request_keeps_a_mote_from_asking()
     ensures noted { (m : MoteState) (s : Store) (now word : ℕ) (bytes : List ℕ) (source to image version page : ℕ)
         (want : Numbers)
@@ -88,9 +87,8 @@ pub fn an_overheard_packet_keeps_a_mote_from_asking()
         → AllByRecursion (NoRequest image) (sent_while (Hears now word bytes ∷ events) m s) }
 {}
 
-/// A request names its packets in a set: those of the wanted page that did not come. A request for the page that is
-/// being served adds its packets to those that are owed, and nothing else changes (the union of requests, Hui and
-/// Culler, SenSys 2004).
+/// A request names its packets in a set: the missing packets of the wanted page. A request for the page that is being served
+/// adds its packets to those that are owed, and nothing else changes (the union of requests, Hui and Culler, SenSys 2004).
 pub fn requests_are_sets()
     ensures asked { (m : MoteState) (s : Store) (now word source to image version page : ℕ) (want : Numbers)
         → (tick_of m s now word).sent ≡ Some (message.Request source to image version page want)
@@ -109,9 +107,9 @@ pub fn requests_are_sets()
         } }
 {}
 
-/// A mote forwards an image of which it has some pages: its adverts tell how many, and it serves a request to itself
-/// exactly where it keeps that version and the page is complete, whether the image is whole or not (pipelining over
-/// hops, Hui and Culler, SenSys 2004).
+/// A mote forwards an image of which it has some pages. Its adverts say how many, and it serves a request to itself exactly
+/// if it keeps that version and the page is complete. The image need not be whole (pipelining over hops, Hui and Culler,
+/// SenSys 2004).
 pub fn pages_are_forwarded_before_the_image_is_whole()
     ensures advert { (m : MoteState) (s : Store) (now word : ℕ) (wide : Bool) (source : ℕ) (entries : List Entry) (order : Order)
         → (tick_of m s now word).sent ≡ Some (advert_by wide source entries order)
@@ -139,8 +137,8 @@ pub fn pages_are_forwarded_before_the_image_is_whole()
         → heard_of m s now word bytes ≡ record { mote = m; trail = resting s 0; sent = None; answer = heard.Dropped } }
 {}
 
-/// A tick answers Restart exactly where the mote maintains, no short starts are to be cleared and the order waits.
-/// Nothing is changed or sent then.
+/// A tick answers Restart exactly if the mote maintains, no short starts are to be cleared and the order is pending. Nothing
+/// is changed or sent then.
 pub fn a_restart_is_for_the_order()
     ensures exactly { (m : MoteState) (s : Store) (now word : ℕ)
         → ((tick_of m s now word).answer ≡ did.Restart) ↔ MayRestart m s now }
@@ -148,8 +146,8 @@ pub fn a_restart_is_for_the_order()
         → tick_of m s now word ≡ record { mote = m; trail = resting s 0; sent = None; answer = did.Restart } }
 {}
 
-/// A frame that is heard sends nothing. One that is refused, exactly where it spells no message, or dropped changes
-/// nothing.
+/// A mote that hears a frame sends nothing. A frame is refused exactly if it spells no message. A frame that is refused or
+/// dropped changes nothing.
 pub fn a_frame_is_heard_in_silence()
     ensures silent { (m : MoteState) (s : Store) (now word : ℕ) (bytes : List ℕ) → (heard_of m s now word bytes).sent ≡ None }
     ensures refused { (m : MoteState) (s : Store) (now word : ℕ) (bytes : List ℕ) (fault : FrameFault)

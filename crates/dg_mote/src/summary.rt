@@ -1,4 +1,4 @@
-//! What a mote says of itself.
+//! What a mote advertises.
 ghost use Rattle.std.specs.Prelude.{◌≡◌, ℕ, ◌||◌, nat_le, true, false, List, Option};
 ghost use Rattle.dg_slot.specs.Kept.{Held};
 ghost use Rattle.dg_volume.specs.Store.{Store};
@@ -12,7 +12,7 @@ use dg_control::Order;
 use dg_frame::{Entry, Message, NARROW_IMAGES, WIDE_IMAGES};
 use dg_volume::{Kept, Volume};
 
-/// What is said of an image of which this is kept.
+/// The entry of an image of which this is kept.
 pub(crate) fn entry_of(kept: Option<Kept>) -> Entry
     ensures { (h : Option Held) → kept ≡ told h → result ≡ entry_by h }
 {
@@ -32,7 +32,7 @@ pub(crate) fn entry_of(kept: Option<Kept>) -> Entry
     }
 }
 
-/// The advert of what a volume keeps and of its order, as a wide mote or a narrow one tells it.
+/// The advert of what a volume keeps and of its order, as a wide or a narrow mote sends it.
 pub(crate) fn advert_message(id: u16, wide: bool, volume: &Volume) -> Message
     requires { (c : List ℕ) × IsMounted c volume.now }
     ensures says { (s : Store) → Tells volume.now s → result ≡ advert_of id wide s }
@@ -54,7 +54,7 @@ pub(crate) fn advert_message(id: u16, wide: bool, volume: &Volume) -> Message
     }
 }
 
-/// What is said of images 1 to 6.
+/// The entries of images 1 to 6.
 fn wide_entries(volume: &Volume) -> [Entry; WIDE_IMAGES]
     ensures { (s : Store) → Tells volume.now s → result ≡ entries_of true s }
 {
@@ -68,7 +68,7 @@ fn wide_entries(volume: &Volume) -> [Entry; WIDE_IMAGES]
     ]
 }
 
-/// What is said of images 1 to 3.
+/// The entries of images 1 to 3.
 fn narrow_entries(volume: &Volume) -> [Entry; NARROW_IMAGES]
     ensures { (s : Store) → Tells volume.now s → result ≡ entries_of false s }
 {
@@ -79,7 +79,7 @@ fn narrow_entries(volume: &Volume) -> [Entry; NARROW_IMAGES]
     ]
 }
 
-/// The order as a mote tells it: a narrow one tells none of an image that its frames do not name.
+/// The order that a mote advertises. A narrow mote advertises no order for an image that its frames do not name.
 pub(crate) fn own_order(wide: bool, volume: &Volume) -> Order
     ensures { (s : Store) → Tells volume.now s → result ≡ own_order wide s }
 {
@@ -94,7 +94,7 @@ pub(crate) fn own_order(wide: bool, volume: &Volume) -> Order
     }
 }
 
-/// Whether the order of an image is told.
+/// Whether an order for this image is advertised.
 fn tells_image(wide: bool, image: u8) -> bool
     ensures { result ≡ (wide || nat_le image narrow_images) }
 {

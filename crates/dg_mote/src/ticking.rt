@@ -34,16 +34,16 @@ use dg_slot::{PageJob, read_packet};
 use dg_trickle::{Act, Trickle};
 use dg_volume::Volume;
 
-/// A mote that runs so long clears the count of short starts, in milliseconds.
+/// How long a mote runs before it clears the count of short starts, in milliseconds.
 pub(crate) const LONG_RUN: u64 = 5_000;
 
 impl Mote {
-    /// Does what is due at this moment, the first that fits.
+    /// Does what is due now: the first of these actions that applies.
     ///
-    /// After five seconds it clears the count of short starts. As it maintains it answers `Restart` where an order waits,
-    /// and sends an advert where its timer fires (Trickle, RFC 6206). As it receives it sends a request where that is due,
-    /// and after eight of them gives the page up. As it transmits it sends the least packet that is owed. A frame is put
-    /// into the outbox exactly where the answer is `Sent`.
+    /// After five seconds it clears the count of short starts. While it maintains, it answers `Restart` if an order is
+    /// pending, and sends an advert when its timer says so (Trickle, RFC 6206). While it receives, it sends a request when
+    /// one is due, and gives the page up after eight of them. While it transmits, it sends the lowest packet that is owed.
+    /// A frame is put into the outbox exactly if the answer is `Sent`.
     pub fn tick<N: Nor>(
         &mut self,
         nor: &mut N,
@@ -58,14 +58,14 @@ impl Mote {
             → Done (tick_of m s now word) (N.device nor.old) (N.device nor.new) self.new did) }
         ensures sent { OnOk result ((m : MoteState) (s : Store) → IsMote (N.device nor.old).image self.old m s
             → sent_in out.new ≡ option_map frame_of (tick_of m s now word).sent) }
-        // the frame that is sent is read as its message by a mote of its width
+        // a mote of the same width reads the frame that is sent as its message
         ensures read { OnOk result ((m : MoteState) (s : Store) → IsMote (N.device nor.old).image self.old m s
             → IfSome (tick_of m s now word).sent (IsRead m.wide)) }
         ensures same_reference { (N.device nor.new).references ≡ (N.device nor.old).references }
         ensures stopped { OnErr result ((m : MoteState) (s : Store) → IsMote (N.device nor.old).image self.old m s
             → Stops (tick_of m s now word).trail (N.device nor.old) (N.device nor.new)) }
         ensures nothing_sent { OnErr result (sent_in out.new ≡ None) }
-        // whatever was heard before: a consistent chip stays so, also where it stops
+        // whatever was heard before, a consistent chip stays consistent, also if it stops
         ensures consistent { OnOk result ((golden : Row) → MoteIsConsistent golden (N.device nor.old).image self.old
             → MoteIsConsistent golden (N.device nor.new).image self.new) }
         ensures stops_consistent { OnErr result ((golden : Row) → MoteIsConsistent golden (N.device nor.old).image self.old
@@ -79,7 +79,7 @@ impl Mote {
         self.tick_mode(nor, now, word, out)
     }
 
-    /// Whether it ran long enough to clear the count of short starts, where there are any, and room.
+    /// Whether there are short starts, there is room to clear their count, and the mote has run long enough to do so.
     fn clears(&self, now: u64) -> bool
         ensures { (m : MoteState) (s : Store) → self.now.since ≡ m.since → Tells self.now.volume s → result ≡ clears m s now }
     {
@@ -184,7 +184,7 @@ impl Mote {
     }
 }
 
-/// Counts short starts from 0 again. It is not inlined: at most one tick of a start does it.
+/// Resets the count of short starts to 0. It is not inlined: at most one tick per start does it.
 #[inline(never)]
 fn clear_gesture<N: Nor>(volume: &mut Volume, nor: &mut N) -> Result<(), Stopped>
     requires mounted { IsMounted (N.device nor.old).image volume.old }
@@ -201,8 +201,8 @@ fn clear_gesture<N: Nor>(volume: &mut Volume, nor: &mut N) -> Result<(), Stopped
     volume.clear_gesture(nor)
 }
 
-/// What it does as it maintains: it asks for a restart where an order waits, and else it ticks its timer, and advertises
-/// where that says so.
+/// What it does while it maintains: it asks for a restart if an order is pending. Otherwise it ticks its timer, and
+/// advertises if the timer says so.
 #[inline(always)]
 fn maintain(
     id: u16,
@@ -231,7 +231,7 @@ fn maintain(
     }
 }
 
-/// Puts the advert of what a volume keeps in. It is not inlined: most ticks send none.
+/// Puts the advert of what a volume keeps into the outbox. It is not inlined: most ticks send no advert.
 #[inline(never)]
 fn put_advert(id: u16, wide: bool, volume: &Volume, out: &mut Outbox)
     requires { (c : List ℕ) × IsMounted c volume.now }
@@ -262,7 +262,7 @@ fn request_message(
     }
 }
 
-/// The message of a packet as it is in its slot.
+/// The message of a packet, as read from its slot.
 fn packet_message<N: Nor>(
     nor: &mut N,
     id: u16,

@@ -31,7 +31,7 @@ returns-clause-said c table m s now word is_table w speaks =
     } in
     tick_said laws table is_table s w.store m.id speaks.id m.wide m now word refl refl speaks.order w.mode w.timely.mode (speaks.server, speaks.known)
 
--- an honest message that is read as it was said makes an honest frame
+-- an honest message that is read back unchanged makes an honest frame
 honest_frames : (table : List Row) (id : ℕ) (wide : Bool) (sent : Option Message) → SendsHonest table sent → IfSome sent (IsSaid id wide) → IfSome sent (λ message. IsHonest table (frame_of message))
 honest_frames table id wide None honest said = tt
 honest_frames table id true (Some message) honest said = subst (HonestMessage table) (sym said.is_read) honest
