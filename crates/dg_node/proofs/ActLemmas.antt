@@ -67,7 +67,7 @@ read_stops s t a b begins stands r =
       leaves = record { store = s; stands_for = subst (λ (c : List ℕ). Stands c s) (sym r.same_image) stands; allowed = leaves_start s t begins };
     }
 
--- no fuse blows in a read
+-- no fuse fires in a read
 read_whole : (a b : Device) → ReadStopped a b → a.blown ≡ false → b.blown ≡ true → ⊥
 read_whole a b r whole blown = ⊎_elim (λ was. both_ways a.blown whole was) (λ out. omega (arith, out.0)) (r.halts.fired blown)
 
@@ -80,12 +80,12 @@ mount_fails mount_fault.Stopped refusal e s v u a b begins stands r =
     record { stops = read_stops s (trail_unless refusal e.trail s) a b (begins_unless refusal e.trail s begins) stands r; told = λ whole blown. absurd (read_whole a b r whole blown) }
 mount_fails mount_fault.NotAVolume refusal e s v u a b begins stands r = r.0 s stands
 
--- what holds of the fault that is handed on holds of the answer
+-- what holds of the fault that is passed on holds of the answer
 pub handed : {T : Type 0} (P : Result T ActFault → Type 0) (r : Result T ActFault) (f : ActFault) → IsErrAnd r (λ e. e ≡ f) → P (Err f) → P r
 handed P (Ok x) f is p = absurd is
 handed P (Err e) f is p = subst (λ (x : ActFault). P (Err x)) (sym is) p
 
--- ---- the node goes on
+-- ---- the node continues
 
 pub reloads : (p : Option Node) (v : Node) (q : Option Node) (u : Mote) (c d : List ℕ) (s t : Store) (r : Option Running) (now word : ℕ) → p ≡ Some v → q ≡ Some (record v { mote = u }) → ((m : MoteState) → IsMote c (node_mote v) m s → IsMote d u (maintains m now word) t) → NodeStands c p s r
     → NodeStands d q t (runs_by (option_map (λ m. maintains m now word) (running_mote r)) None (option_map node_image p))
@@ -99,7 +99,7 @@ reloads (Some w) v (Some x) u c d s t (Some r) now word is to goes stands =
       subst (λ (n : Node). IsMote d n.mote (maintains r.mote now word) t) (sym new) (goes r.mote (subst (λ (n : Node). IsMote c n.mote r.mote s) same stands.1)),
     )
 
--- ---- acts that were done, and that were not
+-- ---- acts that were done, and acts that were not
 
 pub act_kept : {R : Type 0} (x : Change) (refusal : Option R) (o : Option MoteState) (t : Trail Store) (now word : ℕ) (s : Store) (v : Volume) (p u : Option Node) (a m b : Device) → refusal ≡ None → Looked a m → Acted t m b v → IsReportOf x.before s → IsReportOf x.after (last t) → SeesOrder x.orderly b.image
     → NodeStands b.image u (last t) (runs_by (option_map (λ y. maintains y now word) o) None (option_map node_image p)) → ActKept x refusal (acts_effect o t now word) s (host a p) (host b u)
@@ -178,14 +178,14 @@ is_taken inject.Reserved = inr (λ h. cc)
 is_taken (inject.Worn room) = inr (λ h. cc)
 is_taken inject.Stopped = inr (λ h. cc)
 
--- a refused injection looked at most
+-- a refused injection changed nothing, and at most read
 pub inject_same : (e : InjectFault) (v u : Volume) (a b : Device) → (e ≢ inject.Taken → (b ≡ a) × (u ≡ v)) → (e ≡ inject.Taken → Looked a b × (u ≡ v)) → (b.image ≡ a.image) × (u ≡ v)
 inject_same e v u a b same taken = ⊎_elim
     (λ is. let x = taken is in (x.0.same_image, x.1))
     (λ other. let x = same other in (ap (λ (d : Device). d.image) x.0, x.1))
     (is_taken e)
 
--- ---- what it tells of the order of the chip
+-- ---- whether it reports the chip as orderly
 
 pub order_sees : (before : ChipReport) (orderly : Bool) (c : List ℕ) (f : OrderFault) → (f ≢ order_fault.Stopped → SeesOrder orderly c) → IfOk (order_failed f before orderly) (λ x. SeesOrder (is_orderly_ordered x) c)
 order_sees before orderly c order_fault.Stopped tells = tt

@@ -46,7 +46,7 @@ order_reads known a m b took image taken volume orderly bytes = record {
   bytes = λ p q here after. bytes p q (subst (λ (c : List ℕ). RemountBytes c p) (sym image) here) after;
 }
 
--- a board that was mounted and no more
+-- a board that was only mounted
 pub mount_reads : (known : Bool) (a m : Device) → ((c : List ℕ) (p q : ℕ) → RemountBytes c p → RemountBytes c q → p ≡ q) → (known ≡ true → (n : ℕ) → RemountBytes a.image n → Took n a m) → m.image ≡ a.image → OrderReads known a m
 mount_reads known a m one took image = record {
   took = took;

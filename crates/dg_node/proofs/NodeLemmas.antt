@@ -47,7 +47,7 @@ use Rattle.dg_node.specs.Nodes.{image_version_of, rest_effect}
 use Rattle.dg_node.specs.Ends.{NodeEnd, Quiet, Sent, Starts, Stopped, NotAVolume, NoImage, NodeDone, EffectDone, power_end, tick_end}
 use Rattle.dg_node.specs.inner.Faults.{restart_fault}
 
--- ---- behind a reading
+-- ---- after a read
 
 pub ran_after : (n : ℕ) (a b c : Device) → Ran 0 a b → Ran n b c → Ran n a c
 ran_after n a b c l r = let e : 0 + n ≡ n = omega arith in subst (λ (k : ℕ). Ran k a c) e (Ran_then l r)
@@ -134,7 +134,7 @@ module _ (k : StartCause) (s : Store) (id : ℕ) (wide : Bool) (now word : ℕ) 
 
 -- ---- ticks
 
--- a frame is sent exactly where the answer says so
+-- a frame is sent exactly if the answer says so
 abbrev SaysBy : Did → Option Message → Type 0
 SaysBy did.Sent o = (message : Message) × (o ≡ Some message)
 SaysBy did.Idle o = o ≡ None

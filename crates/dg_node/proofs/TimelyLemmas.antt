@@ -1,4 +1,4 @@
--- The mote that an event leaves is in time.
+-- The mote that an event leaves is timely.
 use Rattle.std.proofs.Common.{ℕ, Bool, List}
 use Rattle.std.specs.Prelude.{Option, Some, None, IfSome}
 use Rattle.dg_nor.specs.Trail.{Trail, last}

@@ -29,7 +29,7 @@ use Rattle.dg_node.specs.declared.acts.Injected.TheVariants as injected
 
 -- ---- effects, at a node that is on or off
 
--- a mote that is on maintains anew after an act on its volume
+-- a mote that is on returns to maintaining after an act on its volume
 abbrev pub acts_effect : Option MoteState → Trail Store → (now word : ℕ) → Effect
 acts_effect o t now word = record { mote = option_map (λ m. maintains m now word) o; trail = t; started = None; sent = None }
 
@@ -56,12 +56,12 @@ pub record ActRefused {R : Type 0} (why : R) (orderly : Bool) (refusal : Option 
   pub same : b.runs ≡ a.runs
   pub tells : SeesOrder orderly b.board.image
 
--- a refused act only looks at the chip
+-- a refused act only reads the chip
 abbrev pub trail_unless : {R : Type 0} → Option R → Trail Store → Store → Trail Store
 trail_unless None t s = t
 trail_unless (Some why) t s = resting s 0
 
--- The chip stopped. Where a fuse fired in the act, this was reported of the chip before.
+-- The chip stopped. If a fuse fired in the act, this is the report of the chip before the act.
 pub record StoppedInAct {R : Type 0} (before : Option ChipReport) (refusal : Option R) (e : Effect) (s : Store)
     (old new : Device) : Type 0 where
   pub stops : Stops (trail_unless refusal e.trail s) old new
@@ -71,7 +71,7 @@ abbrev pub ActFails : {R : Type 0} → ActFault → Option R → Effect → Stor
 ActFails (act_fault.Stopped before) refusal e s a b = StoppedInAct before refusal e s a.board b.board
 ActFails act_fault.NotAVolume refusal e s a b = ⊥
 
--- What an order did of which this is the effect, at a board that stood for s: the host was a and is b.
+-- What an order with this effect did at a board that stood for s: the host was a and is b.
 abbrev pub NodeOrdered : Result Ordered ActFault → Option OrderFault → Effect → Store → (a b : Host) → Type 0
 NodeOrdered (Ok (ordered.Kept x)) refusal e s a b = ActKept x refusal e s a b
 NodeOrdered (Ok (ordered.Refused why orderly)) refusal e s a b = ActRefused why orderly refusal a b
@@ -82,13 +82,13 @@ NodeInjected (Ok (injected.Kept x)) refusal e s a b = ActKept x refusal e s a b
 NodeInjected (Ok (injected.Refused why orderly)) refusal e s a b = ActRefused why orderly refusal a b
 NodeInjected (Err fault) refusal e s a b = ActFails fault refusal e s a b
 
--- what a refused injection read of a board that is mounted again by n bytes
+-- what a refused injection read of a board if mounting it again reads n bytes
 abbrev pub InjectTook : Result Injected ActFault → (n : ℕ) → (old new : Device) → Type 0
 InjectTook (Ok (injected.Kept x)) n old new = Unit {0}
 InjectTook (Ok (injected.Refused why orderly)) n old new = Took (n + bytes_looked_at why) old new
 InjectTook (Err fault) n old new = Unit {0}
 
--- whether the chip is told to be orderly
+-- whether the chip is reported to be orderly
 abbrev pub is_orderly_ordered : Ordered → Bool
 is_orderly_ordered (ordered.Kept x) = x.orderly
 is_orderly_ordered (ordered.Refused why orderly) = orderly
@@ -97,7 +97,7 @@ abbrev pub is_orderly_injected : Injected → Bool
 is_orderly_injected (injected.Kept x) = x.orderly
 is_orderly_injected (injected.Refused why orderly) = orderly
 
--- ---- by the faults beneath
+-- ---- by the faults of the crates below
 
 abbrev pub mount_failed : MountFault → ActFault
 mount_failed mount_fault.Stopped = act_fault.Stopped None

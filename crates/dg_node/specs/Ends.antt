@@ -1,4 +1,4 @@
--- What an event of a node does that has an effect (dg_mote/specs/Effects), by what it answers.
+-- What an event of a node with a given effect (dg_mote/specs/Effects) does, by its answer.
 use Rattle.std.specs.Prelude.{◌≡◌, ℕ, List, length, Option, Some, None, option_map, IfSome, Result, Ok, Err}
 use Rattle.dg_nor.specs.Device.{Device, Ran}
 use Rattle.dg_nor.specs.Trail.{operations, last}
@@ -37,8 +37,8 @@ pub data NodeEnd : Type 0 where
   NotAVolume : NodeEnd
   NoImage : NodeEnd
 
--- The effect was done: the chip went its trail, what runs then is the effect's, what is sent is in the outbox, and what was
--- started stands in program memory.
+-- The effect was done: the chip completed its trail, what runs afterwards is the effect's, what is sent is in the outbox,
+-- and what was started is in program memory.
 pub record EffectDone (e : Effect) (frame : Option (List ℕ)) (a b : Host) : Type 0 where
   pub ran : Ran (operations e.trail) a.board b.board
   pub stands : Stands b.board.image (last e.trail)
@@ -56,14 +56,14 @@ pub record FoundNoImage (e : Effect) (frame : Option (List ℕ)) (old new : Devi
   pub ran : Ran (operations e.trail) old new
   pub stands : Stands new.image (last e.trail)
 
--- what is told of a start
+-- what is reported of a start
 pub record IsStart (told : StartedImage) (r : Runs) : Type 0 where
   pub image : told.image_version.image ≡ r.image
   pub version : told.image_version.version ≡ r.version
   pub length : told.length ≡ runs_length r
   pub crc : told.crc ≡ runs_crc r
 
--- What an event did that has this effect, and ended so: the host was a and is b, and the outbox has this frame.
+-- What an event with this effect and this end did: the host was a and is b, and the outbox has this frame.
 abbrev pub NodeDone : NodeEnd → (frame : Option (List ℕ)) → Effect → (a b : Host) → Type 0
 NodeDone Quiet frame e a b = EffectDone e frame a b × (e.started ≡ None) × (e.sent ≡ None)
 NodeDone Sent frame e a b = EffectDone e frame a b × (e.started ≡ None) × ((message : Message) × (e.sent ≡ Some message))
@@ -98,7 +98,8 @@ hear_end (Err stopped) = Stopped
 
 -- ---- what a start finds
 
--- A start answers so of a board that is a volume, or of one that is none, which keeps its bytes. It says why it stopped.
+-- What a start's answer says of the board: it is a volume, or it is not one and keeps its bytes. A stop is a stop of the
+-- device.
 abbrev pub PowerFinds : Result Powered BootFault → Device → Device → Type 0
 PowerFinds (Ok x) old new = IsVolume old.image
 PowerFinds (Err boot_fault.Stopped) old new = ActStopped old new × (IsNoVolume old.image → ReadStopped old new)

@@ -19,7 +19,7 @@ pub record IsKnownChip (c : List ℕ) : Type 0 where
   pub volume : IsVolume c
   pub orderly : IsOrderlyChip c
 
--- this tells whether the chip is orderly
+-- this is true exactly if the chip is orderly
 abbrev pub SeesOrder : Bool → List ℕ → Type 0
 SeesOrder orderly c = (orderly ≡ true) ↔ IsOrderlyChip c
 
@@ -37,14 +37,14 @@ MountDone (Err mount_fault.NotAVolume) old new = IsNoVolume old.image × Looked 
 
 -- ---- what is read of a known board
 
--- An order mounts a known board again and reads nothing else. The board stays one that is known,
--- and mounting it once more reads one place more at most.
+-- An order mounts a known board again and reads nothing else. The board stays known, and mounting
+-- it once more reads at most one more place.
 pub record OrderReads (known : Bool) (a b : Device) : Type 0 where
   pub took : known ≡ true → (n : ℕ) → RemountBytes a.image n → Took n a b
   pub stays : IsKnownChip a.image → IsKnownChip b.image
   pub bytes : (m n : ℕ) → RemountBytes a.image m → RemountBytes b.image n → n ≤ m + place_size
 
--- beyond mounting it again, where an injection is refused so
+-- what an injection that is refused for this reason reads beyond mounting the board again
 abbrev pub bytes_looked_at : InjectFault → ℕ
 bytes_looked_at inject.Taken = page_size
 bytes_looked_at inject.Stopped = 0

@@ -22,14 +22,14 @@ node_image v = v.image_version
 abbrev pub node_mote : Node → Mote
 node_mote v = v.mote
 
--- what the code keeps of a node over these bytes is what the node is, None where it is off
+-- the code's node stands for this node over these bytes, and is None if the node is off
 abbrev pub NodeStands : List ℕ → Option Node → Store → Option Running → Type 0
 NodeStands c None s None = Unit {0}
 NodeStands c (Some v) s (Some r) = (v.image_version ≡ r.image_version) × IsMote c v.mote r.mote s
 NodeStands c None s (Some r) = ⊥
 NodeStands c (Some v) s None = ⊥
 
--- the code's node is some mote over these bytes, and in time
+-- the code's node stands for some mote over these bytes, which is timely
 abbrev pub IsTimelyNode : List ℕ → Node → ℕ → Type 0
 IsTimelyNode c v now = (m : MoteState) × (s : Store) × IsMote c v.mote m s × Timely m now
 

@@ -1,4 +1,4 @@
--- What is reported of a chip by what its volume tells.
+-- The report of a chip, from what its volume exposes.
 use Rattle.std.specs.Prelude.{◌≡◌, ℕ, ◌<◌, slice_index_or, None}
 use Rattle.dg_volume.specs.Sizes.{images}
 use Rattle.dg_volume.specs.Store.{Store, held}

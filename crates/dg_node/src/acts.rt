@@ -1,11 +1,11 @@
-//! What injections and orders answer.
+//! The results of injections and orders.
 ghost use Rattle.std.specs.Prelude.{◌≡◌};
 ghost use Rattle.dg_node.specs.inner.Faults.{order_failed, inject_failed};
 
 use crate::report::ChipReport;
 use dg_volume::{InjectFault, MountFault, OrderFault};
 
-/// What was made of a chip, as it is reported before and after, and whether it is orderly then.
+/// The change of a chip: its reports before and after, and whether it is orderly afterwards.
 #[derive(Clone, Copy, Debug, PartialEq, Eq)]
 pub struct Change {
     pub before: ChipReport,
@@ -13,28 +13,28 @@ pub struct Change {
     pub orderly: bool,
 }
 
-/// What an order did that did not fail.
+/// The outcome of an order that did not fail.
 #[derive(Clone, Copy, Debug, PartialEq, Eq)]
 pub enum Ordered {
     Kept(Change),
-    /// It was refused, and this tells whether the chip is orderly.
+    /// It was refused. `orderly` is whether the chip is orderly.
     Refused { why: OrderFault, orderly: bool },
 }
 
-/// What an injection did that did not fail.
+/// The outcome of an injection that did not fail.
 #[derive(Clone, Copy, Debug, PartialEq, Eq)]
 pub enum Injected {
     Kept(Change),
-    /// It was refused, and this tells whether the chip is orderly.
+    /// It was refused. `orderly` is whether the chip is orderly.
     Refused { why: InjectFault, orderly: bool },
 }
 
 /// Why an injection or an order was not done.
 #[derive(Clone, Copy, Debug, PartialEq, Eq)]
 pub enum ActFault {
-    /// The chip is stopped. This was reported of it before, unless it stopped as it was mounted.
+    /// The chip is stopped. `before` is its report before the act, unless it stopped while it was mounted.
     Stopped { before: Option<ChipReport> },
-    /// Its bytes are no volume.
+    /// Its bytes are not a volume.
     NotAVolume,
 }
 

@@ -1,4 +1,4 @@
-//! What the events of a node answer.
+//! The results of the events of a node.
 use crate::node::Node;
 use dg_base::ImageVersion;
 
@@ -8,11 +8,11 @@ pub struct StartedImage {
     pub image_version: ImageVersion,
     /// The bytes of the image.
     pub length: u32,
-    /// The checksum of its bytes as they stand in program memory.
+    /// The checksum of its bytes in program memory.
     pub crc: u16,
 }
 
-/// A node that was powered, and what was started there.
+/// A node that was powered on, and the image that was started there.
 #[derive(Drop)]
 pub struct Powered {
     pub node: Node,
@@ -30,11 +30,11 @@ pub enum Ticked {
     Restarted(StartedImage),
 }
 
-/// Why a tick was not done. The node is not used again.
+/// Why a tick failed. The node must not be used again.
 #[derive(Clone, Copy, Debug, PartialEq, Eq)]
 pub enum TickFault {
     /// The chip is stopped.
     Stopped,
-    /// The chip was to start for its order, and there was no image.
+    /// The chip was to start for its order, but there was no image to start.
     NoImage,
 }

@@ -29,8 +29,8 @@ pub struct ImageBytes<'a> {
 }
 
 impl Node {
-    /// Injects an image into a board, which is mounted again by halving where it is known that this may be done. A node that
-    /// is on goes on with the new volume.
+    /// Injects an image into a board, which is mounted again by halving if it is a known board. A node that is on continues
+    /// with the new volume.
     #[inline(never)]
     pub fn inject<N: Nor>(
         runs: &mut Option<Node>,
@@ -52,10 +52,10 @@ impl Node {
             image.now.bytes.now in
             NodeInjected result (inject_refusal s row) (inject_effect (running_mote r) s row now word) s
             (host (N.device board.old) runs.old) (host (N.device board.new) runs.new) }
-        // a refused one mounts a known board again, and may look at a page
+        // a refused injection mounts a known board again, and may read a page
         ensures reads { IsTrue known → (n : ℕ) → RemountBytes (N.device board.old).image n
             → InjectTook result n (N.device board.old) (N.device board.new) }
-        // it tells whether the chip is orderly then
+        // it reports whether the chip is orderly afterwards
         ensures sees { IfOk result (λ x. SeesOrder (is_orderly_injected x) (N.device board.new).image) }
         ensures same_reference { (N.device board.new).references ≡ (N.device board.old).references }
     {

@@ -7,7 +7,7 @@ ghost use Rattle.dg_mote.specs.Timely.{Timely};
 
 use dg_mote::a_mote_stays_timely;
 
-/// No moment of the mote that an event leaves is later than the event, and what is due is due soon.
+/// The mote that an event leaves records no time later than that of the event, and what is due is due soon.
 pub fn a_node_stays_timely()
     ensures powered { (s : Store) (id now word : ℕ) (wide : Bool)
         → IfSome (reset_effect s id wide now word).mote (λ m. Timely m now) }

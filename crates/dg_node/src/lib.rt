@@ -1,7 +1,7 @@
-//! One mote over its board: its power comes, it ticks, it hears a frame, an image is injected, an order is kept.
+//! One mote over its board: it powers on, it ticks, it hears a frame, an image is injected, an order is kept.
 //!
-//! Each call does what `dg_mote/specs/Effects` says, and nothing else does what it does: a world and a service play their
-//! motes by these calls.
+//! Each call has the effect that `dg_mote/specs/Effects` specifies. A world and a service play their motes by these
+//! calls alone.
 #![tactic(auto)]
 
 mod acts;

@@ -10,20 +10,20 @@ use dg_base::ImageVersion;
 use dg_mote::Mote;
 use dg_volume::Volume;
 
-/// A mote that is on, and the image that it runs. Its board stands beside it.
+/// A mote that is on, and the image that it runs. It does not contain its board.
 #[derive(Drop)]
 pub struct Node {
     pub(crate) image_version: ImageVersion,
     pub(crate) mote: Mote,
 }
 
-/// Who a mote is, and when and with which word its power comes.
+/// The number and the width of a mote, and when and with which random number it powers on.
 #[derive(Clone, Copy, Debug, PartialEq, Eq)]
 pub struct At {
     pub id: u16,
     /// Whether its radio is wide.
     pub wide: bool,
-    /// The moment, in milliseconds.
+    /// The time, in milliseconds.
     pub now: u64,
     /// A random number.
     pub word: u32,
@@ -37,7 +37,7 @@ impl Node {
         self.image_version
     }
 
-    /// The moment before which a tick changes nothing and sends nothing. Nothing is read.
+    /// The time before which a tick changes nothing and sends nothing. The chip is not read.
     pub fn due(&self) -> u64
         ensures { (c : List ℕ) (m : MoteState) (s : Store) (now word : ℕ) → IsMote c (node_mote self.now) m s → now < result
             → tick_effect m s now word ≡ rest_effect m s }

@@ -18,7 +18,7 @@ use dg_control::Order;
 use dg_nor::Nor;
 use dg_volume::{Volume, a_volume_bounds_a_remount};
 
-/// A node that is on goes on with its board's new volume.
+/// A node that is on continues with its board's new volume.
 pub(crate) fn reload(runs: &mut Option<Node>, volume: Volume, now: u64, word: u32)
     requires node { (c : List ℕ) × IfSome runs.old (λ v. IsTimelyNode c v now) }
     requires free { NothingLent volume }
@@ -33,8 +33,8 @@ pub(crate) fn reload(runs: &mut Option<Node>, volume: Volume, now: u64, word: u3
 }
 
 impl Node {
-    /// Keeps an order on a board, which is mounted again by halving where it is known that this may be done. A node that is on
-    /// goes on with the new volume.
+    /// Keeps an order on a board, which is mounted again by halving if it is a known board. A node that is on continues with
+    /// the new volume.
     #[inline(never)]
     pub fn order<N: Nor>(
         runs: &mut Option<Node>,
@@ -56,7 +56,7 @@ impl Node {
             (host (N.device board.old) runs.old) (host (N.device board.new) runs.new) }
         // a known board is mounted again, and nothing else is read; it stays known
         ensures reads { OrderReads known (N.device board.old) (N.device board.new) }
-        // it tells whether the chip is orderly then
+        // it reports whether the chip is orderly afterwards
         ensures sees { IfOk result (λ x. SeesOrder (is_orderly_ordered x) (N.device board.new).image) }
         ensures same_reference { (N.device board.new).references ≡ (N.device board.old).references }
     {

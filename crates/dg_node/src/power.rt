@@ -1,4 +1,4 @@
-//! The power of a board comes.
+//! A board powers on.
 ghost use Rattle.std.specs.Prelude.{◌≡◌, ◌^◌, ◌<◌, Option, None};
 ghost use Rattle.dg_volume.specs.Store.{Store};
 ghost use Rattle.dg_volume.specs.Stands.{Stands, NothingLent};
@@ -15,20 +15,20 @@ use dg_mote::Mote;
 use dg_nor::Nor;
 
 impl Node {
-    /// The power of a board comes: its chip starts, and its mote is made.
+    /// A board powers on: its chip starts, and its mote is created.
     pub fn power<N: Nor>(board: &mut N, at: At) -> Result<Powered, BootFault>
         requires moment { at.now < 2 ^ 62 }
         ensures done { (s : Store) (before : Option Node) → Stands (N.device board.old).image s
             → NodeDone (power_end result) None (reset_effect s at.id at.wide at.now at.word)
             (host (N.device board.old) before) (host (N.device board.new) (powered_in result)) }
-        // it tells a board that is a volume from one that is none, which keeps its bytes
+        // it distinguishes a board that is a volume from one that is not, which keeps its bytes
         ensures finds { PowerFinds result (N.device board.old) (N.device board.new) }
     {
         begin(Kind::Power, at, board)
     }
 }
 
-/// A board starts, and its node is made.
+/// Starts a board, and creates its node.
 #[inline(never)]
 pub(crate) fn begin<N: Nor>(cause: Kind, at: At, board: &mut N) -> Result<Powered, BootFault>
     requires moment { at.now < 2 ^ 62 }

@@ -13,7 +13,7 @@ pub struct ChipReport {
     pub kept: [Option<Kept>; IMAGES],
 }
 
-/// What is reported of a chip, as its volume tells it.
+/// The report of a chip, from its volume.
 pub fn report_chip(volume: &Volume) -> ChipReport
     ensures { (s : Store) → Tells volume.now s → IsReportOf result s }
 {

@@ -18,8 +18,8 @@ use dg_mote::{Did, Outbox, a_restart_is_for_the_order};
 use dg_nor::{Nor, Stopped};
 
 impl Node {
-    /// Does what is due at this moment, the first that fits. Where an order waits and nothing else is due, the chip starts
-    /// for it. A frame is put into the outbox exactly where the answer is `Sent`.
+    /// Does what is due now: the first action that applies. If an order is pending and nothing else is due, the chip
+    /// starts for it. A frame is put into the outbox exactly if the answer is `Sent`.
     #[inline(always)]
     pub fn tick<N: Nor>(
         &mut self,
@@ -44,7 +44,7 @@ impl Node {
         }
     }
 
-    /// A board that stands starts for its order, and its node is made anew.
+    /// Starts a board for its order, and creates its node again.
     #[inline(never)]
     fn restart<N: Nor>(&mut self, board: &mut N, now: u64, word: u32) -> Result<Ticked, TickFault>
         requires moment { now < 2 ^ 62 }

@@ -7,7 +7,7 @@ use Rattle.dg_mote.specs.Model.{begun_mote}
 use Rattle.dg_mote.specs.Motes.{IsMote}
 use Rattle.dg_node.specs.declared.answers.Powered.{Powered}
 
--- a mote that was started over the volume of its chip, and what is told of that
+-- a mote that was started over the volume of its chip, and what is reported of that
 pub record BeginsOver (started : Started) (id : ℕ) (wide : Bool) (now word : ℕ) (p : Powered) : Type 0 where
   pub runs : p.node.image_version ≡ p.image.image_version
   pub version : p.image.image_version ≡ record { image = started.image; version = started.version }

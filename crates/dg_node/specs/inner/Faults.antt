@@ -1,4 +1,4 @@
--- What a node answers, by the faults beneath it.
+-- What a node answers, by the faults of the crates below it.
 use Rattle.std.specs.Prelude.{Bool, Some, Result, Ok, Err}
 use Rattle.dg_volume.specs.declared.volume.InjectFault.{InjectFault}
 use Rattle.dg_volume.specs.declared.volume.InjectFault.TheVariants as inject
