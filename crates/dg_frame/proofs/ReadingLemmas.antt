@@ -1,4 +1,4 @@
--- The grammar tells the ranges and the causes of refusals.
+-- The grammar determines the ranges and the causes of refusals.
 use Rattle.std.proofs.Common.{◌≡◌, ◌≢◌, ℕ, ◌-◌, ◌≤◌, Bool, true, false, ◌&&◌, not, Decides, List, length, take, Option, Some, None, Result, Ok, Err, refl, sym, ap, ◌∙◌, subst, arith}
 use Rattle.std.specs.Prelude.{All, ◌==◌, nat_le, nat_lt, slice_index}
 use Rattle.std.specs.List.{list_all}

@@ -53,7 +53,7 @@ unfolding part
 byte_before b xs p q n l e x =
     ap (λ ys. slice_index b p ∷ ys) (x ∙ ap (λ r. take n (drop r b)) (sym e)) ∙ sym (ap (take (suc n)) (drop_more b p 0 (omega arith)))
 
--- a part behind a part
+-- a part after a part
 part_behind : (b xs ys : List ℕ) (p m q n k : ℕ) → xs ≡ part b p m → ys ≡ part b q n → p + m ≡ q → m + n ≡ k → p + k ≤ length b → xs ++ ys ≡ part b p k
 part_behind b xs ys p m q n k x y e f l =
     ap (λ zs. zs ++ ys) x ∙ ap (λ zs. part b p m ++ zs) (y ∙ ap (λ r. part b r n) (sym e)) ∙ part-append-part b p m n (omega arith) ∙ ap (part b p) f
@@ -91,7 +91,7 @@ piece_part b p n = refl
 head_part : (b : List ℕ) (kind : ℕ) → AreBytes b → 3 ≤ length b → slice_index b 0 ≡ kind → kind ∷ to_be_bytes w16 (half_at b 1) ≡ part b 0 3
 head_part b kind h l e = ap (λ x. x ∷ to_be_bytes w16 (half_at b 1)) (sym e) ∙ byte_before b _ 0 1 2 (omega arith) refl (half_part b 1 h (omega arith))
 
--- an advert of so many images
+-- an advert of n images
 advert_part : (b : List ℕ) (kind n : ℕ) → AreBytes b → length b ≡ order_place n + order_size + 2 → slice_index b 0 ≡ kind
     → advert_bytes kind (half_at b 1) (entries_in n b) (order_at b (order_place n)) ≡ part b 0 (order_place n + order_size)
 unfolding entries_in
@@ -115,7 +115,7 @@ packet_part b h l e =
     (part_behind b _ _ 0 3 3 5 8 (head_part b packet_kind h (omega arith) e) (byte_before b _ 3 4 4 (omega arith) refl (word_part b 4 h (omega arith))) refl refl (omega arith))
     (byte_before b _ 8 9 24 (omega arith) refl (byte_before b _ 9 10 23 (omega arith) refl (piece_part b 10 23))) refl refl (omega arith)
 
--- the fields that were read of a frame are spelled by what stands before its CRC
+-- the fields that were read of a frame are spelled by the bytes before its CRC
 abbrev SpellsAgain : List ℕ → (ℕ × (List ℕ → Message)) → Type 0
 SpellsAgain b k = length b ≡ k.0 → unchecked (k.1 b) ≡ part b 0 (k.0 - 2)
 
@@ -246,7 +246,7 @@ unchecked_bytes wide (Packet source image version page packet bytes) f h =
 unchecked_bytes wide (Wide source entries order) f h =
     advert_are_bytes wide_kind wide_images source entries order (omega arith) (omega arith) (and_parts wide (list_all entry_fits entries && order_in_frame wide_images order) h).1
 
--- the CRC behind bytes is that of the bytes
+-- the CRC after bytes is that of the bytes
 checked : (u : List ℕ) → AreBytes u → IsChecked (u ++ to_be_bytes w16 (crc_of u))
 checked u h =
     let crc = crc_of u in
@@ -284,7 +284,7 @@ entries_read b rest p (e ∷ es) f d =
     let others = entries_read b rest (p + 8) es f.1 there in
     λ i. first i ∷ others i
 
--- a message is read of its bytes, whatever stands behind them
+-- a message is read from its bytes, whatever follows them
 abbrev IsReadBack : (wide : Bool) → Message → (ℕ × (List ℕ → Message)) → Type 0
 IsReadBack wide m k = (rest : List ℕ) → (kind_of wide (slice_index (unchecked m ++ rest) 0) ≡ Some k) × (length (unchecked m) + 2 ≡ k.0) × (k.1 (unchecked m ++ rest) ≡ m)
 

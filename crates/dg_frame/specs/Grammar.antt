@@ -1,6 +1,6 @@
--- The message that bytes spell for a reader that is wide or narrow, or why they spell none: by their length, their kind, that
--- kind's length, the CRC, and the ranges of the fields (docs/PARTS.md, "The codec"; the messages are those of Deluge: Hui and
--- Culler, SenSys 2004).
+-- The message that bytes spell for a wide or narrow reader, or why they spell no message. It is decided by their length,
+-- their kind, that kind's length, the CRC, and the ranges of the fields (docs/PARTS.md, "The codec"; the messages are those
+-- of Deluge: Hui and Culler, SenSys 2004).
 use Rattle.std.specs.Prelude.{ℕ, ◌+◌, ◌-◌, ◌==◌, ◌&&◌, ◌||◌, not, nat_le, nat_lt, Bool, if◌then◌else◌, List, length, take, drop}
 use Rattle.std.specs.Prelude.{map, slice_index, Option, Some, None, Result, Ok, Err}
 use Rattle.std.specs.List.{list_all}
@@ -72,7 +72,7 @@ order_in_frame images o =
 abbrev pub page_fits : (images image version page : ℕ) → Bool
 page_fits images image version page = nat_le 1 image && nat_le image images && nat_le 1 version && nat_le page last_page
 
--- a narrow reader has no wide adverts
+-- a narrow reader knows no wide adverts
 unfoldable pub in_range : (wide : Bool) → Message → Bool
 in_range wide (Advert source entries order) = list_all entry_fits entries && order_in_frame narrow_images order
 in_range wide (Request source to image version page want) =

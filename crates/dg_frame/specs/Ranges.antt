@@ -12,7 +12,7 @@ use Rattle.dg_frame.specs.declared.Message.TheVariants.{Advert, Request, Packet,
 abbrev pub unused : Entry
 unused = record { version = 0; pages = 0; have = 0; crc = 0 }
 
--- an entry that tells of a version
+-- an entry that describes a version
 pub record TellsVersion (e : Entry) : Type 0 where
   pub version : 1 ≤ e.version
   pub pages : fewest_pages ≤ e.pages
@@ -41,7 +41,7 @@ pub record PageInRange (images image version page : ℕ) : Type 0 where
   pub of_version : 1 ≤ version
   pub in_object : page ≤ last_page
 
--- each field is in its range for a reader that is wide or narrow. Sources and destinations are any
+-- each field is in its range for a wide or narrow reader. Sources and destinations may be anything
 abbrev pub IsInRange : (wide : Bool) → Message → Type 0
 IsInRange wide (Advert source entries order) = All EntryInRange entries × OrderInRange narrow_images order
 IsInRange wide (Request source to image version page want) = PageInRange (known_images wide) image version page

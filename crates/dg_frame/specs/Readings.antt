@@ -1,5 +1,5 @@
 -- What holds of bytes that are read as a message, or refused (docs/PARTS.md, "The codec"; the messages are those of Deluge: Hui
--- and Culler, SenSys 2004). A cause is told only where none before it is there.
+-- and Culler, SenSys 2004). A cause is reported only if no cause before it applies.
 use Rattle.std.specs.Prelude.{◌≡◌, ◌≢◌, ℕ, ◌-◌, ◌<◌, ◌≤◌, Bool, List, length, take, slice_index, Some, None, Result, Ok, Err}
 use Rattle.dg_base.specs.Crc.{crc_of}
 use Rattle.dg_frame.specs.Sizes.{shortest}

@@ -4,7 +4,7 @@ use Rattle.std.specs.Prelude.{ℕ, zero, suc, ◌+◌, ◌-◌, ◌*◌, Bool, i
 use Rattle.dg_base.specs.Sizes.{longest_frame}
 pub use Rattle.dg_object.specs.Sizes.{packets, packet_size, fewest_pages, most_pages}
 
--- the bytes of a frame, at most, as of what comes from outside
+-- the most bytes of a frame, and of any input from outside
 abbrev pub frame_bytes : ℕ
 frame_bytes = longest_frame
 
@@ -25,7 +25,7 @@ wide_kind = 4
 abbrev pub shortest : ℕ
 shortest = 5
 
--- an advert speaks of the images from 1 to this number, and its order of these and golden; a wide advert of more
+-- an advert names the images from 1 to this number, and its order names one of these or golden; a wide advert names more
 abbrev pub narrow_images : ℕ
 narrow_images = 3
 

@@ -35,7 +35,7 @@ unchecked (Wide source entries order) = advert_bytes wide_kind source entries or
 unfoldable pub frame_of : Message → List ℕ
 frame_of m = unchecked m ++ to_be_bytes w16 (crc_of (unchecked m))
 
--- ---- the fields of a message are such as the code's types hold
+-- ---- the fields of a message fit the types of the code
 
 pub record EntryFitsTypes (e : Entry) : Type 0 where
   pub version : e.version < 2 ^ 32

@@ -23,7 +23,7 @@ pub(crate) enum Kind {
 }
 
 impl Kind {
-    /// The kind with this number, for a reader that is wide or narrow.
+    /// The kind with this number, for a wide or narrow reader.
     pub(crate) fn of(number: u8, wide: bool) -> Option<Kind>
         ensures { option_map kind_row result ≡ kind_of wide number }
     {

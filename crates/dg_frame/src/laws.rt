@@ -16,7 +16,8 @@ use crate::{FRAME_BYTES, NARROW_IMAGES, SET_BYTES, WIDE_IMAGES};
 use dg_object::FEWEST_PAGES;
 
 /// The sizes are those of this profile: frames of 5 to 64 bytes, adverts of 38, requests of 19, packets of 35 and wide
-/// adverts of 62, entries of three images or of six, packet sets of 6 bytes, and objects of 2 pages or more.
+/// adverts of 62. Adverts have entries of three images or of six, packet sets have 6 bytes, and objects have 2 pages or
+/// more.
 pub fn the_sizes_are_these()
     ensures frame { FRAME_BYTES ≡ frame_bytes }
     ensures shortest { SHORTEST ≡ shortest }
@@ -30,7 +31,7 @@ pub fn the_sizes_are_these()
     ensures wide_advert { WIDE_BYTES ≡ wide_frame_size }
 {}
 
-/// Bytes are read in one way: as the message whose fields they spell, or refused for the first cause that is there. What
+/// Bytes are read in one way: as the message whose fields they spell, or refused for the first cause that applies. What
 /// a narrow reader reads, a wide one reads too.
 pub fn one_reading()
     ensures ranges { (wide : Bool) (m : Message) → (in_range wide m ≡ true) ↔ IsInRange wide m }
@@ -39,7 +40,7 @@ pub fn one_reading()
     ensures wider_range { (wide : Bool) (m : Message) → in_range wide m ≡ true → in_range true m ≡ true }
 {}
 
-/// A message and its frame are one.
+/// A message that is in its ranges and its frame determine one another.
 pub fn one_spelling()
     ensures written { (wide : Bool) (m : Message) → FitsTypes m → in_range wide m ≡ true → message_of (frame_of m) wide ≡ Ok m }
     ensures read { (b : List ℕ) (wide : Bool) (m : Message) → AreBytes b → message_of b wide ≡ Ok m → b ≡ frame_of m }

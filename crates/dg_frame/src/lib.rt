@@ -26,13 +26,13 @@ pub use reading::{SHORTEST, has_crc_at, read};
 pub use sent::{is_read_back, refusal};
 pub use writing::write;
 
-/// The most bytes of a frame, as of what comes from outside.
+/// The most bytes of a frame, and of any input from outside.
 pub const FRAME_BYTES: usize = LONGEST_FRAME;
 
-/// A narrow reader knows the images from 1 to this number, and an advert speaks of these.
+/// A narrow reader knows the images from 1 to this number, and an advert names these.
 pub const NARROW_IMAGES: usize = 3;
 
-/// A wide reader knows the images from 1 to this number, and a wide advert speaks of these.
+/// A wide reader knows the images from 1 to this number, and a wide advert names these.
 pub const WIDE_IMAGES: usize = 6;
 
 /// The bytes of a packet set: a bit for each packet of a page.
@@ -41,7 +41,7 @@ pub const SET_BYTES: usize = 6;
 /// The bytes of a message.
 pub type Frame = ArrayVec<u8, FRAME_BYTES>;
 
-/// What a mote says that it keeps of an image. All is 0 where it keeps nothing.
+/// What a mote advertises that it keeps of an image. All fields are 0 if it keeps nothing.
 #[derive(Clone, Copy, Debug, PartialEq, Eq)]
 pub struct Entry {
     pub version: u32,
@@ -53,11 +53,10 @@ pub struct Entry {
     pub crc: u16,
 }
 
-/// What one mote tells its neighbours.
+/// What one mote sends to its neighbours.
 #[derive(Clone, Copy, Debug, PartialEq, Eq)]
 pub enum Message {
-    /// What the source keeps of each image, and the best order that it knows. The order is all 0 where it
-    /// knows none.
+    /// What the source keeps of each image, and the best order that it knows. The order is all 0 if it knows no order.
     Advert {
         source: u16,
         entries: [Entry; NARROW_IMAGES],
@@ -89,14 +88,14 @@ pub enum Message {
     },
 }
 
-/// Why bytes are no frame. Each cause is told only where none before it is there.
+/// Why bytes are not a frame. A cause is reported only if no cause before it applies.
 #[derive(Clone, Copy, Debug, PartialEq, Eq)]
 pub enum FrameFault {
     /// They are fewer than a kind, a source and a CRC.
     Short,
     /// The first byte names no kind that the reader knows.
     Kind,
-    /// They have another length than that kind's frames.
+    /// Their length is not that of the kind's frames.
     Length,
     /// The last two are not the CRC of those before them.
     Check,

@@ -9,8 +9,8 @@ use crate::{Entry, Message, NARROW_IMAGES, WIDE_IMAGES};
 use dg_control::Order;
 use dg_object::{FEWEST_PAGES, MOST_PAGES, PACKETS};
 
-/// Whether each field is in its range, so that a reader that is wide or narrow takes the message. Sources and
-/// destinations are any.
+/// Whether each field is in its range, so that a wide or narrow reader accepts the message. Sources and
+/// destinations may be anything.
 #[tactic(auto, unfolding(crate::specs::Grammar::in_range))]
 pub fn in_range(message: &Message, wide: bool) -> bool
     ensures value { result ≡ in_range wide message.now }
@@ -36,7 +36,7 @@ pub fn in_range(message: &Message, wide: bool) -> bool
     }
 }
 
-/// Whether an advert of this many images tells what a chip may keep.
+/// Whether an advert of this many images contains only what a chip may keep.
 fn advert_fits(entries: &[Entry], order: &Order, images: usize) -> bool
     ensures { result ≡ (list_all entry_fits entries.now && order_in_frame images order.now) }
 {
@@ -49,7 +49,7 @@ fn entries_fit(entries: &[Entry]) -> bool
     entries.iter().all(|entry| entry_fits(entry))
 }
 
-/// An entry is all 0, or it tells of a version.
+/// Whether an entry is all 0, or describes a version.
 fn entry_fits(entry: &Entry) -> bool
     ensures { result ≡ entry_fits entry.now }
 {
@@ -60,7 +60,7 @@ fn entry_fits(entry: &Entry) -> bool
     }
 }
 
-/// An order is all 0, or it names one of this many images, or golden.
+/// Whether an order is all 0, or names one of this many images, or golden.
 fn order_fits(order: &Order, images: usize) -> bool
     ensures { result ≡ order_in_frame images order.now }
 {

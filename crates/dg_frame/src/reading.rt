@@ -18,8 +18,8 @@ use dg_object::PACKET_SIZE;
 /// The bytes of the shortest frame: a kind, a source and a CRC.
 pub const SHORTEST: usize = 5;
 
-/// The message that bytes spell for a reader that is wide or narrow, or the first cause why they spell none. Any bytes
-/// may be handed in.
+/// The message that bytes spell for a wide or narrow reader, or the first cause why they spell no message. Any bytes
+/// may be given.
 pub fn read(bytes: &[u8], wide: bool) -> Result<Message, FrameFault>
     ensures value { result ≡ message_of bytes.now wide }
     ensures reading { IsReading bytes.now wide result }
@@ -58,8 +58,8 @@ fn is_checked(kind: Kind, bytes: &[u8]) -> bool
     }
 }
 
-/// Whether the CRC of the bytes before an offset stands there. It is inlined where the offset is known, so that the
-/// compiler knows the steps of the CRC.
+/// Whether the CRC of the bytes before an offset is at that offset. It is inlined where the offset is known, so that
+/// the compiler knows the steps of the CRC.
 #[inline(always)]
 pub fn has_crc_at(bytes: &[u8], at: usize) -> bool
     requires { at + 2 ≤ length bytes.now }

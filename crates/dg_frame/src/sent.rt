@@ -24,7 +24,7 @@ pub fn is_read_back(message: &Message)
     fits_types(message);
 }
 
-/// Why a reader, wide or narrow, refuses the frame of a message. None where it reads the frame as the message. The fields of the
+/// Why a reader, wide or narrow, refuses the frame of a message. None if it reads the frame as the message. The fields of the
 /// message are in the ranges of a wide reader.
 #[inline(always)]
 pub fn refusal(message: &Message, wide: bool) -> Option<FrameFault>

@@ -25,8 +25,8 @@ const ADVERT: [u8; 38] = [
     5, 2, 0, 0, 0, 7, 0x57, 0x2B,
 ];
 
-/// A wide advert of 2, which has 1 of 3 pages of image 2, version 7, and the 65 pages of image 6 in the last version
-/// that there can be, and knows an order of image 6.
+/// A wide advert of 2, which has 1 of 3 pages of image 2, version 7, and the 65 pages of image 6 in the largest
+/// possible version, and knows an order of image 6.
 const WIDE: [u8; 62] = [
     4, 0, 2, 0, 0, 0, 0, 0, 0, 0, 0, 0, 0, 0, 7, 3, 1, 0x12, 0x34, 0, 0, 0, 0, 0, 0, 0, 0, 0, 0, 0,
     0, 0, 0, 0, 0, 0, 0, 0, 0, 0, 0, 0, 0, 0xFF, 0xFF, 0xFF, 0xFF, 65, 65, 0xBE, 0xEF, 0, 0, 0, 5,
@@ -45,7 +45,7 @@ const FITTING: [(&[u8], usize, u8, bool); 8] = [
     (&WIDE, 55, 0, true),
 ];
 
-/// And each of these is out of its range.
+/// The same, but each of these bytes is out of its range.
 const UNFIT: [(&[u8], usize, u8, bool); 28] = [
     (&REQUEST, 5, 0, true),
     (&REQUEST, 5, 4, false),
@@ -77,7 +77,7 @@ const UNFIT: [(&[u8], usize, u8, bool); 28] = [
     (&WIDE, 59, 0, true),
 ];
 
-/// A frame with one byte changed and the CRC made anew: whether a reader that is wide or narrow reads it.
+/// A frame with one byte changed and the CRC computed again: whether a wide or narrow reader reads it.
 fn with_change(frame: &[u8], at: usize, byte: u8, wide: bool) -> Result<(), FrameFault> {
     let mut changed = Frame::new();
     for (offset, old) in frame.iter().enumerate() {

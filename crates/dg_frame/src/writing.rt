@@ -17,7 +17,7 @@ use dg_bits::PageBits;
 use dg_control::Order;
 use dg_object::{PACKET_SIZE, PACKETS};
 
-/// The frame of a message whose fields are in the ranges of a wide reader. A narrow reader reads it too, where they are in
+/// The frame of a message whose fields are in the ranges of a wide reader. A narrow reader reads it too, if they are in
 /// its ranges.
 #[tactic(auto, unfolding(crate::specs::Spelling::frame_of))]
 pub fn write(message: &Message) -> Frame

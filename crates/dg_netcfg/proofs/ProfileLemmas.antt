@@ -30,7 +30,7 @@ pub document_of-none : (bytes : List ℕ) → (IsUtf8 bytes → parse_document b
 unfolding document_of
 document_of-none bytes none = refused bytes (is_utf8 bytes) refl none
 
--- what is read of a document is read of the bytes that write it
+-- what is read of a document is read of the bytes that encode it
 pub reads_document : (bytes : List ℕ) (document : Members) (r : Result NetProfile ProfileFault) → document_of bytes ≡ Some document → Reads r (with_fields (fields_of document)) → Reads r (netprofile bytes)
 unfolding netprofile
 reads_document bytes document r is reads = rw is reads
@@ -95,17 +95,17 @@ module _ {A : Type 0} where
   missing_at f (v ∷ vs) zero d within none = missing_here (f v) (map f vs) none
   missing_at f (v ∷ vs) (suc i) d within none = missing_later (f v) (map f vs) (missing_at f vs i d (omega arith) none)
 
-  -- the value at a place is none
+  -- the value at an index is missing
   pub all_of-missing : (f : Data → Option A) (vs : List Value) (i : ℕ) (d : Value) → i < length vs → f (view (get_or vs i d)) ≡ None → None ≡ all_of (map f (list_of (items_view vs)))
   all_of-missing f vs i d within none = missing_at (λ v. f (view v)) vs i d within none ∙ ap all_of (sym (map-list_of f vs))
 
 -- ---- links
 
--- a link, and those behind it
+-- a link, and those after it
 pub has_repeat-cons : (links others : List (ℕ × ℕ)) (link : ℕ × ℕ) (b : Bool) → links ≡ link ∷ others → b ≡ list_any (is_same_link link) others → has_repeat links ≡ (b || has_repeat others)
 has_repeat-cons links others link b is among = rw (is, among)
 
--- an element that does not pass, at the front, and none at all
+-- a first element that does not pass, and an empty list
 pub list_all-fails : {A : Type 0} (p : A → Bool) (xs ys : List A) (x : A) → xs ≡ x ∷ ys → p x ≡ false → list_all p xs ≡ false
 list_all-fails p xs ys x is fails = rw (is, fails)
 

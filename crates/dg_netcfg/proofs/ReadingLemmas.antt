@@ -1,4 +1,4 @@
--- The definition that computes tells the fields, the links and the causes.
+-- The definition that computes determines the fields, the links and the causes.
 use Rattle.std.proofs.Common.{◌≡◌, ◌≢◌, ℕ, zero, suc, ◌-◌, ◌<◌, ◌≤◌, ℤ, pos, negsuc, Bool, true, false, cond, ◌&&◌, ◌||◌, Decides, List, [], ◌∷◌, map, Option, Some, None, option_map, Result, Ok, Err, refl, sym, ap, ◌∙◌, subst, arith}
 use Rattle.std.specs.Prelude.{◌==◌, nat_le, codes, option_and_then, All, AllPairs, IfOk}
 use Rattle.std.specs.List.{list_all, list_any, AllZip}
@@ -281,7 +281,7 @@ pub reads : (b : List ℕ) → IsReading b (netprofile b)
 unfolding netprofile
 reads b = reading_document b (document_of b) refl
 
--- a reader that answers what is written tells its cause
+-- a reader that answers what is encoded reports its cause
 pub reads_causes : (b : List ℕ) (r : Result NetProfile ProfileFault) → Reads r (netprofile b) → IsReading b r
 reads_causes b (Ok p) h = subst (IsReading b) (sym h) (reads b)
 reads_causes b (Err NotToml) h = subst (IsReading b) (sym h) (reads b)

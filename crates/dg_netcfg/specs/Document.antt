@@ -5,7 +5,7 @@ use Rattle.std.specs.Str.{is_utf8}
 use Rattle.toml.specs.Data.{Data, Items, no_items, item, Members, no_members, member, as_integer, as_array, get_member}
 use Rattle.toml.specs.Parse.{parse_document}
 
--- the document that bytes write, where `toml` reads them
+-- the document that bytes encode, if `toml` reads them
 unfoldable pub document_of : List ℕ → Option Members
 document_of bytes = if is_utf8 bytes then parse_document bytes else None
 
@@ -26,7 +26,7 @@ integer_at key document = option_and_then as_integer (get_member key document)
 abbrev pub array_at : List ℕ → Members → Option Items
 array_at key document = option_and_then as_array (get_member key document)
 
--- a whole number, where it is in a range
+-- a whole number, if it is in a range
 abbrev pub within : (least most : ℕ) → ℤ → Option ℕ
 within least most (pos n) = if nat_le least n && nat_le n most then Some n else None
 within least most (negsuc n) = None
@@ -36,7 +36,7 @@ abbrev pub two_of : Items → Option (Data × Data)
 two_of (item a (item b no_items)) = Some (a, b)
 two_of _ = None
 
--- all the values of a list, where none is missing
+-- all the values of a list, if no value is missing
 abbrev pub all_of : {A : Type 0} → List (Option A) → Option (List A)
 all_of [] = Some []
 all_of (None ∷ rest) = None

@@ -1,4 +1,4 @@
--- The network profile that a TOML document is, or why it is none (docs/COMMANDS.md, "Serve").
+-- The network profile that a TOML document describes, or why it describes no profile (docs/COMMANDS.md, "Serve").
 use Rattle.std.specs.Prelude.{ℕ, ◌-◌, ◌==◌, ◌&&◌, ◌||◌, Bool, false, if◌then◌else◌, codes, ℤ, List, [], ◌∷◌, map, Option, Some}
 use Rattle.std.specs.Prelude.{None, option_and_then, Result, Ok, Err, bytes_eq}
 use Rattle.std.specs.List.{list_all, list_any}
@@ -18,8 +18,8 @@ three (Some motes) (Some port) None = None
 three (Some motes) None links = None
 three None port links = None
 
--- the number of motes, the port and the entries of `links`, where the keys are exactly these,
--- two with a whole number and one with an array
+-- the number of motes, the port and the entries of `links`, if the keys are exactly these, two with
+-- a whole number and one with an array
 abbrev pub fields_of : Members → Option (ℤ × ℤ × Items)
 fields_of document =
     if list_all is_key (keys_of document)
@@ -35,7 +35,7 @@ link_between (Some a) (Some b) = if a == b then None else Some (a, b)
 link_between (Some a) None = None
 link_between None b = None
 
--- the link that an entry is: an array of exactly two motes, which differ
+-- the link that an entry describes: an array of exactly two motes, which differ
 abbrev pub link_of : ℕ → Data → Option (ℕ × ℕ)
 link_of motes entry =
     option_and_then (λ ends. link_between (mote_of motes ends.0) (mote_of motes ends.1)) (option_and_then two_of (as_array entry))
@@ -52,7 +52,7 @@ abbrev pub once : Option (List (ℕ × ℕ)) → Option (List (ℕ × ℕ))
 once None = None
 once (Some links) = if has_repeat links then None else Some links
 
--- the links that entries are, none of them twice
+-- the links that entries describe, no link twice
 abbrev pub links_of : ℕ → Items → Option (List (ℕ × ℕ))
 links_of motes entries = once (all_of (map (link_of motes) (list_of entries)))
 
@@ -76,6 +76,6 @@ abbrev pub with_document : Option Members → Result NetProfile ProfileFault
 with_document None = Err NotToml
 with_document (Some document) = with_fields (fields_of document)
 
--- the profile that bytes write, or the first cause why they write none
+-- the profile that bytes encode, or the first cause why they encode no profile
 unfoldable pub netprofile : List ℕ → Result NetProfile ProfileFault
 netprofile bytes = with_document (document_of bytes)

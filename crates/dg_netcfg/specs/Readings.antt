@@ -1,5 +1,5 @@
--- What holds of bytes that are read as a network profile, or refused (docs/COMMANDS.md, "Serve"). A cause is told only where
--- none before it is there.
+-- What holds of bytes that are read as a network profile, or refused (docs/COMMANDS.md, "Serve"). A cause is reported only
+-- if no cause before it applies.
 use Rattle.std.specs.Prelude.{◌≡◌, ◌≢◌, ◌⊎◌, ℕ, ◌<◌, ◌≤◌, ℤ, pos, codes, List, All, AllPairs, Some, Result, Ok, Err, IsUtf8}
 use Rattle.std.specs.List.{AllZip}
 use Rattle.toml.specs.Data.{Data, integer, array, Items, no_items, item, Members, get_member}
@@ -10,7 +10,7 @@ use Rattle.dg_netcfg.specs.declared.profile.ProfileFault.{ProfileFault}
 use Rattle.dg_netcfg.specs.declared.profile.ProfileFault.TheVariants.{NotToml, Key, Id, Link, Port, Memory}
 use Rattle.dg_netcfg.specs.Sizes.{most_motes, least_port, greatest_port}
 
--- A reader answers what is written, unless memory ran out.
+-- A reader answers what is encoded, unless memory ran out.
 abbrev pub Reads : Result NetProfile ProfileFault → Result NetProfile ProfileFault → Type 0
 Reads (Err Memory) written = Unit {0}
 Reads result written = result ≡ written
@@ -22,7 +22,7 @@ IsDocument bytes document = IsUtf8 bytes × (parse_document bytes ≡ Some docum
 abbrev pub IsKey : List ℕ → Type 0
 IsKey key = ((key ≡ codes "motes") ⊎ (key ≡ codes "port")) ⊎ (key ≡ codes "links")
 
--- the bytes write a document whose keys are exactly `motes` and `port`, each with a whole number, and `links`, with an array
+-- the bytes encode a document whose keys are exactly `motes` and `port`, each with a whole number, and `links`, with an array
 pub record HasFields (bytes : List ℕ) (motes port : ℤ) (entries : Items) : Type 0 where
   pub document : Members
   pub read : IsDocument bytes document
@@ -56,7 +56,7 @@ pub record IsAllowed (p : NetProfile) : Type 0 where
   pub once : AllPairs (λ l m. ¬ IsSameLink l m) p.links
   pub port : (least_port ≤ p.port) × (p.port ≤ greatest_port)
 
--- Nothing is said where memory ran out.
+-- Nothing is claimed if memory ran out.
 abbrev pub IsReading : List ℕ → Result NetProfile ProfileFault → Type 0
 IsReading b (Err NotToml) = (document : Members) → IsDocument b document → ⊥
 IsReading b (Err Key) =

@@ -14,7 +14,7 @@ pub fn the_least_port_is_this()
     ensures { LEAST_PORT ≡ least_port }
 {}
 
-/// Bytes are read in one way: as the profile that they write, or refused for the first cause that is there.
+/// Bytes are read in one way: as the profile that they encode, or refused for the first cause that applies.
 pub fn one_profile()
     ensures { (b : List ℕ) (r : Result NetProfile ProfileFault) → r ≢ Err Memory → (netprofile b ≡ r) ↔ IsReading b r }
 {}

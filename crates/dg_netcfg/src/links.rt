@@ -10,7 +10,7 @@ use std::alloc::{AllocError, Global};
 use toml::Value;
 use toml::value::Array;
 
-/// The links that entries are, or none where an entry is no link or a link repeats.
+/// The links that entries describe, or None if an entry is not a link or a link repeats.
 pub(crate) fn read_links(
     alloc: Global,
     motes: u8,
@@ -28,7 +28,7 @@ pub(crate) fn read_links(
     Ok(Some(links))
 }
 
-/// The links that entries are, also where they repeat.
+/// The links that entries describe, also if they repeat.
 fn links_in(
     alloc: Global,
     motes: u8,
@@ -47,7 +47,7 @@ fn links_in(
     Ok(Some(links))
 }
 
-/// The link that an entry is.
+/// The link that an entry describes.
 fn link_of(motes: u8, entry: &Value) -> Option<(u8, u8)>
     requires { 1 ≤ motes }
     ensures { result ≡ link_of motes (view entry.now) }

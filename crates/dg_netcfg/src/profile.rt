@@ -14,20 +14,20 @@ pub struct NetProfile {
     pub motes: u8,
     /// From 1,024 to 65,500. The ports of the further motes follow it.
     pub port: u16,
-    /// Pairs of different motes, none of them twice in either order.
+    /// Pairs of different motes, no pair twice in either order.
     pub links: Pairs,
 }
 
-/// Why bytes are no network profile. The first cause that is there is told.
+/// Why bytes are not a network profile. The first cause that applies is reported.
 #[derive(Clone, Copy, PartialEq, Eq, Debug)]
 pub enum ProfileFault {
-    /// They are no TOML document.
+    /// They are not a TOML document.
     NotToml,
-    /// A key is missing or unknown, a number is no whole number, or the links are no array.
+    /// A key is missing or unknown, a number is not a whole number, or the links are not an array.
     Key,
     /// The number of motes is out of its range.
     Id,
-    /// An entry of the links is no array of exactly two different motes, or a pair repeats in either order.
+    /// An entry of the links is not an array of exactly two different motes, or a pair repeats in either order.
     Link,
     /// The port is out of its range.
     Port,

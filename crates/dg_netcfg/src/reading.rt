@@ -14,7 +14,7 @@ use std::alloc::Global;
 use toml::value::Array;
 use toml::{Table, Value};
 
-/// The profile that bytes write as a document of TOML 1.1, or the first cause why they write none.
+/// The profile that bytes encode as a document of TOML 1.1, or the first cause why they encode no profile.
 ///
 /// The document has exactly the keys `motes`, from 1 to 16, `port`, from 1,024 to 65,500, and `links`, an array of
 /// arrays of two motes, which are numbered from 0.
@@ -30,7 +30,7 @@ pub fn read_profile(alloc: Global, bytes: &[u8]) -> Result<NetProfile, ProfileFa
     }
 }
 
-/// The profile that a document is.
+/// The profile that a document describes.
 fn profile_of(alloc: Global, document: &Table) -> Result<NetProfile, ProfileFault>
     ensures { Reads result (with_fields (fields_of (table_view document.now))) }
 {
@@ -54,7 +54,7 @@ fn profile_of(alloc: Global, document: &Table) -> Result<NetProfile, ProfileFaul
     })
 }
 
-/// What stands at the three keys, where there are no others and each has a value of its type.
+/// The values of the three keys, if there are no other keys and each value has its type.
 fn fields_of(document: &Table) -> Option<(i64, i64, &Array)>
     ensures { option_map (λ f. (f.0, f.1, array_view f.2.now)) result ≡ fields_of (table_view document.now) }
 {
@@ -102,7 +102,7 @@ fn array_at<'a>(document: &'a Table, key: &str) -> Option<&'a Array>
     value_at(document, key)?.as_array()
 }
 
-/// A whole number, where it is in a range.
+/// A whole number, if it is in a range.
 pub(crate) fn within(number: i64, least: u16, most: u16) -> Option<u16>
     ensures value { result ≡ within least most number }
     ensures bound { IfSome result (λ n. n ≤ most) }

@@ -1,4 +1,4 @@
--- The draws of the generator PCG-XSH-RR (64 bits of state, 32 bits of output) that a seed begins (O'Neill, 2014).
+-- The draws of the generator PCG-XSH-RR (64 bits of state, 32 bits of output) from a seed (O'Neill, 2014).
 use Rattle.std.specs.Prelude.{ℕ, zero, suc}
 use Rattle.rand_core.specs.Pcg32Seed.{pcg32_seed}
 use Rattle.rand_pcg.specs.Lcg.{Lcg}

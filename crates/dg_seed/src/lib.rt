@@ -1,4 +1,4 @@
-//! The draws of a seed: what stands for chance wherever a run is to be the same again.
+//! The draws of a seed: the random numbers of every run that must be reproducible.
 #![tactic(auto)]
 
 ghost use Rattle.std.specs.Prelude.{◌≡◌, ℕ, suc};
@@ -9,8 +9,7 @@ use rand_core::SeedableRng;
 use rand_core::utils::NextWord;
 use rand_pcg::Lcg64Xsh32;
 
-/// The draws of a seed that are still to come, by the generator PCG-XSH-RR with 64 bits of state and 32 bits of output
-/// (O'Neill, 2014).
+/// The remaining draws of a seed, by the generator PCG-XSH-RR with 64 bits of state and 32 bits of output (O'Neill, 2014).
 #[derive(Drop)]
 pub struct Draws {
     generator: Lcg64Xsh32,

@@ -1,4 +1,4 @@
--- A piece is broken exactly where some escape is not followed by one of the two bytes that may follow it.
+-- A piece is broken exactly if some escape is not followed by one of the two bytes that may follow it.
 use Rattle.std.proofs.Common.{◌≡◌, ◌⊎◌, inl, inr, ℕ, ◌==◌, ◌&&◌, ◌||◌, not, Bool, true, false, List, [], ◌∷◌, ◌++◌, refl, ap, sym, ◌∙◌}
 use Rattle.std.specs.Prelude.{◌↔◌}
 use Rattle.std.proofs.lemmas.Bool.{eqb-true, eq-eqb}

@@ -13,7 +13,7 @@ stuffed_byte b =
     if b == flag_byte then escape_byte ∷ escaped_flag ∷ []
     else (if b == escape_byte then escape_byte ∷ escaped_escape ∷ [] else b ∷ [])
 
--- bytes as they stand on the line
+-- bytes as they are on the line
 abbrev pub escaped : List ℕ → List ℕ
 escaped bytes = flat_map stuffed_byte bytes
 
@@ -30,7 +30,7 @@ pub record IsOnLine (bytes : List ℕ) : Type 0 where
   pub some : bytes ≢ []
   pub most : length bytes ≤ longest_frame
 
--- ---- a stream is cut at its flags
+-- ---- a stream is split at its flags
 
 -- the pieces that flags end, and what follows the last flag
 pub record Split : Type 0 where
@@ -69,11 +69,11 @@ pub record IsSplit (stream : List ℕ) (c : Split) : Type 0 where
 
 -- ---- the item of a piece
 
--- what follows an escape for the flag or the escape
+-- what stands for the flag or the escape after an escape
 abbrev pub is_second : ℕ → Bool
 is_second b = (b == escaped_flag) || (b == escaped_escape)
 
--- Some escape is followed by another byte than these. It is said whether an escape stands before the bytes.
+-- Some escape is followed by a byte other than these. `escapes` is whether an escape comes before the bytes.
 unfoldable pub is_broken_after : Bool → List ℕ → Bool
 is_broken_after escapes [] = false
 is_broken_after escapes (b ∷ bs) = (escapes && not (is_second b)) || is_broken_after (b == escape_byte) bs
@@ -122,12 +122,12 @@ item_in piece =
     if is_broken piece then Escape else (if nat_lt longest_frame (length (unstuffed piece)) then Long
     else Frame (unstuffed piece))
 
--- an empty piece gives nothing, and another one gives one item
+-- an empty piece yields nothing, and any other piece yields one item
 abbrev pub item_of : List ℕ → List Item
 item_of [] = []
 item_of (b ∷ bs) = item_in (b ∷ bs) ∷ []
 
--- the items of a stream. Its rest gives none
+-- the items of a stream. Its rest yields no item
 unfoldable pub items : List ℕ → List Item
 items stream = flat_map item_of (pieces_of stream)
 

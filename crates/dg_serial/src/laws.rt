@@ -5,23 +5,23 @@ ghost use Rattle.dg_serial.specs.Line.{IsOnLine, IsWholeStream, IsSplit, Split, 
 ghost use Rattle.dg_serial.specs.Line.{items, Item};
 ghost use Rattle.dg_serial.specs.Line.{Frame};
 
-/// A stream is its pieces, each ended by a flag, and a rest, in one way.
+/// A stream consists of pieces, each ended by a flag, and a rest, in exactly one way.
 pub fn streams_are_cut()
     ensures cut { (stream : List ℕ) → IsSplit stream (split_of stream) }
     ensures only { (stream : List ℕ) (other : Split) → IsSplit stream other → other ≡ split_of stream }
 {}
 
-/// What a stream gave stays given, whatever follows it.
+/// What a stream yielded stays yielded, whatever follows it.
 pub fn streams_go_on()
     ensures { (stream more : List ℕ) → (later : List Item) × (items (stream ++ more) ≡ items stream ++ later) }
 {}
 
-/// A piece is broken exactly where an escape in it is not followed, within it, by one of the two bytes that may follow.
+/// A piece is broken exactly if an escape in it is not followed, within it, by one of the two bytes that may follow.
 pub fn broken_pieces_have_a_lone_escape()
     ensures { (piece : List ℕ) → (is_broken piece ≡ true) ↔ HasLoneEscape piece }
 {}
 
-/// Frames come back from their stuffed forms, and no other stream without empty pieces and without a rest gives them.
+/// Frames are read back from their stuffed forms, and no other stream without empty pieces and without a rest yields them.
 pub fn frames_come_back()
     ensures read { (frames : List (List ℕ)) → AllByRecursion IsOnLine frames → items (line_of frames) ≡ map Frame frames }
     ensures only { (stream : List ℕ) (frames : List (List ℕ)) → IsWholeStream stream → items stream ≡ map Frame frames

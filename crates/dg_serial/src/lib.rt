@@ -1,7 +1,7 @@
 //! Frames on a serial line: how they are stuffed, and how a stream of bytes is read as frames.
 //!
-//! The bytes 7e and 7d are told apart from a frame's own by the control escape of RFC 1662, section 4.2: the byte 7d, and
-//! then the byte with its sixth bit turned. The byte 7e ends a frame.
+//! The bytes 7e and 7d of a frame are escaped by the control escape of RFC 1662, section 4.2: the byte 7d, and then the
+//! byte with its sixth bit complemented. The byte 7e ends a frame.
 #![tactic(auto)]
 
 mod laws;
@@ -22,10 +22,10 @@ pub const FLAG: u8 = 0x7E;
 /// The byte that escapes the next: the control escape.
 pub const ESCAPE: u8 = 0x7D;
 
-/// What stands after an escape for the flag.
+/// What stands for the flag after an escape.
 pub const ESCAPED_FLAG: u8 = 0x5E;
 
-/// What stands after an escape for the escape itself.
+/// What stands for the escape itself after an escape.
 pub const ESCAPED_ESCAPE: u8 = 0x5D;
 
 #[cfg(test)]
