@@ -1,4 +1,4 @@
--- That the kept moments are those of the newest notes, and that a list with a window for each image is such a map.
+-- The times that are kept are those of the newest notes, and a list with a window for each image is such a map.
 use Rattle.std.specs.Prelude.{◌≡◌, ℕ, ◌+◌, ◌-◌, ◌≤◌, Bool, true, false, Decides, ◌&&◌, ◌↔◌, Option, None, Some, List, [], ◌∷◌, length}
 use Rattle.std.proofs.Common.{zero, suc, get_or, cond, eqb, ltb, refl, sym, ap, ◌∙◌, inl, inr, arith}
 use Rattle.std.proofs.Math.ListN.{replicate, set as put}
@@ -86,7 +86,7 @@ get-moments_from a (Some moment ∷ rest) q =
           ∙ sym (at_rest a q (Some moment) rest ne)
     ]
 
--- image 1 stands first
+-- image 1 comes first
 pub get-moments_of : (places : List (Option ℕ)) (image : ℕ) → 1 ≤ image → map.get (moments_of places) image ≡ get_or places (image - 1) None
 unfolding moments_of
 get-moments_of places image h =
@@ -105,7 +105,7 @@ pub moments_of-none : (n : ℕ) → moments_of (replicate n None) ≡ map.empty
 unfolding moments_of
 moments_of-none n = moments_from-none n 1
 
--- a moment is written at the window of its image
+-- a time is written to the window of its image
 pub moments_of-put : (places : List (Option ℕ)) (image moment : ℕ) → 1 ≤ image → image ≤ length places → moments_of (put places (image - 1) (Some moment)) ≡ map.insert (moments_of places) image moment
 moments_of-put places image moment low high =
     same_moments _ _ (λ q.

@@ -2,7 +2,7 @@
 use Rattle.std.specs.Prelude.{ℕ, ◌==◌, if◌then◌else◌, Option, None, Some, List, [], ◌∷◌}
 use Rattle.dg_quiet.specs.Noted.{Noted, nothing_noted, with_request, with_packet}
 
--- what is overheard, with its moment and its image
+-- what is overheard, with its time and its image
 pub data Note : Type 0 where
   Request : (moment image : ℕ) → Note
   Packet : (moment image : ℕ) → Note

@@ -6,7 +6,7 @@ use Rattle.std.specs.Ordering.{nat_cmp}
 use Rattle.std.specs.FinMap as map
 use Rattle.dg_quiet.specs.Times.{request_window, packet_window}
 
--- the moment that was noted last for each image
+-- the time that was noted last for each image
 abbrev pub Moments : Type 0
 Moments = map.FinMap nat_cmp ℕ
 
@@ -23,14 +23,14 @@ noted_code =
 abbrev pub nothing_noted : Noted
 nothing_noted = record { requests = map.empty; packets = map.empty }
 
--- a request of the image, or a packet of it, is overheard at the moment
+-- a request for the image, or a packet of it, is overheard at this time
 abbrev pub with_request : Noted → ℕ → ℕ → Noted
 with_request n moment image = record n { requests = map.insert n.requests image moment }
 
 abbrev pub with_packet : Noted → ℕ → ℕ → Noted
 with_packet n moment image = record n { packets = map.insert n.packets image moment }
 
--- what was noted, if anything, is at least so long ago
+-- what was noted, if anything, is at least this long ago
 abbrev pub IsPast : Option ℕ → ℕ → ℕ → Type 0
 IsPast last quiet moment = IfSome last (λ m. m + quiet ≤ moment)
 
@@ -43,7 +43,7 @@ abbrev pub may_ask : Noted → ℕ → ℕ → Bool
 may_ask n moment image =
     is_past (map.get n.requests image) request_window moment && is_past (map.get n.packets image) packet_window moment
 
--- the map of a list that has the moment of each image from `image` on
+-- the map of a list that has the time of each image from `image` on
 abbrev pub moments_from : ℕ → List (Option ℕ) → Moments
 moments_from image [] = map.empty
 moments_from image (None ∷ rest) = moments_from (image + 1) rest

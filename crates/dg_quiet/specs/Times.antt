@@ -1,8 +1,8 @@
--- How long what a mote overhears keeps it from asking. That it does is in Hui and Culler, SenSys 2004; the times are of this
--- profile.
+-- How long an overheard frame keeps a mote from asking. The suppression is that of Hui and Culler, SenSys 2004; the times
+-- are of this profile.
 use Rattle.std.specs.Prelude.{ℕ}
 
--- after a request of the image, in milliseconds
+-- after a request for the image, in milliseconds
 abbrev pub request_window : ℕ
 request_window = 128000
 

@@ -1,8 +1,8 @@
 //! When a mote may ask for an image: not while others ask for it, and not while it is being sent.
 //!
-//! A mote that overhears a request of an image, or a packet of it, keeps quiet about that image for
-//! a while, since what is sent will reach it too (suppression, Hui and Culler, SenSys 2004).
-//! Moments are milliseconds.
+//! A mote that overhears a request for an image, or a packet of it, does not ask for that image for a
+//! while. What is sent will reach it too (suppression, Hui and Culler, SenSys 2004). Times are in
+//! milliseconds.
 #![tactic(auto)]
 
 ghost use Rattle.std.specs.Prelude.{◌≡◌, ℕ, ◌-◌, ◌≤◌, ◌&&◌, ◌↔◌, List, IsTrue};
@@ -17,13 +17,13 @@ use std::marker::Model;
 /// The images whose frames are overheard: 1 to this number.
 pub const WINDOWED_IMAGES: u8 = 6;
 
-/// How long an overheard request keeps a mote quiet, in milliseconds.
+/// How long an overheard request keeps a mote from asking, in milliseconds.
 pub const REQUEST_WINDOW: u64 = 128_000;
 
-/// How long an overheard packet keeps a mote quiet, in milliseconds.
+/// How long an overheard packet keeps a mote from asking, in milliseconds.
 pub const PACKET_WINDOW: u64 = 64_000;
 
-/// The windows in which a mote asks for no image of which it overheard something.
+/// The windows in which a mote does not ask for an image of which it overheard something.
 #[derive(Debug, Drop)]
 pub struct Windows {
     requests: [Option<u64>; WINDOWED_IMAGES as usize],
@@ -56,7 +56,7 @@ impl Windows {
         }
     }
 
-    /// Notes that a request of the image was overheard.
+    /// Notes that a request for the image was overheard.
     pub fn note_request(&mut self, now: u64, image: u8)
         requires low { 1 ≤ image }
         requires high { image ≤ windowed_images }
@@ -90,16 +90,16 @@ impl Windows {
     }
 }
 
-/// The numbers are those of this profile: an overheard request keeps a mote quiet for 128,000 ms, a packet
-/// for 64,000 ms, and there are windows of the images 1 to 6.
+/// The numbers are those of this profile: an overheard request keeps a mote from asking for 128,000 ms, a
+/// packet for 64,000 ms, and there are windows for the images 1 to 6.
 pub fn the_windows_are_these()
     ensures request { REQUEST_WINDOW ≡ request_window }
     ensures packet { PACKET_WINDOW ≡ packet_window }
     ensures images { WINDOWED_IMAGES ≡ windowed_images }
 {}
 
-/// In every history of overheard frames the last noted moment counts: whether a mote may ask for an
-/// image follows from the newest request of it and from the newest packet of it alone.
+/// In every history of overheard frames only the newest times count: whether a mote may ask for an image
+/// follows from the newest request for it and the newest packet of it alone.
 pub fn last_note_counts()
     ensures request { (notes : List Note) (image : ℕ)
         → map.get (noted notes).requests image ≡ last_request notes image }
@@ -110,7 +110,7 @@ pub fn last_note_counts()
         && is_past (last_packet notes image) packet_window moment) }
 {}
 
-// Where the moment of an image stands.
+// The index of the time of an image.
 fn window_of(image: u8) -> usize
     requires { 1 ≤ image }
     ensures { result ≡ image - 1 }

@@ -1,4 +1,4 @@
--- Whole histories of a reception: any calls, at any moments (the state RX of Deluge: Hui and Culler, SenSys 2004).
+-- Whole histories of a reception: any calls, at any times (the state RX of Deluge: Hui and Culler, SenSys 2004).
 use Rattle.std.specs.Prelude.{ℕ, ◌+◌, List, [], ◌∷◌}
 use Rattle.std.specs.FinSet as set
 use Rattle.dg_bits.specs.Sets.{Numbers}
@@ -7,7 +7,7 @@ use Rattle.dg_recv.specs.declared.Ask.TheVariants.{Request, GiveUp, Wait}
 use Rattle.dg_recv.specs.Reception.{Reception}
 use Rattle.dg_recv.specs.Steps.{reception_begun, ask_of, after_ask, after_accept}
 
--- the clock is looked at, or a packet of the page comes in
+-- the clock is read, or a packet of the page arrives
 pub data Call : Type 0 where
   Next : (moment : ℕ) → Call
   Comes : (moment packet : ℕ) → Call

@@ -1,5 +1,5 @@
--- What a mote that asks for a page keeps: what it has, and how far its asking is (the state RX of Deluge: Hui and Culler,
--- SenSys 2004).
+-- What a mote that asks for a page keeps: what it has, and the progress of its requests (the state RX of Deluge: Hui and
+-- Culler, SenSys 2004).
 use Rattle.std.specs.Prelude.{ℕ, refl}
 use Rattle.std.specs.Coded.{Coded, code_by, coded×, coded_ℕ}
 use Rattle.std.specs.FinSet as set
@@ -8,9 +8,9 @@ use Rattle.dg_bits.specs.Sets.{Numbers}
 pub record Reception : Type 0 where
   -- the packets that were accepted
   pub got : Numbers
-  -- the requests that were made
+  -- how many requests were made
   pub tries : ℕ
-  -- the moment from which on the next is made
+  -- the time from which on the next request is due
   pub due : ℕ
 
 abbrev pub reception_code : Coded Reception

@@ -1,4 +1,4 @@
--- What each call makes of a reception, and what it answers (the state RX of Deluge: Hui and Culler, SenSys 2004).
+-- What each call does to a reception, and what it answers (the state RX of Deluge: Hui and Culler, SenSys 2004).
 use Rattle.std.specs.Prelude.{ℕ, ◌+◌, ◌%◌, nat_le, nat_lt, if◌then◌else◌}
 use Rattle.std.specs.FinSet as set
 use Rattle.dg_bits.specs.Sets.{Numbers, below}
@@ -10,7 +10,7 @@ use Rattle.dg_object.specs.Sizes.{packets}
 use Rattle.dg_recv.specs.Times.{most_requests, first_wait, next_wait}
 use Rattle.dg_recv.specs.Reception.{Reception}
 
--- nothing is accepted, and the first request waits for a random while
+-- nothing is accepted, and the first request waits for a random time
 abbrev pub reception_begun : ℕ → ℕ → Reception
 reception_begun moment word = record { got = set.empty; tries = 0; due = moment + 1 + word % first_wait }
 
@@ -22,7 +22,7 @@ missing r = set.difference (below packets) r.got
 abbrev pub ask_of : Reception → ℕ → Ask
 ask_of r moment = if nat_lt moment r.due then Wait else (if nat_le most_requests r.tries then GiveUp else Request (missing r))
 
--- a request counts, and the next one waits
+-- a request is counted, and delays the next one
 abbrev pub after_ask : Reception → ℕ → Reception
 after_ask r moment =
     if nat_lt moment r.due then r else (if nat_le most_requests r.tries then r
@@ -31,7 +31,7 @@ after_ask r moment =
 abbrev pub accept_of : Reception → ℕ → Accept
 accept_of r packet = if set.contains r.got packet then Known else New
 
--- a new packet puts off the next request
+-- a new packet delays the next request
 abbrev pub after_accept : Reception → ℕ → ℕ → Reception
 after_accept r moment packet =
     if set.contains r.got packet then r else record r { got = set.insert r.got packet; due = moment + next_wait }

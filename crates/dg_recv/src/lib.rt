@@ -1,9 +1,9 @@
 //! Asking for the packets of a page: which are missing, when to ask again, and when to give up.
 //!
-//! A request names the missing packets by a set. A mote waits for a random while before the first
-//! request, so that neighbours with the same need don't all ask at once, and it gives up after
-//! eight requests (Hui and Culler, SenSys 2004, has the states and the requests by bit vector).
-//! Moments are milliseconds, and a word stands for a random number.
+//! A request names the missing packets by a set. A mote waits for a random time before the first
+//! request, so that neighbours with the same need don't all ask at once. It gives up after eight
+//! requests. The states and the requests by bit vector are those of Deluge (Hui and Culler, SenSys
+//! 2004). Times are in milliseconds, and a `word` is a random number.
 #![tactic(auto)]
 
 ghost use Rattle.std.specs.Prelude.{◌≡◌, ℕ, ◌+◌, ◌≤◌, ◌<◌, ◌^◌, ◌&&◌, not, nat_lt, true, false, List};
@@ -18,7 +18,7 @@ use dg_bits::PageBits;
 use dg_object::PACKETS;
 use std::marker::Model;
 
-/// The requests that are made for one page.
+/// How many requests are made for one page.
 pub const MOST_REQUESTS: u8 = 8;
 
 /// The first request waits for 1 to this many milliseconds.
@@ -85,7 +85,7 @@ impl Asking {
         }
     }
 
-    /// What to do at this moment. A request counts, and puts off the next one.
+    /// What to do at the time `now`. A request is counted, and delays the next one.
     pub fn next(&mut self, now: u64) -> Ask
         requires { now < 2 ^ 62 }
         ensures ask { result ≡ ask_of self.old now }
@@ -103,14 +103,14 @@ impl Asking {
         Ask::Request(without(&self.got))
     }
 
-    /// The moment before which there is nothing to do.
+    /// The time before which there is nothing to do.
     pub fn due(&self) -> u64
         ensures { result ≡ self.now.due }
     {
         self.due
     }
 
-    /// Notes a packet that came in. A new one puts off the next request.
+    /// Notes a packet that arrived. A new packet delays the next request.
     pub fn accept(&mut self, now: u64, packet: u8) -> Accept
         requires moment { now < 2 ^ 62 }
         requires packet { packet < packets }
@@ -154,9 +154,9 @@ pub fn the_waits_are_these()
     ensures requests { MOST_REQUESTS ≡ most_requests }
 {}
 
-/// What holds of an asking whatever is called in which order and at which moments: a request names
-/// exactly the packets of the page that did not come in, so that nothing that was accepted is asked
-/// for again, and there are eight requests before it gives up, and no more.
+/// What holds of an asking for any calls, in any order and at any times. A request names exactly the
+/// packets of the page that have not arrived, so nothing that was accepted is requested again. There
+/// are eight requests before it gives up, and no more.
 pub fn asking_ends()
     ensures accepted { (start word : ℕ) (calls : List Call)
         → (reception_after start word calls).got ≡ came_in calls }

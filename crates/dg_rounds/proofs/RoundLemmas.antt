@@ -9,7 +9,7 @@ unfolding times
 length-times zero xs = omega arith
 length-times (suc n) xs = length-append xs (times n xs) ∙ omega (arith, length-times n xs)
 
--- what stands at the positions of a pair that is repeated
+-- what is at the positions of a pair that is repeated
 even_place : {A : Type 0} (n j : ℕ) (x y d : A) → j < 2 * n → j % 2 ≡ 0 → get_or (times n (x ∷ y ∷ [])) j d ≡ x
 unfolding times
 even_place zero j x y d h e = absurd (omega arith)

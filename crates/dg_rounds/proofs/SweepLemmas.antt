@@ -1,4 +1,4 @@
--- What an iterator over rounds has still to give.
+-- What an iterator over rounds still has to yield.
 use Rattle.std.proofs.Common.{◌≡◌, ◌≢◌, ℕ, List, [], ◌∷◌, ◌++◌, length, Option, Some, None, refl, sym, ap, ◌∙◌, arith}
 use Rattle.std.specs.Iterator.{YieldsFirst, MakesProgress, item_count}
 use Rattle.dg_base.specs.declared.events.Event.{Event}
@@ -6,7 +6,7 @@ use Rattle.dg_rounds.specs.Rounds.{round, sweep}
 use Rattle.dg_rounds.specs.Left.{left_of_round, left_of_sweep}
 use Rattle.dg_rounds.specs.declared.sweeps.SweepEvents.{SweepEvents}
 
--- an iterator that gives a list comes nearer its end
+-- an iterator that yields a list comes closer to its end
 pub progress : {S A : Type 0} (can : S → Type 0) (rest : S → List A) (s t : S) (r : Option A) → ((x : S) → can x) → YieldsFirst rest s r t → MakesProgress can (item_count rest) s r t
 progress can rest s t None h y = record { on = λ f. tt; keeps = tt; rests = λ f. f }
 progress can rest s t (Some x) h y = record { on = λ f. (h t, f, omega (arith, ap length y)); keeps = h t; rests = λ f. tt }

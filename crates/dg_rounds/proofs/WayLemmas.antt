@@ -136,9 +136,9 @@ spreads_more links p q level old mid between new r t lp lq s h k =
     spreads_same (Also (Also (IsLinked links) p q) q p) (IsLinked (links ++ (p, q) ∷ [])) level old new (link_more links p q) (link_less links p q)
     (spreads_also (Also (IsLinked links) p q) q p level old between new t l (spreads_also (IsLinked links) p q level old mid between r lq s h) k)
 
--- ---- ways
+-- ---- paths
 
--- all motes that are so many links away or fewer are marked, and no others
+-- all motes that are at most `level` links away are marked, and no others
 pub record Reached (links : List (ℕ × ℕ)) (from level : ℕ) (levels : List (Option ℕ)) : Type 0 where
   pub sound : (m n : ℕ) → mark_of levels m ≡ Some n → (n ≤ level) × LinkPath links from n m
   pub complete : (m n : ℕ) → n ≤ level → LinkPath links from n m → (k : ℕ) × (mark_of levels m ≡ Some k) × (k ≤ n)
@@ -213,7 +213,7 @@ reached_more links from level old new reached s = record {
         let u = linked_on links from level old new reached s mid to t.0 t.1 l in
         (u.0, u.1, omega (arith, u.2, t.2))
 
--- where nothing more is marked, every way is found
+-- if nothing more is marked, every path is found
 all_found : (links : List (ℕ × ℕ)) (from level : ℕ) (levels : List (Option ℕ)) → Reached links from level levels → Spreads (IsLinked links) level levels levels
     → (n m : ℕ) → LinkPath links from n m → (k : ℕ) × (mark_of levels m ≡ Some k) × (k ≤ n)
 all_found links from level levels reached s n m here = reached.complete m 0 (omega arith) here

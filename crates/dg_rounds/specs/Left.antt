@@ -1,4 +1,4 @@
--- The events that an iterator has still to give (docs/SCRIPTS.md, "Sweeps that are enough").
+-- The events that an iterator still has to yield (docs/SCRIPTS.md, "Sweeps that are enough").
 use Rattle.std.specs.Prelude.{ℕ, List, [], ◌++◌, drop, Option, Some, None}
 use Rattle.dg_base.specs.declared.events.Event.{Event}
 use Rattle.dg_rounds.specs.Rounds.{round, sweep}

@@ -5,11 +5,11 @@ use Rattle.dg_base.specs.declared.events.Event.{Event}
 use Rattle.dg_base.specs.declared.events.Event.TheVariants.{Tick, Last}
 use Rattle.dg_object.specs.Sizes.{packets}
 
--- the milliseconds between the ticks of a round, by this project's own profile. They are more than any window of a mote
+-- the milliseconds between the ticks of a round, by this project's own profile. This is longer than any window of a mote
 abbrev pub pace : ℕ
 pace = 131072
 
--- the ticks that bring a mote to rest, and those in which it tells what it keeps, by the same profile
+-- the ticks that drain a mote, and those in which it advertises what it keeps, by the same profile
 abbrev pub drain_ticks : ℕ
 drain_ticks = 50
 
@@ -27,7 +27,7 @@ paced m = Tick m pace 0
 abbrev pub passed : (from to : ℕ) → Event
 passed from to = Last from to 0 0
 
--- Both motes come to rest. Then a tells b what it has, b asks a, and a sends the packets of a page.
+-- Both motes are drained. Then a advertises to b what it has, b asks a, and a sends the packets of a page.
 unfoldable pub round : (a b : ℕ) → List Event
 round a b =
     replicate drain_ticks (paced a) ++ (replicate drain_ticks (paced b)

@@ -6,7 +6,7 @@ ghost use Rattle.dg_rounds.specs.Marks.{Marks, Spreads, unmarked};
 
 use std::alloc::{AllocError, Global};
 
-/// For each of this many motes the least number of links between it and `from`, or none where there is no way.
+/// For each of this many motes, the least number of links between it and `from`, or None if there is no path.
 pub fn levels(
     alloc: Global,
     motes: u8,
@@ -28,7 +28,7 @@ pub fn levels(
     Ok(levels)
 }
 
-/// Marks the motes that are a link away from those of this level, and says whether there were any.
+/// Marks the unmarked motes that are one link away from those of this level. The answer says whether there were any.
 fn spread(levels: &mut [Option<u8>], links: &[(u8, u8)], level: u8) -> bool
     requires bound { level < 255 }
     requires linked { All (λ l. (l.0 < length levels.old) × (l.1 < length levels.old)) links.now }
@@ -44,7 +44,7 @@ fn spread(levels: &mut [Option<u8>], links: &[(u8, u8)], level: u8) -> bool
     marked
 }
 
-/// Marks a mote that is a link away from one of this level, where it isn't marked.
+/// Marks a mote that is one link away from one of this level, if it isn't marked.
 fn mark(levels: &mut [Option<u8>], near: usize, far: usize, level: u8) -> bool
     requires bound { level < 255 }
     requires near_inside { near < length levels.old }
@@ -58,7 +58,7 @@ fn mark(levels: &mut [Option<u8>], near: usize, far: usize, level: u8) -> bool
     false
 }
 
-/// How many sweeps bring an image of this many pages to the motes that are that many links away.
+/// How many sweeps bring an image of `pages` pages to the motes that are `hops` links away.
 pub fn enough(pages: u8, hops: u8) -> u32
     requires { 1 ≤ hops }
     ensures { result ≡ pages + hops - 1 }

@@ -1,7 +1,7 @@
 //! Rounds and sweeps over the links of a network, and how many of them are enough.
 //!
-//! In a round two motes come to rest, the first tells the second what it has, the second asks for a page, and
-//! the first sends it. A sweep has for each link a round in both directions.
+//! In a round two motes are drained, the first advertises to the second what it has, the second asks for a
+//! page, and the first sends it. A sweep has a round in each direction over each link.
 #![tactic(auto)]
 
 mod distances;

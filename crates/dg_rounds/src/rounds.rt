@@ -8,10 +8,10 @@ ghost use Rattle.dg_rounds.specs.Turns.{AreTurns};
 
 use dg_base::Event;
 
-/// The milliseconds between the ticks of a round. They are more than any window of a mote.
+/// The milliseconds between the ticks of a round. This is longer than any window of a mote.
 pub const PACE: u32 = 131_072;
 
-/// How many ticks bring a mote to rest.
+/// How many ticks drain a mote.
 const REST: u8 = 50;
 
 /// How many ticks make it advertise.
@@ -28,7 +28,7 @@ pub fn a_round_has_this_pace()
     ensures { PACE ≡ pace }
 {}
 
-/// 50 ticks bring a mote to rest, three more make it advertise, and for each of the 48 packets of a page there are two events.
+/// 50 ticks drain a mote, three more make it advertise, and there are two events for each of the 48 packets of a page.
 pub fn a_round_has_these_ticks()
     ensures drain { REST ≡ drain_ticks }
     ensures advert { ADVERT ≡ advert_ticks }
@@ -95,7 +95,7 @@ fn event_at(a: u8, b: u8, position: u8) -> Event
     }
 }
 
-/// The event at a position of those by which a mote asks: it hears the advert, and is heard.
+/// The event at a position of those by which a mote asks: it hears the advert, it ticks, and its request is heard.
 fn asking_at(a: u8, b: u8, position: u8) -> Event
     requires { position < 3 }
     ensures { result ≡ slice_index_or (passed a b ∷ paced b ∷ []) position (passed b a) }
@@ -156,7 +156,7 @@ impl RoundTurns {
         }
     }
 
-    /// The event at a position of the round, counted from 0. It is lent: no event is copied.
+    /// The event at a position of the round, counted from 0. It is borrowed: no event is copied.
     pub fn at(&self, position: u8) -> &Event
         requires { position < ROUND_EVENTS }
         ensures { (a b : ℕ) (d : Event) → AreTurns self.now a b → slice_index_or (round a b) position d ≡ result.now }

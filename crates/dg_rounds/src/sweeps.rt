@@ -17,7 +17,7 @@ pub struct SweepEvents<'a> {
 }
 
 impl<'a> SweepEvents<'a> {
-    /// Goes on to the next round. There is none at the end.
+    /// Advances to the next round. At the end there is no next round.
     fn begin_round(&mut self) -> bool
         requires { left_of_round self.old.current ≡ [] }
         ensures more { IsTrue result → left_of_sweep self.new ≡ left_of_sweep self.old }

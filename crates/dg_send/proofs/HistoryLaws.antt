@@ -37,7 +37,7 @@ union-assoc s t u =
     ∙ ap (λ b. b || set.contains u q) (sym (contains-both s t q))
     ∙ sym (contains-both (set.union s t) u q))
 
--- the least packet goes from what is left to what was sent
+-- the lowest packet moves from what is left to what was sent
 moved : (before left : ℕ → Bool) (p q : ℕ) → left p ≡ true → ((eqb q p || before q) || (not (eqb q p) && left q)) ≡ (before q || left q)
 moved before left p q in_left =
     elim (cases_eq q p) [
@@ -73,14 +73,14 @@ done_empty None early left l e = l
 done_empty (Some p) true left l e = cc
 done_empty (Some p) false left l e = cc
 
--- where nothing is left to do, what was sent is the union of the requests
+-- if nothing is left to do, what was sent is the union of the requests
 pub done_sent_all : (start : ℕ) (first : Numbers) (earlier : List Call) (moment : ℕ) → serve_of (owed start first earlier) moment ≡ Done → sent start first earlier ≡ all_asked first earlier
 done_sent_all start first earlier moment e =
     let o = owed start first earlier in
     sym (ap (set.union (sent start first earlier)) (done_empty (least o.left) (nat_lt moment o.due) o.left (least_cases o.left) e) ∙ union-none_right (sent start first earlier))
     ∙ sent_and_left start first earlier
 
--- ---- the least first, and each once
+-- ---- the lowest first, and each once
 
 sends_least : (first : Option ℕ) (early : Bool) (left : Numbers) (p : ℕ) → MatchOption first (left ≡ set.empty) (IsLeast left) → serve_by first early ≡ Send p → IsLeast left p
 sends_least None early left p l e = cc
@@ -113,7 +113,7 @@ names-next (Some q) true o moment p l = omega arith
 names-next (Some q) false o moment p l =
     rw (contains-without o.left q p) (count_moved p q (set.contains o.left) l.member)
 
--- a packet was sent at most as often as it was asked for, and once less where it is left
+-- a packet was sent at most as often as it was requested, and once less if it is still left
 pub sent_or_left : (start : ℕ) (first : Numbers) (calls : List Call) (p : ℕ) → times_sent start first calls p + names (owed start first calls).left p ≤ times_asked first calls p
 sent_or_left start first [] p = omega arith
 sent_or_left start first (Asks want ∷ earlier) p =
@@ -137,7 +137,7 @@ early_sends_nothing None early p is e = cc
 early_sends_nothing (Some q) true p is e = cc
 early_sends_nothing (Some q) false p is e = cc
 
--- between two packets lie as many milliseconds as the gap has
+-- two packets are at least a gap apart
 pub gap_between : (o : Owed) (moment later p q : ℕ) → serve_of o moment ≡ Send p → serve_of (after_next o moment) later ≡ Send q → moment + packet_gap ≤ later
 gap_between o moment later p q first second =
     let n = after_next o moment in

@@ -1,4 +1,4 @@
--- Whole histories of a serving: any calls, at any moments (the state TX of Deluge: Hui and Culler, SenSys 2004).
+-- Whole histories of a serving: any calls, at any times (the state TX of Deluge: Hui and Culler, SenSys 2004).
 use Rattle.std.specs.Prelude.{ℕ, ◌+◌, ◌==◌, if◌then◌else◌, List, [], ◌∷◌}
 use Rattle.std.specs.FinSet as set
 use Rattle.dg_bits.specs.Sets.{Numbers}
@@ -7,7 +7,7 @@ use Rattle.dg_send.specs.declared.Serve.TheVariants.{Send, Done, Wait}
 use Rattle.dg_send.specs.Owed.{Owed}
 use Rattle.dg_send.specs.Steps.{owed_begun, after_merge, serve_of, after_next}
 
--- a further request comes in, or the clock is looked at
+-- a further request arrives, or the clock is read
 pub data Call : Type 0 where
   Asks : (want : Numbers) → Call
   Next : (moment : ℕ) → Call
@@ -38,7 +38,7 @@ sent start first [] = set.empty
 sent start first (Asks want ∷ earlier) = sent start first earlier
 sent start first (Next moment ∷ earlier) = sent_by (serve_of (owed start first earlier) moment) (sent start first earlier)
 
--- 1 where a set names the packet
+-- 1 if a set names the packet
 abbrev pub names : Numbers → ℕ → ℕ
 names s packet = if set.contains s packet then 1 else 0
 
@@ -48,7 +48,7 @@ times_asked first [] packet = names first packet
 times_asked first (Asks want ∷ earlier) packet = times_asked first earlier packet + names want packet
 times_asked first (Next moment ∷ earlier) packet = times_asked first earlier packet
 
--- 1 where the packet is sent
+-- 1 if the packet is sent
 abbrev pub sends : Serve → ℕ → ℕ
 sends (Send q) packet = if packet == q then 1 else 0
 sends Done packet = 0

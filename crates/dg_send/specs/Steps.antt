@@ -1,4 +1,4 @@
--- What each call makes of what is owed, and what it answers (the state TX of Deluge: Hui and Culler, SenSys 2004).
+-- What each call does to what is owed, and what it answers (the state TX of Deluge: Hui and Culler, SenSys 2004).
 use Rattle.std.specs.Prelude.{ℕ, ◌+◌, Bool, true, false, nat_lt, Option, None, Some}
 use Rattle.std.specs.FinSet as set
 use Rattle.dg_bits.specs.Sets.{Numbers, least}
@@ -15,7 +15,7 @@ owed_begun moment want = record { left = want; due = moment }
 abbrev pub after_merge : Owed → Numbers → Owed
 after_merge o want = record o { left = set.union o.left want }
 
--- nothing is left, or the next packet is not due, or the least one is sent
+-- nothing is left, or the next packet is not due, or the lowest one is sent
 abbrev pub serve_by : Option ℕ → Bool → Serve
 serve_by None early = Done
 serve_by (Some packet) true = Wait
@@ -24,7 +24,7 @@ serve_by (Some packet) false = Send packet
 abbrev pub serve_of : Owed → ℕ → Serve
 serve_of o moment = serve_by (least o.left) (nat_lt moment o.due)
 
--- a packet that is sent leaves the set, and the next one waits
+-- a packet that is sent leaves the set, and delays the next one
 abbrev pub next_by : Option ℕ → Bool → Owed → ℕ → Owed
 next_by None early o moment = o
 next_by (Some packet) true o moment = o

@@ -1,7 +1,7 @@
-//! Serving the packets of a page: the union of what is asked for, the least packet first.
+//! Serving the packets of a page: the union of the requests, the lowest packet first.
 //!
-//! A server that hears a further request while it sends adds what that asks for, so that one
-//! transmission serves all who need it (Hui and Culler, SenSys 2004). Moments are milliseconds.
+//! A server that hears a further request while it sends adds the packets of that request, so that
+//! one transmission serves all who need it (Hui and Culler, SenSys 2004). Times are in milliseconds.
 #![tactic(auto)]
 
 ghost use Rattle.std.specs.Prelude.{◌≡◌, ◌≢◌, ℕ, ◌+◌, ◌≤◌, ◌<◌, ◌^◌, List};
@@ -69,7 +69,7 @@ impl Serving {
         self.left.union(want);
     }
 
-    /// What to do at this moment. A packet that is sent is no longer left.
+    /// What to do at the time `now`. A packet that is sent is no longer left.
     pub fn next(&mut self, now: u64) -> Serve
         requires { now < 2 ^ 62 }
         ensures serve { result ≡ serve_of self.old now }
@@ -87,7 +87,7 @@ impl Serving {
         Serve::Send(packet)
     }
 
-    /// The moment before which no packet is sent.
+    /// The time before which no packet is sent.
     pub fn due(&self) -> u64
         ensures { result ≡ self.now.due }
     {
@@ -107,10 +107,10 @@ pub fn the_gap_is_this()
     ensures { PACKET_GAP ≡ packet_gap }
 {}
 
-/// What holds of a serving whatever is called in which order and at which moments: what was sent and
-/// what is left make the union of the requests, and where it is done all of that was sent; the least
-/// packet goes first; a packet is sent at most as often as it was asked for; and a gap lies between
-/// two packets.
+/// What holds of a serving for any calls, in any order and at any times. What was sent and what is
+/// left make up the union of the requests, and once it is done all of that was sent. The lowest
+/// packet is sent first. A packet is sent at most as often as it was requested, and there is a gap
+/// between two packets.
 pub fn serves_the_union()
     ensures sent_and_left { (start : ℕ) (first : Numbers) (calls : List Call)
         → set.union (sent start first calls) (owed start first calls).left ≡ all_asked first calls }

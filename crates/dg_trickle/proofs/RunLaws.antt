@@ -135,7 +135,7 @@ few_sends : (f : Bool) (n : ℕ) → n ≤ (if f then 1 else 0) → n ≤ 1
 few_sends true n h = h
 few_sends false n h = omega arith
 
--- due: the timer fires, and sends or keeps quiet. Over: the next interval begins
+-- due: the timer fires, and sends or is suppressed. Over: the next interval begins
 Remembers-tick : (s next : Timer) (marks : List Mark) (due over few : Bool) → (due ≡ true → s.fired ≡ false) → few ≡ nat_lt s.count redundancy → Remembers next [] → Remembers s marks
     → Remembers (if due then record s { fired = true } else (if over then next else s)) (noted_of (if due then (if few then Send else Quiet) else (if over then Expired else Nothing)) marks)
 Remembers-tick s next marks true over true unfired e n m =
@@ -165,7 +165,7 @@ sends_untouched s marks true over false unfired e m is = cc
 sends_untouched s marks false true few unfired e m is = cc
 sends_untouched s marks false false few unfired e m is = cc
 
--- a tick sends only where nothing was heard and nothing was sent since the interval began
+-- a tick sends only if no consistent transmission was heard and nothing was sent since the interval began
 pub sends_if_untouched : (start word : ℕ) (earlier : List Call) (moment : ℕ) → act_of (timer start word earlier) moment ≡ Send → current start word earlier ≡ []
 sends_if_untouched start word earlier moment is =
     let s = timer start word earlier in
@@ -178,12 +178,12 @@ quiet_heard s marks true over false e m is = m.heard (omega (arith, ltb-false s.
 quiet_heard s marks false true few e m is = cc
 quiet_heard s marks false false few e m is = cc
 
--- a timer keeps quiet only where something equal was heard since the interval began
+-- a timer is suppressed only if a consistent transmission was heard since the interval began
 pub suppressed_if_heard : (start word : ℕ) (earlier : List Call) (moment : ℕ) → act_of (timer start word earlier) moment ≡ Quiet → Contains (current start word earlier) Heard
 suppressed_if_heard start word earlier moment is =
     let s = timer start word earlier in
     quiet_heard s (current start word earlier) (is_due s moment) (is_over s moment) (nat_lt s.count redundancy) refl (Remembers-timer start word earlier) is
 
--- and it sends at most once an interval
+-- and it sends at most once per interval
 pub sends_at_most_once : (start word : ℕ) (calls : List Call) → sends (current start word calls) ≤ 1
 sends_at_most_once start word calls = few_sends _ _ (Remembers-timer start word calls).once

@@ -1,4 +1,4 @@
--- Whole runs of a Trickle timer: any calls, at any moments (RFC 6206, section 4.2).
+-- Whole runs of a Trickle timer: any calls, at any times (RFC 6206, section 4.2).
 use Rattle.std.specs.Prelude.{◌≡◌, ℕ, ◌+◌, ◌*◌, ◌^◌, ◌≤◌, ◌⊎◌, List, [], ◌∷◌, nat_lt, if◌then◌else◌}
 use Rattle.dg_trickle.specs.declared.Act.{Act}
 use Rattle.dg_trickle.specs.declared.Act.TheVariants.{Send, Quiet, Expired, Nothing}
@@ -6,7 +6,7 @@ use Rattle.dg_trickle.specs.Times.{shortest_interval}
 use Rattle.dg_trickle.specs.Timer.{Timer}
 use Rattle.dg_trickle.specs.Steps.{started, after_same, after_other, after_tick, act_of}
 
--- what is asked of a timer after it was started, with the moment and the word
+-- the calls on a timer after it was started, with the time and the word
 pub data Call : Type 0 where
   Same : Call
   Other : (moment word : ℕ) → Call
@@ -22,7 +22,7 @@ abbrev pub timer : ℕ → ℕ → List Call → Timer
 timer start word [] = started start word
 timer start word (call ∷ earlier) = after (timer start word earlier) call
 
--- what can happen within an interval: something equal is heard, and at t the timer sends or keeps quiet
+-- what can happen within an interval: a consistent transmission is heard, and at t the timer sends or is suppressed
 pub data Mark : Type 0 where
   Heard : Mark
   Sent : Mark

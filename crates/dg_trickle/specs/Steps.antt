@@ -1,4 +1,4 @@
--- The steps of RFC 6206, section 4.2. A moment and a word, which stands for a random number, are handed in.
+-- The steps of RFC 6206, section 4.2. The time and a word, which is a random number, are arguments.
 use Rattle.std.specs.Prelude.{ℕ, ◌+◌, ◌*◌, ◌/◌, ◌%◌, ◌≤◌, ◌<◌, min, Bool, true, false, not, ◌&&◌, nat_le, nat_lt, if◌then◌else◌}
 use Rattle.dg_trickle.specs.declared.Act.{Act}
 use Rattle.dg_trickle.specs.declared.Act.TheVariants.{Send, Quiet, Expired, Nothing}
@@ -14,7 +14,7 @@ interval_begun size moment word =
 abbrev pub started : ℕ → ℕ → Timer
 started moment word = interval_begun shortest_interval moment word
 
--- step 3: something equal is heard. The count stands still at the end of a `u16`
+-- step 3: a consistent transmission is heard. The count saturates at the largest `u16`
 abbrev pub after_same : Timer → Timer
 after_same s = record s { count = min (s.count + 1) 65535 }
 
@@ -22,11 +22,11 @@ after_same s = record s { count = min (s.count + 1) 65535 }
 abbrev pub is_due : Timer → ℕ → Bool
 is_due s moment = not s.fired && nat_le (s.begin + s.t) moment
 
--- the interval is over. One that was looked at too late for its t fires first
+-- the interval is over. A timer that has not fired yet when its interval is over fires first
 abbrev pub is_over : Timer → ℕ → Bool
 is_over s moment = s.fired && nat_le (s.begin + s.interval) moment
 
--- step 4: at t the timer sends where fewer than k were heard. Step 5: the interval expires
+-- step 4: at t the timer sends if fewer than k were heard. Step 5: the interval expires
 abbrev pub act_of : Timer → ℕ → Act
 act_of s moment =
     if is_due s moment then (if nat_lt s.count redundancy then Send else Quiet)
@@ -38,7 +38,7 @@ after_tick s moment word =
     if is_due s moment then record s { fired = true }
     else (if is_over s moment then interval_begun (min (2 * s.interval) longest_interval) moment word else s)
 
--- step 6: something other is heard, and the shortest interval begins unless it runs
+-- step 6: an inconsistent transmission is heard, and the shortest interval begins unless it is running
 abbrev pub after_other : Timer → ℕ → ℕ → Timer
 after_other s moment word = if nat_lt shortest_interval s.interval then interval_begun shortest_interval moment word else s
 

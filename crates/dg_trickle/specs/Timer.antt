@@ -4,11 +4,11 @@ use Rattle.std.specs.Prelude.{ℕ, Bool}
 pub record Timer : Type 0 where
   -- the size of the current interval, I
   pub interval : ℕ
-  -- the moment at which it began
+  -- when it began
   pub begin : ℕ
   -- how long after that the timer fires
   pub t : ℕ
-  -- how often something equal was heard in it, c
+  -- how many consistent transmissions were heard in it, c
   pub count : ℕ
   -- t was reached
   pub fired : Bool

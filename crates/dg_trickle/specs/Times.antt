@@ -9,6 +9,6 @@ shortest_interval = 500
 abbrev pub longest_interval : ℕ
 longest_interval = 64000
 
--- k, the redundancy constant: a timer sends where it heard fewer equal transmissions
+-- k, the redundancy constant: a timer sends if it heard fewer consistent transmissions than this
 abbrev pub redundancy : ℕ
 redundancy = 1

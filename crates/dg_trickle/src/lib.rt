@@ -1,7 +1,7 @@
-//! The Trickle timer of RFC 6206: when to send, when a transmission is suppressed, and when to begin anew.
+//! The Trickle timer of RFC 6206: when to send, when a transmission is suppressed, and when to restart.
 //!
-//! Moments are milliseconds, and a word stands for a random number. Section 4.1 of the RFC leaves
-//! three parameters open: here Imin is 500 ms, Imax is Imin doubled seven times, and k is 1.
+//! Times are in milliseconds, and a `word` is a random number. Section 4.1 of the RFC leaves three parameters
+//! open: here Imin is 500 ms, Imax is Imin doubled seven times, and k is 1.
 #![tactic(auto)]
 
 ghost use Rattle.std.specs.Prelude.{◌≡◌, ℕ, ◌<◌, ◌≤◌, ◌^◌, List, [], ◌∷◌, Contains};
@@ -18,7 +18,7 @@ pub const SHORTEST_INTERVAL: u32 = 500;
 /// Imax, the longest interval, in milliseconds: the shortest, doubled seven times.
 pub const LONGEST_INTERVAL: u32 = 64_000;
 
-/// k, the redundancy constant: a timer sends where it heard fewer equal transmissions.
+/// k, the redundancy constant: a timer sends if it heard fewer consistent transmissions than this.
 pub const REDUNDANCY: u16 = 1;
 
 /// What a tick asks of its caller.
@@ -26,11 +26,11 @@ pub const REDUNDANCY: u16 = 1;
 pub enum Act {
     /// The timer fired: transmit.
     Send,
-    /// The timer fired, and enough was heard: transmit nothing.
+    /// The timer fired, but enough was heard: transmit nothing.
     Quiet,
     /// The interval is over, and the next one began.
     Expired,
-    /// Neither moment is reached.
+    /// Neither time has been reached.
     Nothing,
 }
 
@@ -87,7 +87,7 @@ impl Trickle {
         Self::begin(SHORTEST_INTERVAL, now, word)
     }
 
-    /// Notes that something equal was heard.
+    /// Notes that a consistent transmission was heard (RFC 6206).
     pub fn heard_same(&mut self)
         ensures value { self.new ≡ after_same self.old }
         ensures running { IsRunning self.new }
@@ -95,7 +95,7 @@ impl Trickle {
         self.heard = self.heard.saturating_add(1);
     }
 
-    /// Notes that something other was heard: the shortest interval begins, unless it runs.
+    /// Notes that an inconsistent transmission was heard (RFC 6206): the shortest interval begins, unless it is running.
     pub fn heard_other(&mut self, now: u64, word: u32)
         requires { now < 2 ^ 62 }
         ensures value { self.new ≡ after_other self.old now word }
@@ -106,7 +106,7 @@ impl Trickle {
         }
     }
 
-    /// Looks at the clock.
+    /// Advances the timer to the time `now`.
     pub fn tick(&mut self, now: u64, word: u32) -> Act
         requires { now < 2 ^ 62 }
         ensures act { result ≡ act_of self.old now }
@@ -132,7 +132,7 @@ impl Trickle {
         Act::Expired
     }
 
-    /// The moment before which a tick does nothing: the one at which it fires, or at which its interval is over.
+    /// The time before which a tick does nothing: when the timer fires, or when its interval is over.
     pub fn due(&self) -> u64
         ensures waits { (moment word : ℕ) → moment < result
             → (act_of self.now moment ≡ Act.Nothing) × (after_tick self.now moment word ≡ self.now) }
@@ -146,7 +146,7 @@ impl Trickle {
             })
     }
 
-    // An interval begins. The moment from which on it may fire is drawn from its second half.
+    // Begins an interval. The time from which on the timer may fire is drawn from its second half.
     fn begin(interval: u32, now: u64, word: u32) -> Self
         requires shortest { shortest_interval ≤ interval }
         requires longest { interval ≤ longest_interval }
@@ -172,9 +172,8 @@ pub fn the_parameters_are_these()
     ensures redundancy { REDUNDANCY ≡ redundancy }
 {}
 
-/// Bounds that hold in every run, whatever is called in which order and at which moments: the
-/// interval is the shortest one doubled up to seven times, it only doubles or falls back to the
-/// shortest, and t lies in its second half.
+/// Bounds that hold in every run, for any calls, in any order and at any times. The interval is the shortest one
+/// doubled up to seven times, it only doubles or falls back to the shortest, and t lies in its second half.
 pub fn interval_bounds()
     ensures running { (start word : ℕ) (calls : List Call) → IsRunning (timer start word calls) }
     ensures sizes { (start word : ℕ) (calls : List Call) → IsDoubled (timer start word calls) }
@@ -183,9 +182,9 @@ pub fn interval_bounds()
     ensures step { (s : Timer) (call : Call) → IsRunning s → IsRunning (after s call) }
 {}
 
-/// Suppression, in every run: a tick sends only where nothing was heard and nothing was sent since
-/// the interval began, is suppressed only where something equal was heard, and so sends at most once
-/// an interval.
+/// Suppression, in every run: a tick sends only if no consistent transmission was heard and nothing was sent
+/// since the interval began. It is suppressed only if a consistent transmission was heard. So a timer sends at
+/// most once per interval.
 pub fn suppression()
     ensures untouched { (start word : ℕ) (earlier : List Call) (moment : ℕ)
         → act_of (timer start word earlier) moment ≡ Act.Send → current start word earlier ≡ [] }

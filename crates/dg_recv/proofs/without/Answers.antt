@@ -11,14 +11,14 @@ use Rattle.dg_recv.proofs.without.Goals.{then-has, else-has}
 none_taken : (q : ℕ) (page known : Bool) → page ≡ (page && not (ltb q 0 && known))
 none_taken q page known = grind (arith, nat_tests)
 
--- one packet more was looked at, and was there, or was missing
+-- one more packet was checked, and was there, or was missing
 taken : (q k : ℕ) (page known : Bool) → (q ≡ k → known ≡ true) → (not (eqb q k) && (page && not (ltb q k && known))) ≡ (page && not (ltb q (k + 1) && known))
 taken q k page known here = grind (arith, nat_tests)
 
 kept : (q k : ℕ) (page known : Bool) → (q ≡ k → known ≡ false) → (page && not (ltb q k && known)) ≡ (page && not (ltb q (k + 1) && known))
 kept q k page known here = grind (arith, nat_tests)
 
--- all were looked at
+-- all were checked
 all_taken : (q k : ℕ) (page known : Bool) → (page ≡ true → ltb q k ≡ true) → (page && not (ltb q k && known)) ≡ (page && not known)
 all_taken q k true known past = ap (λ b. not (b && known)) (past refl)
 all_taken q k false known past = refl
