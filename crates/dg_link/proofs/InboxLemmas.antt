@@ -20,13 +20,13 @@ inbox_of-inboxes capacity rings mote ring within is = get_or-map (λ r. r.items)
 pub inboxes-set : (capacity : ℕ) (rings : List Ring) (mote : ℕ) (ring : Ring) → inboxes capacity (set rings mote ring) ≡ with_inbox mote ring.items (inboxes capacity rings)
 inboxes-set capacity rings mote ring = rw (map-set (λ r. r.items) rings mote ring)
 
--- a mote has an inbox exactly where it has a ring
+-- a mote has an inbox exactly if it has a ring
 within_rings : (capacity : ℕ) (rings : List Ring) (boxes : Inboxes) (mote : ℕ) → inboxes capacity rings ≡ boxes → mote < length boxes.frames → mote < length rings
 within_rings capacity rings boxes mote is within =
     let same : length boxes.frames ≡ length rings = ap (λ b. length b.frames) (sym is) ∙ length-map rings (λ ring. ring.items) in
     omega arith
 
--- the ring of a mote, what comes of it, and the inboxes before
+-- the inboxes after a change of the ring of a mote, from those before
 pub inboxes-push_back : (capacity : ℕ) (rings : List Ring) (boxes : Inboxes) (mote at : ℕ) (ring new : Ring) (frame : List ℕ) → inboxes capacity rings ≡ boxes → mote < length boxes.frames → at ≡ mote
     → ring ≡ get_or rings at ring → All (λ r. r.capacity ≡ capacity) rings → new ≡ buffer (keep_last ring.capacity (ring.items ++ frame ∷ [])) ring.capacity
     → inboxes capacity (set rings at new) ≡ delivered mote frame boxes
@@ -75,12 +75,12 @@ takes boxes mote into (frame ∷ rest) (Some n) is e =
     let same : frame ≡ take n into = cc in
     (rest, is ∙ ap (λ f. f ∷ rest) same, refl)
 
--- what a receive does where the oldest frame is taken, if there is one
+-- what a receive that takes the oldest frame, if there is one, does
 pub receives : (boxes : Inboxes) (mote : ℕ) (into : List ℕ) (r : Option ℕ) → option_map (λ n. take n into) r ≡ slice_get (inbox_of boxes mote) 0
     → Receives mote into r (Some boxes) (Some (with_inbox mote (drop 1 (inbox_of boxes mote)) boxes))
 receives boxes mote into r e = takes boxes mote into (inbox_of boxes mote) r refl e
 
--- a receive answers none exactly where no frame waits
+-- a receive answers None exactly if no frame waits
 pub is_none-frame : (f : ℕ → List ℕ) (waits : List (List ℕ)) (r : Option ℕ) → option_map f r ≡ slice_get waits 0 → (r ≡ None → waits ≡ []) × (waits ≡ [] → r ≡ None)
 is_none-frame f [] None e = (λ _. refl, λ _. refl)
 is_none-frame f [] (Some n) e = absurd cc

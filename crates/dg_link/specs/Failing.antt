@@ -1,4 +1,4 @@
--- A link in memory of which chosen calls fail, as contracts see it (docs/COMMANDS.md, "Serve").
+-- A link in memory that fails in chosen calls, as contracts see it (docs/COMMANDS.md, "Serve").
 use Rattle.std.specs.Prelude.{ℕ, List}
 use Rattle.dg_link.specs.Inboxes.{Inboxes}
 

@@ -1,4 +1,4 @@
--- The frames that wait at motes, where a link tells them (docs/COMMANDS.md, "Serve").
+-- The frames that wait at motes, if a link exposes them (docs/COMMANDS.md, "Serve").
 use Rattle.std.specs.Prelude.{◌≡◌, ℕ, ◌-◌, List, [], ◌∷◌, ◌++◌, length, take, drop, replicate, slice_index_or, slice_set, Option}
 use Rattle.std.specs.Prelude.{Some, None}
 
@@ -19,31 +19,31 @@ latest n xs = drop (length xs - n) xs
 abbrev pub emptied : ℕ → Inboxes → Inboxes
 emptied motes boxes = record { capacity = boxes.capacity; frames = replicate motes [] }
 
--- other frames wait at a mote
+-- the inboxes with these frames at a mote
 abbrev pub with_inbox : ℕ → List (List ℕ) → Inboxes → Inboxes
 with_inbox mote frames boxes = record { capacity = boxes.capacity; frames = slice_set boxes.frames mote frames }
 
--- a frame came last at a mote. Where its inbox was full, the oldest is lost
+-- a frame arrived last at a mote. If its inbox was full, the oldest is lost
 abbrev pub delivered : ℕ → List ℕ → Inboxes → Inboxes
 delivered mote frame boxes = with_inbox mote (latest boxes.capacity (inbox_of boxes mote ++ frame ∷ [])) boxes
 
--- No frame waits at the mote; nothing is claimed where the inboxes are not told.
+-- No frame waits at the mote; nothing is claimed if the inboxes are not exposed.
 abbrev pub IsEmptyAt : ℕ → Option Inboxes → Type 0
 IsEmptyAt mote None = Unit {0}
 IsEmptyAt mote (Some boxes) = inbox_of boxes mote ≡ []
 
--- The oldest frame at a mote was taken, and it was this one; or the inboxes are not told, before and after.
+-- The oldest frame at a mote was taken, and it was this one; or the inboxes are not exposed, before and after.
 abbrev pub TakesFrame : ℕ → List ℕ → Option Inboxes → Option Inboxes → Type 0
 TakesFrame mote frame None after = after ≡ None
 TakesFrame mote frame (Some boxes) after = (rest : List (List ℕ)) × (inbox_of boxes mote ≡ frame ∷ rest)
     × (after ≡ Some (with_inbox mote rest boxes))
 
--- A frame of n bytes was taken, which stands at the beginning of `into`; or there was none.
+-- A frame of n bytes was taken, which is at the beginning of `into`; or there was no frame.
 abbrev pub Receives : ℕ → List ℕ → Option ℕ → Option Inboxes → Option Inboxes → Type 0
 Receives mote into (Some n) before after = TakesFrame mote (take n into) before after
 Receives mote into None before after = IsEmptyAt mote before × (after ≡ before)
 
--- Each of this many motes has an inbox; nothing is claimed where the inboxes are not told.
+-- Each of this many motes has an inbox; nothing is claimed if the inboxes are not exposed.
 abbrev pub HasInboxes : Option Inboxes → ℕ → Type 0
 HasInboxes None motes = Unit {0}
 HasInboxes (Some boxes) motes = length boxes.frames ≡ motes

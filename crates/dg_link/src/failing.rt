@@ -1,4 +1,4 @@
-//! A link in memory of which chosen calls fail.
+//! A link in memory that fails in chosen calls.
 ghost use Rattle.std.specs.Prelude.{◌≡◌, ◌↔◌, ℕ, ◌+◌, ◌-◌, ◌^◌, ◌<◌, ◌≤◌, IsTrue, length, min, option_map, None, Some, IsErr};
 ghost use Rattle.std.specs.Prelude.{IfOk, IfErr, IfSome, OnOk, OnErr, Contains, refl};
 ghost use Rattle.dg_words.specs.Counts.{Rose};
@@ -12,7 +12,7 @@ use std::marker::Model;
 
 /// A link in memory. Of its sends and receives exactly those with the listed numbers fail, and change nothing.
 ///
-/// Sends and receives are numbered together from 1. The numbers end at 4,294,967,295, and a later call has none.
+/// Sends and receives are numbered together from 1. The numbers end at 4,294,967,295, and a later call has no number.
 #[derive(Drop)]
 pub struct FailLink {
     inner: MemLink,
@@ -30,7 +30,7 @@ impl Model for FailLink {
 }
 
 impl FailLink {
-    /// The link, of whose sends and receives those with the numbers `failing` fail.
+    /// The link, whose sends and receives with the numbers `failing` fail.
     pub fn new(inner: MemLink, failing: Vec<u32>) -> FailLink
         ensures boxes { result.boxes ≡ inner }
         ensures failing { result.failing ≡ failing.items }
@@ -45,7 +45,7 @@ impl FailLink {
         }
     }
 
-    // Counts a call, and tells whether it fails.
+    // Counts a call, and returns whether it fails.
     fn fails(&mut self) -> bool
         ensures told { IsTrue result ↔ Contains self.old.failing (self.old.calls + 1) }
         ensures boxes { self.new.boxes ≡ self.old.boxes }

@@ -1,7 +1,7 @@
 //! What a link between motes offers, and what is known of it.
 //!
-//! A link counts its faults. A call answers its failure only where the count rose in that call, and a call that
-//! answers Ok leaves the count as it is. At the end of a `u64` the count stands still.
+//! A link counts its faults. A call returns its failure only if the count rose in that call, and a call that returns Ok
+//! leaves the count unchanged. The count saturates at the largest `u64`.
 ghost use Rattle.std.specs.Prelude.{◌≡◌, ℕ, ◌<◌, ◌≤◌, length, Option, Some, Err, option_map, IfOk, IfSome, OnOk, OnErr, codes};
 ghost use Rattle.dg_words.specs.Counts.{Rose};
 ghost use Rattle.dg_base.specs.Sizes.{longest_frame, most_motes, greatest_port};
@@ -64,7 +64,7 @@ impl From<AllocError> for OpenFault {
 
 /// A link between motes. One that was not opened has no motes.
 pub trait Link {
-    // The inboxes of its motes, where the link tells them.
+    // The inboxes of its motes, if the link exposes them.
     ghost inboxes: { Self → Option Inboxes };
 
     // How many motes it has. Their numbers begin at 0.
@@ -73,12 +73,12 @@ pub trait Link {
     // How many calls failed.
     ghost faults: { Self → ℕ };
 
-    // The port of its first mote, where the link tells it.
+    // The port of its first mote, if the link exposes it.
     ghost first_port: { Self → Option ℕ };
 
-    /// Begins with this many motes, from 1 to 16, at which no frame waits. Where the link goes over ports, the first
-    /// mote has `port`, at most 65,500, and the others have those that follow. After a refusal the link has no motes, and
-    /// the port that it tells is the one that it was to have.
+    /// Opens the link with this many motes, from 1 to 16, at which no frame waits. If the link uses ports, the first mote
+    /// has `port`, at most 65,500, and the others have those that follow. After a failure the link has no motes, and the
+    /// port that it exposes is still `port`.
     fn open(&mut self, alloc: Global, port: u16, motes: u16) -> Result<(), OpenFault>
         requires some { 1 ≤ motes }
         requires most { motes ≤ most_motes }
@@ -111,8 +111,8 @@ pub trait Link {
         ensures failed { OnErr result (Rose (faults self.old) (faults self.new)) }
         ensures unfailed { OnOk result (faults self.new ≡ faults self.old) };
 
-    /// Receives a frame at a mote into the beginning of `into`, and answers how many bytes it has; or none, only
-    /// where none waited there when the call looked.
+    /// Receives a frame at a mote into the beginning of `into`, and returns its length in bytes. It returns None only if
+    /// no frame waited there when the call checked.
     fn receive(
         &mut self,
         at: u16,
@@ -130,6 +130,6 @@ pub trait Link {
         ensures failed { OnErr result (Rose (faults self.old) (faults self.new)) }
         ensures unfailed { OnOk result (faults self.new ≡ faults self.old) };
 
-    // Where the inboxes are told, each mote has one.
+    // If the inboxes are exposed, each mote has one.
     ghost has_inboxes: { (l : Self) → HasInboxes (inboxes l) (mote_count l) };
 }

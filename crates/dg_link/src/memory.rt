@@ -11,8 +11,8 @@ use dg_base::{FrameBytes, LONGEST_FRAME};
 use std::alloc::{AllocError, Global};
 use std::marker::Model;
 
-/// A link in memory, with an inbox for each mote. Where an inbox is full, a frame that comes puts out the oldest.
-/// It never fails, and its count of faults stays at 0.
+/// A link in memory, with an inbox for each mote. If an inbox is full, a frame that arrives replaces the oldest.
+/// The link never fails, and its count of faults stays at 0.
 #[derive(Drop)]
 pub struct MemLink {
     capacity: usize,
@@ -120,7 +120,7 @@ fn empty_rings(
     Ok(rings)
 }
 
-// Copies a frame, if there is one, to the beginning of `into`, and answers how many bytes it has.
+// Copies a frame, if there is one, to the beginning of `into`, and returns its length in bytes.
 fn hand_over(frame: Option<FrameBytes>, into: &mut [u8; LONGEST_FRAME]) -> Option<usize>
     ensures fits { IfSome result (λ n. n ≤ longest_frame) }
     ensures front { option_map (λ n. take n into.new) result ≡ frame }
@@ -131,7 +131,7 @@ fn hand_over(frame: Option<FrameBytes>, into: &mut [u8; LONGEST_FRAME]) -> Optio
     }
 }
 
-// Copies a frame to the beginning of `into`, and answers how many bytes it has.
+// Copies a frame to the beginning of `into`, and returns its length in bytes.
 fn copy_prefix(frame: &[u8], into: &mut [u8; LONGEST_FRAME]) -> usize
     requires { length frame.now ≤ longest_frame }
     ensures fits { result ≤ longest_frame }

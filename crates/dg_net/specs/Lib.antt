@@ -1,1 +1,1 @@
--- No definitions: the contracts speak in words of dg_base and dg_link.
+-- No definitions: the contracts use those of dg_base and dg_link.

@@ -12,21 +12,21 @@ use std::alloc::Global;
 use std::net::{Net, UdpSocket};
 use std::time::Clock as Timer;
 
-/// A link of which one mote alone has its socket here, on 127.0.0.1: mote m has the first mote's port and m more. The others
-/// are elsewhere, each at its own port, or nowhere.
+/// A link of which only one mote has its socket here, on 127.0.0.1: the port of mote m is that of the first mote plus m. The
+/// others are elsewhere, each at its own port, or do not exist.
 ///
-/// What comes to the socket is received, whoever sent it. Of a datagram the first 64 bytes are kept. What is sent may be
-/// lost, and nobody is told whether anyone listens. At a mote that is elsewhere nothing is received, and a send from one
-/// fails.
+/// What arrives at the socket is received, whoever sent it. The first 64 bytes of a datagram are kept. What is sent may be
+/// lost, and it is not reported whether anyone listens. Nothing is received at a mote that is elsewhere, and a send from
+/// such a mote fails.
 ///
-/// A receive takes what is there, and the link makes the pace of its mote, as [`crate::UdpLink`] does of its motes. The
-/// milliseconds of that are divided by the scale, and a turn in which nothing came lasts at least one.
+/// A receive takes what is there, and the link sets the pace of its mote, as [`crate::UdpLink`] does for its motes. The
+/// milliseconds of the turns are divided by the scale, and a turn in which nothing came lasts at least one millisecond.
 #[derive(Drop)]
 pub struct MoteLink<'r, R> {
     net: &'r R,
     /// The mote that has its socket here.
     mote: u16,
-    /// A millisecond of the system counts as this many of the rules.
+    /// A millisecond of the system counts as this many milliseconds of the rules.
     scale: u64,
     port: u16,
     /// How many motes there are, here and elsewhere.
@@ -38,7 +38,7 @@ pub struct MoteLink<'r, R> {
 }
 
 impl<'r, R: Net + Timer> MoteLink<'r, R> {
-    /// A link of this mote without a socket. A millisecond of the system counts as `scale` of the rules.
+    /// A link of this mote without a socket. A millisecond of the system counts as `scale` milliseconds of the rules.
     pub fn new(net: &'r R, mote: u16, scale: u64) -> MoteLink<'r, R>
         ensures motes { result.motes ≡ 0 }
         ensures faults { result.faults ≡ 0 }
@@ -57,7 +57,7 @@ impl<'r, R: Net + Timer> MoteLink<'r, R> {
         }
     }
 
-    /// Why the last call failed that did, if one did.
+    /// Why the last call that failed did so, if one failed.
     pub fn cause(&self) -> Option<LinkCause>
         ensures { result ≡ self.now.cause }
     {
@@ -81,7 +81,7 @@ impl<'r, R: Net + Timer> MoteLink<'r, R> {
         self.port.saturating_add(mote)
     }
 
-    // What came to the socket, if this mote has it.
+    // What arrived at the socket, if this mote has it.
     fn received(
         &mut self,
         at: u16,
@@ -104,7 +104,7 @@ impl<'r, R: Net + Timer> MoteLink<'r, R> {
         received
     }
 
-    // Whether a frame went out whole from a mote that has its socket here.
+    // Whether a frame was sent whole from a mote that has its socket here.
     fn goes_out(&self, from: u16, port: u16, bytes: &[u8]) -> bool {
         match &self.socket {
             Some(socket) if from == self.mote => is_sent(socket, address(port), bytes),

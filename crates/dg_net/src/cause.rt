@@ -6,17 +6,17 @@ use std::io::ErrorKind;
 pub enum LinkCause {
     /// Another program has the port.
     PortInUse { port: u16 },
-    /// The system does not let the port be had.
+    /// The system does not permit the use of the port.
     PortDenied { port: u16 },
-    /// A socket could not be had at the port for another reason.
+    /// A socket could not be opened at the port for another reason.
     PortFailed { port: u16 },
-    /// What was sent to the port did not go out whole.
+    /// What was sent to the port was not sent whole.
     Send { port: u16 },
     /// A receive at the port failed.
     Receive { port: u16 },
 }
 
-/// Why a socket could not be had at a port.
+/// Why a socket could not be opened at a port.
 pub(crate) fn port_cause(kind: ErrorKind, port: u16) -> LinkCause {
     match kind {
         ErrorKind::AddrInUse => LinkCause::PortInUse { port },

@@ -5,8 +5,8 @@ use crate::pace::elapsed;
 use dg_base::Clock;
 use std::time::{Clock as Timer, Instant};
 
-/// The clock of the system, in whole milliseconds since it was made. Where the system's clock can't be read, it answers
-/// its last answer again. One that is scaled goes this many times as fast.
+/// The clock of the system, in whole milliseconds since it was made. If the system's clock can't be read, it repeats
+/// its last answer. A scaled clock runs `scale` times as fast.
 #[derive(Drop)]
 pub struct SystemClock<'r, R> {
     timer: &'r R,
@@ -23,7 +23,7 @@ impl<'r, R: Timer> SystemClock<'r, R> {
         SystemClock::scaled(timer, 1)
     }
 
-    /// The same, of which each millisecond of the system counts as `scale`.
+    /// The same, but each millisecond of the system counts as `scale` milliseconds.
     pub fn scaled(timer: &'r R, scale: u64) -> SystemClock<'r, R>
         ensures { result.last ≡ 0 }
     {
@@ -50,7 +50,7 @@ impl<'r, R: Timer> Clock for SystemClock<'r, R> {
     }
 }
 
-// The milliseconds since a moment, where the system tells them.
+// The milliseconds since an instant, if the system reports them.
 fn passed<R: Timer>(began: Option<Instant>, timer: &R) -> Option<u64> {
     u64::try_from(elapsed(began, timer)?.as_millis()).ok()
 }

@@ -2,37 +2,37 @@
 use std::thread;
 use std::time::{Clock as Timer, Duration, Instant};
 
-/// How long a turn lasts in which nothing came, in milliseconds of the rules. It is the time between two packets of a mote.
+/// How long a turn in which nothing came lasts, in milliseconds of the rules. It is the time between two packets of a mote.
 const TURN: u64 = 16;
 
-/// How long it lasts once nothing came for `QUIET`, in milliseconds of the rules.
+/// How long such a turn lasts once nothing has come for `QUIET`, in milliseconds of the rules.
 const QUIET_TURN: u64 = 50;
 
-/// In milliseconds of the rules.
+/// How long nothing has to come before turns last `QUIET_TURN`, in milliseconds of the rules.
 const QUIET: u64 = 1_000;
 
-/// The shortest turn, in milliseconds of the system: so no processor is busy with turns in which nothing comes.
+/// The shortest turn in which nothing came, in milliseconds of the system, so that such turns do not keep a processor busy.
 const LEAST_TURN: u64 = 1;
 
-/// What is known of the turn that is played. In a turn each mote looks once whether a frame came, in ascending order: so a
-/// mote that looks behind one of its own or of a higher number begins the next turn. Only then is anything waited for,
-/// once for all motes.
+/// What is known of the current turn. In a turn each mote checks once whether a frame came, in ascending order. So a mote
+/// that checks after a mote of its own or a higher number begins the next turn. Only then does the link wait, once for all
+/// motes.
 #[derive(Drop)]
 pub(crate) struct Pace {
-    /// When the turn began. None where the system's clock could not be read.
+    /// When the turn began. None if the system's clock could not be read.
     began: Option<Instant>,
     /// When the last frame came, or the link was opened.
     last: Option<Instant>,
-    /// All motes below this one had their look in this turn, as far as they look at all.
+    /// All motes below this one have checked in this turn, if they check at all.
     next: u16,
     /// Whether a frame came in this turn.
     came: bool,
-    /// A millisecond of the system counts as this many of the rules.
+    /// A millisecond of the system counts as this many milliseconds of the rules.
     scale: u64,
 }
 
 impl Pace {
-    /// The first turn begins now. A millisecond of the system counts as `scale` of the rules.
+    /// The first turn begins now. A millisecond of the system counts as `scale` milliseconds of the rules.
     pub(crate) fn begin<R: Timer>(timer: &R, scale: u64) -> Pace {
         let now = Instant::now(timer).ok();
         Pace {
@@ -44,7 +44,7 @@ impl Pace {
         }
     }
 
-    /// A mote is about to look. Where it begins a turn, what is left of the turn before is waited for.
+    /// A mote is about to check. If it begins a turn, this waits for the rest of the previous turn.
     pub(crate) fn look<R: Timer>(&mut self, timer: &R, mote: u16) {
         if mote < self.next {
             self.end_turn(timer);
@@ -52,7 +52,7 @@ impl Pace {
         self.next = mote.saturating_add(1);
     }
 
-    /// A mote looked, and a frame came or did not.
+    /// A mote checked, and a frame came or did not.
     pub(crate) fn note<R: Timer>(&mut self, timer: &R, came: bool) {
         if came {
             self.came = true;
@@ -69,7 +69,7 @@ impl Pace {
         self.came = false;
     }
 
-    // Waits for what is left of a turn in which nothing came. Where the clock cannot be read that is a whole turn.
+    // Waits for the rest of a turn in which nothing came. If the clock cannot be read, that is a whole turn.
     fn wait<R: Timer>(&self, timer: &R) {
         let quiet = elapsed(self.last, timer).unwrap_or(Duration::ZERO);
         let passed = elapsed(self.began, timer).unwrap_or(Duration::ZERO);
@@ -77,7 +77,7 @@ impl Pace {
     }
 }
 
-// How long a turn lasts where nothing came for this long.
+// How long a turn lasts if nothing came for this long.
 fn turn_after(quiet: Duration, scale: u64) -> Duration {
     if quiet < scaled(QUIET, scale) {
         scaled(TURN, scale)
@@ -86,12 +86,12 @@ fn turn_after(quiet: Duration, scale: u64) -> Duration {
     }
 }
 
-// So many milliseconds of the rules by the system's clock, in whole milliseconds and at least one.
+// This many milliseconds of the rules by the system's clock, in whole milliseconds and at least one.
 fn scaled(millis: u64, scale: u64) -> Duration {
     Duration::from_millis((millis / scale.max(1)).max(LEAST_TURN))
 }
 
-/// The time since a moment, where the system tells both.
+/// The time since an instant, if the system reports both.
 pub(crate) fn elapsed<R: Timer>(moment: Option<Instant>, timer: &R) -> Option<Duration> {
     moment?.elapsed(timer).ok()
 }

@@ -12,7 +12,7 @@ use std::process;
 use std::test::Fail;
 use std::time::{Clock as Timer, Instant};
 
-// A port from which sixteen are free, as far as can be told. Each process looks elsewhere first.
+// A port from which sixteen are free, as far as can be known. Each process looks elsewhere first.
 fn free_port<R: Net + Timer>(rt: &R, alloc: Global, process: u32) -> u16
     ensures { result < 65000 }
 {
@@ -52,7 +52,7 @@ fn datagrams_come_to_their_mote(rt: HostRuntime) -> Result<(), Fail> {
     Ok(())
 }
 
-/// Whether a frame comes whole from one of sixteen motes to another.
+/// Whether a frame arrives whole from one of sixteen motes at another.
 fn carries(rt: &HostRuntime, port: u16, from: u16, to: u16, frame: &[u8]) -> Result<bool, Fail>
     requires from { from < 16 }
     requires to { to < 16 }
@@ -68,7 +68,7 @@ fn carries(rt: &HostRuntime, port: u16, from: u16, to: u16, frame: &[u8]) -> Res
     Ok(came == Some(frame.len()) && into.get(..frame.len()) == Some(frame))
 }
 
-// Each length comes whole, from and to each mote of the largest network.
+// A frame of each length arrives whole, from and to each mote of the largest network.
 #[test]
 fn frames_of_each_length_come_to_each_mote(rt: HostRuntime) -> Result<(), Fail> {
     let port = free_port(&rt, rt.alloc(), process::id(rt.process()));
@@ -90,7 +90,7 @@ fn motes_listen_at_the_loopback_address_alone(rt: HostRuntime) -> Result<(), Fai
     let mut link = UdpLink::new(&rt, alloc);
     let mut into = [0; LONGEST_FRAME];
     link.open(alloc, port, 1)?;
-    // where a socket listens on all addresses, none of them is left to another at its port
+    // if a socket listens on all addresses, no other socket can have one of them at its port
     let beside = SocketAddr::new(IpAddr::V4(Ipv4Addr::new(127, 0, 0, 2)), port);
     let stranger = UdpSocket::bind(&rt, beside)?;
     stranger.send_to(b"aside", beside)?;
@@ -107,7 +107,7 @@ fn failed_calls_of_sockets_are_told(rt: HostRuntime) -> Result<(), Fail> {
     let gone = UdpSocket::bind(&rt, address(0))?;
     let there = gone.local_addr()?;
     drop(gone);
-    // what is sent to a port at which nobody listens is refused, and the next receive tells it
+    // what is sent to a port at which nobody listens is refused, and the next receive reports it
     socket.connect(there)?;
     socket.send(b"hello")?;
     assert_eq!(rt; receive_datagram(&socket, &mut into), Err(LinkFailed));
@@ -185,7 +185,7 @@ fn turns_are_longer_where_nothing_came_for_a_second(rt: HostRuntime) -> Result<(
         assert_eq!(rt; link.receive(0, &mut into)?, None);
     }
     let passed = clock.read().saturating_sub(before);
-    // the clock tells what another one does
+    // the clock reports what another one does
     let lasted = u64::try_from(began.elapsed(&rt)?.as_millis()).unwrap_or(0);
     assert!(rt;
         passed <= lasted && lasted.saturating_sub(passed) < 500,
@@ -196,8 +196,8 @@ fn turns_are_longer_where_nothing_came_for_a_second(rt: HostRuntime) -> Result<(
     Ok(())
 }
 
-// Two motes of a network, each over a link of its own: what one sends the other receives, a mote that is elsewhere has
-// nothing, and none sends for it.
+// Two motes of a network, each over a link of its own: what one sends the other receives. Nothing is received at a
+// mote that is elsewhere, and a send from it fails.
 #[test]
 fn links_of_one_mote_reach_one_another(rt: HostRuntime) -> Result<(), Fail> {
     let alloc = rt.alloc();
@@ -208,7 +208,7 @@ fn links_of_one_mote_reach_one_another(rt: HostRuntime) -> Result<(), Fail> {
     first.open(alloc, port, 3)?;
     second.open(alloc, port, 3)?;
     first.send(0, 1, b"hello")?;
-    // nobody listens there, which is not told
+    // nobody listens there, which is not reported
     first.send(0, 2, b"hello")?;
     assert_eq!(rt; second.receive(0, &mut into)?, None);
     assert_eq!(rt; second.receive(1, &mut into)?, Some(5));
@@ -236,7 +236,7 @@ fn a_scaled_turn_is_as_much_shorter(rt: HostRuntime) -> Result<(), Fail> {
         assert_eq!(rt; link.receive(0, &mut into)?, None);
     }
     let passed = clock.read().saturating_sub(before);
-    // 49 turns of 2 ms, each of which the clock tells as 8; a machine under load makes them longer
+    // 49 turns of 2 ms, each of which the clock reports as 8 times as long; a machine under load makes them longer
     assert!(rt; 776 <= passed && passed < 32_000, "{passed}");
     Ok(())
 }

@@ -13,15 +13,14 @@ use std::io::ErrorKind;
 use std::net::{IpAddr, Ipv4Addr, Net, SocketAddr, UdpSocket};
 use std::time::Clock as Timer;
 
-/// A link of which each mote has a socket on 127.0.0.1. Mote m has the first mote's port and m more.
+/// A link of which each mote has a socket on 127.0.0.1. The port of mote m is that of the first mote plus m.
 ///
-/// What comes to a socket is received, whoever sent it. Of a datagram the first 64 bytes are kept. What is sent may
-/// be lost.
+/// What arrives at a socket is received, whoever sent it. The first 64 bytes of a datagram are kept. What is sent may be lost.
 ///
-/// A receive takes what is there, and the link makes the pace of its motes. A turn in which nothing came lasts 16 ms,
-/// however many motes there are, and 50 ms once nothing came for a second; one in which a frame came does not wait. A turn
-/// begins with a receive at a mote that received before in the turn that is played, or whose number is below that of one
-/// that did. It is this receive that waits for what is left of the turn before.
+/// A receive takes what is there, and the link sets the pace of its motes. A turn in which nothing came lasts 16 ms,
+/// however many motes there are, and 50 ms once nothing has come for a second. A turn in which a frame came does not wait.
+/// A new turn begins with a receive at a mote that already received in the current turn, or whose number is below that of
+/// one that did. It is this receive that waits for the rest of the previous turn.
 #[derive(Drop)]
 pub struct UdpLink<'r, R> {
     net: &'r R,
@@ -49,7 +48,7 @@ impl<'r, R: Net + Timer> UdpLink<'r, R> {
         }
     }
 
-    /// Why the last call failed that did, if one did.
+    /// Why the last call that failed did so, if one failed.
     pub fn cause(&self) -> Option<LinkCause>
         ensures { result ≡ self.now.cause }
     {
@@ -131,7 +130,7 @@ pub(crate) fn address(port: u16) -> SocketAddr {
     SocketAddr::new(IpAddr::V4(Ipv4Addr::new(127, 0, 0, 1)), port)
 }
 
-// Why sockets could not be had.
+// Why sockets could not be opened.
 #[derive(Debug, Drop)]
 enum Unopened {
     Memory,
@@ -171,14 +170,15 @@ fn push(sockets: &mut Vec<UdpSocket>, socket: UdpSocket) -> Result<(), Unopened>
     }
 }
 
-// A socket at a port, whose calls do not wait.
+// A socket at a port, whose calls do not block.
 pub(crate) fn open_socket<R: Net>(net: &R, port: u16) -> io::Result<UdpSocket> {
     let socket = UdpSocket::bind(net, address(port))?;
     socket.set_nonblocking(true)?;
     Ok(socket)
 }
 
-// Sends a datagram, and tells whether it went out whole. One for which the system has no room is lost on its way.
+// Sends a datagram, and returns whether it was sent whole. A datagram for which the system has no room counts as sent, and
+// is lost.
 pub(crate) fn is_sent(socket: &UdpSocket, to: SocketAddr, bytes: &[u8]) -> bool {
     match socket.send_to(bytes, to) {
         Ok(count) => count == bytes.len(),
@@ -186,7 +186,7 @@ pub(crate) fn is_sent(socket: &UdpSocket, to: SocketAddr, bytes: &[u8]) -> bool 
     }
 }
 
-// Receives a datagram, if one is there. A receive that is interrupted has received none.
+// Receives a datagram, if one is there. A receive that is interrupted has received no datagram.
 pub(crate) fn receive_datagram(
     socket: &UdpSocket,
     into: &mut [u8; LONGEST_FRAME],
@@ -200,7 +200,7 @@ pub(crate) fn receive_datagram(
     }
 }
 
-// Whether a receive failed with this since no datagram was there.
+// Whether a receive failed with this because no datagram was there.
 fn is_none_there(kind: ErrorKind) -> bool {
     matches!(
         kind,
