@@ -1,4 +1,4 @@
-//! `deluge_cost` replays a script and tells what that costs. `cost` of `dg_cost` does all that it does.
+//! `deluge_cost` replays a script and writes what that costs, by `cost` of `dg_cost`.
 #![tactic(auto)]
 
 use dg_base::{MOST_MOTES, Status, StdSink, StdSource};
@@ -54,7 +54,7 @@ enum Asked {
     },
     Help,
     Version,
-    /// The words are none that it knows.
+    /// An invalid command line.
     Other,
 }
 
@@ -66,7 +66,7 @@ enum Word {
     Model,
     Help,
     Version,
-    /// An option that is none of these.
+    /// An unknown option.
     Unknown,
     File,
 }
@@ -90,7 +90,7 @@ fn word_of(word: &str) -> Word {
     }
 }
 
-/// What the next word may be besides an option.
+/// What the next word may be, besides an option.
 #[derive(Clone, Copy, Debug, PartialEq, Eq)]
 enum Next {
     Option,
@@ -112,7 +112,7 @@ struct Reading {
 }
 
 impl Reading {
-    /// Reads a word. Answers whether it may stand there.
+    /// Reads a word. Answers whether it is allowed there.
     fn read(&mut self, word: String) -> Result<bool, AllocError> {
         let next = self.next;
         self.next = Next::Option;
@@ -126,14 +126,14 @@ impl Reading {
         }
     }
 
-    /// What is told is named once.
+    /// The form is named at most once.
     fn tell(&mut self, told: Told) -> bool {
         let first = self.told.is_none();
         self.told = Some(told);
         first
     }
 
-    /// `--boards` stands once.
+    /// `--boards` is given at most once.
     fn begin_files(&mut self) -> bool {
         let first = !self.on_files;
         self.on_files = true;
@@ -141,13 +141,13 @@ impl Reading {
         first
     }
 
-    /// `--model` stands once.
+    /// `--model` is given at most once.
     fn begin_model(&mut self) -> bool {
         self.next = Next::Model;
         self.model.is_none()
     }
 
-    /// A file stands after `--boards` or `--model`.
+    /// A file follows `--boards` or `--model`.
     fn take_file(&mut self, next: Next, file: String) -> Result<bool, AllocError> {
         match next {
             Next::Option => Ok(false),
@@ -163,7 +163,7 @@ impl Reading {
         }
     }
 
-    /// What all words ask for: `--boards` has at least one file, and energy is told in tables and in JSON alone.
+    /// What all words ask for. `--boards` has at least one file, and a model is for tables and JSON alone.
     fn asked(self) -> Asked {
         let Reading {
             told,
@@ -181,7 +181,7 @@ impl Reading {
     }
 }
 
-/// What the words ask for. A word that is not UTF-8 is none that it knows.
+/// What the words ask for. A word that is not UTF-8 makes an invalid command line.
 fn words_ask(rt: &HostRuntime) -> Result<Asked, AllocError> {
     match env::args(rt) {
         Ok(args) => read_words(rt, args),
@@ -190,7 +190,7 @@ fn words_ask(rt: &HostRuntime) -> Result<Asked, AllocError> {
     }
 }
 
-/// What these words ask for, the program's name aside.
+/// What these words, without the program's name, ask for.
 fn read_words(rt: &HostRuntime, args: Args) -> Result<Asked, AllocError> {
     let mut reading = Reading {
         told: None,
@@ -214,7 +214,7 @@ fn read_words(rt: &HostRuntime, args: Args) -> Result<Asked, AllocError> {
     Ok(reading.asked())
 }
 
-/// A chip for each file, or in memory where there are none. None where memory runs out.
+/// A chip for each file, or chips in memory if there is no file. `None` if memory runs out.
 fn boards(rt: &HostRuntime, files: &Vec<String>) -> Option<Vec<Metered<Board>>> {
     if files.is_empty() {
         return boards_in_memory(rt);
@@ -238,7 +238,7 @@ fn boards_in_memory(rt: &HostRuntime) -> Option<Vec<Metered<Board>>> {
 }
 
 /// Files that take the numbers of standard streams that are closed. Where one is closed, the file that is opened next takes
-/// its number, and gets what is written there: let that be one of these, and no chip.
+/// its number, and gets what is written there: let that be one of these, and not a chip.
 #[derive(Drop)]
 struct Guard {
     files: [Option<File>; 3],
@@ -269,7 +269,7 @@ enum NoModel {
     Fault(ModelFault),
 }
 
-/// The bytes of a file, those after the most that a model has aside.
+/// The first bytes of a file, at most as many as a model may have.
 fn read_file(rt: &HostRuntime, name: &str) -> Option<Vec<u8>> {
     let file = OpenOptions::new().read(true).open(rt, name).ok()?;
     let mut bytes = Vec::new(rt.alloc());
@@ -288,7 +288,7 @@ fn model_in(rt: &HostRuntime, name: &str) -> Result<Model, NoModel> {
     }
 }
 
-/// What is to be written. A model that is none is told on standard error.
+/// The form to write. An invalid model is reported on standard error.
 fn form(rt: &HostRuntime, told: Told, model: &Option<String>) -> Result<Form, Status> {
     let model = match model {
         None => None,
@@ -327,7 +327,7 @@ fn tell_cost(rt: &HostRuntime, _guard: &Guard, form: &Form, files: &Vec<String>)
     tell_cause(rt, status)
 }
 
-/// Tells on standard error why it ends so.
+/// Writes to standard error why it ends with this status.
 fn tell_cause(rt: &HostRuntime, status: Status) -> Status {
     if let Some(cause) = cause(status) {
         let _ = eprintln!(rt; "deluge_cost: {cause}");
@@ -335,7 +335,7 @@ fn tell_cause(rt: &HostRuntime, status: Status) -> Status {
     status
 }
 
-/// Writes a text to standard output, and ends so where that is done.
+/// Writes a text to standard output, and ends with this status if that succeeds.
 fn write(rt: &HostRuntime, text: &str, status: Status) -> Status {
     match rt.print(text) {
         Ok(()) => status,
@@ -343,7 +343,7 @@ fn write(rt: &HostRuntime, text: &str, status: Status) -> Status {
     }
 }
 
-/// Why it ends so, for standard error. None where it did what it was asked.
+/// Why it ends with this status, for standard error. `None` if it did what it was asked.
 fn cause(status: Status) -> Option<&'static str> {
     match status {
         Status::Done => None,

@@ -1,4 +1,4 @@
-//! The call that replays a script and tells what it costs.
+//! The call that replays a script and writes what it costs.
 ghost use Rattle.std.specs.Prelude.{◌≡◌, ◌≤◌, map, IfOk};
 ghost use Rattle.dg_meter.specs.Meters.{metered_device};
 ghost use Rattle.dg_replay.specs.Around.{around};
@@ -63,7 +63,7 @@ impl Sink for KeptReport {
     }
 }
 
-/// What the boards keep as they are.
+/// What the boards keep before the run.
 fn look<N: Nor>(
     alloc: Global,
     boards: &mut Vec<Metered<N>>,
@@ -77,7 +77,7 @@ fn look<N: Nor>(
     Ok(given)
 }
 
-/// What a board keeps as it is, where it is a volume. Its meter knows then how many pages each slot has.
+/// What a board keeps before the run, if it is a volume. Its meter then knows how many pages each slot has.
 fn look_at<N: Nor>(board: &mut Metered<N>) -> Option<Given> {
     let Ok(volume) = Volume::mount(board) else {
         return None;
@@ -94,7 +94,7 @@ fn look_at<N: Nor>(board: &mut Metered<N>) -> Option<Given> {
     })
 }
 
-/// The room that is left on each chip at the end.
+/// Reads the room that is left on each chip at the end.
 fn look_again<N: Nor>(costs: &mut Costs, boards: &mut Vec<Metered<N>>) {
     for index in 0..boards.len() {
         if index < boards.len() && index < costs.motes.len() {
@@ -114,7 +114,7 @@ fn csv_of(alloc: Global, counter: &Counter, status: Status) -> Result<Vec<u8>, A
     Ok(text)
 }
 
-/// What is written.
+/// The text that is written.
 fn text_of(
     alloc: Global,
     asked: &Form,

@@ -6,7 +6,7 @@ use dg_events::EVENTS;
 use dg_meter::{Kind, REGIONS, Region, Share, Shares, Tally};
 use std::alloc::AllocError;
 
-/// The regions that are told, and those whose operations each has.
+/// The regions of the rows, each with one or two regions of a meter.
 fn regions() -> [(&'static str, Region, Option<Region>); 5] {
     [
         ("ledger", Region::Ledger, None),
@@ -33,7 +33,7 @@ fn count_of(counts: &[u64; REGIONS], one: Region, other: Option<Region>) -> u64 
     }
 }
 
-/// The rows of the operations of a phase, without those that were made before it.
+/// The rows of the operations of a phase, without those of the phases before it.
 fn push_flash(
     rows: &mut Rows,
     phase: &str,
@@ -99,7 +99,7 @@ fn push_commits(rows: &mut Rows, cost: &MoteCost) -> Result<(), AllocError> {
     rows.own("room.end", end)
 }
 
-/// Operations, bytes programmed and erases, with those of a mote.
+/// Adds the operations, the bytes programmed and the erases of a mote.
 pub fn with_flash(sums: (u64, u64, u64), cost: &MoteCost) -> (u64, u64, u64) {
     let (mut count, mut bytes, mut erases) = sums;
     for (_, one, other) in regions() {
@@ -116,7 +116,7 @@ pub fn with_flash(sums: (u64, u64, u64), cost: &MoteCost) -> (u64, u64, u64) {
     (count, bytes, erases)
 }
 
-/// What a mote's chip made in the run.
+/// The operations of a mote's chip in the run.
 fn made_since(cost: &MoteCost, kind: Kind, one: Region, other: Option<Region>) -> Share {
     let made = region_share(cost.tally.of(kind), one, other);
     made.since(region_share(cost.format.of(kind), one, other))

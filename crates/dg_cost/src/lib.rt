@@ -1,7 +1,8 @@
-//! What the run of a script costs: frames and bytes of each mote, operations of its flash, commits, starts, and when it has what.
+//! What the run of a script costs: frames and bytes of each mote, flash operations, commits, starts, and when images became
+//! whole.
 //!
 //! The run is that of `replay`: a watcher is shown each event, and the boards are meters, which count the programs and erases
-//! that are made of them and hand each on.
+//! that are made and forward each.
 #![tactic(auto)]
 
 mod call;

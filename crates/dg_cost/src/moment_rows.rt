@@ -4,7 +4,7 @@ use dg_cost_text::{Rows, What};
 use dg_count::Moments;
 use std::alloc::AllocError;
 
-/// The moments at which a mote had images whole, by image, version and time.
+/// The rows of when images became whole at a mote, by image, version and times.
 pub fn push_wholes(rows: &mut Rows, mote: u8, moments: &Moments) -> Result<(), AllocError> {
     for (whole, at) in &moments.wholes {
         if whole.mote == mote {
@@ -19,7 +19,7 @@ pub fn push_wholes(rows: &mut Rows, mote: u8, moments: &Moments) -> Result<(), A
     Ok(())
 }
 
-/// The moments of all motes.
+/// The rows of the moments of all motes.
 pub fn push_all_moments(rows: &mut Rows, moments: &Moments) -> Result<(), AllocError> {
     for (image_version, at) in &moments.all {
         let what = What::All {

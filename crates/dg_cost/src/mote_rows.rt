@@ -63,7 +63,7 @@ fn push_heard(rows: &mut Rows, cost: &MoteCost) -> Result<(), AllocError> {
     push_neighbours(rows, cost)
 }
 
-/// What became of the packets that a mote sent, and the frames that a trace brings.
+/// The outcomes of the packets that a mote sent, and the frames that a trace brings.
 fn push_packets(rows: &mut Rows, cost: &MoteCost, by: &SentBy) -> Result<(), AllocError> {
     let vain = share_of(PACKET, by.without(PACKET, PUT));
     rows.share("packets.", "vain", vain)?;
@@ -162,7 +162,7 @@ fn all_rows(
     Ok(all)
 }
 
-/// What a run that ended so came to.
+/// What was counted of a run that ended with this status.
 pub fn counted(alloc: Global, counter: &Counter, status: Status) -> Result<Counted, AllocError> {
     let by = counter
         .costs

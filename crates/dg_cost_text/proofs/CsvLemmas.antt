@@ -4,7 +4,7 @@ use Rattle.std.proofs.lemmas.List.{take_more, length-take-le}
 use Rattle.dg_cost_text.specs.Csv.{rows_text, motes_text}
 use Rattle.dg_cost_text.specs.declared.rows.Rows.{Rows}
 
--- one mote more
+-- one more mote
 pub motes_more : (n : ℕ) (ms : List Rows) (m : Rows) → motes_text n (ms ++ m ∷ []) ≡ motes_text n ms ++ rows_text (decimal (n + length ms)) m.rows.items
 unfolding motes_text
 motes_more n [] m =

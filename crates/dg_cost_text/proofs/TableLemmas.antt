@@ -7,7 +7,7 @@ use Rattle.dg_cost_text.specs.Table.{named_rows, Begins}
 pub two_parts : (a b c : List ℕ) → (a ++ (b ++ [])) ++ c ≡ a ++ (b ++ c)
 two_parts a b c = ap (λ (t : List ℕ). (a ++ t) ++ c) (append-nil b) ∙ append_assoc a b c
 
--- ---- one name more
+-- ---- one more name
 
 named_suc : (before after : List ℕ) (names : List (List ℕ)) (values : List ℕ) (i : ℕ) (n : List ℕ) (v : ℕ) → i < length names → i < length values
     → n ≡ get_or names i n → v ≡ get_or values i v → named_rows before after (take (suc i) names) (take (suc i) values)
@@ -48,7 +48,7 @@ begins_more {a} {b} {c} x y = record { more = x.more ++ y.more; is = y.is ∙ ap
 pub begins_rows : {a b : List (List ℕ × ℕ)} (rows : List (List ℕ × ℕ)) → b ≡ a ++ rows → Begins a b
 begins_rows rows is = record { more = rows; is = is }
 
--- what follows where a call was done
+-- what follows if a call succeeded
 pub then_on : {T E P Q : Type 0} (r : Result T E) → (P → Q) → OnOk r P → OnOk r Q
 then_on (Ok x) f p = f p
 then_on (Err e) f p = tt

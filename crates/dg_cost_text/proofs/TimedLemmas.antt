@@ -11,7 +11,7 @@ all_more (x ∷ xs) s all is = (all.0, all_more xs s all.1 is)
 pub timed_none : IsStampedReport [] []
 timed_none = record { bytes = []; stamps = tt; report_is = refl; text_is = refl }
 
--- one byte more
+-- one more byte
 pub timed_more : (report text : List ℕ) (s : Stamped) → IsStampedReport report text → IsStamp s
     → IsStampedReport (report ++ reported_byte s ∷ []) (text ++ stamped_text s)
 timed_more report text s x is = record {

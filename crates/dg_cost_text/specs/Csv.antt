@@ -14,7 +14,7 @@ row_text name row =
 abbrev pub rows_text : (name : List ℕ) → List Row → List ℕ
 rows_text name rows = flat_map (row_text name) rows
 
--- those of motes, numbered from n on
+-- the rows of motes, numbered from n on
 unfoldable pub motes_text : (n : ℕ) → List Rows → List ℕ
 motes_text n [] = []
 motes_text n (mote ∷ motes) = rows_text (decimal n) mote.rows.items ++ motes_text (n + 1) motes

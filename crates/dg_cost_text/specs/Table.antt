@@ -19,11 +19,11 @@ key_of parts ending = flat_map part_text parts ++ ending
 abbrev pub entry_of : Row → List ℕ × ℕ
 entry_of row = (row.key.items, row.value)
 
--- those of rows, in their order
+-- the keys and values of rows, in order
 abbrev pub table_of : Rows → List (List ℕ × ℕ)
 table_of rows = map entry_of rows.rows.items
 
--- the rows of these names, whose keys begin and end so, with these values
+-- the rows of these names, with this beginning and end of their keys, with these values
 abbrev pub named_rows : (before after : List ℕ) → (names : List (List ℕ)) → (values : List ℕ) → List (List ℕ × ℕ)
 named_rows before after [] values = []
 named_rows before after (name ∷ names) [] = []

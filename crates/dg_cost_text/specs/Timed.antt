@@ -3,11 +3,11 @@ use Rattle.std.specs.Prelude.{◌≡◌, ◌⊎◌, ℕ, List, [], ◌∷◌, �
 use Rattle.std.specs.List.{AllByRecursion, flat_map}
 use Rattle.std.specs.Fmt.{decimal}
 
--- the number of an event, and its moment in milliseconds, as they stand before a line
+-- the number of an event, and its moment in milliseconds, as written before a line
 abbrev pub stamp_text : (event ms : ℕ) → List ℕ
 stamp_text event ms = 64 ∷ decimal event ++ 32 ∷ decimal ms ++ 32 ∷ []
 
--- A byte of a report, and what stands before it: nothing, or a stamp.
+-- A byte of a report, and what is written before it: nothing, or a stamp.
 pub record Stamped : Type 0 where
   pub stamp : List ℕ
   pub byte : ℕ
@@ -24,7 +24,7 @@ stamped_text s = s.stamp ++ s.byte ∷ []
 abbrev pub reported_byte : Stamped → ℕ
 reported_byte s = s.byte
 
--- The text is that of the report, but for stamps before some of its bytes: without them it is the report, byte for byte.
+-- The text is the report with stamps before some of its bytes: without them it is the report, byte for byte.
 pub record IsStampedReport (report text : List ℕ) : Type 0 where
   pub bytes : List Stamped
   pub stamps : AllByRecursion IsStamp bytes

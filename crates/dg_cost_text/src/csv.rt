@@ -15,7 +15,7 @@ pub(crate) fn push_u64(text: &mut Vec<u8>, number: u64) -> Result<(), AllocError
     text.extend_from_slice(Buffer::new().format(number).as_bytes())
 }
 
-/// Appends a row of a mote, or of all, whose name stands first.
+/// Appends a row, after the name of its mote or `all`.
 fn push_row(text: &mut Vec<u8>, name: &[u8], row: &Row) -> Result<(), AllocError>
     ensures { OnOk result (text.new.items ≡ text.old.items ++ row_text name.now row.now) }
 {
@@ -31,7 +31,7 @@ fn push_row(text: &mut Vec<u8>, name: &[u8], row: &Row) -> Result<(), AllocError
     Ok(())
 }
 
-/// Appends rows of a mote, or of all, whose name stands first.
+/// Appends rows, each after the name of its mote or `all`.
 fn push_rows(text: &mut Vec<u8>, name: &[u8], rows: &[Row]) -> Result<(), AllocError>
     ensures { OnOk result (text.new.items ≡ text.old.items ++ rows_text name.now rows.now) }
 {

@@ -1,4 +1,4 @@
-//! What a mote takes of its battery by a model.
+//! The energy that a mote takes by a model.
 
 use crate::model::Model;
 use crate::rows::Rows;
@@ -16,7 +16,7 @@ struct Spent {
     on_ms: u64,
 }
 
-/// What these rows say was spent: formatting aside, and with the frames that came from outside.
+/// What was spent by these rows: without formatting, and with the frames that came from outside.
 fn spent_by(rows: &Rows) -> Spent {
     let heard = rows.sum_of("heard.", ".bytes");
     let outside = rows.sum_of("outside.", ".bytes");

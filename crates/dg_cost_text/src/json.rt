@@ -31,12 +31,12 @@ fn insert(
     }
 }
 
-/// An amount of energy as its decimal digits: it may be greater than what a reader of JSON takes a number for.
+/// An amount of energy as decimal digits: it may exceed what readers of JSON accept as a number.
 fn energy_value(alloc: Global, energy: u128) -> Result<Value, AllocError> {
     Ok(Value::from(format!(in alloc; "{energy}")?))
 }
 
-/// A mote, and the energy that it takes where there is a model.
+/// A mote, with the energy that it takes if there is a model.
 fn mote_value(
     alloc: Global,
     number: usize,
@@ -61,7 +61,7 @@ fn motes_value(alloc: Global, motes: &[Rows], model: Option<&Model>) -> Result<V
     Ok(Value::Array(values))
 }
 
-/// The sums over the motes, and what only all have.
+/// The sums over the motes, and the values of all motes alone.
 fn all_value(alloc: Global, counted: &Counted, model: Option<&Model>) -> Result<Value, AllocError> {
     let mut map = rows_map(alloc, &counted.all)?;
     if let Some(model) = model {
@@ -72,7 +72,7 @@ fn all_value(alloc: Global, counted: &Counted, model: Option<&Model>) -> Result<
 }
 
 /// What was counted as JSON, on one line: the keys and values of each mote and of all that are not 0, and whether moments are
-/// those of a schedule. Where there is a model, the energy is told too, as decimal digits.
+/// those of a schedule. If there is a model, the energy is written too, as decimal digits.
 pub fn json_text(
     alloc: Global,
     counted: &Counted,

@@ -49,7 +49,7 @@ impl Layout {
         self.right(&cell, width)
     }
 
-    /// Appends a great number at the right of a column of this width.
+    /// Appends a large number at the right of a column of this width.
     pub fn great(&mut self, number: u128, width: usize) -> Result<(), AllocError> {
         let cell = format!(in self.alloc; "{number}")?;
         self.right(cell.as_bytes(), width)

@@ -1,5 +1,5 @@
 //! What was counted as texts: rows of keys and values as comma-separated values, as JSON and as tables for people, a report with
-//! the event and the moment of each line, and the energy that all of it takes by a model.
+//! the event and the moment of each line, and the energy by a model.
 #![tactic(auto)]
 
 mod csv;

@@ -5,7 +5,7 @@ use std::error::Error;
 use std::fmt;
 use toml::Table;
 
-/// What a mote takes of its battery, in whole picojoules.
+/// The energy that a mote takes from its battery, in whole picojoules.
 #[derive(Clone, Copy, Debug, PartialEq, Eq)]
 pub struct Model {
     /// For each byte that it sends.
@@ -20,12 +20,12 @@ pub struct Model {
     pub on: u64,
 }
 
-/// Why bytes are no model. The first cause that is there is told.
+/// Why bytes are not a model. The first cause that applies is answered.
 #[derive(Clone, Copy, Debug, PartialEq, Eq)]
 pub enum ModelFault {
-    /// They are no TOML document.
+    /// They are not a TOML document.
     NotToml,
-    /// A key is missing or unknown, or a value is no whole number.
+    /// A key is missing or unknown, or a value is not a whole number.
     Key,
     /// A number is below 0.
     Negative,
@@ -59,7 +59,7 @@ impl From<AllocError> for ModelFault {
     }
 }
 
-/// The model that bytes write as a document of TOML 1.1, or the first cause why they write none.
+/// The model in the bytes of a TOML 1.1 document, or the first cause why there is none.
 ///
 /// The document has exactly the keys `sent`, `heard`, `programmed`, `erased` and `on`, whose values are whole numbers of
 /// picojoules from 0: for a byte that is sent, heard and programmed, for a sector that is erased, and for a second.
@@ -71,7 +71,7 @@ pub fn read_model(alloc: Global, bytes: &[u8]) -> Result<Model, ModelFault> {
     }
 }
 
-/// The model that a document is.
+/// The model of a document.
 fn model_of(document: &Table) -> Result<Model, ModelFault> {
     if !has_known_keys(document) {
         return Err(ModelFault::Key);

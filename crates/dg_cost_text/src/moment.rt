@@ -7,19 +7,19 @@ pub struct Moment {
     pub ms: u64,
 }
 
-/// So many lines were reported of this event, at this moment.
+/// This many lines were reported of an event, at this moment.
 #[derive(Clone, Copy)]
 pub struct Stamp {
     pub at: Moment,
     pub lines: usize,
 }
 
-/// What is so from a moment on.
+/// What holds from a moment on.
 #[derive(Clone, Copy)]
 pub enum What {
-    /// A mote keeps a version of an image whole, so often for the `times`-th time.
+    /// A mote keeps a version of an image whole, for the `times`-th time.
     Whole { image: u8, version: u32, times: u32 },
-    /// Every mote keeps just this version whole, for the first time.
+    /// Every mote keeps exactly this version whole, for the first time.
     All { image: u8, version: u32 },
     /// Every mote keeps the newest version whole, up to the end.
     Newest { image: u8 },

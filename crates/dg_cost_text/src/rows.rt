@@ -12,11 +12,11 @@ use std::alloc::{AllocError, Global};
 pub struct Row {
     pub key: Vec<u8>,
     pub value: u64,
-    /// The sum over the motes is a row of all.
+    /// Whether the sum over the motes is a row of `all`.
     pub summed: bool,
 }
 
-/// Rows, in the order in which they are told, of a mote or of all motes.
+/// Rows of a mote or of all motes, in the order in which they are written.
 #[derive(Drop)]
 pub struct Rows {
     alloc: Global,
@@ -25,12 +25,12 @@ pub struct Rows {
     pub moments: Vec<(What, Moment)>,
 }
 
-/// What a run came to.
+/// What was counted of a run.
 #[derive(Drop)]
 pub struct Counted {
     /// The rows of each mote, that of mote 0 first.
     pub motes: Vec<Rows>,
-    /// Those of all.
+    /// The rows of all motes.
     pub all: Rows,
     /// Whether rounds or sweeps were played, whose moments are those of a schedule.
     pub scheduled: bool,
@@ -77,7 +77,7 @@ impl Rows {
         Ok(())
     }
 
-    /// A row with the key of another one.
+    /// A row with the key of another row.
     pub fn push_as(&mut self, row: &Row, value: u64) -> Result<(), AllocError>
         ensures { OnOk result (table_of self.new ≡ table_of self.old ++ (row.now.key.items, value) ∷ []) }
     {
@@ -91,7 +91,7 @@ impl Rows {
         Ok(())
     }
 
-    /// A row whose sum over the motes is told too.
+    /// A row whose sum over the motes is a row of `all`.
     pub fn sum(&mut self, key: &str, value: u64) -> Result<(), AllocError>
         ensures { OnOk result (table_of self.new ≡ table_of self.old ++ (key.now, value) ∷ []) }
     {
@@ -216,7 +216,7 @@ impl Rows {
         self.push_ended(parts, ".ms", at.ms, false)
     }
 
-    /// The value of a key, where there is a row of it.
+    /// The value of a key, if there is a row of it.
     pub fn find(&self, key: &str) -> Option<u64> {
         for row in &self.rows {
             if row.key.as_slice() == key.as_bytes() {
@@ -226,7 +226,7 @@ impl Rows {
         None
     }
 
-    /// The value of a key, 0 where there is no row of it.
+    /// The value of a key, 0 if there is no row of it.
     pub fn value(&self, key: &str) -> u64 {
         self.find(key).unwrap_or(0)
     }
@@ -272,7 +272,7 @@ fn begins_and_ends(key: &[u8], begin: &[u8], end: &[u8]) -> bool {
         && key.ends_with(end)
 }
 
-/// The sum of the rows that stand there.
+/// The sum over the motes of the rows at this index.
 pub fn total_of(motes: &[Rows], index: usize) -> u64 {
     let mut total: u64 = 0;
     for rows in motes {

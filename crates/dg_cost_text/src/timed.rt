@@ -7,7 +7,7 @@ use crate::csv::push_u64;
 use crate::moment::{Moment, Stamp};
 use std::alloc::{AllocError, Global};
 
-/// The stamp of the next line: that of its event, and after the last of them that of the end.
+/// The stamp of the next line: that of its event, and after the last stamp that of the end.
 #[derive(Drop)]
 struct Stamps<'a> {
     stamps: &'a [Stamp],
@@ -19,7 +19,7 @@ struct Stamps<'a> {
 }
 
 impl Stamps<'_> {
-    /// Goes on to the next line.
+    /// Moves to the next line.
     fn go_on(&mut self) {
         for _ in 0..self.stamps.len() {
             let Some(stamp) = self.stamps.get(self.place) else {

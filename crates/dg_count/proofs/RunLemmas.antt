@@ -1,4 +1,4 @@
--- Counts of a whole run: declarations are no events, and there are no more events than a run may have.
+-- Counts of a whole run: declarations are not events, and a run has at most `most_events` events.
 use Rattle.std.proofs.Common.{◌≡◌, ℕ, ◌+◌, ◌%◌, ◌^◌, ◌<◌, ◌≤◌, Bool, true, false, cond, List, [], ◌∷◌, map, filter, count_by, refl, sym, ap, ◌∙◌, arith}
 use Rattle.std.specs.Prelude.{is_some}
 use Rattle.std.proofs.lemmas.Nat.{mod-mul-add}
@@ -32,7 +32,7 @@ count_more {X} p q none x xs false e rest =
     let same : count_by p xs ≡ count_by p (x ∷ xs) = omega (arith, all, zero_is) in
     rest ∙ same
 
--- what passes no test that is left out is counted the same without it
+-- leaving out what does not pass the test changes no count
 count_filtered : {X : Type 0} (p q : X → Bool) → ((x : X) → q x ≡ false → p x ≡ false) → (xs : List X) → count_by p (filter q xs) ≡ count_by p xs
 count_filtered p q none [] = refl
 count_filtered p q none (x ∷ xs) = count_more p q none x xs (q x) refl (count_filtered p q none xs)
@@ -47,7 +47,7 @@ count_mapped {X} {Y} p f (x ∷ xs) =
     sum_by-cons (λ (y : Y). cond (p y) 1 0) (f x) (map f xs) ∙ ap (λ (n : ℕ). cond (p (f x)) 1 0 + n) (count_mapped p f xs)
     ∙ sym (sum_by-cons (λ (y : X). cond (p (f y)) 1 0) x xs)
 
--- a declaration is no event
+-- a declaration is not an event
 no_event : (test : Happened → Bool) (i : Item) (w : World) → is_event i ≡ false → passes test (happening i w) ≡ false
 no_event test (Declares row) w e = refl
 no_event test (Applies step reported) w e = absurd (both_ways true e refl)

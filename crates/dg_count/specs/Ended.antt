@@ -1,4 +1,4 @@
--- The counts of a mote where an event found no image to start, which ended the run.
+-- The counts of a mote, with an event that found no image to start and ended the run.
 use Rattle.std.specs.Prelude.{ℕ, ◌==◌, if◌then◌else◌, slice_index_or, Option, Some, None}
 use Rattle.dg_events.specs.Counters.{no_counts}
 use Rattle.dg_events.specs.Noted.{up_at}
@@ -6,7 +6,7 @@ use Rattle.dg_events.specs.declared.event_counts.EventCounts.{EventCounts}
 use Rattle.dg_events.specs.declared.event_counter.EventCounter.{EventCounter}
 use Rattle.dg_count.specs.declared.place.EventPlace.{EventPlace}
 
--- the event that found no image counts by its kind too, at its mote
+-- the event that found no image to start is counted by its kind at its mote
 abbrev pub with_ended : Option EventPlace → ℕ → EventCounts → EventCounts
 with_ended None mote c = c
 with_ended (Some place) mote c = if place.mote == mote then record c { events = up_at place.kind c.events } else c

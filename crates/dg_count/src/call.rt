@@ -15,8 +15,8 @@ use dg_nor::Nor;
 use dg_replay::replay_watched;
 use std::alloc::Global;
 
-/// Replays a script as `replay` does, and counts the events that are played: how many there are at each mote of each kind, are
-/// refused by each cause, have a cut that blows, and start an image.
+/// Replays a script as `replay` does, and counts the events that are played: how many at each mote are of each kind, are
+/// refused by each cause, have a cut that fires, and start an image.
 pub fn replay_counted<S: Source, K: Sink, N: Nor>(
     alloc: Global,
     input: &mut S,

@@ -1,4 +1,4 @@
-//! What is counted of a replay beside its events.
+//! What is counted of a replay besides its events.
 
 use crate::frames::Frames;
 use crate::moments::Moments;
@@ -13,21 +13,21 @@ use dg_nor::Nor;
 use dg_volume::Kept;
 use std::alloc::{AllocError, Global};
 
-/// The commits of a chip that was never used.
+/// The room of a chip that was never used, in commits.
 const MOST_ROOM: u64 = 520_223;
 
-/// What a board keeps as it is.
+/// What a board keeps before the run.
 #[derive(Clone, Copy)]
 pub struct Given {
     pub room: u32,
     pub kept: [Option<Kept>; IMAGES],
 }
 
-/// What a replay costs beside its events, counted as it is played.
+/// What a replay costs besides its events, counted while it is played.
 #[derive(Drop)]
 pub struct Costs {
     alloc: Global,
-    /// What each board kept before the replay, where it is a volume.
+    /// What each board kept before the replay, if it is a volume.
     pub given: Vec<Option<Given>>,
     pub motes: Vec<MoteCost>,
     pub frames: Frames,
@@ -46,7 +46,7 @@ pub struct Costs {
     pub scheduled: bool,
     /// The event that found no image to start, and ended the replay.
     pub ended: Option<EventPlace>,
-    /// Memory ran out: nothing of this counts.
+    /// Memory ran out: none of these counts is valid.
     pub failed: bool,
 }
 
@@ -75,7 +75,7 @@ impl Costs {
         Moment { event, ms: self.ms }
     }
 
-    /// Without memory nothing counts.
+    /// Records whether memory ran out.
     #[inline(always)]
     pub fn unless(&mut self, done: Result<(), AllocError>) {
         if done.is_err() {
@@ -83,7 +83,7 @@ impl Costs {
         }
     }
 
-    /// Lines are reported in the event with this number.
+    /// Stamps this many lines, which are reported in the event with this number.
     pub fn stamp(&mut self, lines: usize, event: u64) {
         if !self.timed || lines == 0 {
             return;
@@ -94,7 +94,7 @@ impl Costs {
         }
     }
 
-    /// The motes begin over boards that have these tallies.
+    /// The motes begin on boards with these tallies.
     pub fn place<N: Nor>(
         &mut self,
         motes: u8,
@@ -134,7 +134,7 @@ impl Costs {
         }
     }
 
-    /// A mote keeps what its board kept.
+    /// A mote keeps what its board kept before the run.
     fn keep_given(&mut self, mote: u8) -> Result<(), AllocError> {
         let Some(given) = self.given_at(mote) else {
             return Ok(());

@@ -8,7 +8,7 @@ use crate::place::EventPlace;
 use dg_events::{EventCounter, EventCounts, add_one};
 use std::alloc::Global;
 
-/// What a replay costs, counted as it is played.
+/// What a replay costs, counted while it is played.
 #[derive(Drop)]
 pub struct Counter {
     /// What is counted of its events.
@@ -28,7 +28,7 @@ impl Counter {
         }
     }
 
-    /// What was counted of the events at a mote, and this event there, if it found no image to start.
+    /// What was counted of the events at a mote, plus this event if it was there and found no image to start.
     pub fn events_at(&self, ended: Option<EventPlace>, mote: usize) -> EventCounts
         ensures { result ≡ counts_at ended self.now.events mote }
     {
@@ -43,7 +43,7 @@ impl Counter {
         counts
     }
 
-    /// How many events there were, that which found no image to start included.
+    /// How many events there were, including one that found no image to start.
     pub fn all_events(&self) -> u64 {
         match self.costs.ended {
             Some(_) => self.events.all.saturating_add(1),

@@ -8,7 +8,7 @@ use dg_world::World;
 use std::alloc::{AllocError, Global};
 use std::collections::BTreeMap;
 
-/// A frame that was sent, and what became of it.
+/// A frame that was sent, and its outcome.
 #[derive(Clone, Copy)]
 pub struct SentFrame {
     pub by: u8,
@@ -17,12 +17,12 @@ pub struct SentFrame {
     pub heard: u16,
     /// A bit for each mote to which its bytes came from outside.
     pub traced: u16,
-    /// What became of it, as the sum of [`HEARD`] and the others.
+    /// Its outcome, as the sum of [`HEARD`] and the others.
     pub state: u8,
 }
 
 impl SentFrame {
-    /// A mote hears it, and puts it into a page or not. Answers whether it hears it for the first time.
+    /// A mote hears it, and puts it into a page if `puts` holds. Answers whether that mote hears it for the first time.
     #[inline(always)]
     pub fn hear(&mut self, mote: u8, puts: bool) -> bool {
         let mote = bit(mote);
@@ -33,13 +33,13 @@ impl SentFrame {
     }
 }
 
-/// The frames that were sent, the first one first.
+/// The frames that were sent, in order.
 #[derive(Drop)]
 pub struct Frames {
     pub sent: Vec<SentFrame>,
-    /// The number of each mote's last frame, and 0 where it sent none.
+    /// The number of each mote's last frame, 0 if it sent none.
     last: [usize; MOST_MOTES as usize],
-    /// For each frame that was indexed the number of the last one before it with the same hash, and 0 where there is none.
+    /// For each frame that was indexed, the number of the last one before it with the same hash, 0 if there is none.
     before: Vec<usize>,
     /// The number of the last frame with a hash.
     heads: BTreeMap<u64, usize>,
@@ -51,7 +51,7 @@ pub fn bit(mote: u8) -> u16 {
     if mote < MOST_MOTES { 1_u16 << mote } else { 0 }
 }
 
-/// The bytes of a frame as a number.
+/// The FNV-1a hash of a frame's bytes.
 fn hash_of(bytes: &[u8]) -> u64 {
     let mut hash: u64 = 0xcbf2_9ce4_8422_2325;
     for byte in bytes {
@@ -89,7 +89,7 @@ impl Frames {
         Ok(())
     }
 
-    /// Makes capacity for a frame more.
+    /// Reserves capacity for one more frame.
     #[inline(never)]
     fn grow(&mut self) -> Result<(), AllocError> {
         match self.sent.reserve(1) {
@@ -129,7 +129,7 @@ impl Frames {
         }
     }
 
-    /// Bytes came to a mote from outside that are those of the frame with this number.
+    /// The bytes of the frame with this number came to a mote from outside.
     pub fn trace(&mut self, number: usize, mote: u8) {
         if let Some(mut frame) = self.get(number) {
             frame.traced |= bit(mote);
@@ -138,7 +138,7 @@ impl Frames {
         }
     }
 
-    /// And they were put into a page.
+    /// The bytes of the frame with this number came from outside and were put into a page.
     pub fn trace_put(&mut self, number: usize) {
         if let Some(mut frame) = self.get(number) {
             frame.state |= TRACED_PUT;
@@ -146,7 +146,7 @@ impl Frames {
         }
     }
 
-    /// Puts the frames into the index that are not there yet.
+    /// Indexes the frames that are not indexed yet.
     fn index(&mut self, world: &World) -> Result<(), AllocError> {
         for number in self.before.len()..self.sent.len() {
             let hash = match world.frame(number.saturating_add(1)) {
@@ -165,7 +165,7 @@ impl Frames {
         Ok(())
     }
 
-    /// The frame of a neighbour that has these bytes: the earliest one that did not come to the mote yet, else the last.
+    /// The frame of a neighbour that has these bytes: the earliest one that has not reached the mote yet, else the last.
     pub fn find(
         &mut self,
         world: &World,
@@ -218,23 +218,23 @@ pub const TRACED: u8 = 2;
 /// It was put into a page.
 pub const PUT: u8 = 4;
 
-/// It was put into a page as its bytes came from outside.
+/// Its bytes came from outside and were put into a page.
 pub const TRACED_PUT: u8 = 8;
 
 /// It was put into a page that became complete.
 pub const USED: u8 = 16;
 
-/// How many sets of these there are.
+/// The number of sets of these.
 const STATES: usize = 32;
 
-/// How many frames a mote sent of each kind, by what became of them.
+/// How many frames of each kind a mote sent, by their outcomes.
 #[derive(Clone, Copy)]
 pub struct SentBy {
     states: [[u64; STATES]; SENT_KINDS],
 }
 
 impl Frames {
-    /// What became of the frames of each of this many motes.
+    /// The frames that each of this many motes sent, by their outcomes.
     pub fn sent_by_each(&self, alloc: Global, motes: usize) -> Result<Vec<SentBy>, AllocError> {
         let mut each = Vec::new(alloc);
         for _ in 0..motes {
@@ -251,7 +251,7 @@ impl Frames {
 }
 
 impl SentBy {
-    /// It sent none.
+    /// A mote that sent nothing.
     pub fn none() -> SentBy {
         SentBy {
             states: [[0; STATES]; SENT_KINDS],
@@ -267,7 +267,7 @@ impl SentBy {
         }
     }
 
-    /// How many frames of a kind there were of which none of this is true.
+    /// How many frames of a kind have none of the outcomes of this set.
     pub fn without(&self, kind: usize, set: u8) -> u64 {
         let mut number: u64 = 0;
         if kind < SENT_KINDS {
@@ -290,7 +290,7 @@ impl SentBy {
     }
 }
 
-/// So many frames of a kind.
+/// `count` frames of a kind, with their bytes.
 pub fn share_of(kind: usize, count: u64) -> Share {
     Share {
         count,

@@ -1,4 +1,4 @@
-//! Frames that are handed to motes.
+//! Frames that are delivered to motes.
 
 use crate::costs::Costs;
 use crate::kinds::{
@@ -14,7 +14,7 @@ use dg_world::World;
 use std::alloc::AllocError;
 
 impl MoteCost {
-    /// It refused a frame of this kind, if it did.
+    /// Counts a frame of this kind if the mote refused it.
     #[inline(never)]
     fn refused(&mut self, kind: usize, heard: Heard) {
         if let Heard::Refused(fault) = heard {
@@ -26,7 +26,7 @@ impl MoteCost {
         }
     }
 
-    /// A frame with this number, 0 where it came from outside, was put into the page that is filled.
+    /// A packet of the frame with this number, 0 if it came from outside, was put into the page that is being filled.
     fn fill_with(&mut self, number: usize) {
         self.put = self.put.saturating_add(1);
         if self.filled < FILL {
@@ -37,7 +37,7 @@ impl MoteCost {
 }
 
 impl Costs {
-    /// The number of the frame that an event brings to its mote, and 0 where it comes from outside.
+    /// The number of the frame that an event brings to its mote, 0 if the frame comes from outside.
     #[inline(always)]
     fn frame_number(&self, event: &Event) -> usize {
         match event {
@@ -47,7 +47,7 @@ impl Costs {
         }
     }
 
-    /// The frame with this number was handed to a mote, which put it into a page or not. Answers its kind.
+    /// The frame with this number was delivered to a mote, which put it into a page if `puts` holds. Answers its kind.
     #[inline(always)]
     pub fn heard_frame(&mut self, mote: u8, number: usize, puts: bool) -> usize {
         if number == 0 || self.frames.sent.len() < number {
@@ -83,7 +83,7 @@ impl Costs {
         }
     }
 
-    /// Bytes from outside were handed to a mote.
+    /// Bytes from outside were delivered to a mote.
     #[inline(never)]
     fn heard_bytes(
         &mut self,
@@ -121,14 +121,14 @@ impl Costs {
         Ok(())
     }
 
-    /// A mote heard the frame with this number. Nothing is reported of it, and it left the chip as it was.
+    /// A mote heard the frame with this number. Nothing is reported of it, and the chip is unchanged.
     #[inline(always)]
     pub fn note_quiet(&mut self, mote: u8, number: usize, heard: Heard) {
         let kind = self.heard_frame(mote, number, false);
         self.answered(mote, kind, heard);
     }
 
-    /// The frame with this number was put into a page, or a page became complete.
+    /// Counts the packet of this frame if it was put into a page, and the page if it became complete.
     pub fn fill_by(&mut self, mote: u8, number: usize, work: Work) {
         let index = usize::from(mote);
         if self.motes.len() <= index {
@@ -142,7 +142,7 @@ impl Costs {
         }
     }
 
-    /// A frame was heard, unless the event is refused or of another kind.
+    /// Counts the frame that an event brought to its mote, if it brought one. The event was not refused.
     #[inline(never)]
     pub fn note_heard(
         &mut self,
@@ -172,7 +172,7 @@ impl Costs {
         }
     }
 
-    /// The page became complete that the mote with this place fills.
+    /// The page that the mote at this index fills became complete.
     #[inline(never)]
     fn use_fill(&mut self, index: usize) {
         for place in 0..FILL {

@@ -1,4 +1,4 @@
-//! The kinds of what is counted, with their names in keys.
+//! The kinds of frames, faults and answers, with their names in keys.
 
 use dg_frame::FrameFault;
 use dg_mote::Heard;
@@ -6,7 +6,7 @@ use dg_mote::Heard;
 /// How many kinds of frames motes send.
 pub const SENT_KINDS: usize = 4;
 
-/// The kinds of frames, and what is none of them.
+/// The kinds of frames, and bytes that are none of them.
 pub const FRAMES: [&str; 5] = ["advert", "request", "packet", "wide", "else"];
 
 /// The number of packets among the kinds of frames.

@@ -1,5 +1,5 @@
 //! Counts what the run of a script costs, as a watcher of its replay: frames and bytes of each mote, operations of its flash,
-//! commits, starts, and when it has what.
+//! commits, starts, and when each image became whole.
 #![tactic(auto)]
 
 mod call;

@@ -1,4 +1,4 @@
-//! When motes have what.
+//! When images became whole.
 
 use dg_base::ImageVersion;
 use dg_cost_text::Moment;
@@ -11,11 +11,11 @@ use std::collections::BTreeMap;
 pub struct Have {
     pub version: u32,
     pub done: u8,
-    /// It is whole since then, if it is.
+    /// When it became whole, if it is.
     pub whole: Option<Moment>,
 }
 
-/// That an image became whole: at which mote, and how often it had been whole there then.
+/// An image that became whole at a mote, the `times`-th time.
 #[derive(Clone, Copy, PartialEq, Eq, PartialOrd, Ord)]
 pub struct Whole {
     pub mote: u8,
@@ -24,7 +24,7 @@ pub struct Whole {
     pub times: u32,
 }
 
-/// What motes keep, and when they had what.
+/// What motes keep, and when images became whole.
 #[derive(Drop)]
 pub struct Moments {
     pub keeps: Vec<[Option<Have>; SLOTS]>,
@@ -62,7 +62,7 @@ impl Moments {
         }
     }
 
-    /// A mote keeps nothing of an image any more.
+    /// A mote no longer keeps an image.
     pub fn lose(&mut self, mote: u8, image: u8) {
         self.set(mote, image, None);
     }
@@ -103,7 +103,7 @@ impl Moments {
         self.note_all(ImageVersion { image, version }, at)
     }
 
-    /// Every mote may have a version whole now.
+    /// Notes the moment if every mote now has this version whole.
     fn note_all(&mut self, image_version: ImageVersion, at: Moment) -> Result<(), AllocError> {
         if self.all.get(&image_version).is_some() || !self.have_all(image_version) {
             return Ok(());
@@ -114,7 +114,7 @@ impl Moments {
         }
     }
 
-    /// How often a mote has had a version whole, this time included.
+    /// How many times a version became whole at a mote, this time included.
     fn times(&self, mote: u8, image: u8, version: u32) -> u32 {
         let mut times: u32 = 1;
         for whole in self.wholes.keys() {

@@ -14,9 +14,9 @@ pub const FILL: usize = 48;
 #[derive(Clone, Copy)]
 pub struct MoteCost {
     pub on: bool,
-    /// The moment at which it went on last.
+    /// The moment at which it last powered on.
     pub since: u64,
-    /// For how long it was on before that, in milliseconds.
+    /// How long it was on before that, in milliseconds.
     pub on_ms: u64,
     /// The moment of its last start.
     pub started: u64,
@@ -28,7 +28,7 @@ pub struct MoteCost {
     pub answers: [u64; 12],
     /// The frames that it heard, by the mote that sent them, and by kind.
     pub from: [[u64; SENT_KINDS]; MOTES],
-    /// How many different ones, by the mote that sent them.
+    /// How many different frames it heard, by the mote that sent them.
     pub first: [u64; MOTES],
     pub put: u64,
     pub traced: Share,
@@ -36,9 +36,9 @@ pub struct MoteCost {
     pub cut_restarts: u64,
     /// The starts that found no image.
     pub no_image: u64,
-    /// The starts that succeeded and copied into program memory.
+    /// The successful starts that copied into program memory.
     pub starts_copied: u64,
-    /// What its chip was formatted by.
+    /// The operations that formatted its chip.
     pub format: Tally,
     /// Its chip's operations up to the last event.
     pub tally: Tally,
@@ -55,7 +55,7 @@ pub struct MoteCost {
     pub handovers: u64,
     pub room_begin: u64,
     pub room_end: Option<u64>,
-    /// The numbers of the frames that brought the packets of the page that it fills.
+    /// The numbers of the frames that brought the packets of the page that is being filled.
     pub fill: [usize; FILL],
     pub filled: usize,
 }
@@ -98,7 +98,7 @@ impl MoteCost {
         }
     }
 
-    /// The mote went on at this moment, unless it was on.
+    /// The mote started at this moment. If it was off, it powers on.
     pub fn go_on(&mut self, ms: u64) {
         if !self.on {
             self.on = true;
@@ -113,7 +113,7 @@ impl MoteCost {
         self.on = false;
     }
 
-    /// For how long it was on up to this moment.
+    /// How long it was on up to this moment, in milliseconds.
     pub fn on_until(&self, ms: u64) -> u64 {
         if !self.on {
             return self.on_ms;

@@ -1,4 +1,4 @@
-//! Where an event is.
+//! The mote, the time step and the kind of an event.
 ghost use Rattle.std.specs.Prelude.{◌≡◌};
 ghost use Rattle.dg_rules.specs.Events.{mote_of, dt_of};
 ghost use Rattle.dg_events.specs.Kinds.{event_number};
@@ -6,7 +6,7 @@ ghost use Rattle.dg_events.specs.Kinds.{event_number};
 use dg_events::event_kind;
 use dg_rules::Event;
 
-/// Where an event is, its step of time, and its kind.
+/// The mote, the time step and the kind of an event.
 #[derive(Clone, Copy)]
 pub struct EventPlace {
     pub mote: u8,

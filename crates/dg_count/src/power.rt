@@ -1,4 +1,4 @@
-//! What the lines that are reported of an event mean for a mote's power.
+//! The power of motes, by what is reported of events.
 
 use crate::costs::Costs;
 use crate::mote::MoteCost;
@@ -7,11 +7,11 @@ use dg_events::Told;
 use dg_rules::Event;
 use dg_world::World;
 
-/// A mote that ran for so long clears the count of short starts, in milliseconds.
+/// A mote that has run for this many milliseconds clears the count of short starts.
 const CLEARS: u64 = 5_000;
 
 impl MoteCost {
-    /// A cut fired in an event: in a tick it is one in a restart, unless the tick clears the count of short starts.
+    /// A cut fired in an event. In a tick it interrupts a restart, unless the tick clears the count of short starts.
     fn cut(&mut self, event: &Event, ms: u64) {
         if let Event::Tick { .. } = event {
             let clears = 0 < self.gesture && CLEARS <= ms.saturating_sub(self.started);
@@ -23,7 +23,7 @@ impl MoteCost {
 }
 
 impl Costs {
-    /// What the lines tell of starts and cuts.
+    /// Counts starts and cuts by the outcome of an event.
     pub fn note_power(&mut self, world: &World, mote: u8, event: &Event, told: Told, work: Work) {
         let ms = self.ms;
         let index = usize::from(mote);

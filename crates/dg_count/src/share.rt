@@ -1,8 +1,8 @@
-//! Counts by the number of a kind.
+//! Counts and bytes by the number of a kind.
 
 use dg_meter::Share;
 
-/// One more of the kind with this number, of this many bytes.
+/// Counts one more of the kind with this number, of this many bytes.
 #[inline(always)]
 pub fn add_share(shares: &mut [Share], kind: usize, bytes: usize) {
     if kind < shares.len() {
@@ -10,7 +10,7 @@ pub fn add_share(shares: &mut [Share], kind: usize, bytes: usize) {
     }
 }
 
-/// So many more of the kind with this number.
+/// Counts `more` of the kind with this number.
 #[inline(always)]
 pub fn add(counts: &mut [u64], kind: usize, more: u64) {
     if kind < counts.len() {
@@ -18,7 +18,7 @@ pub fn add(counts: &mut [u64], kind: usize, more: u64) {
     }
 }
 
-/// A number of a mote, an image or a kind, which fits a byte.
+/// The number of a mote, an image or a kind as a byte, which it fits.
 pub fn narrow(number: usize) -> u8 {
     match u8::try_from(number) {
         Ok(number) => number,

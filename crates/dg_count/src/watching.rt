@@ -1,4 +1,4 @@
-//! The watcher of a replay that counts.
+//! The watcher of a replay that counts what it is shown.
 ghost use Rattle.std.specs.Prelude.{◌≡◌};
 ghost use Rattle.dg_rules.specs.Events.{mote_of};
 ghost use Rattle.dg_events.specs.Counters.{HasCounted};
@@ -28,7 +28,7 @@ const HEAR: usize = 1;
 const LAST: usize = 2;
 
 impl Costs {
-    /// The reports on what a mote keeps.
+    /// Notes what a mote keeps, by these lines.
     fn note_kept(
         &mut self,
         mote: u8,
@@ -58,7 +58,7 @@ impl Costs {
         Ok(())
     }
 
-    /// A tick of a mote was applied, after `dt` milliseconds. Of most nothing is reported, and they leave the chip as it was.
+    /// A tick of a mote was applied, after `dt` milliseconds. Most ticks report nothing and leave the chip unchanged.
     #[inline(always)]
     fn note_tick<N: Nor>(
         &mut self,
@@ -156,7 +156,7 @@ impl Costs {
         self.note_heard(world, place.mote, event, NOTHING_TOLD, NO_WORK)
     }
 
-    /// An event was applied of which something is reported, or that made operations.
+    /// An event was applied that reports something or made operations.
     #[inline(never)]
     fn note_all(
         &mut self,
@@ -182,7 +182,7 @@ impl Costs {
         Ok(())
     }
 
-    /// Time goes on to an event.
+    /// Advances the time to an event's moment.
     #[inline(always)]
     fn pass(&mut self, dt: u32) {
         self.ms = self.ms.wrapping_add(u64::from(dt));
@@ -277,7 +277,7 @@ impl Counter {
 }
 
 impl<N: Nor> Watcher<Metered<N>> for Counter {
-    // it counted the events that it was shown, whatever their stores
+    // it counted the events that it was shown, whatever the stores
     ghost saw = { λ counter stores events. HasCounted counter.events events };
 
     fn begun(&mut self, motes: u8) {

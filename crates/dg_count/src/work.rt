@@ -1,4 +1,4 @@
-//! What an event does to a chip, by the operations that it makes.
+//! The work of an event on a chip, by the operations that it makes.
 
 use crate::costs::Costs;
 use crate::mote::MoteCost;
@@ -13,7 +13,7 @@ const COPY_PROGRAMS: u64 = 8;
 /// The programs of a control sector by which a commit is made.
 const COMMIT_PROGRAMS: u64 = 2;
 
-/// What an event did to a chip.
+/// The work of an event on a chip.
 #[derive(Clone, Copy)]
 pub struct Work {
     pub puts: u64,
@@ -57,12 +57,12 @@ fn finished(
     }
 }
 
-/// Whether an operation is one of a commit.
+/// Whether an operation belongs to a commit.
 fn in_commit(operation: Operation) -> bool {
     operation.region == Region::Ledger || operation.region == Region::Control
 }
 
-/// Whether an operation writes the header of a slot that is taken, and not a gate.
+/// Whether an operation programs the header of a slot that is taken, and not a gate.
 fn is_header(operation: Operation) -> bool {
     operation.region == Region::Head && operation.kind == Kind::Program && operation.bytes != 1
 }
@@ -80,7 +80,7 @@ fn finished_headers(headers: u64, cut: Option<Operation>) -> u64 {
     }
 }
 
-/// How many takes were finished, whose last commit may be interrupted.
+/// How many takes were finished, the last commit of which may be interrupted.
 fn finished_takes(headers: u64, cut: Option<Operation>) -> u64 {
     match cut {
         Some(last) => {
@@ -93,7 +93,7 @@ fn finished_takes(headers: u64, cut: Option<Operation>) -> u64 {
     }
 }
 
-/// How many pages of an image these lines tell.
+/// The image, its version and its complete pages, as the last `have` line reports them.
 fn pages_told(reports: &[Report]) -> Option<(u8, u32, u8)> {
     let mut told = None;
     for report in reports {
@@ -111,7 +111,7 @@ fn pages_told(reports: &[Report]) -> Option<(u8, u32, u8)> {
 }
 
 impl MoteCost {
-    /// Whether one operation was made, and that put a packet into a page.
+    /// Whether exactly one operation was made, which put a packet into a page.
     fn is_put(&self, after: &Tally) -> bool {
         if after.operations != self.tally.operations.saturating_add(1) {
             return false;
@@ -122,7 +122,7 @@ impl MoteCost {
         }
     }
 
-    /// What the operations of an event come to, the last of which a cut interrupted, where there is one.
+    /// Counts the operations of an event, the last of which was interrupted if there is a cut.
     fn all_work(&mut self, kind: usize, after: &Tally, cut: Option<Operation>) -> Work {
         let before = self.tally;
         add(
@@ -153,7 +153,7 @@ impl MoteCost {
         }
     }
 
-    /// So many programs of control sectors and of the ledger were finished.
+    /// Counts commits by the finished programs of control sectors and of the ledger.
     fn note_commits(&mut self, control: u64, ledger: u64, cut: Option<Operation>) {
         let mut commits = control / COMMIT_PROGRAMS;
         if let Some(last) = cut {
@@ -178,7 +178,7 @@ impl MoteCost {
 }
 
 impl Costs {
-    /// How many pages became complete in an event, of which this many gates were finished and the last was interrupted.
+    /// How many pages became complete in an event: the gates that were finished, and an interrupted one that took effect.
     fn sealed(
         &self,
         mote: u8,
@@ -203,7 +203,7 @@ impl Costs {
         u64::from(pages).saturating_sub(before).max(gates)
     }
 
-    /// What the chip of a mote did in an event.
+    /// Counts the work of an event on a mote's chip.
     pub fn note_work(
         &mut self,
         mote: u8,
@@ -233,7 +233,7 @@ impl Costs {
         self.note_all_work(mote, kind, after, off, reports)
     }
 
-    /// The same, where it is not one packet that was put into a page.
+    /// The same, where the work is not just one packet.
     #[inline(never)]
     fn note_all_work(
         &mut self,

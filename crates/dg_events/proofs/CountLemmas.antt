@@ -1,4 +1,4 @@
--- One event more in the counts of what was played.
+-- One more event in the counts of what was played.
 use Rattle.std.proofs.Common.{◌≡◌, ◌≢◌, ℕ, ◌+◌, ◌*◌, ◌/◌, ◌%◌, ◌^◌, ◌<◌, ◌≤◌, zero, suc, Bool, true, false, cond, ◌==◌, ◌&&◌, List, [], ◌∷◌, ◌++◌, length, replicate, get_or, set, refl, sym, ap, subst, ◌∙◌, arith}
 use Rattle.std.proofs.Common.{Option, Some, None, inl, inr}
 use Rattle.std.specs.Prelude.{slice_get, slice_index, is_some}
@@ -36,14 +36,14 @@ at_here m test x here = ap (λ (b : Bool). b && test x) (eq-eqb (mote_of x.event
 at_other : (m : ℕ) (test : Happened → Bool) (x : Happened) → mote_of x.event ≢ m → at m test x ≡ false
 at_other m test x other = ap (λ (b : Bool). b && test x) (ne_eqb (mote_of x.event) m other)
 
--- what is a multiple falls away
+-- multiples of the modulus fall away
 mod_drop : (q w r : ℕ) → 0 < w → (q * w + r) % w ≡ r % w
 mod_drop q w r some =
     let parts : r / w * w + r % w ≡ r = div-add-mod' r w in
     let whole : q * w + r ≡ (q + r / w) * w + r % w = omega (arith, parts) in
     ap (λ (n : ℕ). n % w) whole ∙ mod-mul-add (q + r / w) w (r % w) (mod_below r w some)
 
--- one more, where a count begins again
+-- one more, where a count wraps
 up_again : (n w : ℕ) → 0 < w → (n % w + 1) % w ≡ (n + 1) % w
 up_again n w some =
     let parts : n / w * w + n % w ≡ n = div-add-mod' n w in
@@ -57,7 +57,7 @@ up_is : (b : Bool) (n : ℕ) → up_if b (as_u64 n) ≡ as_u64 (n + cond b 1 0)
 up_is true n = up_again n (2 ^ 64) (omega arith)
 up_is false n = same_again n (2 ^ 64)
 
--- one event more at its mote
+-- one more event at its mote
 one_more : (m : ℕ) (test : Happened → Bool) (past : List Played) (x : Happened) (p : Played) (n : ℕ) → Is x p
     → mote_of x.event ≡ m → n ≡ told_count m test past → up_if (test x) n ≡ told_count m test (past ++ p ∷ [])
 one_more m test past x p n h here is =
@@ -65,7 +65,7 @@ one_more m test past x p n h here is =
     ∙ ap (λ (b : Bool). as_u64 (count_at m test past + cond b 1 0)) (sym (at_here m test x here))
     ∙ ap (λ (k : ℕ). as_u64 k) (sym (count_more m test past x p h))
 
--- one event more elsewhere
+-- one more event elsewhere
 no_more : (m : ℕ) (test : Happened → Bool) (past : List Played) (x : Happened) (p : Played) (n : ℕ) → Is x p
     → at m test x ≡ false → n ≡ told_count m test past → n ≡ told_count m test (past ++ p ∷ [])
 no_more m test past x p n h other is =
@@ -73,7 +73,7 @@ no_more m test past x p n h other is =
     ∙ ap (λ (b : Bool). as_u64 (count_at m test past + cond b 1 0)) (sym other)
     ∙ ap (λ (k : ℕ). as_u64 k) (sym (count_more m test past x p h))
 
--- one event more among all
+-- one more event among all
 pub all_more : (past : List Played) (x : Happened) (p : Played) (n : ℕ) → Is x p → n ≡ as_u64 (count_all past) → up n ≡ as_u64 (count_all (past ++ p ∷ []))
 all_more past x p n h is =
     ap (λ (k : ℕ). up k) is ∙ up_again (count_all past) (2 ^ 64) (omega arith)
@@ -194,7 +194,7 @@ at_one motes i c past x p h here lt is all m y there = elim (cases_eq m i) [
       counts_other m past x p y h (λ at. other (sym at ∙ here)) (all m y (sym (set_other motes i m (with_event c x.event x.told) other) ∙ there))
 ]
 
--- where that is told of its event
+-- with this outcome of its event
 pub all_here : (motes : List EventCounts) (i : ℕ) (none : EventCounts) (d : EventCounts) (past : List Played) (e : Event) (t : Told) (p : Played)
     → IsOutcome e t p → i ≡ mote_of e → i < length motes → d ≡ with_event (get_or motes i none) e t → AllCounted motes past
     → AllCounted (set motes i d) (past ++ p ∷ [])

@@ -1,4 +1,4 @@
--- What the report of a step tells is what became of it by the rules.
+-- The outcome that the report of a step gives is its outcome by the rules.
 use Rattle.std.proofs.Common.{◌≡◌, ℕ, Bool, true, false, cond, List, length, subst, [], ◌∷◌, ◌++◌, refl, sym, ap, ◌∙◌, fold, filter, Option, Some, None, option_map}
 use Rattle.std.specs.List.{AllByRecursion, filter_map, cons_option, range_with_len}
 use Rattle.std.proofs.lemmas.List.Sums.{fold-append}
@@ -27,11 +27,11 @@ use Rattle.dg_events.specs.Noted.{IsEventPlayed, IsOutcome}
 use Rattle.dg_events.specs.Told.{came_by, came_of, happened, happening, nothing_told, and_line, told_by}
 use Rattle.dg_events.specs.declared.told.Told.{Told}
 
--- a line that tells nothing of what became of an event
+-- a line that says nothing of an event's outcome
 abbrev pub Tacit : Report → Type 0
 Tacit r = (told : Told) → and_line told r ≡ told
 
--- such lines tell nothing together, also where some of them are left out
+-- several such lines say nothing of it either, also if some are left out
 tacit_lines : (f : Report → Bool) (told : Told) (rs : List Report) → AllByRecursion Tacit rs → fold and_line told (filter f rs) ≡ told
 tacit_lines f told [] all = refl
 tacit_lines f told (r ∷ rs) all = by (f r) all.0 (tacit_lines f told rs all.1)
@@ -85,13 +85,13 @@ sent_tacit m (Some (Request source to image version page want)) = ((λ told. ref
 sent_tacit m (Some (Packet source image version page packet bytes)) = ((λ told. refl), tt)
 sent_tacit m (Some (Wide source entries order)) = ((λ told. refl), tt)
 
--- lines after such ones tell what they tell alone
+-- lines give the same outcome after such lines
 after_tacit : (f : Report → Bool) (xs ys : List Report) → AllByRecursion Tacit xs → told_by (filter f (xs ++ ys)) ≡ told_by (filter f ys)
 after_tacit f xs ys all =
     ap (λ (rs : List Report). told_by rs) (filter-append f xs ys) ∙ fold-append and_line nothing_told (filter f xs) (filter f ys)
     ∙ ap (λ (t : Told). fold and_line t (filter f ys)) (tacit_lines f nothing_told xs all)
 
--- and so do lines before such ones
+-- lines give the same outcome before such lines
 before_tacit : (f : Report → Bool) (xs ys : List Report) → AllByRecursion Tacit ys → told_by (filter f (xs ++ ys)) ≡ told_by (filter f xs)
 before_tacit f xs ys all =
     ap (λ (rs : List Report). told_by rs) (filter-append f xs ys) ∙ fold-append and_line nothing_told (filter f xs) (filter f ys)
@@ -124,7 +124,7 @@ world_told : (reported : Bool) (w : World) (x : Step) (v : World) (all : List Re
 unfolding WorldStep
 world_told reported w x v all step = step_told reported w x v (does w x.event) all step
 
--- what the lines that are reported of an event tell is what became of it
+-- the outcome by the lines that are reported of an event is its outcome by the rules
 pub came_to : (e : Event) (lines : List Report) (p : Played) → IsEventPlayed e lines p → IsOutcome e (told_by lines) p
 came_to e lines p h = record {
   x = happened p.before s;

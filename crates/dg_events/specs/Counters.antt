@@ -8,7 +8,7 @@ use Rattle.dg_events.specs.Told.{Happened}
 use Rattle.dg_events.specs.declared.event_counts.EventCounts.{EventCounts}
 use Rattle.dg_events.specs.declared.event_counter.EventCounter.{EventCounter}
 
--- a number as a u64 tells it, which begins again behind the greatest one
+-- a number as a u64 holds it, which wraps after the greatest one
 abbrev pub as_u64 : ℕ → ℕ
 as_u64 n = n % 2 ^ 64
 
@@ -16,7 +16,7 @@ as_u64 n = n % 2 ^ 64
 abbrev pub told_count : (mote : ℕ) → (Happened → Bool) → List Played → ℕ
 told_count mote test played = as_u64 (count_at mote test played)
 
--- As many events at a mote as pass each of these tests, by its number.
+-- Each count is the number of the mote's events that pass the test of that number.
 pub record AreCounts (mote : ℕ) (tests : ℕ → Happened → Bool) (played : List Played) (kinds : ℕ) (counts : List ℕ) : Type 0 where
   pub long : length counts ≡ kinds
   pub each : (k : ℕ) → k < kinds → slice_index counts k ≡ told_count mote (tests k) played
@@ -43,11 +43,11 @@ no_counts = record {
   of_image = replicate 7 0;
 }
 
--- so are those of each mote
+-- the counts of each mote are those of what was played
 abbrev pub AllCounted : List EventCounts → List Played → Type 0
 AllCounted motes played = (m : ℕ) (c : EventCounts) → slice_get motes m ≡ Some c → CountsAre m played c
 
--- What was counted of all events, and of those at each mote that there may be.
+-- The counter has counted all events, and those at each mote that a script may have.
 pub record HasCounted (c : EventCounter) (played : List Played) : Type 0 where
   pub all : c.all ≡ as_u64 (count_all played)
   pub motes : length c.motes ≡ most_motes

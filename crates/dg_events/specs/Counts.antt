@@ -1,4 +1,4 @@
--- How many events of a run there were at a mote, by what became of them (docs/COMMANDS.md, "What a script costs").
+-- How many events of a run there were at a mote, by their outcomes (docs/COMMANDS.md, "What a script costs").
 use Rattle.std.specs.Prelude.{ℕ, ◌==◌, ◌&&◌, Bool, true, false, List, Option, Some, None, is_some, count_by}
 use Rattle.dg_rules.specs.Events.{mote_of}
 use Rattle.dg_rules.specs.Runs.{Played}
@@ -21,13 +21,13 @@ at mote test x = (mote_of x.event == mote) && test x
 abbrev pub count_at : (mote : ℕ) → (Happened → Bool) → List Played → ℕ
 count_at mote test played = count_by (λ (p : Played). passes (at mote test) (happening p.item p.before)) played
 
--- how many events there are, refused ones too
+-- how many events there are, refused ones included
 abbrev pub count_all : List Played → ℕ
 count_all played = count_by (λ (p : Played). is_some (happening p.item p.before)) played
 
 -- ---- tests
 
--- an event of a kind, refused ones too
+-- an event of a kind, refused or not
 abbrev pub has_kind : (kind : ℕ) → Happened → Bool
 has_kind kind x = event_number x.event == kind
 
@@ -35,11 +35,11 @@ abbrev pub is_cause : (number : ℕ) → Option Cause → Bool
 is_cause number None = false
 is_cause number (Some cause) = cause_number cause == number
 
--- one that is refused by a cause
+-- an event that is refused by a cause
 abbrev pub is_refused : (cause : ℕ) → Happened → Bool
 is_refused number x = is_cause number x.told.refused
 
--- one in which a cut fired
+-- an event in which a cut fired
 abbrev pub is_cut : Happened → Bool
 is_cut x = x.told.off
 
@@ -65,11 +65,11 @@ abbrev pub has_started : Option ℕ → Bool
 has_started None = false
 has_started (Some image) = true
 
--- a start that succeeded, of a Reset
+-- a successful start of a Reset
 abbrev pub is_start_by_power : Happened → Bool
 is_start_by_power x = is_reset x.event && has_started x.told.started
 
--- a start that succeeded, which is the restart in a Tick
+-- a successful restart in a Tick
 abbrev pub is_start_by_order : Happened → Bool
 is_start_by_order x = is_tick x.event && has_started x.told.started
 
@@ -81,6 +81,6 @@ abbrev pub is_image : (number : ℕ) → Option ℕ → Bool
 is_image number None = false
 is_image number (Some image) = image == number
 
--- a start that succeeded, after which this image runs
+-- a successful start after which this image runs
 abbrev pub is_start_of : (image : ℕ) → Happened → Bool
 is_start_of number x = is_image number x.told.started

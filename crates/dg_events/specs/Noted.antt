@@ -1,4 +1,4 @@
--- One event more in the counts of its mote (the type `EventCounts`).
+-- One more event in the counts of its mote (the type `EventCounts`).
 use Rattle.std.specs.Prelude.{◌≡◌, ℕ, ◌+◌, Bool, true, false, ◌&&◌, List, slice_index, slice_set}
 use Rattle.std.specs.Prelude.{Option, Some, None}
 use Rattle.dg_rules.specs.Runs.{Played, ItemStep}
@@ -33,7 +33,7 @@ abbrev pub up_by_cause : Option Cause → List ℕ → List ℕ
 up_by_cause None counts = counts
 up_by_cause (Some cause) counts = up_at (cause_number cause) counts
 
--- the counts after an event of which this is told
+-- the counts after an event with this outcome
 abbrev pub with_event : EventCounts → Event → Told → EventCounts
 with_event c event told = record {
   events = up_at (event_number event) c.events;
@@ -53,7 +53,7 @@ pub record IsEventPlayed (e : Event) (lines : List Report) (p : Played) : Type 0
   pub step : ItemStep p.before p.item p.after p.reports
   pub told : p.reports ≡ lines
 
--- This event was played, and this became of it.
+-- This event was played, with this outcome.
 pub record IsOutcome (e : Event) (t : Told) (p : Played) : Type 0 where
   pub x : Happened
   pub is : happening p.item p.before ≡ Some x

@@ -1,4 +1,4 @@
--- What became of an event by the rules, and what its report tells of that (docs/SCRIPTS.md, "The report").
+-- The outcome of an event by the rules, and by the lines that are reported of it (docs/SCRIPTS.md, "The report").
 use Rattle.std.specs.Prelude.{ℕ, Bool, true, false, List, Option, Some, None, option_map, fold}
 use Rattle.dg_volume.specs.Start.{Runs}
 use Rattle.dg_rules.specs.World.{World}
@@ -16,7 +16,7 @@ use Rattle.dg_events.specs.declared.told.Told.{Told}
 
 -- ---- by the rules
 
--- A cut fired in the event, or it started this, if anything.
+-- A cut fired in the event, or it started this image, if any.
 abbrev pub came_by : Bool → Option Runs → Told
 came_by fired started = record {
   refused = None;
@@ -29,7 +29,7 @@ abbrev pub came_of : Does → Option Cut → Told
 came_of (Refuses why) cut = record { refused = Some why; off = false; started = None }
 came_of (Goes d) cut = came_by (blows cut d.trail) d.started
 
--- An event that was played: what became of it, and the frame that it brought to its mote, if any.
+-- An event that was played, with its outcome and the frame that it brought to its mote, if any.
 pub record Happened : Type 0 where
   pub event : Event
   pub told : Told
@@ -38,7 +38,7 @@ pub record Happened : Type 0 where
 abbrev pub happened : World → Step → Happened
 happened w step = record { event = step.event; told = came_of (does w step.event) step.cut; brought = brought w step.event }
 
--- what happened in an item: a declaration is no event
+-- the event of an item, if it is one: a declaration is not an event
 abbrev pub happening : Item → World → Option Happened
 happening (Declares row) w = None
 happening (Applies step reported) w = Some (happened w step)
@@ -48,7 +48,7 @@ happening (Applies step reported) w = Some (happened w step)
 abbrev pub nothing_told : Told
 nothing_told = record { refused = None; off = false; started = None }
 
--- what a line tells beside the lines before it
+-- the outcome so far, with what one more line says
 abbrev pub and_line : Told → Report → Told
 and_line told (Refused mote cause) = record told { refused = Some cause }
 and_line told (Off mote) = record told { off = true }
@@ -65,6 +65,6 @@ and_line told (MoteOn mote image version) = told
 and_line told (MoteOff mote) = told
 and_line told (Kept mote image version pages) = told
 
--- what the lines that are reported of an event tell
+-- the outcome of an event, by the lines that are reported of it
 abbrev pub told_by : List Report → Told
 told_by reports = fold and_line nothing_told reports

@@ -2,7 +2,7 @@
 ghost use Rattle.std.specs.Prelude.{◌≡◌};
 ghost use Rattle.dg_events.specs.Noted.{up_at};
 
-/// One more of the kind with this number. There are never 2^64 of it.
+/// Counts one more of the kind with this number. No run has 2^64 of one kind.
 #[inline(always)]
 pub fn add_one(counts: &mut [u64], kind: usize)
     ensures { counts.new ≡ up_at kind counts.old }

@@ -13,12 +13,12 @@ use dg_base::MOST_MOTES;
 use dg_rules::Event;
 use dg_script::Report;
 
-/// What is counted of the events at motes, by what is reported of them.
+/// What is counted of the events at motes, by what is reported of each.
 #[derive(Clone, Copy)]
 pub struct EventCounter {
     /// How many events were played.
     pub all: u64,
-    /// The counts of each mote that a script may have.
+    /// The counts of each mote that a script may have, by its number.
     pub motes: [EventCounts; MOST_MOTES as usize],
 }
 
@@ -43,7 +43,7 @@ impl EventCounter {
         EventCounts::none()
     }
 
-    /// An event of this kind was played at this mote, and these lines are reported of it.
+    /// Counts an event of this kind at this mote, of which these lines are reported.
     #[inline(always)]
     pub fn note(&mut self, event: &Event, kind: usize, mote: u8, reports: &[Report])
         requires kind { kind ≡ event_number event.now }
@@ -60,7 +60,7 @@ impl EventCounter {
     }
 }
 
-/// An event of this kind was played at a mote, and these lines are reported of it. Of most events nothing is reported.
+/// Counts an event of this kind at a mote, of which these lines are reported. Of most events nothing is reported.
 #[inline(never)]
 fn note_told_at(
     motes: &mut [EventCounts],
@@ -78,7 +78,7 @@ fn note_told_at(
     note_at(motes, mote, event, kind, told);
 }
 
-/// An event of this kind was played at a mote, of which this is told.
+/// Counts an event of this kind at a mote, with its outcome.
 fn note_at(motes: &mut [EventCounts], mote: usize, event: &Event, kind: usize, told: Told)
     requires kind { kind ≡ event_number event.now }
     requires mote { mote ≡ mote_of event.now }
@@ -90,7 +90,7 @@ fn note_at(motes: &mut [EventCounts], mote: usize, event: &Event, kind: usize, t
     }
 }
 
-/// The same where nothing is told of it.
+/// Counts an event of this kind at a mote, of which nothing is reported.
 #[inline(always)]
 fn note_quiet_at(motes: &mut [EventCounts], mote: usize, event: &Event, kind: usize)
     requires kind { kind ≡ event_number event.now }

@@ -13,22 +13,22 @@ use crate::kinds::cause_kind;
 use crate::told::Told;
 use dg_rules::{Cause, Event};
 
-/// What is counted of the events at a mote. A count begins again behind the greatest `u64`, which no run reaches.
+/// What is counted of the events at a mote. A count wraps after the greatest `u64`, which no run reaches.
 #[derive(Clone, Copy)]
 pub struct EventCounts {
-    /// The events by kind, refused ones too.
+    /// The events by kind, refused ones included.
     pub events: [u64; 7],
-    /// Those that were refused, by cause.
+    /// The refused events, by cause.
     pub refused: [u64; 11],
-    /// Those in which a cut fired.
+    /// The events in which a cut fired.
     pub cuts: u64,
-    /// The starts of resets that succeeded.
+    /// The successful starts of resets.
     pub by_power: u64,
-    /// The starts in ticks that succeeded.
+    /// The successful restarts in ticks.
     pub by_order: u64,
     /// The starts of resets in which a cut fired.
     pub cut_by_power: u64,
-    /// The starts that succeeded, by the image that runs then.
+    /// The successful starts, by the image that then runs.
     pub of_image: [u64; 7],
 }
 
@@ -62,7 +62,7 @@ fn is_tick(event: &Event) -> bool
     }
 }
 
-/// This many, and one more where that is so.
+/// The count, plus one if `more` holds.
 fn up_if(count: u64, more: bool) -> u64
     ensures { result ≡ up_if more count }
 {
@@ -106,7 +106,7 @@ impl EventCounts {
         }
     }
 
-    /// An event of this kind, of which nothing is told.
+    /// Counts an event of this kind of which nothing is reported.
     #[inline(always)]
     pub fn note_quiet(&mut self, event: &Event, kind: usize)
         requires { kind ≡ event_number event.now }
@@ -115,7 +115,7 @@ impl EventCounts {
         add_one(&mut self.events, kind);
     }
 
-    /// An event of this kind, of which this is told.
+    /// Counts an event of this kind with its outcome.
     #[inline(never)]
     pub fn note(&mut self, event: &Event, kind: usize, told: Told)
         requires { kind ≡ event_number event.now }

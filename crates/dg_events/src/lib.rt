@@ -1,4 +1,4 @@
-//! What becomes of the events of a run, and how many there are of each kind at each mote.
+//! The outcomes of a run's events, and how many events of each kind there are at each mote.
 #![tactic(auto)]
 
 mod counting;

@@ -1,18 +1,18 @@
-//! What the lines that are reported of an event tell.
+//! The outcome of an event, by the lines that are reported of it.
 ghost use Rattle.std.specs.Prelude.{◌≡◌};
 ghost use Rattle.dg_events.specs.Told.{and_line, told_by};
 
 use dg_rules::Cause;
 use dg_script::Report;
 
-/// What the lines that are reported of an event tell.
+/// The outcome of an event, by the lines that are reported of it.
 #[derive(Clone, Copy)]
 pub struct Told {
-    /// It was refused.
+    /// The event was refused by this cause.
     pub refused: Option<Cause>,
-    /// A cut fired in it.
+    /// A cut fired in the event.
     pub off: bool,
-    /// It started this image.
+    /// The event started this image.
     pub started: Option<u8>,
 }
 
@@ -24,7 +24,7 @@ pub const NOTHING_TOLD: Told = Told {
 };
 
 impl Told {
-    /// What a line tells beside the lines before it.
+    /// Adds what one more line says.
     fn note(&mut self, report: &Report)
         ensures { self.new ≡ and_line self.old report.now }
     {
@@ -47,7 +47,7 @@ impl Told {
     }
 }
 
-/// What these lines tell.
+/// The outcome that these lines report.
 pub fn told_by(reports: &[Report]) -> Told
     ensures { result ≡ told_by reports.now }
 {
