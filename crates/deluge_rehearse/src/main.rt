@@ -1,5 +1,5 @@
 //! `deluge_rehearse` plays an update of a network by the clock, and writes the script of it. `rehearse` of `dg_rehearse` does
-//! all that it does.
+//! the work.
 #![tactic(auto)]
 
 ghost use Rattle.std.specs.Prelude.{IfOk};
@@ -52,26 +52,26 @@ write failed, 6 the profile's file or a chip failed, 10 the input or the script 
 
 const VERSION: &str = "deluge_rehearse 0.9\n";
 
-/// What is told of an image that cannot be injected.
+/// The message for an image that cannot be injected.
 const SIZE: &str =
     "standard input: the image is empty, or has more than 70,656 bytes; make one of 1 to 70,656";
 
-/// What is told where memory ran out.
+/// The message if memory ran out.
 const MEMORY: &str = "memory ran out; give the program more of it";
 
-/// What standard input is called.
+/// The name of standard input in messages.
 const INPUT: &str = "standard input";
 
 /// The longest profile that is read, in bytes.
 const MOST_PROFILE: u64 = 16_777_217;
 
-/// Tells a cause on standard error, and answers the status.
+/// Writes a cause to standard error, and answers the status.
 fn fail(rt: &HostRuntime, cause: &str, status: Status) -> Status {
     let _ = eprintln!(rt; "deluge_rehearse: {cause}");
     status
 }
 
-/// Tells on standard error what is wrong with an input, and what to do, and answers the status.
+/// Writes to standard error what is wrong with an input and what to do, and answers the status.
 fn bad_input(rt: &HostRuntime, place: &str, told: &Told<'_>) -> Status {
     let mut text = Vec::new(rt.alloc());
     let Ok(()) = push_sentence(rt.alloc(), &mut text, told) else {
@@ -112,7 +112,7 @@ fn profile(rt: &HostRuntime, name: &str) -> Result<NetProfile, Status>
     }
 }
 
-/// The image that comes by standard input.
+/// Reads the image from standard input.
 fn image(rt: &HostRuntime) -> Result<Vec<u8>, Status> {
     let mut input = StdSource::new(rt.stdin());
     let text = match read_whole(rt.alloc(), &mut input) {
@@ -148,7 +148,7 @@ fn boards(rt: &HostRuntime) -> Result<Vec<Board>, AllocError> {
     Ok(boards)
 }
 
-/// What a rehearsal came to: its script is written, and how it ended is told.
+/// Writes the script of a rehearsal, and says on standard error how it ended.
 fn told(rt: &HostRuntime, rehearsal: &Rehearsal) -> Status {
     let mut out = rt.stdout();
     if io::Write::write_all(&mut out, rehearsal.script.as_slice()).is_err() {

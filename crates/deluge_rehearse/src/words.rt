@@ -9,7 +9,7 @@ pub(crate) enum Asked {
     Rehearse(Rehearse),
     Help,
     Version,
-    /// The words are none that it knows, or a number is out of its range.
+    /// Unknown words, or a number that is out of range.
     Other,
 }
 
@@ -73,7 +73,7 @@ fn option_of(word: &str) -> Option<Valued> {
     }
 }
 
-/// Keeps a number, which stands once and is in its range. Answers whether it may stand there.
+/// Keeps a number. Answers whether the option comes once and the number is in its range.
 fn keep(place: &mut Option<u32>, word: &str, least: u32, most: u32) -> bool {
     let Some(number) = parse_u32(word.as_bytes()) else {
         return false;
@@ -85,7 +85,7 @@ fn keep(place: &mut Option<u32>, word: &str, least: u32, most: u32) -> bool {
     true
 }
 
-/// The same of a number of one byte.
+/// Keeps a number of one byte, in the same way.
 fn keep_small(place: &mut Option<u8>, word: &str, least: u8, most: u8) -> bool {
     let mut read = None;
     if place.is_some() || !keep(&mut read, word, u32::from(least), u32::from(most)) {
@@ -102,7 +102,7 @@ fn keep_small(place: &mut Option<u8>, word: &str, least: u8, most: u8) -> bool {
 }
 
 impl Reading {
-    /// Reads a word. Answers whether it may stand there.
+    /// Reads a word. Answers whether it is allowed there.
     fn read(&mut self, word: String) -> bool {
         match self.waits {
             Some(option) => {
@@ -113,7 +113,7 @@ impl Reading {
         }
     }
 
-    /// The value of an option.
+    /// Reads the value of an option.
     fn take(&mut self, option: Valued, word: String) -> bool {
         match option {
             Valued::Image => keep_small(&mut self.image, word.as_str(), 1, 6),
@@ -133,7 +133,7 @@ impl Reading {
         }
     }
 
-    /// An option, or the profile.
+    /// Reads an option, or the path of the profile.
     fn begin(&mut self, word: String) -> bool {
         if word.as_str() == "--order" {
             let first = !self.ordered;
@@ -186,7 +186,7 @@ impl Reading {
     }
 }
 
-/// What these words ask for, the program's name aside.
+/// What these words ask for. The first one is the program's name.
 pub(crate) fn read_words(_rt: &HostRuntime, args: Args) -> Result<Asked, AllocError> {
     let mut reading = Reading {
         image: None,

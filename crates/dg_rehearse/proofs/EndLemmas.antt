@@ -234,7 +234,7 @@ counted_full n p t turns u many all =
     let b = u.staged.is.few_events in
     omega (arith, a, b, many, all)
 
--- the end that a turn told is that of too many events
+-- the end that a turn answers is that of too many events
 pub many_ends : (e : Ending) (n : NetProfile) (p : Plan) (script : List ℕ) (s t : Staging) → e ≡ TooMany → GoesOn n p s t → IsFull t → GoesOnBy (λ more w. Ends e n p script w) n p s t
 many_ends e n p script s t is g full = subst (λ (x : Ending). GoesOnBy (λ more w. Ends x n p script w) n p s t) (sym is) (full_ends n p script s t g full)
 

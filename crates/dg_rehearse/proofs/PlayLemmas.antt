@@ -84,7 +84,7 @@ rehearses_next n p steps x w v all fits step run =
       refl,
     )
 
--- ---- the world that is kept tells the frames
+-- ---- the world that is kept has the frames
 
 frames_same : (k : KeptWorld) (b c : List Device) (w z : World) → IsWorld k b w → IsWorld k c z → w.sent ≡ z.sent
 frames_same k b c w z a d = sym a.shared.sent.frames ∙ d.shared.sent.frames
@@ -266,7 +266,7 @@ goes_nowhere n p s = record {
   events = omega arith;
 }
 
--- so it is where nothing comes next
+-- nothing more is played
 pub goes_nowhere_by : (P : List Step → World → Type 0) (n : NetProfile) (p : Plan) (s : Staging) → ((initial : List Device) (t : IsStaged n p initial s) → P [] t.world) → GoesOnBy P n p s s
 goes_nowhere_by P n p s h = record {
   goes = λ initial t. (record { staged = t; more = []; steps = sym (append-nil t.steps); frames = []; sent = sym (append-nil t.world.sent) }, h initial t);
@@ -310,7 +310,7 @@ then_ends P n p s t u a b = then_by Any (λ more w. P w) (λ more w. P w) n p s 
 pub still_under_way : (n : NetProfile) (p : Plan) (s t : Staging) → GoesOn n p s t → IsUnderWay n p s → IsUnderWay n p t
 still_under_way n p s t g u = record { allowed = u.allowed; planned = u.planned; initial = u.initial; staged = (g.goes u.initial u.staged).0.staged }
 
--- what came of two steps, the second of which may be given up
+-- the outcome of two steps, the second of which may be given up
 pub goes_to : {T E : Type 0} (r : Result T E) (n : NetProfile) (p : Plan) (s t u : Staging) → GoesOn n p s t → OnOk r (GoesOn n p t u) → OnOk r (GoesOn n p s u)
 goes_to r n p s t u a b = on_ok_weaker r (λ g. goes_then n p s t u a g) b
 

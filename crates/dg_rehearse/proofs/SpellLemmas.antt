@@ -221,7 +221,7 @@ script_read : (place : Place) (n : ℕ) (ls : List Line) → Reads place ls → 
 script_read place n [] h = script_end place n h
 script_read place n (l ∷ ls) h = script_next place n l (map line_text ls) (record { lines = ls; fault = None }) h.0 (script_read (place_after place l) (n + 1) ls h.1)
 
--- a place behind the first two lines
+-- a place after the first two lines
 abbrev behind_head : (motes : ℕ) (events : Bool) (cut : Option Cut) (links : List (ℕ × ℕ)) → Place
 behind_head motes events cut links = record { motes = motes; ready = true; events = events; cut = cut; links = links; narrow = none_narrow }
 
@@ -290,7 +290,7 @@ new_behind before l [] new apart = tt
 new_behind before l (m ∷ ms) new apart =
     (none_more (joins m.0 m.1) before l new.0 (false_from_ne_true (joins m.0 m.1 l) (λ t. apart.0 ((joins_decides l m).0 t))), new_behind before l ms new.1 apart.1)
 
--- each differs from all behind it
+-- each differs from all after it
 Pairs : List (ℕ × ℕ) → Type 0
 Pairs [] = Unit {0}
 Pairs (l ∷ ls) = AllByRecursion (Apart l) ls × Pairs ls

@@ -1,4 +1,4 @@
--- What the last lines of a world tell of each mote.
+-- What the last lines of a world say of each mote.
 use Rattle.std.proofs.Common.{◌≡◌, ◌⊎◌, ⊎_elim, inl, inr, ℕ, zero, suc, ◌+◌, ◌-◌, ◌==◌, ◌&&◌, ◌||◌, Bool, true, false, List, length, Option, Some, None, refl, sym, subst, ◌∙◌, eqb-true}
 use Rattle.std.specs.Prelude.{IsSomeAnd}
 use Rattle.std.specs.List.{list_any, flat_map, filter_map, cons_option, range_with_len}

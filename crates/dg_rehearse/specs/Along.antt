@@ -23,7 +23,7 @@ abbrev pub IsAlongItem : NetProfile → World → Item → Type 0
 IsAlongItem n w (Declares row) = Unit {0}
 IsAlongItem n w (Applies step reported) = IsAlongEvent n w step.event
 
--- what was played delivered no frame but along a link
+-- an item that was played delivered no frame except along a link
 abbrev pub IsAlong : NetProfile → Played → Type 0
 IsAlong n p = IsAlongItem n p.before p.item
 

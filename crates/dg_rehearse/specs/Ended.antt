@@ -33,17 +33,17 @@ KeepsPlanned p s = held s p.image ≡ Some (held_whole (planned_row p))
 abbrev pub RunsImage : Plan → Option Running → Type 0
 RunsImage p runs = IsSomeAnd runs (λ r. (r.image_version.image ≡ p.image) × (r.image_version.version ≡ p.version))
 
--- Every mote keeps it, and where it was ordered, runs it.
+-- Every mote keeps it and, if it was ordered, runs it.
 pub record IsComplete (n : NetProfile) (p : Plan) (w : World) : Type 0 where
   pub keeps : (m : ℕ) → m < n.motes → KeepsPlanned p (store_at w m)
   pub runs : p.ordered ≡ true → (m : ℕ) → m < n.motes → RunsImage p (site w m).runs
 
--- the bytes that a script must have left for another turn
+-- the bytes that a script must have free for another turn
 abbrev pub turn_room : ℕ
 turn_room = 16 * 64
 
--- What each ending means of the world at the end, and of the script: every mote has the image, the schedule went on for the
--- minutes that were asked for, a script has no more events, or no more room for those of a turn.
+-- What each ending means for the last world and the script: every mote has the image, the schedule lasted the minutes that
+-- were asked for, the script has as many events as it may have, or it has no room for another turn.
 abbrev pub EndsAs : Ending → NetProfile → Plan → World → (script : List ℕ) → Type 0
 EndsAs Complete n p w script = IsComplete n p w
 EndsAs OutOfTime n p w script = p.minutes * 60000 ≤ w.moment
@@ -54,28 +54,28 @@ EndsAs TooLong n p w script = most_used_bytes < length script + turn_room
 abbrev pub InjectsImage : Plan → List Step → Type 0
 InjectsImage p steps = (word : ℕ) × Contains steps (uncut (Inject p.at p.image p.version 0 word))
 
--- and ordered there, if it is to be
+-- and ordered there, if the plan says so
 abbrev pub OrdersImage : Plan → List Step → Type 0
 OrdersImage p steps = p.ordered ≡ true → (word : ℕ) × Contains steps (uncut (Order p.at 1 p.image p.version 0 word))
 
--- what is injected and ordered
+-- the steps inject the image, and order it if the plan says so
 abbrev pub HasBegun : Plan → List Step → Type 0
 HasBegun p steps = InjectsImage p steps × OrdersImage p steps
 
--- A rehearsal ended as it says, at its moment. Unless there were too many events, the image was injected, and ordered, if it
--- was to be.
+-- A rehearsal ended as it says, at its moment. Unless there were too many events, the image was injected, and ordered if the
+-- plan says so.
 pub record RehearsalEnded (n : NetProfile) (p : Plan) (initial boards : List Device) (r : Rehearsal) : Type 0 where
   pub told : Rehearsed n p initial boards r.script.items
   pub ends : EndsAs r.ending n p told.world r.script.items
   pub moment : r.moment ≡ told.world.moment
   pub begun : r.ending ≢ TooMany → HasBegun p told.steps
 
--- No frame is delivered but along a link of the profile.
+-- Frames are delivered only along links of the profile.
 pub record DeliversAlong (n : NetProfile) (p : Plan) (initial boards : List Device) (script : List ℕ) : Type 0 where
   pub told : Rehearsed n p initial boards script
   pub along : AllByRecursion (IsAlong n) told.run.played
 
--- ---- what last lines tell
+-- ---- what last lines say
 
 abbrev pub tells_kept : (m image version pages : ℕ) → Report → Bool
 tells_kept m image version pages (Kept mote i v k) = (mote == m) && ((i == image) && ((v == version) && (k == pages)))
@@ -85,7 +85,7 @@ abbrev pub tells_on : (m image version : ℕ) → Report → Bool
 tells_on m image version (MoteOn mote i v) = (mote == m) && ((i == image) && (v == version))
 tells_on m image version _ = false
 
--- lines tell that a mote keeps all pages of the image of a plan, and runs it, if it was ordered
+-- lines say that a mote keeps all pages of the image of a plan and, if it was ordered, runs it
 abbrev pub TellsOf : Plan → ℕ → List Report → Type 0
 TellsOf p m lines = (list_any (tells_kept m p.image p.version (pages_for (length p.content))) lines ≡ true)
     × (p.ordered ≡ true → list_any (tells_on m p.image p.version) lines ≡ true)
@@ -93,20 +93,20 @@ TellsOf p m lines = (list_any (tells_kept m p.image p.version (pages_for (length
 abbrev pub TellsEach : ℕ → Plan → List Report → Type 0
 TellsEach motes p lines = (m : ℕ) → m < motes → TellsOf p m lines
 
--- what an ending means, as last lines tell it
+-- what an ending means, as the last lines say it
 abbrev pub Ends : Ending → NetProfile → Plan → (script : List ℕ) → World → Type 0
 Ends Complete n p script w = TellsEach n.motes p (final_lines w)
 Ends OutOfTime n p script w = p.minutes * 60000 ≤ w.moment
 Ends TooMany n p script w = w.events ≡ most_events
 Ends TooLong n p script w = most_used_bytes < length script + turn_room
 
--- and of what is staged, where nothing comes next
+-- what it means for a staging after which nothing is played
 abbrev pub EndsNow : Ending → Plan → Staging → Type 0
 EndsNow Complete p s = ⊥
 EndsNow OutOfTime p s = p.minutes * 60000 ≤ s.moment
 EndsNow TooMany p s = ⊥
 EndsNow TooLong p s = most_used_bytes < length s.script + turn_room
 
--- it ends so, and unless there were too many events, it has begun
+-- it ends as the ending says and, unless there were too many events, it has begun
 abbrev pub EndsBegun : Ending → NetProfile → Plan → (script : List ℕ) → List Step → World → Type 0
 EndsBegun e n p script more w = Ends e n p script w × (e ≢ TooMany → HasBegun p more)

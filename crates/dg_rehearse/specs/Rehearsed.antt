@@ -1,4 +1,4 @@
--- A rehearsal: the script that was written, and the run that it tells (docs/COMMANDS.md, "Rehearsing by the clock").
+-- A rehearsal: the script that was written, and its run (docs/COMMANDS.md, "Rehearsing by the clock").
 use Rattle.std.specs.Prelude.{◌≡◌, ◌⊎◌, ℕ, ◌+◌, ◌<◌, ◌≤◌, true, false, Option, Some, None, IfSome, IsSomeAnd}
 use Rattle.std.specs.Prelude.{List, slice_get, [], ◌∷◌, ◌++◌, map, replicate, length, codes}
 use Rattle.std.specs.List.{AllByRecursion, flat_map}
@@ -37,7 +37,7 @@ use Rattle.dg_rehearse.specs.Along.{IsAlong, IsAlongEvent}
 
 -- ---- where it begins
 
--- golden of a rehearsal, and a chip that was formatted with it
+-- golden of a rehearsal, and a chip formatted with it
 abbrev pub base_row : Row
 base_row = golden_row (codes "base") (codes "A")
 
@@ -123,7 +123,7 @@ pub record Rehearses (n : NetProfile) (p : Plan) (steps : List Step) (w : World)
   pub items : map played_item played ≡ rehearsed_items p steps
   pub plays : Plays (rehearsed_world n) played w
 
--- What is planned for this many motes: an image that may be declared and injected, at one of them.
+-- A plan for this many motes: an image that may be declared, and injected into one of them.
 pub record IsPlanned (motes : ℕ) (p : Plan) : Type 0 where
   pub declared : IsDeclared (planned_row p)
   pub some : 1 ≤ length p.content
@@ -170,7 +170,7 @@ pub record IsUnderWay (n : NetProfile) (p : Plan) (s : Staging) : Type 0 where
   pub initial : List Device
   pub staged : IsStaged n p initial s
 
--- What was staged goes on: these steps were played more, and these frames were sent.
+-- A staging was continued: these further steps were played, and these frames were sent.
 pub record Onward (n : NetProfile) (p : Plan) (initial : List Device) (s : Staging) (x : IsStaged n p initial s)
     (t : Staging) : Type 0 where
   pub staged : IsStaged n p initial t
@@ -179,7 +179,7 @@ pub record Onward (n : NetProfile) (p : Plan) (initial : List Device) (s : Stagi
   pub frames : List Sent
   pub sent : staged.world.sent ≡ x.world.sent ++ frames
 
--- It goes on, whatever the boards were before, by steps to a world of which P holds.
+-- It was continued, whatever the boards were before, by steps to a world such that P holds of both.
 pub record GoesOnBy (P : List Step → World → Type 0) (n : NetProfile) (p : Plan) (s t : Staging) : Type 0 where
   pub goes : (initial : List Device) (x : IsStaged n p initial s) → (o : Onward n p initial s x t) × P o.more o.staged.world
   pub events : s.kept.events ≤ t.kept.events
@@ -190,11 +190,11 @@ Any more w = Unit {0}
 abbrev pub GoesOn : NetProfile → Plan → (s t : Staging) → Type 0
 GoesOn n p s t = GoesOnBy Any n p s t
 
--- one event more at least
+-- at least one more event was played
 abbrev pub MoreEvents : (s t : Staging) → Type 0
 MoreEvents s t = s.kept.events + 1 ≤ t.kept.events
 
--- there are no more events
+-- a million events were played, the most there may be
 abbrev pub IsFull : Staging → Type 0
 IsFull t = t.kept.events ≡ most_events
 
@@ -218,7 +218,7 @@ IsSentBy m number w = IsSomeAnd (frame_at w number) (λ f. f.by ≡ m)
 abbrev pub SentBy : ℕ → ℕ → Staging → Type 0
 SentBy m number s = (w : World) → IsWorld s.kept s.boards w → IsSentBy m number w
 
--- so was the last one, if there are more than this many
+-- if there are more than this many frames, the last one was sent by mote m
 abbrev pub LastSentBy : ℕ → (before : ℕ) → Staging → Type 0
 LastSentBy m before s = (w : World) → IsWorld s.kept s.boards w → before < length w.sent → IsSentBy m (length w.sent) w
 

@@ -37,7 +37,7 @@ fn format_first<N: Nor>(boards: &mut [N], motes: u8) -> Result<(), Halt>
     }
 }
 
-/// The motes of a profile, all off, with its links.
+/// A world with the motes of a profile, all off, and its links.
 pub(crate) fn network_of(alloc: Global, profile: &NetProfile) -> Result<World, AllocError>
     requires { IsAllowed profile.now }
     ensures { IfOk result (λ v. (boards : List Device) → profile.now.motes ≤ length boards
@@ -51,7 +51,7 @@ pub(crate) fn network_of(alloc: Global, profile: &NetProfile) -> Result<World, A
     Ok(world)
 }
 
-/// The image of a plan is declared in a world that has none.
+/// Declares the image of a plan in a world that has none.
 pub(crate) fn declare(alloc: Global, plan: &Plan, world: &mut World) -> Result<(), Halt>
     requires { (motes : ℕ) × IsPlanned motes plan.now }
     ensures { OnOk result ((boards : List Device) (w : RuleWorld) → IsWorld world.old boards w → w.declared ≡ []
@@ -65,7 +65,7 @@ pub(crate) fn declare(alloc: Global, plan: &Plan, world: &mut World) -> Result<(
     }
 }
 
-/// The lines before the first event.
+/// Writes the lines before the first event.
 pub(crate) fn write_opening(
     alloc: Global,
     profile: &NetProfile,
@@ -86,7 +86,7 @@ pub(crate) fn write_opening(
     write_line(&image, script)
 }
 
-/// The line of golden.
+/// The `golden` line.
 fn golden_line(alloc: Global) -> Result<Line, AllocError>
     ensures { IfOk result (λ line. line ≡ Golden (codes "base") 0 (codes "A")) }
 {
@@ -97,7 +97,7 @@ fn golden_line(alloc: Global) -> Result<Line, AllocError>
     })
 }
 
-/// The line of the image of a plan.
+/// The `image` line of a plan.
 fn image_line(alloc: Global, plan: &Plan) -> Result<Line, AllocError>
     ensures { IfOk result (λ line. line ≡ Image plan.now.image plan.now.version plan.now.name plan.now.content) }
 {
@@ -109,7 +109,7 @@ fn image_line(alloc: Global, plan: &Plan) -> Result<Line, AllocError>
     })
 }
 
-/// The same bytes once more.
+/// A copy of bytes.
 fn copied(alloc: Global, bytes: &Bytes) -> Result<Bytes, AllocError>
     ensures { IfOk result (λ copy. copy ≡ bytes.now) }
 {

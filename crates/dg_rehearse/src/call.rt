@@ -1,4 +1,4 @@
-//! The call.
+//! The call that rehearses.
 ghost use Rattle.std.specs.Prelude.{◌≡◌, ◌≢◌, ◌⊎◌, ◌<◌, ◌≤◌, map, length, Err, IfOk, OnOk};
 ghost use Rattle.dg_netcfg.specs.Readings.{IsAllowed};
 ghost use Rattle.dg_script.specs.Ranges.{IsDeclared};
@@ -17,7 +17,7 @@ use dg_object::{check_size, pages_of};
 use dg_rules::scripts_with_golden;
 use std::alloc::Global;
 
-/// Plays what is planned by the clock, over chips that are formatted first, and answers the script of it.
+/// Plays a plan by the clock, over chips that are formatted first, and answers the script of it.
 pub fn rehearse<N: Nor>(
     alloc: Global,
     profile: &NetProfile,
@@ -28,7 +28,7 @@ pub fn rehearse<N: Nor>(
     requires declared { IsDeclared (planned_row plan.now) }
     ensures rehearsed { IfOk result (λ r. Rehearsed profile.now plan.now (map N.device boards.old.items)
         (map N.device boards.new.items) r.script.items) }
-    // every mote has the image, or the minutes are over, or a script has no room for more
+    // every mote has the image, or the minutes ran out, or a script has no room for more
     ensures ends { IfOk result (RehearsalEnded profile.now plan.now (map N.device boards.old.items)
         (map N.device boards.new.items)) }
     ensures along { IfOk result (λ r. DeliversAlong profile.now plan.now (map N.device boards.old.items)
@@ -48,7 +48,7 @@ pub fn rehearse<N: Nor>(
     }
 }
 
-/// The same where it can be rehearsed.
+/// Plays a plan that can be rehearsed.
 fn play<N: Nor>(
     alloc: Global,
     profile: &NetProfile,
@@ -78,7 +78,7 @@ fn play<N: Nor>(
     })
 }
 
-/// Whether what is planned can be rehearsed by this many motes.
+/// Checks that this many motes can rehearse a plan.
 fn check_plan(motes: u8, plan: &Plan) -> Result<(), Stop>
     requires { IsDeclared (planned_row plan.now) }
     ensures ok { OnOk result (IsPlanned motes plan.now) }

@@ -1,4 +1,4 @@
-//! Resets whose power is cut within the start, at moments that draws choose.
+//! Resets whose power is cut within the start, at random moments.
 ghost use Rattle.std.specs.Prelude.{◌≡◌, ◌≤◌, map, Ok, OnOk, IfOk};
 ghost use Rattle.dg_script.specs.Fitting.{FitsCut};
 ghost use Rattle.dg_rehearse.specs.Rehearsed.{IsUnderWay, GoesOn, MoreEvents, IsFull, staging};
@@ -13,14 +13,14 @@ use dg_netcfg::NetProfile;
 use dg_nor::Nor;
 use std::alloc::{AllocError, Global};
 
-/// A reset with a cut comes at most so long after the one before, in milliseconds.
+/// The longest time from one reset with a cut to the next, in milliseconds.
 pub(crate) const BETWEEN_CUTS: u32 = 60_000;
 
-/// A cut is in one of this many operations of a start.
+/// A cut comes in one of the first this many operations of a start.
 const CUT_OPERATIONS: u32 = 3;
 
 impl Schedule {
-    /// A mote that draws choose is reset, and its power is cut in the start.
+    /// Resets a random mote, and cuts its power within the start.
     pub(crate) fn cut<N: Nor>(
         &mut self,
         alloc: Global,
@@ -50,7 +50,7 @@ impl Schedule {
         Ok(played)
     }
 
-    /// The cut that draws choose.
+    /// A random cut.
     fn drawn_cut(&mut self, alloc: Global) -> Result<Cut, AllocError>
         ensures { IfOk result FitsCut }
     {

@@ -1,6 +1,6 @@
-//! Rehearsals: a network by the clock, with frames that are lost and starts that are cut, and the script of what happened.
+//! Rehearsals: an update of a network simulated by the clock, with lost frames and power cuts, recorded as a script.
 //!
-//! The motes are those of a world over chips, so that a replay of the script does the same.
+//! The motes are those of a world over chips, so a replay of the script does the same.
 #![tactic(auto)]
 
 mod beginning;

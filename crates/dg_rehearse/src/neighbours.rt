@@ -16,7 +16,7 @@ pub(crate) struct Neighbours {
 }
 
 impl Neighbours {
-    /// Those that links join with a mote.
+    /// The motes that a link joins with this one.
     pub(crate) fn of(mote: u8, links: &[(u8, u8)]) -> Neighbours
         ensures mote { result.mote ≡ mote }
         ensures are { AreNeighbours result.are links.now result.mote }
@@ -41,7 +41,7 @@ impl Neighbours {
     }
 }
 
-/// The mote that a link joins with one, if it does. No link joins a mote with itself.
+/// The other end of a link, if this mote is one of its ends. No link joins a mote with itself.
 fn joined(link: (u8, u8), mote: u8) -> Option<u8>
     ensures { IfSome result (λ other. joins mote other link ≡ true) }
 {

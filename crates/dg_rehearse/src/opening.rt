@@ -1,4 +1,4 @@
-//! How a rehearsal begins: the power of each mote comes, and the image is injected.
+//! How a rehearsal begins: each mote powers on, and the image is injected.
 ghost use Rattle.std.specs.Prelude.{◌≡◌, ◌<◌, map, Ok, OnOk};
 ghost use Rattle.dg_rehearse.specs.Ended.{HasBegun, OrdersImage};
 ghost use Rattle.dg_rehearse.specs.Rehearsed.{IsUnderWay, GoesOn, GoesOnBy, IsFull, staging};
@@ -12,7 +12,7 @@ use dg_netcfg::NetProfile;
 use dg_nor::Nor;
 
 impl Schedule {
-    /// The power of each mote comes.
+    /// Powers on each mote.
     pub(crate) fn start_all<N: Nor>(
         &mut self,
         profile: &NetProfile,
@@ -30,7 +30,7 @@ impl Schedule {
         Ok(())
     }
 
-    /// The power of a mote comes.
+    /// Powers on a mote.
     fn start<N: Nor>(
         &mut self,
         mote: u8,
@@ -49,7 +49,7 @@ impl Schedule {
         self.event(event, mote, profile, plan, stage, boards)
     }
 
-    /// The image is injected, and ordered, if it is to be.
+    /// Injects the image, and orders it if the plan says so.
     pub(crate) fn inject<N: Nor>(
         &mut self,
         profile: &NetProfile,
@@ -80,7 +80,7 @@ impl Schedule {
         }
     }
 
-    /// The image is ordered where it was injected, if it is to be.
+    /// Orders the image at the mote that it was injected into, if the plan says so.
     fn order<N: Nor>(
         &mut self,
         profile: &NetProfile,

@@ -8,12 +8,12 @@ ghost use Rattle.dg_rehearse.specs.Rehearsed.{planned_row};
 use dg_base::{Bytes, MOST_CONTENT, is_name};
 use dg_script::MOST_IMAGE;
 
-/// What is rehearsed: an image that is injected into one mote of a network, and what disturbs that.
+/// What is rehearsed: an image that is injected into one mote of a network, and the losses and cuts meanwhile.
 #[derive(Debug, Drop)]
 pub struct Plan {
     /// The number of the image, 1 to 6.
     pub image: u8,
-    /// Its version, from 1 on.
+    /// Its version, 1 or greater.
     pub version: u32,
     pub name: Bytes,
     /// The bytes of the image, 1 to 70,656.
@@ -22,13 +22,13 @@ pub struct Plan {
     pub at: u8,
     /// Whether it is ordered too, so that each mote starts it.
     pub ordered: bool,
-    /// Of a hundred frames, how many are lost on their way to one neighbour.
+    /// The probability, in percent, that a frame is lost on its way to one neighbour.
     pub loss: u8,
-    /// What stands for chance: the same plan and seed give the same script.
+    /// The seed of all random draws: the same plan and seed give the same script.
     pub seed: u32,
-    /// How long it goes on at most, in minutes of the schedule.
+    /// The longest that it lasts, in minutes of the schedule.
     pub minutes: u32,
-    /// How many resets come with a cut of the power in the start.
+    /// How many resets have their power cut within the start.
     pub cuts: u32,
 }
 
@@ -58,17 +58,17 @@ fn is_content(bytes: &[u8]) -> bool
 /// How a rehearsal ended.
 #[derive(Clone, Copy, Debug, PartialEq, Eq)]
 pub enum Ending {
-    /// Every mote has the whole image, or runs it, where it was ordered.
+    /// Every mote keeps the whole image and, if it was ordered, runs it.
     Complete,
-    /// The minutes were over before that.
+    /// The minutes ran out before that.
     OutOfTime,
-    /// A script has no more events than the million that it has.
+    /// The script has a million events, the most that a script may have.
     TooMany,
-    /// A script has no more bytes.
+    /// The script has as many bytes as a script may have.
     TooLong,
 }
 
-/// A script, and how what it tells ended.
+/// The script of a rehearsal, and how the rehearsal ended.
 #[derive(Debug, Drop)]
 pub struct Rehearsal {
     pub script: Vec<u8>,

@@ -12,7 +12,7 @@ pub(crate) struct Progress {
 }
 
 impl Progress {
-    /// Nothing is kept. The image has this many pages.
+    /// No mote has anything of an image of this many pages.
     pub(crate) fn none(pages: u8) -> Progress {
         Progress {
             pages,
@@ -21,14 +21,14 @@ impl Progress {
         }
     }
 
-    /// What is reported of an event.
+    /// Notes the report lines of an event.
     pub(crate) fn note(&mut self, plan: &Plan, reports: &[Report]) {
         for report in reports {
             self.note_one(plan, report);
         }
     }
 
-    /// One report.
+    /// Notes one report line.
     fn note_one(&mut self, plan: &Plan, report: &Report) {
         match report {
             Report::Have {
@@ -56,7 +56,7 @@ impl Progress {
         }
     }
 
-    /// Whether each of the motes has the image, or runs it, where it was ordered.
+    /// Whether each of the motes has the image or, if it was ordered, runs it.
     pub(crate) fn is_complete(&self, plan: &Plan, motes: u8) -> bool {
         let done = if plan.ordered {
             &self.runs
@@ -72,7 +72,7 @@ impl Progress {
     }
 }
 
-/// Sets what is so of a mote.
+/// Sets the flag of a mote.
 fn set(of: &mut [bool; MOST_MOTES as usize], mote: u8, is: bool) {
     let mote = usize::from(mote);
     if mote < of.len() {

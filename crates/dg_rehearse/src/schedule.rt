@@ -27,7 +27,7 @@ use dg_script::MOST_EVENTS;
 use dg_seed::Draws;
 use std::alloc::Global;
 
-/// How long a mote stays off whose start was cut, in milliseconds.
+/// How long a mote stays off after its start was cut, in milliseconds.
 const OFF: u64 = 1_000;
 
 /// A script has at most 16,777,216 bytes, and a turn writes the lines of no more than sixteen events.
@@ -36,26 +36,26 @@ const MOST_SCRIPT: usize = dg_script::USED - 16 * 64;
 /// Milliseconds of a minute.
 const MINUTE: u64 = 60_000;
 
-/// What is still to come.
+/// What is still to happen.
 #[derive(Drop)]
 pub(crate) struct Schedule {
     pub(crate) draws: Draws,
     progress: Progress,
-    /// The moment before which nothing of a mote is due, or at which its power comes back.
+    /// For each mote, the moment before which nothing of it is due, or at which it powers on again.
     due: [u64; MOST_MOTES as usize],
     /// Resets with a cut that are left, and the moment of the next.
     pub(crate) cuts: u32,
     pub(crate) next_cut: u64,
 }
 
-/// What comes next, and when.
+/// Whose turn is next, and when.
 #[derive(Clone, Copy, Debug, PartialEq, Eq)]
 pub(crate) struct Next {
     pub(crate) mote: u8,
     pub(crate) moment: u64,
 }
 
-/// What comes next: the end, a reset with a cut, or a mote's turn.
+/// What happens next: the end, a reset with a cut, or the turn of a mote.
 #[derive(Clone, Copy)]
 enum Coming {
     End(Ending),
@@ -77,7 +77,7 @@ impl Schedule {
         }
     }
 
-    /// Plays all of it.
+    /// Plays the whole schedule.
     pub(crate) fn play<N: Nor>(
         &mut self,
         alloc: Global,
@@ -101,7 +101,7 @@ impl Schedule {
         }
     }
 
-    /// Turns, until it ends.
+    /// Plays turn after turn, until the rehearsal ends.
     fn play_turns<N: Nor>(
         &mut self,
         alloc: Global,
@@ -126,7 +126,7 @@ impl Schedule {
         Ok(Ending::TooMany)
     }
 
-    /// Plays what comes next, or tells how it ended.
+    /// Plays what is next, or answers how the rehearsal ended.
     fn play_next<N: Nor>(
         &mut self,
         alloc: Global,
@@ -151,7 +151,7 @@ impl Schedule {
         self.play_coming(alloc, profile, plan, stage, boards)
     }
 
-    /// Whether every mote has the image, or runs it. The chips are read where the reports told so.
+    /// Whether every mote has the image, or runs it. The chips are read only if the reports say so.
     #[tactic(auto, using(crate::proofs::PlayLemmas::goes_nowhere))]
     fn is_complete<N: Nor>(
         &self,
@@ -173,7 +173,7 @@ impl Schedule {
         stage.is_complete(profile, plan, boards)
     }
 
-    /// Plays what comes next, where it has not ended by being complete.
+    /// Plays what is next, if the rehearsal is not complete.
     #[tactic(auto, using(crate::proofs::PlayLemmas::goes_nowhere))]
     fn play_coming<N: Nor>(
         &mut self,
@@ -206,8 +206,7 @@ impl Schedule {
         }
     }
 
-    /// What comes next. Where nothing is due before the time is over, the mote of which something is due first has a turn at its
-    /// end.
+    /// What happens next. If nothing is due before the time is over, the mote that is due first has a turn at its end.
     fn coming(&self, motes: u8, plan: &Plan, stage: &Stage) -> Coming
         requires some { 1 ≤ motes }
         ensures turn { (next : Next) → result ≡ Coming.Turn next → next.mote < motes }
@@ -236,7 +235,7 @@ impl Schedule {
         })
     }
 
-    /// The mote of which something is due first, and the moment, which is not before this one.
+    /// The mote that is due first, and when: not before this moment.
     fn next(&self, motes: u8, now: u64) -> Next
         requires some { 1 ≤ motes }
         ensures { result.mote < motes }
@@ -260,7 +259,7 @@ impl Schedule {
         }
     }
 
-    /// Plays an event at a mote, and notes what came of it.
+    /// Plays an event at a mote, and notes its outcome.
     pub(crate) fn event<N: Nor>(
         &mut self,
         event: Event,
@@ -287,7 +286,7 @@ impl Schedule {
         Ok(played)
     }
 
-    /// What an event at a mote leaves to come.
+    /// Notes the outcome of an event at a mote, and when the mote is due next.
     pub(crate) fn note(&mut self, mote: u8, plan: &Plan, stage: &Stage) {
         self.progress.note(plan, &stage.reports);
         let due = match stage.world.due(mote) {
@@ -300,7 +299,7 @@ impl Schedule {
         }
     }
 
-    /// Nothing of a mote is due before this moment.
+    /// Keeps a mote from having a turn before this moment.
     pub(crate) fn rest(&mut self, mote: u8, moment: u64) {
         let mote = usize::from(mote);
         if mote < self.due.len() {
@@ -309,7 +308,7 @@ impl Schedule {
     }
 }
 
-/// What comes within the time: a reset with a cut, or a turn.
+/// What happens within the time: a reset with a cut, or a turn.
 fn coming_at(is_cut: bool, moment: u64, next: Next) -> Coming
     ensures turn { (n : Next) → result ≡ Coming.Turn n → n ≡ next }
     ensures goes_on { (e : End) → result ≢ Coming.End e }

@@ -1,4 +1,4 @@
-//! A world over chips, and the script of what happened in it so far.
+//! A world over chips, and the script of its events so far.
 ghost use Rattle.std.specs.Prelude.{◌≡◌, ◌≢◌, ◌≤◌, ◌+◌, ◌-◌, ◌^◌, ◌++◌, min, true, map, Ok, OnOk, IfOk, length};
 ghost use Rattle.dg_netcfg.specs.Readings.{IsAllowed};
 ghost use Rattle.dg_script.specs.Fitting.{FitsCut, FitsEvent};
@@ -24,12 +24,12 @@ use dg_script::{Line, Report, write_line};
 use dg_world::{FinishFault, World, WorldFault};
 use std::alloc::{AllocError, Global};
 
-/// A world over chips, and the script of what happened in it so far.
+/// A world over chips, and the script of its events so far.
 #[derive(Drop)]
 pub(crate) struct Stage {
     pub(crate) world: World,
     pub(crate) script: Vec<u8>,
-    /// What was reported of the last event.
+    /// The report lines of the last event.
     pub(crate) reports: Vec<Report>,
     /// The moment, in milliseconds.
     pub(crate) moment: u64,
@@ -43,7 +43,7 @@ pub(crate) enum Played {
 }
 
 impl Stage {
-    /// The motes of a profile, all off, over chips that were formatted with golden, and the image declared.
+    /// Sets up the motes of a profile, all off, over chips formatted with golden, and declares the image.
     pub(crate) fn set<N: Nor>(
         alloc: Global,
         profile: &NetProfile,
@@ -138,7 +138,7 @@ impl Stage {
         }
     }
 
-    /// Whether the chips and the motes tell that every mote has the image, or runs it, where it was ordered.
+    /// Whether every mote keeps the whole image and, if it was ordered, runs it: read from the chips and the motes.
     pub(crate) fn is_complete<N: Nor>(
         &mut self,
         profile: &NetProfile,
@@ -176,7 +176,7 @@ fn dt_at(event: &Event) -> u32
     }
 }
 
-/// So many milliseconds later.
+/// The moment this many milliseconds later.
 fn later(moment: u64, dt: u32) -> u64
     ensures { result ≡ min (moment + dt) (2 ^ 64 - 1) }
 {
@@ -201,7 +201,7 @@ fn write_event(event: Event, script: &mut Vec<u8>) -> Result<(), AllocError>
     write_line(&line, script)
 }
 
-/// What a fault of the world makes of a rehearsal.
+/// How a fault of the world ends a rehearsal.
 fn told(fault: WorldFault) -> Result<Played, Halt>
     ensures many { OnOk result (fault ≡ WorldFault.TooMany) }
     ensures undone { result ≢ Ok Played.Done }

@@ -1,16 +1,16 @@
 //! Why a rehearsal is given up.
 use std::alloc::AllocError;
 
-/// Why a rehearsal is given up. There is no script then.
+/// Why a rehearsal is given up. Then there is no script.
 #[derive(Clone, Copy, Debug, PartialEq, Eq)]
 pub enum Stop {
-    /// There was no memory.
+    /// Memory ran out.
     Memory,
     /// A chip stopped.
     Flash,
     /// There are fewer chips than motes.
     NoBoard,
-    /// The mote into which it should be injected is none of the network.
+    /// The network has no mote with the number of the one to inject into.
     NoMote,
     /// The image is refused: it is empty, or has more than 70,656 bytes.
     Size,
@@ -19,7 +19,7 @@ pub enum Stop {
 /// Why a rehearsal that is under way is given up.
 #[derive(Clone, Copy)]
 pub(crate) enum Halt {
-    /// There was no memory.
+    /// Memory ran out.
     Memory,
     /// A chip stopped.
     Flash,

@@ -1,4 +1,4 @@
-//! Whether the last lines of a world tell that every mote has the image.
+//! Whether the last lines of a world say that every mote has the image.
 ghost use Rattle.std.specs.Prelude.{◌≡◌, ◌≤◌, true, length};
 ghost use Rattle.std.specs.List.{list_any};
 ghost use Rattle.dg_object.specs.Sizes.{most_bytes};
@@ -9,7 +9,7 @@ use crate::plan::Plan;
 use dg_object::pages_of;
 use dg_script::Report;
 
-/// Whether lines tell that each of this many motes keeps all pages of the image, and runs it, where it was ordered.
+/// Whether lines say that each of this many motes keeps all pages of the image and, if it was ordered, runs it.
 pub(crate) fn all_have(reports: &[Report], motes: u8, plan: &Plan) -> bool
     requires fits { length plan.now.content ≤ most_bytes }
     ensures { result ≡ true → TellsEach motes plan.now reports.now }
@@ -23,7 +23,7 @@ pub(crate) fn all_have(reports: &[Report], motes: u8, plan: &Plan) -> bool
     true
 }
 
-/// The same of a mote, where the image has this many pages.
+/// Whether lines say so of one mote. The image has this many pages.
 fn has(reports: &[Report], mote: u8, plan: &Plan, pages: u8) -> bool
     requires pages { pages ≡ pages_for (length plan.now.content) }
     ensures { result ≡ true → TellsOf plan.now mote reports.now }
@@ -32,7 +32,7 @@ fn has(reports: &[Report], mote: u8, plan: &Plan, pages: u8) -> bool
         && (!plan.ordered || runs(reports, mote, plan.image, plan.version))
 }
 
-/// Whether a line tells that a mote keeps this many pages of this version of an image.
+/// Whether a line says that a mote keeps this many pages of this version of an image.
 fn keeps(reports: &[Report], mote: u8, image: u8, version: u32, pages: u8) -> bool
     ensures { result ≡ list_any (tells_kept mote image version pages) reports.now }
 {
@@ -41,7 +41,7 @@ fn keeps(reports: &[Report], mote: u8, image: u8, version: u32, pages: u8) -> bo
         .any(|report| tells_kept(report, mote, image, version, pages))
 }
 
-/// Whether a line tells that a mote runs this version of an image.
+/// Whether a line says that a mote runs this version of an image.
 fn runs(reports: &[Report], mote: u8, image: u8, version: u32) -> bool
     ensures { result ≡ list_any (tells_on mote image version) reports.now }
 {
@@ -50,7 +50,7 @@ fn runs(reports: &[Report], mote: u8, image: u8, version: u32) -> bool
         .any(|report| tells_on(report, mote, image, version))
 }
 
-/// Whether this line does.
+/// Whether this line says that a mote keeps that many pages of the version.
 fn tells_kept(report: &Report, by: u8, of: u8, in_version: u32, count: u8) -> bool
     ensures { result ≡ tells_kept by of in_version count report.now }
 {
@@ -65,7 +65,7 @@ fn tells_kept(report: &Report, by: u8, of: u8, in_version: u32, count: u8) -> bo
     }
 }
 
-/// Whether this line does.
+/// Whether this line says that a mote runs the version.
 fn tells_on(report: &Report, by: u8, of: u8, in_version: u32) -> bool
     ensures { result ≡ tells_on by of in_version report.now }
 {

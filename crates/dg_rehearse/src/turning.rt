@@ -1,4 +1,4 @@
-//! A turn of a mote: its event, who hears its frame, and what that ends.
+//! A turn of a mote: its event, and who hears its frame.
 ghost use Rattle.std.specs.Prelude.{◌≡◌, ◌≤◌, ◌<◌, ℕ, List, true, map, Ok, OnOk, Some, None};
 ghost use Rattle.dg_netcfg.specs.declared.profile.NetProfile.{NetProfile as Profile};
 ghost use Rattle.dg_rules.specs.Events.{mote_of};
@@ -18,7 +18,7 @@ use dg_netcfg::NetProfile;
 use dg_nor::Nor;
 
 impl Schedule {
-    /// A mote has its turn: it ticks, or its power comes back.
+    /// Gives a mote its turn: it ticks or, if it is off, powers on again.
     pub(crate) fn turn<N: Nor>(
         &mut self,
         next: Next,
@@ -49,7 +49,7 @@ impl Schedule {
         }
     }
 
-    /// The frame that a mote sent, if there are more than before, is heard by each neighbour that it reaches.
+    /// If a mote sent a frame, that is, if there are more frames than before, lets each neighbour hear it that it reaches.
     #[tactic(auto, using(crate::proofs::PlayLemmas::goes_nowhere))]
     fn deliver<N: Nor>(
         &mut self,
@@ -83,7 +83,7 @@ impl Schedule {
         Ok(Played::Done)
     }
 
-    /// A frame is heard by a mote, if it reaches it.
+    /// Lets a mote hear a frame, if the frame reaches it.
     #[tactic(auto, using(crate::proofs::PlayLemmas::goes_nowhere))]
     fn hear<N: Nor>(
         &mut self,
@@ -128,7 +128,7 @@ impl Schedule {
     }
 }
 
-/// The event of a mote's turn: a tick where it is on, else the reset by which its power comes back.
+/// The event of a mote's turn: a tick if it is on, and otherwise the reset by which it powers on.
 pub(crate) fn event_of_turn(is_on: bool, mote: u8, dt: u32, word: u32) -> Event
     ensures fits { (motes : ℕ) → mote < motes → IsRehearsed motes result }
     ensures mote { mote_of result ≡ mote }
@@ -146,7 +146,7 @@ pub(crate) fn since(from: u64, to: u64) -> u32 {
     to.saturating_sub(from).min(u64::from(u32::MAX)) as u32
 }
 
-/// What ends a rehearsal in which an event was played, or was one too many.
+/// How an event ends a rehearsal, if it was one too many.
 pub(crate) fn ending_of(played: Played) -> Option<Ending>
     ensures none { result ≡ None → played ≡ Played.Done }
     ensures many { (e : End) → result ≡ Some e → (e ≡ End.TooMany) × (played ≡ Played.TooMany) }

@@ -2,7 +2,7 @@ use Rattle.std.proofs.Common.{◌≤◌, map}
 use Rattle.dg_rehearse.specs.Rehearsed.{GoesOn, staging}
 use Rattle.dg_rehearse.proofs.schedule.Schedule.play_turns.Given as goal
 
--- each turn had an event at least
+-- each turn had at least one event
 abbrev pub invariant-loop : goal.invariant-loop
 invariant-loop g l = record {
   goes : GoesOn l.profile l.plan (staging l.initial.stage (map g.N.Nor.device l.initial.boards.items)) (staging l.stage (map g.N.Nor.device l.boards.items));
