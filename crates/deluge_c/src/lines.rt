@@ -3,7 +3,7 @@ ghost use Rattle.std.specs.Prelude.{◌≡◌, ◌≢◌, ◌↔◌, ◌⊎◌, 
 ghost use Rattle.arrayvec.specs.ArrayVec.{array_vec_len};
 ghost use Rattle.dg_base.specs.Sizes.{longest_frame};
 ghost use Rattle.dg_serial.specs.Line.{items, stuffed, escaped, stuffed_byte, HasNoFlag};
-ghost use Rattle.dg_serial.specs.Line.{Item, Frame, Escape, Long};
+ghost use Rattle.dg_serial.specs.Line.{SerialItem, Frame, Escape, Long};
 ghost use Rattle.dg_serial.specs.Reading.{reading_behind};
 ghost use Rattle.dg_serial.specs.Sizes.{flag_byte};
 ghost use Rattle.deluge_c.specs.Answers.{done};

@@ -9,8 +9,8 @@ use Rattle.std.proofs.lemmas.Nat.Bits.{bit_at-lt}
 use Rattle.std.specs.Cmp.Lexicographic.{pointwise, bytes_decides}
 use Rattle.std.specs.Int.{bit_at}
 use Rattle.std.specs.FinSet as set
-use Rattle.dg_bits.specs.Sets.{Numbers, AllBelow, IsLeast, same}
-use Rattle.dg_bits.specs.ByteForm.{is_marked, numbers_of, bit_of, byte_of, byte_form, IsPacked}
+use Rattle.dg_bits.specs.Sets.{Numbers, AllBelow, IsLeast, are_same_sets}
+use Rattle.dg_bits.specs.ByteForm.{is_marked, numbers_of, bit_in_set, byte_of, byte_form, IsPacked}
 pub use Rattle.dg_bits.specs.ModelLaws.{unmarked_past, contains-numbers_of, byte_form-numbers_of}
 use Rattle.dg_bits.specs.ModelLaws.{same_numbers, same_decides, no_bit, weights, byte_of-numbers_of}
 use Rattle.dg_bits.proofs.SetLaws.{contains-none, up_to, len-up_to_in, len-up_to_out}
@@ -137,7 +137,7 @@ counts_byte bytes k =
 
 -- ---- from a set to bytes
 
-bit_of-lt : (s : Numbers) (n : ℕ) → bit_of s n < 2
+bit_of-lt : (s : Numbers) (n : ℕ) → bit_in_set s n < 2
 bit_of-lt s n = cond_both (set.contains s n) 1 0 (λ x. x < 2) (λ _. omega arith) (λ _. omega arith)
 
 bit_of-is : (b : Bool) → eqb (cond b 1 0) 1 ≡ b
@@ -156,11 +156,11 @@ module _ (bit : ℕ → ℕ) (h0 : bit 0 < 2) (h1 : bit 1 < 2) (h2 : bit 2 < 2) 
   bit_at-weights (suc (suc (suc (suc (suc (suc (suc zero))))))) lt = omega arith
   bit_at-weights (suc (suc (suc (suc (suc (suc (suc (suc r)))))))) lt = absurd (omega arith)
 
-bit_at-byte_of : (s : Numbers) (k r : ℕ) → r < 8 → bit_at (byte_of s k) (7 - r) ≡ bit_of s (8 * k + r)
+bit_at-byte_of : (s : Numbers) (k r : ℕ) → r < 8 → bit_at (byte_of s k) (7 - r) ≡ bit_in_set s (8 * k + r)
 unfolding byte_of
 bit_at-byte_of s k r lt =
-    ap (λ n. bit_at (128 * bit_of s n + 64 * bit_of s (8 * k + 1) + 32 * bit_of s (8 * k + 2) + 16 * bit_of s (8 * k + 3) + 8 * bit_of s (8 * k + 4) + 4 * bit_of s (8 * k + 5) + 2 * bit_of s (8 * k + 6) + bit_of s (8 * k + 7)) (7 - r)) first
-    ∙ bit_at-weights (λ i. bit_of s (8 * k + i)) (bit_of-lt s (8 * k + 0)) (bit_of-lt s (8 * k + 1)) (bit_of-lt s (8 * k + 2)) (bit_of-lt s (8 * k + 3)) (bit_of-lt s (8 * k + 4)) (bit_of-lt s (8 * k + 5)) (bit_of-lt s (8 * k + 6)) (bit_of-lt s (8 * k + 7)) r lt
+    ap (λ n. bit_at (128 * bit_in_set s n + 64 * bit_in_set s (8 * k + 1) + 32 * bit_in_set s (8 * k + 2) + 16 * bit_in_set s (8 * k + 3) + 8 * bit_in_set s (8 * k + 4) + 4 * bit_in_set s (8 * k + 5) + 2 * bit_in_set s (8 * k + 6) + bit_in_set s (8 * k + 7)) (7 - r)) first
+    ∙ bit_at-weights (λ i. bit_in_set s (8 * k + i)) (bit_of-lt s (8 * k + 0)) (bit_of-lt s (8 * k + 1)) (bit_of-lt s (8 * k + 2)) (bit_of-lt s (8 * k + 3)) (bit_of-lt s (8 * k + 4)) (bit_of-lt s (8 * k + 5)) (bit_of-lt s (8 * k + 6)) (bit_of-lt s (8 * k + 7)) r lt
   where
     first : 8 * k ≡ 8 * k + 0
     first = omega arith
@@ -191,7 +191,7 @@ unfolding is_marked
 is_marked-byte_form width s n h =
     let whole : 8 * (n / 8) + n % 8 ≡ n = omega arith in
     ap (λ x. eqb (bit_at x (7 - n % 8)) 1) (get_or-byte_form width s (n / 8) (omega arith))
-    ∙ ap (λ x. eqb x 1) (bit_at-byte_of s (n / 8) (n % 8) (omega arith) ∙ ap (bit_of s) whole)
+    ∙ ap (λ x. eqb x 1) (bit_at-byte_of s (n / 8) (n % 8) (omega arith) ∙ ap (bit_in_set s) whole)
     ∙ bit_of-is (set.contains s n)
 
 past_all : (width n : ℕ) (b : Bool) → (b ≡ true → n < 8 * width) → 8 * width ≤ n → false ≡ b
@@ -226,7 +226,7 @@ empty_zeros size bytes s packed e =
     (lists_decide bytes (zeros 9))
 
 -- the test of equal bytes is that of equal sets
-pub same-packed : (size : ℕ) (a b : List ℕ) → IsPacked size a → IsPacked size b → pointwise eqb a b ≡ same (numbers_of a) (numbers_of b)
+pub same-packed : (size : ℕ) (a b : List ℕ) → IsPacked size a → IsPacked size b → pointwise eqb a b ≡ are_same_sets (numbers_of a) (numbers_of b)
 same-packed size a b pa pb =
     same_from_decides _ _
     (Decides-like _ (ap numbers_of) (same_packed size a b pa pb) (lists_decide a b))
@@ -270,7 +270,7 @@ pub IsPacked-padded : (size : ℕ) (bytes : List ℕ) → 1 ≤ size → size �
 IsPacked-padded size bytes some fits e fit none =
     record {
       width = length-append bytes _ ∙ ap (λ n. length bytes + n) (length-drop (length bytes) (zeros 9)) ∙ whole;
-      bytes_fit = λ k. let same : get_or (padded bytes) k 0 ≡ get_or bytes k 0 = byte_of_padded bytes (drop (length bytes) (zeros 9)) (no_byte_after (length bytes)) k in omega (arith, fit k);
+      bytes_fit = λ k. let are_same_sets : get_or (padded bytes) k 0 ≡ get_or bytes k 0 = byte_of_padded bytes (drop (length bytes) (zeros 9)) (no_byte_after (length bytes)) k in omega (arith, fit k);
       within = λ q past. is_marked-padded bytes q ∙ elim (cases_lt q (8 * length bytes)) [ inl h ↦ none q past h | inr h ↦ unmarked_past bytes q h ];
       not_empty = some;
       not_over = fits;

@@ -16,14 +16,14 @@ unfoldable pub numbers_of : List ℕ → Numbers
 numbers_of bytes = set.from_list (filter (is_marked bytes) (range_with_len 0 (8 * length bytes)))
 
 -- 1 if the number is in the set
-abbrev pub bit_of : Numbers → ℕ → ℕ
-bit_of s n = if set.contains s n then 1 else 0
+abbrev pub bit_in_set : Numbers → ℕ → ℕ
+bit_in_set s n = if set.contains s n then 1 else 0
 
 -- byte k has a bit for each number from 8k to 8k + 7, the highest first
 unfoldable pub byte_of : Numbers → ℕ → ℕ
 byte_of s k =
-    128 * bit_of s (8 * k) + 64 * bit_of s (8 * k + 1) + 32 * bit_of s (8 * k + 2) + 16 * bit_of s (8 * k + 3)
-    + 8 * bit_of s (8 * k + 4) + 4 * bit_of s (8 * k + 5) + 2 * bit_of s (8 * k + 6) + bit_of s (8 * k + 7)
+    128 * bit_in_set s (8 * k) + 64 * bit_in_set s (8 * k + 1) + 32 * bit_in_set s (8 * k + 2) + 16 * bit_in_set s (8 * k + 3)
+    + 8 * bit_in_set s (8 * k + 4) + 4 * bit_in_set s (8 * k + 5) + 2 * bit_in_set s (8 * k + 6) + bit_in_set s (8 * k + 7)
 
 -- the set as this many bytes
 unfoldable pub byte_form : ℕ → Numbers → List ℕ

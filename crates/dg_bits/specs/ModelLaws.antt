@@ -12,16 +12,16 @@ use Rattle.std.specs.Cmp.{IsEquivalence, IsPartialEquivalence, decided, partial_
 use Rattle.std.specs.Int.{bit_at}
 use Rattle.std.specs.List.{range_with_len, list_any}
 use Rattle.std.specs.FinSet as set
-use Rattle.dg_bits.specs.Sets.{Numbers, same}
-use Rattle.dg_bits.specs.ByteForm.{is_marked, numbers_of, bit_of, byte_of, byte_form}
+use Rattle.dg_bits.specs.Sets.{Numbers, are_same_sets}
+use Rattle.dg_bits.specs.ByteForm.{is_marked, numbers_of, bit_in_set, byte_of, byte_form}
 
 -- two sets with the same numbers are equal
 pub same_numbers : (s t : Numbers) → ((q : ℕ) → set.contains s q ≡ set.contains t q) → s ≡ t
 same_numbers s t each = set.same_set nat_cmp_total set.nat_cmp-IsAntisymmetric s t each
 
 -- the test of equal sets
-pub same_decides : (s t : Numbers) → Decides (same s t) (s ≡ t)
-unfolding same
+pub same_decides : (s t : Numbers) → Decides (are_same_sets s t) (s ≡ t)
+unfolding are_same_sets
 same_decides s t = (
   λ is.
       let parts = and_parts _ _ is in
@@ -38,10 +38,10 @@ same_decides s t = (
     same_tests false true there back = back refl
     same_tests false false there back = refl
 
-pub same_equivalence : IsEquivalence same
-same_equivalence = decided same same_decides
+pub same_equivalence : IsEquivalence are_same_sets
+same_equivalence = decided are_same_sets same_decides
 
-pub same_partial : IsPartialEquivalence same
+pub same_partial : IsPartialEquivalence are_same_sets
 same_partial = partial_equiv_from_equiv same_equivalence
 
 range_none : (lo q : ℕ) → false ≡ (leb lo q && ltb q (lo + 0))
@@ -87,14 +87,15 @@ bit_back : (x : ℕ) → x < 2 → cond (eqb x 1) 1 0 ≡ x
 bit_back x h = grind (arith, nat_tests)
 
 bit_of-placed : (bytes : List ℕ) (n k r : ℕ) → n / 8 ≡ k → n % 8 ≡ r
-    → bit_of (numbers_of bytes) n ≡ bit_at (get_or bytes k 0) (7 - r)
+    → bit_in_set (numbers_of bytes) n ≡ bit_at (get_or bytes k 0) (7 - r)
 unfolding is_marked
 bit_of-placed bytes n k r place at =
     ap (λ b. cond b 1 0) (contains-numbers_of bytes n)
     ∙ bit_back (bit_at (get_or bytes (n / 8) 0) (7 - n % 8)) (bit_at-lt (get_or bytes (n / 8) 0) (7 - n % 8))
     ∙ (λ i. bit_at (get_or bytes (place i) 0) (7 - at i))
 
-bit_of-numbers_of : (bytes : List ℕ) (k r : ℕ) → r < 8 → bit_of (numbers_of bytes) (8 * k + r) ≡ bit_at (get_or bytes k 0) (7 - r)
+bit_of-numbers_of : (bytes : List ℕ) (k r : ℕ) → r < 8
+    → bit_in_set (numbers_of bytes) (8 * k + r) ≡ bit_at (get_or bytes k 0) (7 - r)
 bit_of-numbers_of bytes k r lt = bit_of-placed bytes (8 * k + r) k r (omega arith) (omega arith)
 
 pub byte_of-numbers_of : (bytes : List ℕ) (k : ℕ) → get_or bytes k 0 < 256 → get_or bytes k 0 ≡ byte_of (numbers_of bytes) k
@@ -109,7 +110,7 @@ byte_of-numbers_of bytes k h =
     let e6 = bit_of-numbers_of bytes k 6 (omega arith) in
     let e7 = bit_of-numbers_of bytes k 7 (omega arith) in
     eight_bits (get_or bytes k 0) h
-    ∙ sym (λ i. 128 * (ap (bit_of (numbers_of bytes)) first ∙ e0) i + 64 * e1 i + 32 * e2 i + 16 * e3 i + 8 * e4 i + 4 * e5
+    ∙ sym (λ i. 128 * (ap (bit_in_set (numbers_of bytes)) first ∙ e0) i + 64 * e1 i + 32 * e2 i + 16 * e3 i + 8 * e4 i + 4 * e5
     i + 2 * e6 i + e7 i)
   where
     first : 8 * k ≡ 8 * k + 0

@@ -36,5 +36,5 @@ unfoldable pub least : Numbers → Option ℕ
 least s = smallest (set.items s)
 
 -- whether two sets have the same numbers
-unfoldable pub same : Numbers → Numbers → Bool
-same s t = set.is_subset s t && set.is_subset t s
+unfoldable pub are_same_sets : Numbers → Numbers → Bool
+are_same_sets s t = set.is_subset s t && set.is_subset t s

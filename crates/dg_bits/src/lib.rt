@@ -44,10 +44,10 @@ impl<const N: usize> Model for PageBits<N> {
 }
 
 impl<const N: usize> PartialEq for PageBits<N> {
-    ghost use Rattle.dg_bits.specs.Sets.{same};
+    ghost use Rattle.dg_bits.specs.Sets.{are_same_sets};
     ghost use Rattle.dg_bits.specs.ModelLaws.{same_partial};
 
-    ghost eq = { same };
+    ghost eq = { are_same_sets };
 
     ghost laws = { same_partial };
 

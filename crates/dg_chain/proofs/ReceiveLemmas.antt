@@ -11,7 +11,7 @@ use Rattle.dg_slot.specs.Fits.{may_seal}
 use Rattle.dg_slot.specs.Jobs.{SlotStops}
 use Rattle.dg_chain.specs.Checking.{is_same}
 use Rattle.dg_chain.specs.Answers.{chained_trail, SealsChained}
-use Rattle.dg_chain.specs.Receiving.{fill_operations, receive_page_trail, Receives}
+use Rattle.dg_chain.specs.Receiving.{fill_operations, receive_page_trail, ReceivesDataPage}
 use Rattle.dg_chain.specs.declared.sealing.ChainSealing.{ChainSealing}
 use Rattle.dg_chain.specs.declared.sealing.ChainSealing.TheVariants.{Sealed, Foreign, Bad}
 
@@ -71,12 +71,12 @@ sealing_stops expected image i h page made a b c e f ran stops =
 
 -- ---- what it returns
 
-received_by : (expected : List ℕ) (image : ℕ) (h : Held) (page : List ℕ) (a b c : Device) (answer : ChainSealing) → Ran 49 a b → SealsChained expected image h page b c answer → Receives expected image h page a c answer
+received_by : (expected : List ℕ) (image : ℕ) (h : Held) (page : List ℕ) (a b c : Device) (answer : ChainSealing) → Ran 49 a b → SealsChained expected image h page b c answer → ReceivesDataPage expected image h page a c answer
 received_by expected image h page a b c (Sealed o next) ran seals = (seals.0, seals.1, seals.2.0, seals.2.1, Ran_then ran seals.2.2)
 received_by expected image h page a b c (Foreign found o) ran seals = (seals.0, seals.1, seals.2, Ran_then ran seals.3.ran)
 received_by expected image h page a b c (Bad kept found o) ran seals = (seals.0, seals.1.0, seals.1.1, seals.1.2, seals.1.3, Ran_then ran seals.1.4.ran)
 
-pub received : (expected : List ℕ) (image i : ℕ) (h : Held) (page made : List ℕ) (a b c : Device) (answer : ChainSealing) → i ≡ image → made ≡ page → Ran 49 a b → SealsChained expected i h made b c answer → Receives expected image h page a c answer
+pub received : (expected : List ℕ) (image i : ℕ) (h : Held) (page made : List ℕ) (a b c : Device) (answer : ChainSealing) → i ≡ image → made ≡ page → Ran 49 a b → SealsChained expected i h made b c answer → ReceivesDataPage expected image h page a c answer
 received expected image i h page made a b c answer e f ran seals =
     let first : SealsChained expected image h made b c answer = subst (λ (n : ℕ). SealsChained expected n h made b c answer) e seals in
     received_by expected image h page a b c answer ran (subst (λ (l : List ℕ). SealsChained expected image h l b c answer) f first)

@@ -28,11 +28,11 @@ receive_page_trail expected image h page =
     else resting h fill_operations
 
 -- what the receipt of a data page returns
-abbrev pub Receives : (expected : List ℕ) → ℕ → Held → List ℕ → Device → Device → ChainSealing → Type 0
-Receives expected image h page old new (Sealed o next) = (sha256 page ≡ expected) × (next ≡ field_of page)
+abbrev pub ReceivesDataPage : (expected : List ℕ) → ℕ → Held → List ℕ → Device → Device → ChainSealing → Type 0
+ReceivesDataPage expected image h page old new (Sealed o next) = (sha256 page ≡ expected) × (next ≡ field_of page)
     × (may_seal image h page ≡ true) × IsOpen new.image o (with_page h page) × Ran seal_operations old new
-Receives expected image h page old new (Foreign found o) =
+ReceivesDataPage expected image h page old new (Foreign found o) =
     (found ≡ sha256 page) × (found ≢ expected) × IsOpen new.image o h × Ran fill_operations old new
-Receives expected image h page old new (Bad kept found o) =
+ReceivesDataPage expected image h page old new (Bad kept found o) =
     (sha256 page ≡ expected) × (kept ≡ kept_crc h) × (found ≡ crc_of page) × (found ≢ kept) × IsOpen new.image o h
     × Ran fill_operations old new

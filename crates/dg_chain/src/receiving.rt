@@ -5,7 +5,7 @@ ghost use Rattle.dg_slot.specs.Layout.{header_sector, slot_end};
 ghost use Rattle.dg_slot.specs.Kept.{Held};
 ghost use Rattle.dg_slot.specs.Jobs.{IsOpen, outline_of_slot, SlotStops};
 ghost use Rattle.dg_chain.specs.Answers.{chained_slot};
-ghost use Rattle.dg_chain.specs.Receiving.{receive_page_trail, Receives};
+ghost use Rattle.dg_chain.specs.Receiving.{receive_page_trail, ReceivesDataPage};
 
 use crate::DIGEST_SIZE;
 use crate::sealing::{ChainSealing, seal_chained};
@@ -24,7 +24,7 @@ pub fn receive_page<N: Nor>(
     requires fits { (h : Held) × IsOpen (N.device nor.old).image slot h × (length h.complete < h.pages)
         × (1 ≤ length h.complete) }
     ensures received { IfOk result (λ answer. (h : Held) → IsOpen (N.device nor.old).image slot h
-        → Receives expected.now (outline_of_slot slot).image h page.now (N.device nor.old) (N.device nor.new) answer) }
+        → ReceivesDataPage expected.now (outline_of_slot slot).image h page.now (N.device nor.old) (N.device nor.new) answer) }
     // the slot that is returned is this one
     ensures same { IfOk result (λ answer. outline_of_slot (chained_slot answer) ≡ outline_of_slot slot) }
     ensures same_reference { (N.device nor.new).references ≡ (N.device nor.old).references }

@@ -19,7 +19,7 @@ use Rattle.dg_end.specs.Lines.{Outcome}
 use Rattle.dg_end.specs.Writes.{WritesLast, WritesAnswer}
 use Rattle.dg_end.proofs.AnswerLemmas.{answered_done}
 use Rattle.dg_end.specs.declared.ends.End.TheVariants as ends
-use Rattle.dg_tool.specs.Endings.{VerbEnding, Reading, Acting, no_board, outcome_of, by_boards}
+use Rattle.dg_tool.specs.Endings.{VerbEnding, Reading, Acting, no_board, outcome_of, verb_by_boards}
 use Rattle.dg_tool.specs.Done.{NeedsBoard, EndsAs}
 use Rattle.dg_tool.specs.inner.OneBoard.{OnStore}
 use Rattle.dg_tool.proofs.BoardLemmas.{by_some, written_back}
@@ -108,13 +108,13 @@ boards_by true ending text e = e
 boards_by false ending text e = absurd cc
 
 -- a check that ends well found pages that pass
-pub done_fine : (boards image : ℕ) (root : List ℕ) (s : Store) (h : Held) (text : List ℕ) → held s image ≡ Some h → Ok text ≡ outcome_of (by_boards boards (check_on image root (Some s))) → (n : ℕ) × (answer_of root (drop 1 h.complete) ≡ Fine n)
+pub done_fine : (boards image : ℕ) (root : List ℕ) (s : Store) (h : Held) (text : List ℕ) → held s image ≡ Some h → Ok text ≡ outcome_of (verb_by_boards boards (check_on image root (Some s))) → (n : ℕ) × (answer_of root (drop 1 h.complete) ≡ Fine n)
 done_fine boards image root s h text here caused =
     let f : Ok text ≡ outcome_of (check_by root (held s image)) = boards_by (nat_lt 0 boards) (check_by root (held s image)) text caused in
     whole_by (length h.complete == h.pages) root h text (subst (λ (o : Option Held). Ok text ≡ outcome_of (check_by root o)) here f)
 
 -- a check of pages that pass has to report their length
-pub own_ending : (boards image : ℕ) (root : List ℕ) (s : Store) (h : Held) (n : ℕ) → 1 ≤ boards → held s image ≡ Some h → length h.complete ≡ h.pages → answer_of root (drop 1 h.complete) ≡ Fine n → by_boards boards (check_on image root (Some s)) ≡ Acting (Ok (chain_text n))
+pub own_ending : (boards image : ℕ) (root : List ℕ) (s : Store) (h : Held) (n : ℕ) → 1 ≤ boards → held s image ≡ Some h → length h.complete ≡ h.pages → answer_of root (drop 1 h.complete) ≡ Fine n → verb_by_boards boards (check_on image root (Some s)) ≡ Acting (Ok (chain_text n))
 own_ending boards image root s h n some here whole fine =
     by_some boards (check_by root (held s image)) (omega (arith, some))
     ∙ ap (check_by root) here ∙ whole_is root h whole ∙ ap answered fine

@@ -20,7 +20,7 @@ use Rattle.dg_volume.proofs.BehindLemmas.{told_but, slot_same}
 use Rattle.dg_volume.proofs.CompareLemmas.{bytes_same, bytes_other}
 use Rattle.dg_volume.proofs.PageLemmas.{may_crc}
 use Rattle.dg_volume.proofs.PagedLemmas.{page_mounted, page_acted, page_stops, fill_stops}
-use Rattle.dg_chain.specs.Receiving.{fill_operations, receive_page_trail, Receives}
+use Rattle.dg_chain.specs.Receiving.{fill_operations, receive_page_trail, ReceivesDataPage}
 use Rattle.dg_chain.specs.declared.sealing.ChainSealing.TheVariants.{Sealed, Foreign, Bad}
 use Rattle.dg_chain_tool.specs.inner.Filling.{fits_root, next_trail}
 
@@ -32,12 +32,12 @@ module _ (a b : Device) (v v1 w : Volume) (s : Store) (i : ℕ) (h : Held) (expe
   touched : Touches (header_sector i) (slot_end i) a.image b.image
   touched = subst (λ (n : ℕ). Touches (header_sector n) (slot_end n) a.image b.image) there touches
 
-  pub sealed_next : (o : OpenSlot) (next : List ℕ) → (outline_of_slot o).image ≡ i → Receives expected (outline_of_slot slot).image h page a b (Sealed o next) → Back b.image v1 w o
+  pub sealed_next : (o : OpenSlot) (next : List ℕ) → (outline_of_slot o).image ≡ i → ReceivesDataPage expected (outline_of_slot slot).image h page a b (Sealed o next) → Back b.image v1 w o
       → (fits_root expected page ≡ true) × Acted (stepping s page_operations (paged i page s)) a b w
   sealed_next o next image r back =
       (bytes_same (sha256 page) expected r.0, page_acted a b w s (paged i page s) r.4 (page_mounted a.image b.image v1 w s i h page o not_golden known image here touched r.3 lent back))
 
-  pub foreign_next : (o : OpenSlot) (found : List ℕ) → (outline_of_slot o).image ≡ i → Receives expected (outline_of_slot slot).image h page a b (Foreign found o) → Back b.image v1 w o
+  pub foreign_next : (o : OpenSlot) (found : List ℕ) → (outline_of_slot o).image ≡ i → ReceivesDataPage expected (outline_of_slot slot).image h page a b (Foreign found o) → Back b.image v1 w o
       → (fits_root expected page ≡ false) × Acted (resting s fill_operations) a b w
   foreign_next o found image r back =
       let keeps : KeepsImage b.image i h = subst (λ (n : ℕ). KeepsImage b.image n h) image r.2.keeps in
@@ -47,7 +47,7 @@ module _ (a b : Device) (v v1 w : Volume) (s : Store) (i : ℕ) (h : Held) (expe
         record { ran = subst (λ (n : ℕ). Ran n a b) (sym (operations-resting s fill_operations)) r.3; mounted = subst (Mounted b.image w) (sym (last-resting s fill_operations)) mounted },
       )
 
-  pub bad_next : (o : OpenSlot) (kept found : ℕ) → may_seal (outline_of_slot slot).image h page ≡ true → Receives expected (outline_of_slot slot).image h page a b (Bad kept found o) → ⊥
+  pub bad_next : (o : OpenSlot) (kept found : ℕ) → may_seal (outline_of_slot slot).image h page ≡ true → ReceivesDataPage expected (outline_of_slot slot).image h page a b (Bad kept found o) → ⊥
   bad_next o kept found halted r = r.3 (r.2 ∙ may_crc (outline_of_slot slot).image h page halted ∙ sym r.1)
 
   rest_stops : SlotStops i (resting h fill_operations) a b → Stops (resting s fill_operations) a b

@@ -9,7 +9,7 @@ use Rattle.dg_slot.specs.Kept.{Held}
 use Rattle.dg_volume.specs.Store.{Store, held}
 use Rattle.dg_volume.specs.Changes.{inject_refusal}
 use Rattle.dg_volume.specs.declared.volume.InjectFault.{InjectFault}
-use Rattle.dg_chain.specs.Chain.{root_of, image_of, most_payload}
+use Rattle.dg_chain.specs.Chain.{root_of, joined_pages, most_payload}
 use Rattle.dg_chain.specs.Checking.{Answer, Fine, Broken, Misshapen, Break, answer_of}
 use Rattle.dg_end.specs.declared.refusal.Refusal.TheVariants as refusals
 use Rattle.dg_end.specs.Conversions.{end_of_injection}
@@ -23,7 +23,7 @@ use Rattle.dg_chain_tool.specs.Receiving.{foreign_in}
 
 -- the root of a payload in lower case, and then the HEX file of its image
 abbrev pub wrapped_text : List ℕ → List ℕ
-wrapped_text x = line (codes "root " ++ hex_text (root_of x)) ++ written_file (image_of x)
+wrapped_text x = line (codes "root " ++ hex_text (root_of x)) ++ written_file (joined_pages x)
 
 abbrev pub wrap_by : List ℕ → VerbEnding
 wrap_by x =

@@ -4,8 +4,8 @@ use Rattle.dg_base.specs.declared.answers.Status.{Status}
 use Rattle.dg_base.specs.declared.answers.Status.TheVariants as statuses
 use Rattle.dg_nor.specs.Device.{Device}
 use Rattle.dg_volume.specs.Stands.{IsNoVolume}
-use Rattle.dg_serial_base.specs.Deeds.{Base}
-use Rattle.dg_serial_base.specs.Based.{Outside, EndsBy, RefusedBy}
+use Rattle.dg_serial_base.specs.BaseEvents.{Base}
+use Rattle.dg_serial_base.specs.Based.{BaseOutside, BaseEndsBy, RefusedBy}
 use Rattle.dg_replay.specs.Around.{Around}
 use Rattle.dg_cli.specs.Basing.{around_chip, BasedOn, NoBoardReported, BasedOver}
 
@@ -22,12 +22,12 @@ over_first f (z ∷ zs) x y base status a b some h = (h, refl)
 
 -- ---- it never ends by a fault of the link
 
-is_none : (status : Status) (base : Base) (before now : Outside) → status ≡ statuses.LinkFault → BasedOn base status before now → IsNoVolume before.chip.image
+is_none : (status : Status) (base : Base) (before now : BaseOutside) → status ≡ statuses.LinkFault → BasedOn base status before now → IsNoVolume before.chip.image
 is_none status base before now e h s stands =
     let x = h.based s stands in
-    (subst (λ (t : Status). EndsBy t base s x.input x.text before now) e x.ends).1
+    (subst (λ (t : Status). BaseEndsBy t base s x.input x.text before now) e x.ends).1
 
-pub no_link_of_base : (status : Status) (base : Base) (before now : Outside) → BasedOn base status before now → status ≡ statuses.LinkFault → ⊥
+pub no_link_of_base : (status : Status) (base : Base) (before now : BaseOutside) → BasedOn base status before now → status ≡ statuses.LinkFault → ⊥
 no_link_of_base status base before now h e =
     let r = h.refused (is_none status base before now e h) in
     subst (λ (t : Status). RefusedBy t r.text before.chip now.chip) e r.ends

@@ -6,14 +6,14 @@ use Rattle.dg_outside.specs.Outside.{Outside}
 use Rattle.dg_tool.specs.Rules.{FormatDone, InjectDone}
 use Rattle.dg_chain_tool.specs.Done.{ReceiveDone}
 use Rattle.dg_trial.specs.Trials.{TrialEnds}
-use Rattle.dg_command.specs.Asking.{Asking, said_by, asking}
+use Rattle.dg_command.specs.Asking.{Asking, said_of_command, asking_of}
 use Rattle.dg_command.specs.declared.command.Asked.{Asked}
 use Rattle.dg_command.specs.declared.command.Command.{Command}
 use Rattle.dg_cli.specs.Commands.{ReadsInput, UsesLink, CommandOutcome}
 use Rattle.dg_cli.specs.Chained.{root_in, Checked}
 
-pub said_done : (c d : Command) → c ≡ d → (s : Status) (a b : Outside) → CommandOutcome (said_by d) s a b → CommandOutcome (said_by c) s a b
-said_done c d e s a b h = subst (λ (x : Command). CommandOutcome (said_by x) s a b) (sym e) h
+pub said_done : (c d : Command) → c ≡ d → (s : Status) (a b : Outside) → CommandOutcome (said_of_command d) s a b → CommandOutcome (said_of_command c) s a b
+said_done c d e s a b h = subst (λ (x : Command). CommandOutcome (said_of_command x) s a b) (sym e) h
 
 -- ---- commands that are given names and digits
 
@@ -37,8 +37,8 @@ no_link_of_a_trial s motes pages seed a b h e = subst (λ (x : Status). TrialEnd
 
 -- ---- what was asked for
 
-pub asked_said : (asked said : Asked) (asking_for : Asking) → asked ≡ said → asking asked ≡ asking_for → asking said ≡ asking_for
-asked_said asked said asking_for e h = ap asking (sym e) ∙ h
+pub asked_said : (asked said : Asked) (asking_for : Asking) → asked ≡ said → asking_of asked ≡ asking_for → asking_of said ≡ asking_for
+asked_said asked said asking_for e h = ap asking_of (sym e) ∙ h
 
 pub reads_same : (a b : Asking) → a ≡ b → ReadsInput a → ReadsInput b
 reads_same a b e h = subst ReadsInput e h

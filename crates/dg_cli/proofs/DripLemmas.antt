@@ -5,13 +5,13 @@ use Rattle.dg_base.specs.declared.answers.Status.TheVariants as statuses
 use Rattle.dg_words.specs.Counts.{Rose}
 use Rattle.dg_drip_script.specs.Scripts.{DripScript}
 use Rattle.dg_drip_run.specs.AroundDrip.{AroundDrip}
-use Rattle.dg_drip_run.specs.Dripped.{Ending, Ends, BadLine, TooManyEvents, Over, status_of, Closed, Wrote, Dripped}
+use Rattle.dg_drip_run.specs.Dripped.{DripEnding, Ends, BadLine, TooManyEvents, Over, drip_status, Closed, DripWrote, Dripped}
 
 abbrev IsNoLink : Status → Type 0
 IsNoLink statuses.LinkFault = ⊥
 IsNoLink status = Unit {0}
 
-no_link_ends : (e : Ending) → IsNoLink (status_of e)
+no_link_ends : (e : DripEnding) → IsNoLink (drip_status e)
 no_link_ends Ends = tt
 no_link_ends (BadLine line fault) = tt
 no_link_ends TooManyEvents = tt
@@ -22,8 +22,8 @@ no_link_closed s wanted report closing before after failed none (inl h) = subst 
 no_link_closed s wanted report closing before after failed none (inr (inl h)) = subst IsNoLink (sym h.0) tt
 no_link_closed s wanted report closing before after failed none (inr (inr h)) = subst IsNoLink (sym h.0) tt
 
-no_link_wrote : (s : Status) (t : DripScript) (lines passed : ℕ) (ahead : List ℕ) (a b : AroundDrip) → Wrote s t lines passed ahead a b → IsNoLink s
-no_link_wrote s t lines passed ahead a b (inl h) = no_link_closed s (status_of h.0) _ _ a.written b.written (Rose a.writes b.writes) (no_link_ends h.0) h.2
+no_link_wrote : (s : Status) (t : DripScript) (lines passed : ℕ) (ahead : List ℕ) (a b : AroundDrip) → DripWrote s t lines passed ahead a b → IsNoLink s
+no_link_wrote s t lines passed ahead a b (inl h) = no_link_closed s (drip_status h.0) _ _ a.written b.written (Rose a.writes b.writes) (no_link_ends h.0) h.2
 no_link_wrote s t lines passed ahead a b (inr (inl h)) = subst IsNoLink (sym h.0) tt
 no_link_wrote s t lines passed ahead a b (inr (inr (inl h))) = subst IsNoLink (sym h.0) tt
 no_link_wrote s t lines passed ahead a b (inr (inr (inr h))) = subst IsNoLink (sym h.0) tt

@@ -11,30 +11,30 @@ use Rattle.dg_volume.specs.Stands.{Stands, IsNoVolume}
 use Rattle.dg_volume.specs.Table.{IsTable}
 use Rattle.dg_mote.specs.Well.{StoreIsWell}
 use Rattle.dg_mote.specs.Consistency.{StoreIsConsistent}
-use Rattle.dg_serial_base.specs.Deeds.{Base}
-use Rattle.dg_serial_base.specs.Based.{Outside, Based, Refused, Causes}
+use Rattle.dg_serial_base.specs.BaseEvents.{Base}
+use Rattle.dg_serial_base.specs.Based.{BaseOutside, Based, Refused, BaseCauses}
 use Rattle.dg_serial_base.specs.Agreeing.{HonestLine, ChipAgrees}
-use Rattle.dg_serial_base.specs.Consistency.{StaysConsistent}
+use Rattle.dg_serial_base.specs.Consistency.{BaseStaysConsistent}
 use Rattle.dg_replay.specs.Around.{Around}
 
 -- what a base mote over this chip has outside of it
-abbrev pub around_chip : Around → Device → Outside
+abbrev pub around_chip : Around → Device → BaseOutside
 around_chip a chip = record { left = a.left; reads = a.reads; written = a.written; writes = a.writes; chip = chip }
 
 -- a base mote played its line over one chip
-pub record BasedOn (b : Base) (status : Status) (before now : Outside) : Type 0 where
+pub record BasedOn (b : Base) (status : Status) (before now : BaseOutside) : Type 0 where
   -- from a chip that is a volume, by the rules
   pub based : (s : Store) → Stands before.chip.image s → Based status b s before now
   -- one that is not a volume is left unchanged
   pub refused : IsNoVolume before.chip.image → Refused status before now
-  pub causes : Causes status before now
+  pub causes : BaseCauses status before now
   -- with honest frames a chip that agrees with a table of images agrees with it after the line, however it ended
   pub agrees : (s : Store) (table : List Row) (x : Based status b s before now) → IsTable table → StoreIsWell table s
       → HonestLine table x.input → ChipAgrees table now.chip.image
   -- whatever bytes came as frames, a consistent chip stays so, however the line ended; no start lacks an image,
   -- and what starts is sound
   pub consistent : (s : Store) (golden : Row) (x : Based status b s before now) → IsRow golden → StoreIsConsistent golden s
-      → StaysConsistent golden status b s x.input now.chip.image
+      → BaseStaysConsistent golden status b s x.input now.chip.image
 
 -- the line that is written where there is no board
 abbrev pub no_base_board_line : List ℕ

@@ -2,7 +2,7 @@
 use Rattle.dg_outside.specs.Outside.{Outside}
 use Rattle.dg_replay.specs.Around.{Around}
 use Rattle.dg_drip_run.specs.AroundDrip.{AroundDrip, around_drip}
-use Rattle.dg_serve.specs.Served.{Outside as ServiceOutside}
+use Rattle.dg_serve.specs.Served.{ServiceOutside}
 
 -- the input, the output and the boards
 abbrev pub around_of : Outside → Around

@@ -2,7 +2,7 @@
 ghost use Rattle.std.specs.Prelude.{◌≡◌, ◌≢◌, ◌≤◌, map, string_bytes};
 ghost use Rattle.dg_mote.specs.Sizes.{buffered_bytes, BuffersFit, ValuesAreSmall};
 ghost use Rattle.dg_words.specs.Counts.{Rose};
-ghost use Rattle.dg_outside.specs.Outside.{input_of, output_of, link_of, outside};
+ghost use Rattle.dg_outside.specs.Outside.{input_of, output_of, link_state, outside};
 ghost use Rattle.dg_command.specs.Asking.{asked_of};
 ghost use Rattle.dg_cli.specs.Commands.{CommandDone, ReadsInput, UsesLink};
 
@@ -37,9 +37,9 @@ pub fn run<S: Source, K: Sink, N: Nor, L: Link, C: Clock>(
     // of a run of the rules over the items of the script. Each status comes where the rules say. What was played keeps all
     // parts of the headline, and a script in its limits is replayed to its end, unless memory runs out or the outside fails.
     ensures does { CommandDone (asked_of (map string_bytes words.now.items)) result
-        (outside (input_of (S.Source, input.old)) (output_of (K.Sink, out.old)) (link_of (L.Link, link.old))
+        (outside (input_of (S.Source, input.old)) (output_of (K.Sink, out.old)) (link_state (L.Link, link.old))
         (C.told clock.old) (map N.device boards.old.items))
-        (outside (input_of (S.Source, input.new)) (output_of (K.Sink, out.new)) (link_of (L.Link, link.new))
+        (outside (input_of (S.Source, input.new)) (output_of (K.Sink, out.new)) (link_state (L.Link, link.new))
         (C.told clock.new) (map N.device boards.new.items)) }
     // The arrays of bytes that a mote and its calls name have 220 bytes by their types (`counted`), which are 214 where packet
     // sets are counted in their byte form. Those that are alive together in one call, or in a mount, have no more than 256 by

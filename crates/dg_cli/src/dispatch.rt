@@ -1,8 +1,8 @@
 //! Carrying out a command.
 ghost use Rattle.std.specs.Prelude.{◌≡◌, ◌≢◌, ◌≤◌, true, map};
 ghost use Rattle.dg_words.specs.Counts.{Rose};
-ghost use Rattle.dg_outside.specs.Outside.{input_of, output_of, link_of, outside};
-ghost use Rattle.dg_command.specs.Asking.{Asks, said_by, is_well_formed};
+ghost use Rattle.dg_outside.specs.Outside.{input_of, output_of, link_state, outside};
+ghost use Rattle.dg_command.specs.Asking.{Asks, said_of_command, is_well_formed};
 ghost use Rattle.dg_command.specs.Bounds.{IsInBounds};
 ghost use Rattle.dg_cli.specs.Commands.{CommandOutcome, ReadsInput, UsesLink};
 
@@ -29,15 +29,15 @@ pub(crate) fn dispatch<S: Source, K: Sink, N: Nor, L: Link, C: Clock>(
     link: &mut L,
     clock: &mut C,
 ) -> Status
-    requires ranges { IsInBounds (said_by command.now) }
-    requires formed { is_well_formed (said_by command.now) ≡ true }
-    ensures done { CommandOutcome (said_by command.now) result
-        (outside (input_of (S.Source, input.old)) (output_of (K.Sink, out.old)) (link_of (L.Link, link.old))
+    requires ranges { IsInBounds (said_of_command command.now) }
+    requires formed { is_well_formed (said_of_command command.now) ≡ true }
+    ensures done { CommandOutcome (said_of_command command.now) result
+        (outside (input_of (S.Source, input.old)) (output_of (K.Sink, out.old)) (link_state (L.Link, link.old))
         (C.told clock.old) (map N.device boards.old.items))
-        (outside (input_of (S.Source, input.new)) (output_of (K.Sink, out.new)) (link_of (L.Link, link.new))
+        (outside (input_of (S.Source, input.new)) (output_of (K.Sink, out.new)) (link_state (L.Link, link.new))
         (C.told clock.new) (map N.device boards.new.items)) }
-    ensures untouched { (ReadsInput (Asks (said_by command.now)) → ⊥) → input.new ≡ input.old }
-    ensures apart { (UsesLink (Asks (said_by command.now)) → ⊥) → (link.new ≡ link.old) × (clock.new ≡ clock.old) }
+    ensures untouched { (ReadsInput (Asks (said_of_command command.now)) → ⊥) → input.new ≡ input.old }
+    ensures apart { (UsesLink (Asks (said_of_command command.now)) → ⊥) → (link.new ≡ link.old) × (clock.new ≡ clock.old) }
     ensures link_fault { result ≡ Status.LinkFault → Rose (L.faults link.old) (L.faults link.new) }
     ensures unfailed { result ≢ Status.LinkFault → L.faults link.new ≡ L.faults link.old }
     ensures reads { S.faults input.old ≤ S.faults input.new }

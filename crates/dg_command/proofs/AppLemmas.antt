@@ -11,7 +11,7 @@ use Rattle.clap.specs.Walk.{is_empty, is_simple_arg}
 use Rattle.clap.specs.declared.builder.arg.Arg.{Arg}
 use Rattle.clap.specs.declared.builder.command.Command.{Command}
 use Rattle.dg_command.specs.Apps.{app_for, app_of_verb, rules_of, top_app}
-use Rattle.dg_command.specs.Verbs.{word_of}
+use Rattle.dg_command.specs.Verbs.{command_word}
 use Rattle.dg_command.proofs.KindLemmas.{AtMostOne, one_kind}
 use Rattle.dg_command.specs.declared.verbs.Verb.{Verb}
 use Rattle.dg_command.specs.declared.verbs.Verb.TheVariants.{Replay, Serve, Format, Inject, Order, Boot, Ping, Dump, Migrate, Trial, Wrap, Check, Receive, Drip, Base}
@@ -70,7 +70,7 @@ simple_rules Drip = refl
 simple_rules Base = refl
 
 -- a command to which the arguments of a verb were added is that verb's
-pub built_app : (v : Verb) (xs : List Arg) (old new : Command) → app_of old ≡ new_app (word_of v) → map rule_of xs ≡ rules_of v → AddsInTurn AddsArg old xs new
+pub built_app : (v : Verb) (xs : List Arg) (old new : Command) → app_of old ≡ new_app (command_word v) → map rule_of xs ≡ rules_of v → AddsInTurn AddsArg old xs new
     → app_of new ≡ app_of_verb v
 unfolding app_of_verb
 built_app v xs old new begins rules h =

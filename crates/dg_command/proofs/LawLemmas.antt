@@ -4,25 +4,25 @@ use Rattle.clap.specs.Words.{Kinds, Text, fault_of, matches_of}
 use Rattle.clap.specs.declared.error.kind.ErrorKind.{ErrorKind}
 use Rattle.clap.specs.declared.error.kind.ErrorKind.TheVariants.{DisplayHelp, DisplayVersion}
 use Rattle.dg_command.specs.Apps.{app_for, app_of_verb}
-use Rattle.dg_command.specs.Asking.{Asking, Asks, Misuses, Said, answer_for, asked_of, by_fault, is_well_formed, named, refused_by, said_at, taken_by}
+use Rattle.dg_command.specs.Asking.{Asking, Asks, Misuses, Said, answer_for, asked_of, by_parse_fault, is_well_formed, asks_named, refused_words, said_at, taken_by}
 use Rattle.dg_command.specs.Verbs.{verb_in}
 use Rattle.dg_command.specs.declared.verbs.Verb.{Verb}
 
 -- a refusal asks for no command
-refusal : (k : ErrorKind) (said : Said) → refused_by k ≡ Asks said → ⊥
+refusal : (k : ErrorKind) (said : Said) → refused_words k ≡ Asks said → ⊥
 refusal DisplayHelp said e = cc
 refusal DisplayVersion said e = cc
 refusal _ said e = cc
 
-no_fault : (ks : Kinds) (x : Asking) (said : Said) → by_fault ks x ≡ Asks said → ks ≡ []
+no_fault : (ks : Kinds) (x : Asking) (said : Said) → by_parse_fault ks x ≡ Asks said → ks ≡ []
 no_fault [] x said e = refl
 no_fault (k ∷ ks) x said e = absurd (refusal k said e)
 
-taken_fault : (ks : Kinds) (x : Asking) (said : Said) → by_fault ks x ≡ Asks said → x ≡ Asks said
+taken_fault : (ks : Kinds) (x : Asking) (said : Said) → by_parse_fault ks x ≡ Asks said → x ≡ Asks said
 taken_fault [] x said e = e
 taken_fault (k ∷ ks) x said e = absurd (refusal k said e)
 
-named_is : (s said : Said) → named s ≡ Asks said → (s ≡ said) × (is_well_formed said ≡ true)
+named_is : (s said : Said) → asks_named s ≡ Asks said → (s ≡ said) × (is_well_formed said ≡ true)
 named_is s said e = go (is_well_formed s) refl
   where
     go : (b : Bool) → is_well_formed s ≡ b → (s ≡ said) × (is_well_formed said ≡ true)
@@ -61,7 +61,7 @@ named_for None words said e =
 pub was_named : (words : List Text) (said : Said) → asked_of words ≡ Asks said → is_well_formed said ≡ true
 was_named words said asks = named_for (verb_in words) words said (as_answer words (verb_in words) said refl asks)
 
-named_yes : (s : Said) → is_well_formed s ≡ true → named s ≡ Asks s
+named_yes : (s : Said) → is_well_formed s ≡ true → asks_named s ≡ Asks s
 named_yes s h = rw h refl
 
 pub is_command : (words : List Text) (v : Verb) → verb_in words ≡ Some v → fault_of (app_of_verb v) words ≡ [] → is_well_formed (said_at v (matches_of (app_of_verb v) words)) ≡ true
@@ -69,4 +69,4 @@ pub is_command : (words : List Text) (v : Verb) → verb_in words ≡ Some v →
 unfolding asked_of
 is_command words v is none name =
     ap (λ (o : Option Verb). answer_for o words) is
-    ∙ (ap (λ (ks : Kinds). by_fault ks (named (said_at v (matches_of (app_of_verb v) words)))) none ∙ named_yes (said_at v (matches_of (app_of_verb v) words)) name)
+    ∙ (ap (λ (ks : Kinds). by_parse_fault ks (asks_named (said_at v (matches_of (app_of_verb v) words)))) none ∙ named_yes (said_at v (matches_of (app_of_verb v) words)) name)

@@ -23,20 +23,20 @@ use Rattle.clap.specs.declared.builder.range.ValueRange.{ValueRange}
 use Rattle.clap.specs.declared.builder.value_parser.ValueParser.TheVariants as vp
 use Rattle.clap.specs.declared.parser.matches.ArgMatches.{ArgMatches}
 use Rattle.dg_command.specs.Apps.{app_of_verb, number_option, rules_of}
-use Rattle.dg_command.specs.Values.{number_at, number_in}
+use Rattle.dg_command.specs.Values.{number_under, number_of_text}
 use Rattle.dg_command.proofs.ReadLemmas.{digits_from, digits_pass, is_read}
 use Rattle.dg_command.specs.declared.verbs.Verb.{Verb}
 use Rattle.dg_command.specs.declared.verbs.Verb.TheVariants.{Replay, Serve, Format, Inject, Order, Boot, Ping, Dump, Migrate, Trial, Wrap, Check, Receive, Drip, Base}
 
 -- ---- the number that a text writes, as `signed_reads` wants it
 
-reads_back : (k : ℕ) (t : Text) → ReadsOne {T = ℕ} {E = ℕ} (λ u x. ParsesUnsigned k 10 u x) t (number_in k t)
+reads_back : (k : ℕ) (t : Text) → ReadsOne {T = ℕ} {E = ℕ} (λ u x. ParsesUnsigned k 10 u x) t (number_of_text k t)
 reads_back k t = go (is_read k (without_leading_plus t)) refl
   where
     passes : (ds : List ℕ) → IsNumeral 10 ds × (digits_value 10 ds < 2 ^ k) → is_read k ds ≡ true
     passes ds p = rw (lt-ltb 0 (length ds) p.0.0, digits_pass ds p.0.1, lt-ltb (digits_value 10 ds) (2 ^ k) p.1) refl
 
-    go : (b : Bool) → is_read k (without_leading_plus t) ≡ b → ReadsOne {T = ℕ} {E = ℕ} (λ u x. ParsesUnsigned k 10 u x) t (number_in k t)
+    go : (b : Bool) → is_read k (without_leading_plus t) ≡ b → ReadsOne {T = ℕ} {E = ℕ} (λ u x. ParsesUnsigned k 10 u x) t (number_of_text k t)
     go true e =
         let outer = both _ _ e in
         let inner = both _ _ outer.0 in
@@ -135,19 +135,19 @@ not_empty name long e = true≢false (sym long ∙ ap (λ (t : Text). nat_lt 0 (
 abbrev IsBetween : (low high n : ℕ) → Type 0
 IsBetween low high n = (low ≤ n) × (n ≤ high)
 
-number_found : (bits low high : ℕ) (o : Option Text) (t : Text) → o ≡ Some (without_minus t) → high < 2 ^ bits → ((n : ℕ) × (number_in bits (without_minus t) ≡ Some n) × (low ≤ n) × (n ≤ high))
-    → IsBetween low high (unwrap_or (option_and_then (number_in bits) o) 0)
+number_found : (bits low high : ℕ) (o : Option Text) (t : Text) → o ≡ Some (without_minus t) → high < 2 ^ bits → ((n : ℕ) × (number_of_text bits (without_minus t) ≡ Some n) × (low ≤ n) × (n ≤ high))
+    → IsBetween low high (unwrap_or (option_and_then (number_of_text bits) o) 0)
 number_found bits low high o t is fits got =
-    let value : unwrap_or (option_and_then (number_in bits) o) 0 ≡ got.0 = ap (λ x. unwrap_or (option_and_then (number_in bits) x) 0) is ∙ ap (λ x. unwrap_or x 0) got.1 in
+    let value : unwrap_or (option_and_then (number_of_text bits) o) 0 ≡ got.0 = ap (λ x. unwrap_or (option_and_then (number_of_text bits) x) 0) is ∙ ap (λ x. unwrap_or x 0) got.1 in
     subst (IsBetween low high) (sym value) (got.2, got.3)
 
 pub in_range : (v : Verb) (old : Command) (m : ArgMatches) (k low high bits : ℕ) (name : Text) → app_of old ≡ app_of_verb v → IsParsedFrom old m
     → k < length (rules_of v) → ((d : Rule) → slice_index_or (rules_of v) k d ≡ number_option name low high) → only_at k name (rules_of v) ≡ true → is_own name ≡ true
-    → high < 2 ^ bits → IsBetween low high (number_at bits name (rows_of (found_of m)))
-unfolding number_at
+    → high < 2 ^ bits → IsBetween low high (number_under bits name (rows_of (found_of m)))
+unfolding number_under
 in_range v old m k low high bits name is p lt here only own fits = go (args_of old) refl
   where
-    found : (d : Arg) → IsBetween low high (unwrap_or (option_and_then (number_in bits) (one_of name (rows_of (found_of m)))) 0)
+    found : (d : Arg) → IsBetween low high (unwrap_or (option_and_then (number_of_text bits) (one_of name (rows_of (found_of m)))) 0)
     found d =
         let a = slice_index_or (args_of old) k d in
         let rules = rules_are v old is in
@@ -169,10 +169,10 @@ in_range v old m k low high bits name is p lt here only own fits = go (args_of o
         ]) (vp.Signed (pos low) (pos high)) (ap (λ (r : Rule). r.parser) rule) in
         let one : one_of name (rows_of (found_of m)) ≡ Some (without_minus read.0) =
         sym (one_text-rows (found_of m) name) ∙ subst (λ (i : Text). one_text (found_of m) i ≡ Some (without_minus read.0)) id read.1 in
-        let got = signed_reads ℕ (λ u x. ParsesUnsigned bits 10 u x) bits low high read.0 (number_in bits (without_minus read.0)) (reads_back bits (without_minus read.0)) (λ u x g. g) fits read.2 in
+        let got = signed_reads ℕ (λ u x. ParsesUnsigned bits 10 u x) bits low high read.0 (number_of_text bits (without_minus read.0)) (reads_back bits (without_minus read.0)) (λ u x g. g) fits read.2 in
         number_found bits low high (one_of name (rows_of (found_of m))) read.0 one fits got
 
-    go : (xs : List Arg) → args_of old ≡ xs → IsBetween low high (unwrap_or (option_and_then (number_in bits) (one_of name (rows_of (found_of m)))) 0)
+    go : (xs : List Arg) → args_of old ≡ xs → IsBetween low high (unwrap_or (option_and_then (number_of_text bits) (one_of name (rows_of (found_of m)))) 0)
     go [] e =
         let none : length (rules_of v) ≡ 0 = sym (ap length (rules_are v old is)) ∙ (length-map (args_of old) rule_of ∙ ap length e) in
         absurd (omega arith)

@@ -7,7 +7,7 @@ use Rattle.std.specs.Str.Parse.{AllDigits, ParsesUnsigned, digits_value, without
 use Rattle.std.proofs.lemmas.Bool.{ltb-true, lt-ltb}
 use Rattle.clap.proofs.WalkLemmas.{both}
 use Rattle.clap.specs.Words.{ReadsOne, Text}
-use Rattle.dg_command.specs.Values.{number_in}
+use Rattle.dg_command.specs.Values.{number_of_text}
 
 pub digits_from : (ds : List ℕ) → list_all (λ d. nat_lt (digit_value d) 10) ds ≡ true → AllDigits 10 ds
 digits_from [] e = tt
@@ -24,14 +24,14 @@ abbrev pub is_read : ℕ → List ℕ → Bool
 is_read k ds = (nat_lt 0 (length ds) && list_all (λ d. nat_lt (digit_value d) 10) ds) && nat_lt (digits_value 10 ds) (2 ^ k)
 
 number_read : {E : Type 0} (G : List ℕ → Result ℕ E → Type 0) (k : ℕ) (t : Text) (r : Option ℕ)
-    → ((u : List ℕ) (x : Result ℕ E) → G u x → ParsesUnsigned k 10 u x) → ReadsOne G t r → r ≡ number_in k t
+    → ((u : List ℕ) (x : Result ℕ E) → G u x → ParsesUnsigned k 10 u x) → ReadsOne G t r → r ≡ number_of_text k t
 number_read G k t (Some v) only h =
     let p = only t (Ok v) h in
     let ds = without_leading_plus t in
     rw (lt-ltb 0 (length ds) p.0.0.0, digits_pass ds p.0.0.1, lt-ltb (digits_value 10 ds) (2 ^ k) p.0.1) (ap (λ n. Some n) p.1)
 number_read G k t None only h = go (is_read k (without_leading_plus t)) refl
   where
-    go : (b : Bool) → is_read k (without_leading_plus t) ≡ b → None ≡ number_in k t
+    go : (b : Bool) → is_read k (without_leading_plus t) ≡ b → None ≡ number_of_text k t
     go false e = rw e refl
     go true e =
         let outer = both _ _ e in
@@ -40,6 +40,6 @@ number_read G k t None only h = go (is_read k (without_leading_plus t)) refl
 
 pub number_from : {E : Type 0} (G : List ℕ → Result ℕ E → Type 0) (k : ℕ) (o : Option Text) (r : Option ℕ)
     → ((u : List ℕ) (x : Result ℕ E) → G u x → ParsesUnsigned k 10 u x) → (o ≡ None → r ≡ None) → ((t : Text) → o ≡ Some t → ReadsOne G t r)
-    → unwrap_or r 0 ≡ unwrap_or (option_and_then (number_in k) o) 0
+    → unwrap_or r 0 ≡ unwrap_or (option_and_then (number_of_text k) o) 0
 number_from G k None r only none some = ap (λ x. unwrap_or x 0) (none refl)
 number_from G k (Some t) r only none some = ap (λ x. unwrap_or x 0) (number_read G k t r only (some t refl))

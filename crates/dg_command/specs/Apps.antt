@@ -4,7 +4,7 @@ use Rattle.clap.specs.Words.{App, Rule, Text, new_rule}
 use Rattle.clap.specs.Simple.{new_shape}
 use Rattle.clap.specs.declared.builder.action.ArgAction.TheVariants.{Set, Append}
 use Rattle.clap.specs.declared.builder.value_parser.ValueParser.TheVariants as vp
-use Rattle.dg_command.specs.Verbs.{word_of}
+use Rattle.dg_command.specs.Verbs.{command_word}
 use Rattle.dg_command.specs.Sizes.{last_slot, most_turns, most_room, least_motes, most_motes, least_pages, most_pages, most_step}
 use Rattle.dg_command.specs.Sizes.{most_id, old_form, new_form}
 use Rattle.dg_command.specs.declared.verbs.Verb.{Verb}
@@ -12,8 +12,8 @@ use Rattle.dg_command.specs.declared.verbs.Verb.TheVariants.{Replay, Serve, Form
 use Rattle.dg_command.specs.declared.verbs.Verb.TheVariants.{Trial, Wrap, Check, Receive, Drip, Base}
 
 -- the largest number of 32 bits
-abbrev pub most_number : ℕ
-most_number = 4294967295
+abbrev pub most_u32 : ℕ
+most_u32 = 4294967295
 
 -- an option that must be there, whose value is a number within bounds
 abbrev pub number_option : Text → (low high : ℕ) → Rule
@@ -41,10 +41,10 @@ abbrev pub root_option : Rule
 root_option = text_option (codes "root")
 
 abbrev pub version_option : Rule
-version_option = number_option (codes "ver") 1 most_number
+version_option = number_option (codes "ver") 1 most_u32
 
 abbrev pub seed_option : Rule
-seed_option = number_option (codes "seed") 0 most_number
+seed_option = number_option (codes "seed") 0 most_u32
 
 -- the file of a chip, and any number of them
 abbrev pub flash_word : Rule
@@ -59,7 +59,7 @@ rules_of Replay = flash_words ∷ []
 rules_of Serve = number_option (codes "turns") 1 most_turns ∷ seed_option ∷ flash_words ∷ []
 rules_of Format = text_option (codes "name") ∷ number_option (codes "used") 0 most_room ∷ form_option ∷ flash_word ∷ []
 rules_of Inject = slot_option ∷ version_option ∷ text_option (codes "name") ∷ flash_word ∷ []
-rules_of Order = number_option (codes "number") 1 most_number ∷ slot_option ∷ version_option ∷ flash_word ∷ []
+rules_of Order = number_option (codes "number") 1 most_u32 ∷ slot_option ∷ version_option ∷ flash_word ∷ []
 rules_of Boot = flash_word ∷ []
 rules_of Ping = flash_word ∷ []
 rules_of Dump = slot_option ∷ flash_word ∷ []
@@ -74,7 +74,7 @@ rules_of Base = number_option (codes "id") 0 most_id ∷ number_option (codes "s
 
 -- a command of a verb, and one for words without a verb, which has help and a version and takes no word
 unfoldable pub app_of_verb : Verb → App
-app_of_verb verb = record { top = record (new_shape (word_of verb)) { rules = rules_of verb }; subs = [] }
+app_of_verb verb = record { top = record (new_shape (command_word verb)) { rules = rules_of verb }; subs = [] }
 
 unfoldable pub top_app : App
 top_app = record { top = record (new_shape (codes "deluge")) { no_binary_name = true; has_version = true }; subs = [] }

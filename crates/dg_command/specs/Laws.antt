@@ -7,6 +7,6 @@ onto_first c [] = (c ∷ []) ∷ []
 onto_first c (word ∷ words) = (c ∷ word) ∷ words
 
 -- the pieces of a line between its spaces
-unfoldable pub line : Text → List Text
-line [] = [] ∷ []
-line (c ∷ cs) = if c == 32 then [] ∷ line cs else onto_first c (line cs)
+unfoldable pub split_words : Text → List Text
+split_words [] = [] ∷ []
+split_words (c ∷ cs) = if c == 32 then [] ∷ split_words cs else onto_first c (split_words cs)

@@ -4,26 +4,26 @@ use Rattle.dg_command.specs.declared.verbs.Verb.{Verb}
 use Rattle.dg_command.specs.declared.verbs.Verb.TheVariants.{Replay, Serve, Format, Inject, Order, Boot, Ping, Dump, Migrate}
 use Rattle.dg_command.specs.declared.verbs.Verb.TheVariants.{Trial, Wrap, Check, Receive, Drip, Base}
 
-abbrev pub word_of : Verb → List ℕ
-word_of Replay = codes "replay"
-word_of Serve = codes "serve"
-word_of Format = codes "format"
-word_of Inject = codes "inject"
-word_of Order = codes "order"
-word_of Boot = codes "boot"
-word_of Ping = codes "ping"
-word_of Dump = codes "dump"
-word_of Migrate = codes "migrate"
-word_of Trial = codes "trial"
-word_of Wrap = codes "wrap"
-word_of Check = codes "check"
-word_of Receive = codes "receive"
-word_of Drip = codes "drip"
-word_of Base = codes "base"
+abbrev pub command_word : Verb → List ℕ
+command_word Replay = codes "replay"
+command_word Serve = codes "serve"
+command_word Format = codes "format"
+command_word Inject = codes "inject"
+command_word Order = codes "order"
+command_word Boot = codes "boot"
+command_word Ping = codes "ping"
+command_word Dump = codes "dump"
+command_word Migrate = codes "migrate"
+command_word Trial = codes "trial"
+command_word Wrap = codes "wrap"
+command_word Check = codes "check"
+command_word Receive = codes "receive"
+command_word Drip = codes "drip"
+command_word Base = codes "base"
 
 -- the verb of a word
-abbrev pub verb_of : List ℕ → Option Verb
-verb_of word =
+abbrev pub command_verb : List ℕ → Option Verb
+command_verb word =
     if bytes_eq word (codes "replay") then Some Replay
     else if bytes_eq word (codes "serve") then Some Serve
     else if bytes_eq word (codes "format") then Some Format
@@ -44,4 +44,4 @@ verb_of word =
 -- the verb of words: that of the first one
 abbrev pub verb_in : List (List ℕ) → Option Verb
 verb_in [] = None
-verb_in (word ∷ words) = verb_of word
+verb_in (word ∷ words) = command_verb word

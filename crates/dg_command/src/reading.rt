@@ -2,8 +2,8 @@
 ghost use Rattle.std.specs.Prelude.{◌≡◌, ◌≢◌, [], ◌∷◌, IfOk, map, string_bytes, Some};
 ghost use Rattle.clap.specs.Words.{found_of, kind_of, rows_of};
 ghost use Rattle.dg_command.specs.Bounds.{FitsRanges};
-ghost use Rattle.dg_command.specs.Asking.{HelpsBySome, asked_of, asking, flashes_of, flashes_said, is_well_formed, named};
-ghost use Rattle.dg_command.specs.Asking.{refused_by, said_at, said_by, taken_by};
+ghost use Rattle.dg_command.specs.Asking.{HelpsBySome, asked_of, asking_of, flashes_of, flashes_said, is_well_formed, asks_named};
+ghost use Rattle.dg_command.specs.Asking.{refused_words, said_at, said_of_command, taken_by};
 
 use crate::apps::{CALLED, command_for};
 use crate::command::{Asked, Command};
@@ -19,10 +19,10 @@ use std::mem::replace;
 
 /// What words ask for. The first word is the verb.
 pub fn asked(alloc: Global, words: &Vec<String>) -> Result<Asked, AllocError>
-    ensures answer { IfOk result (λ a. asking a ≡ asked_of (map string_bytes words.now.items)) }
+    ensures answer { IfOk result (λ a. asking_of a ≡ asked_of (map string_bytes words.now.items)) }
 
     // A command's numbers are in their ranges, the name that it gives an image is valid, and so is a root.
-    ensures fits { IfOk result (λ a. FitsRanges (asking a)) }
+    ensures fits { IfOk result (λ a. FitsRanges (asking_of a)) }
     ensures some { IfOk result HelpsBySome }
 {
     let verb = Verb::among(words);
@@ -47,7 +47,7 @@ pub fn flash_names(alloc: Global, words: &Vec<String>) -> Result<Vec<String>, Al
 
 // The flash files of a command.
 fn flashes(alloc: Global, mut command: Command) -> Result<Vec<String>, AllocError>
-    ensures { IfOk result (λ names. map string_bytes names.items ≡ flashes_said (said_by command)) }
+    ensures { IfOk result (λ names. map string_bytes names.items ≡ flashes_said (said_of_command command)) }
 {
     match &mut command {
         Command::Replay { flashes } | Command::Serve { flashes, .. } => {
@@ -69,7 +69,7 @@ fn flashes(alloc: Global, mut command: Command) -> Result<Vec<String>, AllocErro
 
 // Words that are taken.
 fn taken(alloc: Global, verb: Option<Verb>, matches: &ArgMatches<'_>) -> Result<Asked, AllocError>
-    ensures taken { IfOk result (λ a. asking a ≡ taken_by verb (rows_of (found_of matches.now))) }
+    ensures taken { IfOk result (λ a. asking_of a ≡ taken_by verb (rows_of (found_of matches.now))) }
     ensures some { IfOk result HelpsBySome }
 {
     match verb {
@@ -83,7 +83,7 @@ fn taken(alloc: Global, verb: Option<Verb>, matches: &ArgMatches<'_>) -> Result<
 
 // A command, unless the name that it gives an image is invalid, or a root is.
 fn named(command: Command) -> Asked
-    ensures named { asking result ≡ named (said_by command) }
+    ensures named { asking_of result ≡ asks_named (said_of_command command) }
     ensures some { HelpsBySome result }
 {
     if is_well_formed(&command) {
@@ -94,7 +94,7 @@ fn named(command: Command) -> Asked
 }
 
 fn is_well_formed(command: &Command) -> bool
-    ensures { result ≡ is_well_formed (said_by command.now) }
+    ensures { result ≡ is_well_formed (said_of_command command.now) }
 {
     match command {
         Command::Format { name, .. } | Command::Inject { name, .. } => is_name(name.as_bytes()),
@@ -108,7 +108,7 @@ fn is_well_formed(command: &Command) -> bool
 
 // Words that are refused: a text of help, the version, or a mistake.
 fn refused(alloc: Global, error: &Error) -> Result<Asked, AllocError>
-    ensures refused { IfOk result (λ a. (asking a ≡ refused_by (kind_of error.now))
+    ensures refused { IfOk result (λ a. (asking_of a ≡ refused_words (kind_of error.now))
         × (kind_of error.now ≢ ErrorKind.OutOfMemory)) }
     ensures some { IfOk result HelpsBySome }
 {
@@ -137,7 +137,7 @@ pub(crate) fn command_at(
     verb: Verb,
     matches: &ArgMatches<'_>,
 ) -> Result<Command, AllocError>
-    ensures { IfOk result (λ c. said_by c ≡ said_at verb (rows_of (found_of matches.now))) }
+    ensures { IfOk result (λ c. said_of_command c ≡ said_at verb (rows_of (found_of matches.now))) }
 {
     match verb {
         Verb::Replay => Ok(Command::Replay {
@@ -167,7 +167,7 @@ pub(crate) fn command_at(
 }
 
 fn serve_at(alloc: Global, matches: &ArgMatches<'_>) -> Result<Command, AllocError>
-    ensures { IfOk result (λ c. said_by c ≡ said_at Verb.Serve (rows_of (found_of matches.now))) }
+    ensures { IfOk result (λ c. said_of_command c ≡ said_at Verb.Serve (rows_of (found_of matches.now))) }
 {
     Ok(Command::Serve {
         turns: number(matches, "turns"),
@@ -177,7 +177,7 @@ fn serve_at(alloc: Global, matches: &ArgMatches<'_>) -> Result<Command, AllocErr
 }
 
 fn format_at(alloc: Global, matches: &ArgMatches<'_>) -> Result<Command, AllocError>
-    ensures { IfOk result (λ c. said_by c ≡ said_at Verb.Format (rows_of (found_of matches.now))) }
+    ensures { IfOk result (λ c. said_of_command c ≡ said_at Verb.Format (rows_of (found_of matches.now))) }
 {
     Ok(Command::Format {
         name: text(alloc, matches, "name")?,
@@ -188,7 +188,7 @@ fn format_at(alloc: Global, matches: &ArgMatches<'_>) -> Result<Command, AllocEr
 }
 
 fn inject_at(alloc: Global, matches: &ArgMatches<'_>) -> Result<Command, AllocError>
-    ensures { IfOk result (λ c. said_by c ≡ said_at Verb.Inject (rows_of (found_of matches.now))) }
+    ensures { IfOk result (λ c. said_of_command c ≡ said_at Verb.Inject (rows_of (found_of matches.now))) }
 {
     Ok(Command::Inject {
         image: small_number(matches, "image"),
@@ -199,7 +199,7 @@ fn inject_at(alloc: Global, matches: &ArgMatches<'_>) -> Result<Command, AllocEr
 }
 
 fn order_at(alloc: Global, matches: &ArgMatches<'_>) -> Result<Command, AllocError>
-    ensures { IfOk result (λ c. said_by c ≡ said_at Verb.Order (rows_of (found_of matches.now))) }
+    ensures { IfOk result (λ c. said_of_command c ≡ said_at Verb.Order (rows_of (found_of matches.now))) }
 {
     let order = Order {
         number: number(matches, "number"),
@@ -213,7 +213,7 @@ fn order_at(alloc: Global, matches: &ArgMatches<'_>) -> Result<Command, AllocErr
 }
 
 fn dump_at(alloc: Global, matches: &ArgMatches<'_>) -> Result<Command, AllocError>
-    ensures { IfOk result (λ c. said_by c ≡ said_at Verb.Dump (rows_of (found_of matches.now))) }
+    ensures { IfOk result (λ c. said_of_command c ≡ said_at Verb.Dump (rows_of (found_of matches.now))) }
 {
     Ok(Command::Dump {
         image: small_number(matches, "image"),
@@ -222,7 +222,7 @@ fn dump_at(alloc: Global, matches: &ArgMatches<'_>) -> Result<Command, AllocErro
 }
 
 fn trial_at(matches: &ArgMatches<'_>) -> Command
-    ensures { said_by result ≡ said_at Verb.Trial (rows_of (found_of matches.now)) }
+    ensures { said_of_command result ≡ said_at Verb.Trial (rows_of (found_of matches.now)) }
 {
     Command::Trial {
         motes: small_number(matches, "motes"),
@@ -232,7 +232,7 @@ fn trial_at(matches: &ArgMatches<'_>) -> Command
 }
 
 fn check_at(alloc: Global, matches: &ArgMatches<'_>) -> Result<Command, AllocError>
-    ensures { IfOk result (λ c. said_by c ≡ said_at Verb.Check (rows_of (found_of matches.now))) }
+    ensures { IfOk result (λ c. said_of_command c ≡ said_at Verb.Check (rows_of (found_of matches.now))) }
 {
     Ok(Command::Check {
         image: small_number(matches, "image"),
@@ -242,7 +242,7 @@ fn check_at(alloc: Global, matches: &ArgMatches<'_>) -> Result<Command, AllocErr
 }
 
 fn receive_at(alloc: Global, matches: &ArgMatches<'_>) -> Result<Command, AllocError>
-    ensures { IfOk result (λ c. said_by c ≡ said_at Verb.Receive (rows_of (found_of matches.now))) }
+    ensures { IfOk result (λ c. said_of_command c ≡ said_at Verb.Receive (rows_of (found_of matches.now))) }
 {
     Ok(Command::Receive {
         image: small_number(matches, "image"),
@@ -254,7 +254,7 @@ fn receive_at(alloc: Global, matches: &ArgMatches<'_>) -> Result<Command, AllocE
 }
 
 fn base_at(alloc: Global, matches: &ArgMatches<'_>) -> Result<Command, AllocError>
-    ensures { IfOk result (λ c. said_by c ≡ said_at Verb.Base (rows_of (found_of matches.now))) }
+    ensures { IfOk result (λ c. said_of_command c ≡ said_at Verb.Base (rows_of (found_of matches.now))) }
 {
     Ok(Command::Base {
         id: short_number(matches, "id"),

@@ -1,7 +1,7 @@
 //! The values of a command that `clap` read.
 ghost use Rattle.std.specs.Prelude.{◌≡◌, IfOk, map, string_bytes};
 ghost use Rattle.clap.specs.Words.{found_of, rows_of};
-ghost use Rattle.dg_command.specs.Values.{number_at, form_of, text_at, texts_at};
+ghost use Rattle.dg_command.specs.Values.{number_under, form_asked, text_at, texts_at};
 
 use clap::ArgMatches;
 use dg_control::{FORM, OLD_FORM};
@@ -9,28 +9,28 @@ use std::alloc::{AllocError, Global};
 
 /// The number under a name.
 pub fn number(matches: &ArgMatches<'_>, name: &str) -> u32
-    ensures { result ≡ number_at 32 name.now (rows_of (found_of matches.now)) }
+    ensures { result ≡ number_under 32 name.now (rows_of (found_of matches.now)) }
 {
     matches.get_one::<u32>(name).unwrap_or(0)
 }
 
 /// The short number under a name.
 pub fn short_number(matches: &ArgMatches<'_>, name: &str) -> u16
-    ensures { result ≡ number_at 16 name.now (rows_of (found_of matches.now)) }
+    ensures { result ≡ number_under 16 name.now (rows_of (found_of matches.now)) }
 {
     matches.get_one::<u16>(name).unwrap_or(0)
 }
 
 /// The small number under a name.
 pub fn small_number(matches: &ArgMatches<'_>, name: &str) -> u8
-    ensures { result ≡ number_at 8 name.now (rows_of (found_of matches.now)) }
+    ensures { result ≡ number_under 8 name.now (rows_of (found_of matches.now)) }
 {
     matches.get_one::<u8>(name).unwrap_or(0)
 }
 
 /// The form of a chip under a name: form 1 where it is asked for, and else form 2.
 pub fn form(matches: &ArgMatches<'_>, name: &str) -> u8
-    ensures { result ≡ form_of (number_at 8 name.now (rows_of (found_of matches.now))) }
+    ensures { result ≡ form_asked (number_under 8 name.now (rows_of (found_of matches.now))) }
 {
     if small_number(matches, name) == OLD_FORM {
         OLD_FORM

@@ -1,6 +1,6 @@
 //! The verbs of the program.
 ghost use Rattle.std.specs.Prelude.{◌≡◌, bytes_eq, map, string_bytes};
-ghost use Rattle.dg_command.specs.Verbs.{verb_of, verb_in, word_of};
+ghost use Rattle.dg_command.specs.Verbs.{command_verb, verb_in, command_word};
 
 /// The first word of a command.
 #[derive(Clone, Copy, Debug, PartialEq, Eq)]
@@ -25,7 +25,7 @@ pub enum Verb {
 impl Verb {
     /// The verb of a word.
     pub fn of(word: &str) -> Option<Verb>
-        ensures { result ≡ verb_of word.now }
+        ensures { result ≡ command_verb word.now }
     {
         match word {
             "replay" => Some(Verb::Replay),
@@ -59,7 +59,7 @@ impl Verb {
 
     /// The word of a verb.
     pub fn word<'a>(self) -> &'a str
-        ensures { result.now ≡ word_of self }
+        ensures { result.now ≡ command_word self }
     {
         match self {
             Verb::Replay => "replay",

@@ -19,7 +19,7 @@ use Rattle.dg_mote.specs.Changes.{MayClear}
 use Rattle.dg_mote.specs.Agreement.{HonestMessage}
 use Rattle.dg_mote.specs.Well.{IsWell}
 use Rattle.dg_rules.specs.World.{World, Running, Site, Sent, site, wide_at, store_at, with_site, counted, no_site, linked, frame_at, last_frame}
-use Rattle.dg_rules.specs.Events.{Deed, Does, Refuses, Goes, does, mote_of, dt_of, image_version_of, tick_does, heard_sent, heard_last, unless_off}
+use Rattle.dg_rules.specs.Events.{EventEffect, Does, Refuses, Goes, does, mote_of, dt_of, image_version_of, tick_does, heard_sent, heard_last, unless_off}
 use Rattle.dg_rules.specs.Steps.{WorldStep, StepDoes, and_sent}
 use Rattle.dg_rules.specs.Premises.{WorldAgrees, SentIsWell, TrueEvent}
 use Rattle.dg_script.specs.Ranges.{EventInRange, StepInRange}
@@ -107,14 +107,14 @@ true_free w (Frame m dt word bytes) free = absurd cc
 
 -- ---- what a free event does
 
-pub record FreeDeed (w : World) (m : ℕ) (d : Deed) : Type 0 where
+pub record FreeEffect (w : World) (m : ℕ) (d : EventEffect) : Type 0 where
   pub table : d.table ≡ w.table
   pub on : (runs : Option Running) → d.runs ≡ Some runs → (r : Running) × (runs ≡ Some r)
   pub stays : Stays w.table (store_at w m) (last d.trail)
 
 abbrev pub FreeDoes : World → ℕ → Does → Type 0
 FreeDoes w m (Refuses why) = Unit {0}
-FreeDoes w m (Goes d) = FreeDeed w m d
+FreeDoes w m (Goes d) = FreeEffect w m d
 
 going_on : (r : Running) (runs : Option Running) → ◌≡◌ {A = Option (Option Running)} (Some (Some r)) (Some runs) → (q : Running) × (runs ≡ Some q)
 going_on r runs e = (r, sym (same_running (Some r) runs e))
@@ -125,7 +125,7 @@ starting_on (Some r) id wide now word runs e = going_on (record { image_version 
 
 module _ (laws : Laws) (w : World) (good : WorldAgrees w) where
   hear_free : (m dt word : ℕ) (f : Sent) (r : Running) → SentIsWell w.table f
-      → FreeDeed w m (record { trail = (heard_of r.mote (store_at w m) (w.moment + dt) word f.bytes).trail; table = w.table; started = None; sent = None; runs = Some (Some (record { image_version = r.image_version; mote = (heard_of r.mote (store_at w m) (w.moment + dt) word f.bytes).mote })) })
+      → FreeEffect w m (record { trail = (heard_of r.mote (store_at w m) (w.moment + dt) word f.bytes).trail; table = w.table; started = None; sent = None; runs = Some (Some (record { image_version = r.image_version; mote = (heard_of r.mote (store_at w m) (w.moment + dt) word f.bytes).mote })) })
   hear_free m dt word f r q = record {
     table = refl;
     on = λ runs e. going_on (record { image_version = r.image_version; mote = (heard_of r.mote (store_at w m) (w.moment + dt) word f.bytes).mote }) runs e;

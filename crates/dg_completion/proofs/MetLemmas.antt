@@ -11,7 +11,7 @@ use Rattle.dg_volume.specs.declared.volume.StartCause.TheVariants as cause
 use Rattle.dg_mote.specs.Changes.{MayClear}
 use Rattle.dg_mote.specs.Ticks.{tick_of}
 use Rattle.dg_rules.specs.World.{World, Running, Site, site, store_at, with_site, counted, no_site}
-use Rattle.dg_rules.specs.Events.{Deed, Does, Refuses, Goes, does, mote_of, dt_of}
+use Rattle.dg_rules.specs.Events.{EventEffect, Does, Refuses, Goes, does, mote_of, dt_of}
 use Rattle.dg_rules.specs.Steps.{WorldStep, StepDoes, done_world, done_reports}
 use Rattle.dg_rules.specs.Premises.{WorldAgrees, SentIsWell}
 use Rattle.dg_script.specs.Ranges.{EventInRange}
@@ -32,13 +32,13 @@ use Rattle.dg_completion.proofs.SpendLemmas.{Spends, TakeLaws, golden_sound, sta
 -- ---- what a free event does
 
 -- a mote continues, and few commits were made
-pub record FewDeed (w : World) (m : ℕ) (d : Deed) : Type 0 where
+pub record FewEffect (w : World) (m : ℕ) (d : EventEffect) : Type 0 where
   pub goes_on : (runs : Option Running) × (d.runs ≡ Some runs)
   pub spends : Spends most_commits (store_at w m) (last d.trail)
 
 abbrev pub FewDoes : World → ℕ → Does → Type 0
 FewDoes w m (Refuses why) = Unit {0}
-FewDoes w m (Goes d) = FewDeed w m d
+FewDoes w m (Goes d) = FewEffect w m d
 
 found_runs : (o : Option Runs) (id : ℕ) (wide : Bool) (now word : ℕ) → (o ≡ None → ⊥) → (runs : Option Running) × (running_by o id wide now word ≡ Some runs)
 found_runs None id wide now word found = absurd (found refl)

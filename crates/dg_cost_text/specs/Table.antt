@@ -20,8 +20,8 @@ abbrev pub entry_of : Row → List ℕ × ℕ
 entry_of row = (row.key.items, row.value)
 
 -- the keys and values of rows, in order
-abbrev pub table_of : Rows → List (List ℕ × ℕ)
-table_of rows = map entry_of rows.rows.items
+abbrev pub table_of_rows : Rows → List (List ℕ × ℕ)
+table_of_rows rows = map entry_of rows.rows.items
 
 -- the rows of these names, with this beginning and end of their keys, with these values
 abbrev pub named_rows : (before after : List ℕ) → (names : List (List ℕ)) → (values : List ℕ) → List (List ℕ × ℕ)

@@ -1,6 +1,6 @@
 //! What was counted, as rows of a key and a value.
 ghost use Rattle.std.specs.Prelude.{◌≡◌, ◌∷◌, ◌++◌, [], map, min, length, OnOk, IfOk};
-ghost use Rattle.dg_cost_text.specs.Table.{part_text, key_of, table_of, named_rows, Begins};
+ghost use Rattle.dg_cost_text.specs.Table.{part_text, key_of, table_of_rows, named_rows, Begins};
 
 use crate::moment::{Moment, What};
 use dg_base::push_u32;
@@ -46,7 +46,7 @@ pub enum Part<'a> {
 impl Rows {
     /// There are none yet.
     pub fn new(alloc: Global) -> Rows
-        ensures { table_of result ≡ [] }
+        ensures { table_of_rows result ≡ [] }
     {
         Rows {
             alloc,
@@ -57,7 +57,7 @@ impl Rows {
 
     /// A row with a key of these parts.
     pub fn push(&mut self, parts: &[Part<'_>], value: u64, summed: bool) -> Result<(), AllocError>
-        ensures { OnOk result (table_of self.new ≡ table_of self.old ++ (key_of parts.now [], value) ∷ []) }
+        ensures { OnOk result (table_of_rows self.new ≡ table_of_rows self.old ++ (key_of parts.now [], value) ∷ []) }
     {
         self.push_ended(parts, "", value, summed)
     }
@@ -70,7 +70,7 @@ impl Rows {
         value: u64,
         summed: bool,
     ) -> Result<(), AllocError>
-        ensures { OnOk result (table_of self.new ≡ table_of self.old ++ (key_of parts.now end.now, value) ∷ []) }
+        ensures { OnOk result (table_of_rows self.new ≡ table_of_rows self.old ++ (key_of parts.now end.now, value) ∷ []) }
     {
         let key = key_text(self.alloc, parts, end)?;
         self.rows.push(Row { key, value, summed })?;
@@ -79,7 +79,7 @@ impl Rows {
 
     /// A row with the key of another row.
     pub fn push_as(&mut self, row: &Row, value: u64) -> Result<(), AllocError>
-        ensures { OnOk result (table_of self.new ≡ table_of self.old ++ (row.now.key.items, value) ∷ []) }
+        ensures { OnOk result (table_of_rows self.new ≡ table_of_rows self.old ++ (row.now.key.items, value) ∷ []) }
     {
         let mut key = Vec::new(self.alloc);
         key.extend_from_slice(&row.key)?;
@@ -93,14 +93,14 @@ impl Rows {
 
     /// A row whose sum over the motes is a row of `all`.
     pub fn sum(&mut self, key: &str, value: u64) -> Result<(), AllocError>
-        ensures { OnOk result (table_of self.new ≡ table_of self.old ++ (key.now, value) ∷ []) }
+        ensures { OnOk result (table_of_rows self.new ≡ table_of_rows self.old ++ (key.now, value) ∷ []) }
     {
         self.push(&[Part::Text(key)], value, true)
     }
 
     /// A row of a mote alone, or of all motes alone.
     pub fn own(&mut self, key: &str, value: u64) -> Result<(), AllocError>
-        ensures { OnOk result (table_of self.new ≡ table_of self.old ++ (key.now, value) ∷ []) }
+        ensures { OnOk result (table_of_rows self.new ≡ table_of_rows self.old ++ (key.now, value) ∷ []) }
     {
         self.push(&[Part::Text(key)], value, false)
     }
@@ -113,7 +113,7 @@ impl Rows {
         values: &[u64],
         after: &str,
     ) -> Result<(), AllocError>
-        ensures { OnOk result (table_of self.new ≡ table_of self.old
+        ensures { OnOk result (table_of_rows self.new ≡ table_of_rows self.old
             ++ named_rows before.now after.now (map (λ n. n.now) names.now) values.now) }
     {
         let count = names.len().min(values.len());
@@ -125,7 +125,8 @@ impl Rows {
 
     /// A row for this name, between two pieces of the key.
     fn named(&mut self, before: &str, name: &str, value: u64, after: &str) -> Result<(), AllocError>
-        ensures { OnOk result (table_of self.new ≡ table_of self.old ++ (before.now ++ (name.now ++ after.now), value) ∷ []) }
+        ensures { OnOk result (table_of_rows self.new
+            ≡ table_of_rows self.old ++ (before.now ++ (name.now ++ after.now), value) ∷ []) }
     {
         let parts = [Part::Text(before), Part::Text(name)];
         self.push_ended(&parts, after, value, true)
@@ -133,7 +134,7 @@ impl Rows {
 
     /// Two rows for a share.
     pub fn share(&mut self, before: &str, name: &str, share: Share) -> Result<(), AllocError>
-        ensures { OnOk result (Begins (table_of self.old) (table_of self.new)) }
+        ensures { OnOk result (Begins (table_of_rows self.old) (table_of_rows self.new)) }
     {
         let parts = [Part::Text(before), Part::Text(name)];
         self.push_ended(&parts, ".count", share.count, true)?;
@@ -147,7 +148,7 @@ impl Rows {
         names: &[&str],
         shares: &[Share],
     ) -> Result<(), AllocError>
-        ensures { OnOk result (Begins (table_of self.old) (table_of self.new)) }
+        ensures { OnOk result (Begins (table_of_rows self.old) (table_of_rows self.new)) }
     {
         let count = names.len().min(shares.len());
         for index in 0..count {
@@ -158,7 +159,7 @@ impl Rows {
 
     /// The two rows of a moment.
     pub fn moment(&mut self, what: What, at: Moment) -> Result<(), AllocError>
-        ensures { OnOk result (Begins (table_of self.old) (table_of self.new)) }
+        ensures { OnOk result (Begins (table_of_rows self.old) (table_of_rows self.new)) }
     {
         self.what_rows(what, at)?;
         self.moments.push((what, at))?;
@@ -166,7 +167,7 @@ impl Rows {
     }
 
     fn what_rows(&mut self, what: What, at: Moment) -> Result<(), AllocError>
-        ensures { OnOk result (Begins (table_of self.old) (table_of self.new)) }
+        ensures { OnOk result (Begins (table_of_rows self.old) (table_of_rows self.new)) }
     {
         match what {
             What::Whole {
@@ -191,7 +192,7 @@ impl Rows {
     }
 
     fn whole(&mut self, image: u8, version: u32, times: u32, at: Moment) -> Result<(), AllocError>
-        ensures { OnOk result (Begins (table_of self.old) (table_of self.new)) }
+        ensures { OnOk result (Begins (table_of_rows self.old) (table_of_rows self.new)) }
     {
         let again = 1 < times;
         let parts = [
@@ -210,7 +211,7 @@ impl Rows {
     }
 
     fn moment_rows(&mut self, parts: &[Part<'_>], at: Moment) -> Result<(), AllocError>
-        ensures { OnOk result (Begins (table_of self.old) (table_of self.new)) }
+        ensures { OnOk result (Begins (table_of_rows self.old) (table_of_rows self.new)) }
     {
         self.push_ended(parts, ".event", at.event, false)?;
         self.push_ended(parts, ".ms", at.ms, false)

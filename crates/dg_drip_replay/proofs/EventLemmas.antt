@@ -3,7 +3,7 @@ use Rattle.std.proofs.Common.{◌≡◌, inl, inr, ℕ, ◌+◌, ◌==◌, ◌&&
 use Rattle.std.specs.Prelude.{Option, Some, None, Result, Ok, Err}
 use Rattle.std.proofs.lemmas.Bool.{cases_Bool, eq-eqb, ne_eqb, both_ways, or_cases, and_parts, ltb-true}
 use Rattle.dg_drip.specs.Sizes.{key_count}
-use Rattle.dg_drip.specs.Cells.{is_last, next_entry, is_same, set_outcome, set_cell, ticked, tells, heard_cell, outcome}
+use Rattle.dg_drip.specs.Cells.{is_last, next_entry, are_same_entries, set_outcome, set_cell, ticked_cell, tells, heard_cell, outcome}
 use Rattle.dg_trickle.specs.Steps.{after_same, after_other}
 use Rattle.dg_drip.specs.Entries.{is_less, greater}
 use Rattle.dg_drip.specs.Network.{Network, entry_at, with_cell_at, heard, told_if, applied}
@@ -18,7 +18,7 @@ use Rattle.dg_drip.specs.declared.node.DripHeard.TheVariants as what
 use Rattle.dg_drip.specs.declared.events.DripEvent.TheVariants.{Set, Tick}
 use Rattle.dg_drip.proofs.OrderLemmas.{less_true, less_false, at_most_anti}
 use Rattle.dg_drip_replay.specs.Reports.{got_if_other, got, report_of_event}
-use Rattle.dg_drip_replay.specs.Standing.{Stands, node_at}
+use Rattle.dg_drip_replay.specs.Standing.{NetworkStands, node_at}
 use Rattle.dg_drip_replay.specs.declared.network.DripNetwork.{DripNetwork}
 use Rattle.dg_drip_replay.specs.declared.report.DripReport.{DripReport}
 use Rattle.dg_drip_replay.specs.declared.report.DripReport.TheVariants.{Refused, Sent, Got}
@@ -34,7 +34,7 @@ here a b = ap (λ (x : Bool). x && (b == b)) (eq-eqb a a refl) ∙ eq-eqb b b re
 with_here : (cells : ℕ → ℕ → Cell) (node key : ℕ) (c : Cell) → with_cell_at cells node key c node key ≡ c
 with_here cells node key c = ap (λ (b : Bool). cond b c (cells node key)) (here node key)
 
-same_refl : (e : Entry) → is_same e e ≡ true
+same_refl : (e : Entry) → are_same_entries e e ≡ true
 same_refl e = here e.number e.value
 
 less_irrefl : (e : Entry) → is_less e e ≡ true → ⊥
@@ -52,11 +52,11 @@ less_one_way a b h =
       | inr g ↦ g
     ]
 
-less_or_other : (a b : Entry) → is_same a b ≡ false → is_less a b ≡ false → is_less b a ≡ true
+less_or_other : (a b : Entry) → are_same_entries a b ≡ false → is_less a b ≡ false → is_less b a ≡ true
 less_or_other a b n h =
     elim (cases_Bool (is_less b a)) [
       | inl g ↦ g
-      | inr g ↦ absurd (both_ways (is_same a b) n (subst (λ (e : Entry). is_same a e ≡ true) (at_most_anti a b (less_false b a g) (less_false a b h)) (same_refl a)))
+      | inr g ↦ absurd (both_ways (are_same_entries a b) n (subst (λ (e : Entry). are_same_entries a e ≡ true) (at_most_anti a b (less_false b a g) (less_false a b h)) (same_refl a)))
     ]
 
 -- ---- sets
@@ -69,7 +69,7 @@ is_last_number : (b : Bool) (n : ℕ) → (let r : Result ℕ SetFault = cond b 
 is_last_number true n e = refl
 is_last_number false n e = absurd (let h : (let r : Result ℕ SetFault = Ok n in r) ≡ Err fault.Last = e in cc)
 
-next_is_other : (e : Entry) (value : ℕ) → is_same (next_entry e value) e ≡ false
+next_is_other : (e : Entry) (value : ℕ) → are_same_entries (next_entry e value) e ≡ false
 next_is_other e value = ap (λ (b : Bool). b && (value == e.value)) (ne_eqb (e.number + 1) e.number (λ h. omega arith))
 
 -- what a set leaves, where a number is left
@@ -99,9 +99,9 @@ set_refused w reported node key value dt word e =
     sym (ap (λ (b : Bool). let r : Option DripReport = cond b (Some (Refused node cause.Last)) (got w (applied w (Set node key value dt word)) node key) in r) (is_last_number (is_last (entry_at w node key)) ((entry_at w node key).number + 1) e))
 
 -- the network after a set
-pub set_stands : (d e : DripNetwork) (w : Network) (node key value dt word : ℕ) → Stands d w → node < length d.nodes.items → key < key_count
+pub set_stands : (d e : DripNetwork) (w : Network) (node key value dt word : ℕ) → NetworkStands d w → node < length d.nodes.items → key < key_count
     → e.moment ≡ d.moment + dt → e.links.items ≡ d.links.items → e.sent.items ≡ d.sent.items → e.nodes.items ≡ set d.nodes.items node (after_set (node_at d.nodes.items node) (d.moment + dt) word key value)
-    → Stands e (applied w (Set node key value dt word))
+    → NetworkStands e (applied w (Set node key value dt word))
 set_stands d e w node key value dt word s h l moment links sent nodes =
     let c : Cell = set_cell (cell_of (node_at d.nodes.items node) key) (d.moment + dt) word value in
     let same : set_cell (w.cells node key) (w.moment + dt) word value ≡ c =
@@ -111,15 +111,15 @@ set_stands d e w node key value dt word s h l moment links sent nodes =
 
 -- ---- ticks
 
-pub tick_stands : (d e : DripNetwork) (w : Network) (node key dt word : ℕ) → Stands d w → node < length d.nodes.items → key < key_count
+pub tick_stands : (d e : DripNetwork) (w : Network) (node key dt word : ℕ) → NetworkStands d w → node < length d.nodes.items → key < key_count
     → e.moment ≡ d.moment + dt → e.links.items ≡ d.links.items → e.nodes.items ≡ set d.nodes.items node (node_after_tick (node_at d.nodes.items node) (d.moment + dt) word key)
     → e.sent.items ≡ d.sent.items ++ told_if (tells (cell_of (node_at d.nodes.items node) key) (d.moment + dt)) (said_by (node_at d.nodes.items node) key)
-    → Stands e (applied w (Tick node key dt word))
+    → NetworkStands e (applied w (Tick node key dt word))
 tick_stands d e w node key dt word s h l moment links nodes sent =
     let n : Node = node_at d.nodes.items node in
-    let c : Cell = ticked (cell_of n key) (d.moment + dt) word in
-    let same : ticked (w.cells node key) (w.moment + dt) word ≡ c =
-    ap (λ (m : ℕ). ticked (w.cells node key) (m + dt) word) (sym s.moment) ∙ ap (λ (x : Cell). ticked x (d.moment + dt) word) (sym (s.cells node key h l)) in
+    let c : Cell = ticked_cell (cell_of n key) (d.moment + dt) word in
+    let same : ticked_cell (w.cells node key) (w.moment + dt) word ≡ c =
+    ap (λ (m : ℕ). ticked_cell (w.cells node key) (m + dt) word) (sym s.moment) ∙ ap (λ (x : Cell). ticked_cell x (d.moment + dt) word) (sym (s.cells node key h l)) in
     let said : said_by n key ≡ record { source = node; key = key; entry = entry_at w node key } =
     ap (λ (i : ℕ). let r : Said = record { source = i; key = key; entry = (cell_of n key).entry } in r) (s.ids node h) ∙ ap (λ (x : Cell). let r : Said = record { source = node; key = key; entry = x.entry } in r) (s.cells node key h l) in
     let told : tells (cell_of n key) (d.moment + dt) ≡ tells (w.cells node key) (w.moment + dt) =
@@ -134,7 +134,7 @@ tick_stands d e w node key dt word s h l moment links nodes sent =
     )
 
 -- the timer of the code's node says what that of the network says
-pub tick_tells : (d : DripNetwork) (w : Network) (node key dt : ℕ) (b : Bool) → Stands d w → node < length d.nodes.items → key < key_count
+pub tick_tells : (d : DripNetwork) (w : Network) (node key dt : ℕ) (b : Bool) → NetworkStands d w → node < length d.nodes.items → key < key_count
     → tells (cell_of (node_at d.nodes.items node) key) (d.moment + dt) ≡ b → tells (w.cells node key) (w.moment + dt) ≡ b
 tick_tells d w node key dt b s h l e =
     ap (λ (m : ℕ). tells (w.cells node key) (m + dt)) (sym s.moment) ∙ ap (λ (x : Cell). tells x (d.moment + dt)) (sym (s.cells node key h l)) ∙ e
@@ -151,7 +151,7 @@ tick_told w reported node key dt word entry is tell same =
 -- ---- frames that are heard
 
 -- what a node keeps after a frame
-heard_entry : (c : Cell) (now word : ℕ) (e : Entry) (b : Bool) → is_same e c.entry ≡ b → (heard_cell c now word e).entry ≡ cond b c.entry (greater c.entry e)
+heard_entry : (c : Cell) (now word : ℕ) (e : Entry) (b : Bool) → are_same_entries e c.entry ≡ b → (heard_cell c now word e).entry ≡ cond b c.entry (greater c.entry e)
 heard_entry c now word e true is =
     ap (λ (b : Bool). (let d : Cell = cond b (record { entry = c.entry; timer = after_same c.timer }) (record { entry = greater c.entry e; timer = after_other c.timer now word }) in d).entry) is
 heard_entry c now word e false is =
@@ -164,7 +164,7 @@ heard_report node key e what.Same = None
 heard_report node key e what.Older = None
 heard_report node key e (what.Newer k) = Some (Got node k e)
 
-report_by : (node key : ℕ) (c : Cell) (now word : ℕ) (e : Entry) (s l : Bool) → is_same e c.entry ≡ s → is_less e c.entry ≡ l
+report_by : (node key : ℕ) (c : Cell) (now word : ℕ) (e : Entry) (s l : Bool) → are_same_entries e c.entry ≡ s → is_less e c.entry ≡ l
     → heard_report node key e (cond s what.Same (cond l what.Older (what.Newer key))) ≡ got_if_other node key c.entry (heard_cell c now word e).entry
 report_by node key c now word e true l is less =
     sym (ap (got_if_other node key c.entry) (heard_entry c now word e true is) ∙ ap (λ (b : Bool). let r : Option DripReport = cond b None (Some (Got node key c.entry)) in r) (same_refl c.entry))
@@ -184,13 +184,13 @@ pub heard_told : (w : Network) (node word : ℕ) (s : Said) (answer : DripHeard)
 heard_told w node word s answer is =
     let c : Cell = w.cells node s.key in
     ap (heard_report node s.key s.entry) is
-    ∙ report_by node s.key c w.moment word s.entry (is_same s.entry c.entry) (is_less s.entry c.entry) refl refl
+    ∙ report_by node s.key c w.moment word s.entry (are_same_entries s.entry c.entry) (is_less s.entry c.entry) refl refl
     ∙ ap (λ (d : Cell). got_if_other node s.key c.entry d.entry) (sym (with_here w.cells node s.key (heard_cell c w.moment word s.entry)))
 
-pub heard_stands : (d e : DripNetwork) (w : Network) (node word : ℕ) (s : Said) → Stands d w → node < length d.nodes.items → s.key < key_count
+pub heard_stands : (d e : DripNetwork) (w : Network) (node word : ℕ) (s : Said) → NetworkStands d w → node < length d.nodes.items → s.key < key_count
     → e.moment ≡ d.moment → e.links.items ≡ d.links.items → e.sent.items ≡ d.sent.items
     → e.nodes.items ≡ set d.nodes.items node (with_cell (node_at d.nodes.items node) s.key (heard_cell (cell_of (node_at d.nodes.items node) s.key) d.moment word s.entry))
-    → Stands e (heard w node w.moment word (Some s))
+    → NetworkStands e (heard w node w.moment word (Some s))
 heard_stands d e w node word s t h l moment links sent nodes =
     let c : Cell = heard_cell (cell_of (node_at d.nodes.items node) s.key) d.moment word s.entry in
     let same : heard_cell (w.cells node s.key) w.moment word s.entry ≡ c =
@@ -199,8 +199,8 @@ heard_stands d e w node word s t h l moment links sent nodes =
     (moment ∙ t.moment) (links ∙ t.links) (sent ∙ t.sent)
 
 -- only the moment went on
-pub later_stands : (d e : DripNetwork) (w : Network) (dt : ℕ) → Stands d w → e.moment ≡ d.moment + dt → e.links.items ≡ d.links.items → e.sent.items ≡ d.sent.items → e.nodes.items ≡ d.nodes.items
-    → Stands e (record w { moment = w.moment + dt })
+pub later_stands : (d e : DripNetwork) (w : Network) (dt : ℕ) → NetworkStands d w → e.moment ≡ d.moment + dt → e.links.items ≡ d.links.items → e.sent.items ≡ d.sent.items → e.nodes.items ≡ d.nodes.items
+    → NetworkStands e (record w { moment = w.moment + dt })
 later_stands d e w dt s moment links sent nodes = record {
   moment = moment ∙ ap (λ (m : ℕ). m + dt) s.moment;
   links = links ∙ s.links;

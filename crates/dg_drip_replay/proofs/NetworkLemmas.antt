@@ -3,18 +3,18 @@ use Rattle.std.proofs.Common.{◌≡◌, ℕ, ◌==◌, ◌&&◌, ◌<◌, Bool,
 use Rattle.std.proofs.lemmas.Bool.{eqb-true, eqb-false}
 use Rattle.std.proofs.lemmas.List.{get_or-set_same, get_or-set_other, length-set}
 use Rattle.dg_drip.specs.Sizes.{key_count}
-use Rattle.dg_drip.specs.Cells.{fresh}
+use Rattle.dg_drip.specs.Cells.{empty_cell}
 use Rattle.dg_drip.specs.Network.{Network, with_cell_at}
 use Rattle.dg_drip.specs.Nodes.{Node, new_node, cell_of, with_cell}
 use Rattle.dg_drip.specs.declared.node.Cell.{Cell}
-use Rattle.dg_drip_replay.specs.Standing.{Stands, node_at}
+use Rattle.dg_drip_replay.specs.Standing.{NetworkStands, node_at}
 use Rattle.dg_drip_replay.specs.declared.network.DripNetwork.{DripNetwork}
 
 -- ---- one cell changed
 
 cell_with : (n : Node) (key k : ℕ) (c : Cell) (b : Bool) → (k == key) ≡ b → key < length n.cells → cell_of (with_cell n key c) k ≡ cond b c (cell_of n k)
-cell_with n key k c true e h = ap (λ (j : ℕ). get_or (set n.cells key c) j (fresh 0 0)) (eqb-true k key e) ∙ get_or-set_same n.cells key c (fresh 0 0) h
-cell_with n key k c false e h = get_or-set_other n.cells key k c (fresh 0 0) (eqb-false k key e)
+cell_with n key k c true e h = ap (λ (j : ℕ). get_or (set n.cells key c) j (empty_cell 0 0)) (eqb-true k key e) ∙ get_or-set_same n.cells key c (empty_cell 0 0) h
+cell_with n key k c false e h = get_or-set_other n.cells key k c (empty_cell 0 0) (eqb-false k key e)
 
 node_with : (nodes : List Node) (at m : ℕ) (n : Node) (b : Bool) → (m == at) ≡ b → at < length nodes → node_at (set nodes at n) m ≡ cond b n (node_at nodes m)
 node_with nodes at m n true e h = ap (λ (j : ℕ). get_or (set nodes at n) j (new_node 0 0 0)) (eqb-true m at e) ∙ get_or-set_same nodes at n (new_node 0 0 0) h
@@ -48,9 +48,9 @@ long_with nodes at m key c false e h is = ap (λ (n : Node). length n.cells) (no
 -- ---- the network
 
 -- what happened at a node and a key is what happens there in the network
-pub stands_with : (d e : DripNetwork) (w v : Network) (at key : ℕ) (c : Cell) → Stands d w → at < length d.nodes.items → key < key_count
+pub stands_with : (d e : DripNetwork) (w v : Network) (at key : ℕ) (c : Cell) → NetworkStands d w → at < length d.nodes.items → key < key_count
     → e.nodes.items ≡ set d.nodes.items at (with_cell (node_at d.nodes.items at) key c) → v.cells ≡ with_cell_at w.cells at key c
-    → e.moment ≡ v.moment → e.links.items ≡ v.links → e.sent.items ≡ v.sent → Stands e v
+    → e.moment ≡ v.moment → e.links.items ≡ v.links → e.sent.items ≡ v.sent → NetworkStands e v
 stands_with d e w v at key c s h l nodes cells moment links sent =
     let many : length e.nodes.items ≡ length d.nodes.items = ap length nodes ∙ length-set d.nodes.items at (with_cell (node_at d.nodes.items at) key c) in
     let long : key < length (node_at d.nodes.items at).cells = subst (λ (n : ℕ). key < n) (sym (s.long at h)) l in

@@ -4,10 +4,10 @@ use Rattle.std.proofs.lemmas.Bool.{cases_lt}
 use Rattle.std.proofs.lemmas.List.{get_or_append_left, get_or-replicate, length-replicate}
 use Rattle.std.proofs.Math.Seq.{get_or-append_seam}
 use Rattle.dg_drip.specs.Sizes.{key_count}
-use Rattle.dg_drip.specs.Cells.{fresh}
+use Rattle.dg_drip.specs.Cells.{empty_cell}
 use Rattle.dg_drip.specs.Network.{start}
 use Rattle.dg_drip.specs.Nodes.{Node, new_node, cell_of}
-use Rattle.dg_drip_replay.specs.Standing.{Stands, node_at}
+use Rattle.dg_drip_replay.specs.Standing.{NetworkStands, node_at}
 use Rattle.dg_drip_replay.specs.declared.network.DripNetwork.{DripNetwork}
 
 -- this many nodes are new
@@ -33,12 +33,12 @@ new_more nodes id n a is = record {
       ];
 }
 
-pub stands_start : (d : DripNetwork) (count : ℕ) → AreNew d.nodes.items count → d.moment ≡ 0 → d.links.items ≡ [] → d.sent.items ≡ [] → Stands d (start [])
+pub stands_start : (d : DripNetwork) (count : ℕ) → AreNew d.nodes.items count → d.moment ≡ 0 → d.links.items ≡ [] → d.sent.items ≡ [] → NetworkStands d (start [])
 stands_start d count a moment links sent = record {
   moment = moment;
   links = links;
   sent = sent;
-  long = λ m within. ap (λ (n : Node). length n.cells) (a.each m within) ∙ length-replicate key_count (fresh 0 0);
+  long = λ m within. ap (λ (n : Node). length n.cells) (a.each m within) ∙ length-replicate key_count (empty_cell 0 0);
   ids = λ m within. ap (λ (n : Node). n.id) (a.each m within);
-  cells = λ m k within small. ap (λ (n : Node). cell_of n k) (a.each m within) ∙ get_or-replicate key_count k (fresh 0 0) (fresh 0 0) small;
+  cells = λ m k within small. ap (λ (n : Node). cell_of n k) (a.each m within) ∙ get_or-replicate key_count k (empty_cell 0 0) (empty_cell 0 0) small;
 }

@@ -4,15 +4,15 @@ use Rattle.dg_drip.specs.declared.entry.Entry.{Entry}
 use Rattle.dg_drip.specs.declared.frame.Said.{Said}
 use Rattle.dg_drip.specs.declared.events.DripEvent.{DripEvent}
 use Rattle.dg_drip.specs.declared.events.DripEvent.TheVariants.{Set, Tick, Hear, Last}
-use Rattle.dg_drip.specs.Cells.{is_last, is_same, tells}
-use Rattle.dg_drip.specs.Network.{Network, entry_at, is_linked, frame_numbered, last_said, applied}
+use Rattle.dg_drip.specs.Cells.{is_last, are_same_entries, tells}
+use Rattle.dg_drip.specs.Network.{Network, entry_at, are_drip_neighbours, frame_numbered, last_said, applied}
 use Rattle.dg_drip_replay.specs.declared.report.DripCause.TheVariants as cause
 use Rattle.dg_drip_replay.specs.declared.report.DripReport.{DripReport}
 use Rattle.dg_drip_replay.specs.declared.report.DripReport.TheVariants.{Refused, Sent, Got}
 
 -- a node got an entry, if what it keeps of the key changed
 abbrev pub got_if_other : (node key : ℕ) → (old new : Entry) → Option DripReport
-got_if_other node key old new = if is_same new old then None else Some (Got node key new)
+got_if_other node key old new = if are_same_entries new old then None else Some (Got node key new)
 
 -- what a node keeps of a key has changed
 abbrev pub got : (old new : Network) → (node key : ℕ) → Option DripReport
@@ -22,7 +22,7 @@ got old new node key = got_if_other node key (entry_at old node key) (entry_at n
 abbrev pub report_of_frame : (old new : Network) → ℕ → Option Said → Option DripReport
 report_of_frame old new node None = Some (Refused node cause.Frame)
 report_of_frame old new node (Some s) =
-    if is_linked old.links s.source node then got old new node s.key else Some (Refused node cause.Link)
+    if are_drip_neighbours old.links s.source node then got old new node s.key else Some (Refused node cause.Link)
 
 -- in a round nothing is refused
 abbrev pub report_of_last : (old new : Network) → ℕ → Option Said → Option DripReport

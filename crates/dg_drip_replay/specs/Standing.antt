@@ -4,7 +4,7 @@ use Rattle.std.specs.Prelude.{[]}
 use Rattle.dg_drip.specs.Sizes.{key_count}
 use Rattle.dg_drip.specs.declared.events.DripEvent.{DripEvent}
 use Rattle.dg_drip.specs.declared.events.DripEvent.TheVariants.{Set, Tick, Hear, Last}
-use Rattle.dg_drip.specs.Network.{Network, applied, heard, is_linked}
+use Rattle.dg_drip.specs.Network.{Network, applied, heard, are_drip_neighbours}
 use Rattle.dg_drip.specs.Nodes.{Node, new_node, cell_of}
 use Rattle.dg_drip.specs.declared.frame.Said.{Said}
 use Rattle.dg_drip_replay.specs.Reports.{report_of_event, got}
@@ -16,7 +16,7 @@ abbrev pub node_at : List Node → ℕ → Node
 node_at nodes m = slice_index_or nodes m (new_node 0 0 0)
 
 -- Its nodes keep what those of the network keep, and each has its position as its number.
-pub record Stands (d : DripNetwork) (w : Network) : Type 0 where
+pub record NetworkStands (d : DripNetwork) (w : Network) : Type 0 where
   pub moment : d.moment ≡ w.moment
   pub links : d.links.items ≡ w.links
   pub sent : d.sent.items ≡ w.sent
@@ -36,19 +36,20 @@ abbrev pub AreKeyed : List Said → Type 0
 AreKeyed sent = All (λ s. s.key < key_count) sent
 
 -- an event was applied in the network, and this is reported of it
-pub record Does (d : DripNetwork) (w : Network) (reported : Bool) (event : DripEvent) (report : Option DripReport) : Type 0 where
-  pub after : Stands d (applied w event)
+pub record DripDoes (d : DripNetwork) (w : Network) (reported : Bool) (event : DripEvent) (report : Option DripReport)
+    : Type 0 where
+  pub after : NetworkStands d (applied w event)
   pub report_is : report ≡ report_of_event w reported event
 
 -- The clock went on by dt, and there are as many nodes as before.
-pub record Passes (old new : DripNetwork) (dt : ℕ) : Type 0 where
+pub record TimePasses (old new : DripNetwork) (dt : ℕ) : Type 0 where
   pub moment : new.moment ≡ old.moment + dt
   pub nodes : length new.nodes.items ≡ length old.nodes.items
   pub keyed : AreKeyed new.sent.items
 
 -- A node heard the contents of a frame, at the moment of the network.
 pub record Hears (d : DripNetwork) (w : Network) (node word : ℕ) (s : Said) (report : Option DripReport) : Type 0 where
-  pub after : Stands d (heard w node w.moment word (Some s))
+  pub after : NetworkStands d (heard w node w.moment word (Some s))
   pub report_is : report ≡ got w (heard w node w.moment word (Some s)) node s.key
 
 -- how long it is since the event before
@@ -59,5 +60,5 @@ time_of (Hear node dt word frame) = dt
 time_of (Last from to key) = 0
 
 -- two nodes are neighbours, unless they are already
-abbrev pub with_link : Network → ℕ → ℕ → Network
-with_link w a b = if is_linked w.links a b then w else record w { links = w.links ++ (a, b) ∷ [] }
+abbrev pub with_neighbours : Network → ℕ → ℕ → Network
+with_neighbours w a b = if are_drip_neighbours w.links a b then w else record w { links = w.links ++ (a, b) ∷ [] }

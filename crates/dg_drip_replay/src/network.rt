@@ -3,12 +3,12 @@ ghost use Rattle.std.specs.Prelude.{◌≡◌, ℕ, ◌+◌, ◌-◌, ◌==◌, 
 ghost use Rattle.std.specs.Prelude.{length, slice_set, slice_index_or};
 ghost use Rattle.dg_drip.specs.Sizes.{key_count};
 ghost use Rattle.dg_drip.specs.Cells.{outcome, heard_cell};
-ghost use Rattle.dg_drip.specs.Network.{Network, start, entry_at, is_linked, frame_numbered, is_of, last_said};
+ghost use Rattle.dg_drip.specs.Network.{Network, start, entry_at, are_drip_neighbours, frame_numbered, is_of, last_said};
 ghost use Rattle.dg_drip.specs.Nodes.{cell_of, with_cell, set_answer, after_set, told_by, node_after_tick};
 ghost use Rattle.dg_drip.specs.declared.events.DripEvent.TheVariants.{Set, Tick, Hear, Last};
 ghost use Rattle.dg_drip_replay.specs.Reports.{report_of_event};
-ghost use Rattle.dg_drip_replay.specs.Standing.{Stands, FitsDripEvent, AreKeyed, Does, Hears, Passes, node_at, time_of};
-ghost use Rattle.dg_drip_replay.specs.Standing.{with_link};
+ghost use Rattle.dg_drip_replay.specs.Standing.{NetworkStands, FitsDripEvent, AreKeyed, DripDoes, Hears, TimePasses, node_at};
+ghost use Rattle.dg_drip_replay.specs.Standing.{time_of, with_neighbours};
 
 use crate::report::{DripCause, DripReport};
 use dg_drip::{DripEvent, DripHeard, DripNode, Entry, Said, SetFault};
@@ -76,7 +76,7 @@ fn joins(link: (u8, u8), a: u16, b: u8) -> bool
 
 // Whether two nodes are neighbours.
 fn is_linked(links: &[(u8, u8)], a: u16, b: u8) -> bool
-    ensures { result ≡ is_linked links.now a b }
+    ensures { result ≡ are_drip_neighbours links.now a b }
 {
     links.iter().any(|link| joins(*link, a, b))
 }
@@ -116,7 +116,7 @@ fn last_of(sent: &[Said], node: u8, key: u8) -> Option<Said>
 impl DripNetwork {
     /// `count` nodes that keep nothing and have no links.
     pub fn new(alloc: Global, count: u8) -> Result<DripNetwork, AllocError>
-        ensures start { IfOk result (λ d. Stands d (start [])) }
+        ensures start { IfOk result (λ d. NetworkStands d (start [])) }
         ensures nodes { IfOk result (λ d. length d.nodes.items ≡ count) }
         ensures moment { IfOk result (λ d. d.moment ≡ 0) }
         ensures keyed { IfOk result (λ d. AreKeyed d.sent.items) }
@@ -139,9 +139,9 @@ impl DripNetwork {
         requires key { key < key_count }
         requires moment { self.old.moment + dt < 2 ^ 62 }
         requires keyed { AreKeyed self.old.sent.items }
-        ensures does { (w : Network) (reported : Bool) → Stands self.old w
-            → Does self.new w reported (Set node key value dt word) (Some result) }
-        ensures passes { Passes self.old self.new dt }
+        ensures does { (w : Network) (reported : Bool) → NetworkStands self.old w
+            → DripDoes self.new w reported (Set node key value dt word) (Some result) }
+        ensures passes { TimePasses self.old self.new dt }
     {
         self.moment += u64::from(dt);
         match set_at(&mut self.nodes, node, self.moment, word, key, value) {
@@ -170,8 +170,9 @@ impl DripNetwork {
         requires key { key < key_count }
         requires moment { self.old.moment + dt < 2 ^ 62 }
         requires keyed { AreKeyed self.old.sent.items }
-        ensures does { (w : Network) → Stands self.old w → IfOk result (Does self.new w reported (Tick node key dt word)) }
-        ensures passes { OnOk result (Passes self.old self.new dt) }
+        ensures does { (w : Network) → NetworkStands self.old w
+            → IfOk result (DripDoes self.new w reported (Tick node key dt word)) }
+        ensures passes { OnOk result (TimePasses self.old self.new dt) }
     {
         self.moment += u64::from(dt);
         let Some(said) = tick_at(&mut self.nodes, node, self.moment, word, key) else {
@@ -194,8 +195,8 @@ impl DripNetwork {
         requires key { said.now.key < key_count }
         requires moment { self.old.moment < 2 ^ 62 }
         requires keyed { AreKeyed self.old.sent.items }
-        ensures hears { (w : Network) → Stands self.old w → Hears self.new w node word said.now result }
-        ensures passes { Passes self.old self.new 0 }
+        ensures hears { (w : Network) → NetworkStands self.old w → Hears self.new w node word said.now result }
+        ensures passes { TimePasses self.old self.new 0 }
     {
         let DripHeard::Newer { key } = hear_at(&mut self.nodes, node, self.moment, word, said)
         else {
@@ -213,9 +214,9 @@ impl DripNetwork {
         requires node { node < length self.old.nodes.items }
         requires moment { self.old.moment + dt < 2 ^ 62 }
         requires keyed { AreKeyed self.old.sent.items }
-        ensures does { (w : Network) (reported : Bool) → Stands self.old w
-            → Does self.new w reported (Hear node dt word frame) result }
-        ensures passes { Passes self.old self.new dt }
+        ensures does { (w : Network) (reported : Bool) → NetworkStands self.old w
+            → DripDoes self.new w reported (Hear node dt word frame) result }
+        ensures passes { TimePasses self.old self.new dt }
     {
         self.moment += u64::from(dt);
         let Some(said) = numbered(&self.sent, frame) else {
@@ -238,8 +239,9 @@ impl DripNetwork {
         requires node { to < length self.old.nodes.items }
         requires moment { self.old.moment < 2 ^ 62 }
         requires keyed { AreKeyed self.old.sent.items }
-        ensures does { (w : Network) (reported : Bool) → Stands self.old w → Does self.new w reported (Last from to key) result }
-        ensures passes { Passes self.old self.new 0 }
+        ensures does { (w : Network) (reported : Bool) → NetworkStands self.old w
+            → DripDoes self.new w reported (Last from to key) result }
+        ensures passes { TimePasses self.old self.new 0 }
     {
         let said = last_of(&self.sent, from, key)?;
         self.take(to, 0, &said)
@@ -254,8 +256,8 @@ impl DripNetwork {
         requires fits { FitsDripEvent (length self.old.nodes.items) event.now }
         requires moment { self.old.moment + time_of event.now < 2 ^ 62 }
         requires keyed { AreKeyed self.old.sent.items }
-        ensures does { (w : Network) → Stands self.old w → IfOk result (Does self.new w reported event.now) }
-        ensures passes { OnOk result (Passes self.old self.new (time_of event.now)) }
+        ensures does { (w : Network) → NetworkStands self.old w → IfOk result (DripDoes self.new w reported event.now) }
+        ensures passes { OnOk result (TimePasses self.old self.new (time_of event.now)) }
     {
         match *event {
             DripEvent::Set {
@@ -300,7 +302,7 @@ impl DripNetwork {
     pub fn entry(&self, node: u8, key: u8) -> Entry
         requires node { node < length self.now.nodes.items }
         requires key { key < key_count }
-        ensures { (w : Network) → Stands self.now w → result ≡ entry_at w node key }
+        ensures { (w : Network) → NetworkStands self.now w → result ≡ entry_at w node key }
     {
         let (number, value) = self.nodes[usize::from(node)].entry(key);
         Entry { number, value }
@@ -309,8 +311,8 @@ impl DripNetwork {
     /// Two nodes are neighbours from now on.
     pub fn link(&mut self, a: u8, b: u8) -> Result<(), AllocError>
         requires { AreKeyed self.old.sent.items }
-        ensures links { (w : Network) → Stands self.old w → OnOk result (Stands self.new (with_link w a b)) }
-        ensures passes { OnOk result (Passes self.old self.new 0) }
+        ensures links { (w : Network) → NetworkStands self.old w → OnOk result (NetworkStands self.new (with_neighbours w a b)) }
+        ensures passes { OnOk result (TimePasses self.old self.new 0) }
     {
         if is_linked(&self.links, u16::from(a), b) {
             return Ok(());

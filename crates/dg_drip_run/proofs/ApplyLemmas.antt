@@ -3,13 +3,13 @@ use Rattle.std.proofs.Common.{◌≡◌, ◌∙◌, ℕ, ◌<◌, ◌≤◌, ◌
 use Rattle.dg_drip.specs.declared.events.DripEvent.{DripEvent}
 use Rattle.dg_drip.specs.declared.events.DripEvent.TheVariants.{Set, Tick, Hear, Last}
 use Rattle.dg_drip.specs.Network.{Network, start}
-use Rattle.dg_drip_replay.specs.Standing.{Stands, FitsDripEvent, Does, Passes, time_of}
+use Rattle.dg_drip_replay.specs.Standing.{NetworkStands, FitsDripEvent, DripDoes, TimePasses, time_of}
 use Rattle.dg_drip_replay.specs.declared.report.DripReport.{DripReport}
 use Rattle.dg_drip_script.specs.Reports.{reported_text}
-use Rattle.dg_drip_script.specs.Scripts.{DripItem, DripScript, with_items, network_of, events_of, report_of}
+use Rattle.dg_drip_script.specs.Scripts.{DripItem, DripScript, with_items, network_of, drip_events_of, report_of}
 use Rattle.dg_drip_script.specs.Sizes.{most_events}
 use Rattle.std.specs.Prelude.{Result, Ok, Err, OnOk, OnErr}
-use Rattle.dg_drip_run.specs.Playing.{Plays, Filled, IsPlaying, StaysPlaying, DripItemsPlayed}
+use Rattle.dg_drip_run.specs.Playing.{PlayerStands, Filled, IsPlaying, StaysPlaying, DripItemsPlayed}
 use Rattle.dg_drip_run.specs.declared.player.PlayStop.{PlayStop}
 use Rattle.dg_drip_run.specs.declared.player.PlayStop.TheVariants.{TooMany, Memory}
 use Rattle.dg_drip_run.specs.declared.player.Player.{Player}
@@ -29,18 +29,18 @@ one_more is i = length-append is (i ∷ [])
 later : (m dt n : ℕ) → m ≤ n * 2 ^ 32 → dt < 2 ^ 32 → m + dt ≤ (n + 1) * 2 ^ 32
 later m dt n h l = omega (arith, h, l)
 
-pub event_applied : (p q : Player) (s : DripScript) (before : List ℕ) (e : DripEvent) (reported : Bool) (told : Option DripReport) → Plays p s before
+pub event_applied : (p q : Player) (s : DripScript) (before : List ℕ) (e : DripEvent) (reported : Bool) (told : Option DripReport) → PlayerStands p s before
     → FitsDripEvent p.standing.nodes e → time_of e < 2 ^ 32 → p.standing.begun ≡ true → p.events < most_events
-    → Does q.network (network_of s) reported e told → Passes p.network q.network (time_of e)
+    → DripDoes q.network (network_of s) reported e told → TimePasses p.network q.network (time_of e)
     → q.standing ≡ p.standing → q.events ≡ p.events + 1 → q.text.items ≡ p.text.items ++ reported_text told
-    → Plays q (with_items s (record { event = e; reported = reported } ∷ [])) before
+    → PlayerStands q (with_items s (record { event = e; reported = reported } ∷ [])) before
 event_applied p q s before e reported told h fits short on few does passes standing events text =
     let i : DripItem = record { event = e; reported = reported } in
     let nodes_is : p.standing.nodes ≡ s.nodes = ap (λ t. t.nodes) h.standing in
     let begun_is : s.begun ≡ true = sym (ap (λ t. t.begun) h.standing) ∙ on in
     record {
       standing = standing ∙ h.standing;
-      stands = subst (λ (w : Network). Stands q.network w) (sym (run_more (start s.links) s.items i)) does.after;
+      stands = subst (λ (w : Network). NetworkStands q.network w) (sym (run_more (start s.links) s.items i)) does.after;
       nodes = passes.nodes ∙ h.nodes;
       events = events ∙ ap (λ n. n + 1) h.events ∙ sym (one_more s.items i);
       few = let long = one_more s.items i in let count = h.events in omega (arith, few, long, count);
@@ -57,24 +57,24 @@ event_applied p q s before e reported told h fits short on few does passes stand
     }
 
 -- no more events are played, where there are as many as allowed
-pub filled : (p : Player) (s : DripScript) (before : List ℕ) (i : DripItem) → Plays p s before → most_events ≤ p.events → Filled p p (i ∷ []) s before
+pub filled : (p : Player) (s : DripScript) (before : List ℕ) (i : DripItem) → PlayerStands p s before → most_events ≤ p.events → Filled p p (i ∷ []) s before
 filled p s before i h full = record {
   front = [];
   next = i;
   back = [];
   parts = refl;
   full = let none : length (s.items ++ []) ≡ length s.items + 0 = length-append s.items [] in let count = h.events in let few = h.few in omega (arith, full, none, count, few);
-  after = subst (λ (t : DripScript). Plays p t before) (sym (no_items s)) h;
+  after = subst (λ (t : DripScript). PlayerStands p t before) (sym (no_items s)) h;
 }
 
-pub links_of_player : (p : Player) (s : DripScript) (before : List ℕ) → Plays p s before → p.network.links.items ≡ s.links
-links_of_player p s before h = h.stands.links ∙ run_links (start s.links) (events_of s.items)
+pub links_of_player : (p : Player) (s : DripScript) (before : List ℕ) → PlayerStands p s before → p.network.links.items ≡ s.links
+links_of_player p s before h = h.stands.links ∙ run_links (start s.links) (drip_events_of s.items)
 
 -- what is reported of an event was kept, or memory ran out
 pub apply_ran : (r : Result (Unit {0}) PlayStop) (p q : Player) (e : DripEvent) (reported : Bool) (told : Option DripReport)
     → OnOk r (q.text.items ≡ p.text.items ++ reported_text told) → OnErr r (r ≡ Err Memory)
     → FitsDripEvent p.standing.nodes e → time_of e < 2 ^ 32 → p.standing.begun ≡ true → p.events < most_events
-    → ((w : Network) → Stands p.network w → Does q.network w reported e told) → Passes p.network q.network (time_of e)
+    → ((w : Network) → NetworkStands p.network w → DripDoes q.network w reported e told) → TimePasses p.network q.network (time_of e)
     → q.standing ≡ p.standing → q.events ≡ p.events + 1 → DripItemsPlayed r p q (record { event = e; reported = reported } ∷ [])
 apply_ran (Ok u) p q e reported told text stop fits short on few does passes standing events = λ s before h.
     event_applied p q s before e reported told h fits short on few (does (network_of s) h.stands) passes standing events text

@@ -9,11 +9,11 @@ use Rattle.dg_base.specs.declared.answers.Status.{Status}
 use Rattle.dg_base.specs.declared.answers.Status.TheVariants as statuses
 use Rattle.dg_script.specs.LineReading.{IsLine, IsLastLine, HasNoEnd}
 use Rattle.dg_drip_script.specs.Lines.{drip_line_of}
-use Rattle.dg_drip_script.specs.Scripts.{DripScript, first_script, script_of, standing_of}
+use Rattle.dg_drip_script.specs.Scripts.{DripScript, first_script, drip_script_of, standing_of}
 use Rattle.dg_drip_script.specs.Sizes.{most_events, most_used_bytes}
 use Rattle.dg_drip_script.specs.declared.line.DripFault.{DripFault}
 use Rattle.dg_drip_run.specs.AroundDrip.{AroundDrip}
-use Rattle.dg_drip_run.specs.Dripped.{Ending, Ends, BadLine, TooManyEvents, Over, status_of, AreLines, EndsBy, Closed, AreTold, Dripped}
+use Rattle.dg_drip_run.specs.Dripped.{DripEnding, Ends, BadLine, TooManyEvents, Over, drip_status, AreLines, DripEndsBy, Closed, AreTold, Dripped}
 use Rattle.dg_drip_run.specs.Causes.{ended_lines, lines_within, ending_by_lines, ending_within, drip_ending_of, IsDripCaused, InDripLimits, DripEnds}
 use Rattle.dg_drip_run.proofs.EndingLemmas.{above, not_above, rest_within, last_alone, ended-none, given_within, next_within, ends_behind, spelled_then, too_many_by, bad_by, over_behind, no_nodes_behind, ends_at_end}
 
@@ -25,7 +25,7 @@ record Read (ended : Type 0) (most : ℕ) (texts : List (List ℕ)) (given x : L
   fits : length given ≤ most
   is : nat_lt most (length (given ++ x)) ≡ over
   lines : AreLines texts given ended
-  says : script_of texts ≡ Some s
+  says : drip_script_of texts ≡ Some s
 
 behind : (ended : Type 0) (most : ℕ) (texts : List (List ℕ)) (given x : List ℕ) (s : DripScript) (over : Bool) → Read ended most texts given x s over → length s.items ≤ most_events
     → ending_within most over (given ++ x) ≡ ending_by_lines over s (1 + length texts) (rest_within (most - length given) over x)
@@ -40,13 +40,13 @@ not_over : (most : ℕ) (given x : List ℕ) → x ≡ [] → length given ≤ m
 not_over most given x none fits = not_above (length (given ++ x)) most (omega (arith, fits, length-append given x, ap length none))
 
 -- the ending of these bytes, whether they are too many or not
-abbrev of_bytes : (most : ℕ) → List ℕ → Ending
+abbrev of_bytes : (most : ℕ) → List ℕ → DripEnding
 of_bytes most input = ending_within most (nat_lt most (length input)) input
 
-at_flag : (most : ℕ) (input : List ℕ) (over : Bool) (e : Ending) → nat_lt most (length input) ≡ over → ending_within most over input ≡ e → of_bytes most input ≡ e
+at_flag : (most : ℕ) (input : List ℕ) (over : Bool) (e : DripEnding) → nat_lt most (length input) ≡ over → ending_within most over input ≡ e → of_bytes most input ≡ e
 at_flag most input over e is h = ap (λ (b : Bool). ending_within most b input) is ∙ h
 
-module _ (most : ℕ) (texts : List (List ℕ)) (given ahead more : List ℕ) (s : DripScript) (at_end : Type 0) (last : at_end → more ≡ []) (fits : length given ≤ most) (are : AreLines texts given (at_end × (ahead ≡ []))) (says : script_of texts ≡ Some s) where
+module _ (most : ℕ) (texts : List (List ℕ)) (given ahead more : List ℕ) (s : DripScript) (at_end : Type 0) (last : at_end → more ≡ []) (fits : length given ≤ most) (are : AreLines texts given (at_end × (ahead ≡ []))) (says : drip_script_of texts ≡ Some s) where
   read : (over : Bool) → nat_lt most (length (given ++ (ahead ++ more))) ≡ over → Read (at_end × (ahead ≡ [])) most texts given (ahead ++ more) s over
   read over is = record { none = λ e. ap (λ (xs : List ℕ). xs ++ more) e.1 ∙ last e.0; fits = fits; is = is; lines = are; says = says }
 
@@ -92,12 +92,12 @@ module _ (most : ℕ) (texts : List (List ℕ)) (given ahead more : List ℕ) (s
       ∙ (ap (λ (xs : List ℕ). ending_by_lines true s (1 + length texts) (ended_lines xs)) front
       ∙ (ap (ending_by_lines true s (1 + length texts)) (ended-none (take left ahead) none) ∙ over_behind s (1 + length texts))))
 
-  too_many_read : (over : Bool) (first : List (List ℕ)) (text : List ℕ) (t : DripScript) → nat_lt most (length (given ++ (ahead ++ more))) ≡ over → most_events < length s.items → texts ≡ first ++ text ∷ [] → script_of first ≡ Some t → length t.items ≤ most_events
+  too_many_read : (over : Bool) (first : List (List ℕ)) (text : List ℕ) (t : DripScript) → nat_lt most (length (given ++ (ahead ++ more))) ≡ over → most_events < length s.items → texts ≡ first ++ text ∷ [] → drip_script_of first ≡ Some t → length t.items ≤ most_events
       → ending_within most over (given ++ (ahead ++ more)) ≡ TooManyEvents
   too_many_read over first text t is many parts told few =
       let r = read over is in
       let rest = rest_within (most - length given) over (ahead ++ more) in
-      let brought = sym (spelled_then first (text ∷ []) first_script t told) ∙ (ap script_of (sym parts) ∙ says) in
+      let brought = sym (spelled_then first (text ∷ []) first_script t told) ∙ (ap drip_script_of (sym parts) ∙ says) in
       ap (ending_by_lines over first_script 1) (given_within most over texts given (ahead ++ more) (at_end × (ahead ≡ [])) r.none fits is are ∙ (ap (λ (ts : List (List ℕ)). ts ++ rest) parts ∙ append_assoc first (text ∷ []) rest))
       ∙ (ends_behind over first (text ∷ rest) first_script t 1 told few ∙ too_many_by over text rest t s (1 + length first) brought many)
 
@@ -105,7 +105,7 @@ module _ (most : ℕ) (texts : List (List ℕ)) (given ahead more : List ℕ) (s
   too_many_at before after many t =
       ⊎_elim
       (λ same. absurd (
-      let told : Some s ≡ Some t.script = sym says ∙ (ap script_of same ∙ t.says) in
+      let told : Some s ≡ Some t.script = sym says ∙ (ap drip_script_of same ∙ t.says) in
       let is : s ≡ t.script = cc in
       let few : length s.items ≤ most_events = subst (λ (u : DripScript). length u.items ≤ most_events) (sym is) t.few in
       omega (arith, few, many)))
@@ -114,11 +114,11 @@ module _ (most : ℕ) (texts : List (List ℕ)) (given ahead more : List ℕ) (s
 
 -- ---- the ending that was read
 
-line_number : (line number : ℕ) (f : DripFault) (e : Ending) → line ≡ number + 1 → e ≡ BadLine (1 + number) f → e ≡ BadLine line f
+line_number : (line number : ℕ) (f : DripFault) (e : DripEnding) → line ≡ number + 1 → e ≡ BadLine (1 + number) f → e ≡ BadLine line f
 line_number line number f e is h = let there : 1 + number ≡ line = omega (arith, is) in h ∙ ap (λ (n : ℕ). BadLine n f) there
 
-pub ends_as_read : (e : Ending) (texts : List (List ℕ)) (given ahead more : List ℕ) (s : DripScript) (at_end : Type 0) (before after : Option (List ℕ)) → (at_end → more ≡ []) → length given ≤ most_used_bytes → AreLines texts given (at_end × (ahead ≡ [])) → script_of texts ≡ Some s
-    → AreTold texts before after → EndsBy e s (length texts) (length given) ahead at_end → of_bytes most_used_bytes (given ++ (ahead ++ more)) ≡ e
+pub ends_as_read : (e : DripEnding) (texts : List (List ℕ)) (given ahead more : List ℕ) (s : DripScript) (at_end : Type 0) (before after : Option (List ℕ)) → (at_end → more ≡ []) → length given ≤ most_used_bytes → AreLines texts given (at_end × (ahead ≡ [])) → drip_script_of texts ≡ Some s
+    → AreTold texts before after → DripEndsBy e s (length texts) (length given) ahead at_end → of_bytes most_used_bytes (given ++ (ahead ++ more)) ≡ e
 ends_as_read Ends texts given ahead more s at_end before after last fits are says told h =
     at_its_end most_used_bytes texts given ahead more s at_end last fits are says h.3 h.0 h.1 ∙ ends_at_end s (1 + length texts) h.2
 ends_as_read (BadLine line f) texts given ahead more s at_end before after last fits are says told h =
@@ -137,13 +137,13 @@ ends_as_read Over texts given ahead more s at_end before after last fits are say
 
 -- ---- the status
 
-by_its_ending : (e : Ending) (r w : Type 0) → IsDripCaused (status_of e) e r w
+by_its_ending : (e : DripEnding) (r w : Type 0) → IsDripCaused (drip_status e) e r w
 by_its_ending Ends r w = refl
 by_its_ending (BadLine line f) r w = refl
 by_its_ending TooManyEvents r w = refl
 by_its_ending Over r w = refl
 
-closed_so : (status : Status) (e : Ending) (report closing : List ℕ) (before after : Option (List ℕ)) (r w : Type 0) → Closed status (status_of e) report closing before after w → IsDripCaused status e r w
+closed_so : (status : Status) (e : DripEnding) (report closing : List ℕ) (before after : Option (List ℕ)) (r w : Type 0) → Closed status (drip_status e) report closing before after w → IsDripCaused status e r w
 closed_so status e report closing before after r w h =
     ⊎_elim
     (λ k. subst (λ (x : Status). IsDripCaused x e r w) (sym k.0) (by_its_ending e r w))
@@ -170,7 +170,7 @@ caused_so status a b x more last =
     let is : drip_ending_of (x.input ++ more) ≡ k.0 =
     of_all (x.input ++ more) ∙ (ap (of_bytes most_used_bytes) (same_input x.given x.ahead x.input more x.parts)
     ∙ ends_as_read k.0 x.texts x.given x.ahead more x.script (AtEnd b.left) a.written b.written last x.used x.lines x.says x.told k.1) in
-    subst (λ (z : Ending). IsDripCaused status z R W) (sym is) (closed_so status k.0 _ _ a.written b.written R W k.2))
+    subst (λ (z : DripEnding). IsDripCaused status z R W) (sym is) (closed_so status k.0 _ _ a.written b.written R W k.2))
     (λ j. ⊎_elim
     (λ k. subst (λ (z : Status). IsDripCaused z e R W) (sym k.0) k.1)
     (λ i. ⊎_elim
@@ -190,12 +190,12 @@ told_so status a b x bytes told =
 
 -- ---- a script in its limits
 
-used_lines : (most : ℕ) (input : List ℕ) (s : DripScript) → script_of (lines input) ≡ Some s → 0 < s.nodes → length s.items ≤ most_events → ending_within most false input ≡ Ends
+used_lines : (most : ℕ) (input : List ℕ) (s : DripScript) → drip_script_of (lines input) ≡ Some s → 0 < s.nodes → length s.items ≤ most_events → ending_within most false input ≡ Ends
 unfolding lines_within
 used_lines most input s says some few =
     ap (ending_by_lines false first_script 1) (sym (append-nil (lines input))) ∙ (ends_behind false (lines input) [] first_script s 1 says few ∙ ends_at_end s (1 + length (lines input)) some)
 
-in_limits : (most : ℕ) (input : List ℕ) (s : DripScript) → length input ≤ most → script_of (lines input) ≡ Some s → 0 < s.nodes → length s.items ≤ most_events → of_bytes most input ≡ Ends
+in_limits : (most : ℕ) (input : List ℕ) (s : DripScript) → length input ≤ most → drip_script_of (lines input) ≡ Some s → 0 < s.nodes → length s.items ≤ most_events → of_bytes most input ≡ Ends
 in_limits most input s fits says some few =
     at_flag most input false Ends (not_above (length input) most fits)
     (used_lines most input s says some few)
@@ -219,7 +219,7 @@ done_or_memory statuses.NoImage r w unread unwritten h = inl h
 pub complete_so : (status : Status) (a b : AroundDrip) → Dripped status a b → (bytes : List ℕ) → a.left ≡ Some bytes → InDripLimits bytes → (Rose a.reads b.reads → ⊥) → (Rose a.writes b.writes → ⊥) → (status ≡ statuses.Done) ⊎ (status ≡ statuses.Memory)
 complete_so status a b x bytes told l unread unwritten =
     let is : drip_ending_of bytes ≡ Ends = of_all bytes ∙ in_limits most_used_bytes bytes l.script l.bytes l.says l.nodes l.events in
-    done_or_memory status (Rose a.reads b.reads) (Rose a.writes b.writes) unread unwritten (subst (λ (e : Ending). IsDripCaused status e (Rose a.reads b.reads) (Rose a.writes b.writes)) is (told_so status a b x bytes told))
+    done_or_memory status (Rose a.reads b.reads) (Rose a.writes b.writes) unread unwritten (subst (λ (e : DripEnding). IsDripCaused status e (Rose a.reads b.reads) (Rose a.writes b.writes)) is (told_so status a b x bytes told))
 
 pub ends_so : (status : Status) (a b : AroundDrip) → Dripped status a b → DripEnds status a b
 ends_so status a b x = record {

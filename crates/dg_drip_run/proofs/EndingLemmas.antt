@@ -9,7 +9,7 @@ use Rattle.std.proofs.lemmas.List.Splits.{slice_split_at, slice_split_none, leng
 use Rattle.std.proofs.Math.Seq.{take-append-add}
 use Rattle.dg_base.proofs.LineLemmas.{lines-ended, lines-last}
 use Rattle.dg_script.specs.LineReading.{IsLine, IsLastLine, HasNoEnd}
-use Rattle.dg_drip.specs.Network.{is_linked}
+use Rattle.dg_drip.specs.Network.{are_drip_neighbours}
 use Rattle.dg_drip_script.specs.Lines.{drip_line_of}
 use Rattle.dg_drip_script.specs.Scripts.{DripItem, DripScript, spelled_behind, then_line, standing_of, with_drip_line}
 use Rattle.dg_drip_script.specs.Sizes.{most_events}
@@ -118,7 +118,7 @@ next_within left true text next y fits l = (ended_lines (take (left - length nex
 grows_by_line : (s : DripScript) (line : DripLine) → length s.items ≤ length (with_drip_line s line).items
 grows_by_line s Nothing = omega arith
 grows_by_line s (Nodes count) = omega arith
-grows_by_line s (Link a b) = by_link (is_linked s.links a b)
+grows_by_line s (Link a b) = by_link (are_drip_neighbours s.links a b)
   where
     by_link : (x : Bool) → length s.items ≤ length (if x then s else record s { links = s.links ++ (a, b) ∷ [] }).items
     by_link true = omega arith

@@ -1,7 +1,7 @@
 -- Events that are played one after the other.
 use Rattle.std.proofs.Common.{◌≡◌, ◌∙◌, List, [], ◌∷◌, ◌++◌, length, ap, sym, subst, append_assoc, append-nil, Result, Ok, Err}
 use Rattle.dg_drip_script.specs.Scripts.{DripItem, DripScript, with_items}
-use Rattle.dg_drip_run.specs.Playing.{Plays, DripItemsPlayed}
+use Rattle.dg_drip_run.specs.Playing.{PlayerStands, DripItemsPlayed}
 use Rattle.dg_drip_run.specs.declared.player.Player.{Player}
 use Rattle.dg_drip_run.specs.declared.player.PlayStop.{PlayStop}
 use Rattle.dg_drip_run.specs.declared.player.PlayStop.TheVariants.{TooMany, Memory}
@@ -13,11 +13,11 @@ two_items : (s : DripScript) (xs ys : List DripItem) → with_items (with_items 
 two_items s xs ys = ap (λ (is : List DripItem). record s { items = is }) (append_assoc s.items xs ys)
 
 pub ran_none : (p : Player) → DripItemsPlayed (Ok tt) p p []
-ran_none p = λ s before h. subst (λ (t : DripScript). Plays p t before) (sym (no_items s)) h
+ran_none p = λ s before h. subst (λ (t : DripScript). PlayerStands p t before) (sym (no_items s)) h
 
 -- events that were all played, and then others
 pub ran_then : (r : Result (Unit {0}) PlayStop) (a b c : Player) (xs ys : List DripItem) → DripItemsPlayed (Ok tt) a b xs → DripItemsPlayed r b c ys → DripItemsPlayed r a c (xs ++ ys)
-ran_then (Ok done) a b c xs ys h k = λ s before p. subst (λ (t : DripScript). Plays c t before) (two_items s xs ys) (k (with_items s xs) before (h s before p))
+ran_then (Ok done) a b c xs ys h k = λ s before p. subst (λ (t : DripScript). PlayerStands c t before) (two_items s xs ys) (k (with_items s xs) before (h s before p))
 ran_then (Err TooMany) a b c xs ys h k = λ s before p.
     let f = k (with_items s xs) before (h s before p) in
     record {
@@ -26,7 +26,7 @@ ran_then (Err TooMany) a b c xs ys h k = λ s before p.
       back = f.back;
       parts = ap (λ zs. xs ++ zs) f.parts ∙ sym (append_assoc xs f.front (f.next ∷ f.back));
       full = ap length (sym (append_assoc s.items xs f.front)) ∙ f.full;
-      after = subst (λ (t : DripScript). Plays c t before) (two_items s xs f.front) f.after;
+      after = subst (λ (t : DripScript). PlayerStands c t before) (two_items s xs f.front) f.after;
     }
 ran_then (Err Memory) a b c xs ys h k = tt
 

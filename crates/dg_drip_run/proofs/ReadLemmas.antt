@@ -9,14 +9,14 @@ use Rattle.dg_base.specs.declared.answers.Status.TheVariants as statuses
 use Rattle.dg_script.specs.LineReading.{Reading, HasNoEnd, IsLine, IsLastLine, Gives, IsAtEnd, IsTooLong}
 use Rattle.dg_script.specs.Sizes.{most_used_bytes}
 use Rattle.dg_drip_script.specs.Lines.{drip_line_of}
-use Rattle.dg_drip_script.specs.Reports.{bad_line, final_text}
+use Rattle.dg_drip_script.specs.Reports.{bad_drip_line, final_text}
 use Rattle.dg_drip_script.specs.Scripts.{DripScript, first_script, spelled_behind, then_line, standing_of, with_drip_line, network_of, report_of}
 use Rattle.dg_drip_script.specs.declared.line.DripLine.{DripLine}
 use Rattle.dg_drip_script.specs.declared.line.DripFault.{DripFault}
 use Rattle.dg_drip_script.specs.declared.line.DripFault.TheVariants as fault
 use Rattle.dg_drip_run.specs.AroundDrip.{AroundDrip}
-use Rattle.dg_drip_run.specs.Playing.{Plays}
-use Rattle.dg_drip_run.specs.Dripped.{AreLines, Ends, BadLine, TooManyEvents, Over, played, Closed, Wrote, Dripped, LineStops, LineAnswer, BadText, FewAhead, DripStage, NextPlays, LinesPlayed, LinesAnswer}
+use Rattle.dg_drip_run.specs.Playing.{PlayerStands}
+use Rattle.dg_drip_run.specs.Dripped.{AreLines, Ends, BadLine, TooManyEvents, Over, played, Closed, DripWrote, Dripped, DripLineStops, LineAnswer, BadText, FewAhead, DripStage, NextPlays, LinesPlayed, LinesAnswer}
 use Rattle.dg_drip_run.specs.declared.player.Player.{Player}
 use Rattle.dg_drip_run.proofs.ReportLemmas.{front_behind, played_all}
 use Rattle.dg_drip_run.proofs.ToldLemmas.{told_all, told_but_last, behind_line_given, rest_only, line_only, too_many_ahead}
@@ -66,13 +66,13 @@ nothing_put : (before after : Option (List ℕ)) → after ≡ before → (more 
 nothing_put before after same = ([], subst (λ (o : Option (List ℕ)). Puts before o []) (sym same) (Puts-nil before))
 
 -- nothing more is reported before the closing
-report_whole : (p : Player) (s : DripScript) (b : List ℕ) → Plays p s b → report_of s ++ [] ≡ report_of (played s)
+report_whole : (p : Player) (s : DripScript) (b : List ℕ) → PlayerStands p s b → report_of s ++ [] ≡ report_of (played s)
 report_whole p s b h = append-nil (report_of s) ∙ ap report_of (sym (played_all s h.few))
 
-put_whole : (p : Player) (s : DripScript) (b : List ℕ) (before after : Option (List ℕ)) → Plays p s b → Puts before after (report_of s) → Puts before after (report_of (played s))
+put_whole : (p : Player) (s : DripScript) (b : List ℕ) (before after : Option (List ℕ)) → PlayerStands p s b → Puts before after (report_of s) → Puts before after (report_of (played s))
 put_whole p s b before after h put = subst (λ (xs : List ℕ). Puts before after xs) (ap report_of (sym (played_all s h.few))) put
 
-pub lines_first : (now : DripStage) → now.reader.ahead ≡ [] → now.reader.passed ≡ 0 → now.reader.number ≡ 0 → Plays now.player first_script [] → LinesPlayed ⊥ now.around 1 now
+pub lines_first : (now : DripStage) → now.reader.ahead ≡ [] → now.reader.passed ≡ 0 → now.reader.number ≡ 0 → PlayerStands now.player first_script [] → LinesPlayed ⊥ now.around 1 now
 lines_first now none unread first h = record {
   texts = [];
   given = [];
@@ -137,7 +137,7 @@ lines_step ended first p q more number writes i taken g l line is h =
 -- the replay ended before a line was given
 dripped_before : (status : Status) (first last : AroundDrip) (p : DripStage) (more : List ℕ) (number : ℕ) → (i : LinesPlayed ⊥ first number p) → Takes p.around.left last.left more
     → p.reader.passed + length (p.reader.ahead ++ more) ≤ most_used_bytes + 1 → FewAhead (p.reader.ahead ++ more) → (told : List ℕ) × Puts p.around.written last.written told
-    → Wrote status i.script (length i.texts) (length i.given) (p.reader.ahead ++ more) first last → Dripped status first last
+    → DripWrote status i.script (length i.texts) (length i.given) (p.reader.ahead ++ more) first last → Dripped status first last
 dripped_before status first last p more number i taken few near told h =
     let ahead = p.reader.ahead in
     record {
@@ -161,7 +161,7 @@ dripped_before status first last p more number i taken few near told h =
 dripped_in : (status : Status) (first : AroundDrip) (p q : DripStage) (more : List ℕ) (number : ℕ) → (i : LinesPlayed ⊥ first number p) → Takes p.around.left q.around.left more
     → (g : Gives (p.reader.ahead ++ more) p.reader q.reader (AtEnd q.around.left)) → (line : DripLine) → drip_line_of (standing_of i.script) q.reader.text ≡ Ok line
     → (told : List ℕ) × Puts p.around.written q.around.written told
-    → Wrote status (with_drip_line i.script line) (length (i.texts ++ q.reader.text ∷ [])) (length (i.given ++ g.first.line)) q.reader.ahead first q.around → Dripped status first q.around
+    → DripWrote status (with_drip_line i.script line) (length (i.texts ++ q.reader.text ∷ [])) (length (i.given ++ g.first.line)) q.reader.ahead first q.around → Dripped status first q.around
 dripped_in status first p q more number i taken g line is told h =
     let new = q.reader in
     let used : length (i.given ++ g.first.line) + length new.ahead ≤ most_used_bytes = line_used i.given p.reader.ahead more g.first.line new.ahead p.reader.passed i.passed g.used g.first.parts in
@@ -190,7 +190,7 @@ one_more n h = omega (arith, h)
 
 stopped_line : (status : Status) (first : AroundDrip) (p q : DripStage) (more : List ℕ) (number : ℕ) → (Rose p.around.writes q.around.writes → Rose first.writes q.around.writes) → (i : LinesPlayed ⊥ first number p) → Takes p.around.left q.around.left more
     → (g : Gives (p.reader.ahead ++ more) p.reader q.reader (AtEnd q.around.left)) → (line : DripLine) → drip_line_of (standing_of i.script) q.reader.text ≡ Ok line
-    → LineStops status i.script (with_drip_line i.script line) p.around.written q.around.written (Rose p.around.writes q.around.writes) → Dripped status first q.around
+    → DripLineStops status i.script (with_drip_line i.script line) p.around.written q.around.written (Rose p.around.writes q.around.writes) → Dripped status first q.around
 stopped_line status first p q more number spread i taken g line is h =
     let before = first.written in
     let mid = p.around.written in
@@ -212,11 +212,11 @@ line_within bytes line rest passed given is used parts = omega (arith, is, used,
 
 bad_text : (status : Status) (first : AroundDrip) (p q : DripStage) (more : List ℕ) (number : ℕ) → (Rose p.around.writes q.around.writes → Rose first.writes q.around.writes) → (i : LinesPlayed ⊥ first number p) → Takes p.around.left q.around.left more
     → (f : DripFault) → BadText p.reader.passed (p.reader.ahead ++ more) i.script f (AtEnd q.around.left)
-    → Closed status statuses.BadInput [] (bad_line (p.reader.number + 1) f) p.around.written q.around.written (Rose p.around.writes q.around.writes) → Dripped status first q.around
+    → Closed status statuses.BadInput [] (bad_drip_line (p.reader.number + 1) f) p.around.written q.around.written (Rose p.around.writes q.around.writes) → Dripped status first q.around
 bad_text status first p q more number spread i taken f t closed =
     dripped_before status first q.around p more number i taken (one_more (p.reader.passed + length (p.reader.ahead ++ more)) t.used)
     (behind_line_given (p.reader.ahead ++ more) (AtEnd q.around.left) t.text t.rest t.first t.near)
-    (some_put status statuses.BadInput [] (bad_line (p.reader.number + 1) f) p.around.written q.around.written (Rose p.around.writes q.around.writes) closed)
+    (some_put status statuses.BadInput [] (bad_drip_line (p.reader.number + 1) f) p.around.written q.around.written (Rose p.around.writes q.around.writes) closed)
     (inl (
       BadLine (p.reader.number + 1) f,
       (
@@ -224,7 +224,7 @@ bad_text status first p q more number spread i taken f t closed =
         i.plays.few,
         inr (t.text, t.first.line, t.rest, t.first.parts, line_within (p.reader.ahead ++ more) t.first.line t.rest p.reader.passed (length i.given) i.passed t.used t.first.parts, t.first.is, t.bad),
       ),
-      closed_after status statuses.BadInput first.written p.around.written q.around.written (report_of i.script) [] (report_of (played i.script)) (bad_line (p.reader.number + 1) f)
+      closed_after status statuses.BadInput first.written p.around.written q.around.written (report_of i.script) [] (report_of (played i.script)) (bad_drip_line (p.reader.number + 1) f)
           (Rose p.around.writes q.around.writes) (Rose first.writes q.around.writes) spread i.put (report_whole p.player i.script i.reported i.plays) closed,
     ))
 
@@ -273,7 +273,7 @@ err_is (Err e) status h = ap Err (sym h)
 
 pub lines_halt : (r : Result ℕ Status) (status : Status) (first : AroundDrip) (p q : DripStage) (more : List ℕ) (number : ℕ) → IsErrAnd r (λ e. e ≡ status) → (Rose p.around.reads q.around.reads → Rose first.reads q.around.reads)
     → (Rose p.around.writes q.around.writes → Rose first.writes q.around.writes) → (i : LinesPlayed ⊥ first number p) → Takes p.around.left q.around.left more
-    → ((s : DripScript) (told : List ℕ) → Plays p.player s told → NextPlays (Err status) (p.reader.ahead ++ more) s p q) → LinesAnswer r first q
+    → ((s : DripScript) (told : List ℕ) → PlayerStands p.player s told → NextPlays (Err status) (p.reader.ahead ++ more) s p q) → LinesAnswer r first q
 lines_halt r status first p q more number is read spread i taken h =
     subst (λ (x : Result ℕ Status). LinesAnswer x first q) (err_is r status is)
     (lines_stopped status first p q more number read spread i taken (h i.script i.reported i.plays))
@@ -300,7 +300,7 @@ lines_end first p q more number i taken h =
         script = i.script;
         says = i.says;
         reported = i.reported;
-        plays = subst (λ (x : Player). Plays x i.script i.reported) (sym h.1) i.plays;
+        plays = subst (λ (x : Player). PlayerStands x i.script i.reported) (sym h.1) i.plays;
         put = subst (λ (o : Option (List ℕ)). Puts first.written o (report_of i.script)) (sym h.2) i.put;
       },
     )
@@ -336,7 +336,7 @@ pub false_of : (x : Bool) (s : DripScript) (bytes : List ℕ) (p q : DripStage) 
 false_of x s bytes p q is h = subst (λ (y : Bool). NextPlays (Ok y) bytes s p q) is h
 
 pub script_ended : (status : Status) (first last : AroundDrip) (now : DripStage) (number : ℕ) → last.left ≡ now.around.left → (Rose now.around.writes last.writes → Rose first.writes last.writes) → LinesAnswer (Ok number) first now
-    → ((s : DripScript) (b : List ℕ) → Plays now.player s b → ((s.nodes ≡ 0) × Closed status statuses.BadInput [] (bad_line number fault.Place) now.around.written last.written (Rose now.around.writes last.writes))
+    → ((s : DripScript) (b : List ℕ) → PlayerStands now.player s b → ((s.nodes ≡ 0) × Closed status statuses.BadInput [] (bad_drip_line number fault.Place) now.around.written last.written (Rose now.around.writes last.writes))
     ⊎ ((0 < s.nodes) × Closed status statuses.Done [] (final_text (network_of s) s.nodes (length s.items)) now.around.written last.written (Rose now.around.writes last.writes)))
     → Dripped status first last
 script_ended status first last now number same spread h ends =
@@ -359,7 +359,7 @@ script_ended status first last now number same spread h ends =
           (λ k. (
             BadLine number fault.Place,
             (i.numbered, i.plays.few, inl (h.0.1, at_end, k.0, refl)),
-            closed_after status statuses.BadInput first.written now.around.written last.written (report_of i.script) [] (report_of (played i.script)) (bad_line number fault.Place)
+            closed_after status statuses.BadInput first.written now.around.written last.written (report_of i.script) [] (report_of (played i.script)) (bad_drip_line number fault.Place)
                 (Rose now.around.writes last.writes) (Rose first.writes last.writes) spread i.put whole k.1,
           ))
           (λ k. (
@@ -371,7 +371,7 @@ script_ended status first last now number same spread h ends =
           (ends i.script i.reported i.plays));
       told = told_all (AtEnd now.around.left × (now.reader.ahead ≡ [])) first last now number i
           (⊎_elim
-          (λ k. some_put status statuses.BadInput [] (bad_line number fault.Place) now.around.written last.written (Rose now.around.writes last.writes) k.1)
+          (λ k. some_put status statuses.BadInput [] (bad_drip_line number fault.Place) now.around.written last.written (Rose now.around.writes last.writes) k.1)
           (λ k. some_put status statuses.Done [] (final_text (network_of i.script) i.script.nodes (length i.script.items)) now.around.written last.written (Rose now.around.writes last.writes) k.1)
           (ends i.script i.reported i.plays));
       near = rest_only now.reader.ahead (omega (arith, ap length h.0.1));

@@ -6,13 +6,13 @@ use Rattle.dg_base.specs.Outside.{Puts, PutsPrefix}
 use Rattle.dg_base.proofs.OutsideLemmas.{Puts-join}
 use Rattle.dg_base.specs.declared.answers.Status.{Status}
 use Rattle.dg_base.specs.declared.answers.Status.TheVariants as statuses
-use Rattle.dg_drip_replay.specs.Standing.{Stands, AreKeyed}
+use Rattle.dg_drip_replay.specs.Standing.{NetworkStands, AreKeyed}
 use Rattle.dg_drip_replay.specs.declared.network.DripNetwork.{DripNetwork}
 use Rattle.dg_drip_script.specs.Scripts.{DripItem, DripScript, with_drip_line, network_of, report_of}
 use Rattle.dg_drip_script.specs.Sizes.{most_events}
 use Rattle.dg_drip_script.specs.declared.line.DripLine.{DripLine}
-use Rattle.dg_drip_run.specs.Playing.{Plays, IsPlaying, LinePlayed}
-use Rattle.dg_drip_run.specs.Dripped.{played, Closed, TellsMore, LineStops}
+use Rattle.dg_drip_run.specs.Playing.{PlayerStands, IsPlaying, LinePlayed}
+use Rattle.dg_drip_run.specs.Dripped.{played, Closed, TellsMore, DripLineStops}
 use Rattle.dg_drip_run.specs.declared.player.Player.{Player}
 use Rattle.dg_drip_run.specs.declared.player.PlayStop.{PlayStop}
 use Rattle.dg_drip_run.specs.declared.player.PlayStop.TheVariants.{TooMany}
@@ -55,10 +55,10 @@ pub played_all : (t : DripScript) → length t.items ≤ most_events → played 
 played_all t few = ap (λ (is : List DripItem). record t { items = is }) (take_all most_events t.items few)
 
 -- a player that reported all it kept
-pub cleared_plays : (p q : Player) (s : DripScript) (before : List ℕ) → Plays p s before → q.network ≡ p.network → q.standing ≡ p.standing → q.events ≡ p.events → q.text.items ≡ [] → Plays q s (report_of s)
+pub cleared_plays : (p q : Player) (s : DripScript) (before : List ℕ) → PlayerStands p s before → q.network ≡ p.network → q.standing ≡ p.standing → q.events ≡ p.events → q.text.items ≡ [] → PlayerStands q s (report_of s)
 cleared_plays p q s before h network standing events text = record {
   standing = standing ∙ h.standing;
-  stands = subst (λ (n : DripNetwork). Stands n (network_of s)) (sym network) h.stands;
+  stands = subst (λ (n : DripNetwork). NetworkStands n (network_of s)) (sym network) h.stands;
   nodes = ap (λ n. length n.nodes.items) network ∙ h.nodes;
   events = events ∙ h.events;
   few = h.few;
@@ -74,22 +74,22 @@ pub cleared_playing : (p q : Player) → IsPlaying p → q.network ≡ p.network
 cleared_playing p q h network standing events text = (h.0, report_of h.0, cleared_plays p q h.0 h.1 h.2 network standing events text)
 
 -- what such a player reports of a line that it played
-pub tells : (q : Player) (s t : DripScript) (text : List ℕ) → Plays q t (report_of s) → text ≡ q.text.items → TellsMore s t text
+pub tells : (q : Player) (s t : DripScript) (text : List ℕ) → PlayerStands q t (report_of s) → text ≡ q.text.items → TellsMore s t text
 tells q s t text h is = ap (λ (u : List ℕ). report_of s ++ u) is ∙ (h.reported ∙ ap report_of (sym (played_all t h.few)))
 
-pub line_ok : (q : Player) (s t : DripScript) (text : List ℕ) (old new : Option (List ℕ)) → Plays q t (report_of s) → text ≡ q.text.items → Puts old new text
-    → ((b : List ℕ) × Plays q t b) × ((more : List ℕ) × TellsMore s t more × Puts old new more)
+pub line_ok : (q : Player) (s t : DripScript) (text : List ℕ) (old new : Option (List ℕ)) → PlayerStands q t (report_of s) → text ≡ q.text.items → Puts old new text
+    → ((b : List ℕ) × PlayerStands q t b) × ((more : List ℕ) × TellsMore s t more × Puts old new more)
 line_ok q s t text old new h is put = ((report_of s, h), (text, tells q s t text h is, put))
 
-pub line_cut : (q : Player) (s t : DripScript) (text : List ℕ) (old new : Option (List ℕ)) (failed : Type 0) → Plays q t (report_of s) → text ≡ q.text.items → failed → PutsPrefix old new text → LineStops statuses.WriteFault s t old new failed
+pub line_cut : (q : Player) (s t : DripScript) (text : List ℕ) (old new : Option (List ℕ)) (failed : Type 0) → PlayerStands q t (report_of s) → text ≡ q.text.items → failed → PutsPrefix old new text → DripLineStops statuses.WriteFault s t old new failed
 line_cut q s t text old new failed h is rose put = inr (text, tells q s t text h is, inl (refl, rose, put))
 
-full_of : (e : PlayStop) (p q : Player) (line : DripLine) (s : DripScript) (before : List ℕ) → e ≡ TooMany → LinePlayed (Err e) p q line → Plays p s before
-    → (most_events < length (with_drip_line s line).items) × Plays q (played (with_drip_line s line)) before
+full_of : (e : PlayStop) (p q : Player) (line : DripLine) (s : DripScript) (before : List ℕ) → e ≡ TooMany → LinePlayed (Err e) p q line → PlayerStands p s before
+    → (most_events < length (with_drip_line s line).items) × PlayerStands q (played (with_drip_line s line)) before
 full_of e p q line s before is ran h = let full : LinePlayed (Err TooMany) p q line = subst (λ (x : PlayStop). LinePlayed (Err x) p q line) is ran in full s before h
 
-pub line_full : (r : Status) (e : PlayStop) (p q : Player) (line : DripLine) (s : DripScript) (text : List ℕ) (old new : Option (List ℕ)) (failed : Type 0) → e ≡ TooMany → LinePlayed (Err e) p q line → Plays p s (report_of s)
-    → text ≡ q.text.items → Closed r statuses.TooMany text (codes "toomany" ++ 10 ∷ []) old new failed → LineStops r s (with_drip_line s line) old new failed
+pub line_full : (r : Status) (e : PlayStop) (p q : Player) (line : DripLine) (s : DripScript) (text : List ℕ) (old new : Option (List ℕ)) (failed : Type 0) → e ≡ TooMany → LinePlayed (Err e) p q line → PlayerStands p s (report_of s)
+    → text ≡ q.text.items → Closed r statuses.TooMany text (codes "toomany" ++ 10 ∷ []) old new failed → DripLineStops r s (with_drip_line s line) old new failed
 line_full r e p q line s text old new failed is ran h text_is closed =
     let k = full_of e p q line s (report_of s) is ran h in
     inr (text, ap (λ (u : List ℕ). report_of s ++ u) text_is ∙ k.1.reported, inr (k.0, closed))

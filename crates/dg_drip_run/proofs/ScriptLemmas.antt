@@ -6,23 +6,23 @@ use Rattle.dg_drip.specs.declared.frame.Said.{Said}
 use Rattle.dg_drip.specs.Network.{Network, run, applied, heard, from_neighbour, frame_numbered, last_said}
 use Rattle.dg_drip_replay.specs.Reports.{report_of_event}
 use Rattle.dg_drip_script.specs.Reports.{reported_text}
-use Rattle.dg_drip_script.specs.Scripts.{DripItem, events_of, text_of_run}
+use Rattle.dg_drip_script.specs.Scripts.{DripItem, drip_events_of, text_of_run}
 use Rattle.std.specs.Prelude.{Option, Some, None}
 
 pub run_then : (w : Network) (es fs : List DripEvent) → run w (es ++ fs) ≡ run (run w es) fs
 run_then w [] fs = refl
 run_then w (e ∷ es) fs = run_then (applied w e) es fs
 
-pub run_more : (w : Network) (is : List DripItem) (i : DripItem) → run w (events_of (is ++ i ∷ [])) ≡ applied (run w (events_of is)) i.event
+pub run_more : (w : Network) (is : List DripItem) (i : DripItem) → run w (drip_events_of (is ++ i ∷ [])) ≡ applied (run w (drip_events_of is)) i.event
 run_more w [] i = refl
 run_more w (j ∷ is) i = run_more (applied w j.event) is i
 
 pub told_more : (w : Network) (is : List DripItem) (i : DripItem)
-    → text_of_run w (is ++ i ∷ []) ≡ text_of_run w is ++ reported_text (report_of_event (run w (events_of is)) i.reported i.event)
+    → text_of_run w (is ++ i ∷ []) ≡ text_of_run w is ++ reported_text (report_of_event (run w (drip_events_of is)) i.reported i.event)
 told_more w [] i = append-nil (reported_text (report_of_event w i.reported i.event))
 told_more w (j ∷ is) i =
     ap (λ t. reported_text (report_of_event w j.reported j.event) ++ t) (told_more (applied w j.event) is i)
-    ∙ sym (append_assoc (reported_text (report_of_event w j.reported j.event)) (text_of_run (applied w j.event) is) (reported_text (report_of_event (run (applied w j.event) (events_of is)) i.reported i.event)))
+    ∙ sym (append_assoc (reported_text (report_of_event w j.reported j.event)) (text_of_run (applied w j.event) is) (reported_text (report_of_event (run (applied w j.event) (drip_events_of is)) i.reported i.event)))
 
 -- ---- links stay
 

@@ -8,13 +8,13 @@ use Rattle.dg_base.specs.Outside.{AtEnd}
 use Rattle.dg_base.specs.declared.answers.Status.{Status}
 use Rattle.dg_base.specs.declared.answers.Status.TheVariants.{Done, Memory, ReadFault, WriteFault}
 use Rattle.dg_drip_script.specs.Lines.{drip_line_of}
-use Rattle.dg_drip_script.specs.Scripts.{DripScript, first_script, script_of, standing_of, with_drip_line}
+use Rattle.dg_drip_script.specs.Scripts.{DripScript, first_script, drip_script_of, standing_of, with_drip_line}
 use Rattle.dg_drip_script.specs.Sizes.{most_events, most_used_bytes}
 use Rattle.dg_drip_script.specs.declared.line.DripLine.{DripLine}
 use Rattle.dg_drip_script.specs.declared.line.DripFault.{DripFault}
 use Rattle.dg_drip_script.specs.declared.line.DripFault.TheVariants as fault
 use Rattle.dg_drip_run.specs.AroundDrip.{AroundDrip}
-use Rattle.dg_drip_run.specs.Dripped.{Ending, Ends, BadLine, TooManyEvents, Over, status_of, Dripped}
+use Rattle.dg_drip_run.specs.Dripped.{DripEnding, Ends, BadLine, TooManyEvents, Over, drip_status, Dripped}
 
 -- the texts of the lines that end in LF, of the parts between the LFs: what comes after the last LF is not one
 abbrev pub ended_parts : List (List ℕ) → List (List ℕ)
@@ -31,42 +31,42 @@ lines_within most true input = ended_lines (take most input)
 lines_within most false input = lines input
 
 -- how a script ends after all lines that are used
-abbrev pub ending_behind : (over : Bool) → DripScript → (number : ℕ) → Ending
+abbrev pub ending_behind : (over : Bool) → DripScript → (number : ℕ) → DripEnding
 ending_behind true s number = Over
 ending_behind false s number = if s.nodes == 0 then BadLine number fault.Place else Ends
 
 -- a line with a fault ends a script, and so does one that brings it more than a million events
-abbrev pub ending_by_line : Result DripLine DripFault → DripScript → (number : ℕ) → (DripScript → Ending) → Ending
+abbrev pub ending_by_line : Result DripLine DripFault → DripScript → (number : ℕ) → (DripScript → DripEnding) → DripEnding
 ending_by_line (Err f) s number go = BadLine number f
 ending_by_line (Ok line) s number go =
     let t = with_drip_line s line in if nat_lt most_events (length t.items) then TooManyEvents else go t
 
 -- the ending by the first line that ends the script, or by its end if no line does
-unfoldable pub ending_by_lines : (over : Bool) → DripScript → (number : ℕ) → List (List ℕ) → Ending
+unfoldable pub ending_by_lines : (over : Bool) → DripScript → (number : ℕ) → List (List ℕ) → DripEnding
 ending_by_lines over s number [] = ending_behind over s number
 ending_by_lines over s number (text ∷ texts) =
     ending_by_line (drip_line_of (standing_of s) text) s number (λ t. ending_by_lines over t (number + 1) texts)
 
-abbrev pub ending_within : (most : ℕ) → (over : Bool) → List ℕ → Ending
+abbrev pub ending_within : (most : ℕ) → (over : Bool) → List ℕ → DripEnding
 ending_within most over input = ending_by_lines over first_script 1 (lines_within most over input)
 
 -- the ending of an input
-unfoldable pub drip_ending_of : List ℕ → Ending
+unfoldable pub drip_ending_of : List ℕ → DripEnding
 drip_ending_of input = ending_within most_used_bytes (nat_lt most_used_bytes (length input)) input
 
 -- The status is the one that the rules give. `Memory` may be returned at any time, and a fault of the outside has raised its
 -- count.
-abbrev pub IsDripCaused : Status → Ending → (read_failed write_failed : Type 0) → Type 0
+abbrev pub IsDripCaused : Status → DripEnding → (read_failed write_failed : Type 0) → Type 0
 IsDripCaused Memory ending r w = Unit {0}
 IsDripCaused ReadFault ending r w = r
 IsDripCaused WriteFault ending r w = w
-IsDripCaused status ending r w = status ≡ status_of ending
+IsDripCaused status ending r w = status ≡ drip_status ending
 
 -- An input is in its grammar and limits.
 pub record InDripLimits (input : List ℕ) : Type 0 where
   pub bytes : length input ≤ most_used_bytes
   pub script : DripScript
-  pub says : script_of (lines input) ≡ Some script
+  pub says : drip_script_of (lines input) ≡ Some script
   pub nodes : 0 < script.nodes
   pub events : length script.items ≤ most_events
 

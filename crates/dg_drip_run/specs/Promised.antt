@@ -6,38 +6,39 @@ use Rattle.dg_drip.specs.declared.entry.Entry.{Entry}
 use Rattle.dg_drip.specs.declared.events.DripEvent.{DripEvent}
 use Rattle.dg_drip.specs.Entries.{none, IsAtMost, IsAmong, IsGreatestOf}
 use Rattle.dg_drip.specs.Network.{start, run, entry_at}
-use Rattle.dg_drip.specs.Spread.{all_brought, made_in, drip_round, sweeps, HasRounds, IsWithin, IsGreatestAt, AreWithin}
+use Rattle.dg_drip.specs.Spread.{all_brought, made_in, drip_round, sweeps, HasDripRounds, IsAtNodesBelow, IsGreatestAt, AreWithin}
 use Rattle.dg_base.specs.declared.answers.Status.{Status}
-use Rattle.dg_drip_script.specs.Scripts.{DripScript, events_of, network_of}
+use Rattle.dg_drip_script.specs.Scripts.{DripScript, drip_events_of, network_of}
 use Rattle.dg_drip_run.specs.AroundDrip.{AroundDrip}
 use Rattle.dg_drip_run.specs.Dripped.{Dripped, played}
 
 -- each node keeps of a key the greatest of what was set there and what it heard, or no entry
 abbrev pub GreatestIsKept : DripScript → Type 0
 GreatestIsKept s =
-    (node key : ℕ) → IsGreatestOf (entry_at (network_of s) node key) (all_brought (start s.links) (events_of s.items) node key)
+    (node key : ℕ) → IsGreatestOf (entry_at (network_of s) node key)
+    (all_brought (start s.links) (drip_events_of s.items) node key)
 
 -- what a node keeps never falls
 abbrev pub NothingFalls : DripScript → Type 0
-NothingFalls s = (front back : List DripEvent) (node key : ℕ) → events_of s.items ≡ front ++ back
+NothingFalls s = (front back : List DripEvent) (node key : ℕ) → drip_events_of s.items ≡ front ++ back
     → IsAtMost (entry_at (run (start s.links) front) node key) (entry_at (network_of s) node key)
 
 -- what a node keeps was set at some node of this run
 abbrev pub SetsMakeAll : DripScript → Type 0
 SetsMakeAll s = (node key : ℕ) → (entry_at (network_of s) node key ≡ none)
-    ⊎ IsAmong (entry_at (network_of s) node key) (made_in (start s.links) (events_of s.items) key)
+    ⊎ IsAmong (entry_at (network_of s) node key) (made_in (start s.links) (drip_events_of s.items) key)
 
 -- after a round the second node keeps no less than the first one kept
 abbrev pub RoundsRaise : DripScript → Type 0
 RoundsRaise s =
-    (front back : List DripEvent) (a b key : ℕ) → key < key_count → events_of s.items ≡ front ++ (drip_round a b ++ back)
+    (front back : List DripEvent) (a b key : ℕ) → key < key_count → drip_events_of s.items ≡ front ++ (drip_round a b ++ back)
     → IsAtMost (entry_at (run (start s.links) front) a key) (entry_at (run (run (start s.links) front) (drip_round a b)) b key)
 
 -- where each two nodes are within h links, h sweeps with no set between them, wherever they end, bring all to the greatest entry
 abbrev pub SweepsBringTheGreatest : DripScript → Type 0
 SweepsBringTheGreatest s = (front rest back : List DripEvent) (h key : ℕ) (e : Entry) → key < key_count
-    → events_of s.items ≡ front ++ (rest ++ back) → AllByRecursion (IsWithin s.nodes) front
-    → AreWithin s.nodes s.links h → HasRounds (sweeps h s.links) rest
+    → drip_events_of s.items ≡ front ++ (rest ++ back) → AllByRecursion (IsAtNodesBelow s.nodes) front
+    → AreWithin s.nodes s.links h → HasDripRounds (sweeps h s.links) rest
     → IsGreatestAt (run (start s.links) front) s.nodes key e → (node : ℕ) → node < s.nodes
     → entry_at (run (start s.links) (front ++ rest)) node key ≡ e
 

@@ -6,7 +6,7 @@ ghost use Rattle.dg_drip_run.specs.AroundDrip.{around_drip};
 ghost use Rattle.dg_drip_run.specs.Dripped.{Dripped, NextPlays, LinesAnswer, drip_stage};
 ghost use Rattle.dg_drip_run.specs.Causes.{DripEnds};
 ghost use Rattle.dg_drip_run.specs.Promised.{ValuesSpread};
-ghost use Rattle.dg_drip_run.specs.Playing.{Plays, IsPlaying};
+ghost use Rattle.dg_drip_run.specs.Playing.{PlayerStands, IsPlaying};
 
 use crate::finish::{end_at_line, end_script, end_with};
 use crate::laws::values_spread;
@@ -27,7 +27,7 @@ fn play_next<S: Source, K: Sink>(
 ) -> Result<bool, Status>
     requires { IsPlaying player.old }
     ensures answer { (more : List ℕ) × Takes (S.left input.old) (S.left input.new) more
-        × ((s : DripScript) (before : List ℕ) → Plays player.old s before → NextPlays result (reader.old.ahead ++ more) s
+        × ((s : DripScript) (before : List ℕ) → PlayerStands player.old s before → NextPlays result (reader.old.ahead ++ more) s
         (drip_stage reader.old player.old
         (around_drip (S.left input.old) (S.faults input.old) (K.written out.old) (K.faults out.old)))
         (drip_stage reader.new player.new
@@ -61,7 +61,7 @@ fn play_lines<S: Source, K: Sink>(
     requires none { reader.old.ahead ≡ [] }
     requires unread { reader.old.passed ≡ 0 }
     requires first { reader.old.number ≡ 0 }
-    requires playing { Plays player.old first_script [] }
+    requires playing { PlayerStands player.old first_script [] }
     ensures answer { LinesAnswer result
         (around_drip (S.left input.old) (S.faults input.old) (K.written out.old) (K.faults out.old))
         (drip_stage reader.new player.new

@@ -4,11 +4,11 @@ ghost use Rattle.dg_words.specs.Counts.{Rose};
 ghost use Rattle.dg_base.specs.Outside.{Puts, PutsPrefix};
 ghost use Rattle.std.specs.List.{flat_map, range_with_len};
 ghost use Rattle.dg_drip.specs.Network.{Network};
-ghost use Rattle.dg_drip_replay.specs.Standing.{Stands};
-ghost use Rattle.dg_drip_script.specs.Reports.{value_text, node_text, final_text, bad_line};
+ghost use Rattle.dg_drip_replay.specs.Standing.{NetworkStands};
+ghost use Rattle.dg_drip_script.specs.Reports.{value_text, node_text, final_text, bad_drip_line};
 ghost use Rattle.dg_drip_script.specs.Scripts.{DripScript, network_of};
 ghost use Rattle.dg_drip_run.specs.Dripped.{Closed};
-ghost use Rattle.dg_drip_run.specs.Playing.{Plays, IsPlaying};
+ghost use Rattle.dg_drip_run.specs.Playing.{PlayerStands, IsPlaying};
 
 use crate::player::Player;
 use dg_base::{Sink, Status, WriteFailed};
@@ -30,7 +30,7 @@ fn push_value(text: &mut Vec<u8>, node: u8, key: u8, entry: Entry) -> Result<(),
 // Appends what a node keeps, by key.
 fn push_node(text: &mut Vec<u8>, network: &DripNetwork, node: u8) -> Result<(), AllocError>
     requires { node < length network.now.nodes.items }
-    ensures { (w : Network) → Stands network.now w → OnOk result (text.new.items ≡ text.old.items ++ node_text w node) }
+    ensures { (w : Network) → NetworkStands network.now w → OnOk result (text.new.items ≡ text.old.items ++ node_text w node) }
 {
     for key in 0..KEYS as u8 {
         push_value(text, node, key, network.entry(node, key))?;
@@ -41,7 +41,7 @@ fn push_node(text: &mut Vec<u8>, network: &DripNetwork, node: u8) -> Result<(), 
 // Appends what this many nodes keep, by node and key.
 fn push_nodes(text: &mut Vec<u8>, network: &DripNetwork, nodes: u8) -> Result<(), AllocError>
     requires { nodes ≤ length network.now.nodes.items }
-    ensures { (w : Network) → Stands network.now w
+    ensures { (w : Network) → NetworkStands network.now w
         → OnOk result (text.new.items ≡ text.old.items ++ flat_map (node_text w) (range_with_len 0 nodes)) }
 {
     for node in 0..nodes {
@@ -53,7 +53,7 @@ fn push_nodes(text: &mut Vec<u8>, network: &DripNetwork, nodes: u8) -> Result<()
 // Appends the last lines of a script.
 fn push_final(text: &mut Vec<u8>, player: &Player) -> Result<(), AllocError>
     requires { player.now.standing.nodes ≤ length player.now.network.nodes.items }
-    ensures { (s : DripScript) (before : List ℕ) → Plays player.now s before
+    ensures { (s : DripScript) (before : List ℕ) → PlayerStands player.now s before
         → OnOk result (text.new.items ≡ text.old.items ++ final_text (network_of s) s.nodes (length s.items)) }
 {
     push_end(text, player.events)?;
@@ -77,7 +77,7 @@ pub fn end_with<K: Sink>(out: &mut K, piece: &[u8], status: Status) -> Status
 
 /// Writes the last line where a line of the script has a fault.
 pub fn end_at_line<K: Sink>(alloc: Global, out: &mut K, line: u32, fault: DripFault) -> Status
-    ensures ends { Closed result Status.BadInput [] (bad_line line fault) (K.written out.old) (K.written out.new)
+    ensures ends { Closed result Status.BadInput [] (bad_drip_line line fault) (K.written out.old) (K.written out.new)
         (Rose (K.faults out.old) (K.faults out.new)) }
     ensures counts { K.faults out.old ≤ K.faults out.new }
 {
@@ -91,7 +91,7 @@ pub fn end_at_line<K: Sink>(alloc: Global, out: &mut K, line: u32, fault: DripFa
 /// Writes the last lines of a script.
 fn finish<K: Sink>(alloc: Global, out: &mut K, player: &Player) -> Status
     requires { player.now.standing.nodes ≤ length player.now.network.nodes.items }
-    ensures ends { (s : DripScript) (before : List ℕ) → Plays player.now s before
+    ensures ends { (s : DripScript) (before : List ℕ) → PlayerStands player.now s before
         → Closed result Status.Done [] (final_text (network_of s) s.nodes (length s.items)) (K.written out.old)
         (K.written out.new) (Rose (K.faults out.old) (K.faults out.new)) }
     ensures counts { K.faults out.old ≤ K.faults out.new }
@@ -106,8 +106,8 @@ fn finish<K: Sink>(alloc: Global, out: &mut K, player: &Player) -> Status
 /// Ends a script whose lines were all played, `line` being the one after the last.
 pub fn end_script<K: Sink>(alloc: Global, out: &mut K, player: &Player, line: u32) -> Status
     requires { IsPlaying player.now }
-    ensures ends { (s : DripScript) (before : List ℕ) → Plays player.now s before
-        → ((s.nodes ≡ 0) × Closed result Status.BadInput [] (bad_line line DripFault.Place) (K.written out.old)
+    ensures ends { (s : DripScript) (before : List ℕ) → PlayerStands player.now s before
+        → ((s.nodes ≡ 0) × Closed result Status.BadInput [] (bad_drip_line line DripFault.Place) (K.written out.old)
         (K.written out.new) (Rose (K.faults out.old) (K.faults out.new)))
         ⊎ ((0 < s.nodes) × Closed result Status.Done [] (final_text (network_of s) s.nodes (length s.items))
         (K.written out.old) (K.written out.new) (Rose (K.faults out.old) (K.faults out.new))) }

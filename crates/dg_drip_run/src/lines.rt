@@ -4,8 +4,8 @@ ghost use Rattle.dg_words.specs.Counts.{Rose};
 ghost use Rattle.dg_base.specs.Outside.{Puts, PutsPrefix};
 ghost use Rattle.dg_drip_script.specs.Lines.{FitsDripLine, DripStandsAt};
 ghost use Rattle.dg_drip_script.specs.Scripts.{DripScript, with_drip_line};
-ghost use Rattle.dg_drip_run.specs.Dripped.{Closed, LineAnswer, TextAnswer};
-ghost use Rattle.dg_drip_run.specs.Playing.{Plays, IsPlaying};
+ghost use Rattle.dg_drip_run.specs.Dripped.{Closed, LineAnswer, DripTextAnswer};
+ghost use Rattle.dg_drip_run.specs.Playing.{PlayerStands, IsPlaying};
 
 use crate::finish::{end_at_line, end_with};
 use crate::player::{PlayStop, Player};
@@ -49,7 +49,7 @@ fn play_read<K: Sink>(
     requires playing { IsPlaying player.old }
     requires stands { DripStandsAt player.old.standing line.now }
     requires fits { FitsDripLine player.old.standing.nodes line.now }
-    ensures answer { (s : DripScript) (before : List ℕ) → Plays player.old s before
+    ensures answer { (s : DripScript) (before : List ℕ) → PlayerStands player.old s before
         → LineAnswer result s (with_drip_line s line.now) player.new (K.written out.old) (K.written out.new)
         (Rose (K.faults out.old) (K.faults out.new)) }
     ensures still { OnOk result (K.faults out.new ≡ K.faults out.old) }
@@ -75,8 +75,8 @@ pub fn play_text<K: Sink>(
     out: &mut K,
 ) -> Result<(), Status>
     requires { IsPlaying player.old }
-    ensures answer { (s : DripScript) (before : List ℕ) → Plays player.old s before
-        → TextAnswer result s (record { text = text.now; number = number }) player.new (K.written out.old)
+    ensures answer { (s : DripScript) (before : List ℕ) → PlayerStands player.old s before
+        → DripTextAnswer result s (record { text = text.now; number = number }) player.new (K.written out.old)
         (K.written out.new) (Rose (K.faults out.old) (K.faults out.new)) }
     ensures still { OnOk result (K.faults out.new ≡ K.faults out.old) }
     ensures counts { K.faults out.old ≤ K.faults out.new }

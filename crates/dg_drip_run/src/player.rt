@@ -7,7 +7,7 @@ ghost use Rattle.dg_drip_replay.specs.Standing.{FitsDripEvent, time_of};
 ghost use Rattle.dg_drip_script.specs.Lines.{FitsDripLine, DripStandsAt};
 ghost use Rattle.dg_drip_script.specs.Reports.{reported_text};
 ghost use Rattle.dg_drip_script.specs.Scripts.{first_script, unreported_items, rounds_items, with_drip_line};
-ghost use Rattle.dg_drip_run.specs.Playing.{Plays, IsPlaying, StaysPlaying, DripItemsPlayed, LinePlayed};
+ghost use Rattle.dg_drip_run.specs.Playing.{PlayerStands, IsPlaying, StaysPlaying, DripItemsPlayed, LinePlayed};
 
 use dg_drip::{DripEvent, KEYS};
 use dg_drip_replay::{DripNetwork, DripReport};
@@ -69,7 +69,7 @@ fn dt_of(event: &DripEvent) -> u32
 impl Player {
     /// A player of a script of which nothing was read.
     pub fn new(alloc: Global) -> Result<Player, AllocError>
-        ensures { IfOk result (λ p. Plays p first_script []) }
+        ensures { IfOk result (λ p. PlayerStands p first_script []) }
     {
         let network = DripNetwork::new(alloc, 0)?;
         Ok(Player {

@@ -56,5 +56,5 @@ fault_word fault.Place = codes "place"
 fault_word fault.Number = codes "number"
 
 -- the last line where a line of the script has a fault
-abbrev pub bad_line : (line : ℕ) → DripFault → List ℕ
-bad_line line f = codes "line" ++ numbers_text (line ∷ []) ++ 32 ∷ fault_word f ++ 10 ∷ []
+abbrev pub bad_drip_line : (line : ℕ) → DripFault → List ℕ
+bad_drip_line line f = codes "line" ++ numbers_text (line ∷ []) ++ 32 ∷ fault_word f ++ 10 ∷ []

@@ -2,7 +2,7 @@
 use Rattle.std.specs.Prelude.{ℕ, Bool, true, false, if◌then◌else◌, List, [], ◌∷◌, ◌++◌, map, Option, Some, None, Result, Ok, Err}
 use Rattle.std.specs.List.{flat_map}
 use Rattle.dg_drip.specs.declared.events.DripEvent.{DripEvent}
-use Rattle.dg_drip.specs.Network.{Network, start, run, applied, is_linked}
+use Rattle.dg_drip.specs.Network.{Network, start, run, applied, are_drip_neighbours}
 use Rattle.dg_drip.specs.Spread.{drip_round, sweeps}
 use Rattle.dg_drip_replay.specs.Reports.{report_of_event}
 use Rattle.dg_drip_script.specs.Lines.{drip_line_of}
@@ -45,7 +45,7 @@ abbrev pub with_items : DripScript → List DripItem → DripScript
 with_items s items = record s { items = s.items ++ items }
 
 abbrev pub script_with_link : DripScript → (a b : ℕ) → DripScript
-script_with_link s a b = if is_linked s.links a b then s else record s { links = s.links ++ (a, b) ∷ [] }
+script_with_link s a b = if are_drip_neighbours s.links a b then s else record s { links = s.links ++ (a, b) ∷ [] }
 
 abbrev pub begun_script : DripScript → DripScript
 begun_script s = record s { begun = true }
@@ -69,17 +69,17 @@ spelled_behind s [] = Some s
 spelled_behind s (text ∷ texts) =
     then_line (drip_line_of (standing_of s) text) (λ line. spelled_behind (with_drip_line s line) texts)
 
-abbrev pub script_of : List (List ℕ) → Option DripScript
-script_of texts = spelled_behind first_script texts
+abbrev pub drip_script_of : List (List ℕ) → Option DripScript
+drip_script_of texts = spelled_behind first_script texts
 
 -- ---- its run and its report
 
-abbrev pub events_of : List DripItem → List DripEvent
-events_of items = map (λ i. i.event) items
+abbrev pub drip_events_of : List DripItem → List DripEvent
+drip_events_of items = map (λ i. i.event) items
 
 -- the network after the events of a script, from nodes that keep nothing
 abbrev pub network_of : DripScript → Network
-network_of s = run (start s.links) (events_of s.items)
+network_of s = run (start s.links) (drip_events_of s.items)
 
 -- what is reported of events, one after the other
 abbrev pub text_of_run : Network → List DripItem → List ℕ

@@ -1,7 +1,7 @@
 //! Writes the lines of a report.
 ghost use Rattle.std.specs.Prelude.{◌≡◌, ◌++◌, ◌∷◌, [], OnOk};
 ghost use Rattle.std.specs.Fmt.{decimal};
-ghost use Rattle.dg_drip_script.specs.Reports.{numbers_text, cause_word, entry_line, drip_report_line, fault_word, bad_line};
+ghost use Rattle.dg_drip_script.specs.Reports.{numbers_text, cause_word, entry_line, drip_report_line, fault_word, bad_drip_line};
 ghost use Rattle.dg_drip_script.specs.declared.line.DripFault.{DripFault};
 ghost use Rattle.dg_drip_replay.specs.declared.report.DripReport.TheVariants.{Refused};
 
@@ -105,7 +105,7 @@ pub fn push_report(out: &mut Vec<u8>, report: &DripReport) -> Result<(), AllocEr
 
 /// Appends the last line where a line of the script has a fault.
 pub fn push_bad_line(out: &mut Vec<u8>, line: u32, fault: DripFault) -> Result<(), AllocError>
-    ensures { OnOk result (out.new.items ≡ out.old.items ++ bad_line line fault) }
+    ensures { OnOk result (out.new.items ≡ out.old.items ++ bad_drip_line line fault) }
 {
     out.extend_from_slice(b"line")?;
     push_numbers(out, &[line])?;

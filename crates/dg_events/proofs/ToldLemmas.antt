@@ -12,7 +12,7 @@ use Rattle.dg_mote.specs.Summary.{same_order}
 use Rattle.dg_slot.specs.Kept.{Held}
 use Rattle.dg_rules.specs.World.{World, store_at}
 use Rattle.dg_rules.specs.Changes.{changes, order_change, same_held, have_change, start_line, sent_line, is_reported}
-use Rattle.dg_rules.specs.Events.{Does, Refuses, Goes, Deed, does, mote_of}
+use Rattle.dg_rules.specs.Events.{Does, Refuses, Goes, EventEffect, does, mote_of}
 use Rattle.dg_rules.specs.Steps.{WorldStep, StepDoes, Ended, blows}
 use Rattle.dg_rules.specs.Runs.{Played, ItemStep}
 use Rattle.dg_rules.specs.Past.{started_unless}

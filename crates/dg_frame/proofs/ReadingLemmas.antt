@@ -10,7 +10,7 @@ use Rattle.dg_base.specs.Crc.{crc_of}
 use Rattle.dg_control.specs.declared.snapshot.Order.{Order}
 use Rattle.dg_bits.specs.Sets.{Numbers}
 use Rattle.dg_frame.specs.Sizes.{shortest, advert_kind, request_kind, packet_kind, wide_kind, advert_frame_size, request_frame_size, packet_frame_size, wide_frame_size, narrow_images, wide_images, known_images, last_page, last_packet, fewest_pages, most_pages}
-use Rattle.dg_frame.specs.Grammar.{half_at, advert_in, request_in, packet_in, wide_in, kind_of, by_kind, ranged, message_of, in_range, entry_fits, order_in_frame, page_fits}
+use Rattle.dg_frame.specs.Grammar.{half_at, advert_in, request_in, packet_in_frame, wide_in, kind_of, by_kind, ranged, message_of, in_range, entry_fits, order_in_frame, page_fits}
 use Rattle.dg_frame.specs.Ranges.{EntryInRange, OrderInRange, PageInRange, IsInRange}
 use Rattle.dg_frame.specs.Readings.{IsOfKind, IsChecked, IsReading}
 use Rattle.dg_frame.specs.declared.Entry.{Entry}
@@ -81,7 +81,7 @@ wider_range wide m h = (ranges true m).1 (wider_ranges wide m ((ranges wide m).0
 
 -- what holds of each row of the table holds of a kind that is found
 pub by_kinds : (wide : Bool) (n : ℕ) (P : (ℕ × (List ℕ → Message)) → Type 0) → (n ≡ advert_kind → P (advert_frame_size, advert_in)) → (n ≡ request_kind → P (request_frame_size, request_in))
-    → (n ≡ packet_kind → P (packet_frame_size, packet_in)) → (wide ≡ true → n ≡ wide_kind → P (wide_frame_size, wide_in)) → (k : ℕ × (List ℕ → Message)) → kind_of wide n ≡ Some k → P k
+    → (n ≡ packet_kind → P (packet_frame_size, packet_in_frame)) → (wide ≡ true → n ≡ wide_kind → P (wide_frame_size, wide_in)) → (k : ℕ × (List ℕ → Message)) → kind_of wide n ≡ Some k → P k
 by_kinds wide n P a r p w =
     let Q : Option (ℕ × (List ℕ → Message)) → Type 0 = λ o. (k : ℕ × (List ℕ → Message)) → o ≡ Some k → P k in
     cond_both (n == advert_kind) _ _ Q (λ e k q. subst P (same_Some _ k q) (a (eqb-true _ _ e)))
@@ -98,7 +98,7 @@ wider_kind wide n k =
     by_kinds wide n (λ x. kind_of true n ≡ Some x)
     (λ e. kind_is n advert_kind advert_frame_size advert_in e refl)
     (λ e. kind_is n request_kind request_frame_size request_in e refl)
-    (λ e. kind_is n packet_kind packet_frame_size packet_in e refl)
+    (λ e. kind_is n packet_kind packet_frame_size packet_in_frame e refl)
     (λ _ e. kind_is n wide_kind wide_frame_size wide_in e refl)
     k
 

@@ -17,7 +17,7 @@ use Rattle.dg_bits.proofs.ByteFormLaws.{unmarked_past, AllBelow-packed, length-b
 use Rattle.dg_control.specs.Snapshot.{order_bytes}
 use Rattle.dg_control.specs.declared.snapshot.Order.{Order}
 use Rattle.dg_frame.specs.Sizes.{advert_kind, request_kind, packet_kind, wide_kind, shortest, narrow_images, wide_images, known_images, entry_places, first_entry, order_place, entry_size, order_size, set_bytes, packet_size, last_packet, advert_frame_size, request_frame_size, packet_frame_size, wide_frame_size}
-use Rattle.dg_frame.specs.Grammar.{half_at, word_at, entry_in_frame, order_at, entries_in, advert_in, request_in, packet_in, wide_in, kind_of, in_range, entry_fits, order_in_frame, page_fits}
+use Rattle.dg_frame.specs.Grammar.{half_at, word_in, entry_in_frame, order_at, entries_in, advert_in, request_in, packet_in_frame, wide_in, kind_of, in_range, entry_fits, order_in_frame, page_fits}
 use Rattle.dg_frame.specs.Ranges.{TellsVersion, NamesImage, OrderInRange, IsInRange}
 use Rattle.dg_frame.specs.Readings.{IsChecked, IsReading}
 use Rattle.dg_frame.specs.Spelling.{entry_bytes, advert_bytes, unchecked, frame_of, EntryFitsTypes, AdvertFits, FitsTypes}
@@ -31,7 +31,7 @@ use Rattle.dg_frame.proofs.ReadingLemmas.{entry_decides, order_decides, page_dec
 half_small : (b : List ℕ) (p : ℕ) → AreBytes b → half_at b p < 2 ^ 16
 half_small b p h = let t = AreBytes-take 2 (drop p b) (AreBytes-drop p b h) in omega (arith, t 0, t 1)
 
-word_small : (b : List ℕ) (p : ℕ) → AreBytes b → word_at b p < 2 ^ 32
+word_small : (b : List ℕ) (p : ℕ) → AreBytes b → word_in b p < 2 ^ 32
 word_small b p h = let t = AreBytes-take 4 (drop p b) (AreBytes-drop p b h) in omega (arith, t 0, t 1, t 2, t 3)
 
 length_piece : (b : List ℕ) (p n : ℕ) → p + n ≤ length b → length (take n (drop p b)) ≡ n
@@ -43,9 +43,9 @@ half_part : (b : List ℕ) (p : ℕ) → AreBytes b → p + 2 ≤ length b → t
 unfolding part
 half_part b p h l = be_bytes_2 (take 2 (drop p b)) (half_at b p) (length_piece b p 2 l) (AreBytes-take 2 (drop p b) (AreBytes-drop p b h)) refl
 
-word_part : (b : List ℕ) (p : ℕ) → AreBytes b → p + 4 ≤ length b → to_be_bytes w32 (word_at b p) ≡ part b p 4
+word_part : (b : List ℕ) (p : ℕ) → AreBytes b → p + 4 ≤ length b → to_be_bytes w32 (word_in b p) ≡ part b p 4
 unfolding part
-word_part b p h l = be_bytes_4 (take 4 (drop p b)) (word_at b p) (length_piece b p 4 l) (AreBytes-take 4 (drop p b) (AreBytes-drop p b h)) refl
+word_part b p h l = be_bytes_4 (take 4 (drop p b)) (word_in b p) (length_piece b p 4 l) (AreBytes-take 4 (drop p b) (AreBytes-drop p b h)) refl
 
 -- a byte before a part
 byte_before : (b xs : List ℕ) (p q n : ℕ) → p + suc n ≤ length b → p + 1 ≡ q → xs ≡ part b q n → slice_index b p ∷ xs ≡ part b p (suc n)
@@ -109,7 +109,7 @@ request_part b h l e =
     (byte_before b _ 5 6 4 (omega arith) refl (word_part b 6 h (omega arith))) refl refl (omega arith))
     (byte_before b _ 10 11 6 (omega arith) refl (set_part b 11 h (omega arith))) refl refl (omega arith)
 
-packet_part : (b : List ℕ) → AreBytes b → length b ≡ packet_frame_size → slice_index b 0 ≡ packet_kind → unchecked (packet_in b) ≡ part b 0 33
+packet_part : (b : List ℕ) → AreBytes b → length b ≡ packet_frame_size → slice_index b 0 ≡ packet_kind → unchecked (packet_in_frame b) ≡ part b 0 33
 packet_part b h l e =
     part_behind b _ _ 0 8 8 25 33
     (part_behind b _ _ 0 3 3 5 8 (head_part b packet_kind h (omega arith) e) (byte_before b _ 3 4 4 (omega arith) refl (word_part b 4 h (omega arith))) refl refl (omega arith))
@@ -258,7 +258,7 @@ checked u h =
 
 entry_read : (b rest : List ℕ) (p : ℕ) (e : Entry) → EntryFitsTypes e → drop p b ≡ entry_bytes e ++ rest → entry_in_frame b p ≡ e
 entry_read b rest p e f d =
-    let version : word_at b p ≡ e.version = ap (λ xs. from_be_bytes w32 (take 4 xs)) d ∙ from_be_bytes-to_be_bytes_4 e.version f.version in
+    let version : word_in b p ≡ e.version = ap (λ xs. from_be_bytes w32 (take 4 xs)) d ∙ from_be_bytes-to_be_bytes_4 e.version f.version in
     let pages : slice_index b (p + 4) ≡ e.pages = sym (get_or-drop p b 4 0) ∙ ap (λ xs. get_or xs 4 0) d in
     let have : slice_index b (p + 5) ≡ e.have = sym (get_or-drop p b 5 0) ∙ ap (λ xs. get_or xs 5 0) d in
     let crc : half_at b (p + 6) ≡ e.crc = ap (λ xs. from_be_bytes w16 (take 2 xs)) (sym (drop-drop 6 p b) ∙ ap (drop 6) d) ∙ from_be_bytes-to_be_bytes_2 e.crc f.crc in
@@ -266,9 +266,9 @@ entry_read b rest p e f d =
 
 order_read : (b rest : List ℕ) (p : ℕ) (o : Order) → o.number < 2 ^ 32 → o.version < 2 ^ 32 → drop p b ≡ order_bytes o ++ rest → order_at b p ≡ o
 order_read b rest p o n v d =
-    let number : word_at b p ≡ o.number = ap (λ xs. from_be_bytes w32 (take 4 xs)) d ∙ from_be_bytes-to_be_bytes_4 o.number n in
+    let number : word_in b p ≡ o.number = ap (λ xs. from_be_bytes w32 (take 4 xs)) d ∙ from_be_bytes-to_be_bytes_4 o.number n in
     let image : slice_index b (p + 4) ≡ o.image = sym (get_or-drop p b 4 0) ∙ ap (λ xs. get_or xs 4 0) d in
-    let version : word_at b (p + 5) ≡ o.version = ap (λ xs. from_be_bytes w32 (take 4 xs)) (sym (drop-drop 5 p b) ∙ ap (drop 5) d) ∙ from_be_bytes-to_be_bytes_4 o.version v in
+    let version : word_in b (p + 5) ≡ o.version = ap (λ xs. from_be_bytes w32 (take 4 xs)) (sym (drop-drop 5 p b) ∙ ap (drop 5) d) ∙ from_be_bytes-to_be_bytes_4 o.version v in
     λ i. record { number = number i; image = image i; version = version i }
 
 length_entries : (es : List Entry) → length (flat_map entry_bytes es) ≡ 8 * length es
@@ -327,16 +327,16 @@ request_back wide source to image version page want f rest =
     let u = unchecked (Request source to image version page want) in
     let s : half_at (u ++ rest) 1 ≡ source = from_be_bytes-to_be_bytes_2 source f.0 in
     let t : half_at (u ++ rest) 3 ≡ to = from_be_bytes-to_be_bytes_2 to f.1 in
-    let v : word_at (u ++ rest) 6 ≡ version = from_be_bytes-to_be_bytes_4 version f.2 in
+    let v : word_in (u ++ rest) 6 ≡ version = from_be_bytes-to_be_bytes_4 version f.2 in
     let w : numbers_of (take set_bytes (drop 11 (u ++ rest))) ≡ want =
     ap numbers_of (take_at (byte_form set_bytes want) rest set_bytes (length-byte_form set_bytes want)) ∙ numbers_of-byte_form set_bytes want f.3 in
     (refl, omega (arith, length-byte_form set_bytes want), λ i. Request (s i) (t i) image (v i) page (w i))
 
-packet_back : (wide : Bool) (source image version page packet : ℕ) (bytes : List ℕ) → FitsTypes (Packet source image version page packet bytes) → IsReadBack wide (Packet source image version page packet bytes) (packet_frame_size, packet_in)
+packet_back : (wide : Bool) (source image version page packet : ℕ) (bytes : List ℕ) → FitsTypes (Packet source image version page packet bytes) → IsReadBack wide (Packet source image version page packet bytes) (packet_frame_size, packet_in_frame)
 packet_back wide source image version page packet bytes f rest =
     let u = unchecked (Packet source image version page packet bytes) in
     let s : half_at (u ++ rest) 1 ≡ source = from_be_bytes-to_be_bytes_2 source f.0 in
-    let v : word_at (u ++ rest) 4 ≡ version = from_be_bytes-to_be_bytes_4 version f.1 in
+    let v : word_in (u ++ rest) 4 ≡ version = from_be_bytes-to_be_bytes_4 version f.1 in
     let x : take packet_size (drop 10 (u ++ rest)) ≡ bytes = take_at bytes rest packet_size f.2 in
     (refl, omega (arith, f.2), λ i. Packet (s i) image (v i) page packet (x i))
 
@@ -344,7 +344,7 @@ packet_back wide source image version page packet bytes f rest =
 abbrev row : Message → ℕ × (List ℕ → Message)
 row (Advert source entries order) = (advert_frame_size, advert_in)
 row (Request source to image version page want) = (request_frame_size, request_in)
-row (Packet source image version page packet bytes) = (packet_frame_size, packet_in)
+row (Packet source image version page packet bytes) = (packet_frame_size, packet_in_frame)
 row (Wide source entries order) = (wide_frame_size, wide_in)
 
 read_back : (wide : Bool) (m : Message) → FitsTypes m → IsInRange wide m → IsReadBack wide m (row m)

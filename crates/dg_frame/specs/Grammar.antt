@@ -24,19 +24,19 @@ use Rattle.dg_frame.specs.declared.FrameFault.TheVariants.{Short, Kind, Length, 
 abbrev pub half_at : List ℕ → ℕ → ℕ
 half_at b at = from_be_bytes w16 (take 2 (drop at b))
 
-abbrev pub word_at : List ℕ → ℕ → ℕ
-word_at b at = from_be_bytes w32 (take 4 (drop at b))
+abbrev pub word_in : List ℕ → ℕ → ℕ
+word_in b at = from_be_bytes w32 (take 4 (drop at b))
 
 abbrev pub entry_in_frame : List ℕ → ℕ → Entry
 entry_in_frame b at = record {
-  version = word_at b at;
+  version = word_in b at;
   pages = slice_index b (at + 4);
   have = slice_index b (at + 5);
   crc = half_at b (at + 6);
 }
 
 abbrev pub order_at : List ℕ → ℕ → Order
-order_at b at = record { number = word_at b at; image = slice_index b (at + 4); version = word_at b (at + 5) }
+order_at b at = record { number = word_in b at; image = slice_index b (at + 4); version = word_in b (at + 5) }
 
 -- this many entries
 unfoldable pub entries_in : (count : ℕ) → List ℕ → List Entry
@@ -46,11 +46,11 @@ abbrev pub advert_in : List ℕ → Message
 advert_in b = Advert (half_at b 1) (entries_in narrow_images b) (order_at b (order_place narrow_images))
 
 abbrev pub request_in : List ℕ → Message
-request_in b = Request (half_at b 1) (half_at b 3) (slice_index b 5) (word_at b 6) (slice_index b 10)
+request_in b = Request (half_at b 1) (half_at b 3) (slice_index b 5) (word_in b 6) (slice_index b 10)
     (numbers_of (take set_bytes (drop 11 b)))
 
-abbrev pub packet_in : List ℕ → Message
-packet_in b = Packet (half_at b 1) (slice_index b 3) (word_at b 4) (slice_index b 8) (slice_index b 9)
+abbrev pub packet_in_frame : List ℕ → Message
+packet_in_frame b = Packet (half_at b 1) (slice_index b 3) (word_in b 4) (slice_index b 8) (slice_index b 9)
     (take packet_size (drop 10 b))
 
 abbrev pub wide_in : List ℕ → Message
@@ -88,7 +88,7 @@ abbrev pub kind_of : (wide : Bool) → ℕ → Option (ℕ × (List ℕ → Mess
 kind_of wide n =
     if n == advert_kind then Some (advert_frame_size, advert_in)
     else if n == request_kind then Some (request_frame_size, request_in)
-    else if n == packet_kind then Some (packet_frame_size, packet_in)
+    else if n == packet_kind then Some (packet_frame_size, packet_in_frame)
     else if wide && (n == wide_kind) then Some (wide_frame_size, wide_in)
     else None
 

@@ -3,7 +3,7 @@
 use Rattle.std.specs.Prelude.{ℕ, List}
 use Rattle.dg_frame.specs.Sizes.{advert_kind, request_kind, packet_kind, wide_kind, advert_frame_size, request_frame_size}
 use Rattle.dg_frame.specs.Sizes.{packet_frame_size, wide_frame_size}
-use Rattle.dg_frame.specs.Grammar.{advert_in, request_in, packet_in, wide_in}
+use Rattle.dg_frame.specs.Grammar.{advert_in, request_in, packet_in_frame, wide_in}
 use Rattle.dg_frame.specs.declared.Message.{Message}
 use Rattle.dg_frame.specs.declared.kind.Kind.{Kind}
 use Rattle.dg_frame.specs.declared.kind.Kind.TheVariants.{Advert, Request, Packet, Wide}
@@ -19,5 +19,5 @@ kind_number Wide = wide_kind
 abbrev pub kind_row : Kind → ℕ × (List ℕ → Message)
 kind_row Advert = (advert_frame_size, advert_in)
 kind_row Request = (request_frame_size, request_in)
-kind_row Packet = (packet_frame_size, packet_in)
+kind_row Packet = (packet_frame_size, packet_in_frame)
 kind_row Wide = (wide_frame_size, wide_in)

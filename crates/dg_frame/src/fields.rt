@@ -7,7 +7,7 @@ ghost use Rattle.dg_control.specs.Snapshot.{order_bytes};
 ghost use Rattle.dg_bits.specs.Sets.{AllBelow};
 ghost use Rattle.dg_bits.specs.ByteForm.{numbers_of, byte_form};
 ghost use Rattle.dg_frame.specs.Sizes.{frame_bytes, packets, entry_size, order_size, set_bytes};
-ghost use Rattle.dg_frame.specs.Grammar.{half_at, word_at, entry_in_frame, order_at};
+ghost use Rattle.dg_frame.specs.Grammar.{half_at, word_in, entry_in_frame, order_at};
 ghost use Rattle.dg_frame.specs.Spelling.{entry_bytes, EntryFitsTypes};
 
 use crate::{Entry, Frame, SET_BYTES};
@@ -27,7 +27,7 @@ pub fn half_at(bytes: &[u8], at: usize) -> u16
 /// The number of four bytes at an offset, the highest byte first.
 pub fn word_at(bytes: &[u8], at: usize) -> u32
     requires { at + 4 ≤ length bytes.now }
-    ensures { result ≡ word_at bytes.now at }
+    ensures { result ≡ word_in bytes.now at }
 {
     BigEndian::read_u32(&bytes[at..])
 }

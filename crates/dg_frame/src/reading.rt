@@ -6,7 +6,7 @@ ghost use Rattle.dg_frame.specs.Sizes.{wide_images};
 ghost use Rattle.dg_frame.specs.Kinds.{kind_row};
 ghost use Rattle.dg_frame.specs.Spelling.{frame_of};
 ghost use Rattle.dg_frame.specs.Readings.{IsReading};
-ghost use Rattle.dg_frame.specs.Grammar.{half_at, entries_in, advert_in, request_in, packet_in, wide_in, message_of};
+ghost use Rattle.dg_frame.specs.Grammar.{half_at, entries_in, advert_in, request_in, packet_in_frame, wide_in, message_of};
 
 use crate::fields::{entry_at, half_at, order_at, set_at, word_at};
 use crate::kind::{ADVERT_BYTES, Kind, PACKET_FRAME_BYTES, REQUEST_BYTES, WIDE_BYTES};
@@ -140,7 +140,7 @@ fn request(bytes: &[u8]) -> Message
 
 fn packet(bytes: &[u8]) -> Message
     requires { length bytes.now ≡ packet_frame_size }
-    ensures { result ≡ packet_in bytes.now }
+    ensures { result ≡ packet_in_frame bytes.now }
 {
     let mut carried = [0; PACKET_SIZE];
     carried.copy_from_slice(&bytes[10..10 + PACKET_SIZE]);

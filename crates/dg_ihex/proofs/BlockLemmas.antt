@@ -5,7 +5,7 @@ use Rattle.std.proofs.lemmas.Bool.{cases_lt}
 use Rattle.std.proofs.lemmas.Option.{slice_get_past, slice_get_within}
 use Rattle.std.specs.Prelude.{slice_get}
 use Rattle.std.specs.Option.{option_or}
-use Rattle.dg_ihex.specs.Blocks.{Block, block_byte, byte_at, lowest_of, past_of}
+use Rattle.dg_ihex.specs.Blocks.{Block, block_byte, byte_at, lowest_of, past_blocks}
 
 -- ---- one more block
 
@@ -25,8 +25,8 @@ unfolding lowest_of
 lowest_of-more [] block h = omega arith
 lowest_of-more (first ∷ blocks) block h = let ih = lowest_of-more blocks block h in omega (arith, ih)
 
-pub past_of-more : (blocks : List Block) (block : Block) → past_of (blocks ++ block ∷ []) ≡ max (past_of blocks) (block.address + length block.bytes)
-unfolding past_of
+pub past_of-more : (blocks : List Block) (block : Block) → past_blocks (blocks ++ block ∷ []) ≡ max (past_blocks blocks) (block.address + length block.bytes)
+unfolding past_blocks
 past_of-more [] block = omega arith
 past_of-more (first ∷ blocks) block = let ih = past_of-more blocks block in omega (arith, ih)
 
@@ -46,8 +46,8 @@ either : (a b : Option ℕ) (byte : ℕ) → option_or a b ≡ Some byte → (a 
 either None b byte h = inr h
 either (Some x) b byte h = inl h
 
-pub byte_at-within : (blocks : List Block) (address byte : ℕ) → byte_at blocks address ≡ Some byte → (lowest_of blocks ≤ address) × (address < past_of blocks)
-unfolding byte_at lowest_of past_of
+pub byte_at-within : (blocks : List Block) (address byte : ℕ) → byte_at blocks address ≡ Some byte → (lowest_of blocks ≤ address) × (address < past_blocks blocks)
+unfolding byte_at lowest_of past_blocks
 byte_at-within [] address byte h = cc
 byte_at-within (first ∷ blocks) address byte h =
     elim (either (block_byte first address) (byte_at blocks address) byte h) [

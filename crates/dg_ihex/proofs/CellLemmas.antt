@@ -5,7 +5,7 @@ use Rattle.std.proofs.lemmas.Bool.{cases_eq, cases_lt, ne_eqb}
 use Rattle.std.proofs.lemmas.Bool.Decides.{nat_tests}
 use Rattle.std.proofs.lemmas.List.{get_or-set_same, get_or-set_other, length-set}
 use Rattle.dg_ihex.specs.Sizes.{longest_image}
-use Rattle.dg_ihex.specs.Cells.{Keeps, written}
+use Rattle.dg_ihex.specs.Cells.{Keeps, cells_written}
 
 -- numbers that are less than an image apart have cells of their own
 own_cell : (a d : ℕ) → 0 < d → d < longest_image → a % longest_image ≢ (a + d) % longest_image
@@ -75,8 +75,8 @@ pub keeps_written : (bytes : List ℕ) (shift : ℕ) (cells : List (Option ℕ))
     → ((k : ℕ) → k < length bytes → (from + k) % longest_image < length cells) → length bytes ≤ longest_image
     → ((x y k : ℕ) → f x ≡ Some y → k < length bytes → (x + shift) % longest_image ≢ (a + k + shift) % longest_image)
     → ((k : ℕ) → k < length bytes → g (a + k) ≡ slice_get bytes k) → ((x : ℕ) → (x < a) ⊎ (a + length bytes ≤ x) → g x ≡ f x)
-    → Keeps shift cells f → Keeps shift (written cells from bytes) g
-unfolding written
+    → Keeps shift cells f → Keeps shift (cells_written cells from bytes) g
+unfolding cells_written
 keeps_written [] shift cells f g a from is room few free inside outside k =
     keeps_same shift cells f g (λ x. elim (cases_lt x a) [ inl low ↦ outside x (inl low) | inr high ↦ outside x (inr (omega arith)) ]) k
 keeps_written (byte ∷ bytes) shift cells f g a from is room few free inside outside k =

@@ -11,7 +11,7 @@ use Rattle.dg_words.proofs.ListLemmas.{length-tabulate, get_or-tabulate}
 use Rattle.dg_ihex.specs.declared.faults.HexCause.{HexCause}
 use Rattle.dg_ihex.specs.declared.faults.HexCause.TheVariants.{End}
 use Rattle.dg_ihex.specs.declared.faults.HexFileFault.{HexFileFault}
-use Rattle.dg_ihex.specs.Blocks.{Block, byte_at, image_of, lowest_of, past_of, span_of}
+use Rattle.dg_ihex.specs.Blocks.{Block, byte_at, image_of_blocks, lowest_of, past_blocks, span_of}
 use Rattle.dg_ihex.specs.Files.{blocks_of, cause_of, ended, fault_behind, file_from, has_end, hex_file, records_of, unless}
 use Rattle.dg_ihex.specs.Laws.{IsFirstFault, fault_behind_lines}
 use Rattle.dg_ihex.proofs.BlockLemmas.{byte_at-within}
@@ -53,14 +53,14 @@ fault_of before cause fault h = let e : record { line = length before + 1; cause
 pub record Found (texts : List (List ℕ)) (given : Result (List ℕ) HexFileFault) : Type 0 where
   pub fault : (f : HexFileFault) → given ≡ Err f → IsFirstFault texts f
   pub sound : (image : List ℕ) → given ≡ Ok image → Clean texts (length texts + 1)
-  pub image : (image : List ℕ) → given ≡ Ok image → image ≡ image_of (blocks_of (records_of texts))
+  pub image : (image : List ℕ) → given ≡ Ok image → image ≡ image_of_blocks (blocks_of (records_of texts))
 
 found_end : (texts : List (List ℕ)) (end : Bool) → has_end (records_of texts) ≡ end → Clean texts (length texts)
-    → Found texts (cond end (Ok (image_of (blocks_of (records_of texts)))) (fault_behind texts End))
+    → Found texts (cond end (Ok (image_of_blocks (blocks_of (records_of texts)))) (fault_behind texts End))
 found_end texts true h clean = record {
   fault = λ f e. (let b : ⊥ = cc in absurd b);
   sound = λ image e. clean_more texts (length texts) clean (end_fault texts (length texts) (omega arith) ∙ ap (λ t. cond t None (Some End)) h);
-  image = λ image e. (let same : image_of (blocks_of (records_of texts)) ≡ image = cc in sym same);
+  image = λ image e. (let same : image_of_blocks (blocks_of (records_of texts)) ≡ image = cc in sym same);
 }
 found_end texts false h clean = record {
   fault = λ f e.
@@ -112,8 +112,8 @@ found bytes = found_from [] (lines bytes) (λ n h. absurd (omega arith))
 
 -- ---- images
 
-image_at : (blocks : List Block) (address : ℕ) → lowest_of blocks ≤ address → address < past_of blocks → slice_get (image_of blocks) (address - lowest_of blocks) ≡ Some (unwrap_or (byte_at blocks address) 255)
-unfolding image_of
+image_at : (blocks : List Block) (address : ℕ) → lowest_of blocks ≤ address → address < past_blocks blocks → slice_get (image_of_blocks blocks) (address - lowest_of blocks) ≡ Some (unwrap_or (byte_at blocks address) 255)
+unfolding image_of_blocks
 image_at blocks address low high =
     let f : ℕ → ℕ = λ k. unwrap_or (byte_at blocks (lowest_of blocks + k)) 255 in
     let k = address - lowest_of blocks in
@@ -121,14 +121,14 @@ image_at blocks address low high =
     slice_get-get_or (tabulate (span_of blocks) f) k 0 (omega (arith, length-tabulate (span_of blocks) f)) ∙ ap Some (get_or-tabulate (span_of blocks) k f 0 (omega arith))
     ∙ ap (λ a. Some (unwrap_or (byte_at blocks a) 255)) there
 
-pub image_given : (blocks : List Block) (address byte : ℕ) → byte_at blocks address ≡ Some byte → slice_get (image_of blocks) (address - lowest_of blocks) ≡ Some byte
+pub image_given : (blocks : List Block) (address byte : ℕ) → byte_at blocks address ≡ Some byte → slice_get (image_of_blocks blocks) (address - lowest_of blocks) ≡ Some byte
 image_given blocks address byte h =
     let w = byte_at-within blocks address byte h in
     image_at blocks address w.0 w.1 ∙ ap (λ o. Some (unwrap_or o 255)) h
 
-pub image_gap : (blocks : List Block) (address : ℕ) → lowest_of blocks ≤ address → address < past_of blocks → byte_at blocks address ≡ None → slice_get (image_of blocks) (address - lowest_of blocks) ≡ Some 255
+pub image_gap : (blocks : List Block) (address : ℕ) → lowest_of blocks ≤ address → address < past_blocks blocks → byte_at blocks address ≡ None → slice_get (image_of_blocks blocks) (address - lowest_of blocks) ≡ Some 255
 image_gap blocks address low high h = image_at blocks address low high ∙ ap (λ o. Some (unwrap_or o 255)) h
 
-pub length-image_of : (blocks : List Block) → length (image_of blocks) ≡ past_of blocks - lowest_of blocks
-unfolding image_of
+pub length-image_of : (blocks : List Block) → length (image_of_blocks blocks) ≡ past_blocks blocks - lowest_of blocks
+unfolding image_of_blocks
 length-image_of blocks = length-tabulate (span_of blocks) (λ k. unwrap_or (byte_at blocks (lowest_of blocks + k)) 255)

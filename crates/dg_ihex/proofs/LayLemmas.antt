@@ -8,7 +8,7 @@ use Rattle.std.proofs.lemmas.Option.{unwrap_or-slice_get, slice_get_past, slice_
 use Rattle.std.proofs.lemmas.List.{get_or_append_left, length-append}
 use Rattle.std.proofs.lemmas.List.FromFn.{fill_by_all}
 use Rattle.dg_ihex.specs.Sizes.{longest_image}
-use Rattle.dg_ihex.specs.Blocks.{Block, block_byte, byte_at, is_given, overlaps, lowest_of, past_of, span_of, image_of}
+use Rattle.dg_ihex.specs.Blocks.{Block, block_byte, byte_at, is_given, overlaps, lowest_of, past_blocks, span_of, image_of_blocks}
 use Rattle.dg_ihex.proofs.BlockLemmas.{block_byte-inside, byte_at-more, lowest_of-more, past_of-more}
 use Rattle.dg_ihex.proofs.WindowLemmas.{none_behind}
 
@@ -17,10 +17,10 @@ use Rattle.dg_ihex.proofs.WindowLemmas.{none_behind}
 pub record Lays (blocks : List Block) (image : List ℕ) : Type 0 where
   pub bytes : (a : ℕ) → byte_at blocks a ≡ slice_get image a
   pub low : 0 < length image → lowest_of blocks ≡ 0
-  pub past : past_of blocks ≡ length image
+  pub past : past_blocks blocks ≡ length image
 
 pub lays_nothing : Lays [] []
-unfolding byte_at past_of
+unfolding byte_at past_blocks
 lays_nothing = record { bytes = λ a. refl; low = λ some. absurd (omega arith); past = refl }
 
 behind_front : (front back : List ℕ) (a k : ℕ) → a ≡ length front + k → slice_get (front ++ back) a ≡ slice_get back k
@@ -64,7 +64,7 @@ lays_more blocks image bytes block h is fits =
     })
 
 -- the addresses after them are free
-none_given : (blocks : List Block) (n a : ℕ) → past_of blocks ≤ a → list_any (is_given blocks) (range_with_len a n) ≡ false
+none_given : (blocks : List Block) (n a : ℕ) → past_blocks blocks ≤ a → list_any (is_given blocks) (range_with_len a n) ≡ false
 none_given blocks zero a behind = refl
 none_given blocks (suc n) a behind =
     ap (λ o. is_some o || list_any (is_given blocks) (range_with_len (a + 1) n)) (sym (none_behind blocks a behind)) ∙ none_given blocks n (a + 1) (omega arith)
@@ -77,8 +77,8 @@ pub lays_within : (blocks : List Block) (image : List ℕ) → Lays blocks image
 lays_within blocks image h fits = omega (arith, h.past)
 
 -- their image
-pub lays_image : (blocks : List Block) (image : List ℕ) → Lays blocks image → 0 < length image → image_of blocks ≡ image
-unfolding image_of
+pub lays_image : (blocks : List Block) (image : List ℕ) → Lays blocks image → 0 < length image → image_of_blocks blocks ≡ image
+unfolding image_of_blocks
 lays_image blocks image h some =
     let low = h.low some in
     let span : length image ≡ span_of blocks = omega (arith, h.past, low) in

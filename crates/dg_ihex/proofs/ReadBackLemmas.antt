@@ -14,7 +14,7 @@ use Rattle.dg_base.proofs.LineLemmas.{lines-ended}
 use Rattle.dg_ihex.specs.declared.faults.HexCause.{HexCause}
 use Rattle.dg_ihex.specs.declared.record.Record.{Record}
 use Rattle.dg_ihex.specs.Records.{record_of, record_of_bytes, record_of_digits, typed_record}
-use Rattle.dg_ihex.specs.Written.{checksum_of, with_checksum, upper_hex, fields_of, line_of, ended_by_feed}
+use Rattle.dg_ihex.specs.Written.{record_checksum, with_checksum, upper_hex, fields_of_record, line_of_record, ended_by_feed}
 
 -- ---- digits
 
@@ -73,13 +73,13 @@ pub record FitsLine (kind offset : ℕ) (bytes : List ℕ) : Type 0 where
   pub few : length bytes < 256
   pub each : All IsByte bytes
 
-fields_fit : (kind offset : ℕ) (bytes : List ℕ) → FitsLine kind offset bytes → All IsByte (with_checksum (fields_of kind offset bytes))
+fields_fit : (kind offset : ℕ) (bytes : List ℕ) → FitsLine kind offset bytes → All IsByte (with_checksum (fields_of_record kind offset bytes))
 fields_fit kind offset bytes h =
-    All-push IsByte (fields_of kind offset bytes) (checksum_of (fields_of kind offset bytes))
+    All-push IsByte (fields_of_record kind offset bytes) (record_checksum (fields_of_record kind offset bytes))
     (All-cons IsByte (length bytes) (offset / 256 ∷ offset % 256 ∷ kind ∷ bytes) h.few
     (All-cons IsByte (offset / 256) (offset % 256 ∷ kind ∷ bytes) (let f = h.offset_fits in omega arith)
     (All-cons IsByte (offset % 256) (kind ∷ bytes) (omega arith) (All-cons IsByte kind bytes h.kind_fits h.each))))
-    (check_fits (sum (fields_of kind offset bytes)))
+    (check_fits (sum (fields_of_record kind offset bytes)))
 
 sum_push : (xs : List ℕ) (y : ℕ) → sum (xs ++ y ∷ []) ≡ sum xs + y
 sum_push xs y = fold_push ◌+◌ 0 xs y
@@ -100,28 +100,28 @@ unfolding record_of_bytes
 passes bytes long counted sums =
     chosen (nat_lt (length bytes) 5) (length bytes == slice_index bytes 0 + 5) (sum bytes % 256 == 0) _ _ _ (not_short (length bytes) long) (same_test _ _ counted) (same_test _ _ sums)
 
-record_back : (kind offset : ℕ) (bytes : List ℕ) → record_of_bytes (with_checksum (fields_of kind offset bytes)) ≡ typed_record kind offset bytes
+record_back : (kind offset : ℕ) (bytes : List ℕ) → record_of_bytes (with_checksum (fields_of_record kind offset bytes)) ≡ typed_record kind offset bytes
 record_back kind offset bytes =
-    let check = checksum_of (fields_of kind offset bytes) in
-    let whole = with_checksum (fields_of kind offset bytes) in
+    let check = record_checksum (fields_of_record kind offset bytes) in
+    let whole = with_checksum (fields_of_record kind offset bytes) in
     let long : length whole ≡ length bytes + 5 = omega (arith, length_push bytes check) in
-    let sums : sum whole % 256 ≡ 0 = ap (λ n. n % 256) (sum_push (fields_of kind offset bytes) check) ∙ check_sums (sum (fields_of kind offset bytes)) in
+    let sums : sum whole % 256 ≡ 0 = ap (λ n. n % 256) (sum_push (fields_of_record kind offset bytes) check) ∙ check_sums (sum (fields_of_record kind offset bytes)) in
     let count : length bytes ≡ length whole - 1 - 4 = omega (arith, long) in
     let content : slice_range whole 4 (length whole - 1) ≡ bytes = take_at bytes (check ∷ []) (length whole - 1 - 4) count in
     let address : offset / 256 * 256 + offset % 256 ≡ offset = omega arith in
     passes whole (omega (arith, long)) long sums
     ∙ ap (λ o. typed_record kind o (slice_range whole 4 (length whole - 1))) address ∙ ap (typed_record kind offset) content
 
-pub line_back : (kind offset : ℕ) (bytes : List ℕ) → FitsLine kind offset bytes → record_of (line_of kind offset bytes) ≡ typed_record kind offset bytes
-unfolding record_of line_of
+pub line_back : (kind offset : ℕ) (bytes : List ℕ) → FitsLine kind offset bytes → record_of (line_of_record kind offset bytes) ≡ typed_record kind offset bytes
+unfolding record_of line_of_record
 line_back kind offset bytes h =
-    ap record_of_digits (hex_bytes-upper_hex (with_checksum (fields_of kind offset bytes)) (fields_fit kind offset bytes h)) ∙ record_back kind offset bytes
+    ap record_of_digits (hex_bytes-upper_hex (with_checksum (fields_of_record kind offset bytes)) (fields_fit kind offset bytes h)) ∙ record_back kind offset bytes
 
 -- ---- lines
 
-plain_line : (kind offset : ℕ) (bytes : List ℕ) → FitsLine kind offset bytes → All IsPlain (line_of kind offset bytes)
-unfolding line_of
-plain_line kind offset bytes h = All-cons IsPlain 58 _ (omega arith) (plain_hex (with_checksum (fields_of kind offset bytes)) (fields_fit kind offset bytes h))
+plain_line : (kind offset : ℕ) (bytes : List ℕ) → FitsLine kind offset bytes → All IsPlain (line_of_record kind offset bytes)
+unfolding line_of_record
+plain_line kind offset bytes h = All-cons IsPlain 58 _ (omega arith) (plain_hex (with_checksum (fields_of_record kind offset bytes)) (fields_fit kind offset bytes h))
 
 no_feed : (b : ℕ) → IsPlain b → (b == 10) ≡ false
 no_feed b h = grind (arith, nat_tests)
@@ -137,8 +137,8 @@ pub record IsLine (text : List ℕ) : Type 0 where
   pub some : 0 < length text
   pub plain : All IsPlain text
 
-pub line_is : (kind offset : ℕ) (bytes : List ℕ) → FitsLine kind offset bytes → IsLine (line_of kind offset bytes)
-unfolding line_of
+pub line_is : (kind offset : ℕ) (bytes : List ℕ) → FitsLine kind offset bytes → IsLine (line_of_record kind offset bytes)
+unfolding line_of_record
 line_is kind offset bytes h = record { some = omega arith; plain = plain_line kind offset bytes h }
 
 -- the lines of texts that LF ends are the texts

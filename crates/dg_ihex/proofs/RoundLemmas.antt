@@ -8,10 +8,10 @@ use Rattle.std.proofs.lemmas.List.Elements.{All-nil, All-cons, All-append, All-t
 use Rattle.dg_ihex.specs.declared.faults.HexCause.TheVariants.{Shape, End}
 use Rattle.dg_ihex.specs.declared.record.Record.TheVariants as records
 use Rattle.dg_ihex.specs.Sizes.{longest_image, segment, piece_bytes}
-use Rattle.dg_ihex.specs.Blocks.{Block, image_of}
+use Rattle.dg_ihex.specs.Blocks.{Block, image_of_blocks}
 use Rattle.dg_ihex.specs.Records.{record_of, typed_record, data_record, linear_record, marker}
 use Rattle.dg_ihex.specs.Files.{base_of, blocks_of, has_end, cause_of, records_of, file_from, hex_file}
-use Rattle.dg_ihex.specs.Written.{base_line, base_lines, data_line, end_line, line_of, lines_at, piece_at, pieces_of, written_file, written_lines}
+use Rattle.dg_ihex.specs.Written.{base_line, base_lines, data_line, end_line, line_of_record, lines_at, piece_at, records_of_data, written_file, hex_lines}
 use Rattle.dg_ihex.proofs.FileLemmas.{base_of-more, blocks_next, blocks_same, data_block, end_same, end_now, no_byte, record_line, span_fits, with_block}
 use Rattle.dg_ihex.proofs.StreamLemmas.{file_more}
 use Rattle.dg_ihex.proofs.ReadBackLemmas.{FitsLine, IsByte, IsLine, line_back, line_is, lines_back}
@@ -54,8 +54,8 @@ base_back units h =
     let whole : units / 256 * 256 + units % 256 ≡ units = omega arith in
     line_back 4 0 (units / 256 ∷ units % 256 ∷ []) (base_fits units h) ∙ ap (λ n. Ok (records.Linear n)) whole
 
-line_some : (kind offset : ℕ) (bytes : List ℕ) → 0 < length (line_of kind offset bytes)
-unfolding line_of
+line_some : (kind offset : ℕ) (bytes : List ℕ) → 0 < length (line_of_record kind offset bytes)
+unfolding line_of_record
 line_some kind offset bytes = omega arith
 
 -- ---- the state after lines
@@ -115,7 +115,7 @@ after_end before base image h some fits =
     subst (λ r. Lays (blocks_of r) image) line.1 (subst (λ b. Lays b image) (blocks_same all records.End refl) h.lays) in
     let closed : has_end (records_of (before ++ end_line ∷ [])) ≡ true = ap has_end (sym line.1) ∙ sym (end_now all) in
     file_more before end_line [] fine
-    ∙ ap (λ t. cond t (Ok (image_of (blocks_of (records_of (before ++ end_line ∷ []))))) (Err (record { line = length (before ++ end_line ∷ []) + 1; cause = End }))) closed
+    ∙ ap (λ t. cond t (Ok (image_of_blocks (blocks_of (records_of (before ++ end_line ∷ []))))) (Err (record { line = length (before ++ end_line ∷ []) + 1; cause = End }))) closed
     ∙ ap Ok (lays_image (blocks_of (records_of (before ++ end_line ∷ []))) image lays some)
 
 -- ---- the pieces
@@ -160,10 +160,10 @@ one_piece image k before tail h within laid =
 regroup_lines : (base : List (List ℕ)) (line : List ℕ) (rest end : List (List ℕ)) → ((base ++ line ∷ []) ++ rest) ++ end ≡ base ++ (line ∷ (rest ++ end))
 regroup_lines base line rest end = simp append_assoc
 
-pieces_left : (n k m length_ : ℕ) → k + n ≡ pieces_of length_ → n ≡ suc m → k * piece_bytes < length_
+pieces_left : (n k m length_ : ℕ) → k + n ≡ records_of_data length_ → n ≡ suc m → k * piece_bytes < length_
 pieces_left n k m length_ h is = omega arith
 
-pub file_pieces : (n k : ℕ) (image : List ℕ) (before : List (List ℕ)) → Fits image → k + n ≡ pieces_of (length image) → Laid before (base_before k) (take (k * piece_bytes) image)
+pub file_pieces : (n k : ℕ) (image : List ℕ) (before : List (List ℕ)) → Fits image → k + n ≡ records_of_data (length image) → Laid before (base_before k) (take (k * piece_bytes) image)
     → file_from before (flat_map (lines_at image) (range_with_len k n) ++ end_line ∷ []) ≡ Ok image
 file_pieces zero k image before h count laid =
     let all : take (k * piece_bytes) image ≡ image = take_all (k * piece_bytes) image (omega arith) in
@@ -173,7 +173,7 @@ file_pieces (suc n) k image before h count laid =
     let fits = h.fits in
     let line = data_line (k * piece_bytes % segment) (piece_at image k) in
     let tail = flat_map (lines_at image) (range_with_len (k + 1) n) ++ end_line ∷ [] in
-    let left : k + 1 + n ≡ pieces_of (length image) = omega arith in
+    let left : k + 1 + n ≡ records_of_data (length image) = omega arith in
     let front : length (take (k * piece_bytes) image) ≤ longest_image = omega (arith, length-take (k * piece_bytes) image) in
     let rest : (texts : List (List ℕ)) → Laid texts (k * piece_bytes / segment * segment) (take (k * piece_bytes) image) → file_from texts (line ∷ tail) ≡ Ok image =
     λ texts there. (let one = one_piece image k texts tail h within there in one.0 ∙ file_pieces n (k + 1) image (texts ++ line ∷ []) h left one.1) in
@@ -195,7 +195,7 @@ chosen_line : (test : Bool) (line : List ℕ) → IsLine line → All IsLine (co
 chosen_line true line h = All-cons IsLine line [] h (All-nil IsLine)
 chosen_line false line h = All-nil IsLine
 
-pieces_are_lines : (image : List ℕ) (n k : ℕ) → Fits image → k + n ≡ pieces_of (length image) → All IsLine (flat_map (lines_at image) (range_with_len k n))
+pieces_are_lines : (image : List ℕ) (n k : ℕ) → Fits image → k + n ≡ records_of_data (length image) → All IsLine (flat_map (lines_at image) (range_with_len k n))
 pieces_are_lines image zero k h count = All-nil IsLine
 pieces_are_lines image (suc n) k h count =
     let within : k * piece_bytes < length image = pieces_left (suc n) k n (length image) count refl in
@@ -213,7 +213,7 @@ pieces_are_lines image (suc n) k h count =
 pub hex_file-written_file : (image : List ℕ) → Fits image → hex_file (written_file image) ≡ Ok image
 unfolding hex_file written_file
 hex_file-written_file image h =
-    let n = pieces_of (length image) in
-    let each : All IsLine (written_lines image) =
+    let n = records_of_data (length image) in
+    let each : All IsLine (hex_lines image) =
     All-append IsLine (flat_map (lines_at image) (range_with_len 0 n)) (end_line ∷ []) (pieces_are_lines image n 0 h (omega arith)) (All-cons IsLine end_line [] (line_is 1 0 [] end_fits) (All-nil IsLine)) in
-    ap (file_from []) (lines_back (written_lines image) each) ∙ file_pieces n 0 image [] h (omega arith) laid_nothing
+    ap (file_from []) (lines_back (hex_lines image) each) ∙ file_pieces n 0 image [] h (omega arith) laid_nothing

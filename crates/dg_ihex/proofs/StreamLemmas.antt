@@ -12,7 +12,7 @@ use Rattle.dg_ihex.specs.declared.faults.HexCause.TheVariants.{Memory}
 use Rattle.dg_ihex.specs.declared.reader.Numbered.{Numbered}
 use Rattle.dg_ihex.specs.declared.stream.Stream.{Stream}
 use Rattle.dg_ihex.specs.Files.{cause_of, ended, file_from, hex_file, record_in, records_of, unless}
-use Rattle.dg_ihex.specs.Readers.{Behind, Judges, Stands}
+use Rattle.dg_ihex.specs.Readers.{Behind, Judges, ReaderStands}
 use Rattle.dg_ihex.specs.Streams.{Advances, FedBy, Going, HasFault, SaysAlike, Stays, TellsFault}
 use Rattle.dg_ihex.proofs.FileLemmas.{records_of-more}
 use Rattle.dg_ihex.proofs.LongLemmas.{stays_same, stays_trans, stays_more}
@@ -77,7 +77,7 @@ file_line before line bytes rest input file a b =
 behind_alike : (numbered : Numbered) (before : List (List ℕ)) (x y : List ℕ) → record_in x ≡ record_in y → Behind numbered (before ++ x ∷ []) → Behind numbered (before ++ y ∷ [])
 behind_alike numbered before x y same h = record {
   number = (let n = h.number in omega (arith, n, length_push before x, length_push before y));
-  stands = subst (Stands numbered.reader) (records_of-more before x ∙ ap (λ r. records_of before ++ r) same ∙ sym (records_of-more before y)) h.stands;
+  stands = subst (ReaderStands numbered.reader) (records_of-more before x ∙ ap (λ r. records_of before ++ r) same ∙ sym (records_of-more before y)) h.stands;
 }
 
 -- a result for the line that is kept is one for the line

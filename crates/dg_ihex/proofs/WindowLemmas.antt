@@ -5,8 +5,8 @@ use Rattle.std.specs.Option.{option_or}
 use Rattle.std.proofs.lemmas.List.{take_all, take_more_set, get_or_past}
 use Rattle.std.proofs.lemmas.List.FromFn.{map-range_with_len_more}
 use Rattle.dg_ihex.specs.Sizes.{longest_image}
-use Rattle.dg_ihex.specs.Blocks.{Block, block_byte, byte_at, is_given, overlaps, lowest_of, past_of, span_of, image_of}
-use Rattle.dg_ihex.specs.Cells.{Keeps, written}
+use Rattle.dg_ihex.specs.Blocks.{Block, block_byte, byte_at, is_given, overlaps, lowest_of, past_blocks, span_of, image_of_blocks}
+use Rattle.dg_ihex.specs.Cells.{Keeps, cells_written}
 use Rattle.dg_ihex.proofs.BlockLemmas.{byte_at-more, lowest_of-more, past_of-more, byte_at-within, block_byte-outside, block_byte-inside}
 use Rattle.dg_ihex.proofs.CellLemmas.{cells_differ, keeps_written}
 
@@ -18,12 +18,12 @@ none_unless (Some y) h = absurd (h y refl)
 pub none_below : (blocks : List Block) (a : ℕ) → a < lowest_of blocks → None ≡ byte_at blocks a
 none_below blocks a low = sym (none_unless (byte_at blocks a) (λ y h. let w = byte_at-within blocks a y h in omega (arith, w.0)))
 
-pub none_behind : (blocks : List Block) (a : ℕ) → past_of blocks ≤ a → None ≡ byte_at blocks a
+pub none_behind : (blocks : List Block) (a : ℕ) → past_blocks blocks ≤ a → None ≡ byte_at blocks a
 none_behind blocks a high = sym (none_unless (byte_at blocks a) (λ y h. let w = byte_at-within blocks a y h in omega (arith, w.1)))
 
 -- Within them the byte is that of its cell.
 in_cell : (blocks : List Block) (a shift : ℕ) (cell byte : Option ℕ) (cells : List (Option ℕ)) → Keeps shift cells (byte_at blocks) → span_of blocks ≤ longest_image
-    → lowest_of blocks ≤ a → a < past_of blocks → get_or cells ((a + shift) % longest_image) None ≡ cell → byte_at blocks a ≡ byte → cell ≡ byte
+    → lowest_of blocks ≤ a → a < past_blocks blocks → get_or cells ((a + shift) % longest_image) None ≡ cell → byte_at blocks a ≡ byte → cell ≡ byte
 in_cell blocks a shift cell (Some y) cells k close low high at is = sym at ∙ k.there a y is
 in_cell blocks a shift None None cells k close low high at is = refl
 in_cell blocks a shift (Some b) None cells k close low high at is =
@@ -33,7 +33,7 @@ in_cell blocks a shift (Some b) None cells k close low high at is =
     absurd (cells_differ shift o.0 a apart (omega (arith, w.0, w.1)) (omega (arith, w.0, w.1)) o.1)
 
 cell_is : (blocks : List Block) (a shift : ℕ) (cells : List (Option ℕ)) → Keeps shift cells (byte_at blocks) → span_of blocks ≤ longest_image
-    → lowest_of blocks ≤ a → a < past_of blocks → get_or cells ((a + shift) % longest_image) None ≡ byte_at blocks a
+    → lowest_of blocks ≤ a → a < past_blocks blocks → get_or cells ((a + shift) % longest_image) None ≡ byte_at blocks a
 cell_is blocks a shift cells k close low high = in_cell blocks a shift (get_or cells ((a + shift) % longest_image) None) (byte_at blocks a) cells k close low high refl refl
 
 -- the cell of an address, whose number is taken modulo the most bytes of an image before the shift is added
@@ -41,7 +41,7 @@ same_cell : (a shift cell : ℕ) → cell ≡ (a % longest_image + shift) % long
 same_cell a shift cell is = omega (arith, is)
 
 pub told_by_cell : (blocks : List Block) (a shift cell : ℕ) (cells : List (Option ℕ)) → cell ≡ (a % longest_image + shift) % longest_image
-    → Keeps shift cells (byte_at blocks) → span_of blocks ≤ longest_image → lowest_of blocks ≤ a → a < past_of blocks → get_or cells cell None ≡ byte_at blocks a
+    → Keeps shift cells (byte_at blocks) → span_of blocks ≤ longest_image → lowest_of blocks ≤ a → a < past_blocks blocks → get_or cells cell None ≡ byte_at blocks a
 told_by_cell blocks a shift cell cells is k close low high = ap (λ n. get_or cells n None) (same_cell a shift cell is) ∙ cell_is blocks a shift cells k close low high
 
 -- ---- one more block
@@ -68,7 +68,7 @@ option_or_none (Some y) = refl
 pub keeps_block : (blocks : List Block) (block : Block) (shift : ℕ) (cells : List (Option ℕ))
     → ((k : ℕ) → k < length block.bytes → (block.address + shift + k) % longest_image < length cells) → block.address < 2 ^ 32
     → overlaps blocks block ≡ false → span_of (blocks ++ block ∷ []) ≤ longest_image → Keeps shift cells (byte_at blocks)
-    → Keeps shift (written cells (block.address + shift) block.bytes) (byte_at (blocks ++ block ∷ []))
+    → Keeps shift (cells_written cells (block.address + shift) block.bytes) (byte_at (blocks ++ block ∷ []))
 keeps_block blocks block shift cells room fits apart close k =
     let low = lowest_of-more blocks block fits in
     let high = past_of-more blocks block in
@@ -94,8 +94,8 @@ keeps_nothing shift = record {
   only = λ p y e. (let both : Some y ≡ None = sym e ∙ get_or_past [] p None (omega arith) in let f : ⊥ = cc in absurd f);
 }
 
-pub none_given : (n : ℕ) → (lowest_of [] ≡ 4294967296) × (past_of [] ≡ 0)
-unfolding lowest_of past_of
+pub none_given : (n : ℕ) → (lowest_of [] ≡ 4294967296) × (past_blocks [] ≡ 0)
+unfolding lowest_of past_blocks
 none_given n = (refl, refl)
 
 -- ---- the image
@@ -110,8 +110,8 @@ image_more blocks image lowest at byte within low is h =
     ∙ sym (map-range_with_len_more f 0 at at (omega arith))
 
 pub image_whole : (blocks : List Block) (image : List ℕ) (at : ℕ) → length image ≡ span_of blocks → length image ≤ at → at ≤ length image
-    → take at image ≡ map (λ k. unwrap_or (byte_at blocks (lowest_of blocks + k)) 255) (range_with_len 0 at) → image ≡ image_of blocks
-unfolding image_of
+    → take at image ≡ map (λ k. unwrap_or (byte_at blocks (lowest_of blocks + k)) 255) (range_with_len 0 at) → image ≡ image_of_blocks blocks
+unfolding image_of_blocks
 image_whole blocks image at size low high h =
     let f : ℕ → ℕ = λ k. unwrap_or (byte_at blocks (lowest_of blocks + k)) 255 in
     let all : at ≡ span_of blocks = omega (arith, size) in

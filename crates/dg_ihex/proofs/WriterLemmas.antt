@@ -9,7 +9,7 @@ use Rattle.std.proofs.lemmas.List.Concat.{flat_map-append}
 use Rattle.dg_words.proofs.ListLemmas.{flat_map-range_more}
 use Rattle.dg_base.specs.Hexadecimal.{hex_digit, hex_text}
 use Rattle.dg_ihex.specs.Sizes.{segment, piece_bytes}
-use Rattle.dg_ihex.specs.Written.{checksum_of, with_checksum, upper_hex, base_line, base_lines, data_line, end_line, lines_at, piece_at, pieces_of, ended_by_feed, written_file}
+use Rattle.dg_ihex.specs.Written.{record_checksum, with_checksum, upper_hex, base_line, base_lines, data_line, end_line, lines_at, piece_at, records_of_data, ended_by_feed, written_file}
 
 -- ---- upper case
 
@@ -39,10 +39,10 @@ regrouped : (t a b c : List ℕ) → ((((t ++ 58 ∷ []) ++ a) ++ b) ++ c) ++ 10
 regrouped t a b c = simp append_assoc
 
 pub line_pushed : (t0 t1 t2 t3 t4 t5 head bytes : List ℕ) (check : ℕ) → t1 ≡ t0 ++ 58 ∷ [] → t2 ≡ t1 ++ upper_hex head → t3 ≡ t2 ++ upper_hex bytes → t4 ≡ t3 ++ upper_hex (check ∷ []) → t5 ≡ t4 ++ 10 ∷ []
-    → check ≡ checksum_of (head ++ bytes) → t5 ≡ t0 ++ ended_by_feed (58 ∷ upper_hex (with_checksum (head ++ bytes)))
+    → check ≡ record_checksum (head ++ bytes) → t5 ≡ t0 ++ ended_by_feed (58 ∷ upper_hex (with_checksum (head ++ bytes)))
 line_pushed t0 t1 t2 t3 t4 t5 head bytes check e1 e2 e3 e4 e5 is =
     let text : upper_hex (with_checksum (head ++ bytes)) ≡ upper_hex head ++ upper_hex bytes ++ upper_hex (check ∷ []) =
-    upper_hex-append (head ++ bytes) (checksum_of (head ++ bytes) ∷ []) ∙ ap (λ n. upper_hex (head ++ bytes) ++ upper_hex (n ∷ [])) (sym is)
+    upper_hex-append (head ++ bytes) (record_checksum (head ++ bytes) ∷ []) ∙ ap (λ n. upper_hex (head ++ bytes) ++ upper_hex (n ∷ [])) (sym is)
     ∙ ap (λ t. t ++ upper_hex (check ∷ [])) (upper_hex-append head bytes) in
     e5 ∙ ap (λ t. t ++ 10 ∷ []) (e4 ∙ ap (λ t. t ++ upper_hex (check ∷ [])) (e3 ∙ ap (λ t. t ++ upper_hex bytes) (e2 ∙ ap (λ t. t ++ upper_hex head) e1)))
     ∙ regrouped t0 (upper_hex head) (upper_hex bytes) (upper_hex (check ∷ []))
@@ -96,10 +96,10 @@ pieces_more t u bytes k h e =
     ∙ ap (flat_map ended_by_feed) (flat_map-range_more (lines_at bytes) 0 k)
     ∙ ap (λ n. flat_map ended_by_feed (flat_map (lines_at bytes) (range_with_len 0 n))) more
 
-pub file_done : (t u bytes : List ℕ) (k : ℕ) → k ≡ pieces_of (length bytes) → t ≡ flat_map ended_by_feed (flat_map (lines_at bytes) (range_with_len 0 k)) → u ≡ t ++ ended_by_feed end_line → u ≡ written_file bytes
+pub file_done : (t u bytes : List ℕ) (k : ℕ) → k ≡ records_of_data (length bytes) → t ≡ flat_map ended_by_feed (flat_map (lines_at bytes) (range_with_len 0 k)) → u ≡ t ++ ended_by_feed end_line → u ≡ written_file bytes
 unfolding written_file
 file_done t u bytes k all h e =
-    let front = flat_map (lines_at bytes) (range_with_len 0 (pieces_of (length bytes))) in
+    let front = flat_map (lines_at bytes) (range_with_len 0 (records_of_data (length bytes))) in
     e ∙ ap (λ t. t ++ ended_by_feed end_line) (h ∙ ap (λ n. flat_map ended_by_feed (flat_map (lines_at bytes) (range_with_len 0 n))) all)
     ∙ ap (λ l. flat_map ended_by_feed front ++ l) (sym (append-nil (ended_by_feed end_line)))
     ∙ sym (flat_map-append ended_by_feed front (end_line ∷ []))

@@ -34,14 +34,14 @@ lowest_of [] = 2 ^ 32
 lowest_of (block ∷ blocks) = min block.address (lowest_of blocks)
 
 -- the address after the highest, 0 if there is none
-unfoldable pub past_of : List Block → ℕ
-past_of [] = 0
-past_of (block ∷ blocks) = max (block.address + length block.bytes) (past_of blocks)
+unfoldable pub past_blocks : List Block → ℕ
+past_blocks [] = 0
+past_blocks (block ∷ blocks) = max (block.address + length block.bytes) (past_blocks blocks)
 
 -- the highest address minus the lowest, plus 1
 abbrev pub span_of : List Block → ℕ
-span_of blocks = past_of blocks - lowest_of blocks
+span_of blocks = past_blocks blocks - lowest_of blocks
 
 -- the image: the lowest address is byte 0, and gaps become FF
-unfoldable pub image_of : List Block → List ℕ
-image_of blocks = tabulate (span_of blocks) (λ k. unwrap_or (byte_at blocks (lowest_of blocks + k)) gap_byte)
+unfoldable pub image_of_blocks : List Block → List ℕ
+image_of_blocks blocks = tabulate (span_of blocks) (λ k. unwrap_or (byte_at blocks (lowest_of blocks + k)) gap_byte)

@@ -11,6 +11,6 @@ pub record Keeps (shift : ℕ) (cells : List (Option ℕ)) (bytes : ℕ → Opti
       × ((address + shift) % longest_image ≡ cell) × (bytes address ≡ Some byte)
 
 -- cells with bytes, the first of which is in the cell with this number
-unfoldable pub written : List (Option ℕ) → ℕ → List ℕ → List (Option ℕ)
-written cells from [] = cells
-written cells from (byte ∷ bytes) = written (slice_set cells (from % longest_image) (Some byte)) (from + 1) bytes
+unfoldable pub cells_written : List (Option ℕ) → ℕ → List ℕ → List (Option ℕ)
+cells_written cells from [] = cells
+cells_written cells from (byte ∷ bytes) = cells_written (slice_set cells (from % longest_image) (Some byte)) (from + 1) bytes

@@ -11,7 +11,7 @@ use Rattle.dg_ihex.specs.Sizes.{longest_image, paragraph, segment}
 use Rattle.dg_ihex.specs.declared.record.Record.{Record}
 use Rattle.dg_ihex.specs.declared.record.Record.TheVariants as records
 use Rattle.dg_ihex.specs.Records.{record_of}
-use Rattle.dg_ihex.specs.Blocks.{Block, overlaps, span_of, image_of}
+use Rattle.dg_ihex.specs.Blocks.{Block, overlaps, span_of, image_of_blocks}
 
 -- ---- what records say together
 
@@ -97,7 +97,7 @@ abbrev pub fault_behind : List (List ℕ) → HexCause → Result (List ℕ) Hex
 fault_behind before cause = Err (record { line = length before + 1; cause = cause })
 
 abbrev pub ended : List (List ℕ) → Result (List ℕ) HexFileFault
-ended texts = if has_end (records_of texts) then Ok (image_of (blocks_of (records_of texts))) else fault_behind texts End
+ended texts = if has_end (records_of texts) then Ok (image_of_blocks (blocks_of (records_of texts))) else fault_behind texts End
 
 abbrev pub unless : Option HexCause → List (List ℕ) → Result (List ℕ) HexFileFault → Result (List ℕ) HexFileFault
 unless (Some cause) before rest = fault_behind before cause

@@ -9,7 +9,7 @@ use Rattle.dg_ihex.specs.Files.{base_of, blocks_of, cause_of, has_end, records_o
 use Rattle.dg_ihex.specs.Windows.{Holds}
 
 -- the state of a reader after records
-pub record Stands (reader : Reader) (before : List Record) : Type 0 where
+pub record ReaderStands (reader : Reader) (before : List Record) : Type 0 where
   pub base : reader.base ≡ base_of before
   pub has_ended : reader.has_ended ≡ has_end before
   pub window : Holds reader.window (blocks_of before)
@@ -17,7 +17,7 @@ pub record Stands (reader : Reader) (before : List Record) : Type 0 where
 -- the state of a reader after lines
 pub record Behind (numbered : Numbered) (before : List (List ℕ)) : Type 0 where
   pub number : numbered.line ≡ length before + 1
-  pub stands : Stands numbered.reader (records_of before)
+  pub stands : ReaderStands numbered.reader (records_of before)
 
 -- the result for a line after others: nothing is wrong, and a fact holds after it; or this is what
 -- a file gives that continues with it

@@ -10,9 +10,9 @@ Refuses Memory defined = Unit {0}
 Refuses cause defined = defined ≡ Err cause
 
 -- what a reader returned is what is defined
-abbrev pub Reads : {A : Type 0} → Result A HexCause → Result A HexCause → Type 0
-Reads (Ok found) defined = defined ≡ Ok found
-Reads (Err cause) defined = Refuses cause defined
+abbrev pub ReadsHex : {A : Type 0} → Result A HexCause → Result A HexCause → Type 0
+ReadsHex (Ok found) defined = defined ≡ Ok found
+ReadsHex (Err cause) defined = Refuses cause defined
 
 -- a refusal of digits
 abbrev pub RefusesDigits : HexCause → Option (List ℕ) → Type 0

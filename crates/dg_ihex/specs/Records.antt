@@ -19,15 +19,15 @@ unfoldable pub marker : ℕ → Record → List ℕ → Result Record HexCause
 marker count kind bytes = if length bytes == count then Ok kind else Err Shape
 
 -- the number of two bytes, the high one first
-abbrev pub word_of : List ℕ → ℕ
-word_of bytes = slice_index bytes 0 * 256 + slice_index bytes 1
+abbrev pub word_of_two_bytes : List ℕ → ℕ
+word_of_two_bytes bytes = slice_index bytes 0 * 256 + slice_index bytes 1
 
 -- types 02 and 04, whose two bytes give a base
 unfoldable pub segment_record : List ℕ → Result Record HexCause
-segment_record bytes = if length bytes == 2 then Ok (records.Segment (word_of bytes)) else Err Shape
+segment_record bytes = if length bytes == 2 then Ok (records.Segment (word_of_two_bytes bytes)) else Err Shape
 
 unfoldable pub linear_record : List ℕ → Result Record HexCause
-linear_record bytes = if length bytes == 2 then Ok (records.Linear (word_of bytes)) else Err Shape
+linear_record bytes = if length bytes == 2 then Ok (records.Linear (word_of_two_bytes bytes)) else Err Shape
 
 -- The types: 00 bytes, 01 end, 02 extended segment address, 03 start segment address, 04 extended linear address,
 -- 05 start linear address.

@@ -1,7 +1,7 @@
 //! Laws of HEX files, by their definition alone.
 ghost use Rattle.std.specs.Prelude.{◌≡◌, ℕ, ◌-◌, ◌<◌, ◌≤◌, List, length, All, slice_get, Some, None, Ok, Err};
 ghost use Rattle.std.specs.Str.Lines.{lines};
-ghost use Rattle.dg_ihex.specs.Blocks.{Block, byte_at, image_of, lowest_of, past_of};
+ghost use Rattle.dg_ihex.specs.Blocks.{Block, byte_at, image_of_blocks, lowest_of, past_blocks};
 ghost use Rattle.dg_ihex.specs.Files.{blocks_of, hex_file, records_of};
 ghost use Rattle.dg_ihex.specs.Laws.{IsFirstFault, fault_behind_lines};
 ghost use Rattle.dg_ihex.specs.Written.{written_file};
@@ -42,15 +42,16 @@ pub fn a_refused_file_has_its_first_fault()
     ensures fault { (bytes : List ℕ) (fault : HexFileFault) → hex_file bytes ≡ Err fault → IsFirstFault (lines bytes) fault }
     ensures sound { (bytes image : List ℕ) → hex_file bytes ≡ Ok image
         → (n : ℕ) → n ≤ length (lines bytes) → fault_behind_lines (lines bytes) n ≡ None }
-    ensures image { (bytes image : List ℕ) → hex_file bytes ≡ Ok image → image ≡ image_of (blocks_of (records_of (lines bytes))) }
+    ensures image { (bytes image : List ℕ) → hex_file bytes ≡ Ok image
+        → image ≡ image_of_blocks (blocks_of (records_of (lines bytes))) }
 {}
 
 /// In an image the lowest address is byte 0. Each byte that is given is at its address, a byte that is not
 /// given is 0xFF, and the highest address is the last byte.
 pub fn an_image_holds_what_is_given()
     ensures given { (blocks : List Block) (address byte : ℕ) → byte_at blocks address ≡ Some byte
-        → slice_get (image_of blocks) (address - lowest_of blocks) ≡ Some byte }
-    ensures gap { (blocks : List Block) (address : ℕ) → lowest_of blocks ≤ address → address < past_of blocks
-        → byte_at blocks address ≡ None → slice_get (image_of blocks) (address - lowest_of blocks) ≡ Some 255 }
-    ensures length { (blocks : List Block) → length (image_of blocks) ≡ past_of blocks - lowest_of blocks }
+        → slice_get (image_of_blocks blocks) (address - lowest_of blocks) ≡ Some byte }
+    ensures gap { (blocks : List Block) (address : ℕ) → lowest_of blocks ≤ address → address < past_blocks blocks
+        → byte_at blocks address ≡ None → slice_get (image_of_blocks blocks) (address - lowest_of blocks) ≡ Some 255 }
+    ensures length { (blocks : List Block) → length (image_of_blocks blocks) ≡ past_blocks blocks - lowest_of blocks }
 {}

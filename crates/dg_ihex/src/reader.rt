@@ -32,13 +32,13 @@ pub struct Reader {
 }
 
 impl Reader {
-    ghost use Rattle.dg_ihex.specs.Readers.{Stands};
+    ghost use Rattle.dg_ihex.specs.Readers.{ReaderStands};
     ghost use Rattle.dg_ihex.specs.declared.record.Record.{Record};
     ghost use Rattle.dg_ihex.specs.declared.record.Record.TheVariants as records;
 
     // A reader before the first record.
     fn new(alloc: Global) -> Reader
-        ensures { Stands result [] }
+        ensures { ReaderStands result [] }
     {
         Reader {
             window: Window::new(alloc),
@@ -49,8 +49,8 @@ impl Reader {
 
     // The next record.
     fn take(&mut self, next: Record) -> Result<(), HexCause>
-        ensures { (before : List Record) → Stands self.old before
-            → ReaderSteps result (cause_behind before next) (Stands self.new (before ++ next ∷ [])) }
+        ensures { (before : List Record) → ReaderStands self.old before
+            → ReaderSteps result (cause_behind before next) (ReaderStands self.new (before ++ next ∷ [])) }
     {
         match next {
             Record::Data { offset, bytes } => self.take_data(offset, bytes.as_slice()),
@@ -62,9 +62,9 @@ impl Reader {
     }
 
     fn take_data(&mut self, offset: u16, bytes: &[u8]) -> Result<(), HexCause>
-        ensures { (before : List Record) → Stands self.old before
+        ensures { (before : List Record) → ReaderStands self.old before
             → ReaderSteps result (cause_behind before (records.Data offset bytes.now))
-            (Stands self.new (before ++ records.Data offset bytes.now ∷ [])) }
+            (ReaderStands self.new (before ++ records.Data offset bytes.now ∷ [])) }
     {
         if bytes.is_empty() {
             // Data of no bytes has no address.
@@ -93,8 +93,8 @@ impl Reader {
     }
 
     fn take_end(&mut self) -> Result<(), HexCause>
-        ensures { (before : List Record) → Stands self.old before
-            → ReaderSteps result (cause_behind before records.End) (Stands self.new (before ++ records.End ∷ [])) }
+        ensures { (before : List Record) → ReaderStands self.old before
+            → ReaderSteps result (cause_behind before records.End) (ReaderStands self.new (before ++ records.End ∷ [])) }
     {
         self.check_open()?;
         self.has_ended = true;
@@ -102,9 +102,9 @@ impl Reader {
     }
 
     fn take_segment(&mut self, units: u16) -> Result<(), HexCause>
-        ensures { (before : List Record) → Stands self.old before
+        ensures { (before : List Record) → ReaderStands self.old before
             → ReaderSteps result (cause_behind before (records.Segment units))
-            (Stands self.new (before ++ records.Segment units ∷ [])) }
+            (ReaderStands self.new (before ++ records.Segment units ∷ [])) }
     {
         self.check_open()?;
         self.base = usize::from(units) * PARAGRAPH;
@@ -112,9 +112,9 @@ impl Reader {
     }
 
     fn take_linear(&mut self, units: u16) -> Result<(), HexCause>
-        ensures { (before : List Record) → Stands self.old before
+        ensures { (before : List Record) → ReaderStands self.old before
             → ReaderSteps result (cause_behind before (records.Linear units))
-            (Stands self.new (before ++ records.Linear units ∷ [])) }
+            (ReaderStands self.new (before ++ records.Linear units ∷ [])) }
     {
         self.check_open()?;
         self.base = usize::from(units) * SEGMENT;
@@ -122,16 +122,16 @@ impl Reader {
     }
 
     fn take_start(&self) -> Result<(), HexCause>
-        ensures { (before : List Record) → Stands self.now before
-            → ReaderSteps result (cause_behind before records.Start) (Stands self.now (before ++ records.Start ∷ [])) }
+        ensures { (before : List Record) → ReaderStands self.now before
+            → ReaderSteps result (cause_behind before records.Start) (ReaderStands self.now (before ++ records.Start ∷ [])) }
     {
         self.check_open()
     }
 
     // The next line.
     fn take_line(&mut self, alloc: Global, text: &[u8]) -> Result<(), HexCause>
-        ensures { (before : List (List ℕ)) → Stands self.old (records_of before)
-            → ReaderSteps result (cause_of before text.now) (Stands self.new (records_of (before ++ text.now ∷ []))) }
+        ensures { (before : List (List ℕ)) → ReaderStands self.old (records_of before)
+            → ReaderSteps result (cause_of before text.now) (ReaderStands self.new (records_of (before ++ text.now ∷ []))) }
     {
         if text.is_empty() {
             return Ok(());

@@ -3,7 +3,7 @@ ghost use Rattle.std.specs.Prelude.{◌≡◌, ◌+◌, ◌*◌, ◌%◌, ◌<�
 ghost use Rattle.dg_ihex.specs.Records.{data_record, linear_record, marker, record_of, record_of_bytes, segment_record};
 ghost use Rattle.dg_ihex.specs.Records.{typed_record};
 ghost use Rattle.dg_base.specs.Hexadecimal.{hex_bytes};
-ghost use Rattle.dg_ihex.specs.Reading.{Reads, RefusesDigits};
+ghost use Rattle.dg_ihex.specs.Reading.{ReadsHex, RefusesDigits};
 
 use crate::faults::HexCause;
 use dg_base::{Bytes, HexFault, parse_hex};
@@ -33,7 +33,7 @@ pub enum Record {
 /// The record that a line encodes. The line is not blank.
 #[tactic(auto, unfolding(crate::specs::Records::record_of))]
 pub fn read_record(alloc: Global, text: &[u8]) -> Result<Record, HexCause>
-    ensures { Reads result (record_of text.now) }
+    ensures { ReadsHex result (record_of text.now) }
 {
     if text.first() != Some(&b':') {
         return Err(HexCause::Start);
@@ -58,7 +58,7 @@ fn bytes_of_digits(alloc: Global, digits: &[u8]) -> Result<Vec<u8>, HexCause>
 // The record of these bytes.
 #[tactic(auto, unfolding(crate::specs::Records::record_of_bytes))]
 fn checked_record(alloc: Global, bytes: &[u8]) -> Result<Record, HexCause>
-    ensures { Reads result (record_of_bytes bytes.now) }
+    ensures { ReadsHex result (record_of_bytes bytes.now) }
 {
     if bytes.len() < FIELDS {
         return Err(HexCause::Count);
@@ -87,7 +87,7 @@ pub fn sum_of(bytes: &[u8]) -> u8
 // The record of a type, with its offset and its data.
 #[tactic(auto, unfolding(crate::specs::Records::typed_record))]
 fn typed_record(alloc: Global, kind: u8, offset: u16, bytes: &[u8]) -> Result<Record, HexCause>
-    ensures { Reads result (typed_record kind offset bytes.now) }
+    ensures { ReadsHex result (typed_record kind offset bytes.now) }
 {
     match kind {
         0 => data_record(alloc, offset, bytes),
@@ -102,7 +102,7 @@ fn typed_record(alloc: Global, kind: u8, offset: u16, bytes: &[u8]) -> Result<Re
 
 #[tactic(auto, unfolding(crate::specs::Records::data_record))]
 fn data_record(alloc: Global, offset: u16, bytes: &[u8]) -> Result<Record, HexCause>
-    ensures { Reads result (data_record offset bytes.now) }
+    ensures { ReadsHex result (data_record offset bytes.now) }
 {
     if usize::from(offset) + bytes.len() > SEGMENT {
         return Err(HexCause::Shape);
@@ -114,7 +114,7 @@ fn data_record(alloc: Global, offset: u16, bytes: &[u8]) -> Result<Record, HexCa
 // A record of whose data only the length is checked.
 #[tactic(auto, unfolding(crate::specs::Records::marker))]
 fn marker(bytes: &[u8], count: usize, says: Record) -> Result<Record, HexCause>
-    ensures { Reads result (marker count says bytes.now) }
+    ensures { ReadsHex result (marker count says bytes.now) }
 {
     if bytes.len() != count {
         return Err(HexCause::Shape);
@@ -125,7 +125,7 @@ fn marker(bytes: &[u8], count: usize, says: Record) -> Result<Record, HexCause>
 // The base of a segment, in paragraphs.
 #[tactic(auto, unfolding(crate::specs::Records::segment_record))]
 fn segment_record(bytes: &[u8]) -> Result<Record, HexCause>
-    ensures { Reads result (segment_record bytes.now) }
+    ensures { ReadsHex result (segment_record bytes.now) }
 {
     if bytes.len() != 2 {
         return Err(HexCause::Shape);
@@ -136,7 +136,7 @@ fn segment_record(bytes: &[u8]) -> Result<Record, HexCause>
 // The high half of a base.
 #[tactic(auto, unfolding(crate::specs::Records::linear_record))]
 fn linear_record(bytes: &[u8]) -> Result<Record, HexCause>
-    ensures { Reads result (linear_record bytes.now) }
+    ensures { ReadsHex result (linear_record bytes.now) }
 {
     if bytes.len() != 2 {
         return Err(HexCause::Shape);

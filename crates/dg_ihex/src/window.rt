@@ -1,8 +1,8 @@
 //! The bytes that records gave, by their addresses.
 ghost use Rattle.std.specs.Prelude.{◌≡◌, ℕ, None, slice_index_or, ◌+◌, ◌-◌, ◌≤◌, ◌<◌, ◌%◌, ◌^◌, List, ◌++◌, [], ◌∷◌, false};
 ghost use Rattle.std.specs.Prelude.{length, min, max, IfOk, OnOk};
-ghost use Rattle.dg_ihex.specs.Blocks.{Block, byte_at, image_of, overlaps, span_of};
-ghost use Rattle.dg_ihex.specs.Cells.{written};
+ghost use Rattle.dg_ihex.specs.Blocks.{Block, byte_at, image_of_blocks, overlaps, span_of};
+ghost use Rattle.dg_ihex.specs.Cells.{cells_written};
 ghost use Rattle.dg_ihex.specs.Sizes.{longest_image, addresses};
 
 use dg_base::MOST_CONTENT;
@@ -142,7 +142,7 @@ impl Window {
 
     /// The image from the lowest address to the highest.
     pub fn image(&self, alloc: Global) -> Result<Vec<u8>, AllocError>
-        ensures { (blocks : List Block) → Holds self.now blocks → IfOk result (λ image. image.items ≡ image_of blocks) }
+        ensures { (blocks : List Block) → Holds self.now blocks → IfOk result (λ image. image.items ≡ image_of_blocks blocks) }
     {
         let mut image = vec![in alloc; GAP_BYTE; self.past.saturating_sub(self.lowest)]?;
         self.fill(&mut image);
@@ -152,7 +152,7 @@ impl Window {
     // Writes the bytes from the lowest address on.
     fn fill(&self, image: &mut [u8])
         ensures { (blocks : List Block) → Holds self.now blocks → length image.old ≡ span_of blocks
-            → image.new ≡ image_of blocks }
+            → image.new ≡ image_of_blocks blocks }
     {
         for at in 0..image.len() {
             image[at] = self.byte_at(self.lowest + at).unwrap_or(GAP_BYTE);
@@ -175,7 +175,7 @@ fn cell_at(cells: &[Option<u8>], cell: usize) -> Option<u8>
 fn write(cells: &mut [Option<u8>], from: usize, bytes: &[u8])
     requires fits { from < addresses + longest_image + 1 }
     requires within { (k : ℕ) → k < length bytes.now → (from + k) % longest_image < length cells.old }
-    ensures { cells.new ≡ written cells.old from bytes.now }
+    ensures { cells.new ≡ cells_written cells.old from bytes.now }
 {
     for at in 0..bytes.len() {
         cells[(from + at) % LONGEST_IMAGE] = Some(bytes[at]);

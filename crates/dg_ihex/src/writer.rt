@@ -3,8 +3,8 @@ ghost use Rattle.std.specs.Prelude.{◌≡◌, ◌+◌, ◌*◌, ◌<◌, ◌≤
 ghost use Rattle.std.specs.Char.{to_ascii_uppercase};
 ghost use Rattle.std.specs.List.{flat_map};
 ghost use Rattle.dg_ihex.specs.Sizes.{longest_image, piece_bytes};
-ghost use Rattle.dg_ihex.specs.Written.{base_lines, checksum_of, ended_by_feed, fields_of, line_of, lines_at, upper_hex};
-ghost use Rattle.dg_ihex.specs.Written.{written_file};
+ghost use Rattle.dg_ihex.specs.Written.{base_lines, record_checksum, ended_by_feed, fields_of_record, line_of_record, lines_at};
+ghost use Rattle.dg_ihex.specs.Written.{upper_hex, written_file};
 
 use crate::record::{SEGMENT, sum_of};
 use dg_base::push_hex;
@@ -67,7 +67,7 @@ fn push_base(text: &mut Vec<u8>, piece: usize) -> Result<(), AllocError>
 // Appends the line of a record.
 fn push_line(text: &mut Vec<u8>, kind: u8, offset: u16, bytes: &[u8]) -> Result<(), AllocError>
     requires { length bytes.now < 256 }
-    ensures { OnOk result (text.new.items ≡ text.old.items ++ ended_by_feed (line_of kind offset bytes.now)) }
+    ensures { OnOk result (text.new.items ≡ text.old.items ++ ended_by_feed (line_of_record kind offset bytes.now)) }
 {
     let head = [
         bytes.len() as u8,
@@ -85,7 +85,7 @@ fn push_line(text: &mut Vec<u8>, kind: u8, offset: u16, bytes: &[u8]) -> Result<
 
 // The byte that makes the sum of all 0 modulo 256.
 fn checksum(head: &[u8], bytes: &[u8]) -> u8
-    ensures { result ≡ checksum_of (head.now ++ bytes.now) }
+    ensures { result ≡ record_checksum (head.now ++ bytes.now) }
 {
     let total = sum_of(head).wrapping_add(sum_of(bytes));
     0_u8.wrapping_sub(total)

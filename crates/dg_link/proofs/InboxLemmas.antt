@@ -4,7 +4,7 @@ use Rattle.std.proofs.lemmas.List.{get_or-map, map-set, length-map, set-get_or, 
 use Rattle.std.proofs.lemmas.List.Elements.{All-get_or, Contains-push}
 use Rattle.std.specs.Prelude.{All, Contains}
 use Rattle.circular_buffer.specs.Buffer.{Buffer, buffer, keep_last}
-use Rattle.dg_link.specs.Inboxes.{Inboxes, inbox_of, with_inbox, emptied, delivered, Receives}
+use Rattle.dg_link.specs.Inboxes.{Inboxes, inbox_of, with_inbox, emptied, delivered, ReceivesFrame}
 
 abbrev pub Ring : Type 0
 Ring = Buffer (List ℕ)
@@ -67,7 +67,7 @@ with_same boxes mote none =
     ap (λ frames. record { capacity = boxes.capacity; frames = frames }) (ap (set boxes.frames mote) (sym none) ∙ set-get_or boxes.frames mote [])
 
 takes : (boxes : Inboxes) (mote : ℕ) (into : List ℕ) (waits : List (List ℕ)) (r : Option ℕ) → inbox_of boxes mote ≡ waits → option_map (λ n. take n into) r ≡ slice_get waits 0
-    → Receives mote into r (Some boxes) (Some (with_inbox mote (drop 1 waits) boxes))
+    → ReceivesFrame mote into r (Some boxes) (Some (with_inbox mote (drop 1 waits) boxes))
 takes boxes mote into [] None is e = (is, ap Some (with_same boxes mote is))
 takes boxes mote into [] (Some n) is e = absurd cc
 takes boxes mote into (frame ∷ rest) None is e = absurd cc
@@ -77,7 +77,7 @@ takes boxes mote into (frame ∷ rest) (Some n) is e =
 
 -- what a receive that takes the oldest frame, if there is one, does
 pub receives : (boxes : Inboxes) (mote : ℕ) (into : List ℕ) (r : Option ℕ) → option_map (λ n. take n into) r ≡ slice_get (inbox_of boxes mote) 0
-    → Receives mote into r (Some boxes) (Some (with_inbox mote (drop 1 (inbox_of boxes mote)) boxes))
+    → ReceivesFrame mote into r (Some boxes) (Some (with_inbox mote (drop 1 (inbox_of boxes mote)) boxes))
 receives boxes mote into r e = takes boxes mote into (inbox_of boxes mote) r refl e
 
 -- a receive answers None exactly if no frame waits

@@ -39,9 +39,9 @@ TakesFrame mote frame (Some boxes) after = (rest : List (List ℕ)) × (inbox_of
     × (after ≡ Some (with_inbox mote rest boxes))
 
 -- A frame of n bytes was taken, which is at the beginning of `into`; or there was no frame.
-abbrev pub Receives : ℕ → List ℕ → Option ℕ → Option Inboxes → Option Inboxes → Type 0
-Receives mote into (Some n) before after = TakesFrame mote (take n into) before after
-Receives mote into None before after = IsEmptyAt mote before × (after ≡ before)
+abbrev pub ReceivesFrame : ℕ → List ℕ → Option ℕ → Option Inboxes → Option Inboxes → Type 0
+ReceivesFrame mote into (Some n) before after = TakesFrame mote (take n into) before after
+ReceivesFrame mote into None before after = IsEmptyAt mote before × (after ≡ before)
 
 -- Each of this many motes has an inbox; nothing is claimed if the inboxes are not exposed.
 abbrev pub HasInboxes : Option Inboxes → ℕ → Type 0

@@ -3,7 +3,7 @@ ghost use Rattle.std.specs.Prelude.{◌≡◌, ◌↔◌, ℕ, ◌+◌, ◌-◌,
 ghost use Rattle.std.specs.Prelude.{IfOk, IfErr, IfSome, OnOk, OnErr, Contains, refl};
 ghost use Rattle.dg_words.specs.Counts.{Rose};
 ghost use Rattle.dg_base.specs.Sizes.{longest_frame, most_motes, greatest_port};
-ghost use Rattle.dg_link.specs.Inboxes.{emptied, delivered, Receives};
+ghost use Rattle.dg_link.specs.Inboxes.{emptied, delivered, ReceivesFrame};
 
 use crate::{Link, LinkFailed, MemLink, OpenFault};
 use dg_base::LONGEST_FRAME;
@@ -116,7 +116,7 @@ impl Link for FailLink {
         ensures numbered { self.new.calls ≡ min (self.old.calls + 1) (2 ^ 32 - 1) }
         ensures listed { self.new.failing ≡ self.old.failing }
         ensures fits { IfOk result (λ r. IfSome r (λ n. n ≤ longest_frame)) }
-        ensures received { IfOk result (λ r. Receives at into.new r (Some self.old.boxes) (Some self.new.boxes)) }
+        ensures received { IfOk result (λ r. ReceivesFrame at into.new r (Some self.old.boxes) (Some self.new.boxes)) }
         ensures nothing { OnErr result (self.new.boxes ≡ self.old.boxes) }
         ensures counts { self.old.faults ≤ self.new.faults }
         ensures failed { OnErr result (Rose self.old.faults self.new.faults) }

@@ -5,7 +5,7 @@
 ghost use Rattle.std.specs.Prelude.{◌≡◌, ℕ, ◌<◌, ◌≤◌, length, Option, Some, Err, option_map, IfOk, IfSome, OnOk, OnErr, codes};
 ghost use Rattle.dg_words.specs.Counts.{Rose};
 ghost use Rattle.dg_base.specs.Sizes.{longest_frame, most_motes, greatest_port};
-ghost use Rattle.dg_link.specs.Inboxes.{Inboxes, emptied, delivered, Receives, HasInboxes};
+ghost use Rattle.dg_link.specs.Inboxes.{Inboxes, emptied, delivered, ReceivesFrame, HasInboxes};
 
 use dg_base::LONGEST_FRAME;
 use std::alloc::{AllocError, Global};
@@ -121,7 +121,7 @@ pub trait Link {
         requires { at < mote_count self.old }
 
         ensures fits { IfOk result (λ r. IfSome r (λ n. n ≤ longest_frame)) }
-        ensures received { IfOk result (λ r. Receives at into.new r (inboxes self.old) (inboxes self.new)) }
+        ensures received { IfOk result (λ r. ReceivesFrame at into.new r (inboxes self.old) (inboxes self.new)) }
         ensures nothing { OnErr result (inboxes self.new ≡ inboxes self.old) }
         ensures same_motes { mote_count self.new ≡ mote_count self.old }
         ensures same_port { first_port self.new ≡ first_port self.old }

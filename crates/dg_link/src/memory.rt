@@ -3,7 +3,7 @@ ghost use Rattle.std.specs.Prelude.{◌≡◌, ◌↔◌, ◌<◌, ◌≤◌, �
 ghost use Rattle.std.specs.Prelude.{Some, IsOk, IfOk, IfErr, IfSome, OnOk, OnErr, Contains, refl};
 ghost use Rattle.circular_buffer.specs.Buffer.{buffer};
 ghost use Rattle.dg_base.specs.Sizes.{longest_frame, most_motes, greatest_port};
-ghost use Rattle.dg_link.specs.Inboxes.{inbox_of, with_inbox, emptied, delivered, Receives};
+ghost use Rattle.dg_link.specs.Inboxes.{inbox_of, with_inbox, emptied, delivered, ReceivesFrame};
 
 use crate::link::{Link, LinkFailed, OpenFault};
 use circular_buffer::HeapCircularBuffer;
@@ -96,7 +96,7 @@ impl Link for MemLink {
         ensures ok { IsOk result }
         ensures none { (result ≡ Ok None) ↔ (inbox_of self.old at ≡ []) }
         ensures fits { IfOk result (λ r. IfSome r (λ n. n ≤ longest_frame)) }
-        ensures received { IfOk result (λ r. Receives at into.new r (Some self.old) (Some self.new)) }
+        ensures received { IfOk result (λ r. ReceivesFrame at into.new r (Some self.old) (Some self.new)) }
     {
         let frame = self.take_oldest(at);
         Ok(hand_over(frame, into))

@@ -7,7 +7,7 @@ use Rattle.dg_base.specs.declared.answers.Status.TheVariants as statuses
 use Rattle.dg_base.proofs.NumberLemmas.{number_of-decimal}
 use Rattle.dg_base.proofs.HexLemmas.{length-hex_text}
 use Rattle.dg_drip_script.specs.Reports.{fault_word}
-use Rattle.dg_drip_script.specs.Reports.{bad_line as bad_nodes_line}
+use Rattle.dg_drip_script.specs.Reports.{bad_drip_line as bad_nodes_line}
 use Rattle.dg_drip_script.specs.declared.line.DripFault.{DripFault}
 use Rattle.dg_drip_script.specs.declared.line.DripFault.TheVariants as nodes
 use Rattle.dg_ihex.specs.Causes.{cause_text}

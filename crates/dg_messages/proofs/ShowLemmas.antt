@@ -6,7 +6,7 @@ use Rattle.std.proofs.lemmas.List.{append-nil, drop_all}
 use Rattle.std.proofs.lemmas.List.Folds.{list_all-append}
 use Rattle.std.specs.List.{list_all}
 use Rattle.dg_base.specs.Hexadecimal.{hex_digit, hex_text}
-use Rattle.dg_messages.specs.Showing.{escaped, is_control, shown_after, shown_byte}
+use Rattle.dg_messages.specs.Showing.{escaped_byte, is_control, shown_after, shown_byte}
 
 -- what is shown of the bytes from i on is the byte at i, and what is shown of those after it
 shown_next : (before : ℕ) (bytes : List ℕ) (i : ℕ) → i < length bytes → shown_after before (drop i bytes) ≡ shown_byte before (get_or bytes i 0) ++ shown_after (get_or bytes i 0) (drop (i + 1) bytes)
@@ -38,18 +38,18 @@ plain text = list_all (λ b. not (is_control b)) text
 digit_plain : (v : ℕ) → v < 16 → is_control (hex_digit v) ≡ false
 digit_plain v h = grind (arith, nat_tests)
 
-escaped_plain : (c : ℕ) → c < 160 → plain (escaped c) ≡ true
+escaped_plain : (c : ℕ) → c < 160 → plain (escaped_byte c) ≡ true
 unfolding hex_text
 escaped_plain c h =
     let high : c / 16 < 16 = omega (arith, h) in
     let low : c % 16 < 16 = omega arith in
     rw (digit_plain (c / 16) high, digit_plain (c % 16) low) refl
 
-behind_194 : (c : ℕ) (small : Bool) → nat_lt c 160 ≡ small → plain (if small then escaped c else 194 ∷ c ∷ []) ≡ true
+behind_194 : (c : ℕ) (small : Bool) → nat_lt c 160 ≡ small → plain (if small then escaped_byte c else 194 ∷ c ∷ []) ≡ true
 behind_194 c true e = let small : c < 160 = grind (arith, nat_tests, e) in escaped_plain c small
 behind_194 c false e = let other : is_control c ≡ false = grind (arith, nat_tests, e) in rw other refl
 
-alone : (c : ℕ) (control : Bool) → is_control c ≡ control → plain (if control then escaped c else c ∷ []) ≡ true
+alone : (c : ℕ) (control : Bool) → is_control c ≡ control → plain (if control then escaped_byte c else c ∷ []) ≡ true
 alone c true e = let small : c < 160 = grind (arith, nat_tests, e) in escaped_plain c small
 alone c false e = rw e refl
 

@@ -13,10 +13,10 @@ use Rattle.dg_messages.specs.declared.causes.Misuse.TheVariants as misuse
 use Rattle.dg_messages.specs.declared.causes.Told.{Told}
 use Rattle.dg_messages.specs.declared.causes.Told.TheVariants as told
 use Rattle.dg_messages.specs.Sentences.{sentence_of}
-use Rattle.dg_messages.specs.Telling.{begins, found, cause_number, told_number}
+use Rattle.dg_messages.specs.Telling.{begins_with, found_opening, cause_number, told_number}
 
 pub tells : (cause : Told) → told_number (sentence_of cause) ≡ cause_number cause
-unfolding begins found
+unfolding begins_with found_opening
 tells told.Memory = refl
 tells (told.Misused misuse.NoWord) = refl
 tells (told.Misused (misuse.NoCommand word)) = refl

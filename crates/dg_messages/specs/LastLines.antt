@@ -128,14 +128,14 @@ abbrev pub hex_or_script : Reads → (line : ℕ) → List ℕ → Option HexCau
 hex_or_script what line word None = script_told line word
 hex_or_script what line word (Some cause) = hex_told what line cause
 
-abbrev pub line_told : Reads → (line : ℕ) → List ℕ → Told
-line_told reads.Nodes line word = nodes_told line word
-line_told what line word = hex_or_script what line word (hex_cause_of word)
+abbrev pub line_reported : Reads → (line : ℕ) → List ℕ → Told
+line_reported reads.Nodes line word = nodes_told line word
+line_reported what line word = hex_or_script what line word (hex_cause_of word)
 
 abbrev pub bad_input_told : Reads → List (List ℕ) → Told
 bad_input_told what ws =
     if same (first_of ws) (codes "profile") then profile_told (first_of (words_behind ws))
-    else line_told what (first_number (words_behind ws)) (first_of (words_behind (words_behind ws)))
+    else line_reported what (first_number (words_behind ws)) (first_of (words_behind (words_behind ws)))
 
 -- the refusals without a value
 abbrev pub plain_refusal_of : List ℕ → Option Refused

@@ -151,8 +151,8 @@ file_sentence cause = file_before cause ++ file_value cause ++ file_after cause
 -- ---- of a command that is refused
 
 -- the last version, and the last number of an order
-abbrev pub last_number : ℕ
-last_number = 2 ^ 32 - 1
+abbrev pub greatest_number : ℕ
+greatest_number = 2 ^ 32 - 1
 
 abbrev pub refusal_before : Refused → List ℕ
 refusal_before refused.Empty = codes "the image has no byte; give a HEX file that has data"
@@ -174,12 +174,12 @@ refusal_after refused.Empty = []
 refusal_after (refused.TooLarge length) = codes ", and 70656 are the most (68604 for wrap); gaps count"
 refusal_after refused.Reserved = []
 refusal_after (refused.Stale version) =
-    if version == last_number then codes " is kept already, and no version is larger; take another image, or format the chip"
+    if version == greatest_number then codes " is kept already, and no version is larger; take another image, or format the chip"
     else codes " is kept already; give a larger --ver"
 refusal_after refused.Taken = []
 refusal_after (refused.Worn room) = codes "; take another chip"
 refusal_after (refused.OldOrder number) =
-    if number == last_number then codes ", and no number is larger; format the chip"
+    if number == greatest_number then codes ", and no number is larger; format the chip"
     else codes "; give a larger --number"
 refusal_after refused.Absent = []
 refusal_after (refused.NotWhole done pages) = codes " pages are complete; let the mote go on, or give inject or receive again"

@@ -6,15 +6,15 @@ use Rattle.dg_base.specs.Hexadecimal.{hex_text}
 abbrev pub is_control : ℕ → Bool
 is_control c = nat_lt c 32 || c == 127
 
-abbrev pub escaped : ℕ → List ℕ
-escaped c = 92 ∷ 120 ∷ hex_text (c ∷ [])
+abbrev pub escaped_byte : ℕ → List ℕ
+escaped_byte c = 92 ∷ 120 ∷ hex_text (c ∷ [])
 
 -- a byte after another one; 194 is shown with the byte after it
 abbrev pub shown_byte : (before c : ℕ) → List ℕ
 shown_byte before c =
-    if before == 194 then (if nat_lt c 160 then escaped c else 194 ∷ c ∷ [])
+    if before == 194 then (if nat_lt c 160 then escaped_byte c else 194 ∷ c ∷ [])
     else if c == 194 then []
-    else if is_control c then escaped c
+    else if is_control c then escaped_byte c
     else c ∷ []
 
 unfoldable pub shown_after : (before : ℕ) → List ℕ → List ℕ

@@ -140,15 +140,15 @@ cause_number told.InMemory = 81
 
 -- ---- and back from the text
 
-unfoldable pub begins : (opening text : List ℕ) → Bool
-begins [] text = true
-begins (o ∷ os) [] = false
-begins (o ∷ os) (t ∷ ts) = if o == t then begins os ts else false
+unfoldable pub begins_with : (opening text : List ℕ) → Bool
+begins_with [] text = true
+begins_with (o ∷ os) [] = false
+begins_with (o ∷ os) (t ∷ ts) = if o == t then begins_with os ts else false
 
 -- the number of the first of these openings with which a text begins, counted from n; 0 where it begins with none
-unfoldable pub found : (n : ℕ) (openings : List (List ℕ)) (text : List ℕ) → ℕ
-found n [] text = 0
-found n (o ∷ os) text = if begins o text then n else found (n + 1) os text
+unfoldable pub found_opening : (n : ℕ) (openings : List (List ℕ)) (text : List ℕ) → ℕ
+found_opening n [] text = 0
+found_opening n (o ∷ os) text = if begins_with o text then n else found_opening (n + 1) os text
 
 -- how the sentences begin, in the order of their numbers
 abbrev pub openings : List (List ℕ)
@@ -173,4 +173,4 @@ openings =
 
 -- the number of the cause of a sentence, 0 where it has none
 abbrev pub told_number : List ℕ → ℕ
-told_number text = found 1 openings text
+told_number text = found_opening 1 openings text

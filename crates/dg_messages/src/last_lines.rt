@@ -3,7 +3,8 @@ ghost use Rattle.std.specs.Prelude.{◌≡◌};
 ghost use Rattle.dg_base.specs.declared.answers.Status.TheVariants as statuses;
 ghost use Rattle.dg_script.specs.Words.{same, words_of};
 ghost use Rattle.dg_messages.specs.LastLines.{words_behind, first_of, first_number};
-ghost use Rattle.dg_messages.specs.LastLines.{bad_input_told, hex_cause_of, hex_told, line_fault_of, line_told, no_board_told};
+ghost use Rattle.dg_messages.specs.LastLines.{bad_input_told, hex_cause_of, hex_told, line_fault_of, line_reported};
+ghost use Rattle.dg_messages.specs.LastLines.{no_board_told};
 ghost use Rattle.dg_messages.specs.LastLines.{field_fault_of, nodes_fault_of, nodes_told, plain_refusal_of, profile_fault_of};
 ghost use Rattle.dg_messages.specs.LastLines.{profile_told, refusal_of, refused_told, script_told};
 ghost use Rattle.dg_messages.specs.Saying.{status_told};
@@ -102,7 +103,7 @@ fn profile_fault(word: &[u8]) -> Option<ProfileFault>
 
 /// The cause of a line of what is read.
 fn bad_line<'a>(reads: Reads, line: u32, word: &[u8]) -> Told<'a>
-    ensures read { result ≡ line_told reads line word.now }
+    ensures read { result ≡ line_reported reads line word.now }
     ensures status { status_told result ≡ statuses.BadInput }
 {
     if reads == Reads::Nodes {

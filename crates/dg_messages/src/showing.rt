@@ -1,6 +1,6 @@
 //! Words as they are shown at a terminal.
 ghost use Rattle.std.specs.Prelude.{◌≡◌, ◌++◌, IfOk, OnOk};
-ghost use Rattle.dg_messages.specs.Showing.{escaped, shown, shown_byte};
+ghost use Rattle.dg_messages.specs.Showing.{escaped_byte, shown, shown_byte};
 
 use dg_base::push_hex;
 use std::alloc::{AllocError, Global};
@@ -55,7 +55,7 @@ fn push_bytes(text: &mut Vec<u8>, bytes: &[u8]) -> Result<(), AllocError>
 
 /// Appends `\x` and the two hex digits of a byte.
 fn push_escaped(text: &mut Vec<u8>, byte: u8) -> Result<(), AllocError>
-    ensures { OnOk result (text.new.items ≡ text.old.items ++ escaped byte) }
+    ensures { OnOk result (text.new.items ≡ text.old.items ++ escaped_byte byte) }
 {
     push_bytes(text, b"\\x")?;
     push_hex(text, &[byte])

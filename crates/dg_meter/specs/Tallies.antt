@@ -2,7 +2,7 @@
 use Rattle.std.specs.Prelude.{◌≡◌, ◌≢◌, ℕ, ◌/◌, ◌<◌, Option, Some, None}
 use Rattle.dg_nor.specs.Sizes.{sector_size}
 use Rattle.dg_meter.specs.Regions.{region_of}
-use Rattle.dg_meter.specs.Shares.{up, no_shares, noted}
+use Rattle.dg_meter.specs.Shares.{capped_sum, no_shares, share_noted}
 use Rattle.dg_meter.specs.declared.shares.Shares.{Shares}
 use Rattle.dg_meter.specs.declared.tally.Tally.{Tally}
 use Rattle.dg_meter.specs.declared.tally.Kind.{Kind}
@@ -22,8 +22,8 @@ shares_of t Erase = t.erases
 
 -- An erase of this sector was counted, and nothing else.
 pub record Erased (sector : ℕ) (a b : Tally) : Type 0 where
-  pub operations : b.operations ≡ up a.operations 1
-  pub erases : b.erases ≡ noted a.erases (region_of sector) sector_size
+  pub operations : b.operations ≡ capped_sum a.operations 1
+  pub erases : b.erases ≡ share_noted a.erases (region_of sector) sector_size
   pub programs : b.programs ≡ a.programs
   pub last : b.last ≡ Some (record { kind = Erase; region = region_of sector; sector = sector; bytes = sector_size })
   pub headers : b.headers ≡ a.headers
@@ -32,8 +32,8 @@ pub record Erased (sector : ℕ) (a b : Tally) : Type 0 where
 -- fuse leaves of an erase that it interrupts, and that erase was counted.
 pub record Programmed (at bytes : ℕ) (a b : Tally) : Type 0 where
   pub whole : bytes ≡ sector_size → b ≡ a
-  pub operations : bytes ≢ sector_size → b.operations ≡ up a.operations 1
-  pub programs : bytes ≢ sector_size → b.programs ≡ noted a.programs (region_of (at / sector_size)) bytes
+  pub operations : bytes ≢ sector_size → b.operations ≡ capped_sum a.operations 1
+  pub programs : bytes ≢ sector_size → b.programs ≡ share_noted a.programs (region_of (at / sector_size)) bytes
   pub last : bytes ≢ sector_size
       → b.last ≡ Some (record { kind = Program; region = region_of (at / sector_size); sector = at / sector_size; bytes = bytes })
   pub erases : b.erases ≡ a.erases

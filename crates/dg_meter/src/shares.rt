@@ -1,6 +1,6 @@
 //! How many of something there were, and their bytes, in each part of a chip.
 ghost use Rattle.std.specs.Prelude.{◌≡◌};
-ghost use Rattle.dg_meter.specs.Shares.{no_share, no_shares, share_at, noted};
+ghost use Rattle.dg_meter.specs.Shares.{no_share, no_shares, share_at, share_noted};
 
 use crate::region::Region;
 use crate::share::Share;
@@ -45,7 +45,7 @@ impl Shares {
 
     /// One more in a part, of this many bytes.
     pub fn note(&mut self, region: Region, bytes: usize)
-        ensures { self.new ≡ noted self.old region bytes }
+        ensures { self.new ≡ share_noted self.old region bytes }
     {
         match region {
             Region::Ledger => self.ledger = self.ledger.and(bytes),

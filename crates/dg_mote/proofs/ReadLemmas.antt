@@ -11,7 +11,7 @@ use Rattle.dg_base.specs.Crc.{crc_of}
 use Rattle.dg_slot.specs.Layout.{packets}
 use Rattle.dg_frame.specs.Sizes.{narrow_images, wide_images, set_bytes, frame_bytes, advert_frame_size, request_frame_size, packet_frame_size, wide_frame_size}
 use Rattle.dg_frame.specs.Readings.{IsReading}
-use Rattle.dg_frame.specs.Grammar.{half_at, message_of, by_kind, kind_of, ranged, in_range, entries_in, advert_in, request_in, packet_in, wide_in}
+use Rattle.dg_frame.specs.Grammar.{half_at, message_of, by_kind, kind_of, ranged, in_range, entries_in, advert_in, request_in, packet_in_frame, wide_in}
 use Rattle.dg_frame.specs.declared.Message.{Message}
 use Rattle.dg_frame.specs.declared.Message.TheVariants.{Advert, Request, Packet, Wide}
 use Rattle.dg_frame.specs.declared.FrameFault.{FrameFault}
@@ -63,7 +63,7 @@ size_by wide n size fields =
     let P : Option (ℕ × (List ℕ → Message)) → Type 0 = λ k. k ≡ Some (size, fields) → size ≤ frame_bytes in
     cond_both (n == 1) _ _ P (λ _ e. omega (arith, same_size (advert_frame_size, advert_in) (size, fields) e))
     (λ _. cond_both (n == 2) _ _ P (λ _ e. omega (arith, same_size (request_frame_size, request_in) (size, fields) e))
-    (λ _. cond_both (n == 3) _ _ P (λ _ e. omega (arith, same_size (packet_frame_size, packet_in) (size, fields) e))
+    (λ _. cond_both (n == 3) _ _ P (λ _ e. omega (arith, same_size (packet_frame_size, packet_in_frame) (size, fields) e))
     (λ _. cond_both (wide && (n == 4)) _ _ P (λ _ e. omega (arith, same_size (wide_frame_size, wide_in) (size, fields) e)) (λ _ e. cc))))
 
 pub frame_short : (wide : Bool) → ((b : List ℕ) (r : Result Message FrameFault) → (message_of b wide ≡ r) ↔ IsReading b wide r) → (b : List ℕ) (m : Message) → message_of b wide ≡ Ok m → length b ≤ frame_bytes

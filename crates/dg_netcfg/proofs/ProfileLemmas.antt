@@ -9,9 +9,9 @@ use Rattle.toml.specs.Data.{Data, Items, Members, as_array}
 use Rattle.toml.specs.Parse.{parse_document}
 use Rattle.toml.specs.View.{view, items_view, members_view}
 use Rattle.toml.specs.declared.value.Value.{Value}
-use Rattle.dg_netcfg.specs.Document.{document_of, keys_of, list_of, two_of, all_of}
-use Rattle.dg_netcfg.specs.Profile.{is_key, link_of, is_same_link, has_repeat, fields_of, with_fields, netprofile}
-use Rattle.dg_netcfg.specs.Readings.{Reads}
+use Rattle.dg_netcfg.specs.Document.{document_of, keys_of, list_of, two_array_items, all_of}
+use Rattle.dg_netcfg.specs.Profile.{is_key, profile_link, is_same_link, has_repeat, profile_fields, with_fields, netprofile}
+use Rattle.dg_netcfg.specs.Readings.{ReadsNetProfile}
 use Rattle.dg_netcfg.specs.declared.profile.NetProfile.{NetProfile}
 use Rattle.dg_netcfg.specs.declared.profile.ProfileFault.{ProfileFault}
 use Rattle.dg_netcfg.specs.declared.profile.ProfileFault.TheVariants.{NotToml}
@@ -31,7 +31,7 @@ unfolding document_of
 document_of-none bytes none = refused bytes (is_utf8 bytes) refl none
 
 -- what is read of a document is read of the bytes that encode it
-pub reads_document : (bytes : List ℕ) (document : Members) (r : Result NetProfile ProfileFault) → document_of bytes ≡ Some document → Reads r (with_fields (fields_of document)) → Reads r (netprofile bytes)
+pub reads_document : (bytes : List ℕ) (document : Members) (r : Result NetProfile ProfileFault) → document_of bytes ≡ Some document → ReadsNetProfile r (with_fields (profile_fields document)) → ReadsNetProfile r (netprofile bytes)
 unfolding netprofile
 reads_document bytes document r is reads = rw is reads
 
@@ -47,24 +47,24 @@ list_all-keys_of (e ∷ es) = ap (λ b. is_key (string_bytes e.0) && b) (list_al
 
 -- ---- arrays
 
-two_of-short : (vs : List Value) → length vs < 2 → two_of (items_view vs) ≡ None
+two_of-short : (vs : List Value) → length vs < 2 → two_array_items (items_view vs) ≡ None
 two_of-short [] short = refl
 two_of-short (v ∷ []) short = refl
 two_of-short (v ∷ w ∷ vs) short = absurd (omega arith)
 
-two_of-long : (vs : List Value) → 3 ≤ length vs → two_of (items_view vs) ≡ None
+two_of-long : (vs : List Value) → 3 ≤ length vs → two_array_items (items_view vs) ≡ None
 two_of-long [] long = absurd (omega arith)
 two_of-long (v ∷ []) long = absurd (omega arith)
 two_of-long (v ∷ w ∷ []) long = absurd (omega arith)
 two_of-long (v ∷ w ∷ x ∷ vs) long = refl
 
-no_pair : (motes : ℕ) (entry : Data) (items : Items) → Some items ≡ as_array entry → two_of items ≡ None → None ≡ link_of motes entry
+no_pair : (motes : ℕ) (entry : Data) (items : Items) → Some items ≡ as_array entry → two_array_items items ≡ None → None ≡ profile_link motes entry
 no_pair motes entry items is none = rw (← is, none)
 
-pub link_of-short : (motes : ℕ) (entry : Data) (vs : List Value) → Some (items_view vs) ≡ as_array entry → length vs < 2 → None ≡ link_of motes entry
+pub link_of-short : (motes : ℕ) (entry : Data) (vs : List Value) → Some (items_view vs) ≡ as_array entry → length vs < 2 → None ≡ profile_link motes entry
 link_of-short motes entry vs is short = no_pair motes entry (items_view vs) is (two_of-short vs short)
 
-pub link_of-long : (motes : ℕ) (entry : Data) (vs : List Value) → Some (items_view vs) ≡ as_array entry → 3 ≤ length vs → None ≡ link_of motes entry
+pub link_of-long : (motes : ℕ) (entry : Data) (vs : List Value) → Some (items_view vs) ≡ as_array entry → 3 ≤ length vs → None ≡ profile_link motes entry
 link_of-long motes entry vs is long = no_pair motes entry (items_view vs) is (two_of-long vs long)
 
 map-list_of : {A : Type 0} (f : Data → A) (vs : List Value) → map f (list_of (items_view vs)) ≡ map (λ v. f (view v)) vs

@@ -11,9 +11,9 @@ use Rattle.std.proofs.lemmas.List.Elements.{All-cons, All-head, All-tail}
 use Rattle.std.proofs.lemmas.List.Kept.{AllPairs-cons}
 use Rattle.toml.specs.Data.{Data, string, integer, float, boolean, datetime, array, table, Items, no_items, item, Members, as_integer, as_array, get_member}
 use Rattle.toml.specs.Parse.{parse_document}
-use Rattle.dg_netcfg.specs.Document.{document_of, keys_of, list_of, integer_at, array_at, within, two_of, all_of}
-use Rattle.dg_netcfg.specs.Profile.{is_key, three, fields_of, mote_of, link_between, link_of, is_same_link, has_repeat, once, links_of, with_port, with_links, with_motes, with_fields, with_document, netprofile}
-use Rattle.dg_netcfg.specs.Readings.{Reads, IsDocument, IsKey, HasFields, IsWithin, IsLink, IsSameLink, AreLinks, IsAllowed, IsReading}
+use Rattle.dg_netcfg.specs.Document.{document_of, keys_of, list_of, integer_at, array_at, number_in_range, two_array_items, all_of}
+use Rattle.dg_netcfg.specs.Profile.{is_key, three, profile_fields, profile_mote, link_between, profile_link, is_same_link, has_repeat, once, links_of, with_port, with_links, with_motes, with_fields, with_document, netprofile}
+use Rattle.dg_netcfg.specs.Readings.{ReadsNetProfile, IsDocument, IsKey, HasFields, IsNumberInRange, IsLink, IsSameLink, AreLinks, IsAllowed, IsProfileReading}
 use Rattle.dg_netcfg.specs.declared.profile.NetProfile.{NetProfile}
 use Rattle.dg_netcfg.specs.declared.profile.ProfileFault.{ProfileFault}
 use Rattle.dg_netcfg.specs.declared.profile.ProfileFault.TheVariants.{NotToml, Key, Id, Link, Port, Memory}
@@ -77,7 +77,7 @@ three-some (Some m) (Some p) None f e = absurd cc
 three-some (Some m) None es f e = absurd cc
 three-some None p es f e = absurd cc
 
-has_fields : (b : List ℕ) (d : Members) (f : ℤ × ℤ × Items) → IsDocument b d → fields_of d ≡ Some f → HasFields b f.0 f.1 f.2
+has_fields : (b : List ℕ) (d : Members) (f : ℤ × ℤ × Items) → IsDocument b d → profile_fields d ≡ Some f → HasFields b f.0 f.1 f.2
 has_fields b d f read e =
     let (known, found) = if-some (list_all is_key (keys_of d)) (three (integer_at (codes "motes") d) (integer_at (codes "port") d) (array_at (codes "links") d)) f e in
     let (m, p, es) = three-some (integer_at (codes "motes") d) (integer_at (codes "port") d) (array_at (codes "links") d) f found in
@@ -93,7 +93,7 @@ has_fields b d f read e =
 same_document : (b : List ℕ) (d c : Members) → IsDocument b d → IsDocument b c → d ≡ c
 same_document b d c x y = let same : Some d ≡ Some c = sym x.1 ∙ y.1 in cc
 
-fields_from : (b : List ℕ) (m p : ℤ) (es : Items) (h : HasFields b m p es) → fields_of h.document ≡ Some (m, p, es)
+fields_from : (b : List ℕ) (m p : ℤ) (es : Items) (h : HasFields b m p es) → profile_fields h.document ≡ Some (m, p, es)
 fields_from b m p es h =
     rw ((keys_decide (keys_of h.document)).1 h.keys)
     (ap (λ o. three (option_and_then as_integer o) (integer_at (codes "port") h.document) (array_at (codes "links") h.document)) h.motes_at
@@ -112,7 +112,7 @@ in_range_decides least most n = Decides-and _ _ (le_decides least n) (le_decides
   le_decides : (a b : ℕ) → Decides (nat_le a b) (a ≤ b)
   le_decides a b = grind (arith, nat_tests)
 
-within-some : (least most : ℕ) (z : ℤ) (n : ℕ) → within least most z ≡ Some n → IsWithin least most z n
+within-some : (least most : ℕ) (z : ℤ) (n : ℕ) → number_in_range least most z ≡ Some n → IsNumberInRange least most z n
 within-some least most (pos k) n e =
     let (test, found) = if-some (nat_le least k && nat_le k most) (Some k) n e in
     let same : k ≡ n = cc in
@@ -120,7 +120,7 @@ within-some least most (pos k) n e =
     (ap pos same, subst (λ m. least ≤ m) same both.0, subst (λ m. m ≤ most) same both.1)
 within-some least most (negsuc k) n e = absurd cc
 
-within-from : (least most : ℕ) (z : ℤ) (n : ℕ) → IsWithin least most z n → within least most z ≡ Some n
+within-from : (least most : ℕ) (z : ℤ) (n : ℕ) → IsNumberInRange least most z n → number_in_range least most z ≡ Some n
 within-from least most z n h = rw (h.0, (in_range_decides least most n).1 (h.1, h.2))
 
 missing : {A : Type 0} (o : Option A) → ((x : A) → o ≡ Some x → ⊥) → o ≡ None
@@ -132,16 +132,16 @@ no_value o x none some = cc
 
 -- ---- links
 
-a_mote : (motes : ℕ) (d : Data) (n : ℕ) → 1 ≤ motes → mote_of motes d ≡ Some n → (d ≡ integer (pos n)) × (n < motes)
+a_mote : (motes : ℕ) (d : Data) (n : ℕ) → 1 ≤ motes → profile_mote motes d ≡ Some n → (d ≡ integer (pos n)) × (n < motes)
 a_mote motes d n enough e =
-    let (z, found, ranged) = and_then-some (within 0 (motes - 1)) (as_integer d) n e in
+    let (z, found, ranged) = and_then-some (number_in_range 0 (motes - 1)) (as_integer d) n e in
     let (is, low, high) = within-some 0 (motes - 1) z n ranged in
     (an_integer d z found ∙ ap integer is, omega arith)
 
-mote_from : (motes n : ℕ) → n < motes → mote_of motes (integer (pos n)) ≡ Some n
+mote_from : (motes n : ℕ) → n < motes → profile_mote motes (integer (pos n)) ≡ Some n
 mote_from motes n below = within-from 0 (motes - 1) (pos n) n (refl, omega arith, omega arith)
 
-a_pair : (items : Items) (p : Data × Data) → two_of items ≡ Some p → items ≡ item p.0 (item p.1 no_items)
+a_pair : (items : Items) (p : Data × Data) → two_array_items items ≡ Some p → items ≡ item p.0 (item p.1 no_items)
 a_pair no_items p e = absurd cc
 a_pair (item a no_items) p e = absurd cc
 a_pair (item a (item b no_items)) p e = let same : (a, b) ≡ p = cc in ap (λ x. item x.0 (item x.1 no_items)) same
@@ -160,20 +160,20 @@ joined-some (Some a) (Some b) l e = let (p, q, apart) = not_equal a b (a == b) l
 joined-some (Some a) None l e = absurd cc
 joined-some None y l e = absurd cc
 
-a_link : (motes : ℕ) (entry : Data) (l : ℕ × ℕ) → 1 ≤ motes → link_of motes entry ≡ Some l → IsLink motes entry l
+a_link : (motes : ℕ) (entry : Data) (l : ℕ × ℕ) → 1 ≤ motes → profile_link motes entry ≡ Some l → IsLink motes entry l
 a_link motes entry l enough e =
-    let (p, pair, ends) = and_then-some (λ p. link_between (mote_of motes p.0) (mote_of motes p.1)) (option_and_then two_of (as_array entry)) l e in
-    let (items, whole, two) = and_then-some two_of (as_array entry) p pair in
-    let (a, b, apart) = joined-some (mote_of motes p.0) (mote_of motes p.1) l ends in
+    let (p, pair, ends) = and_then-some (λ p. link_between (profile_mote motes p.0) (profile_mote motes p.1)) (option_and_then two_array_items (as_array entry)) l e in
+    let (items, whole, two) = and_then-some two_array_items (as_array entry) p pair in
+    let (a, b, apart) = joined-some (profile_mote motes p.0) (profile_mote motes p.1) l ends in
     let (first, below_first) = a_mote motes p.0 l.0 enough a in
     let (second, below_second) = a_mote motes p.1 l.1 enough b in
     let is : entry ≡ array (item (integer (pos l.0)) (item (integer (pos l.1)) no_items)) =
     an_array entry items whole ∙ ap array (a_pair items p two ∙ ap (λ x. item x (item p.1 no_items)) first ∙ ap (λ x. item (integer (pos l.0)) (item x no_items)) second) in
     (is, below_first, below_second, apart)
 
-link_from : (motes : ℕ) (entry : Data) (l : ℕ × ℕ) → IsLink motes entry l → link_of motes entry ≡ Some l
+link_from : (motes : ℕ) (entry : Data) (l : ℕ × ℕ) → IsLink motes entry l → profile_link motes entry ≡ Some l
 link_from motes entry l h =
-    ap (link_of motes) h.0 ∙ ap (λ o. link_between o (mote_of motes (integer (pos l.1)))) (mote_from motes l.0 h.1)
+    ap (profile_link motes) h.0 ∙ ap (λ o. link_between o (profile_mote motes (integer (pos l.1)))) (mote_from motes l.0 h.1)
     ∙ ap (link_between (Some l.0)) (mote_from motes l.1 h.2) ∙ ap (λ t. cond t None (Some (l.0, l.1))) (ne_eqb l.0 l.1 h.3)
 
 map-some : {A B : Type 0} (f : A → B) (o : Option A) (y : B) → option_map f o ≡ Some y → (x : A) × (o ≡ Some x) × (y ≡ f x)
@@ -184,19 +184,19 @@ all_of-cons : {A : Type 0} (o : Option A) (rest : List (Option A)) (xs : List A)
 all_of-cons None rest xs e = absurd cc
 all_of-cons (Some y) rest xs e = let (ys, found, is) = map-some (λ ys. y ∷ ys) (all_of rest) xs e in (y, ys, refl, found, is)
 
-each_link : (motes : ℕ) (ds : List Data) (ls : List (ℕ × ℕ)) → 1 ≤ motes → all_of (map (link_of motes) ds) ≡ Some ls → AllZip (IsLink motes) ds ls
+each_link : (motes : ℕ) (ds : List Data) (ls : List (ℕ × ℕ)) → 1 ≤ motes → all_of (map (profile_link motes) ds) ≡ Some ls → AllZip (IsLink motes) ds ls
 each_link motes [] [] enough e = tt
 each_link motes [] (l ∷ ls) enough e = absurd cc
 each_link motes (d ∷ ds) ls enough e =
-    let (l, ms, first, rest, is) = all_of-cons (link_of motes d) (map (link_of motes) ds) ls e in
+    let (l, ms, first, rest, is) = all_of-cons (profile_link motes d) (map (profile_link motes) ds) ls e in
     subst (AllZip (IsLink motes) (d ∷ ds)) (sym is) (a_link motes d l enough first, each_link motes ds ms enough rest)
 
-each_link-from : (motes : ℕ) (ds : List Data) (ls : List (ℕ × ℕ)) → AllZip (IsLink motes) ds ls → all_of (map (link_of motes) ds) ≡ Some ls
+each_link-from : (motes : ℕ) (ds : List Data) (ls : List (ℕ × ℕ)) → AllZip (IsLink motes) ds ls → all_of (map (profile_link motes) ds) ≡ Some ls
 each_link-from motes [] [] h = refl
 each_link-from motes [] (l ∷ ls) h = absurd h
 each_link-from motes (d ∷ ds) [] h = absurd h
 each_link-from motes (d ∷ ds) (l ∷ ls) h =
-    ap (λ o. all_of (o ∷ map (link_of motes) ds)) (link_from motes d l h.0) ∙ ap (option_map (λ ms. l ∷ ms)) (each_link-from motes ds ls h.1)
+    ap (λ o. all_of (o ∷ map (profile_link motes) ds)) (link_from motes d l h.0) ∙ ap (option_map (λ ms. l ∷ ms)) (each_link-from motes ds ls h.1)
 
 -- ---- repeats
 
@@ -212,7 +212,7 @@ or_parts false b e = (refl, e)
 or_parts true b e = absurd cc
 
 none_same : (l : ℕ × ℕ) (ls : List (ℕ × ℕ)) → list_any (is_same_link l) ls ≡ false → All (Apart l) ls
-none_same l [] e = λ k d within. absurd (omega arith)
+none_same l [] e = λ k d number_in_range. absurd (omega arith)
 none_same l (m ∷ ms) e =
     let (first, rest) = or_parts (is_same_link l m) (list_any (is_same_link l) ms) e in
     All-cons (Apart l) m ms (not_from_Decides (is_same_link l m) (same_decides l m) first) (none_same l ms rest)
@@ -224,7 +224,7 @@ none_same-from l (m ∷ ms) h =
     rw (first, none_same-from l ms (All-tail (Apart l) m ms h))
 
 apart : (ls : List (ℕ × ℕ)) → has_repeat ls ≡ false → AllPairs Apart ls
-apart [] e = λ i j d below within. absurd (omega arith)
+apart [] e = λ i j d below number_in_range. absurd (omega arith)
 apart (l ∷ ls) e =
     let (first, rest) = or_parts (list_any (is_same_link l) ls) (has_repeat ls) e in
     AllPairs-cons Apart l ls (none_same l ls first) (apart ls rest)
@@ -232,7 +232,7 @@ apart (l ∷ ls) e =
 apart-from : (ls : List (ℕ × ℕ)) → AllPairs Apart ls → has_repeat ls ≡ false
 apart-from [] h = refl
 apart-from (l ∷ ls) h =
-    rw (none_same-from l ls (λ k d within. h zero (suc k) d (omega arith) (omega arith)), apart-from ls (λ i j d below within. h (suc i) (suc j) d (omega arith) (omega arith)))
+    rw (none_same-from l ls (λ k d number_in_range. h zero (suc k) d (omega arith) (omega arith)), apart-from ls (λ i j d below number_in_range. h (suc i) (suc j) d (omega arith) (omega arith)))
 
 once-by : (t : Bool) (xs ls : List (ℕ × ℕ)) → has_repeat xs ≡ t → cond t None (Some xs) ≡ Some ls → (xs ≡ ls) × (has_repeat xs ≡ false)
 once-by true xs ls is e = absurd cc
@@ -246,7 +246,7 @@ once-some (Some xs) ls e =
 
 are_links : (motes : ℕ) (es : Items) (ls : List (ℕ × ℕ)) → 1 ≤ motes → links_of motes es ≡ Some ls → AreLinks motes es ls
 are_links motes es ls enough e =
-    let (read, none) = once-some (all_of (map (link_of motes) (list_of es))) ls e in
+    let (read, none) = once-some (all_of (map (profile_link motes) (list_of es))) ls e in
     record { each = each_link motes (list_of es) ls enough read; once = apart ls none }
 
 links_from : (motes : ℕ) (es : Items) (ls : List (ℕ × ℕ)) → AreLinks motes es ls → links_of motes es ≡ Some ls
@@ -254,55 +254,55 @@ links_from motes es ls h = ap once (each_link-from motes (list_of es) ls h.each)
 
 -- ---- causes
 
-reading_port : (b : List ℕ) (m p : ℤ) (es : Items) (n : ℕ) (ls : List (ℕ × ℕ)) (o : Option ℕ) → HasFields b m p es → IsWithin 1 most_motes m n → AreLinks n es ls
-    → within least_port greatest_port p ≡ o → IsReading b (with_port n ls o)
+reading_port : (b : List ℕ) (m p : ℤ) (es : Items) (n : ℕ) (ls : List (ℕ × ℕ)) (o : Option ℕ) → HasFields b m p es → IsNumberInRange 1 most_motes m n → AreLinks n es ls
+    → number_in_range least_port greatest_port p ≡ o → IsProfileReading b (with_port n ls o)
 reading_port b m p es n ls None h w are e =
-    (m, p, es, n, ls, h, w, are, λ k x. no_value (within least_port greatest_port p) k e (within-from least_port greatest_port p k x))
+    (m, p, es, n, ls, h, w, are, λ k x. no_value (number_in_range least_port greatest_port p) k e (within-from least_port greatest_port p k x))
 reading_port b m p es n ls (Some k) h w are e = (m, p, es, h, w, are, within-some least_port greatest_port p k e)
 
-reading_links : (b : List ℕ) (m p : ℤ) (es : Items) (n : ℕ) (o : Option (List (ℕ × ℕ))) → HasFields b m p es → IsWithin 1 most_motes m n → links_of n es ≡ o → IsReading b (with_links n p o)
+reading_links : (b : List ℕ) (m p : ℤ) (es : Items) (n : ℕ) (o : Option (List (ℕ × ℕ))) → HasFields b m p es → IsNumberInRange 1 most_motes m n → links_of n es ≡ o → IsProfileReading b (with_links n p o)
 reading_links b m p es n None h w e = (m, p, es, n, h, w, λ ls are. no_value (links_of n es) ls e (links_from n es ls are))
-reading_links b m p es n (Some ls) h w e = reading_port b m p es n ls (within least_port greatest_port p) h w (are_links n es ls w.1 e) refl
+reading_links b m p es n (Some ls) h w e = reading_port b m p es n ls (number_in_range least_port greatest_port p) h w (are_links n es ls w.1 e) refl
 
-reading_motes : (b : List ℕ) (m p : ℤ) (es : Items) (o : Option ℕ) → HasFields b m p es → within 1 most_motes m ≡ o → IsReading b (with_motes p es o)
-reading_motes b m p es None h e = (m, p, es, h, λ n w. no_value (within 1 most_motes m) n e (within-from 1 most_motes m n w))
+reading_motes : (b : List ℕ) (m p : ℤ) (es : Items) (o : Option ℕ) → HasFields b m p es → number_in_range 1 most_motes m ≡ o → IsProfileReading b (with_motes p es o)
+reading_motes b m p es None h e = (m, p, es, h, λ n w. no_value (number_in_range 1 most_motes m) n e (within-from 1 most_motes m n w))
 reading_motes b m p es (Some n) h e = reading_links b m p es n (links_of n es) h (within-some 1 most_motes m n e) refl
 
-reading_fields : (b : List ℕ) (d : Members) (o : Option (ℤ × ℤ × Items)) → IsDocument b d → fields_of d ≡ o → IsReading b (with_fields o)
+reading_fields : (b : List ℕ) (d : Members) (o : Option (ℤ × ℤ × Items)) → IsDocument b d → profile_fields d ≡ o → IsProfileReading b (with_fields o)
 reading_fields b d None read e =
-    (d, read, λ m p es h. no_value (fields_of d) (m, p, es) e (subst (λ c. fields_of c ≡ Some (m, p, es)) (same_document b h.document d h.read read) (fields_from b m p es h)))
-reading_fields b d (Some f) read e = reading_motes b f.0 f.1 f.2 (within 1 most_motes f.0) (has_fields b d f read e) refl
+    (d, read, λ m p es h. no_value (profile_fields d) (m, p, es) e (subst (λ c. profile_fields c ≡ Some (m, p, es)) (same_document b h.document d h.read read) (fields_from b m p es h)))
+reading_fields b d (Some f) read e = reading_motes b f.0 f.1 f.2 (number_in_range 1 most_motes f.0) (has_fields b d f read e) refl
 
-reading_document : (b : List ℕ) (o : Option Members) → document_of b ≡ o → IsReading b (with_document o)
+reading_document : (b : List ℕ) (o : Option Members) → document_of b ≡ o → IsProfileReading b (with_document o)
 reading_document b None e = λ d is. no_value (document_of b) d e (document_of-some b d is.0 is.1)
-reading_document b (Some d) e = reading_fields b d (fields_of d) (document_read b d e) refl
+reading_document b (Some d) e = reading_fields b d (profile_fields d) (document_read b d e) refl
 
-pub reads : (b : List ℕ) → IsReading b (netprofile b)
+pub reads : (b : List ℕ) → IsProfileReading b (netprofile b)
 unfolding netprofile
 reads b = reading_document b (document_of b) refl
 
 -- a reader that answers what is encoded reports its cause
-pub reads_causes : (b : List ℕ) (r : Result NetProfile ProfileFault) → Reads r (netprofile b) → IsReading b r
-reads_causes b (Ok p) h = subst (IsReading b) (sym h) (reads b)
-reads_causes b (Err NotToml) h = subst (IsReading b) (sym h) (reads b)
-reads_causes b (Err Key) h = subst (IsReading b) (sym h) (reads b)
-reads_causes b (Err Id) h = subst (IsReading b) (sym h) (reads b)
-reads_causes b (Err Link) h = subst (IsReading b) (sym h) (reads b)
-reads_causes b (Err Port) h = subst (IsReading b) (sym h) (reads b)
+pub reads_causes : (b : List ℕ) (r : Result NetProfile ProfileFault) → ReadsNetProfile r (netprofile b) → IsProfileReading b r
+reads_causes b (Ok p) h = subst (IsProfileReading b) (sym h) (reads b)
+reads_causes b (Err NotToml) h = subst (IsProfileReading b) (sym h) (reads b)
+reads_causes b (Err Key) h = subst (IsProfileReading b) (sym h) (reads b)
+reads_causes b (Err Id) h = subst (IsProfileReading b) (sym h) (reads b)
+reads_causes b (Err Link) h = subst (IsProfileReading b) (sym h) (reads b)
+reads_causes b (Err Port) h = subst (IsProfileReading b) (sym h) (reads b)
 reads_causes b (Err Memory) h = tt
 
-pub is_read : (b : List ℕ) (r : Result NetProfile ProfileFault) → r ≢ Err Memory → IsReading b r → netprofile b ≡ r
+pub is_read : (b : List ℕ) (r : Result NetProfile ProfileFault) → r ≢ Err Memory → IsProfileReading b r → netprofile b ≡ r
 unfolding netprofile
 is_read b (Err NotToml) ne h = ap with_document (missing (document_of b) (λ d e. h d (document_read b d e)))
 is_read b (Err Key) ne h =
-    ap with_document (document_of-some b h.0 h.1.0 h.1.1) ∙ ap with_fields (missing (fields_of h.0) (λ f e. h.2 f.0 f.1 f.2 (has_fields b h.0 f h.1 e)))
-is_read b (Err Id) ne h = with_read b h.0 h.1 h.2 h.3 ∙ ap (with_motes h.1 h.2) (missing (within 1 most_motes h.0) (λ n e. h.4 n (within-some 1 most_motes h.0 n e)))
+    ap with_document (document_of-some b h.0 h.1.0 h.1.1) ∙ ap with_fields (missing (profile_fields h.0) (λ f e. h.2 f.0 f.1 f.2 (has_fields b h.0 f h.1 e)))
+is_read b (Err Id) ne h = with_read b h.0 h.1 h.2 h.3 ∙ ap (with_motes h.1 h.2) (missing (number_in_range 1 most_motes h.0) (λ n e. h.4 n (within-some 1 most_motes h.0 n e)))
 is_read b (Err Link) ne h =
     with_read b h.0 h.1 h.2 h.4 ∙ ap (with_motes h.1 h.2) (within-from 1 most_motes h.0 h.3 h.5)
     ∙ ap (with_links h.3 h.1) (missing (links_of h.3 h.2) (λ ls e. h.6 ls (are_links h.3 h.2 ls h.5.1 e)))
 is_read b (Err Port) ne h =
     with_read b h.0 h.1 h.2 h.5 ∙ ap (with_motes h.1 h.2) (within-from 1 most_motes h.0 h.3 h.6) ∙ ap (with_links h.3 h.1) (links_from h.3 h.2 h.4 h.7)
-    ∙ ap (with_port h.3 h.4) (missing (within least_port greatest_port h.1) (λ k e. h.8 k (within-some least_port greatest_port h.1 k e)))
+    ∙ ap (with_port h.3 h.4) (missing (number_in_range least_port greatest_port h.1) (λ k e. h.8 k (within-some least_port greatest_port h.1 k e)))
 is_read b (Err Memory) ne h = absurd (ne refl)
 is_read b (Ok p) ne h =
     with_read b h.0 h.1 h.2 h.3 ∙ ap (with_motes h.1 h.2) (within-from 1 most_motes h.0 p.motes h.4) ∙ ap (with_links p.motes h.1) (links_from p.motes h.2 p.links h.5)
@@ -314,12 +314,12 @@ abbrev Joins : ℕ → ℕ × ℕ → Type 0
 Joins motes l = (l.0 < motes) × (l.1 < motes) × (l.0 ≢ l.1)
 
 all_join : (motes : ℕ) (ds : List Data) (ls : List (ℕ × ℕ)) → AllZip (IsLink motes) ds ls → All (Joins motes) ls
-all_join motes [] [] h = λ k d within. absurd (omega arith)
+all_join motes [] [] h = λ k d number_in_range. absurd (omega arith)
 all_join motes [] (l ∷ ls) h = absurd h
 all_join motes (d ∷ ds) [] h = absurd h
 all_join motes (d ∷ ds) (l ∷ ls) h = All-cons (Joins motes) l ls (h.0.1, h.0.2, h.0.3) (all_join motes ds ls h.1)
 
-pub allowed : (b : List ℕ) (r : Result NetProfile ProfileFault) → IsReading b r → IfOk r IsAllowed
+pub allowed : (b : List ℕ) (r : Result NetProfile ProfileFault) → IsProfileReading b r → IfOk r IsAllowed
 allowed b (Ok p) h =
     record {
       motes = (h.4.1, h.4.2);

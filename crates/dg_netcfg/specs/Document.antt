@@ -27,14 +27,14 @@ abbrev pub array_at : List ℕ → Members → Option Items
 array_at key document = option_and_then as_array (get_member key document)
 
 -- a whole number, if it is in a range
-abbrev pub within : (least most : ℕ) → ℤ → Option ℕ
-within least most (pos n) = if nat_le least n && nat_le n most then Some n else None
-within least most (negsuc n) = None
+abbrev pub number_in_range : (least most : ℕ) → ℤ → Option ℕ
+number_in_range least most (pos n) = if nat_le least n && nat_le n most then Some n else None
+number_in_range least most (negsuc n) = None
 
 -- the two items of an array of exactly two
-abbrev pub two_of : Items → Option (Data × Data)
-two_of (item a (item b no_items)) = Some (a, b)
-two_of _ = None
+abbrev pub two_array_items : Items → Option (Data × Data)
+two_array_items (item a (item b no_items)) = Some (a, b)
+two_array_items _ = None
 
 -- all the values of a list, if no value is missing
 abbrev pub all_of : {A : Type 0} → List (Option A) → Option (List A)

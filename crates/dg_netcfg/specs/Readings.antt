@@ -11,9 +11,9 @@ use Rattle.dg_netcfg.specs.declared.profile.ProfileFault.TheVariants.{NotToml, K
 use Rattle.dg_netcfg.specs.Sizes.{most_motes, least_port, greatest_port}
 
 -- A reader answers what is encoded, unless memory ran out.
-abbrev pub Reads : Result NetProfile ProfileFault → Result NetProfile ProfileFault → Type 0
-Reads (Err Memory) written = Unit {0}
-Reads result written = result ≡ written
+abbrev pub ReadsNetProfile : Result NetProfile ProfileFault → Result NetProfile ProfileFault → Type 0
+ReadsNetProfile (Err Memory) written = Unit {0}
+ReadsNetProfile result written = result ≡ written
 
 -- `toml` reads the bytes as this document
 abbrev pub IsDocument : List ℕ → Members → Type 0
@@ -32,8 +32,8 @@ pub record HasFields (bytes : List ℕ) (motes port : ℤ) (entries : Items) : T
   pub keys : All IsKey (keys_of document)
 
 -- the whole number is n, which is in the range
-abbrev pub IsWithin : (least most : ℕ) → ℤ → ℕ → Type 0
-IsWithin least most z n = (z ≡ pos n) × (least ≤ n) × (n ≤ most)
+abbrev pub IsNumberInRange : (least most : ℕ) → ℤ → ℕ → Type 0
+IsNumberInRange least most z n = (z ≡ pos n) × (least ≤ n) × (n ≤ most)
 
 -- the entry is an array of exactly two whole numbers, those of two different motes
 abbrev pub IsLink : ℕ → Data → ℕ × ℕ → Type 0
@@ -57,19 +57,20 @@ pub record IsAllowed (p : NetProfile) : Type 0 where
   pub port : (least_port ≤ p.port) × (p.port ≤ greatest_port)
 
 -- Nothing is claimed if memory ran out.
-abbrev pub IsReading : List ℕ → Result NetProfile ProfileFault → Type 0
-IsReading b (Err NotToml) = (document : Members) → IsDocument b document → ⊥
-IsReading b (Err Key) =
+abbrev pub IsProfileReading : List ℕ → Result NetProfile ProfileFault → Type 0
+IsProfileReading b (Err NotToml) = (document : Members) → IsDocument b document → ⊥
+IsProfileReading b (Err Key) =
     (document : Members) × IsDocument b document × ((motes port : ℤ) (entries : Items) → HasFields b motes port entries → ⊥)
-IsReading b (Err Id) =
-    (motes : ℤ) × (port : ℤ) × (entries : Items) × HasFields b motes port entries × ((n : ℕ) → IsWithin 1 most_motes motes n → ⊥)
-IsReading b (Err Link) = (motes : ℤ) × (port : ℤ) × (entries : Items) × (n : ℕ) × HasFields b motes port entries
-    × IsWithin 1 most_motes motes n
+IsProfileReading b (Err Id) =
+    (motes : ℤ) × (port : ℤ) × (entries : Items) × HasFields b motes port entries
+    × ((n : ℕ) → IsNumberInRange 1 most_motes motes n → ⊥)
+IsProfileReading b (Err Link) = (motes : ℤ) × (port : ℤ) × (entries : Items) × (n : ℕ) × HasFields b motes port entries
+    × IsNumberInRange 1 most_motes motes n
     × ((links : List (ℕ × ℕ)) → AreLinks n entries links → ⊥)
-IsReading b (Err Port) = (motes : ℤ) × (port : ℤ) × (entries : Items) × (n : ℕ) × (links : List (ℕ × ℕ))
-    × HasFields b motes port entries × IsWithin 1 most_motes motes n
-    × AreLinks n entries links × ((k : ℕ) → IsWithin least_port greatest_port port k → ⊥)
-IsReading b (Err Memory) = Unit {0}
-IsReading b (Ok p) = (motes : ℤ) × (port : ℤ) × (entries : Items) × HasFields b motes port entries
-    × IsWithin 1 most_motes motes p.motes
-    × AreLinks p.motes entries p.links × IsWithin least_port greatest_port port p.port
+IsProfileReading b (Err Port) = (motes : ℤ) × (port : ℤ) × (entries : Items) × (n : ℕ) × (links : List (ℕ × ℕ))
+    × HasFields b motes port entries × IsNumberInRange 1 most_motes motes n
+    × AreLinks n entries links × ((k : ℕ) → IsNumberInRange least_port greatest_port port k → ⊥)
+IsProfileReading b (Err Memory) = Unit {0}
+IsProfileReading b (Ok p) = (motes : ℤ) × (port : ℤ) × (entries : Items) × HasFields b motes port entries
+    × IsNumberInRange 1 most_motes motes p.motes
+    × AreLinks p.motes entries p.links × IsNumberInRange least_port greatest_port port p.port

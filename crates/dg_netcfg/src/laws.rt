@@ -4,7 +4,7 @@ ghost use Rattle.dg_netcfg.specs.declared.profile.NetProfile.{NetProfile};
 ghost use Rattle.dg_netcfg.specs.declared.profile.ProfileFault.{ProfileFault};
 ghost use Rattle.dg_netcfg.specs.declared.profile.ProfileFault.TheVariants.{Memory};
 ghost use Rattle.dg_netcfg.specs.Profile.{netprofile};
-ghost use Rattle.dg_netcfg.specs.Readings.{IsReading};
+ghost use Rattle.dg_netcfg.specs.Readings.{IsProfileReading};
 ghost use Rattle.dg_netcfg.specs.Sizes.{least_port};
 
 use crate::LEAST_PORT;
@@ -16,5 +16,5 @@ pub fn the_least_port_is_this()
 
 /// Bytes are read in one way: as the profile that they encode, or refused for the first cause that applies.
 pub fn one_profile()
-    ensures { (b : List ℕ) (r : Result NetProfile ProfileFault) → r ≢ Err Memory → (netprofile b ≡ r) ↔ IsReading b r }
+    ensures { (b : List ℕ) (r : Result NetProfile ProfileFault) → r ≢ Err Memory → (netprofile b ≡ r) ↔ IsProfileReading b r }
 {}

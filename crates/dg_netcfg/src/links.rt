@@ -3,7 +3,7 @@ ghost use Rattle.std.specs.Prelude.{◌≡◌, ◌≤◌, ◌<◌, map, option_m
 ghost use Rattle.std.specs.List.{list_any};
 ghost use Rattle.toml.specs.View.{view, items_view, array_view};
 ghost use Rattle.dg_netcfg.specs.Document.{all_of, list_of};
-ghost use Rattle.dg_netcfg.specs.Profile.{mote_of, link_of, is_same_link, has_repeat, links_of};
+ghost use Rattle.dg_netcfg.specs.Profile.{profile_mote, profile_link, is_same_link, has_repeat, links_of};
 
 use crate::reading::within;
 use std::alloc::{AllocError, Global};
@@ -35,7 +35,8 @@ fn links_in(
     entries: &[Value],
 ) -> Result<Option<Vec<(u8, u8)>>, AllocError>
     requires { 1 ≤ motes }
-    ensures { IfOk result (λ r. option_map (λ v. v.items) r ≡ all_of (map (link_of motes) (list_of (items_view entries.now)))) }
+    ensures { IfOk result (λ r. option_map (λ v. v.items) r
+        ≡ all_of (map (profile_link motes) (list_of (items_view entries.now)))) }
 {
     let mut links = Vec::new(alloc);
     for entry in entries {
@@ -50,7 +51,7 @@ fn links_in(
 /// The link that an entry describes.
 fn link_of(motes: u8, entry: &Value) -> Option<(u8, u8)>
     requires { 1 ≤ motes }
-    ensures { result ≡ link_of motes (view entry.now) }
+    ensures { result ≡ profile_link motes (view entry.now) }
 {
     let [a, b] = entry.as_array()?.as_slice() else {
         return None;
@@ -63,7 +64,7 @@ fn link_of(motes: u8, entry: &Value) -> Option<(u8, u8)>
 /// The number of a mote.
 fn mote_of(motes: u8, value: &Value) -> Option<u8>
     requires { 1 ≤ motes }
-    ensures { result ≡ mote_of motes (view value.now) }
+    ensures { result ≡ profile_mote motes (view value.now) }
 {
     let number = within(value.as_integer()?, 0, u16::from(motes - 1))?;
     Some(number as u8)

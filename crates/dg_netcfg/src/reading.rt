@@ -3,9 +3,9 @@ ghost use Rattle.std.specs.Prelude.{◌≡◌, ◌≤◌, ℕ, option_map, IfOk,
 ghost use Rattle.std.specs.List.{list_all};
 ghost use Rattle.toml.specs.Data.{get_member};
 ghost use Rattle.toml.specs.View.{view, array_view, table_view};
-ghost use Rattle.dg_netcfg.specs.Document.{keys_of, integer_at, array_at, within};
-ghost use Rattle.dg_netcfg.specs.Profile.{is_key, fields_of, with_fields, netprofile};
-ghost use Rattle.dg_netcfg.specs.Readings.{Reads, IsReading, IsAllowed};
+ghost use Rattle.dg_netcfg.specs.Document.{keys_of, integer_at, array_at, number_in_range};
+ghost use Rattle.dg_netcfg.specs.Profile.{is_key, profile_fields, with_fields, netprofile};
+ghost use Rattle.dg_netcfg.specs.Readings.{ReadsNetProfile, IsProfileReading, IsAllowed};
 
 use crate::links::read_links;
 use crate::profile::{LEAST_PORT, NetProfile, ProfileFault};
@@ -19,8 +19,8 @@ use toml::{Table, Value};
 /// The document has exactly the keys `motes`, from 1 to 16, `port`, from 1,024 to 65,500, and `links`, an array of
 /// arrays of two motes, which are numbered from 0.
 pub fn read_profile(alloc: Global, bytes: &[u8]) -> Result<NetProfile, ProfileFault>
-    ensures value { Reads result (netprofile bytes.now) }
-    ensures reading { IsReading bytes.now result }
+    ensures value { ReadsNetProfile result (netprofile bytes.now) }
+    ensures reading { IsProfileReading bytes.now result }
     ensures allowed { IfOk result IsAllowed }
 {
     match toml::table_from_slice(alloc, bytes) {
@@ -32,7 +32,7 @@ pub fn read_profile(alloc: Global, bytes: &[u8]) -> Result<NetProfile, ProfileFa
 
 /// The profile that a document describes.
 fn profile_of(alloc: Global, document: &Table) -> Result<NetProfile, ProfileFault>
-    ensures { Reads result (with_fields (fields_of (table_view document.now))) }
+    ensures { ReadsNetProfile result (with_fields (profile_fields (table_view document.now))) }
 {
     let Some((motes, port, entries)) = fields_of(document) else {
         return Err(ProfileFault::Key);
@@ -56,7 +56,7 @@ fn profile_of(alloc: Global, document: &Table) -> Result<NetProfile, ProfileFaul
 
 /// The values of the three keys, if there are no other keys and each value has its type.
 fn fields_of(document: &Table) -> Option<(i64, i64, &Array)>
-    ensures { option_map (λ f. (f.0, f.1, array_view f.2.now)) result ≡ fields_of (table_view document.now) }
+    ensures { option_map (λ f. (f.0, f.1, array_view f.2.now)) result ≡ profile_fields (table_view document.now) }
 {
     if !has_known_keys(document) {
         return None;
@@ -104,7 +104,7 @@ fn array_at<'a>(document: &'a Table, key: &str) -> Option<&'a Array>
 
 /// A whole number, if it is in a range.
 pub(crate) fn within(number: i64, least: u16, most: u16) -> Option<u16>
-    ensures value { result ≡ within least most number }
+    ensures value { result ≡ number_in_range least most number }
     ensures bound { IfSome result (λ n. n ≤ most) }
 {
     match u16::try_from(number) {

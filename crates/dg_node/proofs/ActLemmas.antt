@@ -31,7 +31,7 @@ use Rattle.dg_node.specs.declared.acts.ActFault.{ActFault}
 use Rattle.dg_node.specs.declared.acts.Change.{Change}
 use Rattle.dg_node.specs.Hosts.{host}
 use Rattle.dg_node.specs.Known.{MountDone, SeesOrder}
-use Rattle.dg_node.specs.Nodes.{NodeStands, Running, running_mote, runs_by, node_image, node_mote}
+use Rattle.dg_node.specs.Nodes.{NodeStands, NodeRunning, running_mote, node_runs, node_image, node_mote}
 use Rattle.dg_node.specs.Reports.{IsReportOf}
 use Rattle.dg_node.specs.Acts.{acts_effect, ActKept, trail_unless, ActFails, NodeOrdered, NodeInjected, mount_failed, InjectTook, is_orderly_ordered, is_orderly_injected}
 use Rattle.dg_node.specs.inner.Faults.{order_failed, inject_failed}
@@ -87,8 +87,8 @@ handed P (Err e) f is p = subst (λ (x : ActFault). P (Err x)) (sym is) p
 
 -- ---- the node continues
 
-pub reloads : (p : Option Node) (v : Node) (q : Option Node) (u : Mote) (c d : List ℕ) (s t : Store) (r : Option Running) (now word : ℕ) → p ≡ Some v → q ≡ Some (record v { mote = u }) → ((m : MoteState) → IsMote c (node_mote v) m s → IsMote d u (maintains m now word) t) → NodeStands c p s r
-    → NodeStands d q t (runs_by (option_map (λ m. maintains m now word) (running_mote r)) None (option_map node_image p))
+pub reloads : (p : Option Node) (v : Node) (q : Option Node) (u : Mote) (c d : List ℕ) (s t : Store) (r : Option NodeRunning) (now word : ℕ) → p ≡ Some v → q ≡ Some (record v { mote = u }) → ((m : MoteState) → IsMote c (node_mote v) m s → IsMote d u (maintains m now word) t) → NodeStands c p s r
+    → NodeStands d q t (node_runs (option_map (λ m. maintains m now word) (running_mote r)) None (option_map node_image p))
 reloads None v q u c d s t r now word is to goes stands = cc
 reloads (Some w) v None u c d s t r now word is to goes stands = cc
 reloads (Some w) v (Some x) u c d s t None now word is to goes stands = absurd stands
@@ -102,7 +102,7 @@ reloads (Some w) v (Some x) u c d s t (Some r) now word is to goes stands =
 -- ---- acts that were done, and acts that were not
 
 pub act_kept : {R : Type 0} (x : Change) (refusal : Option R) (o : Option MoteState) (t : Trail Store) (now word : ℕ) (s : Store) (v : Volume) (p u : Option Node) (a m b : Device) → refusal ≡ None → Looked a m → Acted t m b v → IsReportOf x.before s → IsReportOf x.after (last t) → SeesOrder x.orderly b.image
-    → NodeStands b.image u (last t) (runs_by (option_map (λ y. maintains y now word) o) None (option_map node_image p)) → ActKept x refusal (acts_effect o t now word) s (host a p) (host b u)
+    → NodeStands b.image u (last t) (node_runs (option_map (λ y. maintains y now word) o) None (option_map node_image p)) → ActKept x refusal (acts_effect o t now word) s (host a p) (host b u)
 act_kept x refusal o t now word s v p u a m b none looked acted before after tells stands = record {
   allowed = none;
   went = record { ran = ran_after (operations t) a m b looked.ran acted.ran; stands = acted.mounted.stands; runs = stands; sent = refl; read = tt; memory = tt };

@@ -43,7 +43,7 @@ use Rattle.dg_node.specs.declared.node.Node.{Node}
 use Rattle.dg_node.specs.declared.answers.Powered.{Powered}
 use Rattle.dg_node.specs.inner.Begins.{BeginsOver}
 use Rattle.dg_node.specs.Hosts.{host}
-use Rattle.dg_node.specs.Nodes.{image_version_of, rest_effect}
+use Rattle.dg_node.specs.Nodes.{image_version_run, rest_effect}
 use Rattle.dg_node.specs.Ends.{NodeEnd, Quiet, Sent, Starts, Stopped, NotAVolume, NoImage, NodeDone, EffectDone, power_end, tick_end}
 use Rattle.dg_node.specs.inner.Faults.{restart_fault}
 
@@ -81,7 +81,7 @@ unfolding reset_effect
 reset_is s id wide now word = refl
 
 version_is : (p : Powered) (told : Started) (r : Runs) → p.node.image_version ≡ p.image.image_version → p.image.image_version ≡ record { image = told.image; version = told.version } → told.image ≡ r.image → told.version ≡ r.version
-    → p.node.image_version ≡ image_version_of r
+    → p.node.image_version ≡ image_version_run r
 version_is p told r same version i v = cc
 
 module _ (k : StartCause) (s : Store) (id : ℕ) (wide : Bool) (now word : ℕ) where

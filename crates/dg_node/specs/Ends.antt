@@ -23,7 +23,7 @@ use Rattle.dg_node.specs.declared.answers.TickFault.TheVariants as tick_fault
 use Rattle.dg_node.specs.declared.answers.Ticked.{Ticked}
 use Rattle.dg_node.specs.declared.answers.Ticked.TheVariants as ticked
 use Rattle.dg_node.specs.Hosts.{Host}
-use Rattle.dg_node.specs.Nodes.{NodeStands, runs_by, node_image, node_is_wide}
+use Rattle.dg_node.specs.Nodes.{NodeStands, node_runs, node_image, node_is_wide}
 
 -- how an event ended
 pub data NodeEnd : Type 0 where
@@ -42,7 +42,7 @@ pub data NodeEnd : Type 0 where
 pub record EffectDone (e : Effect) (frame : Option (List ℕ)) (a b : Host) : Type 0 where
   pub ran : Ran (operations e.trail) a.board b.board
   pub stands : Stands b.board.image (last e.trail)
-  pub runs : NodeStands b.board.image b.runs (last e.trail) (runs_by e.mote e.started (option_map node_image a.runs))
+  pub runs : NodeStands b.board.image b.runs (last e.trail) (node_runs e.mote e.started (option_map node_image a.runs))
   pub sent : frame ≡ option_map frame_of e.sent
   -- a mote of the same width reads what is sent as its message
   pub read : IfSome e.sent (IsRead (node_is_wide a.runs))

@@ -12,7 +12,7 @@ use Rattle.dg_mote.specs.declared.mote.Mote.{Mote}
 use Rattle.dg_node.specs.declared.node.Node.{Node}
 
 -- a mote that is on, and the image that it runs
-pub record Running : Type 0 where
+pub record NodeRunning : Type 0 where
   pub image_version : ImageVersion
   pub mote : MoteState
 
@@ -23,7 +23,7 @@ abbrev pub node_mote : Node → Mote
 node_mote v = v.mote
 
 -- the code's node stands for this node over these bytes, and is None if the node is off
-abbrev pub NodeStands : List ℕ → Option Node → Store → Option Running → Type 0
+abbrev pub NodeStands : List ℕ → Option Node → Store → Option NodeRunning → Type 0
 NodeStands c None s None = Unit {0}
 NodeStands c (Some v) s (Some r) = (v.image_version ≡ r.image_version) × IsMote c v.mote r.mote s
 NodeStands c None s (Some r) = ⊥
@@ -33,18 +33,18 @@ NodeStands c (Some v) s None = ⊥
 abbrev pub IsTimelyNode : List ℕ → Node → ℕ → Type 0
 IsTimelyNode c v now = (m : MoteState) × (s : Store) × IsMote c v.mote m s × Timely m now
 
-abbrev pub image_version_of : Runs → ImageVersion
-image_version_of r = record { image = r.image; version = r.version }
+abbrev pub image_version_run : Runs → ImageVersion
+image_version_run r = record { image = r.image; version = r.version }
 
 -- what runs after an effect: what was started, or what ran before
-abbrev pub runs_by : Option MoteState → Option Runs → Option ImageVersion → Option Running
-runs_by None started before = None
-runs_by (Some m) (Some r) before = Some (record { image_version = image_version_of r; mote = m })
-runs_by (Some m) None (Some version) = Some (record { image_version = version; mote = m })
-runs_by (Some m) None None = None
+abbrev pub node_runs : Option MoteState → Option Runs → Option ImageVersion → Option NodeRunning
+node_runs None started before = None
+node_runs (Some m) (Some r) before = Some (record { image_version = image_version_run r; mote = m })
+node_runs (Some m) None (Some version) = Some (record { image_version = version; mote = m })
+node_runs (Some m) None None = None
 
 -- the mote of a node that is on
-abbrev pub running_mote : Option Running → Option MoteState
+abbrev pub running_mote : Option NodeRunning → Option MoteState
 running_mote None = None
 running_mote (Some r) = Some r.mote
 

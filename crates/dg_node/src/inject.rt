@@ -10,7 +10,7 @@ ghost use Rattle.dg_volume.specs.Remount.{RemountBytes};
 ghost use Rattle.dg_node.specs.Acts.{NodeInjected, InjectTook, inject_effect, is_orderly_injected};
 ghost use Rattle.dg_node.specs.Hosts.{host};
 ghost use Rattle.dg_node.specs.Known.{IsKnownChip, SeesOrder};
-ghost use Rattle.dg_node.specs.Nodes.{IsTimelyNode, NodeStands, Running, running_mote};
+ghost use Rattle.dg_node.specs.Nodes.{IsTimelyNode, NodeStands, NodeRunning, running_mote};
 
 use crate::acts::{ActFault, Change, Injected, inject_failed};
 use crate::mounting::mount_known;
@@ -46,7 +46,7 @@ impl Node {
         requires node { IfSome runs.old (λ v. IsTimelyNode (N.device board.old).image v now) }
         requires moment { now < 2 ^ 62 }
         requires known_chip { IsTrue known → IsKnownChip (N.device board.old).image }
-        ensures done { (r : Option Running) (s : Store) → Stands (N.device board.old).image s
+        ensures done { (r : Option NodeRunning) (s : Store) → Stands (N.device board.old).image s
             → NodeStands (N.device board.old).image runs.old s r
             → let row = row_of image.now.image_version.image image.now.image_version.version image.now.name.now
             image.now.bytes.now in

@@ -8,7 +8,7 @@ ghost use Rattle.dg_mote.specs.Model.{maintains};
 ghost use Rattle.dg_node.specs.Acts.{NodeOrdered, order_effect, is_orderly_ordered};
 ghost use Rattle.dg_node.specs.Hosts.{host};
 ghost use Rattle.dg_node.specs.Known.{IsKnownChip, OrderReads, SeesOrder};
-ghost use Rattle.dg_node.specs.Nodes.{IsTimelyNode, NodeStands, Running, running_mote, runs_by, node_image};
+ghost use Rattle.dg_node.specs.Nodes.{IsTimelyNode, NodeStands, NodeRunning, running_mote, node_runs, node_image};
 
 use crate::acts::{ActFault, Change, Ordered, order_failed};
 use crate::mounting::mount_known;
@@ -23,9 +23,9 @@ pub(crate) fn reload(runs: &mut Option<Node>, volume: Volume, now: u64, word: u3
     requires node { (c : List ℕ) × IfSome runs.old (λ v. IsTimelyNode c v now) }
     requires free { NothingLent volume }
     requires moment { now < 2 ^ 62 }
-    ensures { (c d : List ℕ) (s t : Store) (r : Option Running) → NodeStands c runs.old s r → Mounted d volume t
+    ensures { (c d : List ℕ) (s t : Store) (r : Option NodeRunning) → NodeStands c runs.old s r → Mounted d volume t
         → NodeStands d runs.new t
-        (runs_by (option_map (λ m. maintains m now word) (running_mote r)) None (option_map node_image runs.old)) }
+        (node_runs (option_map (λ m. maintains m now word) (running_mote r)) None (option_map node_image runs.old)) }
 {
     if let Some(node) = runs {
         node.mote.reload(volume, now, word);
@@ -50,7 +50,7 @@ impl Node {
         requires node { IfSome runs.old (λ v. IsTimelyNode (N.device board.old).image v now) }
         requires moment { now < 2 ^ 62 }
         requires known_chip { IsTrue known → IsKnownChip (N.device board.old).image }
-        ensures done { (r : Option Running) (s : Store) → Stands (N.device board.old).image s
+        ensures done { (r : Option NodeRunning) (s : Store) → Stands (N.device board.old).image s
             → NodeStands (N.device board.old).image runs.old s r
             → NodeOrdered result (order_refusal s order) (order_effect (running_mote r) s order now word) s
             (host (N.device board.old) runs.old) (host (N.device board.new) runs.new) }

@@ -40,8 +40,8 @@ input_of source = record { left = source.0.left source.1; reads = source.0.fault
 abbrev pub output_of : {K : Type 0} → SinkTells K × K → OutputState
 output_of sink = record { written = sink.0.written sink.1; writes = sink.0.faults sink.1 }
 
-abbrev pub link_of : {L : Type 0} → LinkTells L × L → LinkState
-link_of net = record { inboxes = net.0.inboxes net.1; failures = net.0.faults net.1; port = net.0.first_port net.1 }
+abbrev pub link_state : {L : Type 0} → LinkTells L × L → LinkState
+link_state net = record { inboxes = net.0.inboxes net.1; failures = net.0.faults net.1; port = net.0.first_port net.1 }
 
 -- all of it, of a call that is lent all of it
 abbrev pub outside : InputState → OutputState → LinkState → (clock : Option Answers) → (boards : List Device) → Outside

@@ -9,7 +9,7 @@ use Rattle.std.specs.Ordering.{nat_cmp}
 use Rattle.std.specs.FinMap as map
 use Rattle.dg_quiet.specs.Times.{request_window, packet_window}
 use Rattle.dg_quiet.specs.Noted.{Moments, Noted, IsPast, is_past, may_ask, moments_from, moments_of}
-use Rattle.dg_quiet.specs.Histories.{Note, Request, Packet, noted, last_request, last_packet}
+use Rattle.dg_quiet.specs.Histories.{Note, Request, Packet, noted_after, last_request, last_packet_heard}
 
 same_moments : (m n : Moments) → ((q : ℕ) → map.get m q ≡ map.get n q) → m ≡ n
 same_moments m n each = map.same_map nat_cmp_total map.nat_cmp-IsAntisymmetric m n each
@@ -23,20 +23,20 @@ get-put m image moment q =
 
 -- ---- the newest note of an image is the one that counts
 
-pub request-noted : (notes : List Note) (image : ℕ) → map.get (noted notes).requests image ≡ last_request notes image
+pub request-noted : (notes : List Note) (image : ℕ) → map.get (noted_after notes).requests image ≡ last_request notes image
 request-noted [] image = get-none image
 request-noted (Request moment i ∷ earlier) image =
-    get-put (noted earlier).requests i moment image ∙ ap (cond (eqb image i) (Some moment)) (request-noted earlier image)
+    get-put (noted_after earlier).requests i moment image ∙ ap (cond (eqb image i) (Some moment)) (request-noted earlier image)
 request-noted (Packet moment i ∷ earlier) image = request-noted earlier image
 
-pub packet-noted : (notes : List Note) (image : ℕ) → map.get (noted notes).packets image ≡ last_packet notes image
+pub packet-noted : (notes : List Note) (image : ℕ) → map.get (noted_after notes).packets image ≡ last_packet_heard notes image
 packet-noted [] image = get-none image
 packet-noted (Packet moment i ∷ earlier) image =
-    get-put (noted earlier).packets i moment image ∙ ap (cond (eqb image i) (Some moment)) (packet-noted earlier image)
+    get-put (noted_after earlier).packets i moment image ∙ ap (cond (eqb image i) (Some moment)) (packet-noted earlier image)
 packet-noted (Request moment i ∷ earlier) image = packet-noted earlier image
 
-pub may_ask-noted : (notes : List Note) (moment image : ℕ) → may_ask (noted notes) moment image
-    ≡ (is_past (last_request notes image) request_window moment && is_past (last_packet notes image) packet_window moment)
+pub may_ask-noted : (notes : List Note) (moment image : ℕ) → may_ask (noted_after notes) moment image
+    ≡ (is_past (last_request notes image) request_window moment && is_past (last_packet_heard notes image) packet_window moment)
 may_ask-noted notes moment image =
     λ i. is_past (request-noted notes image i) request_window moment && is_past (packet-noted notes image i) packet_window moment
 

@@ -12,9 +12,9 @@ with_note n (Request moment image) = with_request n moment image
 with_note n (Packet moment image) = with_packet n moment image
 
 -- what is noted after a history, the newest note first
-abbrev pub noted : List Note → Noted
-noted [] = nothing_noted
-noted (note ∷ earlier) = with_note (noted earlier) note
+abbrev pub noted_after : List Note → Noted
+noted_after [] = nothing_noted
+noted_after (note ∷ earlier) = with_note (noted_after earlier) note
 
 -- the newest request of an image, and the newest packet
 abbrev pub last_request : List Note → ℕ → Option ℕ
@@ -22,7 +22,7 @@ last_request [] image = None
 last_request (Request moment i ∷ earlier) image = if image == i then Some moment else last_request earlier image
 last_request (Packet moment i ∷ earlier) image = last_request earlier image
 
-abbrev pub last_packet : List Note → ℕ → Option ℕ
-last_packet [] image = None
-last_packet (Packet moment i ∷ earlier) image = if image == i then Some moment else last_packet earlier image
-last_packet (Request moment i ∷ earlier) image = last_packet earlier image
+abbrev pub last_packet_heard : List Note → ℕ → Option ℕ
+last_packet_heard [] image = None
+last_packet_heard (Packet moment i ∷ earlier) image = if image == i then Some moment else last_packet_heard earlier image
+last_packet_heard (Request moment i ∷ earlier) image = last_packet_heard earlier image

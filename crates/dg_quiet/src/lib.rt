@@ -10,7 +10,7 @@ ghost use Rattle.std.specs.FinMap as map;
 ghost use Rattle.dg_quiet.specs.Times.{request_window, packet_window};
 ghost use Rattle.dg_quiet.specs.Sizes.{windowed_images};
 ghost use Rattle.dg_quiet.specs.Noted.{nothing_noted, with_request, with_packet, IsPast, is_past, may_ask};
-ghost use Rattle.dg_quiet.specs.Histories.{Note, noted, last_request, last_packet};
+ghost use Rattle.dg_quiet.specs.Histories.{Note, noted_after, last_request, last_packet_heard};
 
 use std::marker::Model;
 
@@ -102,12 +102,12 @@ pub fn the_windows_are_these()
 /// follows from the newest request for it and the newest packet of it alone.
 pub fn last_note_counts()
     ensures request { (notes : List Note) (image : ℕ)
-        → map.get (noted notes).requests image ≡ last_request notes image }
+        → map.get (noted_after notes).requests image ≡ last_request notes image }
     ensures packet { (notes : List Note) (image : ℕ)
-        → map.get (noted notes).packets image ≡ last_packet notes image }
-    ensures ask { (notes : List Note) (moment image : ℕ) → may_ask (noted notes) moment image
+        → map.get (noted_after notes).packets image ≡ last_packet_heard notes image }
+    ensures ask { (notes : List Note) (moment image : ℕ) → may_ask (noted_after notes) moment image
         ≡ (is_past (last_request notes image) request_window moment
-        && is_past (last_packet notes image) packet_window moment) }
+        && is_past (last_packet_heard notes image) packet_window moment) }
 {}
 
 // The index of the time of an image.

@@ -10,7 +10,7 @@ use Rattle.dg_object.specs.Sizes.{packets}
 use Rattle.dg_recv.specs.Times.{most_requests, next_wait}
 use Rattle.dg_recv.specs.Reception.{Reception}
 use Rattle.dg_recv.specs.Steps.{missing, ask_of, after_ask, after_accept}
-use Rattle.dg_recv.specs.Histories.{Call, Next, Comes, reception_after, came_in, request_count, requests}
+use Rattle.dg_recv.specs.Histories.{ReceptionCall, Next, Comes, reception_after, came_in, request_count, requests}
 
 -- ---- what was accepted is what came in
 
@@ -36,7 +36,7 @@ got-accept r moment packet =
     let takes : Reception = record r { got = set.insert r.got packet; due = moment + next_wait } in
     cond_both (set.contains r.got packet) r takes (λ x. x.got ≡ set.insert r.got packet) (insert-known r.got packet) (λ _. refl)
 
-pub got-came : (start word : ℕ) (calls : List Call) → (reception_after start word calls).got ≡ came_in calls
+pub got-came : (start word : ℕ) (calls : List ReceptionCall) → (reception_after start word calls).got ≡ came_in calls
 got-came start word [] = refl
 got-came start word (Next moment ∷ earlier) = got-ask (reception_after start word earlier) moment ∙ got-came start word earlier
 got-came start word (Comes moment packet ∷ earlier) =
@@ -49,12 +49,12 @@ asked true late m want e = cc
 asked false true m want e = cc
 asked false false m want e = cc
 
-pub asks_for_missing : (start word : ℕ) (earlier : List Call) (moment : ℕ) (want : Numbers) → ask_of (reception_after start word earlier) moment ≡ Request want → want ≡ set.difference (below packets) (came_in earlier)
+pub asks_for_missing : (start word : ℕ) (earlier : List ReceptionCall) (moment : ℕ) (want : Numbers) → ask_of (reception_after start word earlier) moment ≡ Request want → want ≡ set.difference (below packets) (came_in earlier)
 asks_for_missing start word earlier moment want e =
     let r = reception_after start word earlier in
     sym (asked (nat_lt moment r.due) (nat_le most_requests r.tries) (missing r) want e) ∙ ap (set.difference (below packets)) (got-came start word earlier)
 
-pub never_again : (start word : ℕ) (earlier : List Call) (moment : ℕ) (want : Numbers) → ask_of (reception_after start word earlier) moment ≡ Request want → (packet : ℕ) → set.contains (came_in earlier) packet ≡ true → set.contains want packet ≡ false
+pub never_again : (start word : ℕ) (earlier : List ReceptionCall) (moment : ℕ) (want : Numbers) → ask_of (reception_after start word earlier) moment ≡ Request want → (packet : ℕ) → set.contains (came_in earlier) packet ≡ true → set.contains want packet ≡ false
 never_again start word earlier moment want e packet known =
     ap (λ s. set.contains s packet) (asks_for_missing start word earlier moment want e)
     ∙ contains-less (below packets) (came_in earlier) packet
@@ -79,7 +79,7 @@ tries-accept r moment packet =
     let takes : Reception = record r { got = set.insert r.got packet; due = moment + next_wait } in
     cond_both (set.contains r.got packet) r takes (λ x. x.tries ≡ r.tries) (λ _. refl) (λ _. refl)
 
-pub tries-requests : (start word : ℕ) (calls : List Call) → (reception_after start word calls).tries ≡ requests start word calls
+pub tries-requests : (start word : ℕ) (calls : List ReceptionCall) → (reception_after start word calls).tries ≡ requests start word calls
 tries-requests start word [] = refl
 tries-requests start word (Next moment ∷ earlier) =
     let r = reception_after start word earlier in
@@ -94,13 +94,13 @@ tries-bounded r moment h =
     cond_both (nat_lt moment r.due) r _ (λ x. x.tries ≤ most_requests) (λ _. h) (λ _.
     cond_both (nat_le most_requests r.tries) r counts (λ x. x.tries ≤ most_requests) (λ _. h) (λ e. omega (arith, leb-false most_requests r.tries e)))
 
-few_tries : (start word : ℕ) (calls : List Call) → (reception_after start word calls).tries ≤ most_requests
+few_tries : (start word : ℕ) (calls : List ReceptionCall) → (reception_after start word calls).tries ≤ most_requests
 few_tries start word [] = omega arith
 few_tries start word (Next moment ∷ earlier) = tries-bounded (reception_after start word earlier) moment (few_tries start word earlier)
 few_tries start word (Comes moment packet ∷ earlier) =
     omega (arith, tries-accept (reception_after start word earlier) moment packet, few_tries start word earlier)
 
-pub few_requests : (start word : ℕ) (calls : List Call) → requests start word calls ≤ most_requests
+pub few_requests : (start word : ℕ) (calls : List ReceptionCall) → requests start word calls ≤ most_requests
 few_requests start word calls = omega (arith, tries-requests start word calls, few_tries start word calls)
 
 gave_up : (early late : Bool) (m : Numbers) → (if early then Wait else (if late then GiveUp else Request m)) ≡ GiveUp → late ≡ true
@@ -108,7 +108,7 @@ gave_up true late m e = cc
 gave_up false true m e = refl
 gave_up false false m e = cc
 
-pub gives_up_after_all : (start word : ℕ) (earlier : List Call) (moment : ℕ) → ask_of (reception_after start word earlier) moment ≡ GiveUp → requests start word earlier ≡ most_requests
+pub gives_up_after_all : (start word : ℕ) (earlier : List ReceptionCall) (moment : ℕ) → ask_of (reception_after start word earlier) moment ≡ GiveUp → requests start word earlier ≡ most_requests
 gives_up_after_all start word earlier moment e =
     let r = reception_after start word earlier in
     let late = leb-true most_requests r.tries (gave_up (nat_lt moment r.due) (nat_le most_requests r.tries) (missing r) e) in

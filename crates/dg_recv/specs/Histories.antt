@@ -8,21 +8,21 @@ use Rattle.dg_recv.specs.Reception.{Reception}
 use Rattle.dg_recv.specs.Steps.{reception_begun, ask_of, after_ask, after_accept}
 
 -- the clock is read, or a packet of the page arrives
-pub data Call : Type 0 where
-  Next : (moment : ℕ) → Call
-  Comes : (moment packet : ℕ) → Call
+pub data ReceptionCall : Type 0 where
+  Next : (moment : ℕ) → ReceptionCall
+  Comes : (moment packet : ℕ) → ReceptionCall
 
-abbrev pub after : Reception → Call → Reception
-after r (Next moment) = after_ask r moment
-after r (Comes moment packet) = after_accept r moment packet
+abbrev pub after_reception_call : Reception → ReceptionCall → Reception
+after_reception_call r (Next moment) = after_ask r moment
+after_reception_call r (Comes moment packet) = after_accept r moment packet
 
 -- the reception after a history, the newest call first
-abbrev pub reception_after : ℕ → ℕ → List Call → Reception
+abbrev pub reception_after : ℕ → ℕ → List ReceptionCall → Reception
 reception_after start word [] = reception_begun start word
-reception_after start word (call ∷ earlier) = after (reception_after start word earlier) call
+reception_after start word (call ∷ earlier) = after_reception_call (reception_after start word earlier) call
 
 -- the packets that came in
-abbrev pub came_in : List Call → Numbers
+abbrev pub came_in : List ReceptionCall → Numbers
 came_in [] = set.empty
 came_in (Next moment ∷ earlier) = came_in earlier
 came_in (Comes moment packet ∷ earlier) = set.insert (came_in earlier) packet
@@ -33,7 +33,7 @@ request_count (Request want) = 1
 request_count GiveUp = 0
 request_count Wait = 0
 
-abbrev pub requests : ℕ → ℕ → List Call → ℕ
+abbrev pub requests : ℕ → ℕ → List ReceptionCall → ℕ
 requests start word [] = 0
 requests start word (Next moment ∷ earlier) =
     requests start word earlier + request_count (ask_of (reception_after start word earlier) moment)

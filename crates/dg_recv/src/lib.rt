@@ -12,7 +12,7 @@ ghost use Rattle.dg_bits.specs.Sets.{Numbers, below, AllBelow};
 ghost use Rattle.dg_object.specs.Sizes.{packets};
 ghost use Rattle.dg_recv.specs.Times.{first_wait, next_wait, most_requests};
 ghost use Rattle.dg_recv.specs.Steps.{reception_begun, missing, ask_of, after_ask, accept_of, after_accept};
-ghost use Rattle.dg_recv.specs.Histories.{Call, reception_after, came_in, requests};
+ghost use Rattle.dg_recv.specs.Histories.{ReceptionCall, reception_after, came_in, requests};
 
 use dg_bits::PageBits;
 use dg_object::PACKETS;
@@ -158,17 +158,17 @@ pub fn the_waits_are_these()
 /// packets of the page that have not arrived, so nothing that was accepted is requested again. There
 /// are eight requests before it gives up, and no more.
 pub fn asking_ends()
-    ensures accepted { (start word : ℕ) (calls : List Call)
+    ensures accepted { (start word : ℕ) (calls : List ReceptionCall)
         → (reception_after start word calls).got ≡ came_in calls }
-    ensures missing { (start word : ℕ) (earlier : List Call) (moment : ℕ) (want : Numbers)
+    ensures missing { (start word : ℕ) (earlier : List ReceptionCall) (moment : ℕ) (want : Numbers)
         → ask_of (reception_after start word earlier) moment ≡ Ask.Request want
         → want ≡ set.difference (below packets) (came_in earlier) }
-    ensures never_again { (start word : ℕ) (earlier : List Call) (moment : ℕ) (want : Numbers)
+    ensures never_again { (start word : ℕ) (earlier : List ReceptionCall) (moment : ℕ) (want : Numbers)
         → ask_of (reception_after start word earlier) moment ≡ Ask.Request want
         → (packet : ℕ) → set.contains (came_in earlier) packet ≡ true
         → set.contains want packet ≡ false }
-    ensures requests { (start word : ℕ) (calls : List Call) → requests start word calls ≤ most_requests }
-    ensures gives_up { (start word : ℕ) (earlier : List Call) (moment : ℕ)
+    ensures requests { (start word : ℕ) (calls : List ReceptionCall) → requests start word calls ≤ most_requests }
+    ensures gives_up { (start word : ℕ) (earlier : List ReceptionCall) (moment : ℕ)
         → ask_of (reception_after start word earlier) moment ≡ Ask.GiveUp
         → requests start word earlier ≡ most_requests }
 {}

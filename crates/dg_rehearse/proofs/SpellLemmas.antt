@@ -22,7 +22,7 @@ use Rattle.dg_base.specs.declared.events.Step.{Step}
 use Rattle.dg_nor.specs.Device.{Device}
 use Rattle.dg_netcfg.specs.Readings.{IsAllowed, IsSameLink}
 use Rattle.dg_netcfg.specs.declared.profile.NetProfile.{NetProfile}
-use Rattle.dg_script.specs.Fitting.{FitsCut, IsGolden}
+use Rattle.dg_script.specs.Fitting.{FitsCut, IsGoldenImage}
 use Rattle.dg_script.specs.Lines.{line_of}
 use Rattle.dg_script.specs.Places.{first_place, place_after, joins, is_linked, none_narrow, fault_at_end}
 use Rattle.dg_script.specs.Ranges.{AreTwo}
@@ -324,7 +324,7 @@ links_read motes before (l ∷ ls) image rest some few joined new apart more =
 
 -- ---- the whole script
 
-golden_fits : IsGolden (codes "base") 0 (codes "A")
+golden_fits : IsGoldenImage (codes "base") 0 (codes "A")
 golden_fits = record { name = refl; used = lit≤ tt; some = lit≤ tt; fits = lit≤ tt; bytes = byte }
   where
     byte : AreBytes (codes "A")

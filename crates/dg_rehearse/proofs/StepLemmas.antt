@@ -14,7 +14,7 @@ use Rattle.dg_volume.specs.declared.volume.InjectFault.{InjectFault}
 use Rattle.dg_volume.specs.declared.volume.OrderFault.{OrderFault}
 use Rattle.dg_script.specs.declared.report.Cause.TheVariants as cause
 use Rattle.dg_script.specs.declared.report.Report.{Report}
-use Rattle.dg_rules.specs.Events.{Deed, Does, Refuses, Goes, does, mote_of, dt_of, tick_does, hear_by, heard_sent, heard_last, unless_off, inject_row, inject_unless, injects, order_unless, orders, knows}
+use Rattle.dg_rules.specs.Events.{EventEffect, Does, Refuses, Goes, does, mote_of, dt_of, tick_does, hear_by, heard_sent, heard_last, unless_off, inject_row, inject_unless, injects, order_unless, orders, knows}
 use Rattle.dg_rules.specs.Steps.{WorldStep, StepDoes, Ended, blows, and_sent}
 use Rattle.dg_rules.specs.World.{World, Running, Site, Sent, site, store_at, wide_at, linked, frame_at, last_frame, counted, with_site}
 use Rattle.dg_rules.proofs.SiteLemmas.{site_count}
@@ -124,7 +124,7 @@ sent_then w x v (Some message) p e = record {
   sent = inr (frame_of message, ap (λ (l : List Sent). l ++ record { by = mote_of x.event; bytes = frame_of message } ∷ []) e);
 }
 
-ended : (blown : Bool) (w : World) (x : Step) (d : Deed) (v : World) (reports : List Report) → (OnlyDeclared w → Known d.table w.declared) → Ended blown w x d v reports → Next w x v
+ended : (blown : Bool) (w : World) (x : Step) (d : EventEffect) (v : World) (reports : List Report) → (OnlyDeclared w → Known d.table w.declared) → Ended blown w x d v reports → Next w x v
 ended true w x d v reports known cut =
     let mid : World = record (counted w (dt_of x.event)) { table = d.table } in
     let y : Site = record { store = cut.store; runs = None } in

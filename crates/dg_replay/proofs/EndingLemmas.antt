@@ -19,7 +19,7 @@ use Rattle.dg_script.specs.Script.{Script}
 use Rattle.dg_script.specs.declared.fault.LineFault.{LineFault}
 use Rattle.dg_world.specs.Boards.{BoardStopped}
 use Rattle.dg_replay.specs.Boards.{EventNext, BoardsStand}
-use Rattle.dg_replay.specs.Ending.{Ending, Ends, NoBoards, TooManyEvents, FaultAt, Over, events_in, by_fault, by_events, by_boards, ending_from, status_of, used}
+use Rattle.dg_replay.specs.Ending.{Ending, Ends, NoBoards, TooManyEvents, FaultAt, Over, events_in, by_fault, by_events, by_boards, ending_from, ending_status, used}
 use Rattle.dg_replay.specs.Replayed.{Progress, played_text, AtTooMany, IsWholeReport, Wrote, BoardsLeft, IsCaused, IsSettled, DoneIsWhole, RestsOnTaken, EndsNear, ReadsNear, NoVolumeThere, NoImageThere}
 use Rattle.dg_replay.specs.Replaying.{HasFew, ReadyToEnd, EndsWith, ScriptReplayed}
 use Rattle.dg_base.specs.declared.events.Step.{Step}
@@ -29,21 +29,21 @@ use Rattle.dg_replay.specs.Shown.{Saw}
 use Rattle.dg_replay.specs.Stages.{span, bytes_taken, failures}
 use Rattle.dg_replay.proofs.ItemLemmas.{items_split, items_first, events_among-append}
 
-wrote_whole : {table : List Row} {script : Script} (e : Ending) (c : Progress table script) (text : List ℕ) → IsWholeReport e c text → Wrote (status_of e) e c text
+wrote_whole : {table : List Row} {script : Script} (e : Ending) (c : Progress table script) (text : List ℕ) → IsWholeReport e c text → Wrote (ending_status e) e c text
 wrote_whole Ends c text whole = whole
 wrote_whole (NoBoards m b) c text whole = whole
 wrote_whole TooManyEvents c text whole = whole
 wrote_whole (FaultAt line f) c text whole = whole
 wrote_whole Over c text whole = whole
 
-boards_of : {table : List Row} {script : Script} (e : Ending) (c : Progress table script) (initial now : List Device) → BoardsStand c.last initial now → BoardsLeft (status_of e) c initial now
+boards_of : {table : List Row} {script : Script} (e : Ending) (c : Progress table script) (initial now : List Device) → BoardsStand c.last initial now → BoardsLeft (ending_status e) c initial now
 boards_of Ends c initial now stand = stand
 boards_of (NoBoards m b) c initial now stand = stand
 boards_of TooManyEvents c initial now stand = stand
 boards_of (FaultAt line f) c initial now stand = stand
 boards_of Over c initial now stand = stand
 
-caused_by : (e : Ending) (r w b v i : Type 0) → IsCaused (status_of e) e r w b v i
+caused_by : (e : Ending) (r w b v i : Type 0) → IsCaused (ending_status e) e r w b v i
 caused_by Ends r w b v i = refl
 caused_by (NoBoards m k) r w b v i = refl
 caused_by TooManyEvents r w b v i = refl
@@ -51,14 +51,14 @@ caused_by (FaultAt line f) r w b v i = refl
 caused_by Over r w b v i = refl
 
 -- the bytes that were taken settle the ending
-enough_by : {table : List Row} {script : Script} (e : Ending) (n : ℕ) (input : List ℕ) (at_end : Type 0) (c : Progress table script) (text : List ℕ) → at_end ⊎ IsSettled n input → RestsOnTaken (status_of e) n (bytes_taken input at_end) c text
+enough_by : {table : List Row} {script : Script} (e : Ending) (n : ℕ) (input : List ℕ) (at_end : Type 0) (c : Progress table script) (text : List ℕ) → at_end ⊎ IsSettled n input → RestsOnTaken (ending_status e) n (bytes_taken input at_end) c text
 enough_by Ends n input at_end c text settled = settled
 enough_by (NoBoards m b) n input at_end c text settled = settled
 enough_by TooManyEvents n input at_end c text settled = settled
 enough_by (FaultAt line f) n input at_end c text settled = settled
 enough_by Over n input at_end c text settled = settled
 
-ends_near : {table : List Row} {script : Script} (e : Ending) (input : List ℕ) (c : Progress table script) (text : List ℕ) → ReadsNear (status_of e) e input c text → EndsNear e input
+ends_near : {table : List Row} {script : Script} (e : Ending) (input : List ℕ) (c : Progress table script) (text : List ℕ) → ReadsNear (ending_status e) e input c text → EndsNear e input
 ends_near Ends input c text near = near
 ends_near (NoBoards m b) input c text near = near
 ends_near TooManyEvents input c text near = near
@@ -67,12 +67,12 @@ ends_near Over input c text near = near
 
 -- the end of the report was written, or a prefix of it, or memory ran out
 pub ended : {table : List Row} {S G : Saw} (result : Status) (script : Script) (e : Ending) (piece input : List ℕ) (at_end : Type 0) (initial now : List Device) (before mid after : Option (List ℕ)) (failed reads worse : Type 0) → (failed → worse)
-    → (r : ReadyToEnd table script e piece (span initial now before mid S G)) → at_end ⊎ IsSettled (length initial) input → at_end ⊎ DoneIsWhole input r.came.done r.came.rest r.came.begun → ((text : List ℕ) → ReadsNear (status_of e) e input r.came text)
-    → EndsWith result (status_of e) piece mid after failed → ScriptReplayed table result script e (bytes_taken input at_end) (span initial now before after S G) (failures reads worse)
+    → (r : ReadyToEnd table script e piece (span initial now before mid S G)) → at_end ⊎ IsSettled (length initial) input → at_end ⊎ DoneIsWhole input r.came.done r.came.rest r.came.begun → ((text : List ℕ) → ReadsNear (ending_status e) e input r.came text)
+    → EndsWith result (ending_status e) piece mid after failed → ScriptReplayed table result script e (bytes_taken input at_end) (span initial now before after S G) (failures reads worse)
 ended {table} {S = S} {G = G} result script e piece input at_end initial now before mid after failed reads worse spread r settled whole near (inl done) =
     let text : List ℕ = played_text r.came.played ++ piece in
     let all : IsWholeReport e r.came text = record { all = r.all; reported = ap (λ (xs : List ℕ). played_text r.came.played ++ xs) (sym r.line) } in
-    let made : ScriptReplayed table (status_of e) script e (bytes_taken input at_end) (span initial now before after S G) (failures reads worse) = record {
+    let made : ScriptReplayed table (ending_status e) script e (bytes_taken input at_end) (span initial now before after S G) (failures reads worse) = record {
       came = r.came;
       text = text;
       written = Puts-join before mid after _ _ r.reported done.1;

@@ -231,7 +231,7 @@ golden_finds : ImageIsFound → (b : Beginning) (left : List Item) (played : Lis
 golden_finds law b left played u old new g lacks =
     let fits : AllByRecursion (ItemInRange b.motes) (Applies lacks.next.step lacks.next.reported ∷ lacks.next.more) = subst (AllByRecursion (ItemInRange b.motes)) lacks.next.is g.left_fits in
     let finds : FindsImage (does u lacks.next.step.event) = law (ran_network g) played u lacks.next.step.event g.plays fits.0.event in
-    let some : FindsImage (Goes lacks.ends.deed) = subst FindsImage lacks.ends.goes finds in
+    let some : FindsImage (Goes lacks.ends.effect) = subst FindsImage lacks.ends.goes finds in
     some lacks.ends.none
 
 line_finds : (G H : Saw) → ImageIsFound → (g : StartState) (done : List Line) (line : Line) (played : List Played) (last world : Option World) (begun left : List Item) (text : List ℕ) (old new : List Device) → (UsesBoards done → ⊥) → LinesFit first_place done → IsSpelled (place_behind first_place done) line → map item_played played ≡ items_of done

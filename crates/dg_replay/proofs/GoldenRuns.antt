@@ -5,7 +5,7 @@ use Rattle.std.specs.List.{AllByRecursion}
 use Rattle.dg_object.specs.Object.{Row, IsRow}
 use Rattle.dg_volume.specs.Store.{Store, golden_row, fresh}
 use Rattle.dg_base.specs.declared.events.Cut.{Cut as CutOfPower}
-use Rattle.dg_script.specs.Fitting.{FitsCut, IsGolden}
+use Rattle.dg_script.specs.Fitting.{FitsCut, IsGoldenImage}
 use Rattle.dg_script.specs.Places.{first_place, place_after, none_narrow}
 use Rattle.dg_script.specs.declared.place.Place.{Place}
 use Rattle.dg_script.specs.declared.line.Line.{Line}
@@ -33,7 +33,7 @@ pub record Formatted : Type 0 where
 -- the boards of this many motes are formatted with golden, or they are used as they are
 pub record ByGolden (motes : ℕ) (table : List Row) (stores : List Store) : Type 0 where
   pub golden : Formatted
-  pub is_golden : IsGolden golden.name golden.used golden.content
+  pub is_golden : IsGoldenImage golden.name golden.used golden.content
   pub table_is : table ≡ golden_row golden.name golden.content ∷ []
   pub stores_are : stores ≡ replicate motes (fresh golden.name golden.content golden.used)
 
@@ -206,7 +206,7 @@ pub record BoardsRun (g : StartState) (b : Beginning) (left : List Item) (played
   pub plays : PlaysBoards g.table g.stores links narrow played v
   pub left_fits : AllByRecursion (ItemInRange b.motes) left
 
-golden_is_row : (golden : Formatted) → IsGolden golden.name golden.used golden.content → IsRow (golden_row golden.name golden.content)
+golden_is_row : (golden : Formatted) → IsGoldenImage golden.name golden.used golden.content → IsRow (golden_row golden.name golden.content)
 golden_is_row golden h =
     record { image = omega arith; version = omega arith; version_fits = omega arith; name = h.name; some = h.some; fits = omega (arith, h.fits); bytes = h.bytes }
 

@@ -18,7 +18,7 @@ use Rattle.dg_script.specs.declared.report.Report.TheVariants as report
 use Rattle.dg_rules.specs.Sizes.{most_events}
 use Rattle.dg_rules.specs.World.{World, counted}
 use Rattle.dg_rules.specs.Changes.{is_taken, declared_lines}
-use Rattle.dg_rules.specs.Events.{Does, Refuses, Goes, Deed, does, mote_of, dt_of}
+use Rattle.dg_rules.specs.Events.{Does, Refuses, Goes, EventEffect, does, mote_of, dt_of}
 use Rattle.dg_rules.specs.Steps.{WorldStep, DeclareStep, StepDoes, Ended, declared_as, blows, and_sent}
 use Rattle.dg_rules.specs.Runs.{Played, Plays, ItemStep}
 use Rattle.dg_rules.proofs.SiteLemmas.{site_count}
@@ -106,7 +106,7 @@ sent_counts : (w v : World) (m : ℕ) (sent : Option Message) → Counts w v 1 �
 sent_counts w v m None c = c
 sent_counts w v m (Some message) c = record { sites = c.sites; events = c.events }
 
-done_counts : (blown : Bool) (w : World) (x : Step) (d : Deed) (v : World) (reports : List Report) → Ended blown w x d v reports → Counts w v 1
+done_counts : (blown : Bool) (w : World) (x : Step) (d : EventEffect) (v : World) (reports : List Report) → Ended blown w x d v reports → Counts w v 1
 done_counts true w x d v reports cut =
     subst (λ (u : World). Counts w u 1) (sym cut.world) (record { sites = site_count (record (counted w (dt_of x.event)) { table = d.table }) (mote_of x.event) (record { store = cut.store; runs = None }); events = refl })
 done_counts false w x d v reports (runs, found, world, told) =

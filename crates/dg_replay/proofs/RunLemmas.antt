@@ -16,7 +16,7 @@ use Rattle.dg_script.specs.declared.line.Line.TheVariants.{Boards}
 use Rattle.dg_world.specs.Boards.{BoardStopped}
 use Rattle.dg_replay.specs.Boards.{BoardsStand}
 use Rattle.dg_replay.specs.Items.{StartState, UsesBoards, is_boards, begin_behind, beginning_of, motes_in, lacking, next_items}
-use Rattle.dg_replay.specs.Ending.{Ending, Ends, Over, ending_from, ending_of, ending_line, status_of, script_of, has_unused_bytes, InBounds, InLimits}
+use Rattle.dg_replay.specs.Ending.{Ending, Ends, Over, ending_from, ending_of, ending_line, ending_status, script_of, has_unused_bytes, InBounds, InLimits}
 use Rattle.dg_replay.specs.Around.{Around, around}
 use Rattle.dg_replay.specs.Promised.{Headline}
 use Rattle.dg_replay.specs.Done.{IsUnfailed, ReplaysAll, ReplayDone}
@@ -174,13 +174,13 @@ by_status FlashFault input at_end c text r w b v i uses n enough caused reads wr
 by_status NotAVolume input at_end c text r w b v i uses n enough caused reads writes stops none lacks ends = absurd (none caused enough)
 by_status NoImage input at_end c text r w b v i uses n enough caused reads writes stops none lacks ends = inr (inr (refl, lacks caused enough))
 by_status Done input at_end c text r w b v i uses n enough caused reads writes stops none lacks ends = inl refl
-by_status Usage input at_end c text r w b v i uses n enough caused reads writes stops none lacks ends = inl (caused ∙ ap status_of (ends enough))
-by_status BadInput input at_end c text r w b v i uses n enough caused reads writes stops none lacks ends = inl (caused ∙ ap status_of (ends enough))
-by_status Refused input at_end c text r w b v i uses n enough caused reads writes stops none lacks ends = inl (caused ∙ ap status_of (ends enough))
-by_status LinkFault input at_end c text r w b v i uses n enough caused reads writes stops none lacks ends = inl (caused ∙ ap status_of (ends enough))
-by_status TooLong input at_end c text r w b v i uses n enough caused reads writes stops none lacks ends = inl (caused ∙ ap status_of (ends enough))
-by_status TooMany input at_end c text r w b v i uses n enough caused reads writes stops none lacks ends = inl (caused ∙ ap status_of (ends enough))
-by_status NoBoard input at_end c text r w b v i uses n enough caused reads writes stops none lacks ends = inl (caused ∙ ap status_of (ends enough))
+by_status Usage input at_end c text r w b v i uses n enough caused reads writes stops none lacks ends = inl (caused ∙ ap ending_status (ends enough))
+by_status BadInput input at_end c text r w b v i uses n enough caused reads writes stops none lacks ends = inl (caused ∙ ap ending_status (ends enough))
+by_status Refused input at_end c text r w b v i uses n enough caused reads writes stops none lacks ends = inl (caused ∙ ap ending_status (ends enough))
+by_status LinkFault input at_end c text r w b v i uses n enough caused reads writes stops none lacks ends = inl (caused ∙ ap ending_status (ends enough))
+by_status TooLong input at_end c text r w b v i uses n enough caused reads writes stops none lacks ends = inl (caused ∙ ap ending_status (ends enough))
+by_status TooMany input at_end c text r w b v i uses n enough caused reads writes stops none lacks ends = inl (caused ∙ ap ending_status (ends enough))
+by_status NoBoard input at_end c text r w b v i uses n enough caused reads writes stops none lacks ends = inl (caused ∙ ap ending_status (ends enough))
 
 -- A script in its limits, whose bytes the source exposes, was replayed to its end, unless memory ran out or the outside failed.
 told_end : (bytes input : List ℕ) (la : Option (List ℕ)) (n : ℕ) → Takes (Some bytes) la input → InLimits n bytes → AtEnd la ⊎ IsSettled n input → ending_of n input ≡ Ends

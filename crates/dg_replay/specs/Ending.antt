@@ -83,12 +83,12 @@ pub record InLimits (boards : ℕ) (input : List ℕ) : Type 0 where
   pub boards_enough : lacking boards (script_of input).lines ≡ None
 
 -- the status of an ending
-abbrev pub status_of : Ending → Status
-status_of Ends = Done
-status_of (NoBoards motes boards) = NoBoard
-status_of TooManyEvents = TooMany
-status_of (FaultAt line fault) = BadInput
-status_of Over = TooLong
+abbrev pub ending_status : Ending → Status
+ending_status Ends = Done
+ending_status (NoBoards motes boards) = NoBoard
+ending_status TooManyEvents = TooMany
+ending_status (FaultAt line fault) = BadInput
+ending_status Over = TooLong
 
 -- the last line of an ending, empty if it has none
 abbrev pub ending_line : Ending → List ℕ

@@ -35,7 +35,7 @@ use Rattle.dg_replay.specs.Around.{Around}
 use Rattle.dg_replay.specs.Shown.{Saw, stores_in, events_played}
 use Rattle.dg_replay.specs.Stages.{BytesTaken, bytes_taken}
 use Rattle.dg_replay.specs.Ending.{Ending, Ends, NoBoards, TooManyEvents, FaultAt, Over, InBounds, whole_lines, ending_of}
-use Rattle.dg_replay.specs.Ending.{ending_line, status_of, script_of}
+use Rattle.dg_replay.specs.Ending.{ending_line, ending_status, script_of}
 
 abbrev pub item_played : Played → Item
 item_played p = p.item
@@ -195,7 +195,7 @@ IsCaused WriteFault ending r w b n i = w
 IsCaused FlashFault ending r w b n i = b
 IsCaused NotAVolume ending r w b n i = n
 IsCaused NoImage ending r w b n i = i
-IsCaused status ending r w b n i = status ≡ status_of ending
+IsCaused status ending r w b n i = status ≡ ending_status ending
 
 -- the status of a replay of a script in its limits whose boards do not stop: it is done, or memory ran out, or boards that are
 -- used as they are lack an image

@@ -1,7 +1,7 @@
 //! Plays the lines of a script over its world.
 ghost use Rattle.std.specs.Prelude.{◌≡◌, ◌<◌, ◌≤◌, ℕ, true, false, List, [], Err, map, length, OnOk, OnErr};
 ghost use Rattle.dg_volume.specs.Store.{fresh};
-ghost use Rattle.dg_script.specs.Fitting.{IsGolden};
+ghost use Rattle.dg_script.specs.Fitting.{IsGoldenImage};
 ghost use Rattle.dg_script.specs.Places.{first_place, place_after};
 ghost use Rattle.dg_replay.specs.Playing.{Stood, MayPlay, gone_on, Counted, PlayedAs, FormattedAs, MountedAs, mount_stop};
 ghost use Rattle.dg_replay.specs.Shown.{StaysSeen};
@@ -70,7 +70,7 @@ fn format_first<N: Nor>(
     used: u32,
     content: &Bytes,
 ) -> Result<(), FormatStopped>
-    requires fits { IsGolden name.now used content.now }
+    requires fits { IsGoldenImage name.now used content.now }
     requires counted { Counted motes (length boards.old) }
     ensures { FormattedAs result motes (fresh name.now content.now used) (map N.device boards.old) (map N.device boards.new) }
 {
@@ -87,7 +87,7 @@ fn format<N: Nor>(
     used: u32,
     content: &Bytes,
 ) -> Result<(), FormatStopped>
-    requires fits { IsGolden name.now used content.now }
+    requires fits { IsGoldenImage name.now used content.now }
     requires counted { Counted motes (length boards.old.items) }
     ensures { FormattedAs result motes (fresh name.now content.now used) (map N.device boards.old.items)
         (map N.device boards.new.items) }
@@ -105,7 +105,7 @@ fn play_golden<N: Nor, W: Watcher<N>>(
     boards: &mut Vec<N>,
     watcher: &mut W,
 ) -> Result<(), Stop>
-    requires fits { IsGolden name.now used content.now }
+    requires fits { IsGoldenImage name.now used content.now }
     requires counted { Counted player.old.place.motes (length boards.old.items) }
     requires unready { player.old.place.ready ≡ false }
     ensures played { (basis : Baseline) (behind : DoneSoFar) (text : List ℕ)

@@ -36,7 +36,7 @@ use Rattle.dg_mote.specs.Timely.{Timely}
 use Rattle.dg_mote.specs.Well.{StoreIsWell, IsWell, TurnIsWell, SendsHonest}
 use Rattle.dg_mote.specs.Speaking.{OrderFits, Speaks, TurnSpeaks, IsSaid}
 use Rattle.dg_rules.specs.World.{World, Running, Sent, site, store_at, wide_at}
-use Rattle.dg_rules.specs.Events.{Deed, Does, Refuses, Goes, IsTaken, does, mote_of, dt_of, image_version_of, reloaded}
+use Rattle.dg_rules.specs.Events.{EventEffect, Does, Refuses, Goes, IsTaken, does, mote_of, dt_of, image_version_of, reloaded}
 use Rattle.dg_script.specs.Ranges.{IsDeclared, IsVersion, EventInRange}
 use Rattle.dg_rules.specs.Premises.{RunsWell, SentIsWell, WorldAgrees, TrueEvent}
 use Rattle.dg_base.specs.declared.events.Event.{Event}
@@ -114,7 +114,7 @@ is_row s row d fits =
 
 -- ---- what an event does at mote m, dt milliseconds later
 
-pub record AgreesDeed (w : World) (m dt : ℕ) (d : Deed) : Type 0 where
+pub record AgreesEffect (w : World) (m dt : ℕ) (d : EventEffect) : Type 0 where
   pub table : IsTable d.table
   pub wider : Wider w.table d.table
   pub way : Through (IsGood d.table) d.trail
@@ -123,7 +123,7 @@ pub record AgreesDeed (w : World) (m dt : ℕ) (d : Deed) : Type 0 where
 
 abbrev pub AgreesDoes : World → (m dt : ℕ) → Does → Type 0
 AgreesDoes w m dt (Refuses why) = Unit {0}
-AgreesDoes w m dt (Goes d) = AgreesDeed w m dt d
+AgreesDoes w m dt (Goes d) = AgreesEffect w m dt d
 
 pub same_running : (a b : Option Running) → Some a ≡ Some b → a ≡ b
 same_running a b e = cc
@@ -185,9 +185,9 @@ module _ (laws : Laws) (w : World) (agrees : WorldAgrees w) where
   small_id m low = let few = agrees.few in omega (arith, low, few)
 
   -- over the same table
-  same_table : (m dt : ℕ) (d : Deed) → d.table ≡ w.table → Through (IsGood w.table) d.trail
+  same_table : (m dt : ℕ) (d : EventEffect) → d.table ≡ w.table → Through (IsGood w.table) d.trail
       → ((runs : Option Running) → d.runs ≡ Some runs → IfSome runs (RunsWell w.table m (wide_at w m) (w.moment + dt) (last d.trail)))
-      → IfSome d.sent (λ message. SentIsWell w.table (record { by = m; bytes = frame_of message })) → AgreesDeed w m dt d
+      → IfSome d.sent (λ message. SentIsWell w.table (record { by = m; bytes = frame_of message })) → AgreesEffect w m dt d
   same_table m dt d is way mote sent = record {
     table = subst IsTable (sym is) agrees.table;
     wider = subst (λ (t : List Row). Wider w.table t) (sym is) (wider_same w.table);

@@ -12,7 +12,7 @@ use Rattle.dg_frame.specs.Spelling.{frame_of}
 use Rattle.dg_frame.specs.declared.Message.{Message}
 use Rattle.dg_rules.specs.Sizes.{most_motes}
 use Rattle.dg_rules.specs.World.{World, Site, site, store_at, wide_at, counted, off_site}
-use Rattle.dg_rules.specs.Events.{Deed, Does, Refuses, Goes, trail_of, does, mote_of, dt_of}
+use Rattle.dg_rules.specs.Events.{EventEffect, Does, Refuses, Goes, trail_of, does, mote_of, dt_of}
 use Rattle.dg_rules.specs.Steps.{blows, and_sent, StepDoes, WorldStep, DeclareStep, declared_as}
 use Rattle.dg_script.specs.Ranges.{IsDeclared, EventInRange, StepInRange}
 use Rattle.dg_rules.specs.Premises.{LinkFits, SiteIsWell, SentIsWell, WorldAgrees, TrueEvent}
@@ -25,7 +25,7 @@ use Rattle.dg_rules.proofs.ThroughLemmas.{cut_holds, Through-map}
 use Rattle.dg_rules.proofs.SiteLemmas.{each_site, site_count}
 use Rattle.dg_rules.proofs.WiderLemmas.{wider_same, site_wider, sent_wider, all_map, all_pushed}
 use Rattle.dg_rules.proofs.EventLemmas.{EndsAs, ended_world, sent_unless, ends_as}
-use Rattle.dg_rules.proofs.AgreementLemmas.{Laws, IsGood, good_room, AgreesDeed, AgreesDoes, here, agrees_does}
+use Rattle.dg_rules.proofs.AgreementLemmas.{Laws, IsGood, good_room, AgreesEffect, AgreesDoes, here, agrees_does}
 
 -- ---- steps
 
@@ -53,13 +53,13 @@ sent_agrees u m (Some message) is a = record {
   sent = all_pushed (SentIsWell u.table) u.sent (record { by = m; bytes = frame_of message }) a.sent is;
 }
 
-unless_cut : (P : Message → Type 0) (b : Bool) (d : Deed) → IfSome d.sent P → IfSome (sent_unless b d) P
+unless_cut : (P : Message → Type 0) (b : Bool) (d : EventEffect) → IfSome d.sent P → IfSome (sent_unless b d) P
 unless_cut P true d p = tt
 unless_cut P false d p = p
 
 module _ (laws : Laws) (w : World) (x : Step) (v : World) (reports : List Report) (agrees : WorldAgrees w) (fits : StepInRange (length w.sites) x) where
-  deed_agrees : (d : Deed) → AgreesDeed w (mote_of x.event) (dt_of x.event) d → StepDoes (Goes d) w x v reports → WorldAgrees v
-  deed_agrees d g does_it =
+  effect_agrees : (d : EventEffect) → AgreesEffect w (mote_of x.event) (dt_of x.event) d → StepDoes (Goes d) w x v reports → WorldAgrees v
+  effect_agrees d g does_it =
       let m = mote_of x.event in
       let now = w.moment + dt_of x.event in
       let mid : World = record (counted w (dt_of x.event)) { table = d.table } in
@@ -95,7 +95,7 @@ module _ (laws : Laws) (w : World) (x : Step) (v : World) (reports : List Report
         sites = λ j low. site_wider w.table w.table (wider_same w.table) (laws.mote.later w.table) j (wide_at w j) w.moment (w.moment + dt_of x.event) (site w j) (omega arith) (agrees.sites j low);
         sent = agrees.sent;
       })
-  does_agrees (Goes d) g did = deed_agrees d g did
+  does_agrees (Goes d) g did = effect_agrees d g did
 
   pub step_agrees : TrueEvent w x.event → WorldStep w x v reports → WorldAgrees v
   unfolding WorldStep

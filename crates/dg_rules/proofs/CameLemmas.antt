@@ -10,7 +10,7 @@ use Rattle.dg_mote.specs.Ticks.{tick_of}
 use Rattle.dg_mote.specs.Hears.{heard_of}
 use Rattle.dg_mote.specs.Changes.{IfReceives, Brings, IsBegun, Continues}
 use Rattle.dg_rules.specs.World.{World, Site, Running, Sent, site, store_at, wide_at, counted}
-use Rattle.dg_rules.specs.Events.{Deed, Does, Refuses, Goes, does, mote_of, dt_of, image_version_of, reloaded}
+use Rattle.dg_rules.specs.Events.{EventEffect, Does, Refuses, Goes, does, mote_of, dt_of, image_version_of, reloaded}
 use Rattle.dg_rules.specs.Steps.{blows, StepDoes, WorldStep}
 use Rattle.dg_script.specs.Ranges.{EventInRange, StepInRange}
 use Rattle.dg_rules.specs.Premises.{RunsWell, WorldAgrees}
@@ -27,7 +27,7 @@ use Rattle.dg_rules.proofs.AgreementSteps.{step_within}
 use Rattle.dg_rules.proofs.StepLemmas.{sent_sites, step_narrow}
 use Rattle.dg_rules.proofs.ChangesLemmas.{ChangeLaws}
 use Rattle.dg_rules.proofs.MessageLemmas.{AllThere}
-use Rattle.dg_rules.proofs.DeedLemmas.{CameTo as SiteCame, CameBy, WorldCame}
+use Rattle.dg_rules.proofs.EffectLemmas.{CameTo as SiteCame, CameBy, WorldCame}
 
 -- ---- modes
 
@@ -100,7 +100,7 @@ started_then_more m j wide past (Some r) other image version page q had = starte
 -- ---- every event
 
 -- the past after an event, by whether its power was cut
-abbrev Behind : Past → World → Event → Deed → Bool → Past
+abbrev Behind : Past → World → Event → EventEffect → Bool → Past
 Behind past w e d b = started_then (started_unless b d.started) (mote_of e) (came_then (brought w e) (mote_of e) past)
 
 abbrev CameDoes : Past → World → Event → Does → Type 0

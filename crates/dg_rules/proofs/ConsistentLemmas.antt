@@ -25,7 +25,7 @@ use Rattle.dg_mote.specs.Hears.{heard_of}
 use Rattle.dg_mote.specs.Consistency.{AsksForKnown, StoreIsConsistent, TurnIsConsistent}
 use Rattle.dg_mote.proofs.ConsistentLemmas.{consistent_room}
 use Rattle.dg_rules.specs.World.{World, Running, Site, site, store_at, wide_at, off_site}
-use Rattle.dg_rules.specs.Events.{Deed, Does, Refuses, Goes, trail_of, does, mote_of, image_version_of, reloaded}
+use Rattle.dg_rules.specs.Events.{EventEffect, Does, Refuses, Goes, trail_of, does, mote_of, image_version_of, reloaded}
 use Rattle.dg_rules.specs.Steps.{WorldStep, DeclareStep, declared_as}
 use Rattle.dg_script.specs.Ranges.{IsDeclared, EventInRange, StepInRange}
 use Rattle.dg_rules.specs.Consistency.{SiteConsistent, WorldConsistent, StartsSoundDoes, StopsConsistent}
@@ -92,7 +92,7 @@ module _ (golden : Row) where
     -- ---- every event
 
     module _ (w : World) (here : WorldConsistent golden w) where
-      lands : (d : Deed) → Through P d.trail → ((runs : Option Running) → d.runs ≡ Some runs → AsksKnown runs) → Lands Fine d
+      lands : (d : EventEffect) → Through P d.trail → ((runs : Option Running) → d.runs ≡ Some runs → AsksKnown runs) → Lands Fine d
       lands d way asks = record {
         whole = λ runs e. record { store = Through-last P d.trail way; asks = asks runs e };
         cut = Through-map P (λ s. SiteConsistent golden (off_site s)) (λ s p. record { store = p; asks = tt }) d.trail way;

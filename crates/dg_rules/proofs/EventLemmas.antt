@@ -25,7 +25,7 @@ use Rattle.dg_mote.specs.Rules.{MayRestart}
 use Rattle.dg_mote.specs.declared.mote.Did.{Did}
 use Rattle.dg_mote.specs.declared.mote.Did.TheVariants as did
 use Rattle.dg_rules.specs.World.{World, Site, Running, Sent, site, store_at, wide_at, with_site, counted, off_site, linked, frame_at, last_by, last_frame}
-use Rattle.dg_rules.specs.Events.{Deed, Does, Refuses, Goes, does, mote_of, dt_of, image_version_of, of_effect, tick_does, hear_by, heard_sent, heard_last, unless_off, acts, inject_unless, inject_row, order_unless, knows, injects, orders}
+use Rattle.dg_rules.specs.Events.{EventEffect, Does, Refuses, Goes, does, mote_of, dt_of, image_version_of, of_effect, tick_does, hear_by, heard_sent, heard_last, unless_off, acts, inject_unless, inject_row, order_unless, knows, injects, orders}
 use Rattle.dg_rules.specs.Steps.{Ended, before_cut, and_sent}
 use Rattle.dg_base.specs.declared.events.ImageVersion.{ImageVersion}
 use Rattle.dg_base.specs.declared.events.Event.{Event}
@@ -52,13 +52,13 @@ abbrev pub starts : World → Boot → (id : ℕ) (wide : Bool) (now word : ℕ)
 starts w b id wide now word = Goes (record { trail = b.trail; table = w.table; started = b.runs; sent = None; runs = running_by b.runs id wide now word })
 
 -- the mote that runs this image version continues
-abbrev pub going_on : World → Trail Store → Option Message → ImageVersion → MoteState → Deed
+abbrev pub going_on : World → Trail Store → Option Message → ImageVersion → MoteState → EventEffect
 going_on w t sent image_version n = record { trail = t; table = w.table; started = None; sent = sent; runs = Some (Some (record { image_version = image_version; mote = n })) }
 
 abbrev pub goes_on : World → Trail Store → Option Message → ImageVersion → MoteState → Does
 goes_on w t sent image_version n = Goes (going_on w t sent image_version n)
 
-abbrev pub hearing_of : World → ℕ → (now word : ℕ) → List ℕ → Running → Deed
+abbrev pub hearing_of : World → ℕ → (now word : ℕ) → List ℕ → Running → EventEffect
 hearing_of w m now word bytes r = let step = heard_of r.mote (store_at w m) now word bytes in going_on w step.trail None r.image_version step.mote
 
 abbrev pub hears : World → ℕ → (now word : ℕ) → List ℕ → Running → Does
@@ -243,20 +243,20 @@ all_sent (s ∷ ss) = (tt, all_sent ss)
 -- ---- the end of a step
 
 -- the frame that is sent unless the power is cut
-abbrev pub sent_unless : Bool → Deed → Option Message
+abbrev pub sent_unless : Bool → EventEffect → Option Message
 sent_unless true d = None
 sent_unless false d = d.sent
 
 -- the world with another site at the mote of the step
-abbrev pub ended_world : World → Step → Deed → Site → World
+abbrev pub ended_world : World → Step → EventEffect → Site → World
 ended_world w x d y = with_site (record (counted w (dt_of x.event)) { table = d.table }) (mote_of x.event) y
 
 -- the mote of an event after it: what holds of it there
-abbrev pub EndsAs : (Bool → Site → Type 0) → Bool → World → Step → Deed → World → Type 0
+abbrev pub EndsAs : (Bool → Site → Type 0) → Bool → World → Step → EventEffect → World → Type 0
 EndsAs P b w x d v = (y : Site) × (v ≡ and_sent (ended_world w x d y) (mote_of x.event) (sent_unless b d)) × P b y
 
 pub ends_as : (P : Bool → Site → Type 0) → ((s : Store) (room : ℕ) → P true (off_site s) → P true (off_site (record s { room = room })))
-    → (w : World) (x : Step) (d : Deed) (v : World) (reports : List Report)
+    → (w : World) (x : Step) (d : EventEffect) (v : World) (reports : List Report)
     → ((runs : Option Running) → d.runs ≡ Some runs → P false (record { store = last d.trail; runs = runs }))
     → Through (λ s. P true (off_site s)) d.trail
     → (b : Bool) → Ended b w x d v reports → EndsAs P b w x d v

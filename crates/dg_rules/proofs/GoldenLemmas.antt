@@ -17,7 +17,7 @@ use Rattle.dg_mote.specs.Model.{begun_mote}
 use Rattle.dg_mote.specs.Ticks.{tick_of}
 use Rattle.dg_mote.specs.Hears.{heard_of}
 use Rattle.dg_rules.specs.World.{World, Running, Site, site, store_at, wide_at, off_site}
-use Rattle.dg_rules.specs.Events.{Deed, does, image_version_of, reloaded}
+use Rattle.dg_rules.specs.Events.{EventEffect, does, image_version_of, reloaded}
 use Rattle.dg_rules.specs.Steps.{WorldStep, EndsRun}
 use Rattle.dg_script.specs.Ranges.{EventInRange, StepInRange}
 use Rattle.dg_rules.specs.Golden.{KeepsGoldenRow, AsksForOthers, SiteKeepsGolden, WorldKeepsGolden, FindsImage}
@@ -61,7 +61,7 @@ module _ (laws : StepLaws) (w : World) (golden : WorldKeepsGolden w) where
       (λ t way. record { row = g.row; is_row = g.is_row; whole = ap (λ (xs : List (Option Held)). slice_index_or xs 0 None) way.kept ∙ g.whole })
       (boot k s).trail (laws.ends k s).way
 
-  lands : (d : Deed) → Through KeepsGoldenRow d.trail → ((runs : Option Running) → d.runs ≡ Some runs → AsksOthers runs) → Lands Golden d
+  lands : (d : EventEffect) → Through KeepsGoldenRow d.trail → ((runs : Option Running) → d.runs ≡ Some runs → AsksOthers runs) → Lands Golden d
   lands d way asks = record {
     whole = λ runs e. record { kept = Through-last KeepsGoldenRow d.trail way; asks = asks runs e };
     cut = Through-map KeepsGoldenRow (λ s. SiteKeepsGolden (off_site s)) (λ s g. record { kept = g; asks = tt }) d.trail way;

@@ -17,7 +17,7 @@ pub mod RunsLemmas
 pub mod LegalLemmas
 pub mod MessageLemmas
 pub mod HeardLemmas
-pub mod DeedLemmas
+pub mod EffectLemmas
 pub mod CameLemmas
 pub mod KeepLemmas
 pub mod PlayLemmas

@@ -20,7 +20,7 @@ use Rattle.dg_rules.specs.Runs.{Played, ItemStep, Plays, EachAfter}
 use Rattle.dg_script.specs.declared.report.Report.{Report}
 use Rattle.dg_rules.proofs.BootLemmas.{IsSettled}
 use Rattle.dg_rules.proofs.ChangesLemmas.{StepLaws}
-use Rattle.dg_rules.proofs.DeedLemmas.{CameTo, WorldSettled, WorldCame, step_legal, step_settled}
+use Rattle.dg_rules.proofs.EffectLemmas.{CameTo, WorldSettled, WorldCame, step_legal, step_settled}
 use Rattle.dg_rules.proofs.MessageLemmas.{AllThere}
 use Rattle.dg_rules.proofs.CameLemmas.{step_came}
 use Rattle.dg_rules.proofs.WidthLemmas.{declare_narrow}

@@ -5,7 +5,7 @@ use Rattle.dg_nor.specs.Through.{Through}
 use Rattle.dg_volume.specs.Store.{Store}
 use Rattle.dg_frame.specs.declared.Message.{Message}
 use Rattle.dg_rules.specs.World.{World, Site, Running, site, counted, off_site}
-use Rattle.dg_rules.specs.Events.{Deed, Does, Refuses, Goes, does, mote_of, dt_of}
+use Rattle.dg_rules.specs.Events.{EventEffect, Does, Refuses, Goes, does, mote_of, dt_of}
 use Rattle.dg_rules.specs.Steps.{blows, and_sent, Ended, StepDoes, WorldStep}
 use Rattle.dg_script.specs.Ranges.{StepInRange}
 use Rattle.dg_base.specs.declared.events.Step.{Step}
@@ -15,7 +15,7 @@ use Rattle.dg_rules.proofs.EventLemmas.{EndsAs, ended_world, sent_unless, ends_a
 use Rattle.dg_rules.proofs.AgreementSteps.{step_within}
 
 -- what holds of the mote of an event, by whether its power was cut
-pub record Lands (P : Bool → Site → Type 0) (d : Deed) : Type 0 where
+pub record Lands (P : Bool → Site → Type 0) (d : EventEffect) : Type 0 where
   pub whole : (runs : Option Running) → d.runs ≡ Some runs → P false (record { store = last d.trail; runs = runs })
   pub cut : Through (λ s. P true (off_site s)) d.trail
 

@@ -8,7 +8,7 @@ use Rattle.dg_mote.specs.Ticks.{tick_of}
 use Rattle.dg_mote.specs.Hears.{heard_of}
 use Rattle.dg_mote.specs.Timely.{Timely}
 use Rattle.dg_rules.specs.World.{World, Site, Running, site, store_at, wide_at}
-use Rattle.dg_rules.specs.Events.{Deed, does, dt_of, image_version_of, reloaded}
+use Rattle.dg_rules.specs.Events.{EventEffect, does, dt_of, image_version_of, reloaded}
 use Rattle.dg_rules.specs.Steps.{WorldStep}
 use Rattle.dg_script.specs.Ranges.{EventInRange, StepInRange}
 use Rattle.dg_rules.specs.Premises.{WorldTimely}
@@ -42,7 +42,7 @@ module _ (restarts : RestartLaws) (laws : TimeLaws) (w : World) (timely : WorldT
   on_timely : (m dt : ℕ) (r : Running) → m < length w.sites → (site w m).runs ≡ Some r → Timely r.mote (w.moment + dt)
   on_timely m dt r low is = running_at (λ q. Timely q.mote (w.moment + dt)) (site w m).runs r is (later_timely dt m low)
 
-  lands : (dt : ℕ) (d : Deed) → ((runs : Option Running) → d.runs ≡ Some runs → IsTimelyAt (w.moment + dt) runs) → Lands (TimelySite (w.moment + dt)) d
+  lands : (dt : ℕ) (d : EventEffect) → ((runs : Option Running) → d.runs ≡ Some runs → IsTimelyAt (w.moment + dt) runs) → Lands (TimelySite (w.moment + dt)) d
   lands dt d whole = record { whole = whole; cut = Through-each (λ s. Unit {0}) (λ s. tt) d.trail }
 
   one_timely : (dt : ℕ) (r : Running) (runs : Option Running) → Timely r.mote (w.moment + dt) → ◌≡◌ {A = Option (Option Running)} (Some (Some r)) (Some runs) → IsTimelyAt (w.moment + dt) runs

@@ -26,7 +26,7 @@ use Rattle.dg_script.specs.declared.report.Cause.TheVariants as cause
 
 -- What an event that is not refused does, unless its power is cut: the stores of its trail, the table after it, what was started
 -- and sent, and the mote after it. The mote is None if there was no image to start.
-pub record Deed : Type 0 where
+pub record EventEffect : Type 0 where
   pub trail : Trail Store
   pub table : List Row
   pub started : Option Runs
@@ -35,12 +35,12 @@ pub record Deed : Type 0 where
 
 pub data Does : Type 0 where
   Refuses : (why : Cause) → Does
-  Goes : (deed : Deed) → Does
+  Goes : (effect : EventEffect) → Does
 
 -- the rules take an event: they do not refuse it
 abbrev pub IsTaken : Does → Type 0
 IsTaken (Refuses why) = ⊥
-IsTaken (Goes deed) = Unit {0}
+IsTaken (Goes effect) = Unit {0}
 
 -- the stores that the chip of its mote goes through
 abbrev pub trail_of : Does → Store → Trail Store

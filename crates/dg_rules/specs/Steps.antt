@@ -8,7 +8,7 @@ use Rattle.dg_frame.specs.declared.Message.{Message}
 use Rattle.dg_frame.specs.Spelling.{frame_of}
 use Rattle.dg_rules.specs.World.{World, Running, store_at, with_site, counted}
 use Rattle.dg_rules.specs.Changes.{changes, start_line, sent_line, declared_lines}
-use Rattle.dg_rules.specs.Events.{Deed, Does, Refuses, Goes, does, mote_of, dt_of}
+use Rattle.dg_rules.specs.Events.{EventEffect, Does, Refuses, Goes, does, mote_of, dt_of}
 use Rattle.dg_base.specs.declared.events.Cut.{Cut}
 use Rattle.dg_base.specs.declared.events.Step.{Step}
 use Rattle.dg_script.specs.declared.report.Report.{Report}
@@ -30,30 +30,30 @@ and_sent w m None = w
 and_sent w m (Some message) = record w { sent = w.sent ++ record { by = m; bytes = frame_of message } ∷ [] }
 
 -- the world after an event at mote m that was not stopped
-abbrev pub done_world : World → (m dt : ℕ) → Deed → Option Running → World
+abbrev pub done_world : World → (m dt : ℕ) → EventEffect → Option Running → World
 done_world w m dt d runs =
     and_sent (with_site (record (counted w dt) { table = d.table }) m (record { store = last d.trail; runs = runs })) m d.sent
 
 -- the world after one whose cut left store s: the mote is off, and nothing was sent
-abbrev pub cut_world : World → (m dt : ℕ) → Deed → Store → World
+abbrev pub cut_world : World → (m dt : ℕ) → EventEffect → Store → World
 cut_world w m dt d s = with_site (record (counted w dt) { table = d.table }) m (record { store = s; runs = None })
 
-abbrev pub done_reports : World → ℕ → Deed → List Report
+abbrev pub done_reports : World → ℕ → EventEffect → List Report
 done_reports w m d = changes m (store_at w m) (last d.trail) ++ start_line m d.started ++ sent_line m d.sent
 
 -- the event was not stopped: the outcome is a function of the world and the event
-abbrev pub IsDone : World → (m dt : ℕ) → Deed → World → List Report → Type 0
+abbrev pub IsDone : World → (m dt : ℕ) → EventEffect → World → List Report → Type 0
 IsDone w m dt d v reports =
     (runs : Option Running) × (d.runs ≡ Some runs) × (v ≡ done_world w m dt d runs) × (reports ≡ done_reports w m d)
 
 -- the cut fired: the chip stands for one of the stores that the trail leaves there
-pub record IsCut (w : World) (m dt : ℕ) (d : Deed) (k : ℕ) (v : World) (reports : List Report) : Type 0 where
+pub record IsCut (w : World) (m dt : ℕ) (d : EventEffect) (k : ℕ) (v : World) (reports : List Report) : Type 0 where
   pub store : Store
   pub allowed : Leaves IsNear d.trail k store
   pub world : v ≡ cut_world w m dt d store
   pub report : reports ≡ changes m (store_at w m) store ++ Off m ∷ []
 
-abbrev pub Ended : Bool → World → Step → Deed → World → List Report → Type 0
+abbrev pub Ended : Bool → World → Step → EventEffect → World → List Report → Type 0
 Ended true w x d v reports = IsCut w (mote_of x.event) (dt_of x.event) d (before_cut x.cut) v reports
 Ended false w x d v reports = IsDone w (mote_of x.event) (dt_of x.event) d v reports
 
@@ -67,11 +67,11 @@ WorldStep w x v reports = StepDoes (does w x.event) w x v reports
 
 -- A start that found no image ends the run: the mote is off, and its store is the last of the trail.
 pub record EndsRun (w : World) (x : Step) (v : World) : Type 0 where
-  pub deed : Deed
-  pub goes : does w x.event ≡ Goes deed
-  pub whole : blows x.cut deed.trail ≡ false
-  pub none : deed.runs ≡ None
-  pub world : v ≡ cut_world w (mote_of x.event) (dt_of x.event) deed (last deed.trail)
+  pub effect : EventEffect
+  pub goes : does w x.event ≡ Goes effect
+  pub whole : blows x.cut effect.trail ≡ false
+  pub none : effect.runs ≡ None
+  pub world : v ≡ cut_world w (mote_of x.event) (dt_of x.event) effect (last effect.trail)
 
 -- ---- declarations
 

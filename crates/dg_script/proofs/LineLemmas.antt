@@ -12,7 +12,7 @@ use Rattle.dg_script.specs.Contents.{spelled_name, sized_content, spelled_mask}
 use Rattle.dg_script.specs.Verbs.{is_played, stands, follows, standing, verb_of}
 use Rattle.dg_script.specs.Places.{is_linked, is_narrow}
 use Rattle.dg_script.specs.Fields.{number_in, mote_count_in, mote_in, other_in, image_in, any_image_in, version_in, counted_in, used_in, sweeps_in}
-use Rattle.dg_script.specs.Lines.{motes_of, golden_of, none_of, boards_of, link_of, narrow_of, image_of, tick_of, hear_of, last_line_of, reset_of, inject_of, order_of, frame_of, cut_with, cut_of, round_of, sweeps_of, fields_of, played_verb}
+use Rattle.dg_script.specs.Lines.{motes_of, golden_of, none_of, boards_of, link_of, narrow_of, image_of, tick_line_of, hear_of, last_line_of, reset_of, inject_of, order_of, frame_line_of, cut_with, cut_of, round_of, sweeps_of, fields_of, played_verb}
 use Rattle.dg_script.specs.Ranges.{AreTwo, IsVersion}
 use Rattle.dg_script.specs.Fitting.{StandsBy, StandsAt, FitsLine, IsTimed, IsPlayed}
 use Rattle.dg_script.specs.Reading.{Reads}
@@ -130,8 +130,8 @@ image_known place fields line h =
       bytes = size.bytes;
     }) (λ p. p)
 
-tick_known : (place : Place) (fields : List (List ℕ)) (line : Line) → tick_of place fields ≡ Ok line → Known verb.Tick place line
-unfolding tick_of
+tick_known : (place : Place) (fields : List (List ℕ)) (line : Line) → tick_line_of place fields ≡ Ok line → Known verb.Tick place line
+unfolding tick_line_of
 tick_known place fields line h =
     let t = bound (three_of fields) _ line h in
     let u = bound (standing verb.Tick place) _ line t.2 in
@@ -205,8 +205,8 @@ order_known place fields line h =
       timed t.0.4 t.0.5 dt.0 word.0 dt.1 word.1,
     ) (λ p. p)
 
-frame_known : (place : Place) (fields : List (List ℕ)) (line : Line) → frame_of place fields ≡ Ok line → Known verb.Frame place line
-unfolding frame_of
+frame_known : (place : Place) (fields : List (List ℕ)) (line : Line) → frame_line_of place fields ≡ Ok line → Known verb.Frame place line
+unfolding frame_line_of
 frame_known place fields line h =
     let t = bound (four_of fields) _ line h in
     let u = bound (standing verb.Frame place) _ line t.2 in

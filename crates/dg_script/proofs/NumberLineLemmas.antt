@@ -12,7 +12,7 @@ use Rattle.std.specs.Str.Parse.{digits_value}
 use Rattle.dg_base.specs.Numbers.{number_of, is_numeral}
 use Rattle.dg_script.specs.Words.{words_of}
 use Rattle.dg_script.specs.Fields.{number_in, mote_in, other_in}
-use Rattle.dg_script.specs.Lines.{tick_of, last_line_of}
+use Rattle.dg_script.specs.Lines.{tick_line_of, last_line_of}
 use Rattle.dg_script.specs.NumberLines.{tick_with, last_with}
 use Rattle.dg_script.specs.declared.place.Place.{Place}
 use Rattle.dg_script.proofs.WordLemmas.{no_word, words_after_space, first_word}
@@ -133,8 +133,8 @@ no_numbers text h = ap (map number_of) (no_word text h)
 -- ---- the lines of numbers
 
 pub tick_by : (place : Place) (ws : List (List ℕ)) (a b c : ℕ) → map number_of ws ≡ Some a ∷ Some b ∷ Some c ∷ []
-    → tick_of place ws ≡ tick_with place a b c
-unfolding tick_of mote_in number_in
+    → tick_line_of place ws ≡ tick_with place a b c
+unfolding tick_line_of mote_in number_in
 tick_by place [] a b c h = cc
 tick_by place (x ∷ []) a b c h = cc
 tick_by place (x ∷ y ∷ []) a b c h = cc

@@ -11,7 +11,7 @@ use Rattle.dg_script.specs.Words.{split_of, words_of, behind_spaces, spaced}
 use Rattle.dg_script.specs.Verbs.{word_of, is_played}
 use Rattle.dg_script.specs.Places.{is_linked, is_narrow}
 use Rattle.dg_script.specs.Fields.{ranged_in}
-use Rattle.dg_script.specs.Lines.{motes_of, golden_of, boards_of, link_of, narrow_of, image_of, tick_of, hear_of, last_line_of, reset_of, inject_of, order_of, frame_of, cut_of, round_of, sweeps_of, line_of}
+use Rattle.dg_script.specs.Lines.{motes_of, golden_of, boards_of, link_of, narrow_of, image_of, tick_line_of, hear_of, last_line_of, reset_of, inject_of, order_of, frame_line_of, cut_of, round_of, sweeps_of, line_of}
 use Rattle.dg_script.specs.Ranges.{AreTwo, IsVersion}
 use Rattle.dg_script.specs.Fitting.{StandsBy, StandsAt, FitsLine, FitsEvent, IsPlayed, verb_of_event}
 use Rattle.dg_script.specs.Spelling.{content_text, event_words, line_text, IsShort}
@@ -103,7 +103,7 @@ abbrev EventReads : Place → Event → Type 0
 EventReads place event = StandsBy (verb_of_event event) place → FitsEvent most_motes event → FitsEvent place.motes event → is_played (verb_of_event event) ≡ true → line_of place (spaced (event_words event)) ≡ Ok (EventLine event)
 
 tick_read : (place : Place) (m d w : ℕ) → EventReads place (Tick m d w)
-unfolding tick_of
+unfolding tick_line_of
 tick_read place m d w stands few fits plays =
     let a = number m (omega (arith, few.0)) in
     let b = number d fits.1.dt in
@@ -172,7 +172,7 @@ order_read place m k i v d w stands few fits plays =
     (rw (stood verb.Order place stands, mote place.motes m a fits.0.0, some_version k n fits.0.3, any_image i v x fits.0.1, some_version v y fits.0.1.version, b.read, c.read) refl)
 
 frame_read : (place : Place) (m d w : ℕ) (bytes : List ℕ) → EventReads place (Frame m d w bytes)
-unfolding frame_of
+unfolding frame_line_of
 frame_read place m d w bytes stands few fits plays =
     let a = number m (omega (arith, few.0.0)) in
     let b = number d fits.1.dt in

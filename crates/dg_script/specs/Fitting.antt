@@ -20,7 +20,7 @@ use Rattle.dg_script.specs.declared.verbs.Verb.{Verb}
 use Rattle.dg_script.specs.declared.verbs.Verb.TheVariants as verb
 
 -- a golden image has a name, and 1 to 70,656 bytes
-pub record IsGolden (called : List ℕ) (spent : ℕ) (content : List ℕ) : Type 0 where
+pub record IsGoldenImage (called : List ℕ) (spent : ℕ) (content : List ℕ) : Type 0 where
   pub name : IsTrue (spells_name called)
   pub used : spent ≤ most_used
   pub some : 1 ≤ length content
@@ -60,7 +60,7 @@ declared_row image version name content = row_of image version name content
 abbrev pub FitsLine : ℕ → Line → Type 0
 FitsLine motes Nothing = Unit {0}
 FitsLine motes (Motes n) = (1 ≤ n) × (n ≤ most_motes)
-FitsLine motes (Golden name used content) = IsGolden name used content
+FitsLine motes (Golden name used content) = IsGoldenImage name used content
 FitsLine motes Boards = Unit {0}
 FitsLine motes (Link a b) = AreTwo motes a b
 FitsLine motes (Narrow mote) = mote < motes

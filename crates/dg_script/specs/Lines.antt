@@ -68,8 +68,8 @@ image_of place fields =
 -- ---- events
 
 -- `tick M DT DRAW`
-unfoldable pub tick_of : Place → List (List ℕ) → Result Line LineFault
-tick_of place fields =
+unfoldable pub tick_line_of : Place → List (List ℕ) → Result Line LineFault
+tick_line_of place fields =
     three_of fields >>= λ t. standing verb.Tick place >>= λ u. mote_in place.motes t.0 >>= λ mote. number_in t.1
     >>= λ dt. number_in t.2 >>= λ word.
     Ok (EventLine (event.Tick mote dt word))
@@ -111,8 +111,8 @@ order_of place fields =
     >>= λ word. Ok (EventLine (event.Order mote number image version dt word))
 
 -- `frame M DT DRAW CONTENT`
-unfoldable pub frame_of : Place → List (List ℕ) → Result Line LineFault
-frame_of place fields =
+unfoldable pub frame_line_of : Place → List (List ℕ) → Result Line LineFault
+frame_line_of place fields =
     four_of fields >>= λ t. standing verb.Frame place >>= λ u. mote_in place.motes t.0 >>= λ mote. number_in t.1
     >>= λ dt. number_in t.2 >>= λ word.
     sized_content 0 longest_frame t.3 >>= λ bytes. Ok (EventLine (event.Frame mote dt word bytes))
@@ -160,13 +160,13 @@ fields_of verb.Boards place fields = boards_of place fields
 fields_of verb.Link place fields = link_of place fields
 fields_of verb.Narrow place fields = narrow_of place fields
 fields_of verb.Image place fields = image_of place fields
-fields_of verb.Tick place fields = tick_of place fields
+fields_of verb.Tick place fields = tick_line_of place fields
 fields_of verb.Hear place fields = hear_of place fields
 fields_of verb.Last place fields = last_line_of place fields
 fields_of verb.Reset place fields = reset_of place fields
 fields_of verb.Inject place fields = inject_of place fields
 fields_of verb.Order place fields = order_of place fields
-fields_of verb.Frame place fields = frame_of place fields
+fields_of verb.Frame place fields = frame_line_of place fields
 fields_of verb.Cut place fields = cut_of place fields
 fields_of verb.Round place fields = round_of place fields
 fields_of verb.Sweeps place fields = sweeps_of place fields

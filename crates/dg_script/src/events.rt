@@ -3,7 +3,7 @@
 ghost use Rattle.std.specs.Prelude.{◌≡◌};
 ghost use Rattle.dg_script.specs.NumberLines.{tick_with, last_with};
 ghost use Rattle.dg_script.specs.Words.{words_of};
-ghost use Rattle.dg_script.specs.Lines.{tick_of, hear_of, last_line_of, reset_of, inject_of, order_of, frame_of};
+ghost use Rattle.dg_script.specs.Lines.{tick_line_of, hear_of, last_line_of, reset_of, inject_of, order_of, frame_line_of};
 ghost use Rattle.dg_script.specs.Reading.{Reads};
 
 use crate::content::sized_content;
@@ -22,7 +22,7 @@ use std::alloc::Global;
 /// `tick M DT DRAW`
 #[inline(always)]
 pub fn tick_line(fields: &[u8], place: &Place) -> Result<Line, LineFault>
-    ensures { result ≡ tick_of place.now (words_of fields.now) }
+    ensures { result ≡ tick_line_of place.now (words_of fields.now) }
 {
     match three_numbers(fields) {
         Some((at, dt, word)) => tick_with(at, dt, word, place),
@@ -41,10 +41,10 @@ fn tick_with(at: u32, dt: u32, word: u32, place: &Place) -> Result<Line, LineFau
 }
 
 // The line of these words, or their first fault.
-#[tactic(auto, unfolding(crate::specs::Lines::tick_of))]
+#[tactic(auto, unfolding(crate::specs::Lines::tick_line_of))]
 #[inline(never)]
 fn tick_words(fields: &[u8], place: &Place) -> Result<Line, LineFault>
-    ensures { result ≡ tick_of place.now (words_of fields.now) }
+    ensures { result ≡ tick_line_of place.now (words_of fields.now) }
 {
     let (at, dt, word) = three_words(fields)?;
     Verb::Tick.stand(place)?;
@@ -168,9 +168,9 @@ pub fn order_line(fields: &[u8], place: &Place) -> Result<Line, LineFault>
 }
 
 /// `frame M DT DRAW CONTENT`
-#[tactic(auto, unfolding(crate::specs::Lines::frame_of))]
+#[tactic(auto, unfolding(crate::specs::Lines::frame_line_of))]
 pub fn frame_line(alloc: Global, fields: &[u8], place: &Place) -> Result<Line, LineFault>
-    ensures { Reads result (frame_of place.now (words_of fields.now)) }
+    ensures { Reads result (frame_line_of place.now (words_of fields.now)) }
 {
     let (at, dt, word, content) = four_words(fields)?;
     Verb::Frame.stand(place)?;

@@ -9,7 +9,7 @@ use Rattle.dg_send.specs.declared.Serve.TheVariants.{Send, Done}
 use Rattle.dg_send.specs.Times.{packet_gap}
 use Rattle.dg_send.specs.Owed.{Owed}
 use Rattle.dg_send.specs.Steps.{serve_by, serve_of, next_by, after_next}
-use Rattle.dg_send.specs.Histories.{Call, Asks, Next, owed, all_asked, sent_by, sent, names, times_asked, sends, times_sent}
+use Rattle.dg_send.specs.Histories.{ServeCall, Asks, Next, owed, all_asked, sent_by, sent, names, times_asked, packets_sent, times_sent}
 
 -- ---- what was sent and what is left make what was asked for
 
@@ -60,7 +60,7 @@ union-next None early o moment before l = refl
 union-next (Some p) true o moment before l = refl
 union-next (Some p) false o moment before l = union-moved before o.left p l.member
 
-pub sent_and_left : (start : ℕ) (first : Numbers) (calls : List Call) → set.union (sent start first calls) (owed start first calls).left ≡ all_asked first calls
+pub sent_and_left : (start : ℕ) (first : Numbers) (calls : List ServeCall) → set.union (sent start first calls) (owed start first calls).left ≡ all_asked first calls
 sent_and_left start first [] = union-none first
 sent_and_left start first (Asks want ∷ earlier) =
     union-assoc (sent start first earlier) (owed start first earlier).left want ∙ ap (λ s. set.union s want) (sent_and_left start first earlier)
@@ -74,7 +74,7 @@ done_empty (Some p) true left l e = cc
 done_empty (Some p) false left l e = cc
 
 -- if nothing is left to do, what was sent is the union of the requests
-pub done_sent_all : (start : ℕ) (first : Numbers) (earlier : List Call) (moment : ℕ) → serve_of (owed start first earlier) moment ≡ Done → sent start first earlier ≡ all_asked first earlier
+pub done_sent_all : (start : ℕ) (first : Numbers) (earlier : List ServeCall) (moment : ℕ) → serve_of (owed start first earlier) moment ≡ Done → sent start first earlier ≡ all_asked first earlier
 done_sent_all start first earlier moment e =
     let o = owed start first earlier in
     sym (ap (set.union (sent start first earlier)) (done_empty (least o.left) (nat_lt moment o.due) o.left (least_cases o.left) e) ∙ union-none_right (sent start first earlier))
@@ -87,7 +87,7 @@ sends_least None early left p l e = cc
 sends_least (Some q) true left p l e = cc
 sends_least (Some q) false left p l e = let same : q ≡ p = cc in subst (IsLeast left) same l
 
-pub least_first : (start : ℕ) (first : Numbers) (earlier : List Call) (moment packet : ℕ) → serve_of (owed start first earlier) moment ≡ Send packet → IsLeast (owed start first earlier).left packet
+pub least_first : (start : ℕ) (first : Numbers) (earlier : List ServeCall) (moment packet : ℕ) → serve_of (owed start first earlier) moment ≡ Send packet → IsLeast (owed start first earlier).left packet
 least_first start first earlier moment packet e =
     let o = owed start first earlier in
     sends_least (least o.left) (nat_lt moment o.due) o.left packet (least_cases o.left) e
@@ -107,14 +107,14 @@ count_moved p q left in_left =
     ]
 
 names-next : (first : Option ℕ) (early : Bool) (o : Owed) (moment p : ℕ) → MatchOption first (o.left ≡ set.empty) (IsLeast o.left)
-    → sends (serve_by first early) p + names (next_by first early o moment).left p ≤ names o.left p
+    → packets_sent (serve_by first early) p + names (next_by first early o moment).left p ≤ names o.left p
 names-next None early o moment p l = omega arith
 names-next (Some q) true o moment p l = omega arith
 names-next (Some q) false o moment p l =
     rw (contains-without o.left q p) (count_moved p q (set.contains o.left) l.member)
 
 -- a packet was sent at most as often as it was requested, and once less if it is still left
-pub sent_or_left : (start : ℕ) (first : Numbers) (calls : List Call) (p : ℕ) → times_sent start first calls p + names (owed start first calls).left p ≤ times_asked first calls p
+pub sent_or_left : (start : ℕ) (first : Numbers) (calls : List ServeCall) (p : ℕ) → times_sent start first calls p + names (owed start first calls).left p ≤ times_asked first calls p
 sent_or_left start first [] p = omega arith
 sent_or_left start first (Asks want ∷ earlier) p =
     omega (arith, names-union (owed start first earlier).left want p, sent_or_left start first earlier p)
@@ -122,7 +122,7 @@ sent_or_left start first (Next moment ∷ earlier) p =
     let o = owed start first earlier in
     omega (arith, names-next (least o.left) (nat_lt moment o.due) o moment p (least_cases o.left), sent_or_left start first earlier p)
 
-pub each_once : (start : ℕ) (first : Numbers) (calls : List Call) (p : ℕ) → times_sent start first calls p ≤ times_asked first calls p
+pub each_once : (start : ℕ) (first : Numbers) (calls : List ServeCall) (p : ℕ) → times_sent start first calls p ≤ times_asked first calls p
 each_once start first calls p = omega (arith, sent_or_left start first calls p)
 
 -- ---- the gap

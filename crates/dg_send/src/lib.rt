@@ -11,7 +11,7 @@ ghost use Rattle.dg_object.specs.Sizes.{packets};
 ghost use Rattle.dg_send.specs.Times.{packet_gap};
 ghost use Rattle.dg_send.specs.Owed.{Owed};
 ghost use Rattle.dg_send.specs.Steps.{owed_begun, after_merge, serve_of, after_next};
-ghost use Rattle.dg_send.specs.Histories.{Call, owed, all_asked, sent, times_asked, times_sent};
+ghost use Rattle.dg_send.specs.Histories.{ServeCall, owed, all_asked, sent, times_asked, times_sent};
 
 use dg_bits::PageBits;
 use dg_object::PACKETS;
@@ -112,15 +112,15 @@ pub fn the_gap_is_this()
 /// packet is sent first. A packet is sent at most as often as it was requested, and there is a gap
 /// between two packets.
 pub fn serves_the_union()
-    ensures sent_and_left { (start : ℕ) (first : Numbers) (calls : List Call)
+    ensures sent_and_left { (start : ℕ) (first : Numbers) (calls : List ServeCall)
         → set.union (sent start first calls) (owed start first calls).left ≡ all_asked first calls }
-    ensures done { (start : ℕ) (first : Numbers) (earlier : List Call) (moment : ℕ)
+    ensures done { (start : ℕ) (first : Numbers) (earlier : List ServeCall) (moment : ℕ)
         → serve_of (owed start first earlier) moment ≡ Serve.Done
         → sent start first earlier ≡ all_asked first earlier }
-    ensures least_first { (start : ℕ) (first : Numbers) (earlier : List Call) (moment packet : ℕ)
+    ensures least_first { (start : ℕ) (first : Numbers) (earlier : List ServeCall) (moment packet : ℕ)
         → serve_of (owed start first earlier) moment ≡ Serve.Send packet
         → IsLeast (owed start first earlier).left packet }
-    ensures each_once { (start : ℕ) (first : Numbers) (calls : List Call) (packet : ℕ)
+    ensures each_once { (start : ℕ) (first : Numbers) (calls : List ServeCall) (packet : ℕ)
         → times_sent start first calls packet ≤ times_asked first calls packet }
     ensures gap { (o : Owed) (moment later p q : ℕ)
         → serve_of o moment ≡ Serve.Send p → serve_of (after_next o moment) later ≡ Serve.Send q

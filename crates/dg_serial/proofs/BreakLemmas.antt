@@ -3,7 +3,7 @@ use Rattle.std.proofs.Common.{◌≡◌, ◌⊎◌, inl, inr, ℕ, ◌==◌, ◌
 use Rattle.std.specs.Prelude.{◌↔◌}
 use Rattle.std.proofs.lemmas.Bool.{eqb-true, eq-eqb}
 use Rattle.dg_serial.specs.Sizes.{escape_byte, escaped_flag, escaped_escape}
-use Rattle.dg_serial.specs.Line.{is_second, is_broken_after, ends_escaping, is_broken, BeginsWithSecond, HasLoneEscape}
+use Rattle.dg_serial.specs.Line.{is_escaped_byte, is_broken_after, ends_escaping, is_broken, BeginsWithSecond, HasLoneEscape}
 
 abbrev broken_from : Bool → List ℕ → Bool
 broken_from escapes bytes = is_broken_after escapes bytes || ends_escaping escapes bytes
@@ -36,11 +36,11 @@ of_or : (x y : Bool) → x || y ≡ true → (x ≡ true) ⊎ (y ≡ true)
 of_or true y e = inl refl
 of_or false y e = inr e
 
-second_true : (b : ℕ) → (b ≡ escaped_flag) ⊎ (b ≡ escaped_escape) → is_second b ≡ true
+second_true : (b : ℕ) → (b ≡ escaped_flag) ⊎ (b ≡ escaped_escape) → is_escaped_byte b ≡ true
 second_true b (inl e) = or_of (b == escaped_flag) (b == escaped_escape) (inl (eq-eqb b escaped_flag e))
 second_true b (inr e) = or_of (b == escaped_flag) (b == escaped_escape) (inr (eq-eqb b escaped_escape e))
 
-second_is : (b : ℕ) → is_second b ≡ true → (b ≡ escaped_flag) ⊎ (b ≡ escaped_escape)
+second_is : (b : ℕ) → is_escaped_byte b ≡ true → (b ≡ escaped_flag) ⊎ (b ≡ escaped_escape)
 second_is b e = elim (of_or (b == escaped_flag) (b == escaped_escape) e) [ inl f ↦ inl (eqb-true b escaped_flag f) | inr f ↦ inr (eqb-true b escaped_escape f) ]
 
 not_true : (s : Bool) → (s ≡ true → ⊥) → s ≡ false
@@ -56,9 +56,9 @@ breaks : (escapes : Bool) (bytes : List ℕ) → broken_from escapes bytes ≡ t
 unfolding is_broken_after ends_escaping
 breaks escapes [] e = inl (e, λ h. h)
 breaks escapes (b ∷ bs) e =
-    elim (either_true (escapes && not (is_second b)) (is_broken_after (b == escape_byte) bs) (ends_escaping (b == escape_byte) bs) e) [
+    elim (either_true (escapes && not (is_escaped_byte b)) (is_broken_after (b == escape_byte) bs) (ends_escaping (b == escape_byte) bs) e) [
       | inl here ↦
-          let both = both_true escapes (is_second b) here in
+          let both = both_true escapes (is_escaped_byte b) here in
           inl (both.0, λ h. let f : false ≡ true = sym both.1 ∙ second_true b h in cc)
       | inr later ↦
           elim (breaks (b == escape_byte) bs later) [
@@ -73,14 +73,14 @@ breaks_first : (bytes : List ℕ) → (BeginsWithSecond bytes → ⊥) → broke
 unfolding is_broken_after ends_escaping
 breaks_first [] h = refl
 breaks_first (b ∷ bs) h =
-    let no : is_second b ≡ false = not_true (is_second b) (λ e. h (second_is b e)) in
-    first_true (not (is_second b)) (is_broken_after (b == escape_byte) bs) (ends_escaping (b == escape_byte) bs) (ap not no)
+    let no : is_escaped_byte b ≡ false = not_true (is_escaped_byte b) (λ e. h (second_is b e)) in
+    first_true (not (is_escaped_byte b)) (is_broken_after (b == escape_byte) bs) (ends_escaping (b == escape_byte) bs) (ap not no)
 
 breaks_at : (escapes : Bool) (front back : List ℕ) → (BeginsWithSecond back → ⊥) → broken_from escapes (front ++ escape_byte ∷ back) ≡ true
 unfolding is_broken_after ends_escaping
-breaks_at escapes [] back h = later_true (escapes && not (is_second escape_byte)) (is_broken_after true back) (ends_escaping true back) (breaks_first back h)
+breaks_at escapes [] back h = later_true (escapes && not (is_escaped_byte escape_byte)) (is_broken_after true back) (ends_escaping true back) (breaks_first back h)
 breaks_at escapes (b ∷ front) back h =
-    later_true (escapes && not (is_second b)) (is_broken_after (b == escape_byte) (front ++ escape_byte ∷ back)) (ends_escaping (b == escape_byte) (front ++ escape_byte ∷ back)) (breaks_at (b == escape_byte) front back h)
+    later_true (escapes && not (is_escaped_byte b)) (is_broken_after (b == escape_byte) (front ++ escape_byte ∷ back)) (ends_escaping (b == escape_byte) (front ++ escape_byte ∷ back)) (breaks_at (b == escape_byte) front back h)
 
 broken_lone : (piece : List ℕ) → is_broken piece ≡ true → HasLoneEscape piece
 broken_lone piece e = elim (breaks false piece e) [ inl at ↦ absurd (let h : false ≡ true = at.0 in cc) | inr lone ↦ lone ]

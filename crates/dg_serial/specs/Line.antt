@@ -22,8 +22,8 @@ unfoldable pub stuffed : List ℕ → List ℕ
 stuffed bytes = escaped bytes ++ flag_byte ∷ []
 
 -- frames one after another
-abbrev pub line_of : List (List ℕ) → List ℕ
-line_of frames = flat_map stuffed frames
+abbrev pub stuffed_line : List (List ℕ) → List ℕ
+stuffed_line frames = flat_map stuffed frames
 
 -- what may be a frame on the line
 pub record IsOnLine (bytes : List ℕ) : Type 0 where
@@ -33,26 +33,26 @@ pub record IsOnLine (bytes : List ℕ) : Type 0 where
 -- ---- a stream is split at its flags
 
 -- the pieces that flags end, and what follows the last flag
-pub record Split : Type 0 where
+pub record FlagSplit : Type 0 where
   pub pieces : List (List ℕ)
   pub rest : List ℕ
 
-abbrev pub onto_first : ℕ → List (List ℕ) → List ℕ → Split
+abbrev pub onto_first : ℕ → List (List ℕ) → List ℕ → FlagSplit
 onto_first b [] rest = record { pieces = []; rest = b ∷ rest }
 onto_first b (piece ∷ pieces) rest = record { pieces = (b ∷ piece) ∷ pieces; rest = rest }
 
-abbrev pub split_behind : ℕ → Split → Split
+abbrev pub split_behind : ℕ → FlagSplit → FlagSplit
 split_behind b c = if b == flag_byte then record { pieces = [] ∷ c.pieces; rest = c.rest } else onto_first b c.pieces c.rest
 
-unfoldable pub split_of : List ℕ → Split
-split_of [] = record { pieces = []; rest = [] }
-split_of (b ∷ bs) = split_behind b (split_of bs)
+unfoldable pub flag_split : List ℕ → FlagSplit
+flag_split [] = record { pieces = []; rest = [] }
+flag_split (b ∷ bs) = split_behind b (flag_split bs)
 
-abbrev pub pieces_of : List ℕ → List (List ℕ)
-pieces_of stream = (split_of stream).pieces
+abbrev pub flag_pieces : List ℕ → List (List ℕ)
+flag_pieces stream = (flag_split stream).pieces
 
-abbrev pub rest_of : List ℕ → List ℕ
-rest_of stream = (split_of stream).rest
+abbrev pub rest_after_flags : List ℕ → List ℕ
+rest_after_flags stream = (flag_split stream).rest
 
 abbrev pub HasNoFlag : List ℕ → Type 0
 HasNoFlag bytes = AllByRecursion (λ b. b ≢ flag_byte) bytes
@@ -62,7 +62,7 @@ abbrev pub flagged : List (List ℕ) → List ℕ
 flagged pieces = flat_map (λ piece. piece ++ flag_byte ∷ []) pieces
 
 -- The stream is these pieces, each ended by a flag, and a rest. There is no other flag.
-pub record IsSplit (stream : List ℕ) (c : Split) : Type 0 where
+pub record IsSplit (stream : List ℕ) (c : FlagSplit) : Type 0 where
   pub whole : stream ≡ flagged c.pieces ++ c.rest
   pub pieces : AllByRecursion HasNoFlag c.pieces
   pub rest : HasNoFlag c.rest
@@ -70,13 +70,13 @@ pub record IsSplit (stream : List ℕ) (c : Split) : Type 0 where
 -- ---- the item of a piece
 
 -- what stands for the flag or the escape after an escape
-abbrev pub is_second : ℕ → Bool
-is_second b = (b == escaped_flag) || (b == escaped_escape)
+abbrev pub is_escaped_byte : ℕ → Bool
+is_escaped_byte b = (b == escaped_flag) || (b == escaped_escape)
 
 -- Some escape is followed by a byte other than these. `escapes` is whether an escape comes before the bytes.
 unfoldable pub is_broken_after : Bool → List ℕ → Bool
 is_broken_after escapes [] = false
-is_broken_after escapes (b ∷ bs) = (escapes && not (is_second b)) || is_broken_after (b == escape_byte) bs
+is_broken_after escapes (b ∷ bs) = (escapes && not (is_escaped_byte b)) || is_broken_after (b == escape_byte) bs
 
 -- the last byte escapes what would follow
 unfoldable pub ends_escaping : Bool → List ℕ → Bool
@@ -112,26 +112,26 @@ unstuffed_after escapes (b ∷ bs) =
 abbrev pub unstuffed : List ℕ → List ℕ
 unstuffed piece = unstuffed_after false piece
 
-pub data Item : Type 0 where
-  Frame : (bytes : List ℕ) → Item
-  Escape : Item
-  Long : Item
+pub data SerialItem : Type 0 where
+  Frame : (bytes : List ℕ) → SerialItem
+  Escape : SerialItem
+  Long : SerialItem
 
-abbrev pub item_in : List ℕ → Item
+abbrev pub item_in : List ℕ → SerialItem
 item_in piece =
     if is_broken piece then Escape else (if nat_lt longest_frame (length (unstuffed piece)) then Long
     else Frame (unstuffed piece))
 
 -- an empty piece yields nothing, and any other piece yields one item
-abbrev pub item_of : List ℕ → List Item
+abbrev pub item_of : List ℕ → List SerialItem
 item_of [] = []
 item_of (b ∷ bs) = item_in (b ∷ bs) ∷ []
 
 -- the items of a stream. Its rest yields no item
-unfoldable pub items : List ℕ → List Item
-items stream = flat_map item_of (pieces_of stream)
+unfoldable pub items : List ℕ → List SerialItem
+items stream = flat_map item_of (flag_pieces stream)
 
 -- the stream is made of pieces that aren't empty, and has no rest
 pub record IsWholeStream (stream : List ℕ) : Type 0 where
-  pub pieces : AllByRecursion (λ piece. piece ≢ []) (pieces_of stream)
-  pub ended : rest_of stream ≡ []
+  pub pieces : AllByRecursion (λ piece. piece ≢ []) (flag_pieces stream)
+  pub ended : rest_after_flags stream ≡ []

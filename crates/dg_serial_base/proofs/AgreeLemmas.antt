@@ -17,9 +17,9 @@ use Rattle.dg_mote.specs.Model.{MoteState}
 use Rattle.dg_mote.specs.Effects.{tick_effect, frame_effect, reset_effect}
 use Rattle.dg_mote.specs.Agreement.{IsHonest}
 use Rattle.dg_mote.specs.Well.{StoreIsWell, IsWell, EffectIsWell}
-use Rattle.dg_serial_base.specs.Deeds.{Base, At, Deed, Hears, Ticks, moment_at, draw_at, powered, power_effect, effect_of, after_deed, DeedsRun}
-use Rattle.dg_serial_base.specs.Based.{Outside, Came, FlashStopped, AtPower, Later, EndsBy, Based}
-use Rattle.dg_serial_base.specs.Agreeing.{HonestDeed, HonestLine, StandsWell, ChipAgrees}
+use Rattle.dg_serial_base.specs.BaseEvents.{Base, At, BaseEvent, Hears, Ticks, moment_at, draw_at, powered, power_effect, effect_of, after_base_event, BaseEventsRun}
+use Rattle.dg_serial_base.specs.Based.{BaseOutside, BaseCame, FlashStopped, AtPower, Later, BaseEndsBy, Based}
+use Rattle.dg_serial_base.specs.Agreeing.{HonestBaseEvent, HonestLine, StandsWell, ChipAgrees}
 
 -- what is known of motes that agree
 pub record Laws : Type 0 where
@@ -40,40 +40,40 @@ next_moment : (step events : ℕ) → step * events ≤ step * suc events
 next_moment step events = let e = mul-suc step events in omega (arith, e)
 
 module _ (laws : Laws) (table : List Row) (is : IsTable table) (b : Base) where
-  deed_well : (a : At) (m : MoteState) (d : Deed) → HonestDeed table d → IsWell table m a.store (b.step * a.events) → EffectIsWell table (effect_of b m a d) (moment_at b a.events)
-  deed_well a m (Hears bytes) honest well =
+  base_event_well : (a : At) (m : MoteState) (d : BaseEvent) → HonestBaseEvent table d → IsWell table m a.store (b.step * a.events) → EffectIsWell table (effect_of b m a d) (moment_at b a.events)
+  base_event_well a m (Hears bytes) honest well =
       laws.heard table m a.store (moment_at b a.events) (draw_at b a.events) bytes is honest (laws.later table m a.store (b.step * a.events) (moment_at b a.events) (next_moment b.step a.events) well)
-  deed_well a m Ticks honest well =
+  base_event_well a m Ticks honest well =
       laws.ticked table m a.store (moment_at b a.events) (draw_at b a.events) is (laws.later table m a.store (b.step * a.events) (moment_at b a.events) (next_moment b.step a.events) well)
 
-  well_run : (ds : List Deed) → AllByRecursion (HonestDeed table) ds → (a z : At) → StandsWell table b a → DeedsRun b a ds z → StandsWell table b z
-  unfolding DeedsRun
+  well_run : (ds : List BaseEvent) → AllByRecursion (HonestBaseEvent table) ds → (a z : At) → StandsWell table b a → BaseEventsRun b a ds z → StandsWell table b z
+  unfolding BaseEventsRun
   well_run [] honest a z well r = subst (StandsWell table b) (sym r) well
   well_run (d ∷ ds) honest a z well r =
-      well_run ds honest.1 (after_deed b r.0 a d) z (deed_well a r.0 d honest.0 (some_well (λ m. IsWell table m a.store (b.step * a.events)) a.mote r.0 r.1 well)).mote r.2
+      well_run ds honest.1 (after_base_event b r.0 a d) z (base_event_well a r.0 d honest.0 (some_well (λ m. IsWell table m a.store (b.step * a.events)) a.mote r.0 r.1 well)).mote r.2
 
   powered_well : (s : Store) → StoreIsWell table s → StandsWell table b (powered b s)
   powered_well s well = (laws.reset table s b.id (moment_at b 0) (draw_at b 0) true is well).mote
 
-  pub run_well : (s : Store) (done : List Deed) (there : At) → StoreIsWell table s → AllByRecursion (HonestDeed table) done → DeedsRun b (powered b s) done there → StandsWell table b there
+  pub run_well : (s : Store) (done : List BaseEvent) (there : At) → StoreIsWell table s → AllByRecursion (HonestBaseEvent table) done → BaseEventsRun b (powered b s) done there → StandsWell table b there
   run_well s done there well honest r = well_run done honest (powered b s) there (powered_well s well) r
 
-  all_front : (xs ys : List Deed) → AllByRecursion (HonestDeed table) (xs ++ ys) → AllByRecursion (HonestDeed table) xs
+  all_front : (xs ys : List BaseEvent) → AllByRecursion (HonestBaseEvent table) (xs ++ ys) → AllByRecursion (HonestBaseEvent table) xs
   all_front [] ys h = tt
   all_front (x ∷ xs) ys h = (h.0, all_front xs ys h.1)
 
-  all_back : (xs ys : List Deed) → AllByRecursion (HonestDeed table) (xs ++ ys) → AllByRecursion (HonestDeed table) ys
+  all_back : (xs ys : List BaseEvent) → AllByRecursion (HonestBaseEvent table) (xs ++ ys) → AllByRecursion (HonestBaseEvent table) ys
   all_back [] ys h = h
   all_back (x ∷ xs) ys h = all_back xs ys h.1
 
   module _ (s : Store) (well : StoreIsWell table s) (input : List ℕ) (honest : HonestLine table input) where
-    parts_honest : (c : Came b s input) → AllByRecursion (HonestDeed table) (c.done ++ c.rest)
-    parts_honest c = subst (λ (ds : List Deed). AllByRecursion (HonestDeed table) ds) (sym c.parts) honest
+    parts_honest : (c : BaseCame b s input) → AllByRecursion (HonestBaseEvent table) (c.done ++ c.rest)
+    parts_honest c = subst (λ (ds : List BaseEvent). AllByRecursion (HonestBaseEvent table) ds) (sym c.parts) honest
 
-    came_well : (c : Came b s input) → StandsWell table b c.there
+    came_well : (c : BaseCame b s input) → StandsWell table b c.there
     came_well c = run_well s c.done c.there well (all_front c.done c.rest (parts_honest c)) c.run
 
-    came_agrees : (c : Came b s input) (image : List ℕ) → Stands image c.there.store → ChipAgrees table image
+    came_agrees : (c : BaseCame b s input) (image : List ℕ) → Stands image c.there.store → ChipAgrees table image
     came_agrees c image stands =
         (c.there.store, stands, (any_well (λ m. IsWell table m c.there.store (b.step * c.there.events)) c.there.mote (came_well c)).1.store)
 
@@ -84,11 +84,11 @@ module _ (laws : Laws) (table : List Row) (is : IsTable table) (b : Base) where
     flash_agrees text old new (AtPower between none stands stops) =
         stop_agrees (power_effect b s).trail between new (laws.reset table s b.id (moment_at b 0) (draw_at b 0) true is well).way stops
     flash_agrees text old new (Later c between m d more on rest same stands stops) =
-        let h : AllByRecursion (HonestDeed table) (d ∷ more) = subst (λ (ds : List Deed). AllByRecursion (HonestDeed table) ds) rest (all_back c.done c.rest (parts_honest c)) in
+        let h : AllByRecursion (HonestBaseEvent table) (d ∷ more) = subst (λ (ds : List BaseEvent). AllByRecursion (HonestBaseEvent table) ds) rest (all_back c.done c.rest (parts_honest c)) in
         stop_agrees (effect_of b m c.there d).trail between new
-        (deed_well c.there m d h.0 (some_well (λ x. IsWell table x c.there.store (b.step * c.there.events)) c.there.mote m on (came_well c))).way stops
+        (base_event_well c.there m d h.0 (some_well (λ x. IsWell table x c.there.store (b.step * c.there.events)) c.there.mote m on (came_well c))).way stops
 
-    ends_agree : (answer : Status) (text : List ℕ) (before now : Outside) → EndsBy answer b s input text before now → ChipAgrees table now.chip.image
+    ends_agree : (answer : Status) (text : List ℕ) (before now : BaseOutside) → BaseEndsBy answer b s input text before now → ChipAgrees table now.chip.image
     ends_agree status.FlashFault text before now e = flash_agrees text before.chip now.chip e
     ends_agree status.Done text before now e = came_agrees e.0 now.chip.image e.2
     ends_agree status.Memory text before now e = came_agrees e.0 now.chip.image e.2
@@ -104,5 +104,5 @@ module _ (laws : Laws) (table : List Row) (is : IsTable table) (b : Base) where
     ends_agree status.NoBoard text before now e = came_agrees e.0 now.chip.image e.2
     ends_agree status.NoImage text before now e = came_agrees e.0 now.chip.image e.2
 
-pub based_agrees : Laws → (answer : Status) (b : Base) (s : Store) (before now : Outside) (x : Based answer b s before now) (table : List Row) → IsTable table → StoreIsWell table s → HonestLine table x.input → ChipAgrees table now.chip.image
+pub based_agrees : Laws → (answer : Status) (b : Base) (s : Store) (before now : BaseOutside) (x : Based answer b s before now) (table : List Row) → IsTable table → StoreIsWell table s → HonestLine table x.input → ChipAgrees table now.chip.image
 based_agrees laws answer b s before now x table is well honest = ends_agree laws table is b s well x.input honest answer x.text before now x.ends

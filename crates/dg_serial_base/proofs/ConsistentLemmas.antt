@@ -27,9 +27,9 @@ use Rattle.dg_mote.specs.Consistency.{AsksForKnown, StoreIsConsistent, TurnIsCon
 use Rattle.dg_mote.specs.declared.mote.Did.{Did}
 use Rattle.dg_mote.specs.declared.mote.Did.TheVariants.{Sent, Idle, Restart}
 use Rattle.dg_mote.proofs.KeepLemmas.{through_then, through_both}
-use Rattle.dg_serial_base.specs.Deeds.{Base, At, Deed, Hears, Ticks, moment_at, draw_at, powered, power_effect, effect_of, after_deed, deeds_of, DeedsRun}
-use Rattle.dg_serial_base.specs.Based.{Outside, Came, FlashStopped, AtPower, Later, EndsBy, Based}
-use Rattle.dg_serial_base.specs.Consistency.{StartsSound, AllStartSound, StaysConsistent}
+use Rattle.dg_serial_base.specs.BaseEvents.{Base, At, BaseEvent, Hears, Ticks, moment_at, draw_at, powered, power_effect, effect_of, after_base_event, base_events_of, BaseEventsRun}
+use Rattle.dg_serial_base.specs.Based.{BaseOutside, BaseCame, FlashStopped, AtPower, Later, BaseEndsBy, Based}
+use Rattle.dg_serial_base.specs.Consistency.{BaseStartsSound, AllStartSound, BaseStaysConsistent}
 use Rattle.dg_serial_base.proofs.AgreeLemmas.{some_well}
 
 -- what is known of volumes, of starts and of motes
@@ -53,7 +53,7 @@ module _ (golden : Row) (laws : Laws golden) where
   -- an event goes through consistent stores, starts what is sound, and leaves a mote that asks for a known image, if for any
   record Holds (e : Effect) : Type 0 where
     pub way : Through P e.trail
-    pub starts : StartsSound golden e
+    pub starts : BaseStartsSound golden e
     pub mote : IsSomeAnd e.mote (λ m. AsksForKnown m.mode)
 
   -- ---- starts
@@ -102,7 +102,7 @@ module _ (golden : Row) (laws : Laws golden) where
   unfolding frame_effect
   frame_holds m s now word bytes p asks = silent_holds (heard_of m s now word bytes) (laws.heard m s now word bytes p asks)
 
-  -- ---- the deeds of a line
+  -- ---- the base_events of a line
 
   module _ (b : Base) where
     -- the mote is on, asks for a known image, if for any, and its chip is consistent
@@ -110,30 +110,30 @@ module _ (golden : Row) (laws : Laws golden) where
       pub store : P a.store
       pub mote : IsSomeAnd a.mote (λ m. AsksForKnown m.mode)
 
-    deed_holds : (a : At) (m : MoteState) (d : Deed) → P a.store → AsksForKnown m.mode → Holds (effect_of b m a d)
-    deed_holds a m (Hears bytes) p asks = frame_holds m a.store (moment_at b a.events) (draw_at b a.events) bytes p asks
-    deed_holds a m Ticks p asks = tick_holds m a.store (moment_at b a.events) (draw_at b a.events) p asks
+    base_event_holds : (a : At) (m : MoteState) (d : BaseEvent) → P a.store → AsksForKnown m.mode → Holds (effect_of b m a d)
+    base_event_holds a m (Hears bytes) p asks = frame_holds m a.store (moment_at b a.events) (draw_at b a.events) bytes p asks
+    base_event_holds a m Ticks p asks = tick_holds m a.store (moment_at b a.events) (draw_at b a.events) p asks
 
     asks_of : (a : At) (m : MoteState) → IsKnown a → a.mote ≡ Some m → AsksForKnown m.mode
     asks_of a m known e = some_well (λ m. AsksForKnown m.mode) a.mote m e known.mote
 
-    deed_of : (a : At) (m : MoteState) (d : Deed) → IsKnown a → a.mote ≡ Some m → Holds (effect_of b m a d)
-    deed_of a m d known e = deed_holds a m d known.store (asks_of a m known e)
+    base_event_of : (a : At) (m : MoteState) (d : BaseEvent) → IsKnown a → a.mote ≡ Some m → Holds (effect_of b m a d)
+    base_event_of a m d known e = base_event_holds a m d known.store (asks_of a m known e)
 
-    after_known : (a : At) (m : MoteState) (d : Deed) → Holds (effect_of b m a d) → IsKnown (after_deed b m a d)
+    after_known : (a : At) (m : MoteState) (d : BaseEvent) → Holds (effect_of b m a d) → IsKnown (after_base_event b m a d)
     after_known a m d h = record { store = Through-last P (effect_of b m a d).trail h.way; mote = h.mote }
 
-    run_known : (ds : List Deed) (a z : At) → IsKnown a → DeedsRun b a ds z → IsKnown z
-    unfolding DeedsRun
+    run_known : (ds : List BaseEvent) (a z : At) → IsKnown a → BaseEventsRun b a ds z → IsKnown z
+    unfolding BaseEventsRun
     run_known [] a z known r = subst IsKnown (sym r) known
-    run_known (d ∷ ds) a z known r = run_known ds (after_deed b r.0 a d) z (after_known a r.0 d (deed_of a r.0 d known r.1)) r.2
+    run_known (d ∷ ds) a z known r = run_known ds (after_base_event b r.0 a d) z (after_known a r.0 d (base_event_of a r.0 d known r.1)) r.2
 
-    all_sound : (ds : List Deed) (a : At) → IsKnown a → AllStartSound golden b a ds
+    all_sound : (ds : List BaseEvent) (a : At) → IsKnown a → AllStartSound golden b a ds
     unfolding AllStartSound
     all_sound [] a known = tt
     all_sound (d ∷ ds) a known = λ m e.
-        let h = deed_of a m d known e in
-        (h.starts, all_sound ds (after_deed b m a d) (after_known a m d h))
+        let h = base_event_of a m d known e in
+        (h.starts, all_sound ds (after_base_event b m a d) (after_known a m d h))
 
     module _ (s : Store) (p : P s) where
       power_holds : Holds (power_effect b s)
@@ -143,10 +143,10 @@ module _ (golden : Row) (laws : Laws golden) where
       powered_known = record { store = Through-last P (power_effect b s).trail power_holds.way; mote = power_holds.mote }
 
       module _ (input : List ℕ) where
-        came_known : (c : Came b s input) → IsKnown c.there
+        came_known : (c : BaseCame b s input) → IsKnown c.there
         came_known c = run_known c.done (powered b s) c.there powered_known c.run
 
-        came_chip : (c : Came b s input) (image : List ℕ) → Stands image c.there.store → ChipIsConsistent golden image
+        came_chip : (c : BaseCame b s input) (image : List ℕ) → Stands image c.there.store → ChipIsConsistent golden image
         came_chip c image stands = record { store = c.there.store; stands = stands; consistent = (came_known c).store }
 
         stop_chip : (t : Trail Store) (old new : Device) → Through P t → Stops t old new → ChipIsConsistent golden new.image
@@ -155,9 +155,9 @@ module _ (golden : Row) (laws : Laws golden) where
         flash_chip : (text : List ℕ) (old new : Device) → FlashStopped b s input text old new → ChipIsConsistent golden new.image
         flash_chip text old new (AtPower between none stands stops) = stop_chip (power_effect b s).trail between new power_holds.way stops
         flash_chip text old new (Later c between m d more on rest same stands stops) =
-            stop_chip (effect_of b m c.there d).trail between new (deed_of c.there m d (came_known c) on).way stops
+            stop_chip (effect_of b m c.there d).trail between new (base_event_of c.there m d (came_known c) on).way stops
 
-        ends_chip : (answer : Status) (text : List ℕ) (before now : Outside) → EndsBy answer b s input text before now → ChipIsConsistent golden now.chip.image
+        ends_chip : (answer : Status) (text : List ℕ) (before now : BaseOutside) → BaseEndsBy answer b s input text before now → ChipIsConsistent golden now.chip.image
         ends_chip status.FlashFault text before now e = flash_chip text before.chip now.chip e
         ends_chip status.Done text before now e = came_chip e.0 now.chip.image e.2
         ends_chip status.Memory text before now e = came_chip e.0 now.chip.image e.2
@@ -177,15 +177,15 @@ module _ (golden : Row) (laws : Laws golden) where
         is_on None some e = some
         is_on (Some m) some e = absurd cc
 
-        never_none : (answer : Status) (text : List ℕ) (before now : Outside) → EndsBy answer b s input text before now → answer ≢ status.NoImage
+        never_none : (answer : Status) (text : List ℕ) (before now : BaseOutside) → BaseEndsBy answer b s input text before now → answer ≢ status.NoImage
         never_none answer text before now e is =
-            let x = subst (λ (t : Status). EndsBy t b s input text before now) is e in
+            let x = subst (λ (t : Status). BaseEndsBy t b s input text before now) is e in
             is_on x.0.there.mote (came_known x.0).mote x.1.0
 
-pub based_consistent : (golden : Row) → Laws golden → (answer : Status) (b : Base) (s : Store) (before now : Outside) (x : Based answer b s before now) → StoreIsConsistent golden s → StaysConsistent golden answer b s x.input now.chip.image
+pub based_consistent : (golden : Row) → Laws golden → (answer : Status) (b : Base) (s : Store) (before now : BaseOutside) (x : Based answer b s before now) → StoreIsConsistent golden s → BaseStaysConsistent golden answer b s x.input now.chip.image
 based_consistent golden laws answer b s before now x p = record {
   power = (power_holds golden laws b s p).starts;
-  deeds = all_sound golden laws b (deeds_of (take most_input x.input)) (powered b s) (powered_known golden laws b s p);
+  base_events = all_sound golden laws b (base_events_of (take most_input x.input)) (powered b s) (powered_known golden laws b s p);
   found = never_none golden laws b s p x.input answer x.text before now x.ends;
   chip = ends_chip golden laws b s p x.input answer x.text before now x.ends;
 }

@@ -7,21 +7,21 @@ use Rattle.dg_nor.specs.Device.{Device}
 use Rattle.dg_volume.specs.Store.{Store}
 use Rattle.dg_frame.specs.Spelling.{frame_of}
 use Rattle.dg_frame.specs.declared.Message.{Message}
-use Rattle.dg_serial.specs.Line.{split_of, items, line_of, IsOnLine}
-use Rattle.dg_serial.specs.Reading.{Reading, reading_behind}
-use Rattle.dg_serial_base.specs.Deeds.{Base, Deed, deeds_of, powered}
-use Rattle.dg_serial_base.specs.Based.{Outside}
+use Rattle.dg_serial.specs.Line.{flag_split, items, stuffed_line, IsOnLine}
+use Rattle.dg_serial.specs.Reading.{FrameReading, reading_behind}
+use Rattle.dg_serial_base.specs.BaseEvents.{Base, BaseEvent, base_events_of, powered}
+use Rattle.dg_serial_base.specs.Based.{BaseOutside}
 use Rattle.dg_serial_base.specs.inner.Standing.{Outset, code_on_line, Stood, StreamPlayed, InputEnds}
 use Rattle.dg_serial_base.specs.inner.Ending.{outset_of, LineEnds}
 use Rattle.dg_serial_base.specs.declared.running.Running.{Running}
 use Rattle.dg_serial_base.specs.declared.stop.Stop.{Stop}
 use Rattle.dg_serial_base.proofs.WriteLemmas.{puts_nothing}
 
-none_told : deeds_of [] ≡ []
-unfolding items split_of
+none_told : base_events_of [] ≡ []
+unfolding items flag_split
 none_told = refl
 
-pub first_played : (a : Outset) (v : Running) (line : Reading) (new : Device) → line ≡ reading_behind [] → Stood a.base a.store [] v new.image (powered a.base a.store) → (powered a.base a.store).sent ≡ []
+pub first_played : (a : Outset) (v : Running) (line : FrameReading) (new : Device) → line ≡ reading_behind [] → Stood a.base a.store [] v new.image (powered a.base a.store) → (powered a.base a.store).sent ≡ []
     → StreamPlayed a [] (code_on_line a.written v line new)
 first_played a v line new l stood silent =
     let there = powered a.base a.store in
@@ -29,13 +29,13 @@ first_played a v line new l stood silent =
       line = l;
       went = record {
         there = there;
-        stood = subst (λ (done : List Deed). Stood a.base a.store done v new.image there) (sym none_told) stood;
-        put = subst (λ (text : List ℕ). Puts a.written a.written text) (sym (ap (λ (sent : List Message). line_of (map frame_of sent)) silent)) (puts_nothing a.written);
+        stood = subst (λ (done : List BaseEvent). Stood a.base a.store done v new.image there) (sym none_told) stood;
+        put = subst (λ (text : List ℕ). Puts a.written a.written text) (sym (ap (λ (sent : List Message). stuffed_line (map frame_of sent)) silent)) (puts_nothing a.written);
         fits = subst (λ (sent : List Message). AllByRecursion IsOnLine (map frame_of sent)) (sym silent) tt;
       };
     }
 
-pub line_goes : (r : Result (Unit {0}) Stop) (b : Base) (s : Store) (before now : Outside) (v : Running) (line : Reading) → InputEnds r (outset_of b s before) before.left now.left (code_on_line now.written v line now.chip)
+pub line_goes : (r : Result (Unit {0}) Stop) (b : Base) (s : Store) (before now : BaseOutside) (v : Running) (line : FrameReading) → InputEnds r (outset_of b s before) before.left now.left (code_on_line now.written v line now.chip)
     → LineEnds r b s before now
 line_goes (Ok x) b s before now v line ends = record { mote = v; reading = line; ends = ends }
 line_goes (Err why) b s before now v line ends = inr (record { mote = v; reading = line; ends = ends })

@@ -6,8 +6,8 @@ use Rattle.dg_base.specs.Outside.{Takes, AtEnd}
 use Rattle.dg_base.specs.Sizes.{most_input}
 use Rattle.dg_base.proofs.OutsideLemmas.{Takes-join}
 use Rattle.dg_nor.specs.Device.{Device}
-use Rattle.dg_serial_base.specs.Deeds.{deeds_of}
-use Rattle.dg_serial_base.specs.inner.Standing.{Calm, Counts, Outset, LineAt, WriteCounts, DeedsHalted, StreamPlayed, PieceRead, PieceHalted, PieceFails, LastEnds, Consumed, InputBy, InputEnds}
+use Rattle.dg_serial_base.specs.BaseEvents.{base_events_of}
+use Rattle.dg_serial_base.specs.inner.Standing.{Calm, Counts, Outset, LineAt, WriteCounts, BaseEventsHalted, StreamPlayed, PieceRead, PieceHalted, PieceFails, LastEnds, Consumed, InputBy, InputEnds}
 use Rattle.dg_serial_base.specs.declared.stop.Stop.{Stop}
 use Rattle.dg_serial_base.specs.declared.stop.Stop.TheVariants as stop
 use Rattle.dg_serial_base.proofs.PlayLemmas.{played_along}
@@ -40,10 +40,10 @@ piece_fails stop.NotAVolume a stream most left_old left_now now h = h
 piece_fails stop.TooLong a stream most left_old left_now now h = h
 
 pub piece_halts : (why : Stop) (a : Outset) (stream bytes more : List ℕ) (most : ℕ) (left_old left_now : Option (List ℕ)) (now : LineAt) → bytes ≡ more → Takes left_old left_now more → length more ≤ most
-    → DeedsHalted why a (deeds_of (stream ++ bytes)) now.code.written now.code.chip → PieceFails why a stream most left_old left_now now
+    → BaseEventsHalted why a (base_events_of (stream ++ bytes)) now.code.written now.code.chip → PieceFails why a stream most left_old left_now now
 piece_halts why a stream bytes more most left_old left_now now e taken few h =
     piece_fails why a stream most left_old left_now now
-    (record { more = more; taken = taken; few = few; halted = subst (λ (x : List ℕ). DeedsHalted why a (deeds_of (stream ++ x)) now.code.written now.code.chip) e h })
+    (record { more = more; taken = taken; few = few; halted = subst (λ (x : List ℕ). BaseEventsHalted why a (base_events_of (stream ++ x)) now.code.written now.code.chip) e h })
 
 pub piece_unread : (why : Stop) (a : Outset) (stream more : List ℕ) (most : ℕ) (left_old left_now : Option (List ℕ)) (now : LineAt) → why ≡ stop.Read → more ≡ [] → Takes left_old left_now more
     → StreamPlayed a stream now → PieceFails why a stream most left_old left_now now
@@ -80,10 +80,10 @@ module _ (a : Outset) (used : ℕ) (left_old left_mid left_now : Option (List �
         by = (used_all whole few x.played, x.ended none, few);
       }
 
-  halted_all : (why : Stop) (input : List ℕ) → length input ≤ most_input → DeedsHalted why a (deeds_of input) now.code.written now.code.chip → DeedsHalted why a (deeds_of (take most_input input)) now.code.written now.code.chip
-  halted_all why input few h = subst (λ (x : List ℕ). DeedsHalted why a (deeds_of x) now.code.written now.code.chip) (sym (take_all most_input input few)) h
+  halted_all : (why : Stop) (input : List ℕ) → length input ≤ most_input → BaseEventsHalted why a (base_events_of input) now.code.written now.code.chip → BaseEventsHalted why a (base_events_of (take most_input input)) now.code.written now.code.chip
+  halted_all why input few h = subst (λ (x : List ℕ). BaseEventsHalted why a (base_events_of x) now.code.written now.code.chip) (sym (take_all most_input input few)) h
 
-  input_halts : (why : Stop) → ((input : List ℕ) → DeedsHalted why a (deeds_of (take most_input input)) now.code.written now.code.chip → InputBy (Err why) a input left_now now) → used ≤ most_input
+  input_halts : (why : Stop) → ((input : List ℕ) → BaseEventsHalted why a (base_events_of (take most_input input)) now.code.written now.code.chip → InputBy (Err why) a input left_now now) → used ≤ most_input
       → PieceHalted why a c.stream (most_input - used) left_mid left_now now.code → InputEnds (Err why) a left_old left_now now
   input_halts why by le x =
       let whole : List ℕ = c.stream ++ x.more in

@@ -3,7 +3,7 @@ pub mod RunLemmas
 pub mod StartLemmas
 pub mod ResultLemmas
 pub mod PowerLemmas
-pub mod DeedLemmas
+pub mod BaseEventLemmas
 pub mod LineLemmas
 pub mod PlayLemmas
 pub mod InputLemmas

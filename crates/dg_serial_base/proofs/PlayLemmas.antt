@@ -4,20 +4,20 @@ use Rattle.std.proofs.lemmas.List.{take-append-drop, take_more}
 use Rattle.std.specs.Prelude.{Option, IfSome, Result, Ok, Err}
 use Rattle.dg_nor.specs.Device.{Device}
 use Rattle.dg_volume.specs.Store.{Store}
-use Rattle.dg_serial.specs.Line.{line_of, IsOnLine}
-use Rattle.dg_serial.specs.Reading.{Reading, told, Feeds}
+use Rattle.dg_serial.specs.Line.{stuffed_line, IsOnLine}
+use Rattle.dg_serial.specs.Reading.{FrameReading, items_told, Feeds}
 use Rattle.dg_serial.specs.declared.unstuffing.Fed.{Fed}
-use Rattle.dg_serial_base.specs.Deeds.{Base, At, Deed, Ticks, deeds_of_items, deeds_of}
-use Rattle.dg_serial_base.specs.inner.Standing.{Calm, CountsBy, Counts, Outset, CodeAt, code_at, LineAt, DeedLeft, WritesBy, ReadsBy, ReadCounts, one_if, DoneOne, DeedFails, SendFails, SendEnds, DeedsHalted, CompletedOn, ContinueEnds, StreamPlayed, StreamEnds}
+use Rattle.dg_serial_base.specs.BaseEvents.{Base, At, BaseEvent, Ticks, base_events_of_items, base_events_of}
+use Rattle.dg_serial_base.specs.inner.Standing.{Calm, CountsBy, Counts, Outset, CodeAt, code_at, LineAt, BaseEventLeft, WritesBy, ReadsBy, ReadCounts, one_if, DoneOne, BaseEventFails, SendFails, SendEnds, BaseEventsHalted, CompletedOn, ContinueEnds, StreamPlayed, StreamEnds}
 use Rattle.dg_serial_base.specs.declared.stop.Stop.{Stop}
 use Rattle.dg_serial_base.specs.declared.stop.Stop.TheVariants as stop
-use Rattle.dg_serial_base.proofs.DeedLemmas.{sent_goes, send_fails}
-use Rattle.dg_serial_base.proofs.LineLemmas.{GoOn, went_along, halted_along, deeds_longer, halted_front}
+use Rattle.dg_serial_base.proofs.BaseEventLemmas.{sent_goes, send_fails}
+use Rattle.dg_serial_base.proofs.LineLemmas.{GoOn, went_along, halted_along, base_events_longer, halted_front}
 
 -- ---- a tick
 
-pub pass_goes : (r : Result (Unit {0}) Stop) (a : Outset) (done : List Deed) (old : CodeAt) (now : Option (List ℕ)) (left : DeedLeft) (went : CompletedOn a done old)
-    → IfSome left.frame IsOnLine → DoneOne a.base a.store done Ticks went.there left → SendEnds r (line_of (one_if left.frame)) old.written now → ContinueEnds r a (done ++ Ticks ∷ []) (code_at now left.mote left.chip)
+pub pass_goes : (r : Result (Unit {0}) Stop) (a : Outset) (done : List BaseEvent) (old : CodeAt) (now : Option (List ℕ)) (left : BaseEventLeft) (went : CompletedOn a done old)
+    → IfSome left.frame IsOnLine → DoneOne a.base a.store done Ticks went.there left → SendEnds r (stuffed_line (one_if left.frame)) old.written now → ContinueEnds r a (done ++ Ticks ∷ []) (code_at now left.mote left.chip)
 pass_goes (Ok x) a done old now left went frame one w = sent_goes a done Ticks went.there old.written now went.put went.fits left frame one w
 pass_goes (Err why) a done old now left went frame one w = send_fails a done Ticks went.there old.written now went.put went.fits why left frame one w
 
@@ -35,8 +35,8 @@ pub send_counts : (r : Result (Unit {0}) Stop) (text : List ℕ) (before now : O
 send_counts (Ok x) text before now a b calm w = calm
 send_counts (Err why) text before now a b calm w = send_calm why text before now a b calm w
 
--- a deed that failed wrote nothing
-pub write_calm : (why : Stop) (b : Base) (s : Store) (done : List Deed) (d : Deed) (before : At) (new : Device) (n : ℕ) → DeedFails why b s done d before new → WritesBy why n n
+-- a base_event that failed wrote nothing
+pub write_calm : (why : Stop) (b : Base) (s : Store) (done : List BaseEvent) (d : BaseEvent) (before : At) (new : Device) (n : ℕ) → BaseEventFails why b s done d before new → WritesBy why n n
 write_calm stop.Flash b s done d before new n x = refl
 write_calm stop.NoImage b s done d before new n x = refl
 write_calm stop.Memory b s done d before new n x = refl
@@ -46,7 +46,7 @@ write_calm stop.NotAVolume b s done d before new n x = refl
 write_calm stop.TooLong b s done d before new n x = refl
 
 -- and nothing was read
-pub read_calm : (why : Stop) (b : Base) (s : Store) (done : List Deed) (d : Deed) (before : At) (new : Device) (n : ℕ) → DeedFails why b s done d before new → ReadsBy why n n
+pub read_calm : (why : Stop) (b : Base) (s : Store) (done : List BaseEvent) (d : BaseEvent) (before : At) (new : Device) (n : ℕ) → BaseEventFails why b s done d before new → ReadsBy why n n
 read_calm stop.Flash b s done d before new n x = refl
 read_calm stop.NoImage b s done d before new n x = refl
 read_calm stop.Memory b s done d before new n x = refl
@@ -70,12 +70,12 @@ send_reads (Err why) text before now n w = send_unread why text before now n w
 
 -- ---- a byte
 
-pub byte_goes : (r : Result (Unit {0}) Stop) (a : Outset) (stream : List ℕ) (byte : ℕ) (now : LineAt) (before : Reading) (fed : Fed) → Feeds stream byte fed before → now.reading ≡ before
-    → ContinueEnds r a (deeds_of stream ++ deeds_of_items (told fed)) now.code → StreamEnds r a (stream ++ byte ∷ []) now
+pub byte_goes : (r : Result (Unit {0}) Stop) (a : Outset) (stream : List ℕ) (byte : ℕ) (now : LineAt) (before : FrameReading) (fed : Fed) → Feeds stream byte fed before → now.reading ≡ before
+    → ContinueEnds r a (base_events_of stream ++ base_events_of_items (items_told fed)) now.code → StreamEnds r a (stream ++ byte ∷ []) now
 byte_goes (Ok x) a stream byte now before fed f l g =
-    record { line = l ∙ f.behind; went = went_along a (deeds_of stream ++ deeds_of_items (told fed)) (deeds_of (stream ++ byte ∷ [])) now.code (deeds_longer stream byte fed before f) g }
+    record { line = l ∙ f.behind; went = went_along a (base_events_of stream ++ base_events_of_items (items_told fed)) (base_events_of (stream ++ byte ∷ [])) now.code (base_events_longer stream byte fed before f) g }
 byte_goes (Err why) a stream byte now before fed f l g =
-    halted_along why a (deeds_of stream ++ deeds_of_items (told fed)) (deeds_of (stream ++ byte ∷ [])) now.code.written now.code.chip (deeds_longer stream byte fed before f) g
+    halted_along why a (base_events_of stream ++ base_events_of_items (items_told fed)) (base_events_of (stream ++ byte ∷ [])) now.code.written now.code.chip (base_events_longer stream byte fed before f) g
 
 pub played_along : (a : Outset) (x y : List ℕ) (now : LineAt) → x ≡ y → StreamPlayed a x now → StreamPlayed a y now
 played_along a x y now e p = subst (λ (stream : List ℕ). StreamPlayed a stream now) e p
@@ -89,7 +89,7 @@ pub front_bytes : (stream bytes : List ℕ) (i : ℕ) → (stream ++ take i byte
 front_bytes stream bytes i = append_assoc stream (take i bytes) (drop i bytes) ∙ ap (λ (xs : List ℕ). stream ++ xs) (take-append-drop i bytes)
 
 pub halted_bytes : GoOn → (why : Stop) (a : Outset) (stream bytes : List ℕ) (i : ℕ) (now : Option (List ℕ)) (new : Device) → i < length bytes
-    → DeedsHalted why a (deeds_of ((stream ++ take i bytes) ++ get_or bytes i 0 ∷ [])) now new → DeedsHalted why a (deeds_of (stream ++ bytes)) now new
+    → BaseEventsHalted why a (base_events_of ((stream ++ take i bytes) ++ get_or bytes i 0 ∷ [])) now new → BaseEventsHalted why a (base_events_of (stream ++ bytes)) now new
 halted_bytes law why a stream bytes i now new lt h =
     halted_front law why a (stream ++ take (i + 1) bytes) (drop (i + 1) bytes) (stream ++ bytes) now new (front_bytes stream bytes (i + 1))
-    (subst (λ (x : List ℕ). DeedsHalted why a (deeds_of x) now new) (next_byte stream bytes i lt) h)
+    (subst (λ (x : List ℕ). BaseEventsHalted why a (base_events_of x) now new) (next_byte stream bytes i lt) h)

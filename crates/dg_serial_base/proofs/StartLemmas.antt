@@ -21,7 +21,7 @@ use Rattle.dg_node.specs.declared.answers.Ticked.TheVariants as ticked
 use Rattle.dg_node.specs.declared.answers.TickFault.{TickFault}
 use Rattle.dg_node.specs.declared.answers.TickFault.TheVariants as tick_fault
 use Rattle.dg_node.specs.Hosts.{host}
-use Rattle.dg_node.specs.Nodes.{NodeStands, runs_by, node_mote}
+use Rattle.dg_node.specs.Nodes.{NodeStands, node_runs, node_mote}
 use Rattle.dg_node.specs.Ends.{NodeEnd, Quiet, Sent, Starts, Stopped, NotAVolume, NoImage, NodeDone, EffectDone, PowerFinds, power_end, tick_end}
 use Rattle.dg_serial_base.specs.inner.Stops.{stop_of_start, stop_of_tick, result_of}
 use Rattle.dg_serial_base.specs.inner.Standing.{Calm, Counts, CountsBy, IsLeft, FailedBy, EffectEnds, NoneBy, WritesBy, ReadsBy}
@@ -50,7 +50,7 @@ reset_silent s id wide now word = let b = boot cause.Power s in boot_silent b.ru
 
 -- ---- what an event of the node left
 
-left_by : (o : Option MoteState) (r : Option Runs) (w : Option ImageVersion) (c : List ℕ) (u : Node) (s : Store) (now : ℕ) → NodeStands c (Some u) s (runs_by o r w) → IfSome o (λ m. Timely m now)
+left_by : (o : Option MoteState) (r : Option Runs) (w : Option ImageVersion) (c : List ℕ) (u : Node) (s : Store) (now : ℕ) → NodeStands c (Some u) s (node_runs o r w) → IfSome o (λ m. Timely m now)
     → (state : MoteState) × (o ≡ Some state) × IsMote c (node_mote u) state s × Timely state now
 left_by None r w c u s now stands timely = absurd stands
 left_by (Some m) (Some r) w c u s now stands timely = (m, refl, stands.1, timely)

@@ -5,7 +5,7 @@ use Rattle.std.proofs.lemmas.List.{take-append-drop}
 use Rattle.dg_base.specs.Sizes.{longest_frame}
 use Rattle.dg_serial.specs.Line.{IsOnLine}
 use Rattle.dg_base.specs.Outside.{followed_by, Puts, PutsPrefix}
-use Rattle.dg_serial_base.specs.Based.{IsWholeLines}
+use Rattle.dg_serial_base.specs.Based.{IsPrefixOfInput}
 
 -- a frame with some bytes, and no more than a frame may have, is one that fits the line
 pub on_line : (frame : List ℕ) → 1 ≤ length frame → length frame ≤ longest_frame → IsOnLine frame
@@ -26,7 +26,7 @@ puts_then a b c x y p q = q ∙ ap (λ (o : Option (List ℕ)). followed_by o y)
 pub record Fronted (a c : Option (List ℕ)) (whole : List ℕ) : Type 0 where
   pub text : List ℕ
   pub put : Puts a c text
-  pub front : IsWholeLines text whole
+  pub front : IsPrefixOfInput text whole
 
 pub puts_front_then : (a b c : Option (List ℕ)) (x y : List ℕ) → Puts a b x → PutsPrefix b c y → Fronted a c (x ++ y)
 puts_front_then a b c x y p q =

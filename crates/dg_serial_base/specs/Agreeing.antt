@@ -7,15 +7,15 @@ use Rattle.dg_volume.specs.Store.{Store}
 use Rattle.dg_volume.specs.Stands.{Stands}
 use Rattle.dg_mote.specs.Agreement.{IsHonest}
 use Rattle.dg_mote.specs.Well.{StoreIsWell, IsWell}
-use Rattle.dg_serial_base.specs.Deeds.{Base, At, Deed, Hears, Ticks, deeds_of}
+use Rattle.dg_serial_base.specs.BaseEvents.{Base, At, BaseEvent, Hears, Ticks, base_events_of}
 
-abbrev pub HonestDeed : List Row → Deed → Type 0
-HonestDeed table (Hears bytes) = IsHonest table bytes
-HonestDeed table Ticks = Unit {0}
+abbrev pub HonestBaseEvent : List Row → BaseEvent → Type 0
+HonestBaseEvent table (Hears bytes) = IsHonest table bytes
+HonestBaseEvent table Ticks = Unit {0}
 
 -- the frames among the items of an input are honest by a table of images
 abbrev pub HonestLine : List Row → (input : List ℕ) → Type 0
-HonestLine table input = AllByRecursion (HonestDeed table) (deeds_of (take most_input input))
+HonestLine table input = AllByRecursion (HonestBaseEvent table) (base_events_of (take most_input input))
 
 -- the mote is on, and agrees with the table, and so does its chip
 abbrev pub StandsWell : List Row → Base → At → Type 0

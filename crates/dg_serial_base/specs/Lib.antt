@@ -1,4 +1,4 @@
-pub mod Deeds
+pub mod BaseEvents
 pub mod Based
 pub mod Agreeing
 pub mod Consistency

@@ -7,8 +7,8 @@ ghost use Rattle.dg_volume.specs.Table.{IsTable};
 ghost use Rattle.dg_mote.specs.Well.{StoreIsWell};
 ghost use Rattle.dg_mote.specs.Consistency.{StoreIsConsistent};
 ghost use Rattle.dg_serial_base.specs.Agreeing.{HonestLine, ChipAgrees};
-ghost use Rattle.dg_serial_base.specs.Based.{outside_base, Based, Refused, Causes};
-ghost use Rattle.dg_serial_base.specs.Consistency.{StaysConsistent};
+ghost use Rattle.dg_serial_base.specs.Based.{outside_base, Based, Refused, BaseCauses};
+ghost use Rattle.dg_serial_base.specs.Consistency.{BaseStaysConsistent};
 ghost use Rattle.dg_serial_base.specs.inner.Ending.{TellsStatus, TellsStop, TellsResult, LineEnds, LineRefused};
 ghost use Rattle.dg_serial_base.specs.inner.Standing.{Counts, WriteCounts, ReadCounts};
 
@@ -127,7 +127,7 @@ pub fn base<S: Source, K: Sink, N: Nor>(
         (outside_base (S.left input.old) (S.faults input.old) (K.written out.old) (K.faults out.old) (N.device nor.old))
         (outside_base (S.left input.new) (S.faults input.new) (K.written out.new) (K.faults out.new) (N.device nor.new)) }
     // A fault of the outside is reported, and only with its own answer.
-    ensures causes { Causes result
+    ensures causes { BaseCauses result
         (outside_base (S.left input.old) (S.faults input.old) (K.written out.old) (K.faults out.old) (N.device nor.old))
         (outside_base (S.left input.new) (S.faults input.new) (K.written out.new) (K.faults out.new) (N.device nor.new)) }
     ensures agrees { (s : Store) (table : List Row) (x : Based result (record { id = id; step = step; seed = seed }) s
@@ -138,7 +138,7 @@ pub fn base<S: Source, K: Sink, N: Nor>(
         (outside_base (S.left input.old) (S.faults input.old) (K.written out.old) (K.faults out.old) (N.device nor.old))
         (outside_base (S.left input.new) (S.faults input.new) (K.written out.new) (K.faults out.new) (N.device nor.new)))
         → IsRow golden → StoreIsConsistent golden s
-        → StaysConsistent golden result (record { id = id; step = step; seed = seed }) s x.input (N.device nor.new).image }
+        → BaseStaysConsistent golden result (record { id = id; step = step; seed = seed }) s x.input (N.device nor.new).image }
 {
     a_mote_stays_well();
     a_mote_keeps_consistency();

@@ -1,8 +1,8 @@
 //! The bytes of the line, played one after the other.
 ghost use Rattle.std.specs.Prelude.{◌≡◌, ℕ, ◌+◌, ◌*◌, ◌^◌, ◌<◌, ◌≤◌, List, [], ◌∷◌, ◌++◌, length, OnOk};
 ghost use Rattle.dg_base.specs.Sizes.{longest_frame};
-ghost use Rattle.dg_serial.specs.Reading.{told};
-ghost use Rattle.dg_serial_base.specs.Deeds.{Deed, Hears, Ticks, deeds_of_items};
+ghost use Rattle.dg_serial.specs.Reading.{items_told};
+ghost use Rattle.dg_serial_base.specs.BaseEvents.{BaseEvent, Hears, Ticks, base_events_of_items};
 ghost use Rattle.dg_serial_base.specs.inner.Standing.{Counts, WriteCounts, ReadCounts, Outset, code_at, code_on_line};
 ghost use Rattle.dg_serial_base.specs.inner.Standing.{IsStood, CompletedOn, ContinueEnds, StreamPlayed, StreamEnds};
 
@@ -28,7 +28,7 @@ impl Player {
         requires stood { IsStood self.old.running (N.device nor.old).image }
         requires early { self.old.running.timeline.moment < 2 ^ 61 }
         requires little { self.old.running.timeline.step ≤ 60000 }
-        ensures ends { (a : Outset) (done : List Deed)
+        ensures ends { (a : Outset) (done : List BaseEvent)
             → CompletedOn a done (code_at (K.written out.old) self.old.running (N.device nor.old))
             → ContinueEnds result a (done ++ Ticks ∷ []) (code_at (K.written out.new) self.new.running (N.device nor.new)) }
         ensures stood { OnOk result (IsStood self.new.running (N.device nor.new).image) }
@@ -56,7 +56,7 @@ impl Player {
         requires stood { IsStood self.old.running (N.device nor.old).image }
         requires early { self.old.running.timeline.moment < 2 ^ 60 }
         requires little { self.old.running.timeline.step ≤ 60000 }
-        ensures ends { (a : Outset) (done : List Deed)
+        ensures ends { (a : Outset) (done : List BaseEvent)
             → CompletedOn a done (code_at (K.written out.old) self.old.running (N.device nor.old))
             → ContinueEnds result a (done ++ Hears bytes.now ∷ Ticks ∷ [])
             (code_at (K.written out.new) self.new.running (N.device nor.new)) }
@@ -79,9 +79,9 @@ impl Player {
         requires stood { IsStood self.old.running (N.device nor.old).image }
         requires early { self.old.running.timeline.moment < 2 ^ 60 }
         requires little { self.old.running.timeline.step ≤ 60000 }
-        ensures ends { (a : Outset) (done : List Deed)
+        ensures ends { (a : Outset) (done : List BaseEvent)
             → CompletedOn a done (code_at (K.written out.old) self.old.running (N.device nor.old))
-            → ContinueEnds result a (done ++ deeds_of_items (told fed.now))
+            → ContinueEnds result a (done ++ base_events_of_items (items_told fed.now))
             (code_at (K.written out.new) self.new.running (N.device nor.new)) }
         ensures stood { OnOk result (IsStood self.new.running (N.device nor.new).image) }
         ensures counts { Counts result (N.device nor.old) (N.device nor.new) }

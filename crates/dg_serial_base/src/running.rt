@@ -3,8 +3,8 @@ ghost use Rattle.std.specs.Prelude.{◌≡◌, ℕ, ◌+◌, ◌^◌, ◌<◌, �
 ghost use Rattle.dg_volume.specs.Store.{Store};
 ghost use Rattle.dg_volume.specs.Stands.{Stands, IsNoVolume};
 ghost use Rattle.dg_mote.specs.Motes.{sent_in};
-ghost use Rattle.dg_serial_base.specs.Deeds.{Base, At as Place, Deed, Hears, Ticks};
-ghost use Rattle.dg_serial_base.specs.inner.Standing.{NoneEnds, PowerEnds, DeedEnds, deed_left};
+ghost use Rattle.dg_serial_base.specs.BaseEvents.{Base, At as Place, BaseEvent, Hears, Ticks};
+ghost use Rattle.dg_serial_base.specs.inner.Standing.{NoneEnds, PowerEnds, BaseEventEnds, base_event_left};
 ghost use Rattle.dg_serial_base.specs.inner.Standing.{Counts, WriteCounts, ReadCounts, Stood, IsStood};
 
 use crate::stop::Stop;
@@ -55,9 +55,9 @@ impl Running {
         requires stood { IsStood self.old (N.device nor.old).image }
         requires early { self.old.timeline.moment < 2 ^ 61 }
         requires little { self.old.timeline.step ≤ 60000 }
-        ensures ends { (b : Base) (s : Store) (done : List Deed) (before : Place)
+        ensures ends { (b : Base) (s : Store) (done : List BaseEvent) (before : Place)
             → Stood b s done self.old (N.device nor.old).image before
-            → DeedEnds result b s done (Hears bytes.now) before (deed_left self.new (N.device nor.new) None) }
+            → BaseEventEnds result b s done (Hears bytes.now) before (base_event_left self.new (N.device nor.new) None) }
         ensures stood { OnOk result (IsStood self.new (N.device nor.new).image) }
         ensures counts { Counts result (N.device nor.old) (N.device nor.new) }
         ensures moment { self.new.timeline.moment ≤ self.old.timeline.moment + 60000 }
@@ -76,9 +76,9 @@ impl Running {
         requires early { self.old.timeline.moment < 2 ^ 61 }
         requires little { self.old.timeline.step ≤ 60000 }
         requires empty { sent_in outbox.old ≡ None }
-        ensures ends { (b : Base) (s : Store) (done : List Deed) (before : Place)
+        ensures ends { (b : Base) (s : Store) (done : List BaseEvent) (before : Place)
             → Stood b s done self.old (N.device nor.old).image before
-            → DeedEnds result b s done Ticks before (deed_left self.new (N.device nor.new) (sent_in outbox.new)) }
+            → BaseEventEnds result b s done Ticks before (base_event_left self.new (N.device nor.new) (sent_in outbox.new)) }
         ensures stood { OnOk result (IsStood self.new (N.device nor.new).image) }
         ensures frame { OnOk result (IfSome (sent_in outbox.new) (λ frame. 1 ≤ length frame)) }
         ensures counts { Counts result (N.device nor.old) (N.device nor.new) }

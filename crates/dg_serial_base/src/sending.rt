@@ -2,7 +2,7 @@
 ghost use Rattle.std.specs.Prelude.{◌≡◌, ◌≤◌, IfSome, IfOk, OnOk, length};
 ghost use Rattle.dg_base.specs.Sizes.{longest_frame};
 ghost use Rattle.dg_mote.specs.Motes.{sent_in};
-ghost use Rattle.dg_serial.specs.Line.{stuffed, line_of, IsOnLine};
+ghost use Rattle.dg_serial.specs.Line.{stuffed, stuffed_line, IsOnLine};
 ghost use Rattle.dg_serial_base.specs.inner.Standing.{SendEnds, WriteCounts, one_if};
 
 use crate::stop::Stop;
@@ -28,7 +28,7 @@ fn write_frame<K: Sink>(frame: &[u8], text: &mut Vec<u8>, out: &mut K) -> Result
 /// Writes the frame of an outbox as it is on the line, if there is one. `text` is used for it.
 pub(crate) fn send<K: Sink>(outbox: &Outbox, text: &mut Vec<u8>, out: &mut K) -> Result<(), Stop>
     requires { IfSome (sent_in outbox.now) (λ frame. 1 ≤ length frame) }
-    ensures sends { SendEnds result (line_of (one_if (sent_in outbox.now))) (K.written out.old) (K.written out.new) }
+    ensures sends { SendEnds result (stuffed_line (one_if (sent_in outbox.now))) (K.written out.old) (K.written out.new) }
     ensures counts { WriteCounts result (K.faults out.old) (K.faults out.new) }
     ensures fits { IfSome (sent_in outbox.now) IsOnLine }
 {

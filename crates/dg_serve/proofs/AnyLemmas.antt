@@ -34,11 +34,11 @@ use Rattle.dg_script.specs.declared.line.Line.TheVariants.{Link, Happens as Even
 use Rattle.dg_script.specs.declared.place.Place.{Place}
 use Rattle.dg_script.specs.declared.report.Report.{Report}
 use Rattle.dg_world.specs.Alone.{uncut}
-use Rattle.dg_serve.specs.Promised.{event_item, item_played, RunOf, StoresConsistent, StoresKeepGolden, StaysConsistent, LeavesGolden, ServiceKeepsGolden, world_by, ReplaysTo}
+use Rattle.dg_serve.specs.Promised.{event_item, served_item, RunOf, StoresConsistent, StoresKeepGolden, ServiceStaysConsistent, LeavesGolden, ServiceKeepsGolden, world_by, ReplaysTo}
 use Rattle.dg_serve.specs.Traces.{IsScript, trace, trace_lines}
 use Rattle.dg_serve.specs.Services.{Part, Begins, Looks, Ticks, Moment, Course, course}
 use Rattle.dg_serve.specs.Endings.{StoresOf, FindsNoImage, Remains, remains, EndsInNext, event_of}
-use Rattle.dg_serve.specs.Served.{Outside, BoardsAfter, Wrote, Began}
+use Rattle.dg_serve.specs.Served.{ServiceOutside, BoardsAfter, WroteTrace, Began}
 use Rattle.dg_serve.specs.declared.stop.Stop.{Stop}
 use Rattle.dg_serve.specs.declared.stop.Stop.TheVariants as stop
 use Rattle.dg_serve.proofs.EventLemmas.{same_of}
@@ -103,7 +103,7 @@ module _ (laws : AnyLaws) (golden : Row) (motes : ℕ) where
       (record { world = world; count = item_count motes p.item p.before p.after p.reports h.count range did }, record { leaves = world; starts = item_starts p.item p.before h range })
 
 pub stays_consistent : AnyLaws → (golden : Row) (motes : ℕ) (table : List Row) (stores : List Store) (links : List (ℕ × ℕ)) (played : List Played) (v : World) → length stores ≡ motes → StoresConsistent golden stores → Plays (first_world table links none_narrow stores) played v
-    → AllByRecursion (PlayedInRange motes) played → StaysConsistent golden motes played v
+    → AllByRecursion (PlayedInRange motes) played → ServiceStaysConsistent golden motes played v
 stays_consistent laws golden motes table stores links played v count h run ranges =
     let first : Holds golden motes (first_world table links none_narrow stores) = record { world = first_consistent table stores links golden h; count = first_count table stores links ∙ count } in
     let all = plays (λ past w. Holds golden motes w) (PlayedInRange motes) (λ past p. Has golden p) (played_holds laws golden motes) [] played (first_world table links none_narrow stores) v run ranges first in
@@ -158,7 +158,7 @@ keeps_behind laws motes table stores links played v count h run ranges =
 part_finds : GoldenLaws → (motes : ℕ) (w : World) (part : Part) (dt word : ℕ) (bytes : List ℕ) (old new : List Device) → Keeps motes w → PartFits motes part → FindsNoImage w (event_of part dt word bytes) old new → ⊥
 part_finds laws motes w (Begins m) dt word bytes old new k fits none =
     laws.goes_on w none.world (uncut (Reset m dt word)) k.golden (record { event = subst (λ (n : ℕ). m < n) (sym k.count) fits; cut = tt }) none.ends
-part_finds laws motes w (Looks m) dt word bytes old new k fits none = frame_runs w m dt word bytes none.ends.deed none.ends.goes none.ends.none
+part_finds laws motes w (Looks m) dt word bytes old new k fits none = frame_runs w m dt word bytes none.ends.effect none.ends.goes none.ends.none
 part_finds laws motes w (Ticks m) dt word bytes old new k fits none =
     laws.goes_on w none.world (uncut (Tick m dt word)) k.golden (record { event = subst (λ (n : ℕ). m < n) (sym k.count) fits; cut = tt }) none.ends
 
@@ -167,8 +167,8 @@ next_finds laws motes s left old new k fits n =
     part_finds laws motes s.world n.part n.dt n.word n.bytes old new.boards k (subst (AllByRecursion (PartFits motes)) n.is fits).0 n.ends
 
 -- a service ends so only where its last part did
-pub ends_found : (why : Option Stop) (answer : Status) (profile : NetProfile) (boards : ℕ) (s : Moment) (c : Course) (last : Moment) (first : List Device) (after : Outside) (text : List ℕ)
-    → Wrote why answer profile boards c.events text → BoardsAfter why profile.motes s c last first after → (EndsInNext stop.NoImage last c.left first (remains after.boards after.inboxes after.clock) → ⊥) → answer ≡ status.NoImage → ⊥
+pub ends_found : (why : Option Stop) (answer : Status) (profile : NetProfile) (boards : ℕ) (s : Moment) (c : Course) (last : Moment) (first : List Device) (after : ServiceOutside) (text : List ℕ)
+    → WroteTrace why answer profile boards c.events text → BoardsAfter why profile.motes s c last first after → (EndsInNext stop.NoImage last c.left first (remains after.boards after.inboxes after.clock) → ⊥) → answer ≡ status.NoImage → ⊥
 ends_found None answer profile boards s c last first after text wrote ends never is = let e = wrote.0 in absurd cc
 ends_found (Some stop.Memory) answer profile boards s c last first after text wrote ends never is = let e = wrote.0 in absurd cc
 ends_found (Some stop.Write) answer profile boards s c last first after text wrote ends never is = let e = wrote.0 in absurd cc
@@ -178,7 +178,7 @@ ends_found (Some stop.NotAVolume) answer profile boards s c last first after tex
 ends_found (Some stop.NotAVolume) answer profile boards s c last first after text (inr wrote) ends never is = let e = wrote.0 in absurd cc
 ends_found (Some stop.NoImage) answer profile boards s c last first after text wrote ends never is = never ends.0
 
-pub finds_golden : GoldenLaws → (answer : Status) (profile : NetProfile) (seed turns : ℕ) (before after : Outside) (x : Began answer profile seed turns before after) (table : List Row) (stores : List Store) (fits : StoresOf profile.motes before.boards stores)
+pub finds_golden : GoldenLaws → (answer : Status) (profile : NetProfile) (seed turns : ℕ) (before after : ServiceOutside) (x : Began answer profile seed turns before after) (table : List Row) (stores : List Store) (fits : StoresOf profile.motes before.boards stores)
     → RunOf profile.motes (first_world table profile.links none_narrow stores) x.events (x.came table stores fits).last.world → StoresKeepGolden stores → answer ≡ status.NoImage → ⊥
 finds_golden laws answer profile seed turns before after x table stores fits run h is =
     let came = x.came table stores fits in
@@ -209,18 +209,18 @@ pub stepped_by : (u : World) (p : Played) (event : Event) → p.before ≡ u →
 stepped_by u p event before item did = subst (λ (i : Item). ItemStep u i p.after p.reports) item (subst (λ (b : World). ItemStep b p.item p.after p.reports) before did)
 
 -- and so do uncut events one after the other
-one_end : (events : List Event) (u v w : World) (ps qs : List Played) → map item_played ps ≡ map event_item events → map item_played qs ≡ map event_item events → Plays u ps v → Plays u qs w → w ≡ v
+one_end : (events : List Event) (u v w : World) (ps qs : List Played) → map served_item ps ≡ map event_item events → map served_item qs ≡ map event_item events → Plays u ps v → Plays u qs w → w ≡ v
 unfolding Plays
 one_end [] u v w [] [] e f h k = sym k ∙ h
-one_end [] u v w (p ∷ ps) qs e f h k = absurd (none_is_some (item_played p) (map item_played ps) e)
-one_end [] u v w [] (q ∷ qs) e f h k = absurd (none_is_some (item_played q) (map item_played qs) f)
+one_end [] u v w (p ∷ ps) qs e f h k = absurd (none_is_some (served_item p) (map served_item ps) e)
+one_end [] u v w [] (q ∷ qs) e f h k = absurd (none_is_some (served_item q) (map served_item qs) f)
 one_end (x ∷ xs) u v w [] qs e f h k = absurd (none_is_some (event_item x) (map event_item xs) (sym e))
 one_end (x ∷ xs) u v w (p ∷ ps) [] e f h k = absurd (none_is_some (event_item x) (map event_item xs) (sym f))
 one_end (x ∷ xs) u v w (p ∷ ps) (q ∷ qs) e f h k =
-    let a = stepped_by u p x h.0 (first_is (item_played p) (event_item x) (map item_played ps) (map event_item xs) e) h.1 in
-    let b = stepped_by u q x k.0 (first_is (item_played q) (event_item x) (map item_played qs) (map event_item xs) f) k.1 in
+    let a = stepped_by u p x h.0 (first_is (served_item p) (event_item x) (map served_item ps) (map event_item xs) e) h.1 in
+    let b = stepped_by u q x k.0 (first_is (served_item q) (event_item x) (map served_item qs) (map event_item xs) f) k.1 in
     let same : q.after ≡ p.after = one_world u q.after p.after x b.0 a.0 b.1 a.1 in
-    one_end xs p.after v w ps qs (others_are (item_played p) (event_item x) (map item_played ps) (map event_item xs) e) (others_are (item_played q) (event_item x) (map item_played qs) (map event_item xs) f) h.2 (subst (λ (z : World). Plays z qs w) same k.2)
+    one_end xs p.after v w ps qs (others_are (served_item p) (event_item x) (map served_item ps) (map event_item xs) e) (others_are (served_item q) (event_item x) (map served_item qs) (map event_item xs) f) h.2 (subst (λ (z : World). Plays z qs w) same k.2)
 
 -- ---- the items of a trace, and where its run begins
 

@@ -28,8 +28,8 @@ use Rattle.dg_world.specs.declared.outcome.Fault.TheVariants as fault
 use Rattle.dg_node.specs.declared.node.Node.{Node}
 use Rattle.dg_serve.specs.Services.{Moment}
 use Rattle.dg_serve.specs.Traces.{event_lines, IsEventLine}
-use Rattle.dg_serve.specs.Endings.{BoardsStand}
-use Rattle.dg_serve.specs.Standings.{Standing, StandsFor, Ready, BoardsAreUsed, BoardsAreCalm, PlayedAt, at_mote, AppliedAt, NotApplied, AppliedPartly, ApplyEnds, HandedToSome, FailuresBy, begun_before, begun_behind, handed_by, stop_by, stops_by}
+use Rattle.dg_serve.specs.Endings.{ServedBoardsStand}
+use Rattle.dg_serve.specs.Standings.{Standing, StandsFor, StandsReady, BoardsAreUsed, BoardsAreCalm, PlayedAt, at_mote, AppliedAt, NotApplied, AppliedPartly, ApplyEnds, HandedToSome, FailuresBy, begun_before, begun_behind, handed_by, stop_by, stops_by}
 use Rattle.dg_serve.specs.declared.service.Service.{Service}
 use Rattle.dg_serve.specs.declared.stop.Stop.{Stop}
 use Rattle.dg_serve.specs.declared.stop.Stop.TheVariants as stop
@@ -49,7 +49,7 @@ memory_ends motes links event p q untold link boards failures faults port = reco
   untold = untold;
   link = link;
   port = port;
-  run = λ first s st. subst (λ bs. BoardsStand s.world first bs) (sym boards) (stands_boards motes (begun_before motes event) (dt_of event) links first s p st);
+  run = λ first s st. subst (λ bs. ServedBoardsStand s.world first bs) (sym boards) (stands_boards motes (begun_before motes event) (dt_of event) links first s p st);
   boards = subst (λ bs. BoardsAreUsed motes p.boards bs) (sym boards) (used_same motes p.boards);
   calm = λ other. subst (λ bs. BoardsAreCalm p.boards bs) (sym boards) (all_calm p.boards);
   failures = failures;
@@ -255,7 +255,7 @@ module _ (motes : ℕ) (links : List (ℕ × ℕ)) (event : Event) (out : Outbox
     };
   }
 
-  ready_behind : q.addressees ≡ p.addressees → Ready motes (begun_before motes event) p → Ready motes (begun_behind motes event) q
+  ready_behind : q.addressees ≡ p.addressees → StandsReady motes (begun_before motes event) p → StandsReady motes (begun_behind motes event) q
   ready_behind addressees ready = record {
     motes_are = ap length h.set.put ∙ length-set p.service.motes.items (mote_of event) (ran_at q (mote_of event)) ∙ ready.motes_are;
     boards = let n = (boards_are motes h.set.known).count in omega (arith, n, ready.boards);

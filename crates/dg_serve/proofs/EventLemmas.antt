@@ -25,7 +25,7 @@ use Rattle.dg_node.specs.declared.node.Node.{Node}
 use Rattle.dg_world.proofs.PlaceLemmas.{is_or}
 use Rattle.dg_seed.specs.Draws.{generator_of}
 use Rattle.dg_serve.specs.Services.{Moment, Steps, new_frames, handed}
-use Rattle.dg_serve.specs.Endings.{BoardStands, BoardsStandBut, BoardsStand, StopsInEvent, FindsNoVolume, FindsNoImage}
+use Rattle.dg_serve.specs.Endings.{BoardStands, BoardsStandBut, ServedBoardsStand, StopsInEvent, FindsNoVolume, FindsNoImage}
 use Rattle.dg_serve.specs.Standings.{Standing, StandsFor, handed_by}
 use Rattle.dg_serve.proofs.BoardLemmas.{get_set_same, get_set_other, got_within}
 
@@ -41,7 +41,7 @@ same_of o x y p q = same_Some x y (sym p ∙ q)
 
 -- ---- what boards stand for
 
-pub stands_boards : (motes begun ahead : ℕ) (links : List (ℕ × ℕ)) (first : List Device) (s : Moment) (p : Standing) → StandsFor motes begun links ahead first s p → BoardsStand s.world first p.boards
+pub stands_boards : (motes begun ahead : ℕ) (links : List (ℕ × ℕ)) (first : List Device) (s : Moment) (p : Standing) → StandsFor motes begun links ahead first s p → ServedBoardsStand s.world first p.boards
 stands_boards motes begun ahead links first s p st m a b known never was now =
     let within : m < motes = omega (arith, known, st.sites) in
     ⊎_elim
@@ -114,7 +114,7 @@ module _ (links : List (ℕ × ℕ)) (motes begun on ahead : ℕ) (event : Event
       (λ volume. subst P (sym (same m other)) (x.0 volume), x.1)
 
   -- and so do all, where that of the event does
-  all_stand : (w : World) → ((m : ℕ) → m ≢ mote_of event → store_at w m ≡ store_at s.world m) → length w.sites ≡ motes → ((a : Device) → slice_get first (mote_of event) ≡ Some a → BoardStands w (mote_of event) a after) → BoardsStand w first q.boards
+  all_stand : (w : World) → ((m : ℕ) → m ≢ mote_of event → store_at w m ≡ store_at s.world m) → length w.sites ≡ motes → ((a : Device) → slice_get first (mote_of event) ≡ Some a → BoardStands w (mote_of event) a after) → ServedBoardsStand w first q.boards
   all_stand w same count this m a b known never was now =
       ⊎_elim
       (λ is.
@@ -186,7 +186,7 @@ module _ (links : List (ℕ × ℕ)) (motes begun on ahead : ℕ) (event : Event
     }
 
     -- where the boards stand so, whatever was forwarded
-    pub boards_then : BoardsStand d.world first q.boards
+    pub boards_then : ServedBoardsStand d.world first q.boards
     boards_then = all_stand d.world (λ m other. ap (λ (y : Site). y.store) (site_there m other)) sites_count
         (λ a was.
         let P : Store → Type 0 = λ t. Stands after.image t in
@@ -219,13 +219,13 @@ module _ (links : List (ℕ × ℕ)) (motes begun on ahead : ℕ) (event : Event
   pub finds_no_image : ((a : Device) → slice_get first (mote_of event) ≡ Some a → IsVolume a.image) → StepFoundNoImage (does s.world event) None after.image → FindsNoImage s.world event first q.boards
   finds_no_image volume l =
       let m = mote_of event in
-      let then_site : Site = record { store = last l.deed.trail; runs = None } in
-      let world = cut_world s.world m (dt_of event) l.deed (last l.deed.trail) in
-      let here_is : store_at world m ≡ last l.deed.trail = ap (λ (y : Site). y.store) (get_or-set_same s.world.sites m then_site no_site (omega (arith, h.known, h.stands.sites))) in
+      let then_site : Site = record { store = last l.effect.trail; runs = None } in
+      let world = cut_world s.world m (dt_of event) l.effect (last l.effect.trail) in
+      let here_is : store_at world m ≡ last l.effect.trail = ap (λ (y : Site). y.store) (get_or-set_same s.world.sites m then_site no_site (omega (arith, h.known, h.stands.sites))) in
       let P : Store → Type 0 = λ t. Stands after.image t in
       record {
         world = world;
-        ends = record { deed = l.deed; goes = l.goes; whole = l.whole; none = l.none; world = refl };
+        ends = record { effect = l.effect; goes = l.goes; whole = l.whole; none = l.none; world = refl };
         boards = all_stand world (λ k other. ap (λ (y : Site). y.store) (get_or-set_other s.world.sites m k then_site no_site other)) (length-set s.world.sites m then_site ∙ h.stands.sites)
             (λ a was. (λ is. subst P (sym here_is) l.stands, λ none. let x = volume a was in absurd (none x.0 x.1)));
       }

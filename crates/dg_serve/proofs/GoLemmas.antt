@@ -17,7 +17,7 @@ use Rattle.dg_script.specs.declared.line.Line.TheVariants.{Happens as EventLine}
 use Rattle.dg_serve.specs.Services.{Part, Moment, PartDone, PartsDone, course}
 use Rattle.dg_serve.specs.Traces.{UnwrittenLast, event_lines}
 use Rattle.dg_serve.specs.Endings.{Remains, remains, EndsInNext, LosesFrame, FoundBy, PartlyHanded, StopLeaves}
-use Rattle.dg_serve.specs.Standings.{Standing, Ready, IsBelow, IsEventAt, IsPartAt, ServedParts, CountsBy, PartsHalted, GoesOn, stretch}
+use Rattle.dg_serve.specs.Standings.{Standing, StandsReady, IsBelow, IsEventAt, IsPartAt, ServedParts, CountsBy, PartsHalted, PartsGoOn, stretch}
 use Rattle.dg_serve.specs.declared.stop.Stop.{Stop}
 use Rattle.dg_serve.specs.declared.stop.Stop.TheVariants as stop
 use Rattle.dg_serve.proofs.RunLemmas.{all_front, all_back, all_both}
@@ -52,7 +52,7 @@ lines_then es fs = ap (λ ls. flat_map (λ l. line_text l ++ 10 ∷ []) ls) (map
 
 -- ---- parts that were done
 
-pub went_none : (motes begun : ℕ) (links : List (ℕ × ℕ)) (p : Standing) → Ready motes begun p → ServedParts motes begun begun links [] p p
+pub went_none : (motes begun : ℕ) (links : List (ℕ × ℕ)) (p : Standing) → StandsReady motes begun p → ServedParts motes begun begun links [] p p
 went_none motes begun links p ready = record {
   events = [];
   put = puts_none p.written;
@@ -257,6 +257,6 @@ went_halts why motes begun mid links ps qs p q r order a h = record {
 }
 
 -- parts, and then others, each done or stopped in
-pub goes_then : (x : Result (Unit {0}) Stop) (motes begun mid on : ℕ) (links : List (ℕ × ℕ)) (ps qs : List Part) (p q r : Standing) → mid ≤ on → mid ≤ motes → ServedParts motes begun mid links ps p q → GoesOn x motes links (stretch mid on qs) q r → GoesOn x motes links (stretch begun on (ps ++ qs)) p r
+pub goes_then : (x : Result (Unit {0}) Stop) (motes begun mid on : ℕ) (links : List (ℕ × ℕ)) (ps qs : List Part) (p q r : Standing) → mid ≤ on → mid ≤ motes → ServedParts motes begun mid links ps p q → PartsGoOn x motes links (stretch mid on qs) q r → PartsGoOn x motes links (stretch begun on (ps ++ qs)) p r
 goes_then (Ok u) motes begun mid on links ps qs p q r order within a b = went_then motes begun mid on links ps qs p q r order a b
 goes_then (Err why) motes begun mid on links ps qs p q r order within a b = went_halts why motes begun mid links ps qs p q r within a b

@@ -25,7 +25,7 @@ use Rattle.dg_script.specs.declared.report.Report.{Report}
 use Rattle.dg_world.specs.Alone.{IsAlone, uncut}
 use Rattle.dg_serve.specs.Services.{Part, Begins, Looks, Ticks, Moment, Steps, EventApplied, PartDone, PartsDone, handed_to, handed, neighbours, new_frames}
 use Rattle.dg_serve.specs.Endings.{TakesFor, event_of}
-use Rattle.dg_serve.specs.Promised.{event_item, item_played}
+use Rattle.dg_serve.specs.Promised.{event_item, served_item}
 use Rattle.dg_serve.proofs.AnyLemmas.{first_is, others_are, none_is_some, stepped_by}
 use Rattle.dg_serve.proofs.RunLemmas.{PartFits, all_both}
 
@@ -217,12 +217,12 @@ module _ (keeps : KeepsAgreement) (table : List Row) (motes : ℕ) where
 
 -- ---- what was played
 
-pub played_honest : (table : List Row) (es : List Event) (ps : List Played) (u v : World) → map item_played ps ≡ map event_item es → Plays u ps v → u.table ≡ table → AllByRecursion (HonestAlone table) es → AllByRecursion (HoldsToThen table) ps
+pub played_honest : (table : List Row) (es : List Event) (ps : List Played) (u v : World) → map served_item ps ≡ map event_item es → Plays u ps v → u.table ≡ table → AllByRecursion (HonestAlone table) es → AllByRecursion (HoldsToThen table) ps
 unfolding Plays
 played_honest table es [] u v e plays same h = tt
-played_honest table [] (p ∷ ps) u v e plays same h = absurd (none_is_some (item_played p) (map item_played ps) e)
+played_honest table [] (p ∷ ps) u v e plays same h = absurd (none_is_some (served_item p) (map served_item ps) e)
 played_honest table (x ∷ xs) (p ∷ ps) u v e plays same h =
-    let item = first_is (item_played p) (event_item x) (map item_played ps) (map event_item xs) e in
+    let item = first_is (served_item p) (event_item x) (map served_item ps) (map event_item xs) e in
     let did = stepped_by u p x plays.0 item plays.1 in
     let here : ItemHoldsTo table p.item p.before = subst (λ (i : Item). ItemHoldsTo table i p.before) (sym item) (subst (λ (w : World). HoldsTo table w x) (sym plays.0) (holds_event table u x same h.0)) in
-    (here, played_honest table xs ps p.after v (others_are (item_played p) (event_item x) (map item_played ps) (map event_item xs) e) plays.2 (alone_table u p.after x did.0 h.0.0 did.1 ∙ same) h.1)
+    (here, played_honest table xs ps p.after v (others_are (served_item p) (event_item x) (map served_item ps) (map event_item xs) e) plays.2 (alone_table u p.after x did.0 h.0.0 did.1 ∙ same) h.1)

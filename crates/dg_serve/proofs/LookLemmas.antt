@@ -6,8 +6,8 @@ use Rattle.dg_link.specs.Inboxes.{Inboxes, TakesFrame, IsEmptyAt}
 use Rattle.dg_script.specs.Ranges.{IsFrame}
 use Rattle.dg_nor.specs.Device.{Device}
 use Rattle.dg_serve.specs.Services.{Looks, Moment, course}
-use Rattle.dg_serve.specs.Endings.{BoardsStand, remains, StopLeaves}
-use Rattle.dg_serve.specs.Standings.{Standing, Ready, BoardsAreUsed, BoardsAreCalm, ServedParts, PartsHalted, GoesOn, stretch, ReceivedAt, FailuresBy}
+use Rattle.dg_serve.specs.Endings.{ServedBoardsStand, remains, StopLeaves}
+use Rattle.dg_serve.specs.Standings.{Standing, StandsReady, BoardsAreUsed, BoardsAreCalm, ServedParts, PartsHalted, PartsGoOn, stretch, ReceivedAt, FailuresBy}
 use Rattle.dg_serve.specs.declared.stop.Stop.{Stop}
 use Rattle.dg_serve.specs.declared.stop.Stop.TheVariants as stop
 use Rattle.dg_serve.proofs.BoardLemmas.{used_same, all_calm}
@@ -17,7 +17,7 @@ use Rattle.dg_serve.proofs.TurnLemmas.{puts_none}
 
 -- ---- a look that found none
 
-none_came_at : (motes mote : ℕ) (links : List (ℕ × ℕ)) (p q : Standing) → Ready motes motes p → IsEmptyAt mote p.inboxes → q ≡ p → ServedParts motes motes motes links (Looks mote ∷ []) p q
+none_came_at : (motes mote : ℕ) (links : List (ℕ × ℕ)) (p q : Standing) → StandsReady motes motes p → IsEmptyAt mote p.inboxes → q ≡ p → ServedParts motes motes motes links (Looks mote ∷ []) p q
 none_came_at motes mote links p q ready none same = subst (λ x. ServedParts motes motes motes links (Looks mote ∷ []) p x) (sym same) (record {
   events = [];
   put = puts_none p.written p.written refl;
@@ -44,7 +44,7 @@ same_standing : (p : Standing) (i : Option Inboxes) (a n : ℕ) (o : Option ℕ)
 same_standing p i a n o e f h k =
     ap (λ (x : Option Inboxes). record p { inboxes = x; addressees = a; failures = n; port = o }) e ∙ ap (λ (x : ℕ). record p { addressees = x; failures = n; port = o }) f ∙ ap (λ (x : ℕ). record p { failures = x; port = o }) h ∙ ap (λ (x : Option ℕ). record p { port = x }) k
 
-pub none_came : (motes mote : ℕ) (links : List (ℕ × ℕ)) (p : Standing) (i : Option Inboxes) (a n : ℕ) (o : Option ℕ) → i ≡ p.inboxes → a ≡ p.addressees → n ≡ p.failures → o ≡ p.port → Ready motes motes p → IsEmptyAt mote p.inboxes
+pub none_came : (motes mote : ℕ) (links : List (ℕ × ℕ)) (p : Standing) (i : Option Inboxes) (a n : ℕ) (o : Option ℕ) → i ≡ p.inboxes → a ≡ p.addressees → n ≡ p.failures → o ≡ p.port → StandsReady motes motes p → IsEmptyAt mote p.inboxes
     → ServedParts motes motes motes links (Looks mote ∷ []) p (record p { inboxes = i; addressees = a; failures = n; port = o })
 none_came motes mote links p i a n o e f h k ready none = none_came_at motes mote links p (record p { inboxes = i; addressees = a; failures = n; port = o }) ready none (same_standing p i a n o e f h k)
 
@@ -52,7 +52,7 @@ none_came motes mote links p i a n o e f h k ready none = none_came_at motes mot
 
 module _ (motes mote : ℕ) (links : List (ℕ × ℕ)) (p q : Standing) (boards : q.boards ≡ p.boards) (written : q.written ≡ p.written) (faults : q.faults ≡ p.faults) (clock : q.clock ≡ p.clock) (reached : q.reached ≡ p.reached) (port : q.port ≡ p.port) where
   unlooked : (why : Stop) → why ≢ stop.Write
-      → ((first : List Device) (s : Moment) → p.inboxes ≡ s.inboxes → q.clock ≡ s.clock → BoardsStand s.world first q.boards → StopLeaves why motes s (course [] [] (Looks mote ∷ [])) s first (remains q.boards q.inboxes q.clock))
+      → ((first : List Device) (s : Moment) → p.inboxes ≡ s.inboxes → q.clock ≡ s.clock → ServedBoardsStand s.world first q.boards → StopLeaves why motes s (course [] [] (Looks mote ∷ [])) s first (remains q.boards q.inboxes q.clock))
       → (why ≡ stop.Link → Rose p.failures q.failures) → (why ≢ stop.Link → q.failures ≡ p.failures) → p.failures ≤ q.failures → PartsHalted why motes motes links (Looks mote ∷ []) p q
   unlooked why writes left sent failures rise = record {
     events = [];
@@ -66,7 +66,7 @@ module _ (motes mote : ℕ) (links : List (ℕ × ℕ)) (p q : Standing) (boards
     run = λ first s st. (
       s,
       no_part motes s,
-      left first s st.inboxes (clock ∙ st.clock) (subst (λ bs. BoardsStand s.world first bs) (sym boards) (stands_boards motes motes 0 links first s p st)),
+      left first s st.inboxes (clock ∙ st.clock) (subst (λ bs. ServedBoardsStand s.world first bs) (sym boards) (stands_boards motes motes 0 links first s p st)),
     );
     on = motes;
     volumes = λ m a low high was. absurd (omega (arith, low, high));
@@ -99,7 +99,7 @@ module _ (motes mote : ℕ) (links : List (ℕ × ℕ)) (p q : Standing) (boards
   look_fails stop.NotAVolume received counts = absurd counts
   look_fails stop.NoImage received counts = absurd counts
 
-pub look_exit : (motes mote : ℕ) (links : List (ℕ × ℕ)) (p q : Standing) (r : Result (Unit {0}) Stop) (why : Stop) → IsErrAnd r (λ e. e ≡ why) → PartsHalted why motes motes links (Looks mote ∷ []) p q → GoesOn r motes links (stretch motes motes (Looks mote ∷ [])) p q
+pub look_exit : (motes mote : ℕ) (links : List (ℕ × ℕ)) (p q : Standing) (r : Result (Unit {0}) Stop) (why : Stop) → IsErrAnd r (λ e. e ≡ why) → PartsHalted why motes motes links (Looks mote ∷ []) p q → PartsGoOn r motes links (stretch motes motes (Looks mote ∷ [])) p q
 look_exit motes mote links p q (Ok u) why is h = absurd is
 look_exit motes mote links p q (Err e) why is h = subst (λ (w : Stop). PartsHalted w motes motes links (Looks mote ∷ []) p q) (sym is) h
 

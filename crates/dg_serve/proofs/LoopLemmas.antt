@@ -3,12 +3,12 @@ use Rattle.std.proofs.Common.{◌≡◌, ℕ, ◌+◌, ◌-◌, ◌*◌, ◌^◌
 use Rattle.std.specs.Prelude.{Result, Ok, Err, IsErrAnd}
 use Rattle.dg_serve.specs.Each.{each}
 use Rattle.dg_serve.specs.Services.{Part, Looks, Ticks, turn_of_all}
-use Rattle.dg_serve.specs.Standings.{Standing, StandsForSome, Ready, IsUnderWay, ServedParts, PartsHalted, GoesOn, stretch}
+use Rattle.dg_serve.specs.Standings.{Standing, StandsForSome, StandsReady, IsUnderWay, ServedParts, PartsHalted, PartsGoOn, stretch}
 use Rattle.dg_serve.specs.declared.stop.Stop.{Stop}
 use Rattle.dg_serve.proofs.EachLemmas.{each_next, each_none, each_split, each_few}
 use Rattle.dg_serve.proofs.GoLemmas.{went_none, went_then, went_as, went_halts, halts_more, halts_as}
 
-pub halts_exit : (x : Result (Unit {0}) Stop) (why : Stop) (motes begun on : ℕ) (links : List (ℕ × ℕ)) (ps : List Part) (p q : Standing) → IsErrAnd x (λ e. e ≡ why) → PartsHalted why motes begun links ps p q → GoesOn x motes links (stretch begun on ps) p q
+pub halts_exit : (x : Result (Unit {0}) Stop) (why : Stop) (motes begun on : ℕ) (links : List (ℕ × ℕ)) (ps : List Part) (p q : Standing) → IsErrAnd x (λ e. e ≡ why) → PartsHalted why motes begun links ps p q → PartsGoOn x motes links (stretch begun on ps) p q
 halts_exit (Ok u) why motes begun on links ps p q is h = absurd is
 halts_exit (Err e) why motes begun on links ps p q is h = subst (λ (w : Stop). PartsHalted w motes begun links ps p q) (sym is) h
 
@@ -18,13 +18,13 @@ went_some motes links ps p q went y = let x = went.run y.0 y.1 y.2 in (y.0, x.0,
 pub still_under_way : (motes : ℕ) (links : List (ℕ × ℕ)) (ps : List Part) (limit more : ℕ) (p q : Standing) → ServedParts motes motes motes links ps p q → IsUnderWay motes links limit p → q.service.timeline.moment < more → IsUnderWay motes links more q
 still_under_way motes links ps limit more p q went way early = record { ready = went.ready; early = early; some = went_some motes links ps p q went way.some }
 
-pub loop_begins : (motes begun : ℕ) (links : List (ℕ × ℕ)) (f : ℕ → List Part) (p : Standing) → Ready motes begun p → ServedParts motes begun begun links (each 0 f) p p
+pub loop_begins : (motes begun : ℕ) (links : List (ℕ × ℕ)) (f : ℕ → List Part) (p : Standing) → StandsReady motes begun p → ServedParts motes begun begun links (each 0 f) p p
 loop_begins motes begun links f p ready = went_as motes begun begun links [] (each 0 f) p p (sym (each_none f)) (went_none motes begun links p ready)
 
 pub loop_next : (motes begun mid on : ℕ) (links : List (ℕ × ℕ)) (n : ℕ) (f : ℕ → List Part) (p q r : Standing) → mid ≤ on → ServedParts motes begun mid links (each n f) p q → ServedParts motes mid on links (f n) q r → ServedParts motes begun on links (each (n + 1) f) p r
 loop_next motes begun mid on links n f p q r order a b = went_as motes begun on links (each n f ++ f n) (each (n + 1) f) p r (sym (each_next n f)) (went_then motes begun mid on links (each n f) (f n) p q r order a b)
 
-pub loop_halts : (x : Result (Unit {0}) Stop) (why : Stop) (motes begun mid on : ℕ) (links : List (ℕ × ℕ)) (n k : ℕ) (f : ℕ → List Part) (p q r : Standing) → n < k → mid ≤ motes → IsErrAnd x (λ e. e ≡ why) → ServedParts motes begun mid links (each n f) p q → PartsHalted why motes mid links (f n) q r → GoesOn x motes links (stretch begun on (each k f)) p r
+pub loop_halts : (x : Result (Unit {0}) Stop) (why : Stop) (motes begun mid on : ℕ) (links : List (ℕ × ℕ)) (n k : ℕ) (f : ℕ → List Part) (p q r : Standing) → n < k → mid ≤ motes → IsErrAnd x (λ e. e ≡ why) → ServedParts motes begun mid links (each n f) p q → PartsHalted why motes mid links (f n) q r → PartsGoOn x motes links (stretch begun on (each k f)) p r
 loop_halts x why motes begun mid on links n k f p q r less within is a h =
     let rest = each_split n k f less in
     halts_exit x why motes begun on links (each k f) p r is

@@ -6,8 +6,8 @@ use Rattle.dg_base.specs.Outside.{Puts}
 use Rattle.dg_netcfg.specs.declared.profile.NetProfile.{NetProfile}
 use Rattle.dg_node.specs.declared.node.Node.{Node}
 use Rattle.dg_serve.specs.Traces.{lines_text, head_lines}
-use Rattle.dg_serve.specs.Served.{Outside, Hindered}
-use Rattle.dg_serve.specs.Ran.{status_of, ServiceOpens, LinkTold, OpensLink}
+use Rattle.dg_serve.specs.Served.{ServiceOutside, Hindered}
+use Rattle.dg_serve.specs.Ran.{stop_status, ServiceOpens, LinkTold, OpensLink}
 use Rattle.dg_serve.specs.declared.service.Service.{Service}
 use Rattle.dg_serve.specs.declared.stop.Stop.{Stop}
 use Rattle.dg_serve.specs.declared.stop.Stop.TheVariants as stop
@@ -39,15 +39,15 @@ none_many xs n same = ap length same ∙ many_in None n
 
 -- ---- where it was not opened
 
-pub opens_err : (r : Result Service Stop) (why : Stop) (profile : NetProfile) (seed : ℕ) (before : Outside) (addressees reached : ℕ) (after : Outside) → IsErrAnd r (λ e. e ≡ why) → Hindered (status_of why) profile before after → after.clock ≡ before.clock → ServiceOpens r profile seed before addressees reached after
+pub opens_err : (r : Result Service Stop) (why : Stop) (profile : NetProfile) (seed : ℕ) (before : ServiceOutside) (addressees reached : ℕ) (after : ServiceOutside) → IsErrAnd r (λ e. e ≡ why) → Hindered (stop_status why) profile before after → after.clock ≡ before.clock → ServiceOpens r profile seed before addressees reached after
 opens_err (Ok v) why profile seed before addressees reached after is hindered clock = absurd is
 opens_err (Err e) why profile seed before addressees reached after is hindered clock = subst (λ (w : Stop). ServiceOpens (Err w) profile seed before addressees reached after) (sym is) (hindered, clock)
 
 -- what its link exposes afterwards
-abbrev pub link_then : Outside → ℕ → LinkTold
+abbrev pub link_then : ServiceOutside → ℕ → LinkTold
 link_then o addressees = record { inboxes = o.inboxes; failures = o.failures; addressees = addressees; port = o.port }
 
-pub open_hindered : (why : Stop) (profile : NetProfile) (before after : Outside) (n k : ℕ) → OpensLink (Err why) profile (link_then before n) (link_then after k) → Puts before.written after.written (lines_text (head_lines profile)) → after.faults ≡ before.faults → Hindered (status_of why) profile before after
+pub open_hindered : (why : Stop) (profile : NetProfile) (before after : ServiceOutside) (n k : ℕ) → OpensLink (Err why) profile (link_then before n) (link_then after k) → Puts before.written after.written (lines_text (head_lines profile)) → after.faults ≡ before.faults → Hindered (stop_status why) profile before after
 open_hindered stop.Memory profile before after n k opens put faults =
     ((length (lines_text (head_lines profile)), subst (λ l. Puts before.written after.written l) (sym (take_all (length (lines_text (head_lines profile))) (lines_text (head_lines profile)) (omega arith))) put), faults, opens.1, inr (opens.0.0, opens.0.1))
 open_hindered stop.Link profile before after n k opens put faults = (put, faults, opens.1, (opens.0.0, opens.0.1), opens.2)

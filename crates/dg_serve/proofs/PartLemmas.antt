@@ -7,7 +7,7 @@ use Rattle.dg_base.specs.declared.events.Event.{Event}
 use Rattle.dg_base.specs.declared.events.Event.TheVariants.{Frame}
 use Rattle.dg_nor.specs.Device.{Device}
 use Rattle.dg_rules.specs.World.{World, Running, site, store_at}
-use Rattle.dg_rules.specs.Events.{mote_of, Deed, Does, Refuses, Goes, does, hear_by}
+use Rattle.dg_rules.specs.Events.{mote_of, EventEffect, Does, Refuses, Goes, does, hear_by}
 use Rattle.dg_mote.specs.Effects.{frame_effect}
 use Rattle.dg_script.specs.Fitting.{IsTimed}
 use Rattle.dg_world.specs.Worlds.{SiteStands}
@@ -68,19 +68,19 @@ applied_of motes s t new told_then event dt word reads steps = record { dt = dt;
 -- a frame that is heard leaves its mote on
 runs_in : Does → Option (Option Running)
 runs_in (Refuses why) = Some None
-runs_in (Goes deed) = deed.runs
+runs_in (Goes effect) = effect.runs
 
 some_left : (o : Option (Option Running)) (x : Option Running) → Some x ≡ o → o ≡ None → ⊥
 some_left o x is none = absurd cc
 
-heard_runs : (w : World) (m dt word : ℕ) (bytes : List ℕ) (deed : Deed) (o : Option Running) → hear_by w (store_at w m) o (w.moment + dt) word bytes ≡ Goes deed → deed.runs ≡ None → ⊥
+heard_runs : (w : World) (m dt word : ℕ) (bytes : List ℕ) (effect : EventEffect) (o : Option Running) → hear_by w (store_at w m) o (w.moment + dt) word bytes ≡ Goes effect → effect.runs ≡ None → ⊥
 unfolding frame_effect runs_in
-heard_runs w m dt word bytes deed None e none = absurd cc
-heard_runs w m dt word bytes deed (Some r) e none = some_left deed.runs _ (ap runs_in e) none
+heard_runs w m dt word bytes effect None e none = absurd cc
+heard_runs w m dt word bytes effect (Some r) e none = some_left effect.runs _ (ap runs_in e) none
 
-pub frame_runs : (w : World) (m dt word : ℕ) (bytes : List ℕ) (deed : Deed) → does w (Frame m dt word bytes) ≡ Goes deed → deed.runs ≡ None → ⊥
+pub frame_runs : (w : World) (m dt word : ℕ) (bytes : List ℕ) (effect : EventEffect) → does w (Frame m dt word bytes) ≡ Goes effect → effect.runs ≡ None → ⊥
 unfolding does
-frame_runs w m dt word bytes deed e none = heard_runs w m dt word bytes deed (site w m).runs e none
+frame_runs w m dt word bytes effect e none = heard_runs w m dt word bytes effect (site w m).runs e none
 
 -- the event of a part is at its mote
 pub part_at : (mote : ℕ) (part : Part) (dt word : ℕ) (bytes : List ℕ) → IsPartAt mote part → mote_of (event_of part dt word bytes) ≡ mote

@@ -24,7 +24,7 @@ use Rattle.dg_node.specs.declared.node.Node.{Node}
 use Rattle.dg_link.specs.Inboxes.{Inboxes}
 use Rattle.dg_world.specs.Airs.{sent_now}
 use Rattle.dg_serve.specs.Services.{Moment, Steps, new_frames, handed_to, neighbours_by}
-use Rattle.dg_serve.specs.Endings.{BoardsStand, EventEnds, HandedToFirst}
+use Rattle.dg_serve.specs.Endings.{ServedBoardsStand, EventEnds, HandedToFirst}
 use Rattle.dg_serve.specs.Standings.{Standing, StandsFor, PlayedAt, at_mote, begun_before, begun_behind, handed_by, HandedToSome, stop_by}
 use Rattle.dg_serve.proofs.OpenLemmas.{one_in}
 use Rattle.dg_serve.proofs.BoardLemmas.{got_within}
@@ -184,7 +184,7 @@ module _ (links : List (ℕ × ℕ)) (motes : ℕ) (event : Event) (out : Outbox
       stands_then links motes (begun_before motes event) (begun_behind motes event) (dt_of event) event first s p q x.played.before x.played.after (ran_at p (mote_of event)) (ran_at q (mote_of event))
       (is_here links motes event (Ok out) first s p q alone x st) (sent_in out) done_at.reported done_at.done volume timely_then st.moment clock handed_on
 
-  pub boards_behind : BoardsStand then.world first q.boards
+  pub boards_behind : ServedBoardsStand then.world first q.boards
   unfolding then
   boards_behind =
       boards_then links motes (begun_before motes event) (begun_behind motes event) (dt_of event) event first s p q x.played.before x.played.after (ran_at p (mote_of event)) (ran_at q (mote_of event))

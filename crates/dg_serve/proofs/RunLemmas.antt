@@ -22,7 +22,7 @@ use Rattle.dg_script.specs.declared.report.Report.{Report}
 use Rattle.dg_world.specs.Alone.{uncut}
 use Rattle.dg_serve.specs.Each.{each}
 use Rattle.dg_serve.specs.Services.{Part, Begins, Looks, Ticks, Moment, EventApplied, PartDone, PartsDone, plan, beginning, turn_of_all}
-use Rattle.dg_serve.specs.Promised.{event_item, item_played, RunOf, ServedFirst}
+use Rattle.dg_serve.specs.Promised.{event_item, served_item, RunOf, ServedFirst}
 use Rattle.dg_serve.proofs.EachLemmas.{each_more, each_none}
 
 -- ---- all of a list
@@ -91,7 +91,7 @@ one_run motes u v event reports fits step = record {
 runs_both : (motes : ℕ) (u v w : World) (es fs : List Event) → RunOf motes u es v → RunOf motes v fs w → RunOf motes u (es ++ fs) w
 runs_both motes u v w es fs a b = record {
   played = a.played ++ b.played;
-  items = map-append item_played a.played b.played ∙ ap (λ (xs : List Item). xs ++ map item_played b.played) a.items ∙ ap (λ (ys : List Item). map event_item es ++ ys) b.items ∙ sym (map-append event_item es fs);
+  items = map-append served_item a.played b.played ∙ ap (λ (xs : List Item). xs ++ map served_item b.played) a.items ∙ ap (λ (ys : List Item). map event_item es ++ ys) b.items ∙ sym (map-append event_item es fs);
   plays = plays_both u v w a.played b.played a.plays b.plays;
   ranges = all_both (PlayedInRange motes) a.played b.played a.ranges b.ranges;
 }

@@ -20,18 +20,18 @@ use Rattle.dg_rules.specs.Events.{mote_of}
 use Rattle.dg_seed.specs.Draws.{first_generator}
 use Rattle.dg_serve.specs.Services.{Moment, Course, course, plan}
 use Rattle.dg_serve.specs.Endings.{StoresOf, begins}
-use Rattle.dg_serve.specs.Traces.{UnwrittenLast, trace, lines_text, head_lines, event_lines, last_line}
-use Rattle.dg_serve.specs.Standings.{Standing, StandsFor, IsBelow, Ready, BoardEndures, BoardIsCalm, BoardsAreUsed, ServedParts, PartsHalted, GoesOn, stretch}
-use Rattle.dg_serve.specs.Served.{Outside, IsAtVolume, BoardsAfter, WroteLast, Wrote, MotesEndure, Causes, Began, Hindered, Served, TooFewBoards, outside}
-use Rattle.dg_serve.specs.Ran.{status_of, IsOpened, WroteBy, ServiceRan, RanTo, LineWritten, TellsStop, TellsTooFew}
+use Rattle.dg_serve.specs.Traces.{UnwrittenLast, trace, lines_text, head_lines, event_lines, trace_last_line}
+use Rattle.dg_serve.specs.Standings.{Standing, StandsFor, IsBelow, StandsReady, BoardEndures, BoardIsCalm, BoardsAreUsed, ServedParts, PartsHalted, PartsGoOn, stretch}
+use Rattle.dg_serve.specs.Served.{ServiceOutside, IsAtVolume, BoardsAfter, WroteLast, WroteTrace, MotesEndure, Causes, Began, Hindered, Served, TooFewBoards, service_outside}
+use Rattle.dg_serve.specs.Ran.{stop_status, IsOpened, WroteTraceBy, ServiceRan, RanTo, LineWritten, TellsStop, TellsTooFew}
 use Rattle.dg_serve.specs.declared.stop.Stop.{Stop}
 use Rattle.dg_serve.specs.declared.stop.Stop.TheVariants as stop
 use Rattle.dg_serve.proofs.EventLemmas.{stands_boards}
 use Rattle.dg_serve.proofs.StartLemmas.{stands_first}
 
 -- what is outside of the service, where the code stands
-abbrev pub outside_of : Standing → Outside
-outside_of p = outside p.written p.faults p.clock p.inboxes p.failures p.port p.boards
+abbrev pub outside_of : Standing → ServiceOutside
+outside_of p = service_outside p.written p.faults p.clock p.inboxes p.failures p.port p.boards
 
 -- ---- boards
 
@@ -54,7 +54,7 @@ at_volumes on boards (e ∷ es) volumes below = (λ a was. volumes (mote_of e) a
 
 -- ---- from the opening to where it ended
 
-pub wrote_by : (why : Stop) (head : List ℕ) (events : List Event) (text : List ℕ) → (why ≡ stop.Write → UnwrittenLast [] events text) → (why ≢ stop.Write → text ≡ event_lines events) → WroteBy (Some why) head events (head ++ text)
+pub wrote_by : (why : Stop) (head : List ℕ) (events : List Event) (text : List ℕ) → (why ≡ stop.Write → UnwrittenLast [] events text) → (why ≢ stop.Write → text ≡ event_lines events) → WroteTraceBy (Some why) head events (head ++ text)
 wrote_by stop.Memory head events text front whole = ap (λ l. head ++ l) (whole (λ x. absurd cc))
 wrote_by stop.Write head events text front whole =
     let u = front refl in
@@ -64,7 +64,7 @@ wrote_by stop.Flash head events text front whole = ap (λ l. head ++ l) (whole (
 wrote_by stop.NotAVolume head events text front whole = ap (λ l. head ++ l) (whole (λ x. absurd cc))
 wrote_by stop.NoImage head events text front whole = ap (λ l. head ++ l) (whole (λ x. absurd cc))
 
-module _ (profile : NetProfile) (seed turns : ℕ) (b : Outside) (p q : Standing) (o : IsOpened profile seed (record b { boards = p.boards }) p.service p.addressees p.reached (outside_of p)) where
+module _ (profile : NetProfile) (seed turns : ℕ) (b : ServiceOutside) (p q : Standing) (o : IsOpened profile seed (record b { boards = p.boards }) p.service p.addressees p.reached (outside_of p)) where
   stands_opened : (table : List Row) (stores : List Store) → StoresOf profile.motes p.boards stores → StandsFor profile.motes 0 profile.links 0 p.boards (begins table profile.links stores p.service.timeline.reading p.clock seed (option_map (emptied profile.motes) b.inboxes)) p
   stands_opened table stores of = stands_first profile.motes profile.links table stores p.service.timeline.reading p.clock (first_generator seed) (option_map (emptied profile.motes) b.inboxes) p of o.moment refl o.draws refl o.inboxes
 
@@ -128,15 +128,15 @@ module _ (profile : NetProfile) (seed turns : ℕ) (b : Outside) (p q : Standing
     };
   }
 
-  pub ran_to : (r : Result (Unit {0}) Stop) → GoesOn r profile.motes profile.links (stretch 0 profile.motes (plan profile.motes turns)) p q → RanTo r profile seed turns (record b { boards = p.boards }) (outside_of q)
+  pub ran_to : (r : Result (Unit {0}) Stop) → PartsGoOn r profile.motes profile.links (stretch 0 profile.motes (plan profile.motes turns)) p q → RanTo r profile seed turns (record b { boards = p.boards }) (outside_of q)
   ran_to (Ok u) w = ran_all w
   ran_to (Err why) h = inr (ran_some why h)
 
 -- what was opened is ready to begin
-pub ready_opened : (profile : NetProfile) (seed : ℕ) (b mid : Outside) (p : Standing) → IsOpened profile seed b p.service p.addressees p.reached mid → profile.motes ≤ length p.boards → Ready profile.motes 0 p
+pub ready_opened : (profile : NetProfile) (seed : ℕ) (b mid : ServiceOutside) (p : Standing) → IsOpened profile seed b p.service p.addressees p.reached mid → profile.motes ≤ length p.boards → StandsReady profile.motes 0 p
 ready_opened profile seed b mid p o wide = record { motes_are = o.motes; boards = wide; addressees = o.addressees_are; reading = o.known; off = λ m low. o.off m }
 
-pub hindered_to : (x : Result (Unit {0}) Stop) (why : Stop) (profile : NetProfile) (seed turns : ℕ) (before after : Outside) → IsErrAnd x (λ e. e ≡ why) → after.boards ≡ before.boards → Hindered (status_of why) profile before after × (after.clock ≡ before.clock) → RanTo x profile seed turns before after
+pub hindered_to : (x : Result (Unit {0}) Stop) (why : Stop) (profile : NetProfile) (seed turns : ℕ) (before after : ServiceOutside) → IsErrAnd x (λ e. e ≡ why) → after.boards ≡ before.boards → Hindered (stop_status why) profile before after × (after.clock ≡ before.clock) → RanTo x profile seed turns before after
 hindered_to (Ok u) why profile seed turns before after is boards h = absurd is
 hindered_to (Err e) why profile seed turns before after is boards h =
     subst (λ (w : Stop). RanTo (Err w) profile seed turns before after) (sym is) (inl (record { hindered = h.0; boards = boards; clock = h.1 }))
@@ -144,14 +144,14 @@ hindered_to (Err e) why profile seed turns before after is boards h =
 -- ---- the last line
 
 -- the same, with other bytes written
-abbrev told_after : Outside → Option (List ℕ) → ℕ → Outside
+abbrev told_after : ServiceOutside → Option (List ℕ) → ℕ → ServiceOutside
 told_after mid v g = record mid { written = v; faults = g }
 
-pub left_same : (why : Option Stop) (motes : ℕ) (s : Moment) (c : Course) (last : Moment) (first : List Device) (mid : Outside) (v : Option (List ℕ)) (g : ℕ) → BoardsAfter why motes s c last first mid → BoardsAfter why motes s c last first (told_after mid v g)
+pub left_same : (why : Option Stop) (motes : ℕ) (s : Moment) (c : Course) (last : Moment) (first : List Device) (mid : ServiceOutside) (v : Option (List ℕ)) (g : ℕ) → BoardsAfter why motes s c last first mid → BoardsAfter why motes s c last first (told_after mid v g)
 left_same None motes s c last first mid v g l = l
 left_same (Some why) motes s c last first mid v g l = l
 
-began : (why : Option Stop) (answer : Status) (profile : NetProfile) (seed turns : ℕ) (before mid : Outside) (v : Option (List ℕ)) (g : ℕ) (text : List ℕ) (r : ServiceRan why profile seed turns before mid) → Puts before.written v text → Wrote why answer profile (length before.boards) r.events text → Causes answer before (told_after mid v g)
+began : (why : Option Stop) (answer : Status) (profile : NetProfile) (seed turns : ℕ) (before mid : ServiceOutside) (v : Option (List ℕ)) (g : ℕ) (text : List ℕ) (r : ServiceRan why profile seed turns before mid) → Puts before.written v text → WroteTrace why answer profile (length before.boards) r.events text → Causes answer before (told_after mid v g)
     → Began answer profile seed turns before (told_after mid v g)
 began why answer profile seed turns before mid v g text r put wrote causes = record {
   origin = r.origin;
@@ -176,7 +176,7 @@ began why answer profile seed turns before mid v g text r put wrote causes = rec
 }
 
 -- all turns were played
-pub served_done : (profile : NetProfile) (seed turns : ℕ) (before mid : Outside) → ServiceRan None profile seed turns before mid → Served status.Done profile seed turns before mid
+pub served_done : (profile : NetProfile) (seed turns : ℕ) (before mid : ServiceOutside) → ServiceRan None profile seed turns before mid → Served status.Done profile seed turns before mid
 served_done profile seed turns before mid r = inr (began None status.Done profile seed turns before mid mid.written mid.faults r.text r r.put (refl, r.wrote) (record {
   write_fault = λ is. absurd cc;
   writes = λ other. r.counts.faults (λ x. absurd cc);
@@ -188,7 +188,7 @@ served_done profile seed turns before mid r = inr (began None status.Done profil
 }))
 
 -- nothing more was written
-module _ (profile : NetProfile) (seed turns : ℕ) (before mid : Outside) where
+module _ (profile : NetProfile) (seed turns : ℕ) (before mid : ServiceOutside) where
   ends_memory : RanTo (Err stop.Memory) profile seed turns before mid → Served status.Memory profile seed turns before mid
   ends_memory (inl h) = inl (record { hindered = h.hindered; boards = h.boards; clock = h.clock })
   ends_memory (inr r) = inr (began (Some stop.Memory) status.Memory profile seed turns before mid mid.written mid.faults r.text r r.put (refl, r.wrote) (record {
@@ -264,7 +264,7 @@ module _ (profile : NetProfile) (seed turns : ℕ) (before mid : Outside) where
   }
 
   ends_told : (why : Stop) (of answer : Status) (line : List ℕ) (v : Option (List ℕ)) (g : ℕ) (r : ServiceRan (Some why) profile seed turns before mid) → why ≢ stop.Write → why ≢ stop.Link → why ≢ stop.Flash → of ≢ status.WriteFault → of ≢ status.LinkFault → r.text ≡ trace profile r.events
-      → ((a : Status) (text : List ℕ) → WroteLast a of (trace profile r.events) line text → Wrote (Some why) a profile (length before.boards) r.events text) → LineWritten answer of line mid.written v mid.faults g → Began answer profile seed turns before (told_after mid v g)
+      → ((a : Status) (text : List ℕ) → WroteLast a of (trace profile r.events) line text → WroteTrace (Some why) a profile (length before.boards) r.events text) → LineWritten answer of line mid.written v mid.faults g → Began answer profile seed turns before (told_after mid v g)
   ends_told why of answer line v g r writes links stops a b whole wrote (inl t) =
       subst (λ (x : Status). Began x profile seed turns before (told_after mid v g)) (sym t.0)
       (began (Some why) of profile seed turns before mid v g (r.text ++ line) r (Puts-join before.written mid.written v r.text line r.put t.1)
@@ -276,11 +276,11 @@ module _ (profile : NetProfile) (seed turns : ℕ) (before mid : Outside) where
       (wrote status.WriteFault (r.text ++ take t.1.0 line) (inr (refl, (t.1.0, last_written (take t.1.0 line) (trace profile r.events) r.text whole))))
       (failed_told why v g r writes links stops t.2 t.3))
 
-  ends_no_volume : (answer : Status) (v : Option (List ℕ)) (g : ℕ) → ServiceRan (Some stop.NotAVolume) profile seed turns before mid → LineWritten answer status.NotAVolume (last_line status.NotAVolume 0 0) mid.written v mid.faults g → Began answer profile seed turns before (told_after mid v g)
-  ends_no_volume answer v g r t = ends_told stop.NotAVolume status.NotAVolume answer (last_line status.NotAVolume 0 0) v g r (λ x. absurd cc) (λ x. absurd cc) (λ x. absurd cc) (λ x. absurd cc) (λ x. absurd cc) r.wrote (λ a text x. x) t
+  ends_no_volume : (answer : Status) (v : Option (List ℕ)) (g : ℕ) → ServiceRan (Some stop.NotAVolume) profile seed turns before mid → LineWritten answer status.NotAVolume (trace_last_line status.NotAVolume 0 0) mid.written v mid.faults g → Began answer profile seed turns before (told_after mid v g)
+  ends_no_volume answer v g r t = ends_told stop.NotAVolume status.NotAVolume answer (trace_last_line status.NotAVolume 0 0) v g r (λ x. absurd cc) (λ x. absurd cc) (λ x. absurd cc) (λ x. absurd cc) (λ x. absurd cc) r.wrote (λ a text x. x) t
 
-  ends_no_image : (answer : Status) (v : Option (List ℕ)) (g : ℕ) → ServiceRan (Some stop.NoImage) profile seed turns before mid → LineWritten answer status.NoImage (last_line status.NoImage 0 0) mid.written v mid.faults g → Began answer profile seed turns before (told_after mid v g)
-  ends_no_image answer v g r t = ends_told stop.NoImage status.NoImage answer (last_line status.NoImage 0 0) v g r (λ x. absurd cc) (λ x. absurd cc) (λ x. absurd cc) (λ x. absurd cc) (λ x. absurd cc) r.wrote (λ a text x. x) t
+  ends_no_image : (answer : Status) (v : Option (List ℕ)) (g : ℕ) → ServiceRan (Some stop.NoImage) profile seed turns before mid → LineWritten answer status.NoImage (trace_last_line status.NoImage 0 0) mid.written v mid.faults g → Began answer profile seed turns before (told_after mid v g)
+  ends_no_image answer v g r t = ends_told stop.NoImage status.NoImage answer (trace_last_line status.NoImage 0 0) v g r (λ x. absurd cc) (λ x. absurd cc) (λ x. absurd cc) (λ x. absurd cc) (λ x. absurd cc) r.wrote (λ a text x. x) t
 
   nothing_more : (answer of : Status) (v : Option (List ℕ)) (g : ℕ) → answer ≡ of → v ≡ mid.written → g ≡ mid.faults → Served of profile seed turns before mid → Served answer profile seed turns before (told_after mid v g)
   nothing_more answer of v g is same count s =
@@ -297,19 +297,19 @@ module _ (profile : NetProfile) (seed turns : ℕ) (before mid : Outside) where
   served_stop stop.NoImage answer v g (inl h) t = absurd h.hindered
   served_stop stop.NoImage answer v g (inr r) t = inr (ends_no_image answer v g r t)
 
-pub count_of : (r : Result (Unit {0}) Stop) (profile : NetProfile) (seed turns : ℕ) (before mid : Outside) → RanTo r profile seed turns before mid → length mid.boards ≡ length before.boards
+pub count_of : (r : Result (Unit {0}) Stop) (profile : NetProfile) (seed turns : ℕ) (before mid : ServiceOutside) → RanTo r profile seed turns before mid → length mid.boards ≡ length before.boards
 count_of (Ok u) profile seed turns before mid ran = ran.boards.all.count
 count_of (Err why) profile seed turns before mid (inl h) = ap length h.boards
 count_of (Err why) profile seed turns before mid (inr ran) = ran.boards.all.count
 
 -- ---- too few boards
 
-pub too_few_told : (answer : Status) (profile : NetProfile) (before : Outside) (v : Option (List ℕ)) (g n : ℕ) → n ≡ length before.boards → TellsTooFew answer (last_line status.NoBoard profile.motes n) before.written v before.faults g → TooFewBoards answer profile before (told_after before v g)
-too_few_told answer profile before v g n same t = record { boards = refl; clock = refl; link = refl; port = refl; failures = refl; written = told (subst (λ k. TellsTooFew answer (last_line status.NoBoard profile.motes k) before.written v before.faults g) same t) }
+pub too_few_told : (answer : Status) (profile : NetProfile) (before : ServiceOutside) (v : Option (List ℕ)) (g n : ℕ) → n ≡ length before.boards → TellsTooFew answer (trace_last_line status.NoBoard profile.motes n) before.written v before.faults g → TooFewBoards answer profile before (told_after before v g)
+too_few_told answer profile before v g n same t = record { boards = refl; clock = refl; link = refl; port = refl; failures = refl; written = told (subst (λ k. TellsTooFew answer (trace_last_line status.NoBoard profile.motes k) before.written v before.faults g) same t) }
   where
-    told : TellsTooFew answer (last_line status.NoBoard profile.motes (length before.boards)) before.written v before.faults g
-        → ((answer ≡ status.NoBoard) × Puts before.written v (last_line status.NoBoard profile.motes (length before.boards)) × (g ≡ before.faults))
-        ⊎ (((k : ℕ) × (answer ≡ status.WriteFault) × Puts before.written v (take k (last_line status.NoBoard profile.motes (length before.boards))) × Rose before.faults g × (before.faults ≤ g))
+    told : TellsTooFew answer (trace_last_line status.NoBoard profile.motes (length before.boards)) before.written v before.faults g
+        → ((answer ≡ status.NoBoard) × Puts before.written v (trace_last_line status.NoBoard profile.motes (length before.boards)) × (g ≡ before.faults))
+        ⊎ (((k : ℕ) × (answer ≡ status.WriteFault) × Puts before.written v (take k (trace_last_line status.NoBoard profile.motes (length before.boards))) × Rose before.faults g × (before.faults ≤ g))
         ⊎ ((answer ≡ status.Memory) × (v ≡ before.written) × (g ≡ before.faults)))
     told (inl (inl x)) = inl x
     told (inl (inr x)) = inr (inl (x.1.0, x.0, x.1.1, x.2, x.3))

@@ -15,7 +15,7 @@ use Rattle.dg_rules.specs.World.{Site, first_world, off_site, no_site}
 use Rattle.dg_seed.specs.Draws.{generator_of}
 use Rattle.dg_serve.specs.Services.{Part, Moment}
 use Rattle.dg_serve.specs.Endings.{StoresOf}
-use Rattle.dg_serve.specs.Standings.{Standing, StandsFor, StandsForSome, Ready, ServedParts}
+use Rattle.dg_serve.specs.Standings.{Standing, StandsFor, StandsForSome, StandsReady, ServedParts}
 use Rattle.dg_serve.proofs.EventLemmas.{same_of}
 
 -- all sites of a world at its beginning are off
@@ -73,7 +73,7 @@ stores_of (suc n) (d ∷ ds) wide volumes =
     (v.0 ∷ x.0, with_first n d ds v.0 x.0 v.1 x.1)
 
 -- once each mote began, the code stands for some moment
-pub some_begun : (motes : ℕ) (links : List (ℕ × ℕ)) (parts : List Part) (p q : Standing) → Ready motes 0 p → p.service.timeline.moment ≡ 0 → ServedParts motes 0 motes links parts p q → StandsForSome motes motes links q
+pub some_begun : (motes : ℕ) (links : List (ℕ × ℕ)) (parts : List Part) (p q : Standing) → StandsReady motes 0 p → p.service.timeline.moment ≡ 0 → ServedParts motes 0 motes links parts p q → StandsForSome motes motes links q
 some_begun motes links parts p q ready moment went =
     let x = stores_of motes p.boards ready.boards (λ m a h was. went.volumes m a (omega arith) h was) in
     let st = stands_first motes links [] x.0 p.service.timeline.reading p.clock (generator_of p.service.timeline.draws) p.inboxes p x.1 moment refl refl refl refl in

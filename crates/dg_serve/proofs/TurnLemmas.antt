@@ -21,8 +21,8 @@ use Rattle.dg_world.specs.Worlds.{MayRun, MoteStands}
 use Rattle.dg_node.specs.declared.node.Node.{Node}
 use Rattle.dg_serve.specs.Services.{Part, Begins, Looks, Ticks, Moment, Steps, EventApplied, PartDone, course}
 use Rattle.dg_serve.specs.Traces.{event_lines}
-use Rattle.dg_serve.specs.Endings.{BoardsStand, FindsNoImage, FindsNoVolume, EventEnds, remains, EndsInNext, TakesFor, FoundBy, HandedToFirst, PartlyHanded, StopLeaves, event_of}
-use Rattle.dg_serve.specs.Standings.{Standing, StandsFor, StandsForSome, Ready, IsUnderWay, EventAsks, BoardsAreUsed, BoardsAreCalm, ServedParts, PartsHalted, GoesOn, stretch, AppliedAt, NotApplied, HandedThen, AppliedPartly, ApplyEnds, begun_before, begun_behind}
+use Rattle.dg_serve.specs.Endings.{ServedBoardsStand, FindsNoImage, FindsNoVolume, EventEnds, remains, EndsInNext, TakesFor, FoundBy, HandedToFirst, PartlyHanded, StopLeaves, event_of}
+use Rattle.dg_serve.specs.Standings.{Standing, StandsFor, StandsForSome, StandsReady, IsUnderWay, EventAsks, BoardsAreUsed, BoardsAreCalm, ServedParts, PartsHalted, PartsGoOn, stretch, AppliedAt, NotApplied, HandedThen, AppliedPartly, ApplyEnds, begun_before, begun_behind}
 use Rattle.dg_serve.specs.declared.stop.Stop.{Stop}
 use Rattle.dg_serve.specs.declared.stop.Stop.TheVariants as stop
 use Rattle.dg_serve.proofs.BoardLemmas.{got_within}
@@ -112,7 +112,7 @@ may_begin v c now off = subst (λ o. MayRun c now o) (sym off) tt
 
 -- ---- what an event requires, once its word was drawn
 
-asked : (motes mote begun : ℕ) (links : List (ℕ × ℕ)) (event : Event) (dt word : ℕ) (p m : Standing) → DrawnTo p m dt word → Ready motes begun p → p.service.timeline.moment < 2 ^ 60 → FitsLine motes (EventLine event) → IsAlone event → mote_of event ≡ mote → mote < motes
+asked : (motes mote begun : ℕ) (links : List (ℕ × ℕ)) (event : Event) (dt word : ℕ) (p m : Standing) → DrawnTo p m dt word → StandsReady motes begun p → p.service.timeline.moment < 2 ^ 60 → FitsLine motes (EventLine event) → IsAlone event → mote_of event ≡ mote → mote < motes
     → ((a : Device) → slice_get m.boards mote ≡ Some a → MayRun a.image m.service.timeline.moment (slice_index_or m.service.motes.items mote None)) → (IsReset event → slice_index_or m.service.motes.items mote None ≡ None)
     → IsReset event ⊎ ((first : List Device) × (s : Moment) × StandsFor motes (begun_before motes event) links (dt_of event) first s m) → EventAsks motes mote links event m
 asked motes mote begun links event dt word p m d ready early fits alone at known may off some = record {
@@ -131,7 +131,7 @@ asked motes mote begun links event dt word p m d ready early fits alone at known
 }
 
 -- a reset, before which its mote is off
-pub reset_asks : (motes mote : ℕ) (links : List (ℕ × ℕ)) (dt word : ℕ) (p m : Standing) → DrawnTo p m dt word → Ready motes mote p → p.service.timeline.moment < 2 ^ 60 → mote < motes → EventAsks motes mote links (Reset mote dt word) m
+pub reset_asks : (motes mote : ℕ) (links : List (ℕ × ℕ)) (dt word : ℕ) (p m : Standing) → DrawnTo p m dt word → StandsReady motes mote p → p.service.timeline.moment < 2 ^ 60 → mote < motes → EventAsks motes mote links (Reset mote dt word) m
 reset_asks motes mote links dt word p m d ready early known =
     let off : slice_index_or m.service.motes.items mote None ≡ None = subst (λ xs. slice_index_or xs mote None ≡ None) (sym d.motes) (ready.off mote (omega arith)) in
     asked motes mote mote links (Reset mote dt word) dt word p m d ready early (known, d.timed.fits) tt refl known (λ a was. may_begin (slice_index_or m.service.motes.items mote None) a.image m.service.timeline.moment off) (λ reset. off) (inl tt)
@@ -159,7 +159,7 @@ module _ (motes begun on : ℕ) (links : List (ℕ × ℕ)) (part : Part) (event
       h.done s t (event dt word ∷ []) (sym st.inboxes)
       (applied_of motes (looked s m.inboxes) t m.service.timeline m.clock event dt word (reads_of (looked s m.inboxes) p.service.timeline m.service.timeline dt word p.clock m.clock st.reading st.draws st.clock d.timed) steps)
 
-  ready_before : Ready motes begun p → Ready motes begun m
+  ready_before : StandsReady motes begun p → StandsReady motes begun m
   ready_before ready = record {
     motes_are = ap length d.motes ∙ ready.motes_are;
     boards = let n = ap length d.boards in omega (arith, n, ready.boards);
@@ -173,14 +173,14 @@ module _ (motes begun on : ℕ) (links : List (ℕ × ℕ)) (part : Part) (event
   new_volumes told = subst (λ bs. (k : ℕ) (a : Device) → begun ≤ k → k < on → slice_get bs k ≡ Some a → IsVolume a.image) d.boards (h.new_volumes dt word m.boards told)
 
   -- it was done
-  pub part_went : Ready motes begun p → AppliedAt motes links (event dt word) m q → q.reached ≡ m.reached → ServedParts motes begun on links (part ∷ []) p q
+  pub part_went : StandsReady motes begun p → AppliedAt motes links (event dt word) m q → q.reached ≡ m.reached → ServedParts motes begun on links (part ∷ []) p q
   part_went ready e reached = record {
     events = event dt word ∷ [];
     put = subst (λ (o : Option (List ℕ)). Puts o q.written (event_lines (event dt word ∷ []))) d.written e.put;
     run = λ first s st.
         let x = e.run first (drawn (looked s m.inboxes) m.service.timeline m.clock) (stands_before first s st) in
         (x.0, one_part motes s x.0 part (event dt word ∷ []) (applied_at first s x.0 st x.1), subst (λ n. StandsFor motes n links 0 first x.0 q) (h.behind_is dt word) x.2);
-    ready = subst (λ n. Ready motes n q) (h.behind_is dt word) (e.ready (subst (λ n. Ready motes n m) (sym (h.before_is dt word)) (ready_before ready)));
+    ready = subst (λ n. StandsReady motes n q) (h.behind_is dt word) (e.ready (subst (λ n. StandsReady motes n m) (sym (h.before_is dt word)) (ready_before ready)));
     volumes = new_volumes e.volumes;
     below = (h.at dt word, tt);
     own = λ mote at. (ap mote_of (h.event_is dt word) ∙ part_at mote part dt word bytes at.0, tt);
@@ -215,13 +215,13 @@ module _ (motes begun on : ℕ) (links : List (ℕ × ℕ)) (part : Part) (event
     ends = subst (λ x. EventEnds why s.world x first q.boards) (h.event_is dt word) ends;
   }
 
-  volumes_before : (first : List Device) (s : Moment) → StandsFor motes begun links 0 first s p → Ready motes begun p → (k : ℕ) (a : Device) → mote_of (event dt word) ≡ k → k < begun → slice_get first k ≡ Some a → IsVolume a.image
+  volumes_before : (first : List Device) (s : Moment) → StandsFor motes begun links 0 first s p → StandsReady motes begun p → (k : ℕ) (a : Device) → mote_of (event dt word) ≡ k → k < begun → slice_get first k ≡ Some a → IsVolume a.image
   volumes_before first s st ready k a is within was =
       let wide : k < length p.boards = let n = ready.boards in let o = h.within in let r = h.rises in omega (arith, within, n, o, r) in
       let b = got_some p.boards k wide in
       (st.on k a b.0 within was b.1).0
 
-  untold_halts : (why : Stop) → Ready motes begun p → NotApplied why motes links (event dt word) m q → (why ≢ stop.Write) → (why ≢ stop.Link) → q.reached ≡ m.reached
+  untold_halts : (why : Stop) → StandsReady motes begun p → NotApplied why motes links (event dt word) m q → (why ≢ stop.Write) → (why ≢ stop.Link) → q.reached ≡ m.reached
       → ((first : List Device) (s : Moment) → StandsFor motes begun links 0 first s p → StopLeaves why motes s (course [] [] (part ∷ [])) s first (remains q.boards q.inboxes q.clock)) → PartsHalted why motes begun links (part ∷ []) p q
   untold_halts why ready e writes sends reached left = record {
     events = [];
@@ -254,7 +254,7 @@ module _ (motes begun on : ℕ) (links : List (ℕ × ℕ)) (part : Part) (event
 
   -- the event was applied, but its line was not written, or what it sent was not forwarded to all
   partly_halts : (why : Stop) → AppliedPartly why motes links (event dt word) m q → q.clock ≡ m.clock
-      → ((first : List Device) (s t : Moment) → StandsFor motes begun links 0 first s p → PartDone motes part s (event dt word ∷ []) t → BoardsStand t.world first q.boards → HandedThen why motes s.world t.world m.inboxes q.inboxes → q.clock ≡ t.clock
+      → ((first : List Device) (s t : Moment) → StandsFor motes begun links 0 first s p → PartDone motes part s (event dt word ∷ []) t → ServedBoardsStand t.world first q.boards → HandedThen why motes s.world t.world m.inboxes q.inboxes → q.clock ≡ t.clock
       → StopLeaves why motes s (course (part ∷ []) (event dt word ∷ []) []) t first (remains q.boards q.inboxes q.clock))
       → PartsHalted why motes begun links (part ∷ []) p q
   partly_halts why e clock left = record {
@@ -311,7 +311,7 @@ module _ (motes begun on : ℕ) (links : List (ℕ × ℕ)) (part : Part) (event
 
   -- ---- however the event ended
 
-  pub part_ends : (r : Result (Unit {0}) Stop) → Ready motes begun p → ApplyEnds r motes links (event dt word) m q → q.reached ≡ m.reached → q.clock ≡ m.clock → GoesOn r motes links (stretch begun on (part ∷ [])) p q
+  pub part_ends : (r : Result (Unit {0}) Stop) → StandsReady motes begun p → ApplyEnds r motes links (event dt word) m q → q.reached ≡ m.reached → q.clock ≡ m.clock → PartsGoOn r motes links (stretch begun on (part ∷ [])) p q
   part_ends (Ok u) ready e reached clock = part_went ready e reached
   part_ends (Err stop.Memory) ready e reached clock =
       untold_halts stop.Memory ready e (λ x. absurd cc) (λ x. absurd cc) reached
@@ -393,7 +393,7 @@ looks_part motes mote bytes before taken known takes fits = record {
   untaken = λ dt word w old new ends volumes.
       ⊎_elim
       (λ no_volume. let v = volumes mote no_volume.board refl known no_volume.was in absurd (no_volume.no_volume v.0 v.1))
-      (λ no_image. absurd (frame_runs w mote dt word bytes no_image.ends.deed no_image.ends.goes no_image.ends.none))
+      (λ no_image. absurd (frame_runs w mote dt word bytes no_image.ends.effect no_image.ends.goes no_image.ends.none))
       ends;
   new_volumes = λ dt word boards told m a low high was. absurd (omega (arith, low, high));
 }

@@ -52,8 +52,8 @@ BoardsStandBut P w old new = (m : ℕ) (a b : Device) → m < length w.sites →
     → slice_get new m ≡ Some b → BoardStands w m a b
 
 -- All boards stand so.
-abbrev pub BoardsStand : World → (old new : List Device) → Type 0
-BoardsStand w old new = BoardsStandBut (λ m. ⊥) w old new
+abbrev pub ServedBoardsStand : World → (old new : List Device) → Type 0
+ServedBoardsStand w old new = BoardsStandBut (λ m. ⊥) w old new
 
 -- A board stopped in an event, and stands for a store that the event's trail leaves after `made` operations. One that was not
 -- a volume has its bytes unchanged.
@@ -74,17 +74,17 @@ pub record FindsNoVolume (w : World) (event : Event) (old new : List Device) : T
   pub board : Device
   pub was : slice_get old (mote_of event) ≡ Some board
   pub no_volume : IsNoVolume board.image
-  pub boards : BoardsStand w old new
+  pub boards : ServedBoardsStand w old new
 
 -- A start found no image: the board has the last store of the start's trail.
 pub record FindsNoImage (w : World) (event : Event) (old new : List Device) : Type 0 where
   pub world : World
   pub ends : EndsRun w (uncut event) world
-  pub boards : BoardsStand world old new
+  pub boards : ServedBoardsStand world old new
 
 -- how an event that was not applied leaves the boards
 abbrev pub EventEnds : Stop → World → Event → (old new : List Device) → Type 0
-EventEnds Memory w event old new = BoardsStand w old new
+EventEnds Memory w event old new = ServedBoardsStand w old new
 EventEnds Write w event old new = ⊥
 EventEnds Link w event old new = ⊥
 EventEnds Flash w event old new = StopsInEvent w event old new
@@ -137,7 +137,7 @@ pub record LosesFrame (s : Moment) (left : List Part) (old : List Device) (new :
   pub bytes : List ℕ
   pub takes : TakesFrame mote bytes s.inboxes new.inboxes
   pub clock : new.clock ≡ s.clock
-  pub boards : BoardsStand s.world old new.boards
+  pub boards : ServedBoardsStand s.world old new.boards
 
 -- The last event found the link like this: all that the events before it sent was forwarded, and the frame that it hears is
 -- taken.
@@ -173,8 +173,8 @@ pub record PartlyHanded (motes : ℕ) (s : Moment) (done : List Part) (events : 
 abbrev pub StopLeaves : Stop → (motes : ℕ) → Moment → Course → (last : Moment) → (old : List Device) → (new : Remains) → Type 0
 StopLeaves Memory motes s c last old new = LosesFrame last c.left old new ⊎ EndsInNext Memory last c.left old new
 StopLeaves Write motes s c last old new =
-    BoardsStand last.world old new.boards × FoundBy motes s c.done c.events last new.inboxes × (new.clock ≡ last.clock)
-StopLeaves Link motes s c last old new = BoardsStand last.world old new.boards
+    ServedBoardsStand last.world old new.boards × FoundBy motes s c.done c.events last new.inboxes × (new.clock ≡ last.clock)
+StopLeaves Link motes s c last old new = ServedBoardsStand last.world old new.boards
     × ((new.inboxes ≡ last.inboxes) ⊎ PartlyHanded motes s c.done c.events last new.inboxes) × (new.clock ≡ last.clock)
 StopLeaves Flash motes s c last old new = EndsInNext Flash last c.left old new
 StopLeaves NotAVolume motes s c last old new = EndsInNext NotAVolume last c.left old new × (new.inboxes ≡ last.inboxes)

@@ -11,7 +11,7 @@ use Rattle.dg_netcfg.specs.declared.profile.NetProfile.{NetProfile}
 use Rattle.dg_netcfg.specs.declared.profile.ProfileFault.{ProfileFault}
 use Rattle.dg_script.specs.Sizes.{most_used_bytes}
 use Rattle.dg_serve.specs.Ran.{LineWritten}
-use Rattle.dg_serve.specs.Served.{Outside, Served, TooFewBoards}
+use Rattle.dg_serve.specs.Served.{ServiceOutside, Served, TooFewBoards}
 
 -- ---- the outcome by the rules, from the input and the number of boards alone
 
@@ -25,11 +25,11 @@ pub data Opening : Type 0 where
   -- it is this profile, and its motes are served
   Serves : (profile : NetProfile) → Opening
 
-abbrev pub by_boards : ℕ → NetProfile → Opening
-by_boards boards profile = if nat_lt boards profile.motes then TooFew profile else Serves profile
+abbrev pub opening_by_boards : ℕ → NetProfile → Opening
+opening_by_boards boards profile = if nat_lt boards profile.motes then TooFew profile else Serves profile
 
 abbrev pub by_profile : ℕ → Result NetProfile ProfileFault → Opening
-by_profile boards (Ok profile) = by_boards boards profile
+by_profile boards (Ok profile) = opening_by_boards boards profile
 by_profile boards (Err fault) = FaultAt fault
 
 -- An input that is longer than what is used is refused whatever it spells. The boards are counted last.
@@ -48,7 +48,7 @@ fault_line fault = codes "profile " ++ profile_fault_text fault ++ 10 ∷ []
 
 -- Nothing was done but to write this line, or a prefix of it, since a write failed; or memory ran out, and nothing was
 -- written.
-pub record WritesOneLine (answer of : Status) (line : List ℕ) (before after : Outside) : Type 0 where
+pub record WritesOneLine (answer of : Status) (line : List ℕ) (before after : ServiceOutside) : Type 0 where
   pub boards : after.boards ≡ before.boards
   pub clock : after.clock ≡ before.clock
   pub link : after.inboxes ≡ before.inboxes
@@ -57,7 +57,7 @@ pub record WritesOneLine (answer of : Status) (line : List ℕ) (before after : 
   pub written : LineWritten answer of line before.written after.written before.faults after.faults
       ⊎ ((answer ≡ status.Memory) × (after.written ≡ before.written) × (after.faults ≡ before.faults))
 
-abbrev pub DoneBy : Opening → (answer : Status) → (seed turns : ℕ) → (before after : Outside) → Type 0
+abbrev pub DoneBy : Opening → (answer : Status) → (seed turns : ℕ) → (before after : ServiceOutside) → Type 0
 DoneBy Over answer seed turns before after = WritesOneLine answer status.TooLong over_line before after
 DoneBy (FaultAt fault) answer seed turns before after = WritesOneLine answer status.BadInput (fault_line fault) before after
 DoneBy (TooFew profile) answer seed turns before after = TooFewBoards answer profile before after
@@ -68,9 +68,9 @@ DoneBy (Serves profile) answer seed turns before after = Served answer profile s
 pub record AroundService : Type 0 where
   pub left : Option (List ℕ)
   pub reads : ℕ
-  pub outside : Outside
+  pub outside : ServiceOutside
 
-abbrev pub around_service : (left : Option (List ℕ)) (reads : ℕ) (outside : Outside) → AroundService
+abbrev pub around_service : (left : Option (List ℕ)) (reads : ℕ) (outside : ServiceOutside) → AroundService
 around_service left reads outside = record { left = left; reads = reads; outside = outside }
 
 -- Memory ran out over the input, or a read of it failed. Nothing was done.

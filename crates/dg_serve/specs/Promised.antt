@@ -28,13 +28,13 @@ use Rattle.dg_serve.specs.Traces.{IsScript}
 abbrev pub event_item : Event → Item
 event_item event = Applies (uncut event) true
 
-abbrev pub item_played : Played → Item
-item_played p = p.item
+abbrev pub served_item : Played → Item
+served_item p = p.item
 
 -- a run of the rules over these events, between these worlds
 pub record RunOf (motes : ℕ) (u : World) (events : List Event) (v : World) : Type 0 where
   pub played : List Played
-  pub items : map item_played played ≡ map event_item events
+  pub items : map served_item played ≡ map event_item events
   pub plays : Plays u played v
   pub ranges : AllByRecursion (PlayedInRange motes) played
 
@@ -48,7 +48,7 @@ pub record ServedFirst (u : World) (played : List Played) : Type 0 where
   pub plays : Plays u first last
 
 -- What the boards stand for agrees with the table, and each frame that came is honest by it.
-pub record FramesAreHonest (table : List Row) (stores : List Store) (played : List Played) : Type 0 where
+pub record ServedFramesAreHonest (table : List Row) (stores : List Store) (played : List Played) : Type 0 where
   pub agree : StoresAgree table stores
   pub hold : AllByRecursion (HoldsToThen table) played
 
@@ -63,7 +63,7 @@ abbrev pub StoresKeepGolden : List Store → Type 0
 StoresKeepGolden stores = (m : ℕ) → m < length stores → KeepsGoldenRow (store_of stores m)
 
 -- What was played of this many motes from such boards, up to this world.
-pub record StaysConsistent (golden : Row) (motes : ℕ) (played : List Played) (v : World) : Type 0 where
+pub record ServiceStaysConsistent (golden : Row) (motes : ℕ) (played : List Played) (v : World) : Type 0 where
   -- every store is consistent, after each event and in the last world
   pub stores : AllByRecursion (LeavesConsistent golden) played
   pub ends : WorldConsistent golden v
@@ -91,29 +91,33 @@ pub record KeepsRules (told : Option Inboxes) (table : List Row) (stores : List 
   pub run : RunOf motes (first_world table links none_narrow stores) events last.world
   -- over a link that exposes its inboxes each frame that came was sent by a mote of the link: so it is honest, where the
   -- boards agree
-  pub honest : IsSome told → StoresAgree table stores → FramesAreHonest table stores run.played
+  pub honest : IsSome told → StoresAgree table stores → ServedFramesAreHonest table stores run.played
   -- and so is the frame that the next event takes from them
   pub next : IsSome told → StoresAgree table stores → (part : Part) (dt word : ℕ) (bytes : List ℕ) (after : Option Inboxes)
       → TakesFor (event_of part dt word bytes) last.inboxes after → HoldsTo table last.world (event_of part dt word bytes)
   -- where the frames of what was played first are honest, each step of it is legal after those before it
-  pub legal : (f : ServedFirst (first_world table links none_narrow stores) run.played) → FramesAreHonest table stores f.first
+  pub legal : (f : ServedFirst (first_world table links none_narrow stores) run.played)
+      → ServedFramesAreHonest table stores f.first
       → EachAfter IsLegal [] f.first
   -- then no version falls, and a complete page stays unless a newer version of its image replaces it
-  pub keeps : (f : ServedFirst (first_world table links none_narrow stores) run.played) → FramesAreHonest table stores f.first
+  pub keeps : (f : ServedFirst (first_world table links none_narrow stores) run.played)
+      → ServedFramesAreHonest table stores f.first
       → AllByRecursion KeepsAll f.first
   -- then what starts is a row of the table
-  pub starts : (f : ServedFirst (first_world table links none_narrow stores) run.played) → FramesAreHonest table stores f.first
+  pub starts : (f : ServedFirst (first_world table links none_narrow stores) run.played)
+      → ServedFramesAreHonest table stores f.first
       → AllByRecursion StartsRow f.first
   -- then the world after each event agrees with its table, and so does the one that it leads to
-  pub agrees : (f : ServedFirst (first_world table links none_narrow stores) run.played) → FramesAreHonest table stores f.first
+  pub agrees : (f : ServedFirst (first_world table links none_narrow stores) run.played)
+      → ServedFramesAreHonest table stores f.first
       → AllByRecursion LeavesAgreement f.first × WorldAgrees f.last
   -- then each store that the chip may stand for, wherever a stop comes in the next event, agrees with the table, if that event
   -- is honest too
   pub halves : (f : ServedFirst (first_world table links none_narrow stores) run.played) (e : Event)
-      → FramesAreHonest table stores f.first → EventInRange motes e → HoldsTo table f.last e → StopsAgree f.last e
+      → ServedFramesAreHonest table stores f.first → EventInRange motes e → HoldsTo table f.last e → StopsAgree f.last e
   -- with any frames at all, over consistent boards: each store stays consistent,
   -- and what starts is golden or fits its own descriptor
-  pub consistent : (golden : Row) → StoresConsistent golden stores → StaysConsistent golden motes run.played last.world
+  pub consistent : (golden : Row) → StoresConsistent golden stores → ServiceStaysConsistent golden motes run.played last.world
   -- with any frames at all, over boards that keep golden whole: they still do, and a start finds it
   pub golden : StoresKeepGolden stores → ServiceKeepsGolden motes run.played last.world
 
@@ -132,7 +136,7 @@ pub record ReplaysTo (bytes : List ℕ) (motes : ℕ) (table : List Row) (stores
   pub rest : List Line
   pub over_boards : lines ≡ Motes motes ∷ Boards ∷ rest
   pub played : List Played
-  pub items : map item_played played ≡ items_of lines
+  pub items : map served_item played ≡ items_of lines
   pub plays : Plays (world_by lines table stores) played v
-  pub only : (others : List Played) (w : World) → map item_played others ≡ items_of lines
+  pub only : (others : List Played) (w : World) → map served_item others ≡ items_of lines
       → Plays (world_by lines table stores) others w → w ≡ v

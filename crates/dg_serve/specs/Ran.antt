@@ -17,24 +17,24 @@ use Rattle.dg_volume.specs.Store.{Store}
 use Rattle.dg_seed.specs.Draws.{first_generator, generator_of}
 use Rattle.dg_serve.specs.Services.{Part, course, plan}
 use Rattle.dg_serve.specs.Endings.{StoresOf, begins}
-use Rattle.dg_serve.specs.Served.{Outside, Came, MotesEndure, Hindered, AtPort, IsAtVolume}
-use Rattle.dg_serve.specs.Traces.{UnwrittenLast, lines_text, head_lines, event_lines, last_line}
+use Rattle.dg_serve.specs.Served.{ServiceOutside, Came, MotesEndure, Hindered, AtPort, IsAtVolume}
+use Rattle.dg_serve.specs.Traces.{UnwrittenLast, lines_text, head_lines, event_lines, trace_last_line}
 use Rattle.dg_serve.specs.declared.service.Service.{Service}
 use Rattle.dg_serve.specs.declared.stop.Stop.{Stop}
 use Rattle.dg_serve.specs.declared.stop.Stop.TheVariants as stop
 
 -- the status of a stop
-abbrev pub status_of : Stop → Status
-status_of stop.Memory = status.Memory
-status_of stop.Write = status.WriteFault
-status_of stop.Link = status.LinkFault
-status_of stop.Flash = status.FlashFault
-status_of stop.NotAVolume = status.NotAVolume
-status_of stop.NoImage = status.NoImage
+abbrev pub stop_status : Stop → Status
+stop_status stop.Memory = status.Memory
+stop_status stop.Write = status.WriteFault
+stop_status stop.Link = status.LinkFault
+stop_status stop.Flash = status.FlashFault
+stop_status stop.NotAVolume = status.NotAVolume
+stop_status stop.NoImage = status.NoImage
 
 -- The service is about to begin: its motes are off, the head of its trace is written, its link is open, and its clock was read.
-pub record IsOpened (profile : NetProfile) (seed : ℕ) (before : Outside) (v : Service) (addressees reached : ℕ)
-    (after : Outside) : Type 0 where
+pub record IsOpened (profile : NetProfile) (seed : ℕ) (before : ServiceOutside) (v : Service) (addressees reached : ℕ)
+    (after : ServiceOutside) : Type 0 where
   pub motes : length v.motes.items ≡ profile.motes
   pub off : (m : ℕ) → slice_index_or v.motes.items m None ≡ None
   pub moment : v.timeline.moment ≡ 0
@@ -48,24 +48,24 @@ pub record IsOpened (profile : NetProfile) (seed : ℕ) (before : Outside) (v : 
   pub faults : after.faults ≡ before.faults
   pub failures : after.failures ≡ before.failures
 
-abbrev pub ServiceOpens : Result Service Stop → NetProfile → (seed : ℕ) → (before : Outside) → (addressees reached : ℕ)
-    → (after : Outside) → Type 0
+abbrev pub ServiceOpens : Result Service Stop → NetProfile → (seed : ℕ) → (before : ServiceOutside) → (addressees reached : ℕ)
+    → (after : ServiceOutside) → Type 0
 ServiceOpens (Ok v) profile seed before addressees reached after = IsOpened profile seed before v addressees reached after
 ServiceOpens (Err why) profile seed before addressees reached after =
-    Hindered (status_of why) profile before after × (after.clock ≡ before.clock)
+    Hindered (stop_status why) profile before after × (after.clock ≡ before.clock)
 
 -- what was written of a trace, by why the service ended before its turns were over, if it did
-abbrev pub WroteBy : Option Stop → (head : List ℕ) → List Event → (text : List ℕ) → Type 0
-WroteBy None head events text = text ≡ head ++ event_lines events
-WroteBy (Some stop.Memory) head events text = text ≡ head ++ event_lines events
-WroteBy (Some stop.Write) head events text = UnwrittenLast head events text
-WroteBy (Some stop.Link) head events text = text ≡ head ++ event_lines events
-WroteBy (Some stop.Flash) head events text = text ≡ head ++ event_lines events
-WroteBy (Some stop.NotAVolume) head events text = text ≡ head ++ event_lines events
-WroteBy (Some stop.NoImage) head events text = text ≡ head ++ event_lines events
+abbrev pub WroteTraceBy : Option Stop → (head : List ℕ) → List Event → (text : List ℕ) → Type 0
+WroteTraceBy None head events text = text ≡ head ++ event_lines events
+WroteTraceBy (Some stop.Memory) head events text = text ≡ head ++ event_lines events
+WroteTraceBy (Some stop.Write) head events text = UnwrittenLast head events text
+WroteTraceBy (Some stop.Link) head events text = text ≡ head ++ event_lines events
+WroteTraceBy (Some stop.Flash) head events text = text ≡ head ++ event_lines events
+WroteTraceBy (Some stop.NotAVolume) head events text = text ≡ head ++ event_lines events
+WroteTraceBy (Some stop.NoImage) head events text = text ≡ head ++ event_lines events
 
 -- the counts, by why the service ended before its turns were over, if it did
-pub record CountedBy (why : Option Stop) (before after : Outside) : Type 0 where
+pub record CountedBy (why : Option Stop) (before after : ServiceOutside) : Type 0 where
   pub wrote : why ≡ Some stop.Write → Rose before.faults after.faults
   pub faults : why ≢ Some stop.Write → after.faults ≡ before.faults
   pub faults_rise : before.faults ≤ after.faults
@@ -76,7 +76,7 @@ pub record CountedBy (why : Option Stop) (before after : Outside) : Type 0 where
       → slice_get after.boards m ≡ Some b → b.faults ≡ a.faults
 
 -- The service began, and came as far as this.
-pub record ServiceRan (why : Option Stop) (profile : NetProfile) (seed turns : ℕ) (before after : Outside) : Type 0 where
+pub record ServiceRan (why : Option Stop) (profile : NetProfile) (seed turns : ℕ) (before after : ServiceOutside) : Type 0 where
   pub origin : ℕ
   pub clock : Option Answers
   pub first : Answered before.clock clock origin
@@ -92,18 +92,18 @@ pub record ServiceRan (why : Option Stop) (profile : NetProfile) (seed turns : �
   pub volumes : AllByRecursion (IsAtVolume before.boards) events
   pub text : List ℕ
   pub put : Puts before.written after.written text
-  pub wrote : WroteBy why (lines_text (head_lines profile)) events text
+  pub wrote : WroteTraceBy why (lines_text (head_lines profile)) events text
   pub boards : MotesEndure profile.motes before.boards after.boards
   pub port : AtPort profile before after
   pub counts : CountedBy why before after
 
 -- why it did not begin
-pub record WasHindered (why : Stop) (profile : NetProfile) (before after : Outside) : Type 0 where
-  pub hindered : Hindered (status_of why) profile before after
+pub record WasHindered (why : Stop) (profile : NetProfile) (before after : ServiceOutside) : Type 0 where
+  pub hindered : Hindered (stop_status why) profile before after
   pub boards : after.boards ≡ before.boards
   pub clock : after.clock ≡ before.clock
 
-abbrev pub RanTo : Result (Unit {0}) Stop → NetProfile → (seed turns : ℕ) → (before after : Outside) → Type 0
+abbrev pub RanTo : Result (Unit {0}) Stop → NetProfile → (seed turns : ℕ) → (before after : ServiceOutside) → Type 0
 RanTo (Ok u) profile seed turns before after = ServiceRan None profile seed turns before after
 RanTo (Err why) profile seed turns before after =
     WasHindered why profile before after ⊎ ServiceRan (Some why) profile seed turns before after
@@ -121,8 +121,8 @@ TellsStop stop.Memory answer w v f g = (answer ≡ status.Memory) × (v ≡ w) �
 TellsStop stop.Write answer w v f g = (answer ≡ status.WriteFault) × (v ≡ w) × (g ≡ f)
 TellsStop stop.Link answer w v f g = (answer ≡ status.LinkFault) × (v ≡ w) × (g ≡ f)
 TellsStop stop.Flash answer w v f g = (answer ≡ status.FlashFault) × (v ≡ w) × (g ≡ f)
-TellsStop stop.NotAVolume answer w v f g = LineWritten answer status.NotAVolume (last_line status.NotAVolume 0 0) w v f g
-TellsStop stop.NoImage answer w v f g = LineWritten answer status.NoImage (last_line status.NoImage 0 0) w v f g
+TellsStop stop.NotAVolume answer w v f g = LineWritten answer status.NotAVolume (trace_last_line status.NotAVolume 0 0) w v f g
+TellsStop stop.NoImage answer w v f g = LineWritten answer status.NoImage (trace_last_line status.NoImage 0 0) w v f g
 
 -- what is answered where there are too few boards
 abbrev pub TellsTooFew : (answer : Status) → (line : List ℕ) → (w v : Option (List ℕ)) → (f g : ℕ) → Type 0
@@ -137,8 +137,8 @@ pub record LinkTold : Type 0 where
   pub addressees : ℕ
   pub port : Option ℕ
 
-abbrev pub told_by : {L : Type 0} → LinkTells L × L → LinkTold
-told_by net = record {
+abbrev pub answer_of_link : {L : Type 0} → LinkTells L × L → LinkTold
+answer_of_link net = record {
   inboxes = net.0.inboxes net.1;
   failures = net.0.faults net.1;
   addressees = net.0.mote_count net.1;

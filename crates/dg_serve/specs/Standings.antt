@@ -31,7 +31,7 @@ use Rattle.dg_node.specs.declared.node.Node.{Node}
 use Rattle.dg_seed.specs.Draws.{generator_of}
 use Rattle.dg_serve.specs.Services.{Part, Begins, Looks, Ticks, Moment, PartsDone, course, Steps, handed_to, neighbours_by}
 use Rattle.dg_serve.specs.Traces.{UnwrittenLast, event_lines}
-use Rattle.dg_serve.specs.Endings.{BoardsStand, EventEnds, HandedToFirst, remains, StopLeaves}
+use Rattle.dg_serve.specs.Endings.{ServedBoardsStand, EventEnds, HandedToFirst, remains, StopLeaves}
 use Rattle.dg_serve.specs.declared.service.Service.{Service}
 use Rattle.dg_serve.specs.declared.stop.Stop.{Stop}
 use Rattle.dg_serve.specs.declared.stop.Stop.TheVariants as stop
@@ -90,7 +90,7 @@ pub record StandsFor (motes begun : ℕ) (links : List (ℕ × ℕ)) (ahead : �
       → (b.image ≡ a.image) × ((site s.world m).runs ≡ None) × (Stands a.image (store_at s.world m) ⊎ IsNoVolume a.image)
 
 -- What holds of it whatever it stands for.
-pub record Ready (motes begun : ℕ) (p : Standing) : Type 0 where
+pub record StandsReady (motes begun : ℕ) (p : Standing) : Type 0 where
   pub motes_are : length p.service.motes.items ≡ motes
   pub boards : motes ≤ length p.boards
   pub addressees : p.addressees ≡ motes
@@ -142,7 +142,7 @@ pub record ServedParts (motes begun on : ℕ) (links : List (ℕ × ℕ)) (parts
   pub put : Puts p.written q.written (event_lines events)
   pub run : (first : List Device) (s : Moment) → StandsFor motes begun links 0 first s p
       → (t : Moment) × PartsDone motes s parts events t × StandsFor motes on links 0 first t q
-  pub ready : Ready motes on q
+  pub ready : StandsReady motes on q
   pub volumes : (m : ℕ) (a : Device) → begun ≤ m → m < on → slice_get p.boards m ≡ Some a → IsVolume a.image
   pub boards : BoardsAreUsed on p.boards q.boards
   pub calm : BoardsAreCalm p.boards q.boards
@@ -201,9 +201,9 @@ abbrev pub stretch : (begun on : ℕ) (parts : List Part) → Stretch
 stretch begun on parts = record { begun = begun; on = on; parts = parts }
 
 -- how a call that does these parts ends
-abbrev pub GoesOn : Result (Unit {0}) Stop → (motes : ℕ) → List (ℕ × ℕ) → Stretch → Standing → Standing → Type 0
-GoesOn (Ok u) motes links x p q = ServedParts motes x.begun x.on links x.parts p q
-GoesOn (Err why) motes links x p q = PartsHalted why motes x.begun links x.parts p q
+abbrev pub PartsGoOn : Result (Unit {0}) Stop → (motes : ℕ) → List (ℕ × ℕ) → Stretch → Standing → Standing → Type 0
+PartsGoOn (Ok u) motes links x p q = ServedParts motes x.begun x.on links x.parts p q
+PartsGoOn (Err why) motes links x p q = PartsHalted why motes x.begun links x.parts p q
 
 -- it stands for some moment
 abbrev pub StandsForSome : (motes begun : ℕ) → List (ℕ × ℕ) → Standing → Type 0
@@ -211,7 +211,7 @@ StandsForSome motes begun links p = (first : List Device) × (s : Moment) × Sta
 
 -- Each mote began, the time of the service is below this, and it stands for some moment.
 pub record IsUnderWay (motes : ℕ) (links : List (ℕ × ℕ)) (limit : ℕ) (p : Standing) : Type 0 where
-  pub ready : Ready motes motes p
+  pub ready : StandsReady motes motes p
   pub early : p.service.timeline.moment < limit
   pub some : StandsForSome motes motes links p
 
@@ -277,7 +277,7 @@ pub record AppliedAt (motes : ℕ) (links : List (ℕ × ℕ)) (event : Event) (
   pub put : Puts p.written q.written (event_lines (event ∷ []))
   pub run : (first : List Device) (s : Moment) → StandsFor motes (begun_before motes event) links (dt_of event) first s p
       → (t : Moment) × Steps motes s event t × StandsFor motes (begun_behind motes event) links 0 first t q
-  pub ready : Ready motes (begun_before motes event) p → Ready motes (begun_behind motes event) q
+  pub ready : StandsReady motes (begun_before motes event) p → StandsReady motes (begun_behind motes event) q
   pub volumes : (a : Device) → IsReset event → slice_get p.boards (mote_of event) ≡ Some a → IsVolume a.image
   pub boards : BoardsAreUsed (begun_behind motes event) p.boards q.boards
   pub calm : BoardsAreCalm p.boards q.boards
@@ -310,7 +310,7 @@ pub record AppliedPartly (why : Stop) (motes : ℕ) (links : List (ℕ × ℕ)) 
   pub front : (n : ℕ) × (text ≡ take n (event_lines (event ∷ [])))
   pub whole : why ≢ stop.Write → text ≡ event_lines (event ∷ [])
   pub run : (first : List Device) (s : Moment) → StandsFor motes (begun_before motes event) links (dt_of event) first s p
-      → (t : Moment) × Steps motes s event t × BoardsStand t.world first q.boards
+      → (t : Moment) × Steps motes s event t × ServedBoardsStand t.world first q.boards
       × HandedThen why motes s.world t.world p.inboxes q.inboxes
   pub volumes : (a : Device) → IsReset event → slice_get p.boards (mote_of event) ≡ Some a → IsVolume a.image
   pub port : q.port ≡ p.port

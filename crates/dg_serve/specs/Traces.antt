@@ -37,11 +37,11 @@ pub record UnwrittenLast (head : List ℕ) (events : List Event) (text : List �
   pub text_is : text ≡ head ++ event_lines written ++ take n (event_lines (event ∷ []))
 
 -- the last line of a status
-abbrev pub last_line : Status → (motes boards : ℕ) → List ℕ
-last_line NoBoard motes boards = codes "noboard " ++ decimal motes ++ 32 ∷ decimal boards ++ 10 ∷ []
-last_line NotAVolume motes boards = codes "notavolume" ++ 10 ∷ []
-last_line NoImage motes boards = codes "noimage" ++ 10 ∷ []
-last_line status motes boards = []
+abbrev pub trace_last_line : Status → (motes boards : ℕ) → List ℕ
+trace_last_line NoBoard motes boards = codes "noboard " ++ decimal motes ++ 32 ∷ decimal boards ++ 10 ∷ []
+trace_last_line NotAVolume motes boards = codes "notavolume" ++ 10 ∷ []
+trace_last_line NoImage motes boards = codes "noimage" ++ 10 ∷ []
+trace_last_line status motes boards = []
 
 -- the line of an event
 abbrev pub IsEventLine : Line → Type 0

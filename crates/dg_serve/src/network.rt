@@ -5,7 +5,7 @@ ghost use Rattle.dg_base.specs.declared.answers.Status.TheVariants.{BadInput};
 ghost use Rattle.dg_mote.specs.Sizes.{BuffersFit, ValuesAreSmall};
 ghost use Rattle.dg_netcfg.specs.Readings.{IsAllowed};
 ghost use Rattle.dg_serve.specs.Networks.{NetworkServed, around_service, fault_line};
-ghost use Rattle.dg_serve.specs.Served.{outside};
+ghost use Rattle.dg_serve.specs.Served.{service_outside};
 ghost use Rattle.dg_serve.specs.Spelled.{NetworkRead, Spells, TellsNone, TellsLine, no_profile_of};
 
 use crate::serving::{serve, tell_last};
@@ -47,10 +47,10 @@ pub fn serve_network<S: Source, K: Sink, N: Nor, L: Link, C: Clock>(
     requires turns { turns ≤ 1000000 }
     ensures served { NetworkServed result seed turns
         (around_service (S.left input.old) (S.faults input.old)
-        (outside (K.written out.old) (K.faults out.old) (C.told clock.old) (L.inboxes link.old) (L.faults link.old)
+        (service_outside (K.written out.old) (K.faults out.old) (C.told clock.old) (L.inboxes link.old) (L.faults link.old)
         (L.first_port link.old) (map N.device boards.old.items)))
         (around_service (S.left input.new) (S.faults input.new)
-        (outside (K.written out.new) (K.faults out.new) (C.told clock.new) (L.inboxes link.new) (L.faults link.new)
+        (service_outside (K.written out.new) (K.faults out.new) (C.told clock.new) (L.inboxes link.new) (L.faults link.new)
         (L.first_port link.new) (map N.device boards.new.items))) }
     // All byte arrays that are alive at once in a mote's call have no more than 256 bytes, and the value of a mote holds none
     // but the outbox and its sets.

@@ -4,7 +4,7 @@ ghost use Rattle.dg_base.specs.Clock.{Answers};
 ghost use Rattle.dg_netcfg.specs.Readings.{IsAllowed};
 ghost use Rattle.dg_serve.specs.Each.{each};
 ghost use Rattle.dg_serve.specs.Services.{Begins, Looks, Ticks, beginning, turn_of_all, plan};
-ghost use Rattle.dg_serve.specs.Standings.{Ready, IsUnderWay, GoesOn, EventAsks, ApplyEnds, stretch, standing_with};
+ghost use Rattle.dg_serve.specs.Standings.{StandsReady, IsUnderWay, PartsGoOn, EventAsks, ApplyEnds, stretch, standing_with};
 ghost use Rattle.dg_serve.specs.Standings.{service_standing};
 
 use crate::handing::{hand_on, receive};
@@ -73,10 +73,10 @@ impl Service {
     ) -> Result<(), Stop>
         requires allowed { IsAllowed profile.now }
         requires known { mote < profile.now.motes }
-        requires ready { Ready profile.now.motes mote
+        requires ready { StandsReady profile.now.motes mote
             (service_standing (self.old, map N.device boards.old) (K.Sink, out.old) (L.Link, link.old) (C.Clock, clock.old)) }
         requires early { self.old.timeline.moment < 2 ^ 60 }
-        ensures goes { GoesOn result profile.now.motes profile.now.links (stretch mote (mote + 1) (Begins mote ∷ []))
+        ensures goes { PartsGoOn result profile.now.motes profile.now.links (stretch mote (mote + 1) (Begins mote ∷ []))
             (service_standing (self.old, map N.device boards.old) (K.Sink, out.old) (L.Link, link.old) (C.Clock, clock.old))
             (service_standing (self.new, map N.device boards.new) (K.Sink, out.new) (L.Link, link.new) (C.Clock, clock.new)) }
     {
@@ -103,7 +103,7 @@ impl Service {
         requires known { mote < profile.now.motes }
         requires under_way { IsUnderWay profile.now.motes profile.now.links (2 ^ 60)
             (service_standing (self.old, map N.device boards.old) (K.Sink, out.old) (L.Link, link.old) (C.Clock, clock.old)) }
-        ensures goes { GoesOn result profile.now.motes profile.now.links
+        ensures goes { PartsGoOn result profile.now.motes profile.now.links
             (stretch profile.now.motes profile.now.motes (Looks mote ∷ []))
             (service_standing (self.old, map N.device boards.old) (K.Sink, out.old) (L.Link, link.old) (C.Clock, clock.old))
             (service_standing (self.new, map N.device boards.new) (K.Sink, out.new) (L.Link, link.new) (C.Clock, clock.new)) }
@@ -137,7 +137,7 @@ impl Service {
         requires known { mote < profile.now.motes }
         requires under_way { IsUnderWay profile.now.motes profile.now.links (2 ^ 60)
             (service_standing (self.old, map N.device boards.old) (K.Sink, out.old) (L.Link, link.old) (C.Clock, clock.old)) }
-        ensures goes { GoesOn result profile.now.motes profile.now.links
+        ensures goes { PartsGoOn result profile.now.motes profile.now.links
             (stretch profile.now.motes profile.now.motes (Ticks mote ∷ []))
             (service_standing (self.old, map N.device boards.old) (K.Sink, out.old) (L.Link, link.old) (C.Clock, clock.old))
             (service_standing (self.new, map N.device boards.new) (K.Sink, out.new) (L.Link, link.new) (C.Clock, clock.new)) }
@@ -165,7 +165,7 @@ impl Service {
         requires known { mote < profile.now.motes }
         requires under_way { IsUnderWay profile.now.motes profile.now.links (2 ^ 59)
             (service_standing (self.old, map N.device boards.old) (K.Sink, out.old) (L.Link, link.old) (C.Clock, clock.old)) }
-        ensures goes { GoesOn result profile.now.motes profile.now.links
+        ensures goes { PartsGoOn result profile.now.motes profile.now.links
             (stretch profile.now.motes profile.now.motes (Looks mote ∷ Ticks mote ∷ []))
             (service_standing (self.old, map N.device boards.old) (K.Sink, out.old) (L.Link, link.old) (C.Clock, clock.old))
             (service_standing (self.new, map N.device boards.new) (K.Sink, out.new) (L.Link, link.new) (C.Clock, clock.new)) }
@@ -185,10 +185,10 @@ impl Service {
         out: &mut K,
     ) -> Result<(), Stop>
         requires allowed { IsAllowed profile.now }
-        requires ready { Ready profile.now.motes 0
+        requires ready { StandsReady profile.now.motes 0
             (service_standing (self.old, map N.device boards.old) (K.Sink, out.old) (L.Link, link.old) (C.Clock, clock.old)) }
         requires early { self.old.timeline.moment ≡ 0 }
-        ensures goes { GoesOn result profile.now.motes profile.now.links
+        ensures goes { PartsGoOn result profile.now.motes profile.now.links
             (stretch 0 profile.now.motes (beginning profile.now.motes))
             (service_standing (self.old, map N.device boards.old) (K.Sink, out.old) (L.Link, link.old) (C.Clock, clock.old))
             (service_standing (self.new, map N.device boards.new) (K.Sink, out.new) (L.Link, link.new) (C.Clock, clock.new)) }
@@ -211,7 +211,7 @@ impl Service {
         requires allowed { IsAllowed profile.now }
         requires under_way { IsUnderWay profile.now.motes profile.now.links (2 ^ 58)
             (service_standing (self.old, map N.device boards.old) (K.Sink, out.old) (L.Link, link.old) (C.Clock, clock.old)) }
-        ensures goes { GoesOn result profile.now.motes profile.now.links
+        ensures goes { PartsGoOn result profile.now.motes profile.now.links
             (stretch profile.now.motes profile.now.motes (turn_of_all profile.now.motes))
             (service_standing (self.old, map N.device boards.old) (K.Sink, out.old) (L.Link, link.old) (C.Clock, clock.old))
             (service_standing (self.new, map N.device boards.new) (K.Sink, out.new) (L.Link, link.new) (C.Clock, clock.new)) }
@@ -234,10 +234,10 @@ impl Service {
     ) -> Result<(), Stop>
         requires allowed { IsAllowed profile.now }
         requires few { turns ≤ 1000000 }
-        requires ready { Ready profile.now.motes 0
+        requires ready { StandsReady profile.now.motes 0
             (service_standing (self.old, map N.device boards.old) (K.Sink, out.old) (L.Link, link.old) (C.Clock, clock.old)) }
         requires early { self.old.timeline.moment ≡ 0 }
-        ensures goes { GoesOn result profile.now.motes profile.now.links
+        ensures goes { PartsGoOn result profile.now.motes profile.now.links
             (stretch 0 profile.now.motes (plan profile.now.motes turns))
             (service_standing (self.old, map N.device boards.old) (K.Sink, out.old) (L.Link, link.old) (C.Clock, clock.old))
             (service_standing (self.new, map N.device boards.new) (K.Sink, out.new) (L.Link, link.new) (C.Clock, clock.new)) }
@@ -261,7 +261,7 @@ impl Service {
         requires few { turns ≤ 1000000 }
         requires under_way { IsUnderWay profile.now.motes profile.now.links (2 ^ 40)
             (service_standing (self.old, map N.device boards.old) (K.Sink, out.old) (L.Link, link.old) (C.Clock, clock.old)) }
-        ensures goes { GoesOn result profile.now.motes profile.now.links
+        ensures goes { PartsGoOn result profile.now.motes profile.now.links
             (stretch profile.now.motes profile.now.motes (each turns (λ turn. turn_of_all profile.now.motes)))
             (service_standing (self.old, map N.device boards.old) (K.Sink, out.old) (L.Link, link.old) (C.Clock, clock.old))
             (service_standing (self.new, map N.device boards.new) (K.Sink, out.new) (L.Link, link.new) (C.Clock, clock.new)) }

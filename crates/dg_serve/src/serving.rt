@@ -4,9 +4,9 @@ ghost use Rattle.dg_base.specs.declared.answers.Status.TheVariants.{NoBoard};
 ghost use Rattle.dg_mote.specs.Sizes.{BuffersFit, ValuesAreSmall};
 ghost use Rattle.dg_netcfg.specs.Readings.{IsAllowed};
 ghost use Rattle.dg_nor.specs.Device.{Device};
-ghost use Rattle.dg_serve.specs.Traces.{last_line};
-ghost use Rattle.dg_serve.specs.Served.{Served, TooFewBoards, outside};
-ghost use Rattle.dg_serve.specs.Ran.{ServiceOpens, OpensLink, told_by, RanTo, LineWritten, TellsStop, TellsTooFew};
+ghost use Rattle.dg_serve.specs.Traces.{trace_last_line};
+ghost use Rattle.dg_serve.specs.Served.{Served, TooFewBoards, service_outside};
+ghost use Rattle.dg_serve.specs.Ran.{ServiceOpens, OpensLink, answer_of_link, RanTo, LineWritten, TellsStop, TellsTooFew};
 
 use crate::service::Service;
 use crate::stop::Stop;
@@ -35,14 +35,14 @@ pub fn serve<K: Sink, N: Nor, L: Link, C: Clock>(
     requires allowed { IsAllowed profile.now }
     requires turns { turns ≤ 1000000 }
     ensures served { profile.now.motes ≤ vec_len boards.old → Served result profile.now seed turns
-        (outside (K.written out.old) (K.faults out.old) (C.told clock.old) (L.inboxes link.old) (L.faults link.old)
+        (service_outside (K.written out.old) (K.faults out.old) (C.told clock.old) (L.inboxes link.old) (L.faults link.old)
         (L.first_port link.old) (map N.device boards.old.items))
-        (outside (K.written out.new) (K.faults out.new) (C.told clock.new) (L.inboxes link.new) (L.faults link.new)
+        (service_outside (K.written out.new) (K.faults out.new) (C.told clock.new) (L.inboxes link.new) (L.faults link.new)
         (L.first_port link.new) (map N.device boards.new.items)) }
     ensures too_few { vec_len boards.old < profile.now.motes → TooFewBoards result profile.now
-        (outside (K.written out.old) (K.faults out.old) (C.told clock.old) (L.inboxes link.old) (L.faults link.old)
+        (service_outside (K.written out.old) (K.faults out.old) (C.told clock.old) (L.inboxes link.old) (L.faults link.old)
         (L.first_port link.old) (map N.device boards.old.items))
-        (outside (K.written out.new) (K.faults out.new) (C.told clock.new) (L.inboxes link.new) (L.faults link.new)
+        (service_outside (K.written out.new) (K.faults out.new) (C.told clock.new) (L.inboxes link.new) (L.faults link.new)
         (L.first_port link.new) (map N.device boards.new.items)) }
     // All byte arrays that are alive at once in a mote's call have no more than 256 bytes, and the value of a mote holds none
     // but the outbox and its sets.
@@ -82,9 +82,9 @@ fn serve_boards<K: Sink, N: Nor, L: Link, C: Clock>(
     requires turns { turns ≤ 1000000 }
     requires boards { profile.now.motes ≤ length boards.old }
     ensures ran { RanTo result profile.now seed turns
-        (outside (K.written out.old) (K.faults out.old) (C.told clock.old) (L.inboxes link.old) (L.faults link.old)
+        (service_outside (K.written out.old) (K.faults out.old) (C.told clock.old) (L.inboxes link.old) (L.faults link.old)
         (L.first_port link.old) (map N.device boards.old))
-        (outside (K.written out.new) (K.faults out.new) (C.told clock.new) (L.inboxes link.new) (L.faults link.new)
+        (service_outside (K.written out.new) (K.faults out.new) (C.told clock.new) (L.inboxes link.new) (L.faults link.new)
         (L.first_port link.new) (map N.device boards.new)) }
 {
     let mut service = open_service(alloc, profile, link, clock, seed, out)?;
@@ -102,10 +102,10 @@ pub fn open_service<K: Sink, L: Link, C: Clock>(
 ) -> Result<Service, Stop>
     requires allowed { IsAllowed profile.now }
     ensures opens { (boards : List Device) → ServiceOpens result profile.now seed
-        (outside (K.written out.old) (K.faults out.old) (C.told clock.old) (L.inboxes link.old) (L.faults link.old)
+        (service_outside (K.written out.old) (K.faults out.old) (C.told clock.old) (L.inboxes link.old) (L.faults link.old)
         (L.first_port link.old) boards)
         (L.mote_count link.new) (C.reached clock.new)
-        (outside (K.written out.new) (K.faults out.new) (C.told clock.new) (L.inboxes link.new) (L.faults link.new)
+        (service_outside (K.written out.new) (K.faults out.new) (C.told clock.new) (L.inboxes link.new) (L.faults link.new)
         (L.first_port link.new) boards) }
 {
     let motes = all_off(alloc, profile.motes)?;
@@ -125,7 +125,7 @@ pub fn open_service<K: Sink, L: Link, C: Clock>(
 /// Opens the link.
 fn open<L: Link>(alloc: Global, profile: &NetProfile, link: &mut L) -> Result<(), Stop>
     requires { IsAllowed profile.now }
-    ensures opens { OpensLink result profile.now (told_by (L.Link, link.old)) (told_by (L.Link, link.new)) }
+    ensures opens { OpensLink result profile.now (answer_of_link (L.Link, link.old)) (answer_of_link (L.Link, link.new)) }
 {
     match link.open(alloc, profile.port, u16::from(profile.motes)) {
         Ok(()) => Ok(()),
@@ -172,7 +172,7 @@ pub(crate) fn tell_last<K: Sink>(line: &[u8], status: Status, out: &mut K) -> St
 /// Reports that there are too few boards.
 fn tell_too_few<K: Sink>(alloc: Global, motes: u8, boards: usize, out: &mut K) -> Status
     requires few { boards < 2 ^ 32 }
-    ensures { TellsTooFew result (last_line NoBoard motes boards) (K.written out.old) (K.written out.new) (K.faults out.old)
+    ensures { TellsTooFew result (trace_last_line NoBoard motes boards) (K.written out.old) (K.written out.new) (K.faults out.old)
         (K.faults out.new) }
 {
     match too_few_line(alloc, motes, boards) {
@@ -184,7 +184,7 @@ fn tell_too_few<K: Sink>(alloc: Global, motes: u8, boards: usize, out: &mut K) -
 /// The line that tells how many boards there should be, and how many there are.
 fn too_few_line(alloc: Global, motes: u8, boards: usize) -> Result<Vec<u8>, AllocError>
     requires few { boards < 2 ^ 32 }
-    ensures { IfOk result (λ line. line.items ≡ last_line NoBoard motes boards) }
+    ensures { IfOk result (λ line. line.items ≡ trace_last_line NoBoard motes boards) }
 {
     let mut text = Vec::new(alloc);
     text.extend_from_slice(b"noboard ")?;

@@ -3,12 +3,12 @@ use Rattle.std.proofs.Common.{◌≡◌, ℕ, List, [], ◌∷◌, set, sym, sub
 use Rattle.std.specs.Prelude.{Bool, slice_get, Some, Result, Ok, Err, IsErrAnd}
 use Rattle.dg_nor.specs.Device.{Device}
 use Rattle.dg_serve.specs.Services.{Looks}
-use Rattle.dg_serve.specs.Standings.{Standing, ServedParts, PartsHalted, GoesOn, stretch}
+use Rattle.dg_serve.specs.Standings.{Standing, ServedParts, PartsHalted, PartsGoOn, stretch}
 use Rattle.dg_serve.specs.declared.stop.Stop.{Stop}
 use Rattle.dg_single.specs.Overs.{over, went_so}
 use Rattle.dg_single.proofs.PlaceLemmas.{put_same}
 
-pub look_exit : (motes mote : ℕ) (links : List (ℕ × ℕ)) (p q : Standing) (r : Result Bool Stop) (why : Stop) → IsErrAnd r (λ e. e ≡ why) → PartsHalted why motes motes links (Looks mote ∷ []) p q → GoesOn (went_so r) motes links (stretch motes motes (Looks mote ∷ [])) p q
+pub look_exit : (motes mote : ℕ) (links : List (ℕ × ℕ)) (p q : Standing) (r : Result Bool Stop) (why : Stop) → IsErrAnd r (λ e. e ≡ why) → PartsHalted why motes motes links (Looks mote ∷ []) p q → PartsGoOn (went_so r) motes links (stretch motes motes (Looks mote ∷ [])) p q
 look_exit motes mote links p q (Ok u) why is h = absurd is
 look_exit motes mote links p q (Err e) why is h = subst (λ (w : Stop). PartsHalted w motes motes links (Looks mote ∷ []) p q) (sym is) h
 

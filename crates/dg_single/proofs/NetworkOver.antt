@@ -11,7 +11,7 @@ use Rattle.dg_netcfg.specs.declared.profile.ProfileFault.TheVariants as fault
 use Rattle.dg_nor.specs.Device.{Device}
 use Rattle.dg_script.specs.Sizes.{most_used_bytes}
 use Rattle.dg_serve.specs.Networks.{WritesOneLine, AroundService, around_service, over_line, fault_line}
-use Rattle.dg_serve.specs.Served.{Outside}
+use Rattle.dg_serve.specs.Served.{ServiceOutside}
 use Rattle.dg_serve.specs.Spelled.{NetworkRead, TellsLine, TellsNone}
 use Rattle.dg_serve.specs.declared.network.NoProfile.{NoProfile}
 use Rattle.dg_serve.specs.declared.network.NoProfile.TheVariants as none
@@ -46,14 +46,14 @@ here_by mote profile h = ap (λ (b : Bool). cond b (Serves profile) (FaultAt fau
 not_here_by : (mote : ℕ) (profile : NetProfile) → profile.motes ≤ mote → by_mote mote profile ≡ FaultAt fault.Id
 not_here_by mote profile h = ap (λ (b : Bool). cond b (Serves profile) (FaultAt fault.Id)) (lt_false mote profile.motes h)
 
-pub served_here : (mote : ℕ) (profile : NetProfile) (answer : Status) (seed turns : ℕ) (before after : Outside) → mote < profile.motes → MoteServed answer profile mote seed turns before after → MoteDoneBy (by_mote mote profile) answer mote seed turns before after
+pub served_here : (mote : ℕ) (profile : NetProfile) (answer : Status) (seed turns : ℕ) (before after : ServiceOutside) → mote < profile.motes → MoteServed answer profile mote seed turns before after → MoteDoneBy (by_mote mote profile) answer mote seed turns before after
 served_here mote profile answer seed turns before after h s = subst (λ (o : MoteOpening). MoteDoneBy o answer mote seed turns before after) (sym (here_by mote profile h)) s
 
 -- nothing was done but to report why
-alone : (answer of : Status) (line : List ℕ) (mote : ℕ) (before : Outside) (d : Device) (w : Option (List ℕ)) (f : ℕ) → slice_get before.boards mote ≡ Some d → TellsLine answer of line before.written w before.faults f → WritesOneLine answer of line before (record before { written = w; faults = f; boards = set before.boards mote d })
+alone : (answer of : Status) (line : List ℕ) (mote : ℕ) (before : ServiceOutside) (d : Device) (w : Option (List ℕ)) (f : ℕ) → slice_get before.boards mote ≡ Some d → TellsLine answer of line before.written w before.faults f → WritesOneLine answer of line before (record before { written = w; faults = f; boards = set before.boards mote d })
 alone answer of line mote before d w f was told = record { boards = put_same before.boards mote d was; clock = refl; link = refl; port = refl; failures = refl; written = told }
 
-pub refused_here : (mote : ℕ) (profile : NetProfile) (answer : Status) (seed turns : ℕ) (before : Outside) (d : Device) (w : Option (List ℕ)) (f : ℕ) → profile.motes ≤ mote → slice_get before.boards mote ≡ Some d → TellsNone (none.Fault fault.Id) answer before.written w before.faults f
+pub refused_here : (mote : ℕ) (profile : NetProfile) (answer : Status) (seed turns : ℕ) (before : ServiceOutside) (d : Device) (w : Option (List ℕ)) (f : ℕ) → profile.motes ≤ mote → slice_get before.boards mote ≡ Some d → TellsNone (none.Fault fault.Id) answer before.written w before.faults f
     → MoteDoneBy (by_mote mote profile) answer mote seed turns before (record before { written = w; faults = f; boards = set before.boards mote d })
 refused_here mote profile answer seed turns before d w f h was told =
     subst (λ (o : MoteOpening). MoteDoneBy o answer mote seed turns before (record before { written = w; faults = f; boards = set before.boards mote d })) (sym (not_here_by mote profile h)) (alone answer status.BadInput (fault_line fault.Id) mote before d w f was told)
@@ -72,13 +72,13 @@ served_by profile mote answer seed turns a b read done = record {
 
 -- ---- where no profile was read
 
-same_outside : (mote : ℕ) (before : Outside) (d : Device) (w : Option (List ℕ)) (f : ℕ) → slice_get before.boards mote ≡ Some d → w ≡ before.written → f ≡ before.faults → record before { written = w; faults = f; boards = set before.boards mote d } ≡ before
+same_outside : (mote : ℕ) (before : ServiceOutside) (d : Device) (w : Option (List ℕ)) (f : ℕ) → slice_get before.boards mote ≡ Some d → w ≡ before.written → f ≡ before.faults → record before { written = w; faults = f; boards = set before.boards mote d } ≡ before
 same_outside mote before d w f was e g =
     ap (λ (x : Option (List ℕ)). record before { written = x; faults = f; boards = set before.boards mote d }) e
     ∙ ap (λ (k : ℕ). record before { faults = k; boards = set before.boards mote d }) g
     ∙ ap (λ (bs : List Device). record before { boards = bs }) (put_same before.boards mote d was)
 
-pub none_served : (why : NoProfile) (mote : ℕ) (answer : Status) (seed turns : ℕ) (left_before left_after : Option (List ℕ)) (reads_before reads_after : ℕ) (before : Outside) (d : Device) (w : Option (List ℕ)) (f : ℕ) → slice_get before.boards mote ≡ Some d → NetworkRead (Err why) left_before left_after reads_before reads_after
+pub none_served : (why : NoProfile) (mote : ℕ) (answer : Status) (seed turns : ℕ) (left_before left_after : Option (List ℕ)) (reads_before reads_after : ℕ) (before : ServiceOutside) (d : Device) (w : Option (List ℕ)) (f : ℕ) → slice_get before.boards mote ≡ Some d → NetworkRead (Err why) left_before left_after reads_before reads_after
     → TellsNone why answer before.written w before.faults f → MoteOfNetworkServed answer mote seed turns (around_service left_before reads_before before) (around_service left_after reads_after (record before { written = w; faults = f; boards = set before.boards mote d }))
 none_served none.Memory mote answer seed turns left_before left_after reads_before reads_after before d w f was read told = record {
   input = read.input;

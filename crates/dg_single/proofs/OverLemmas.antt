@@ -7,7 +7,7 @@ use Rattle.dg_nor.specs.Device.{Device}
 use Rattle.dg_volume.specs.Stands.{IsVolume}
 use Rattle.dg_seed.specs.Draws.{generator_of}
 use Rattle.dg_serve.specs.Services.{Part, Begins, Moment}
-use Rattle.dg_serve.specs.Standings.{Standing, StandsFor, Ready, ServedParts}
+use Rattle.dg_serve.specs.Standings.{Standing, StandsFor, StandsReady, ServedParts}
 use Rattle.dg_serve.proofs.BoardLemmas.{get_set_same, got_within}
 use Rattle.dg_serve.proofs.EventLemmas.{same_of}
 use Rattle.dg_serve.proofs.LoopLemmas.{still_under_way}
@@ -76,7 +76,7 @@ more_on motes low high links first s p rises within volumes off st = record {
 
 -- ---- it is under way
 
-pub ready_more : (motes low high : ℕ) (p : Standing) → low ≤ high → Ready motes low p → Ready motes high p
+pub ready_more : (motes low high : ℕ) (p : Standing) → low ≤ high → StandsReady motes low p → StandsReady motes high p
 ready_more motes low high p rises r = record { motes_are = r.motes_are; boards = r.boards; addressees = r.addressees; reading = r.reading; off = λ m out. r.off m (omega (arith, out, rises)) }
 
 -- once its mote began
@@ -112,5 +112,5 @@ still_over x parts limit more d e p q way went early = record {
 }
 
 -- what is ready over some boards is so over all
-pub ready_over : (motes begun : ℕ) (p : Standing) (some other : List Device) → Ready motes begun (over p some) → motes ≤ length other → Ready motes begun (over p other)
+pub ready_over : (motes begun : ℕ) (p : Standing) (some other : List Device) → StandsReady motes begun (over p some) → motes ≤ length other → StandsReady motes begun (over p other)
 ready_over motes begun p some other r enough = record { motes_are = r.motes_are; boards = enough; addressees = r.addressees; reading = r.reading; off = r.off }

@@ -19,10 +19,10 @@ use Rattle.dg_rules.specs.Events.{mote_of}
 use Rattle.dg_seed.specs.Draws.{first_generator}
 use Rattle.dg_serve.specs.Services.{Begins, Moment, course}
 use Rattle.dg_serve.specs.Endings.{StoresOf, begins, remains}
-use Rattle.dg_serve.specs.Traces.{trace, lines_text, head_lines, event_lines, last_line}
+use Rattle.dg_serve.specs.Traces.{trace, lines_text, head_lines, event_lines, trace_last_line}
 use Rattle.dg_serve.specs.Standings.{Standing, StandsFor, IsBelow, IsEventAt, IsPartAt, ServedParts, PartsHalted}
-use Rattle.dg_serve.specs.Served.{Outside, IsAtVolume, WroteLast, Wrote, Causes, Hindered, outside}
-use Rattle.dg_serve.specs.Ran.{status_of, IsOpened, CountedBy, LineWritten, TellsStop}
+use Rattle.dg_serve.specs.Served.{ServiceOutside, IsAtVolume, WroteLast, WroteTrace, Causes, Hindered, service_outside}
+use Rattle.dg_serve.specs.Ran.{stop_status, IsOpened, CountedBy, LineWritten, TellsStop}
 use Rattle.dg_serve.specs.declared.stop.Stop.{Stop}
 use Rattle.dg_serve.specs.declared.stop.Stop.TheVariants as stop
 use Rattle.dg_serve.proofs.BoardLemmas.{used_then, used_more, calm_all_then}
@@ -60,7 +60,7 @@ at_begun mote on boards (e ∷ es) volumes below own = (λ a was. let at = own.0
 
 -- ---- from the opening to where it ended
 
-module _ (profile : NetProfile) (mote seed turns : ℕ) (b : Outside) (p q : Standing) (o : IsOpened profile seed (record b { boards = p.boards }) p.service p.addressees p.reached (outside_of p)) (known : mote < profile.motes) where
+module _ (profile : NetProfile) (mote seed turns : ℕ) (b : ServiceOutside) (p q : Standing) (o : IsOpened profile seed (record b { boards = p.boards }) p.service p.addressees p.reached (outside_of p)) (known : mote < profile.motes) where
   abbrev First : List Row → List Store → Moment
   First table stores = begins table profile.links stores p.service.timeline.reading p.clock seed (option_map (emptied profile.motes) b.inboxes)
 
@@ -227,7 +227,7 @@ module _ (profile : NetProfile) (mote seed turns : ℕ) (b : Outside) (p q : Sta
   ran_to (Err why) (inl h) = inr (ran_begin why h)
   ran_to (Err why) (inr x) = inr (ran_turns why x)
 
-pub hindered_to : (x : Result (Unit {0}) Stop) (why : Stop) (profile : NetProfile) (mote seed turns : ℕ) (before after : Outside) → IsErrAnd x (λ e. e ≡ why) → after.boards ≡ before.boards → Hindered (status_of why) profile before after × (after.clock ≡ before.clock) → MoteRanTo x profile mote seed turns before after
+pub hindered_to : (x : Result (Unit {0}) Stop) (why : Stop) (profile : NetProfile) (mote seed turns : ℕ) (before after : ServiceOutside) → IsErrAnd x (λ e. e ≡ why) → after.boards ≡ before.boards → Hindered (stop_status why) profile before after × (after.clock ≡ before.clock) → MoteRanTo x profile mote seed turns before after
 hindered_to (Ok u) why profile mote seed turns before after is boards h = absurd is
 hindered_to (Err e) why profile mote seed turns before after is boards h =
     subst (λ (w : Stop). MoteRanTo (Err w) profile mote seed turns before after) (sym is) (inl (record { hindered = h.0; boards = boards; clock = h.1 }))
@@ -235,11 +235,11 @@ hindered_to (Err e) why profile mote seed turns before after is boards h =
 -- ---- the last line
 
 -- what is outside, with other bytes written
-abbrev pub told_after : Outside → Option (List ℕ) → ℕ → Outside
+abbrev pub told_after : ServiceOutside → Option (List ℕ) → ℕ → ServiceOutside
 told_after mid v g = record mid { written = v; faults = g }
 
 -- the run is the same where other bytes were written
-told : (why : Option Stop) (profile : NetProfile) (mote seed turns : ℕ) (before mid : Outside) (v : Option (List ℕ)) (g : ℕ) → MoteRun why profile mote seed turns before mid → MoteRun why profile mote seed turns before (told_after mid v g)
+told : (why : Option Stop) (profile : NetProfile) (mote seed turns : ℕ) (before mid : ServiceOutside) (v : Option (List ℕ)) (g : ℕ) → MoteRun why profile mote seed turns before mid → MoteRun why profile mote seed turns before (told_after mid v g)
 told why profile mote seed turns before mid v g r = record {
   origin = r.origin;
   clock = r.clock;
@@ -260,12 +260,12 @@ told why profile mote seed turns before mid v g r = record {
   port = r.port;
 }
 
-began : (why : Option Stop) (answer : Status) (profile : NetProfile) (mote seed turns : ℕ) (before mid : Outside) (v : Option (List ℕ)) (g : ℕ) (text : List ℕ) (r : MoteRan why profile mote seed turns before mid) → Puts before.written v text → Wrote why answer profile (length before.boards) r.run.events text → Causes answer before (told_after mid v g)
+began : (why : Option Stop) (answer : Status) (profile : NetProfile) (mote seed turns : ℕ) (before mid : ServiceOutside) (v : Option (List ℕ)) (g : ℕ) (text : List ℕ) (r : MoteRan why profile mote seed turns before mid) → Puts before.written v text → WroteTrace why answer profile (length before.boards) r.run.events text → Causes answer before (told_after mid v g)
     → MoteBegan answer profile mote seed turns before (told_after mid v g)
 unfolding told
 began why answer profile mote seed turns before mid v g text r put wrote causes = record { why = why; run = told why profile mote seed turns before mid v g r.run; text = text; put = put; wrote = wrote; causes = causes }
 
-module _ (profile : NetProfile) (mote seed turns : ℕ) (before mid : Outside) where
+module _ (profile : NetProfile) (mote seed turns : ℕ) (before mid : ServiceOutside) where
   -- how a fault of the outside is reported, where the answer is that of the stop
   causes_of : (why : Option Stop) (answer : Status) → CountedBy why before mid → (answer ≡ status.WriteFault → why ≡ Some stop.Write) → (answer ≢ status.WriteFault → why ≢ Some stop.Write) → (answer ≡ status.LinkFault → why ≡ Some stop.Link) → (answer ≢ status.LinkFault → why ≢ Some stop.Link) → (answer ≢ status.FlashFault → why ≢ Some stop.Flash) → Causes answer before (told_after mid mid.written mid.faults)
   causes_of why answer c write unwrite link unlink flash = record {
@@ -304,7 +304,7 @@ module _ (profile : NetProfile) (mote seed turns : ℕ) (before mid : Outside) w
 
   -- a last line was written, or was not
   line_told : (why : Stop) (of answer : Status) (line : List ℕ) (v : Option (List ℕ)) (g : ℕ) (r : MoteRan (Some why) profile mote seed turns before mid) → why ≢ stop.Write → why ≢ stop.Link → why ≢ stop.Flash → of ≢ status.WriteFault → of ≢ status.LinkFault → r.text ≡ trace profile r.run.events
-      → ((a : Status) (text : List ℕ) → WroteLast a of (trace profile r.run.events) line text → Wrote (Some why) a profile (length before.boards) r.run.events text) → LineWritten answer of line mid.written v mid.faults g → MoteBegan answer profile mote seed turns before (told_after mid v g)
+      → ((a : Status) (text : List ℕ) → WroteLast a of (trace profile r.run.events) line text → WroteTrace (Some why) a profile (length before.boards) r.run.events text) → LineWritten answer of line mid.written v mid.faults g → MoteBegan answer profile mote seed turns before (told_after mid v g)
   line_told why of answer line v g r writes links stops a b whole wrote (inl t) =
       subst (λ (x : Status). MoteBegan x profile mote seed turns before (told_after mid v g)) (sym t.0)
       (began (Some why) of profile mote seed turns before mid v g (r.text ++ line) r (Puts-join before.written mid.written v r.text line r.put t.1)
@@ -343,12 +343,12 @@ module _ (profile : NetProfile) (mote seed turns : ℕ) (before mid : Outside) w
   served_stop stop.Link answer v g r t = nothing_more answer status.LinkFault v g t.0 t.1 t.2 (ends_link r)
   served_stop stop.Flash answer v g r t = nothing_more answer status.FlashFault v g t.0 t.1 t.2 (ends_flash r)
   served_stop stop.NotAVolume answer v g (inl h) t = absurd h.hindered
-  served_stop stop.NotAVolume answer v g (inr r) t = inr (line_told stop.NotAVolume status.NotAVolume answer (last_line status.NotAVolume 0 0) v g r (λ x. absurd cc) (λ x. absurd cc) (λ x. absurd cc) (λ x. absurd cc) (λ x. absurd cc) r.wrote (λ a text w. w) t)
+  served_stop stop.NotAVolume answer v g (inr r) t = inr (line_told stop.NotAVolume status.NotAVolume answer (trace_last_line status.NotAVolume 0 0) v g r (λ x. absurd cc) (λ x. absurd cc) (λ x. absurd cc) (λ x. absurd cc) (λ x. absurd cc) r.wrote (λ a text w. w) t)
   served_stop stop.NoImage answer v g (inl h) t = absurd h.hindered
-  served_stop stop.NoImage answer v g (inr r) t = inr (line_told stop.NoImage status.NoImage answer (last_line status.NoImage 0 0) v g r (λ x. absurd cc) (λ x. absurd cc) (λ x. absurd cc) (λ x. absurd cc) (λ x. absurd cc) r.wrote (λ a text w. w) t)
+  served_stop stop.NoImage answer v g (inr r) t = inr (line_told stop.NoImage status.NoImage answer (trace_last_line status.NoImage 0 0) v g r (λ x. absurd cc) (λ x. absurd cc) (λ x. absurd cc) (λ x. absurd cc) (λ x. absurd cc) r.wrote (λ a text w. w) t)
 
 -- it did not begin, and no board was used
-pub hindered_over : (x : Result (Unit {0}) Stop) (why : Stop) (profile : NetProfile) (mote seed turns : ℕ) (before after : Outside) (d : Device) → slice_get before.boards mote ≡ Some d → after.boards ≡ set before.boards mote d → IsErrAnd x (λ e. e ≡ why) → Hindered (status_of why) profile before (record after { boards = before.boards }) × (after.clock ≡ before.clock) → MoteRanTo x profile mote seed turns before after
+pub hindered_over : (x : Result (Unit {0}) Stop) (why : Stop) (profile : NetProfile) (mote seed turns : ℕ) (before after : ServiceOutside) (d : Device) → slice_get before.boards mote ≡ Some d → after.boards ≡ set before.boards mote d → IsErrAnd x (λ e. e ≡ why) → Hindered (stop_status why) profile before (record after { boards = before.boards }) × (after.clock ≡ before.clock) → MoteRanTo x profile mote seed turns before after
 hindered_over x why profile mote seed turns before after d was put is h =
     let same : after.boards ≡ before.boards = put ∙ put_same before.boards mote d was in
     subst (λ bs. MoteRanTo x profile mote seed turns before (record after { boards = bs })) (sym same)

@@ -4,7 +4,7 @@ use Rattle.std.specs.Prelude.{Result, Ok, Err, IsErrAnd}
 use Rattle.std.proofs.lemmas.Grind.{flat_map-append}
 use Rattle.dg_nor.specs.Device.{Device}
 use Rattle.dg_serve.specs.Services.{Begins, Looks, Ticks}
-use Rattle.dg_serve.specs.Standings.{Standing, ServedParts, PartsHalted, GoesOn, stretch}
+use Rattle.dg_serve.specs.Standings.{Standing, ServedParts, PartsHalted, PartsGoOn, stretch}
 use Rattle.dg_serve.specs.declared.stop.Stop.{Stop}
 use Rattle.dg_serve.proofs.GoLemmas.{went_none, went_then, went_as, went_halts, halts_as, goes_then}
 use Rattle.dg_serve.proofs.LoopLemmas.{halts_exit}
@@ -24,7 +24,7 @@ look_failed r why x d e p q is goes boards owns = (false, halts_exit r why x.mot
 pub looked_and_ticked : (r : Result (Unit {0}) Stop) (x : Seat) (d e f : Device) (p q s : Standing) → GoesOver (Ok tt) x (stretch x.motes x.motes (Looks x.mote ∷ [])) d e p q → GoesOver r x (stretch x.motes x.motes (Ticks x.mote ∷ [])) e f q s → TurnGoes r x d f p s
 looked_and_ticked r x d e f p q s first second boards owns =
     let next = set boards x.mote e in
-    let P : List Device → Type 0 = λ bs. GoesOn r x.motes x.links (stretch x.motes x.motes (turn_of x.mote true)) (over p boards) (over s bs) in (
+    let P : List Device → Type 0 = λ bs. PartsGoOn r x.motes x.links (stretch x.motes x.motes (turn_of x.mote true)) (over p boards) (over s bs) in (
       true,
       subst P (set_again boards x.mote e f)
           (goes_then r x.motes x.motes x.motes x.motes x.links (Looks x.mote ∷ []) (Ticks x.mote ∷ []) (over p boards) (over q next) (over s (set next x.mote f)) (omega arith) (omega arith) (first boards owns) (second next (owns_next x.motes x.mote d e boards owns))),

@@ -9,7 +9,7 @@ use Rattle.dg_netcfg.specs.declared.profile.ProfileFault.{ProfileFault}
 use Rattle.dg_netcfg.specs.declared.profile.ProfileFault.TheVariants as fault
 use Rattle.dg_script.specs.Sizes.{most_used_bytes}
 use Rattle.dg_serve.specs.Networks.{AroundService, NotRead, WritesOneLine, over_line, fault_line}
-use Rattle.dg_serve.specs.Served.{Outside}
+use Rattle.dg_serve.specs.Served.{ServiceOutside}
 use Rattle.dg_single.specs.Singles.{MoteServed}
 
 -- the outcome by the rules, from the input and the number of the mote alone
@@ -32,7 +32,7 @@ mote_by_profile mote (Err fault) = FaultAt fault
 abbrev pub mote_opening_of : (mote : ℕ) → (input : List ℕ) → MoteOpening
 mote_opening_of mote input = if nat_lt most_used_bytes (length input) then Over else mote_by_profile mote (netprofile input)
 
-abbrev pub MoteDoneBy : MoteOpening → (answer : Status) → (mote seed turns : ℕ) → (before after : Outside) → Type 0
+abbrev pub MoteDoneBy : MoteOpening → (answer : Status) → (mote seed turns : ℕ) → (before after : ServiceOutside) → Type 0
 MoteDoneBy Over answer mote seed turns before after = WritesOneLine answer status.TooLong over_line before after
 MoteDoneBy (FaultAt fault) answer mote seed turns before after =
     WritesOneLine answer status.BadInput (fault_line fault) before after

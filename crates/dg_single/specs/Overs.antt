@@ -3,7 +3,7 @@
 use Rattle.std.specs.Prelude.{◌≡◌, ◌⊎◌, ℕ, ◌+◌, ◌^◌, ◌≤◌, Bool, List, [], ◌∷◌, length, slice_get, slice_set, Some, Result}
 use Rattle.std.specs.Prelude.{Ok, Err}
 use Rattle.dg_nor.specs.Device.{Device}
-use Rattle.dg_serve.specs.Standings.{Standing, Stretch, Ready, IsUnderWay, GoesOn, stretch, ServedParts, PartsHalted}
+use Rattle.dg_serve.specs.Standings.{Standing, Stretch, StandsReady, IsUnderWay, PartsGoOn, stretch, ServedParts, PartsHalted}
 use Rattle.dg_serve.specs.declared.stop.Stop.{Stop}
 use Rattle.dg_serve.specs.Services.{Begins}
 use Rattle.dg_single.specs.Plans.{turn_of, turns_of}
@@ -29,7 +29,7 @@ seat motes mote links = record { motes = motes; mote = mote; links = links }
 -- what a call does whatever the other boards are: the mote's board was `old` and is `new`
 abbrev pub GoesOver : Result (Unit {0}) Stop → Seat → Stretch → (old new : Device) → Standing → Standing → Type 0
 GoesOver r x parts old new p q = (boards : List Device) → Owns x.motes x.mote old boards
-    → GoesOn r x.motes x.links parts (over p boards) (over q (slice_set boards x.mote new))
+    → PartsGoOn r x.motes x.links parts (over p boards) (over q (slice_set boards x.mote new))
 
 -- There are other boards over which it is under way: each mote began, though no other one runs.
 pub record IsUnderWayOver (x : Seat) (limit : ℕ) (own : Device) (p : Standing) : Type 0 where
@@ -45,7 +45,7 @@ went_so (Err why) = Err why
 -- a turn was played, in which the mote ticked or did not
 abbrev pub TurnGoes : Result (Unit {0}) Stop → Seat → (old new : Device) → Standing → Standing → Type 0
 TurnGoes r x old new p q = (boards : List Device) → Owns x.motes x.mote old boards
-    → (ticked : Bool) × GoesOn r x.motes x.links (stretch x.motes x.motes (turn_of x.mote ticked)) (over p boards)
+    → (ticked : Bool) × PartsGoOn r x.motes x.links (stretch x.motes x.motes (turn_of x.mote ticked)) (over p boards)
     (over q (slice_set boards x.mote new))
 
 -- from this moment on no turn begins
@@ -54,7 +54,7 @@ latest_moment = 2 ^ 58
 
 -- It is ready, whatever the other boards are: the first motes powered on.
 abbrev pub ReadyOver : Seat → (begun : ℕ) → (own : Device) → Standing → Type 0
-ReadyOver x begun own p = (boards : List Device) → Owns x.motes x.mote own boards → Ready x.motes begun (over p boards)
+ReadyOver x begun own p = (boards : List Device) → Owns x.motes x.mote own boards → StandsReady x.motes begun (over p boards)
 
 -- Some of this many turns were played: all of them, if none stopped, unless it is late.
 abbrev pub AllPlayed : Result (Unit {0}) Stop → (ticks : List Bool) → (turns moment : ℕ) → Type 0
@@ -64,7 +64,7 @@ AllPlayed (Err why) ticks turns moment = Unit {0}
 pub record TurnsGo (r : Result (Unit {0}) Stop) (x : Seat) (turns : ℕ) (p q : Standing) : Type 0 where
   pub ticks : List Bool
   pub few : length ticks ≤ turns
-  pub goes : GoesOn r x.motes x.links (stretch x.motes x.motes (turns_of x.mote ticks)) p q
+  pub goes : PartsGoOn r x.motes x.links (stretch x.motes x.motes (turns_of x.mote ticks)) p q
   pub all : AllPlayed r ticks turns q.service.timeline.moment
 
 -- The mote powered on, and then this many turns were played.

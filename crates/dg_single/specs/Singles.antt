@@ -17,7 +17,7 @@ use Rattle.dg_world.specs.Boards.{BoardsEndure}
 use Rattle.dg_serve.specs.Services.{Part, Moment, Course, course}
 use Rattle.dg_serve.specs.Endings.{StoresOf, begins}
 use Rattle.dg_serve.specs.Standings.{IsEventAt}
-use Rattle.dg_serve.specs.Served.{Outside, Came, Wrote, AtPort, Causes, DidNotBegin, IsAtVolume}
+use Rattle.dg_serve.specs.Served.{ServiceOutside, Came, WroteTrace, AtPort, Causes, DidNotBegin, IsAtVolume}
 use Rattle.dg_serve.specs.declared.stop.Stop.{Stop}
 use Rattle.dg_single.specs.Overs.{latest_moment}
 use Rattle.dg_single.specs.Plans.{plan_of}
@@ -27,13 +27,13 @@ abbrev pub OthersAreVolumes : (motes mote : ℕ) → List Device → Type 0
 OthersAreVolumes motes mote boards = (m : ℕ) (a : Device) → m < motes → m ≢ mote → slice_get boards m ≡ Some a → IsVolume a.image
 
 -- From this moment on the service came as far as this. If it did not stop, all turns were played, unless it is late.
-pub record MoteCame (why : Option Stop) (motes : ℕ) (s : Moment) (c : Course) (first : List Device) (after : Outside)
+pub record MoteCame (why : Option Stop) (motes : ℕ) (s : Moment) (c : Course) (first : List Device) (after : ServiceOutside)
     (all : Type 0) : Type 0 where
   pub came : Came why motes s c first after
   pub whole : why ≡ None → all ⊎ (latest_moment ≤ came.last.world.moment)
 
 -- The service began: its link was opened, and its clock read.
-pub record MoteRun (why : Option Stop) (profile : NetProfile) (mote seed turns : ℕ) (before after : Outside) : Type 0 where
+pub record MoteRun (why : Option Stop) (profile : NetProfile) (mote seed turns : ℕ) (before after : ServiceOutside) : Type 0 where
   pub origin : ℕ
   pub clock : Option Answers
   pub first : Answered before.clock clock origin
@@ -58,14 +58,14 @@ pub record MoteRun (why : Option Stop) (profile : NetProfile) (mote seed turns :
   pub port : AtPort profile before after
 
 -- It wrote the trace of its events, and then the last line of its status.
-pub record MoteBegan (answer : Status) (profile : NetProfile) (mote seed turns : ℕ) (before after : Outside) : Type 0 where
+pub record MoteBegan (answer : Status) (profile : NetProfile) (mote seed turns : ℕ) (before after : ServiceOutside) : Type 0 where
   pub why : Option Stop
   pub run : MoteRun why profile mote seed turns before after
   pub text : List ℕ
   pub put : Puts before.written after.written text
-  pub wrote : Wrote why answer profile (length before.boards) run.events text
+  pub wrote : WroteTrace why answer profile (length before.boards) run.events text
   pub causes : Causes answer before after
 
-abbrev pub MoteServed : Status → NetProfile → (mote seed turns : ℕ) → (before after : Outside) → Type 0
+abbrev pub MoteServed : Status → NetProfile → (mote seed turns : ℕ) → (before after : ServiceOutside) → Type 0
 MoteServed answer profile mote seed turns before after =
     DidNotBegin answer profile before after ⊎ MoteBegan answer profile mote seed turns before after

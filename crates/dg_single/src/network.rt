@@ -5,7 +5,7 @@ ghost use Rattle.dg_mote.specs.Sizes.{BuffersFit, ValuesAreSmall};
 ghost use Rattle.dg_netcfg.specs.Readings.{IsAllowed};
 ghost use Rattle.dg_nor.specs.Device.{Device};
 ghost use Rattle.dg_serve.specs.Networks.{around_service};
-ghost use Rattle.dg_serve.specs.Served.{outside};
+ghost use Rattle.dg_serve.specs.Served.{service_outside};
 ghost use Rattle.dg_single.specs.Networks.{MoteDoneBy, MoteOfNetworkServed, by_mote};
 ghost use Rattle.dg_single.specs.Overs.{Owns};
 
@@ -36,10 +36,10 @@ pub fn serve_mote_of_network<S: Source, K: Sink, N: Nor, L: Link, C: Clock, W: C
     ensures served { (boards : List Device) → Owns most_motes mote (N.device board.old) boards
         → MoteOfNetworkServed result mote seed turns
         (around_service (S.left input.old) (S.faults input.old)
-        (outside (K.written out.old) (K.faults out.old) (C.told clock.old) (L.inboxes link.old) (L.faults link.old)
+        (service_outside (K.written out.old) (K.faults out.old) (C.told clock.old) (L.inboxes link.old) (L.faults link.old)
         (L.first_port link.old) boards))
         (around_service (S.left input.new) (S.faults input.new)
-        (outside (K.written out.new) (K.faults out.new) (C.told clock.new) (L.inboxes link.new) (L.faults link.new)
+        (service_outside (K.written out.new) (K.faults out.new) (C.told clock.new) (L.inboxes link.new) (L.faults link.new)
         (L.first_port link.new) (slice_set boards mote (N.device board.new)))) }
     // All byte arrays that are alive at once in a mote's call have no more than 256 bytes, and the value of a mote holds none
     // but the outbox and its sets.
@@ -70,9 +70,9 @@ fn serve_in<K: Sink, N: Nor, L: Link, C: Clock, W: Clock>(
     requires { IsAllowed profile.now }
     ensures { (boards : List Device) → Owns most_motes mote (N.device board.old) boards
         → MoteDoneBy (by_mote mote profile.now) result mote seed turns
-        (outside (K.written out.old) (K.faults out.old) (C.told clock.old) (L.inboxes link.old) (L.faults link.old)
+        (service_outside (K.written out.old) (K.faults out.old) (C.told clock.old) (L.inboxes link.old) (L.faults link.old)
         (L.first_port link.old) boards)
-        (outside (K.written out.new) (K.faults out.new) (C.told clock.new) (L.inboxes link.new) (L.faults link.new)
+        (service_outside (K.written out.new) (K.faults out.new) (C.told clock.new) (L.inboxes link.new) (L.faults link.new)
         (L.first_port link.new) (slice_set boards mote (N.device board.new))) }
 {
     if mote >= profile.motes {

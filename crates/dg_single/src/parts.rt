@@ -5,7 +5,7 @@ ghost use Rattle.dg_base.specs.Clock.{Answers};
 ghost use Rattle.dg_netcfg.specs.Readings.{IsAllowed};
 ghost use Rattle.dg_nor.specs.Device.{Device};
 ghost use Rattle.dg_serve.specs.Services.{Begins, Looks, Ticks};
-ghost use Rattle.dg_serve.specs.Standings.{Ready, EventAsks, ApplyEnds, stretch, standing_with, service_standing};
+ghost use Rattle.dg_serve.specs.Standings.{StandsReady, EventAsks, ApplyEnds, stretch, standing_with, service_standing};
 ghost use Rattle.dg_single.specs.Overs.{Owns, over, seat, GoesOver, IsUnderWayOver, ReadyOver, went_so};
 
 use crate::playing::play;

@@ -3,7 +3,7 @@ ghost use Rattle.std.specs.Prelude.{◌≡◌, ◌<◌, List, [], slice_set};
 ghost use Rattle.dg_mote.specs.Sizes.{BuffersFit, ValuesAreSmall};
 ghost use Rattle.dg_netcfg.specs.Readings.{IsAllowed};
 ghost use Rattle.dg_nor.specs.Device.{Device};
-ghost use Rattle.dg_serve.specs.Served.{outside};
+ghost use Rattle.dg_serve.specs.Served.{service_outside};
 ghost use Rattle.dg_single.specs.Overs.{Owns};
 ghost use Rattle.dg_single.specs.Rans.{MoteRanTo};
 ghost use Rattle.dg_single.specs.Singles.{MoteServed};
@@ -38,9 +38,9 @@ pub fn serve_mote<K: Sink, N: Nor, L: Link, C: Clock, W: Clock>(
     requires known { mote < profile.now.motes }
     ensures served { (boards : List Device) → Owns profile.now.motes mote (N.device board.old) boards
         → MoteServed result profile.now mote seed turns
-        (outside (K.written out.old) (K.faults out.old) (C.told clock.old) (L.inboxes link.old) (L.faults link.old)
+        (service_outside (K.written out.old) (K.faults out.old) (C.told clock.old) (L.inboxes link.old) (L.faults link.old)
         (L.first_port link.old) boards)
-        (outside (K.written out.new) (K.faults out.new) (C.told clock.new) (L.inboxes link.new) (L.faults link.new)
+        (service_outside (K.written out.new) (K.faults out.new) (C.told clock.new) (L.inboxes link.new) (L.faults link.new)
         (L.first_port link.new) (slice_set boards mote (N.device board.new))) }
     // All byte arrays that are alive at once in a mote's call have no more than 256 bytes, and the value of a mote holds none
     // but the outbox and its sets.
@@ -72,9 +72,9 @@ fn serve_board<K: Sink, N: Nor, L: Link, C: Clock, W: Clock>(
     requires known { mote < profile.now.motes }
     ensures ran { (boards : List Device) → Owns profile.now.motes mote (N.device board.old) boards
         → MoteRanTo result profile.now mote seed turns
-        (outside (K.written out.old) (K.faults out.old) (C.told clock.old) (L.inboxes link.old) (L.faults link.old)
+        (service_outside (K.written out.old) (K.faults out.old) (C.told clock.old) (L.inboxes link.old) (L.faults link.old)
         (L.first_port link.old) boards)
-        (outside (K.written out.new) (K.faults out.new) (C.told clock.new) (L.inboxes link.new) (L.faults link.new)
+        (service_outside (K.written out.new) (K.faults out.new) (C.told clock.new) (L.inboxes link.new) (L.faults link.new)
         (L.first_port link.new) (slice_set boards mote (N.device board.new))) }
 {
     let mut service = open_service(alloc, profile, link, clock, seed, out)?;

@@ -24,7 +24,7 @@ use Rattle.dg_outside.specs.Outside.{Outside}
 use Rattle.dg_end.specs.Lines.{Outcome}
 use Rattle.dg_end.specs.Writes.{CommandEnds}
 use Rattle.dg_end.specs.declared.ends.End.TheVariants as ends
-use Rattle.dg_tool.specs.Endings.{VerbEnding, Before, Reading, Acting, by_boards, FirstAs, FirstInForm, content_in}
+use Rattle.dg_tool.specs.Endings.{VerbEnding, Before, Reading, Acting, verb_by_boards, FirstAs, FirstInForm, content_in}
 use Rattle.dg_tool.specs.Verbs.{order_on, power_boot}
 use Rattle.dg_tool.specs.Done.{verb_rule, Completed, CompletedOn, VerbStopsOn, BootedOn, MigratedOn, ActsAs, EndsAs, AtFirst, OnBoards, FirstDone, InputDone}
 use Rattle.dg_tool.specs.Agreement.{BoardAgrees, HasNewRow, KeepsAgreement}
@@ -112,7 +112,7 @@ pub boards_kept : (trail : Store → Trail Store) (outcome : Outcome) (ending : 
     → ((table : List Row) (s : Store) → IsShaped s → Agrees table s → suits table s → Through (Agrees table) (trail s))
     → OnBoards outcome (verb_rule (FirstAs old) ending acted halted) failed old new → KeepsAgreement suits old new
 boards_kept trail outcome ending acted halted failed suits old new shaped completes stops through h = λ a b was is table s stands agrees fits.
-    first_kept table (trail s) (acted (Some s)) (halted (Some s)) old new a b s was is stands agrees (through table s (shaped a.image s stands) agrees fits) (completes s a b) (stops s a b) outcome (by_boards (length old) (ending (Some s)))
+    first_kept table (trail s) (acted (Some s)) (halted (Some s)) old new a b s was is stands agrees (through table s (shaped a.image s stands) agrees fits) (completes s a b) (stops s a b) outcome (verb_by_boards (length old) (ending (Some s)))
     (h.rules (Some s) (first_as old a s was stands))
 
 -- the same of a rule that is a trail

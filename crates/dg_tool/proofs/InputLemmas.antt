@@ -15,7 +15,7 @@ use Rattle.dg_outside.specs.Outside.{InputState}
 use Rattle.dg_end.specs.Lines.{Outcome, text_outcome}
 use Rattle.dg_end.specs.declared.ends.End.{End}
 use Rattle.dg_end.specs.declared.ends.End.TheVariants as ends
-use Rattle.dg_tool.specs.Endings.{VerbEnding, Before, outcome_of, by_boards, by_file, by_input, content_by, content_in}
+use Rattle.dg_tool.specs.Endings.{VerbEnding, Before, outcome_of, verb_by_boards, by_file, by_input, content_by, content_in}
 use Rattle.dg_tool.specs.Done.{VerbRule, verb_rule, ActsAs, NeedsInput, EndsAs, AtFirst, OnBoards, InputRead, FedBoards}
 use Rattle.dg_tool.specs.Input.{ReadsImage, ImageRead, end_of_image}
 use Rattle.dg_tool.specs.declared.input.ImageFault.{ImageFault}
@@ -113,14 +113,14 @@ module _ (chips : Option Store → Type 0) (next : List ℕ → Option Store →
   fed_rule bytes = verb_rule chips (λ chip. by_input bytes (λ image. next image chip)) (acted (content_in bytes)) (halted (content_in bytes))
 
   module _ (bytes : List ℕ) (old : List Device) (some : 0 < length old) where
-    found_board : (chip : Option Store) → by_boards (length old) (by_input bytes (λ image. next image chip)) ≡ by_input bytes (λ image. next image chip)
+    found_board : (chip : Option Store) → verb_by_boards (length old) (by_input bytes (λ image. next image chip)) ≡ by_input bytes (λ image. next image chip)
     found_board chip = by_some (length old) (by_input bytes (λ image. next image chip)) some
 
     looked_none : AtFirst Looked old old
     looked_none a b was is = subst (λ (x : Device). Looked a x) (same_device a b (sym was ∙ is)) (Looked-none a)
 
     -- it ends the verb before the board is used
-    before : (failed : Type 0) (end : End) → ((chip : Option Store) → by_input bytes (λ image. next image chip) ≡ Before end) → (chip : Option Store) → (Err end ≡ outcome_of (by_boards (length old) (by_input bytes (λ image. next image chip)))) × ActsAs (by_boards (length old) (by_input bytes (λ image. next image chip))) (old ≡ old) (AtFirst Looked old old) (AtFirst (acted (content_in bytes) chip) old old)
+    before : (failed : Type 0) (end : End) → ((chip : Option Store) → by_input bytes (λ image. next image chip) ≡ Before end) → (chip : Option Store) → (Err end ≡ outcome_of (verb_by_boards (length old) (by_input bytes (λ image. next image chip)))) × ActsAs (verb_by_boards (length old) (by_input bytes (λ image. next image chip))) (old ≡ old) (AtFirst Looked old old) (AtFirst (acted (content_in bytes) chip) old old)
     before failed end is chip =
         let e = found_board chip ∙ is chip in
         (ap outcome_of (sym e), subst (λ (x : VerbEnding). ActsAs x (old ≡ old) (AtFirst Looked old old) (AtFirst (acted (content_in bytes) chip) old old)) (sym e) refl)
@@ -168,7 +168,7 @@ module _ (chips : Option Store → Type 0) (next : List ℕ → Option Store →
     spelled outcome failed new image few is h =
         subst (λ (x : List ℕ). OnBoards outcome (verb_rule chips (λ chip. by_input bytes (λ i. next i chip)) (acted x) (halted x)) failed old new) (sym (ap content_by is))
         (record {
-          rules = λ chip stands. subst (λ (x : VerbEnding). EndsAs outcome (by_boards (length old) x) (new ≡ old) (AtFirst Looked old new) (AtFirst (acted image chip) old new) (AtFirst (halted image chip) old new)) (sym (input_image bytes image (λ i. next i chip) few is)) (h.rules chip stands);
+          rules = λ chip stands. subst (λ (x : VerbEnding). EndsAs outcome (verb_by_boards (length old) x) (new ≡ old) (AtFirst Looked old new) (AtFirst (acted image chip) old new) (AtFirst (halted image chip) old new)) (sym (input_image bytes image (λ i. next i chip) few is)) (h.rules chip stands);
           found = h.found;
           stops = h.stops;
           read = h.read;

@@ -21,7 +21,7 @@ use Rattle.dg_outside.specs.Outside.{Outside, InputState}
 use Rattle.dg_end.specs.Lines.{Outcome}
 use Rattle.dg_end.specs.Writes.{CommandEnds}
 use Rattle.dg_end.specs.declared.ends.End.TheVariants as ends
-use Rattle.dg_tool.specs.Endings.{VerbEnding, Before, Reading, Acting, outcome_of, by_boards}
+use Rattle.dg_tool.specs.Endings.{VerbEnding, Before, Reading, Acting, outcome_of, verb_by_boards}
 
 -- ---- acts on the first board
 
@@ -162,7 +162,7 @@ pub record FirstStopped (old new : List Device) : Type 0 where
 -- What a verb with this rule did over boards. `read_failed` says that a read of the input failed.
 pub record OnBoards (outcome : Outcome) (rule : VerbRule) (read_failed : Type 0) (old new : List Device) : Type 0 where
   pub rules : (chip : Option Store) → rule.chips chip
-      → EndsAs outcome (by_boards (length old) (rule.ending chip)) (new ≡ old) (AtFirst Looked old new)
+      → EndsAs outcome (verb_by_boards (length old) (rule.ending chip)) (new ≡ old) (AtFirst Looked old new)
       (AtFirst (rule.acted chip) old new) (AtFirst (rule.halted chip) old new)
   pub found : IsFound outcome → (chip : Option Store) × rule.chips chip
   pub stops : outcome ≡ Err ends.FlashFault → FirstStopped old new

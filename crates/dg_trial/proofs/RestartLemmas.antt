@@ -14,7 +14,7 @@ use Rattle.dg_base.specs.declared.events.Event.TheVariants.{Reset}
 use Rattle.dg_base.specs.declared.events.Step.{Step}
 use Rattle.dg_script.specs.declared.report.Report.{Report}
 use Rattle.dg_rules.specs.World.{World, Site, Running, wide_at, store_at, with_site, counted, off_site}
-use Rattle.dg_rules.specs.Events.{Does, Goes, Deed, does, of_effect}
+use Rattle.dg_rules.specs.Events.{Does, Goes, EventEffect, does, of_effect}
 use Rattle.dg_rules.specs.Steps.{WorldStep, StepDoes, Ended, blows, before_cut}
 use Rattle.dg_rules.proofs.ThroughLemmas.{Through-map, cut_holds}
 use Rattle.dg_rules.proofs.AgreementLemmas.{same_running}
@@ -62,7 +62,7 @@ module _ (boots : BootLaw) (w v : World) (m dt word : ℕ) (cut : Option Cut) (r
   abbrev x : Step
   x = record { event = Reset m dt word; cut = cut }
 
-  abbrev d : Deed
+  abbrev d : EventEffect
   d = record { trail = b.trail; table = w.table; started = b.runs; sent = None; runs = running_by b.runs m (wide_at w m) (w.moment + dt) word }
 
   uncut_blows : cut ≡ None → blows cut b.trail ≡ true → ⊥

@@ -6,7 +6,7 @@ use Rattle.dg_base.specs.declared.events.Step.{Step}
 use Rattle.dg_frame.specs.declared.Message.{Message}
 use Rattle.dg_script.specs.declared.report.Report.{Report}
 use Rattle.dg_rules.specs.World.{World, counted, Sent}
-use Rattle.dg_rules.specs.Events.{Does, Refuses, Goes, Deed, does, mote_of, dt_of}
+use Rattle.dg_rules.specs.Events.{Does, Refuses, Goes, EventEffect, does, mote_of, dt_of}
 use Rattle.dg_script.specs.Ranges.{StepInRange}
 use Rattle.dg_rules.specs.Golden.{WorldKeepsGolden}
 use Rattle.dg_rules.specs.Steps.{WorldStep, StepDoes, Ended, blows, and_sent}
@@ -37,7 +37,7 @@ sent_counts w v m (Some message) q =
     let e : length v.sent ≡ length w.sent = ap length q.sent in
     record { sites = q.sites; events = q.events; sent = omega (arith, e, length-append {A = Sent}) }
 
-done_counts : (blown : Bool) (w : World) (x : Step) (d : Deed) (v : World) (reports : List Report) → Ended blown w x d v reports → Counts w v
+done_counts : (blown : Bool) (w : World) (x : Step) (d : EventEffect) (v : World) (reports : List Report) → Ended blown w x d v reports → Counts w v
 done_counts true w x d v reports cut =
     subst (λ (u : World). Counts w u) (sym cut.world) (quiet_counts w _ (record { sites = site_count (record (counted w (dt_of x.event)) { table = d.table }) (mote_of x.event) (record { store = cut.store; runs = None }); events = refl; sent = refl }))
 done_counts false w x d v reports (runs, found, world, told) =

@@ -7,7 +7,7 @@ use Rattle.dg_trickle.specs.declared.Act.TheVariants.{Send, Quiet, Expired, Noth
 use Rattle.dg_trickle.specs.Times.{shortest_interval, longest_interval, redundancy}
 use Rattle.dg_trickle.specs.Timer.{Timer}
 use Rattle.dg_trickle.specs.Steps.{interval_begun, after_same, after_other, after_tick, act_of, is_due, is_over, IsRunning}
-use Rattle.dg_trickle.specs.Runs.{Call, Same, Other, Tick, after, timer, Mark, Heard, Kept, noted_of, noted, current, sends, IsDoubled, DoublesOrFalls}
+use Rattle.dg_trickle.specs.Runs.{Call, Same, Other, Tick, after, timer, Mark, Heard, Kept, noted_of, noted, current_marks, sends, IsDoubled, DoublesOrFalls}
 
 -- ---- the bounds of an interval and of t
 
@@ -153,10 +153,10 @@ Remembers-after s (Other moment word) marks m = Remembers-other s moment word ma
 Remembers-after s (Tick moment word) marks m =
     Remembers-tick s (interval_begun (min (2 * s.interval) longest_interval) moment word) marks (is_due s moment) (is_over s moment) (nat_lt s.count redundancy) (not_fired s.fired _) refl (Remembers-begun _ moment word) m
 
-Remembers-timer : (start word : ℕ) (calls : List Call) → Remembers (timer start word calls) (current start word calls)
+Remembers-timer : (start word : ℕ) (calls : List Call) → Remembers (timer start word calls) (current_marks start word calls)
 Remembers-timer start word [] = Remembers-begun shortest_interval start word
 Remembers-timer start word (call ∷ earlier) =
-    Remembers-after (timer start word earlier) call (current start word earlier) (Remembers-timer start word earlier)
+    Remembers-after (timer start word earlier) call (current_marks start word earlier) (Remembers-timer start word earlier)
 
 sends_untouched : (s : Timer) (marks : List Mark) (due over few : Bool) → (due ≡ true → s.fired ≡ false) → few ≡ nat_lt s.count redundancy → Remembers s marks
     → (if due then (if few then Send else Quiet) else (if over then Expired else Nothing)) ≡ Send → marks ≡ []
@@ -166,10 +166,10 @@ sends_untouched s marks false true few unfired e m is = cc
 sends_untouched s marks false false few unfired e m is = cc
 
 -- a tick sends only if no consistent transmission was heard and nothing was sent since the interval began
-pub sends_if_untouched : (start word : ℕ) (earlier : List Call) (moment : ℕ) → act_of (timer start word earlier) moment ≡ Send → current start word earlier ≡ []
+pub sends_if_untouched : (start word : ℕ) (earlier : List Call) (moment : ℕ) → act_of (timer start word earlier) moment ≡ Send → current_marks start word earlier ≡ []
 sends_if_untouched start word earlier moment is =
     let s = timer start word earlier in
-    sends_untouched s (current start word earlier) (is_due s moment) (is_over s moment) (nat_lt s.count redundancy) (not_fired s.fired _) refl (Remembers-timer start word earlier) is
+    sends_untouched s (current_marks start word earlier) (is_due s moment) (is_over s moment) (nat_lt s.count redundancy) (not_fired s.fired _) refl (Remembers-timer start word earlier) is
 
 quiet_heard : (s : Timer) (marks : List Mark) (due over few : Bool) → few ≡ nat_lt s.count redundancy → Remembers s marks
     → (if due then (if few then Send else Quiet) else (if over then Expired else Nothing)) ≡ Quiet → Contains marks Heard
@@ -179,11 +179,11 @@ quiet_heard s marks false true few e m is = cc
 quiet_heard s marks false false few e m is = cc
 
 -- a timer is suppressed only if a consistent transmission was heard since the interval began
-pub suppressed_if_heard : (start word : ℕ) (earlier : List Call) (moment : ℕ) → act_of (timer start word earlier) moment ≡ Quiet → Contains (current start word earlier) Heard
+pub suppressed_if_heard : (start word : ℕ) (earlier : List Call) (moment : ℕ) → act_of (timer start word earlier) moment ≡ Quiet → Contains (current_marks start word earlier) Heard
 suppressed_if_heard start word earlier moment is =
     let s = timer start word earlier in
-    quiet_heard s (current start word earlier) (is_due s moment) (is_over s moment) (nat_lt s.count redundancy) refl (Remembers-timer start word earlier) is
+    quiet_heard s (current_marks start word earlier) (is_due s moment) (is_over s moment) (nat_lt s.count redundancy) refl (Remembers-timer start word earlier) is
 
 -- and it sends at most once per interval
-pub sends_at_most_once : (start word : ℕ) (calls : List Call) → sends (current start word calls) ≤ 1
+pub sends_at_most_once : (start word : ℕ) (calls : List Call) → sends (current_marks start word calls) ≤ 1
 sends_at_most_once start word calls = few_sends _ _ (Remembers-timer start word calls).once

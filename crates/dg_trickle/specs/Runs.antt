@@ -40,9 +40,9 @@ noted s (Other moment word) marks = if nat_lt shortest_interval s.interval then 
 noted s (Tick moment word) marks = noted_of (act_of s moment) marks
 
 -- what has happened since the current interval began, the newest first
-abbrev pub current : ℕ → ℕ → List Call → List Mark
-current start word [] = []
-current start word (call ∷ earlier) = noted (timer start word earlier) call (current start word earlier)
+abbrev pub current_marks : ℕ → ℕ → List Call → List Mark
+current_marks start word [] = []
+current_marks start word (call ∷ earlier) = noted (timer start word earlier) call (current_marks start word earlier)
 
 -- how often the timer sent
 abbrev pub sends : List Mark → ℕ

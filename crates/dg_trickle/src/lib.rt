@@ -8,7 +8,7 @@ ghost use Rattle.std.specs.Prelude.{◌≡◌, ℕ, ◌<◌, ◌≤◌, ◌^◌,
 ghost use Rattle.dg_trickle.specs.Times.{shortest_interval, longest_interval, redundancy};
 ghost use Rattle.dg_trickle.specs.Timer.{Timer};
 ghost use Rattle.dg_trickle.specs.Steps.{interval_begun, started, after_same, after_other, after_tick, act_of, IsRunning};
-ghost use Rattle.dg_trickle.specs.Runs.{Call, after, timer, Heard, current, sends, IsDoubled, DoublesOrFalls};
+ghost use Rattle.dg_trickle.specs.Runs.{Call, after, timer, Heard, current_marks, sends, IsDoubled, DoublesOrFalls};
 
 use std::marker::Model;
 
@@ -187,11 +187,11 @@ pub fn interval_bounds()
 /// most once per interval.
 pub fn suppression()
     ensures untouched { (start word : ℕ) (earlier : List Call) (moment : ℕ)
-        → act_of (timer start word earlier) moment ≡ Act.Send → current start word earlier ≡ [] }
+        → act_of (timer start word earlier) moment ≡ Act.Send → current_marks start word earlier ≡ [] }
     ensures heard { (start word : ℕ) (earlier : List Call) (moment : ℕ)
         → act_of (timer start word earlier) moment ≡ Act.Quiet
-        → Contains (current start word earlier) Heard }
-    ensures once { (start word : ℕ) (calls : List Call) → sends (current start word calls) ≤ 1 }
+        → Contains (current_marks start word earlier) Heard }
+    ensures once { (start word : ℕ) (calls : List Call) → sends (current_marks start word calls) ≤ 1 }
 {}
 
 #[cfg(test)]

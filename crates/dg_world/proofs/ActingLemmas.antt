@@ -26,7 +26,7 @@ use Rattle.dg_node.specs.declared.acts.Injected.TheVariants as injected
 use Rattle.dg_node.specs.Acts.{acts_effect, order_effect, inject_effect, ActKept, trail_unless, StoppedInAct, ActFails, NodeOrdered, NodeInjected, InjectTook}
 use Rattle.dg_node.specs.Hosts.{host}
 use Rattle.dg_node.specs.Known.{bytes_looked_at}
-use Rattle.dg_node.specs.Nodes.{NodeStands, Running as NodeRunning, running_mote, runs_by as node_runs, node_image}
+use Rattle.dg_node.specs.Nodes.{NodeStands, NodeRunning, running_mote, node_runs, node_image}
 use Rattle.dg_node.specs.Reports.{IsReportOf}
 use Rattle.dg_rules.specs.World.{World as RuleWorld, Running, site, store_at}
 use Rattle.dg_rules.specs.Events.{Does, trail_of, acts, reloaded, inject_cause, inject_unless, order_unless}
@@ -73,7 +73,7 @@ module _ (w : RuleWorld) (m now word : ℕ) (v u : Option Node) (a b : Device) (
   kept_went refusal t table x k =
       let lines = changes m s (last t) in
       record {
-        deed = record { trail = t; table = table; started = None; sent = None; runs = Some (reloaded (site w m).runs now word) };
+        effect = record { trail = t; table = table; started = None; sent = None; runs = Some (reloaded (site w m).runs now word) };
         goes = refl;
         ran = k.went.ran;
         tells = record {

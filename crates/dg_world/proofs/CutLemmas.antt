@@ -27,7 +27,7 @@ use Rattle.dg_world.specs.inner.EventOutcomes.{EventOutcome, EventEnded, Halt, R
 -- ---- without a cut
 
 went_whole : (w : RuleWorld) (m : ℕ) (does : Does) (u : Option Node) (a b : Device) (outcome : EventOutcome) → EventDone w m does u a b outcome → EventIsWhole w m does None u b.image outcome
-went_whole w m does u a b outcome x = record { deed = x.deed; goes = x.goes; whole = refl; tells = x.tells }
+went_whole w m does u a b outcome x = record { effect = x.effect; goes = x.goes; whole = refl; tells = x.tells }
 
 pub uncut : (r : Result EventOutcome Halt) (w : RuleWorld) (m : ℕ) (does : Does) (v u : Option Node) (a b : Device) → OutcomeEnds r w m does (host a v) (host b u) → EventPlayed (ended false r) w m does None (host a v) (host b u)
 uncut (Ok (Refused why)) w m does v u a b x = record { ends = (x.0, x.1.same_image, x.2); endures = Endures_ran x.1.ran; count = x.1.ran.faults }
@@ -36,7 +36,7 @@ uncut (Ok (Sends frame)) w m does v u a b x = record { ends = went_whole w m doe
 uncut (Ok (Changes p q)) w m does v u a b x = record { ends = went_whole w m does u a b (Changes p q) x; endures = Endures_ran x.ran; count = x.ran.faults }
 uncut (Ok (Starts p)) w m does v u a b x = record { ends = went_whole w m does u a b (Starts p) x; endures = Endures_ran x.ran; count = x.ran.faults }
 uncut (Err (Stopped before)) w m does v u a b x = record { ends = record { stopped = x.stops.halts.stopped; done = x.stops.done; within = x.stops.halts.within; uncut = tt; leaves = x.stops.leaves }; endures = Endures_halts x.stops.halts; count = tt }
-uncut (Err NoImage) w m does v u a b x = record { ends = record { deed = x.deed; goes = x.goes; none = x.none; whole = refl; stands = x.stands }; endures = Endures_ran x.ran; count = x.ran.faults }
+uncut (Err NoImage) w m does v u a b x = record { ends = record { effect = x.effect; goes = x.goes; none = x.none; whole = refl; stands = x.stands }; endures = Endures_ran x.ran; count = x.ran.faults }
 uncut (Err NotAVolume) w m does v u a b x = absurd x
 
 -- a halt without a cut is reported unchanged
@@ -79,21 +79,21 @@ fused_halts cut a b x y f h = endures_by (beneath_of a) (beneath_of b) x.beneath
 
 fused_whole : (cut : PowerCut) (w : RuleWorld) (m : ℕ) (does : Does) (u : Option Node) (a b x y : Device) (outcome : EventOutcome) → IsFused cut a b x y → EventDone w m does u x y outcome → EventIsWhole w m does (Some cut) u b.image outcome
 fused_whole cut w m does u a b x y outcome f g = record {
-  deed = g.deed;
+  effect = g.effect;
   goes = g.goes;
-  whole = not_reached cut (operations g.deed.trail) a b x y f g.ran;
-  tells = subst (ReportsEffect w m g.deed outcome u) f.image_then g.tells;
+  whole = not_reached cut (operations g.effect.trail) a b x y f g.ran;
+  tells = subst (ReportsEffect w m g.effect outcome u) f.image_then g.tells;
 }
 
 -- a refused event makes no operation, so that no cut fires in it
-blown_deed : (cut : PowerCut) (w : RuleWorld) (m : ℕ) (does : Does) (a b x y : Device) (before : Option ChipReport) → IsFused cut a b x y → y.blown ≡ true → EventStopped does (store_at w m) x y before → EventIsCut w m does (Some cut) b.image before
-blown_deed cut w m (Refuses why) a b x y before f blown s =
+blown_effect : (cut : PowerCut) (w : RuleWorld) (m : ℕ) (does : Does) (a b x y : Device) (before : Option ChipReport) → IsFused cut a b x y → y.blown ≡ true → EventStopped does (store_at w m) x y before → EventIsCut w m does (Some cut) b.image before
+blown_effect cut w m (Refuses why) a b x y before f blown s =
     let h = left_blown (cut.after - 1) s.stops f.whole blown f.left in
     absurd (omega (arith, h.0, operations-resting (store_at w m) 0))
-blown_deed cut w m (Goes d) a b x y before f blown s =
+blown_effect cut w m (Goes d) a b x y before f blown s =
     let h = left_blown (cut.after - 1) s.stops f.whole blown f.left in
     record {
-      deed = d;
+      effect = d;
       goes = refl;
       blown = le-leb cut.after (operations d.trail) (omega (arith, h.0));
       leaves = subst (λ c. MayLeave Stands IsNear d.trail (cut.after - 1) c) f.image_then h.1;
@@ -119,7 +119,7 @@ fused_stopped : (cut : PowerCut) (w : RuleWorld) (m : ℕ) (does : Does) (v u : 
     → EventPlayed (ended (blown && not stopped) (Err (Stopped before))) w m does (Some cut) (host a v) (host b u)
 fused_stopped cut w m does v u a b x y before true false fired awake f s =
     let endures = fused_halts cut a b x y f s.stops.halts in
-    record { ends = blown_deed cut w m does a b x y before f fired s; endures = endures; count = endures.calm awake }
+    record { ends = blown_effect cut w m does a b x y before f fired s; endures = endures; count = endures.calm awake }
 fused_stopped cut w m does v u a b x y before true true fired stopped f s = record { ends = stopped_itself cut w m does a b x y before stopped f s; endures = fused_halts cut a b x y f s.stops.halts; count = tt }
 fused_stopped cut w m does v u a b x y before false stopped whole is f s =
     record { ends = stopped_itself cut w m does a b x y before (f.stopped whole s.stops.halts.stopped) f s; endures = fused_halts cut a b x y f s.stops.halts; count = tt }
@@ -133,7 +133,7 @@ fused (Ok (Starts p)) cut w m does v u a b x y f t = record { ends = fused_whole
 fused (Err (Stopped before)) cut w m does v u a b x y f t = fused_stopped cut w m does v u a b x y before y.blown b.stopped refl refl f t
 fused (Err NoImage) cut w m does v u a b x y f t =
     record {
-      ends = record { deed = t.deed; goes = t.goes; none = t.none; whole = not_reached cut (operations t.deed.trail) a b x y f t.ran; stands = subst (λ c. Stands c (last t.deed.trail)) f.image_then t.stands };
+      ends = record { effect = t.effect; goes = t.goes; none = t.none; whole = not_reached cut (operations t.effect.trail) a b x y f t.ran; stands = subst (λ c. Stands c (last t.effect.trail)) f.image_then t.stands };
       endures = fused_ran cut a b x y f t.ran;
       count = fused_count cut a b x y f t.ran;
     }

@@ -16,7 +16,7 @@ use Rattle.dg_volume.specs.Start.{Runs}
 use Rattle.dg_frame.specs.declared.Message.{Message}
 use Rattle.dg_frame.specs.Spelling.{frame_of}
 use Rattle.dg_rules.specs.World.{World as RuleWorld, Site, no_site, site, store_at, counted, with_site}
-use Rattle.dg_rules.specs.Events.{Deed, Does, Refuses, Goes, trail_of, does, mote_of, dt_of}
+use Rattle.dg_rules.specs.Events.{EventEffect, Does, Refuses, Goes, trail_of, does, mote_of, dt_of}
 use Rattle.dg_rules.specs.Steps.{blows, before_cut, and_sent, done_world, cut_world, done_reports, Ended, StepDoes, WorldStep}
 use Rattle.dg_rules.specs.Changes.{changes, is_reported}
 use Rattle.dg_script.specs.Ranges.{EventInRange}
@@ -44,17 +44,17 @@ use Rattle.dg_world.proofs.ChipReportLemmas.{cut_told}
 use Rattle.dg_world.proofs.StepLemmas.{ReadAndTold}
 use Rattle.dg_world.specs.inner.EventOutcomes.{EventOutcome, Halt, Refused, Unreported, Sends, Changes, Starts, Whole, Cut, Stopped, NotAVolume, NoImage}
 
-same_deed : (d e : Deed) → Goes d ≡ Goes e → d ≡ e
-same_deed d e h = cc
+same_effect : (d e : EventEffect) → Goes d ≡ Goes e → d ≡ e
+same_effect d e h = cc
 
-refuses_goes : (why : Cause) (d : Deed) → Refuses why ≡ Goes d → ⊥
+refuses_goes : (why : Cause) (d : EventEffect) → Refuses why ≡ Goes d → ⊥
 refuses_goes why d h = cc
 
 true_false : true ≡ false → ⊥
 true_false h = cc
 
 -- the step of a world, by what its event does
-world_step : (w : RuleWorld) (x : Step) (d : Deed) (b : Bool) (v : RuleWorld) (reports : List Report) → does w x.event ≡ Goes d → blows x.cut d.trail ≡ b → Ended b w x d v reports → WorldStep w x v reports
+world_step : (w : RuleWorld) (x : Step) (d : EventEffect) (b : Bool) (v : RuleWorld) (reports : List Report) → does w x.event ≡ Goes d → blows x.cut d.trail ≡ b → Ended b w x d v reports → WorldStep w x v reports
 unfolding WorldStep
 world_step w x d b v reports goes is ended =
     subst (λ (y : Does). StepDoes y w x v reports) (sym goes) (subst (λ (c : Bool). Ended c w x d v reports) (sym is) ended)
@@ -123,7 +123,7 @@ pub whole_done : (w : RuleWorld) (x : Step) (reported : Bool) (u : Option Node) 
     → EventIsWhole w (mote_of x.event) (does w x.event) x.cut u b.image outcome → frame ≡ outcome_frame outcome → end ≡ start ++ filter (is_reported reported) (outcome_lines (mote_of x.event) outcome) → StepDone w x reported frame start (board_state b u end)
 whole_done w x reported u frame outcome b start end is sends told =
     let m = mote_of x.event in
-    let d = is.deed in
+    let d = is.effect in
     let here : Site = record { store = last d.trail; runs = is.tells.runs } in
     let before : RuleWorld = with_site (record (counted w (dt_of x.event)) { table = d.table }) m here in
     let same = same_but before m d.sent in
@@ -144,14 +144,14 @@ whole_done w x reported u frame outcome b start end is sends told =
       mote = is.tells.mote;
       memory = λ e r goes whole some.
           let P : Option Runs → Type 0 = λ o. IfSome o (λ q. program b.image (length q.pages) ≡ q.pages) in
-          subst P (ap (λ (y : Deed). y.started) (same_deed d e (sym is.goes ∙ goes)) ∙ some) is.tells.memory;
+          subst P (ap (λ (y : EventEffect). y.started) (same_effect d e (sym is.goes ∙ goes)) ∙ some) is.tells.memory;
     }
 
 pub cut_done : (w : RuleWorld) (x : Step) (reported : Bool) (before : Option ChipReport) (b c : Device) (start mid end : List Report) → (is : EventIsCut w (mote_of x.event) (does w x.event) x.cut b.image before)
     → CutChangesAre (mote_of x.event) before is.leaves.store start mid → end ≡ mid ++ Off (mote_of x.event) ∷ [] → c.image ≡ b.image → StepDone w x reported None start (board_state c None end)
 cut_done w x reported before b c start mid end is lines off same =
     let m = mote_of x.event in
-    let d = is.deed in
+    let d = is.effect in
     let s = is.leaves.store in
     let told = lines.tells (before_cut x.cut) (store_at w m) d.trail is.leaves.allowed is.is_report in
     record {
@@ -169,7 +169,7 @@ cut_done w x reported before b c start mid end is lines off same =
       sites = refl;
       stands = subst (λ i. Stands i s) (sym same) is.leaves.stands_for;
       mote = tt;
-      memory = λ e r goes whole some. absurd (true_false (sym is.blown ∙ ap (λ (y : Deed). blows x.cut y.trail) (same_deed d e (sym is.goes ∙ goes)) ∙ whole));
+      memory = λ e r goes whole some. absurd (true_false (sym is.blown ∙ ap (λ (y : EventEffect). blows x.cut y.trail) (same_effect d e (sym is.goes ∙ goes)) ∙ whole));
     }
 
 -- ---- what the step ends with
@@ -192,7 +192,7 @@ blown_within (Some c) t blown = within_by c.after (operations t) blown
     within_by : (n m : ℕ) → nat_le n m ≡ true → n - 1 ≤ m
     within_by n m h = grind (arith, nat_tests)
 
-cut_within : (cut : Option PowerCut) (d : Deed) (D : Does) (s : Store) → D ≡ Goes d → blows cut d.trail ≡ true → before_cut cut ≤ operations (trail_of D s)
+cut_within : (cut : Option PowerCut) (d : EventEffect) (D : Does) (s : Store) → D ≡ Goes d → blows cut d.trail ≡ true → before_cut cut ≤ operations (trail_of D s)
 cut_within cut d D s goes blown = subst (λ (y : Does). before_cut cut ≤ operations (trail_of y s)) (sym goes) (blown_within cut d.trail blown)
 
 cut_itself : (cut : Option PowerCut) → IfSome cut (λ c. before_cut cut ≤ c.after - 1)
@@ -216,7 +216,7 @@ cut_halts T fault.Stopped w x reported v u o before k a b c start end p lines = 
     record {
       stopped = lines.1.0;
       done = before_cut x.cut;
-      within = cut_within x.cut p.ends.deed (does w x.event) (store_at w (mote_of x.event)) p.ends.goes p.ends.blown;
+      within = cut_within x.cut p.ends.effect (does w x.event) (store_at w (mote_of x.event)) p.ends.goes p.ends.blown;
       uncut = cut_itself x.cut;
       leaves = subst (λ i. MayLeave Stands IsNear (trail_of (does w x.event) (store_at w (mote_of x.event))) (before_cut x.cut) i) (sym lines.1.1.same_image)
           (subst (λ (y : Does). MayLeave Stands IsNear (trail_of y (store_at w (mote_of x.event))) (before_cut x.cut) b.image) (sym p.ends.goes) p.ends.leaves);

@@ -9,7 +9,7 @@ use Rattle.dg_control.specs.Mounted.{IsControlOf}
 use Rattle.dg_volume.specs.Remount.{RemountBytes}
 use Rattle.dg_volume.specs.Stands.{control_of, IsVolume}
 use Rattle.dg_rules.specs.World.{World as RuleWorld, Running}
-use Rattle.dg_rules.specs.Events.{Deed, Does, Refuses, Goes, does}
+use Rattle.dg_rules.specs.Events.{EventEffect, Does, Refuses, Goes, does}
 use Rattle.dg_volume.specs.Store.{Store}
 use Rattle.dg_mote.specs.Motes.{volume_of, sent_in}
 use Rattle.std.proofs.lemmas.Option.{same_Some}
@@ -112,7 +112,7 @@ outcome_refused w m D v u a b outcome ends why is = let x : OutcomeEnds (Ok (Ref
 pub play_refused : (w : RuleWorld) (m : ℕ) (D : Does) (cut : Option PowerCut) (v u : Option Node) (a b : Device) (outcome : EventOutcome) → PlayEnds (Ok (Whole outcome)) w m D cut (host a v) (host b u) → (why : Cause) → outcome ≡ Refused why → D ≡ Refuses why
 play_refused w m D cut v u a b outcome ends why is = let x : PlayEnds (Ok (Whole (Refused why))) w m D cut (host a v) (host b u) = subst (λ (y : EventOutcome). PlayEnds (Ok (Whole y)) w m D cut (host a v) (host b u)) is ends in x.0
 
-pub refuses_goes : (A : Type 0) (D : Does) (why : Cause) → (d : Deed) → D ≡ Goes d → D ≡ Refuses why → A
+pub refuses_goes : (A : Type 0) (D : Does) (why : Cause) → (d : EventEffect) → D ≡ Goes d → D ≡ Refuses why → A
 refuses_goes A D why d goes refuses = let e : Goes d ≡ Refuses why = sym goes ∙ refuses in absurd cc
 
 same_refusal : (x y : Cause) → Refuses x ≡ Refuses y → x ≡ y
@@ -120,17 +120,17 @@ same_refusal x y e = cc
 
 pub refused_outcome : (w : RuleWorld) (m : ℕ) (D : Does) (v u : Option Node) (a b : Device) (outcome : EventOutcome) → OutcomeEnds (Ok outcome) w m D (host a v) (host b u) → (why : Cause) → D ≡ Refuses why → outcome ≡ Refused why
 refused_outcome w m D v u a b (Refused x) ends why is = ap Refused (same_refusal x why (sym ends.0 ∙ is))
-refused_outcome w m D v u a b Unreported ends why is = refuses_goes _ D why ends.deed ends.goes is
-refused_outcome w m D v u a b (Sends bytes) ends why is = refuses_goes _ D why ends.deed ends.goes is
-refused_outcome w m D v u a b (Changes p q) ends why is = refuses_goes _ D why ends.deed ends.goes is
-refused_outcome w m D v u a b (Starts x) ends why is = refuses_goes _ D why ends.deed ends.goes is
+refused_outcome w m D v u a b Unreported ends why is = refuses_goes _ D why ends.effect ends.goes is
+refused_outcome w m D v u a b (Sends bytes) ends why is = refuses_goes _ D why ends.effect ends.goes is
+refused_outcome w m D v u a b (Changes p q) ends why is = refuses_goes _ D why ends.effect ends.goes is
+refused_outcome w m D v u a b (Starts x) ends why is = refuses_goes _ D why ends.effect ends.goes is
 
 pub refused_play : (w : RuleWorld) (m : ℕ) (D : Does) (cut : Option PowerCut) (v u : Option Node) (a b : Device) (outcome : EventOutcome) → PlayEnds (Ok (Whole outcome)) w m D cut (host a v) (host b u) → (why : Cause) → D ≡ Refuses why → outcome ≡ Refused why
 refused_play w m D cut v u a b (Refused x) ends why is = ap Refused (same_refusal x why (sym ends.0 ∙ is))
-refused_play w m D cut v u a b Unreported ends why is = refuses_goes _ D why ends.deed ends.goes is
-refused_play w m D cut v u a b (Sends bytes) ends why is = refuses_goes _ D why ends.deed ends.goes is
-refused_play w m D cut v u a b (Changes p q) ends why is = refuses_goes _ D why ends.deed ends.goes is
-refused_play w m D cut v u a b (Starts x) ends why is = refuses_goes _ D why ends.deed ends.goes is
+refused_play w m D cut v u a b Unreported ends why is = refuses_goes _ D why ends.effect ends.goes is
+refused_play w m D cut v u a b (Sends bytes) ends why is = refuses_goes _ D why ends.effect ends.goes is
+refused_play w m D cut v u a b (Changes p q) ends why is = refuses_goes _ D why ends.effect ends.goes is
+refused_play w m D cut v u a b (Starts x) ends why is = refuses_goes _ D why ends.effect ends.goes is
 
 told_by : (o : Option (List ℕ)) (r : Option Cause) (x : Option StartedImage) (a b : Option ChipReport) (why : Cause) → outcome_by o r x a b ≡ Refused why → r ≡ Some why
 told_by (Some bytes) r x a b why e = absurd cc

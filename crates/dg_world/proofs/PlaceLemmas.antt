@@ -227,17 +227,17 @@ pub lacked : (v : World) (bs : List Device) (w : RuleWorld) (x : Step) (i : ℕ)
 lacked v bs w x i a b is at known here endures stays s =
     let wide : i < length bs = omega (arith, known, is.boards_enough) in
     let m = mote_of x.event in
-    let then_site : Site = record { store = last s.deed.trail; runs = None } in
-    let world = cut_world w m (dt_of x.event) s.deed (last s.deed.trail) in
+    let then_site : Site = record { store = last s.effect.trail; runs = None } in
+    let world = cut_world w m (dt_of x.event) s.effect (last s.effect.trail) in
     let sites : world.sites ≡ set w.sites i then_site = ap (λ (j : ℕ). set w.sites j then_site) (sym at) in
     record {
       world = world;
-      ends = record { deed = s.deed; goes = s.goes; whole = s.whole; none = s.none; world = refl };
+      ends = record { effect = s.effect; goes = s.goes; whole = s.whole; none = s.none; world = refl };
       stood = λ k d within there.
           ⊎_elim
           (λ same.
           let ed : d ≡ b = same_of (slice_get (set bs i b) i) d b (sym (ap (slice_get (set bs i b)) same) ∙ there) (get_set_same bs i b wide) in
-          let ey : store_at world k ≡ last s.deed.trail = ap (λ (xs : List Site). (get_or xs k no_site).store) sites ∙ ap (λ (j : ℕ). (get_or (set w.sites i then_site) j no_site).store) same ∙ ap (λ (y : Site). y.store) (get_or-set_same w.sites i then_site no_site known) in
+          let ey : store_at world k ≡ last s.effect.trail = ap (λ (xs : List Site). (get_or xs k no_site).store) sites ∙ ap (λ (j : ℕ). (get_or (set w.sites i then_site) j no_site).store) same ∙ ap (λ (y : Site). y.store) (get_or-set_same w.sites i then_site no_site known) in
           let P : Device → Store → Type 0 = λ e t. Stands e.image t in
           subst (λ (e : Device). P e (store_at world k)) (sym ed) (subst (P b) (sym ey) s.stands))
           (λ other.

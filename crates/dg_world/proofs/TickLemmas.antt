@@ -36,7 +36,7 @@ use Rattle.dg_mote.specs.Model.{MoteState, Mode, Maintain, Receive, Transmit, Re
 use Rattle.dg_mote.specs.Ticks.{clears, maintain_by, receive_by, transmit_by, mode_tick, tick_of}
 use Rattle.dg_mote.specs.Hears.{heard_of}
 use Rattle.dg_mote.specs.Effects.{Effect, boot_by, boots, tick_by, reset_effect, tick_effect, frame_effect}
-use Rattle.dg_node.specs.Nodes.{NodeStands, node_mote, node_image, node_is_wide, runs_by as node_runs}
+use Rattle.dg_node.specs.Nodes.{NodeStands, node_mote, node_image, node_is_wide, node_runs}
 use Rattle.dg_node.specs.Ends.{NodeEnd, Quiet, Sent, NodeDone, EffectDone, IsStart, Starts as NodeStarts, Stopped as NodeStopped, NotAVolume as NodeNotAVolume, NoImage as NodeNoImage, FoundNoImage, power_end, tick_end, PowerFinds}
 use Rattle.dg_node.specs.declared.answers.Ticked.{Ticked}
 use Rattle.dg_node.specs.declared.answers.Ticked.TheVariants as ticked
@@ -185,7 +185,7 @@ module _ (w : RuleWorld) (m : ℕ) (e : Effect) (old : Option ImageVersion) (v :
   went_with n frame outcome x sent lines =
       let runs = runs_of e.mote e.started old (option_map node_image v) b.image n (last e.trail) x.runs same in
       record {
-        deed = record { trail = e.trail; table = w.table; started = e.started; sent = e.sent; runs = option_map (runs_by e.started old) e.mote };
+        effect = record { trail = e.trail; table = w.table; started = e.started; sent = e.sent; runs = option_map (runs_by e.started old) e.mote };
         goes = refl;
         ran = x.ran;
         tells = record { runs = runs.0; runs_then = runs.1; mote = runs.2; lines = lines; sent = sent; stands = x.stands; memory = x.memory };
@@ -212,7 +212,7 @@ module _ (w : RuleWorld) (m : ℕ) (e : Effect) (old : Option ImageVersion) (v :
 
   pub node_lacks : (frame : Option (List ℕ)) → FoundNoImage e frame a b → EventFoundNoImage D a b
   node_lacks frame l = record {
-    deed = record { trail = e.trail; table = w.table; started = e.started; sent = e.sent; runs = option_map (runs_by e.started old) e.mote };
+    effect = record { trail = e.trail; table = w.table; started = e.started; sent = e.sent; runs = option_map (runs_by e.started old) e.mote };
     goes = refl;
     none = ap (option_map (runs_by e.started old)) l.none;
     ran = l.ran;
@@ -305,7 +305,7 @@ pub power_halts : (w : RuleWorld) (m : ℕ) (e : Effect) (v u y : Option Node) (
 power_halts w m e v u y a b boot_fault.Stopped nothing x = stopped_same w m (of_effect w e None) v u a b nothing x.0
 power_halts w m e v u y a b boot_fault.NotAVolume nothing x = absurd x
 power_halts w m e v u y a b boot_fault.NoImage nothing x = record {
-  deed = record { trail = e.trail; table = w.table; started = e.started; sent = e.sent; runs = option_map (runs_by e.started None) e.mote };
+  effect = record { trail = e.trail; table = w.table; started = e.started; sent = e.sent; runs = option_map (runs_by e.started None) e.mote };
   goes = refl;
   none = ap (option_map (runs_by e.started None)) x.none;
   ran = x.ran;

@@ -13,7 +13,7 @@ use Rattle.dg_rules.specs.Consistency.{WorldConsistent}
 use Rattle.dg_volume.specs.Stands.{Stands}
 use Rattle.dg_volume.specs.Start.{Runs}
 use Rattle.dg_rules.specs.World.{World as RuleWorld, store_at}
-use Rattle.dg_rules.specs.Events.{Deed, Goes, trail_of, does, mote_of}
+use Rattle.dg_rules.specs.Events.{EventEffect, Goes, trail_of, does, mote_of}
 use Rattle.dg_rules.specs.Changes.{is_reported}
 use Rattle.dg_rules.specs.Steps.{WorldStep, EndsRun, blows}
 use Rattle.dg_base.specs.declared.events.Step.{Step}
@@ -41,7 +41,8 @@ pub record Applied (w : RuleWorld) (x : Step) (reported : Bool) (a b : Deploymen
   pub report_now : b.reported ≡ a.reported ++ filter (is_reported reported) reports
   pub boards : OneBoard (mote_of x.event) a.boards b.boards
   pub calm : NoneRose a.boards b.boards
-  pub memory : (d : Deed) (r : Runs) (c : Device) → does w x.event ≡ Goes d → blows x.cut d.trail ≡ false → d.started ≡ Some r
+  pub memory : (d : EventEffect) (r : Runs) (c : Device) → does w x.event ≡ Goes d → blows x.cut d.trail ≡ false
+      → d.started ≡ Some r
       → slice_get b.boards (mote_of x.event) ≡ Some c → program c.image (length r.pages) ≡ r.pages
 
 -- The board of the event's mote stopped. It stands for a store that the event's trail leaves after `done` operations. The cut

@@ -5,7 +5,7 @@ use Rattle.dg_nor.specs.Trail.{operations, last, MayLeave}
 use Rattle.dg_volume.specs.Store.{IsNear}
 use Rattle.dg_volume.specs.Stands.{Stands}
 use Rattle.dg_rules.specs.World.{World as RuleWorld, store_at}
-use Rattle.dg_rules.specs.Events.{Deed, Does, Goes, trail_of}
+use Rattle.dg_rules.specs.Events.{EventEffect, Does, Goes, trail_of}
 use Rattle.dg_rules.specs.Steps.{blows}
 use Rattle.dg_base.specs.declared.events.Cut.{Cut as PowerCut}
 
@@ -19,8 +19,8 @@ pub record IsStopped (w : RuleWorld) (m : ℕ) (does : Does) (cut : Option Power
 
 -- a start found no image
 pub record StepFoundNoImage (does : Does) (cut : Option PowerCut) (image : List ℕ) : Type 0 where
-  pub deed : Deed
-  pub goes : does ≡ Goes deed
-  pub none : deed.runs ≡ None
-  pub whole : blows cut deed.trail ≡ false
-  pub stands : Stands image (last deed.trail)
+  pub effect : EventEffect
+  pub goes : does ≡ Goes effect
+  pub none : effect.runs ≡ None
+  pub whole : blows cut effect.trail ≡ false
+  pub stands : Stands image (last effect.trail)

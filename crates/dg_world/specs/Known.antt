@@ -17,9 +17,9 @@ abbrev pub known_of : World → ℕ → Bool
 known_of v m = slice_index_or v.known m false
 
 -- an event that is not refused as `reserved` or `image`
-pub record IsLookedInto (deed : Does) : Type 0 where
-  pub not_reserved : deed ≢ Refuses cause.Reserved
-  pub declared : deed ≢ Refuses cause.Image
+pub record IsLookedInto (effect : Does) : Type 0 where
+  pub not_reserved : effect ≢ Refuses cause.Reserved
+  pub declared : effect ≢ Refuses cause.Image
 
 -- The event makes the board of its mote known, if the board is orderly afterwards: a reset, and an injection or an order that
 -- looks at the chip.

@@ -6,7 +6,7 @@ use Rattle.dg_slot.specs.Pages.{program}
 use Rattle.dg_volume.specs.Stands.{Stands}
 use Rattle.dg_volume.specs.Start.{Runs}
 use Rattle.dg_rules.specs.World.{World as RuleWorld, Site}
-use Rattle.dg_rules.specs.Events.{Deed, Goes, does, mote_of, dt_of}
+use Rattle.dg_rules.specs.Events.{EventEffect, Goes, does, mote_of, dt_of}
 use Rattle.dg_rules.specs.Steps.{WorldStep, blows}
 use Rattle.dg_base.specs.declared.events.Step.{Step}
 use Rattle.dg_rules.specs.Changes.{is_reported}
@@ -42,5 +42,5 @@ pub record StepDone (w : RuleWorld) (x : Step) (reported : Bool) (frame : Option
   pub sites : world.sites ≡ slice_set w.sites (mote_of x.event) here
   pub stands : Stands b.board.image here.store
   pub mote : MoteStands b.board.image b.runs here.store here.runs
-  pub memory : (d : Deed) (r : Runs) → does w x.event ≡ Goes d → blows x.cut d.trail ≡ false → d.started ≡ Some r
+  pub memory : (d : EventEffect) (r : Runs) → does w x.event ≡ Goes d → blows x.cut d.trail ≡ false → d.started ≡ Some r
       → program b.board.image (length r.pages) ≡ r.pages

@@ -23,4 +23,4 @@ is_unseen (OldOrder number) = false
 -- an event is refused for such a cause
 abbrev pub RefusesUnseen : Does → Type 0
 RefusesUnseen (Refuses why) = is_unseen why ≡ true
-RefusesUnseen (Goes deed) = ⊥
+RefusesUnseen (Goes effect) = ⊥

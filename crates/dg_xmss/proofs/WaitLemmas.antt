@@ -4,7 +4,7 @@ use Rattle.std.proofs.lemmas.Bool.{cases_lt}
 use Rattle.std.proofs.lemmas.List.{append-nil, length-take-le, length-append, length-set, take-take, take_at, take-set-le, take_more, get_or-take, get_or_at, get_or-set_same}
 use Rattle.dg_xmss.specs.Addresses.{ltree_address}
 use Rattle.dg_xmss.specs.Trees.{rand_hash, ltree_nodes, ltree}
-use Rattle.dg_xmss.specs.Joining.{Waits, waiting_nodes}
+use Rattle.dg_xmss.specs.Joining.{AreWaiting, waiting_nodes}
 use Rattle.dg_xmss.proofs.TreeLemmas.{length-nodes, node_pair, node_odd}
 
 -- ---- one after others
@@ -115,7 +115,7 @@ few_wait nodes held size q e h low w =
 
 -- ---- two nodes are united
 
-pub some_waits : (nodes : ℕ → List (List ℕ)) (heights n k q : ℕ) (held : List (List ℕ)) (size : ℕ) → heights ≡ suc n → q % 2 ≡ 1 → Waits nodes heights k q held size → 1 ≤ size
+pub some_waits : (nodes : ℕ → List (List ℕ)) (heights n k q : ℕ) (held : List (List ℕ)) (size : ℕ) → heights ≡ suc n → q % 2 ≡ 1 → AreWaiting nodes heights k q held size → 1 ≤ size
 some_waits nodes heights n k q held size e odd w =
     let is : take size held ≡ waiting_nodes nodes n (k + 1) (q / 2) ++ get_or (nodes k) (q - 1) [] ∷ [] =
     w.older ∙ ap (λ (z : ℕ). waiting_nodes nodes z k q) e ∙ odd_waits nodes n k q odd in
@@ -130,7 +130,7 @@ above seed leaf k up held left = rand_hash (get_or held left []) (get_or held (l
 pub unite_waits : (seed : List ℕ) (leaf : ℕ) (pk : List (List ℕ)) (heights n k q : ℕ) (held new : List (List ℕ)) (size left up : ℕ)
     → heights ≡ suc n → q % 2 ≡ 1 → q < length (ltree_nodes seed leaf pk k) → left ≡ size - 1 → up ≡ q / 2
     → new ≡ set held left (rand_hash (get_or held left []) (get_or held (left + 1) []) seed (ltree_address leaf k up))
-    → Waits (ltree_nodes seed leaf pk) heights k q held size → Waits (ltree_nodes seed leaf pk) n (k + 1) up new left
+    → AreWaiting (ltree_nodes seed leaf pk) heights k q held size → AreWaiting (ltree_nodes seed leaf pk) n (k + 1) up new left
 unite_waits seed leaf pk heights n k q held new size left up e odd h d u s w =
     let nodes : ℕ → List (List ℕ) = ltree_nodes seed leaf pk in
     let ws : List (List ℕ) = waiting_nodes nodes n (k + 1) (q / 2) in
@@ -159,7 +159,7 @@ unite_waits seed leaf pk heights n k q held new size left up e odd h d u s w =
 -- a node with no node beside it goes up unchanged
 pub odd_goes_up : (seed : List ℕ) (leaf : ℕ) (pk : List (List ℕ)) (heights n k q : ℕ) (held : List (List ℕ)) (size up : ℕ)
     → heights ≡ suc n → q % 2 ≡ 0 → length (ltree_nodes seed leaf pk k) ≡ q + 1 → up ≡ q / 2
-    → Waits (ltree_nodes seed leaf pk) heights k q held size → Waits (ltree_nodes seed leaf pk) n (k + 1) up held size
+    → AreWaiting (ltree_nodes seed leaf pk) heights k q held size → AreWaiting (ltree_nodes seed leaf pk) n (k + 1) up held size
 odd_goes_up seed leaf pk heights n k q held size up e even h u w =
     let nodes : ℕ → List (List ℕ) = ltree_nodes seed leaf pk in
     let one : suc k ≡ k + 1 = omega arith in
@@ -172,12 +172,12 @@ odd_goes_up seed leaf pk heights n k q held size up e even h u w =
 -- ---- the newest node is joined with those that waited
 
 pub record Joins (nodes : ℕ → List (List ℕ)) (heights height count : ℕ) (held : List (List ℕ)) (size whole : ℕ) : Type 0 where
-  pub waits : Waits nodes heights height count held size
+  pub waits : AreWaiting nodes heights height count held size
   pub few : count < length (nodes height)
   pub enough : count + 1 < doubled heights
   pub same : waiting_nodes nodes heights height (count + 1) ≡ waiting_nodes nodes 7 0 (whole + 1)
 
-pub joins_first : (nodes : ℕ → List (List ℕ)) (index : ℕ) (held : List (List ℕ)) (size : ℕ) → index < 67 → index < length (nodes 0) → Waits nodes 7 0 index held size
+pub joins_first : (nodes : ℕ → List (List ℕ)) (index : ℕ) (held : List (List ℕ)) (size : ℕ) → index < 67 → index < length (nodes 0) → AreWaiting nodes 7 0 index held size
     → Joins nodes 7 0 index held size index
 unfolding doubled
 joins_first nodes index held size low few w = record { waits = w; few = few; enough = omega arith; same = refl }
@@ -245,7 +245,7 @@ joins_end nodes heights height count held size whole even j =
 -- ---- the first and the last of an L-tree
 
 pub waits_new : (nodes : ℕ → List (List ℕ)) (held new : List (List ℕ)) (size index : ℕ) (x : List ℕ) → size < length held → new ≡ set held size x
-    → x ≡ get_or (nodes 0) index [] → take size held ≡ waiting_nodes nodes 7 0 index → Waits nodes 7 0 index new size
+    → x ≡ get_or (nodes 0) index [] → take size held ≡ waiting_nodes nodes 7 0 index → AreWaiting nodes 7 0 index new size
 waits_new nodes held new size index x h s e w =
     record {
       older = ap (take size) s ∙ take-set-le size held size x (omega arith) ∙ w;
@@ -275,7 +275,7 @@ length_top seed leaf pk h =
     length-nodes seed leaf pk 6 ∙ ap (λ (n : ℕ). (n + 1) / 2) l6
 
 pub root_waits : (seed : List ℕ) (leaf : ℕ) (pk : List (List ℕ)) (heights height q : ℕ) (held : List (List ℕ)) (size : ℕ) → heights ≡ 0 → height ≡ 7 → length pk ≡ 67
-    → length (ltree_nodes seed leaf pk height) ≡ q + 1 → Waits (ltree_nodes seed leaf pk) heights height q held size → get_or held 0 [] ≡ ltree seed leaf pk
+    → length (ltree_nodes seed leaf pk height) ≡ q + 1 → AreWaiting (ltree_nodes seed leaf pk) heights height q held size → get_or held 0 [] ≡ ltree seed leaf pk
 unfolding ltree
 root_waits seed leaf pk heights height q held size e f h last w =
     let nodes : ℕ → List (List ℕ) = ltree_nodes seed leaf pk in

@@ -2,7 +2,7 @@
 use Rattle.std.specs.Prelude.{◌≡◌, ◌≢◌, ℕ, ◌<◌, ◌≤◌, List, length, take, Result, Ok, Err}
 use Rattle.std.specs.Int.{from_be_bytes, w32}
 use Rattle.dg_xmss.specs.Keys.{key_bytes, parameter_set}
-use Rattle.dg_xmss.specs.Signatures.{IsSignature, signature_size, last_index, index_of, root_of}
+use Rattle.dg_xmss.specs.Signatures.{IsSignature, signature_size, last_index, index_of, signature_root}
 use Rattle.dg_xmss.specs.declared.key.PublicKey.{PublicKey}
 use Rattle.dg_xmss.specs.declared.key.KeyFault.{KeyFault}
 use Rattle.dg_xmss.specs.declared.key.KeyFault.TheVariants as key_fault
@@ -25,4 +25,4 @@ Verifies key m sig (Ok done) = IsSignature key m sig
 Verifies key m sig (Err (fault.Length n)) = (n ≡ length sig) × (n ≢ signature_size)
 Verifies key m sig (Err (fault.Index i)) = (length sig ≡ signature_size) × (i ≡ index_of sig) × (last_index < i)
 Verifies key m sig (Err fault.Root) =
-    (length sig ≡ signature_size) × (index_of sig ≤ last_index) × (root_of key m sig ≢ key.root)
+    (length sig ≡ signature_size) × (index_of sig ≤ last_index) × (signature_root key m sig ≢ key.root)

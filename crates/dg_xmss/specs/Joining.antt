@@ -5,7 +5,7 @@ use Rattle.std.specs.Prelude.{List, [], ◌∷◌, ◌++◌, length, take, slice
 use Rattle.dg_xmss.specs.Trees.{ltree_nodes}
 use Rattle.sha2.specs.Hashers.{Holds256}
 use Rattle.dg_xmss.specs.Functions.{to_byte, node_size}
-use Rattle.dg_xmss.specs.Wots.{wots_key, chain_end, base_w, checksum_of, message_digits}
+use Rattle.dg_xmss.specs.Wots.{wots_key, chain_end, base_w, wots_checksum, message_digits}
 use Rattle.dg_xmss.specs.Signatures.{ots_of, signature_size}
 use Rattle.dg_xmss.specs.declared.prf.Prf.{Prf}
 use Rattle.dg_xmss.specs.declared.leaf.Leaf.{Leaf}
@@ -17,7 +17,7 @@ IsKeyed prf = Holds256 prf.begun (to_byte 3 node_size ++ prf.seed.now)
 -- the parts of a leaf belong together
 pub record IsLeaf (leaf : Leaf) : Type 0 where
   pub keyed : IsKeyed leaf.prf.now
-  pub sum : leaf.checksum ≡ checksum_of (base_w leaf.digest.now message_digits)
+  pub sum : leaf.checksum ≡ wots_checksum (base_w leaf.digest.now message_digits)
   pub most : leaf.checksum ≤ 960
   pub size : length leaf.signature.now ≡ signature_size
 
@@ -42,7 +42,7 @@ waiting_nodes nodes (suc heights) height count =
     ++ (if count % 2 == 1 then slice_index_or (nodes height) (count - 1) [] ∷ [] else [])
 
 -- The nodes that wait stand before the newest one, which has this index at this height.
-pub record Waits (nodes : ℕ → List (List ℕ)) (heights height index : ℕ) (held : List (List ℕ)) (size : ℕ) : Type 0 where
+pub record AreWaiting (nodes : ℕ → List (List ℕ)) (heights height index : ℕ) (held : List (List ℕ)) (size : ℕ) : Type 0 where
   pub older : take size held ≡ waiting_nodes nodes heights height index
   pub newest : slice_index_or held size [] ≡ slice_index_or (nodes height) index []
   pub room : size < length held

@@ -47,12 +47,12 @@ unfoldable pub message_digest : (root m sig : List ℕ) → List ℕ
 message_digest root m sig = h_msg (randomness_of sig ++ root ++ to_byte (index_of sig) node_size) m
 
 -- the root that a signature leads to
-unfoldable pub root_of : PublicKey → (m sig : List ℕ) → List ℕ
-root_of key m sig =
+unfoldable pub signature_root : PublicKey → (m sig : List ℕ) → List ℕ
+signature_root key m sig =
     root_from_sig key.seed (index_of sig) (ots_of sig) (path_of sig) (message_digest key.root m sig)
 
 -- The signature is one of the message under the key. The RFC leaves length and index to the caller.
 pub record IsSignature (key : PublicKey) (m sig : List ℕ) : Type 0 where
   pub size : length sig ≡ signature_size
   pub index : index_of sig ≤ last_index
-  pub root : root_of key m sig ≡ key.root
+  pub root : signature_root key m sig ≡ key.root

@@ -24,14 +24,14 @@ unfoldable pub base_w : List ℕ → ℕ → List ℕ
 base_w xs out_len = take out_len (digits_of_bytes xs)
 
 -- the sum of what each digit lacks of 15: csum of Algorithm 6
-unfoldable pub checksum_of : List ℕ → ℕ
-checksum_of [] = 0
-checksum_of (d ∷ ds) = (15 - d) + checksum_of ds
+unfoldable pub wots_checksum : List ℕ → ℕ
+wots_checksum [] = 0
+wots_checksum (d ∷ ds) = (15 - d) + wots_checksum ds
 
 -- the digits of a message, and those of their checksum, which is shifted by 4 bits to end with a byte (Algorithm 6)
 unfoldable pub digits : List ℕ → List ℕ
 digits m =
-    base_w m message_digits ++ base_w (to_byte (checksum_of (base_w m message_digits) * 16) 2) checksum_digits
+    base_w m message_digits ++ base_w (to_byte (wots_checksum (base_w m message_digits) * 16) 2) checksum_digits
 
 -- one more step from a value, with that hash address (the body of Algorithm 2)
 unfoldable pub chain_step : (seed : List ℕ) (leaf i hash : ℕ) → List ℕ → List ℕ
@@ -39,14 +39,14 @@ chain_step seed leaf i hash x =
     f (prf seed (ots_address leaf i hash 0)) (xor x (prf seed (ots_address leaf i hash 1)))
 
 -- chain(X, start, s, SEED, ADRS): s steps along chain i of a leaf (Algorithm 2)
-unfoldable pub chain : (seed : List ℕ) (leaf i : ℕ) → List ℕ → (start s : ℕ) → List ℕ
-chain seed leaf i x start zero = x
-chain seed leaf i x start (suc s) = chain_step seed leaf i (start + s) (chain seed leaf i x start s)
+unfoldable pub wots_chain : (seed : List ℕ) (leaf i : ℕ) → List ℕ → (start s : ℕ) → List ℕ
+wots_chain seed leaf i x start zero = x
+wots_chain seed leaf i x start (suc s) = chain_step seed leaf i (start + s) (wots_chain seed leaf i x start s)
 
 -- chain i of a signature, from the digit of the message to the last value
 abbrev pub chain_end : (seed : List ℕ) (leaf : ℕ) (m : List ℕ) (sig : List (List ℕ)) → ℕ → List ℕ
 chain_end seed leaf m sig i =
-    chain seed leaf i (slice_index_or sig i []) (slice_index (digits m) i) (15 - slice_index (digits m) i)
+    wots_chain seed leaf i (slice_index_or sig i []) (slice_index (digits m) i) (15 - slice_index (digits m) i)
 
 -- WOTS_pkFromSig (Algorithm 6)
 unfoldable pub wots_key : (seed : List ℕ) (leaf : ℕ) (m : List ℕ) (sig : List (List ℕ)) → List (List ℕ)

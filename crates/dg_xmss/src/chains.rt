@@ -1,6 +1,6 @@
 //! The digits of a message's digest, and the chains that they stand on (RFC 8391, 2.6 and 3.1).
 ghost use Rattle.std.specs.Prelude.{◌≡◌, ◌-◌, ◌+◌, ◌<◌, ◌≤◌, ◌/◌, ◌%◌, length, slice_index};
-ghost use Rattle.dg_xmss.specs.Wots.{base_w, checksum_of, digits, message_digits, chains, chain};
+ghost use Rattle.dg_xmss.specs.Wots.{base_w, wots_checksum, digits, message_digits, chains, wots_chain};
 ghost use Rattle.dg_xmss.specs.Signatures.{chain_value, signature_size};
 ghost use Rattle.dg_xmss.specs.Joining.{IsKeyed, IsLeaf, chain_end_of};
 
@@ -27,7 +27,7 @@ fn lacking(byte: u8) -> u16
 
 /// What the digits of a digest lack, altogether.
 pub(crate) fn checksum(digest: &[u8; NODE_SIZE]) -> u16
-    ensures value { result ≡ checksum_of (base_w digest.now message_digits) }
+    ensures value { result ≡ wots_checksum (base_w digest.now message_digits) }
     ensures most { result ≤ 960 }
 {
     let mut sum = 0;
@@ -40,7 +40,7 @@ pub(crate) fn checksum(digest: &[u8; NODE_SIZE]) -> u16
 // Digit i of a digest with its checksum.
 fn digit(digest: &[u8; NODE_SIZE], checksum: u16, i: usize) -> u8
     requires known { i < chains }
-    requires sum { checksum ≡ checksum_of (base_w digest.now message_digits) }
+    requires sum { checksum ≡ wots_checksum (base_w digest.now message_digits) }
     requires most { checksum ≤ 960 }
     ensures digit { result ≡ slice_index (digits digest.now) i }
     ensures most { result ≤ 15 }
@@ -79,7 +79,7 @@ fn checksum_digit(checksum: u16, i: usize) -> u8
 pub fn walk(prf: &Prf, leaf: u16, number: u8, digit: u8, node: &mut [u8; NODE_SIZE])
     requires keyed { IsKeyed prf.now }
     requires digit { digit ≤ 15 }
-    ensures { node.new ≡ chain prf.now.seed.now leaf number node.old digit (15 - digit) }
+    ensures { node.new ≡ wots_chain prf.now.seed.now leaf number node.old digit (15 - digit) }
 {
     for hash in digit..LAST_DIGIT {
         *node = prf.step(leaf, number, hash, node);

@@ -3,7 +3,7 @@ ghost use Rattle.std.specs.Prelude.{◌≡◌, [], ◌+◌, ◌-◌, ◌<◌, �
 ghost use Rattle.dg_xmss.specs.Addresses.{ltree_address};
 ghost use Rattle.dg_xmss.specs.Wots.{chains};
 ghost use Rattle.dg_xmss.specs.Trees.{rand_hash, ltree, parent, path_root};
-ghost use Rattle.dg_xmss.specs.Joining.{IsKeyed, IsLeaf, Waits, waiting_nodes, leaf_key, nodes_of};
+ghost use Rattle.dg_xmss.specs.Joining.{IsKeyed, IsLeaf, AreWaiting, waiting_nodes, leaf_key, nodes_of};
 ghost use Rattle.dg_xmss.specs.Signatures.{path_node, path_of, signature_size, tree_height};
 
 use crate::address::Address;
@@ -48,7 +48,7 @@ fn join(leaf: &Leaf, nodes: &mut Nodes, waiting: usize, index: u8) -> usize
     requires leaf { IsLeaf leaf.now }
     requires index { index < 67 }
     requires few { index < length (leaf_key leaf.now) }
-    requires waits { Waits (nodes_of leaf.now) 7 0 index nodes.old waiting }
+    requires waits { AreWaiting (nodes_of leaf.now) 7 0 index nodes.old waiting }
     ensures waits { take result nodes.new ≡ waiting_nodes (nodes_of leaf.now) 7 0 (index + 1) }
     ensures room { result ≤ 7 }
 {
@@ -69,8 +69,8 @@ fn close_at(leaf: &Leaf, nodes: &mut Nodes, waiting: usize, height: u8, index: u
     requires leaf { IsLeaf leaf.now }
     requires height { height < 7 }
     requires last { length (nodes_of leaf.now height) ≡ index + 1 }
-    requires waits { Waits (nodes_of leaf.now) (7 - height) height index nodes.old waiting }
-    ensures { Waits (nodes_of leaf.now) (6 - height) (height + 1) (index / 2) nodes.new result }
+    requires waits { AreWaiting (nodes_of leaf.now) (7 - height) height index nodes.old waiting }
+    ensures { AreWaiting (nodes_of leaf.now) (6 - height) (height + 1) (index / 2) nodes.new result }
 {
     if index % 2 == 0 {
         return waiting;
@@ -83,7 +83,7 @@ fn close_at(leaf: &Leaf, nodes: &mut Nodes, waiting: usize, height: u8, index: u
 fn close(leaf: &Leaf, nodes: &mut Nodes, waiting: usize)
     requires leaf { IsLeaf leaf.now }
     requires size { length (leaf_key leaf.now) ≡ chains }
-    requires waits { Waits (nodes_of leaf.now) 7 0 66 nodes.old waiting }
+    requires waits { AreWaiting (nodes_of leaf.now) 7 0 66 nodes.old waiting }
     ensures { slice_index_or nodes.new 0 [] ≡ ltree leaf.now.prf.now.seed.now leaf.now.index (leaf_key leaf.now) }
 {
     let mut size = waiting;

@@ -1,6 +1,6 @@
 //! Which signatures are those of a message (RFC 8391, 4.1.10).
 ghost use Rattle.std.specs.Prelude.{◌≡◌, ◌↔◌, ◌≤◌, [], length, slice_index_or, IsOk};
-ghost use Rattle.dg_xmss.specs.Signatures.{IsSignature, signature_size, last_index, index_of, root_of};
+ghost use Rattle.dg_xmss.specs.Signatures.{IsSignature, signature_size, last_index, index_of, signature_root};
 ghost use Rattle.dg_xmss.specs.Answers.{Verifies};
 
 use crate::chains::checksum;
@@ -34,7 +34,7 @@ fn index_of(signature: &[u8]) -> u32
 fn root_of(key: &PublicKey, message: &[u8], signature: &[u8], index: u16, nodes: &mut Nodes)
     requires size { length signature.now ≡ signature_size }
     requires index { index ≡ index_of signature.now }
-    ensures { slice_index_or nodes.new 0 [] ≡ root_of key.now message.now signature.now }
+    ensures { slice_index_or nodes.new 0 [] ≡ signature_root key.now message.now signature.now }
 {
     let digest = message_digest(&signature[4..36], &key.root, index, message);
     let prf = Prf::new(&key.seed);

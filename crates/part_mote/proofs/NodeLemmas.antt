@@ -14,10 +14,10 @@ use Rattle.dg_node.specs.declared.node.Node.{Node}
 use Rattle.dg_node.specs.declared.answers.Ticked.{Ticked}
 use Rattle.dg_node.specs.declared.answers.Ticked.TheVariants as ticked
 use Rattle.dg_node.specs.Hosts.{host}
-use Rattle.dg_node.specs.Nodes.{NodeStands, runs_by, IsTimelyNode}
+use Rattle.dg_node.specs.Nodes.{NodeStands, node_runs, IsTimelyNode}
 use Rattle.dg_node.specs.Ends.{NodeDone, EffectDone, tick_end}
 
-left_by : (o : Option MoteState) (r : Option Runs) (w : Option ImageVersion) (c : List ℕ) (u : Node) (s : Store) (now : ℕ) → NodeStands c (Some u) s (runs_by o r w) → IfSome o (λ m. Timely m now) → IsTimelyNode c u now
+left_by : (o : Option MoteState) (r : Option Runs) (w : Option ImageVersion) (c : List ℕ) (u : Node) (s : Store) (now : ℕ) → NodeStands c (Some u) s (node_runs o r w) → IfSome o (λ m. Timely m now) → IsTimelyNode c u now
 left_by None r w c u s now stands timely = absurd stands
 left_by (Some m) (Some r) w c u s now stands timely = (m, s, stands.1, timely)
 left_by (Some m) None (Some w) c u s now stands timely = (m, s, stands.1, timely)

@@ -20,9 +20,10 @@ use Rattle.dg_mote.specs.declared.mote.Mote.{Mote}
 use Rattle.dg_node.specs.Nodes.{node_mote}
 use Rattle.dg_seed.specs.Draws.{generator_of, generator_after}
 use Rattle.dg_serial.specs.Line.{IsOnLine}
-use Rattle.dg_serial.specs.Reading.{Reading, reading_behind}
-use Rattle.dg_serial_base.specs.Deeds.{Base, At, Deed, deeds_of, powered, power_effect, effect_of, DeedsRun, said}
-use Rattle.dg_serial_base.specs.Based.{IsWholeLines}
+use Rattle.dg_serial.specs.Reading.{FrameReading, reading_behind}
+use Rattle.dg_serial_base.specs.BaseEvents.{Base, At, BaseEvent, base_events_of, powered, power_effect, effect_of, BaseEventsRun}
+use Rattle.dg_serial_base.specs.BaseEvents.{line_sent}
+use Rattle.dg_serial_base.specs.Based.{IsPrefixOfInput}
 use Rattle.dg_serial_base.specs.declared.timeline.Timeline.{Timeline}
 use Rattle.dg_serial_base.specs.declared.running.Running.{Running}
 use Rattle.dg_serial_base.specs.declared.stop.Stop.{Stop}
@@ -73,19 +74,19 @@ code_at written mote chip = record { written = written; mote = mote; chip = chip
 -- the same on a line, of which this was read
 pub record LineAt : Type 0 where
   pub code : CodeAt
-  pub reading : Reading
+  pub reading : FrameReading
 
-abbrev pub code_on_line : (written : Option (List ℕ)) → (mote : Running) → (reading : Reading) → (chip : Device) → LineAt
+abbrev pub code_on_line : (written : Option (List ℕ)) → (mote : Running) → (reading : FrameReading) → (chip : Device) → LineAt
 code_on_line written mote reading chip = record { code = code_at written mote chip; reading = reading }
 
--- what a deed leaves: the code's mote over its chip, and the frame that is to be written, if there is one
-pub record DeedLeft : Type 0 where
+-- what a base_event leaves: the code's mote over its chip, and the frame that is to be written, if there is one
+pub record BaseEventLeft : Type 0 where
   pub mote : Running
   pub chip : Device
   pub frame : Option (List ℕ)
 
-abbrev pub deed_left : (mote : Running) → (chip : Device) → (frame : Option (List ℕ)) → DeedLeft
-deed_left mote chip frame = record { mote = mote; chip = chip; frame = frame }
+abbrev pub base_event_left : (mote : Running) → (chip : Device) → (frame : Option (List ℕ)) → BaseEventLeft
+base_event_left mote chip frame = record { mote = mote; chip = chip; frame = frame }
 
 -- ---- one event at the mote
 
@@ -136,7 +137,7 @@ abbrev pub NoneEnds : {T : Type 0} → Result T Stop → (old new : Device) → 
 NoneEnds (Ok x) old new = ⊥
 NoneEnds (Err why) old new = NoneBy why old new
 
--- ---- the mote after its deeds
+-- ---- the mote after its base_events
 
 -- the time and the draws of this many events
 pub record IsTime (t : Timeline) (b : Base) (events : ℕ) : Type 0 where
@@ -144,17 +145,17 @@ pub record IsTime (t : Timeline) (b : Base) (events : ℕ) : Type 0 where
   pub moment : t.moment ≡ b.step * events
   pub draws : generator_of t.draws ≡ generator_after b.seed events
 
--- These deeds were done, and the code's mote over a chip of these bytes is the mote then.
-pub record Stood (b : Base) (s : Store) (done : List Deed) (v : Running) (c : List ℕ) (there : At) : Type 0 where
+-- These base_events were done, and the code's mote over a chip of these bytes is the mote then.
+pub record Stood (b : Base) (s : Store) (done : List BaseEvent) (v : Running) (c : List ℕ) (there : At) : Type 0 where
   pub state : MoteState
-  pub run : DeedsRun b (powered b s) done there
+  pub run : BaseEventsRun b (powered b s) done there
   pub on : there.mote ≡ Some state
   pub mote : IsMote c (node_mote v.node) state there.store
   pub timely : Timely state v.timeline.moment
   pub time : IsTime v.timeline b there.events
 
 abbrev pub IsStood : Running → List ℕ → Type 0
-IsStood v c = (b : Base) × (s : Store) × (done : List Deed) × (there : At) × Stood b s done v c there
+IsStood v c = (b : Base) × (s : Store) × (done : List BaseEvent) × (there : At) × Stood b s done v c there
 
 -- what power-on does
 abbrev pub PowerEnds : Result Running Stop → (b : Base) (s : Store) → Device → Type 0
@@ -166,39 +167,41 @@ abbrev pub one_if : Option (List ℕ) → List (List ℕ)
 one_if None = []
 one_if (Some frame) = frame ∷ []
 
--- One more deed was done, in which this frame was sent, if any.
-pub record DoneOne (b : Base) (s : Store) (done : List Deed) (d : Deed) (before : At) (left : DeedLeft) : Type 0 where
+-- One more base_event was done, in which this frame was sent, if any.
+pub record DoneOne (b : Base) (s : Store) (done : List BaseEvent) (d : BaseEvent) (before : At) (left : BaseEventLeft)
+    : Type 0 where
   pub there : At
   pub stood : Stood b s (done ++ d ∷ []) left.mote left.chip.image there
   pub sent : map frame_of there.sent ≡ map frame_of before.sent ++ one_if left.frame
 
--- A deed found no image to start.
-pub record LacksIn (b : Base) (s : Store) (done : List Deed) (d : Deed) (before : At) (c : List ℕ) : Type 0 where
+-- A base_event found no image to start.
+pub record LacksIn (b : Base) (s : Store) (done : List BaseEvent) (d : BaseEvent) (before : At) (c : List ℕ) : Type 0 where
   pub there : At
-  pub run : DeedsRun b (powered b s) (done ++ d ∷ []) there
+  pub run : BaseEventsRun b (powered b s) (done ++ d ∷ []) there
   pub none : there.mote ≡ None
   pub sent : there.sent ≡ before.sent
   pub stands : Stands c there.store
 
--- The chip stopped in a deed.
-pub record StopsInDeed (b : Base) (d : Deed) (before : At) (new : Device) : Type 0 where
+-- The chip stopped in a base_event.
+pub record StopsInBaseEvent (b : Base) (d : BaseEvent) (before : At) (new : Device) : Type 0 where
   pub state : MoteState
   pub on : before.mote ≡ Some state
   pub stops : StopsOn before.store (effect_of b state before d) new
 
-abbrev pub DeedFails : Stop → (b : Base) (s : Store) (done : List Deed) (d : Deed) (before : At) → Device → Type 0
-DeedFails stop.Flash b s done d before new = StopsInDeed b d before new
-DeedFails stop.NoImage b s done d before new = LacksIn b s done d before new.image
-DeedFails stop.Memory b s done d before new = ⊥
-DeedFails stop.Read b s done d before new = ⊥
-DeedFails stop.Write b s done d before new = ⊥
-DeedFails stop.NotAVolume b s done d before new = ⊥
-DeedFails stop.TooLong b s done d before new = ⊥
+abbrev pub BaseEventFails : Stop → (b : Base) (s : Store) (done : List BaseEvent) (d : BaseEvent) (before : At) → Device → Type 0
+BaseEventFails stop.Flash b s done d before new = StopsInBaseEvent b d before new
+BaseEventFails stop.NoImage b s done d before new = LacksIn b s done d before new.image
+BaseEventFails stop.Memory b s done d before new = ⊥
+BaseEventFails stop.Read b s done d before new = ⊥
+BaseEventFails stop.Write b s done d before new = ⊥
+BaseEventFails stop.NotAVolume b s done d before new = ⊥
+BaseEventFails stop.TooLong b s done d before new = ⊥
 
-abbrev pub DeedEnds : Result (Unit {0}) Stop → (b : Base) (s : Store) (done : List Deed) (d : Deed) (before : At) → DeedLeft
+abbrev pub BaseEventEnds : Result (Unit {0}) Stop → (b : Base) (s : Store) (done : List BaseEvent) (d : BaseEvent) (before : At)
+    → BaseEventLeft
     → Type 0
-DeedEnds (Ok x) b s done d before left = DoneOne b s done d before left
-DeedEnds (Err why) b s done d before left = DeedFails why b s done d before left.chip
+BaseEventEnds (Ok x) b s done d before left = DoneOne b s done d before left
+BaseEventEnds (Err why) b s done d before left = BaseEventFails why b s done d before left.chip
 
 -- ---- writing
 
@@ -244,16 +247,16 @@ ReadCounts (Ok x) old new = new ≡ old
 ReadCounts (Err why) old new = ReadsBy why old new
 
 -- why the mote stops, and what was written by then
-abbrev pub StoppedBy : Stop → (b : Base) (there : At) (rest : List Deed) (first now : Option (List ℕ)) → Device → Type 0
+abbrev pub StoppedBy : Stop → (b : Base) (there : At) (rest : List BaseEvent) (first now : Option (List ℕ)) → Device → Type 0
 StoppedBy stop.Memory b there rest first now new =
-    (text : List ℕ) × Puts first now text × IsWholeLines text (said there) × Stands new.image there.store
+    (text : List ℕ) × Puts first now text × IsPrefixOfInput text (line_sent there) × Stands new.image there.store
 StoppedBy stop.Write b there rest first now new =
-    (text : List ℕ) × Puts first now text × IsWholeLines text (said there) × Stands new.image there.store
+    (text : List ℕ) × Puts first now text × IsPrefixOfInput text (line_sent there) × Stands new.image there.store
 StoppedBy stop.NoImage b there rest first now new =
-    (there.mote ≡ None) × Puts first now (said there) × Stands new.image there.store
+    (there.mote ≡ None) × Puts first now (line_sent there) × Stands new.image there.store
 StoppedBy stop.Flash b there rest first now new =
-    (m : MoteState) × (d : Deed) × (more : List Deed) × (there.mote ≡ Some m) × (rest ≡ d ∷ more)
-    × Puts first now (said there) × StopsOn there.store (effect_of b m there d) new
+    (m : MoteState) × (d : BaseEvent) × (more : List BaseEvent) × (there.mote ≡ Some m) × (rest ≡ d ∷ more)
+    × Puts first now (line_sent there) × StopsOn there.store (effect_of b m there d) new
 StoppedBy stop.Read b there rest first now new = ⊥
 StoppedBy stop.NotAVolume b there rest first now new = ⊥
 StoppedBy stop.TooLong b there rest first now new = ⊥
@@ -262,37 +265,37 @@ StoppedBy stop.TooLong b there rest first now new = ⊥
 abbrev pub AreOnLine : At → Type 0
 AreOnLine there = AllByRecursion IsOnLine (map frame_of there.sent)
 
--- Some of these deeds were done, and then the mote stopped.
-pub record DeedsHalted (why : Stop) (a : Outset) (all : List Deed) (now : Option (List ℕ)) (new : Device) : Type 0 where
-  pub done : List Deed
-  pub rest : List Deed
+-- Some of these base_events were done, and then the mote stopped.
+pub record BaseEventsHalted (why : Stop) (a : Outset) (all : List BaseEvent) (now : Option (List ℕ)) (new : Device) : Type 0 where
+  pub done : List BaseEvent
+  pub rest : List BaseEvent
   pub parts : done ++ rest ≡ all
   pub there : At
-  pub run : DeedsRun a.base (powered a.base a.store) done there
+  pub run : BaseEventsRun a.base (powered a.base a.store) done there
   pub fits : AreOnLine there
   pub by : StoppedBy why a.base there rest a.written now new
 
--- These deeds were done, and what was sent is written.
-pub record CompletedOn (a : Outset) (all : List Deed) (now : CodeAt) : Type 0 where
+-- These base_events were done, and what was sent is written.
+pub record CompletedOn (a : Outset) (all : List BaseEvent) (now : CodeAt) : Type 0 where
   pub there : At
   pub stood : Stood a.base a.store all now.mote now.chip.image there
-  pub put : Puts a.written now.written (said there)
+  pub put : Puts a.written now.written (line_sent there)
   pub fits : AreOnLine there
 
-abbrev pub ContinueEnds : {T : Type 0} → Result T Stop → Outset → (all : List Deed) → CodeAt → Type 0
+abbrev pub ContinueEnds : {T : Type 0} → Result T Stop → Outset → (all : List BaseEvent) → CodeAt → Type 0
 ContinueEnds (Ok x) a all now = CompletedOn a all now
-ContinueEnds (Err why) a all now = DeedsHalted why a all now.written now.chip
+ContinueEnds (Err why) a all now = BaseEventsHalted why a all now.written now.chip
 
 -- ---- the line
 
 -- The bytes of the line were played.
 pub record StreamPlayed (a : Outset) (stream : List ℕ) (now : LineAt) : Type 0 where
   pub line : now.reading ≡ reading_behind stream
-  pub went : CompletedOn a (deeds_of stream) now.code
+  pub went : CompletedOn a (base_events_of stream) now.code
 
 abbrev pub StreamEnds : {T : Type 0} → Result T Stop → Outset → (stream : List ℕ) → LineAt → Type 0
 StreamEnds (Ok x) a stream now = StreamPlayed a stream now
-StreamEnds (Err why) a stream now = DeedsHalted why a (deeds_of stream) now.code.written now.code.chip
+StreamEnds (Err why) a stream now = BaseEventsHalted why a (base_events_of stream) now.code.written now.code.chip
 
 -- ---- the input
 
@@ -312,7 +315,7 @@ pub record PieceHalted (why : Stop) (a : Outset) (stream : List ℕ) (most : ℕ
   pub more : List ℕ
   pub taken : Takes left_old left_now more
   pub few : length more ≤ most
-  pub halted : DeedsHalted why a (deeds_of (stream ++ more)) now.written now.chip
+  pub halted : BaseEventsHalted why a (base_events_of (stream ++ more)) now.written now.chip
 
 abbrev pub PieceFails : Stop → Outset → (stream : List ℕ) (most : ℕ) (left_old left_now : Option (List ℕ)) → LineAt → Type 0
 PieceFails stop.Read a stream most left_old left_now now = Takes left_old left_now [] × StreamPlayed a stream now
@@ -346,7 +349,8 @@ abbrev pub InputBy : Result (Unit {0}) Stop → Outset → (input : List ℕ) (l
 InputBy (Ok x) a input left now = StreamPlayed a (take most_input input) now × AtEnd left × (length input ≤ most_input)
 InputBy (Err stop.Read) a input left now = StreamPlayed a (take most_input input) now × (length input ≤ most_input)
 InputBy (Err stop.TooLong) a input left now = StreamPlayed a (take most_input input) now × (most_input < length input)
-InputBy (Err why) a input left now = DeedsHalted why a (deeds_of (take most_input input)) now.code.written now.code.chip
+InputBy (Err why) a input left now = BaseEventsHalted why a
+    (base_events_of (take most_input input)) now.code.written now.code.chip
 
 pub record InputEnds (r : Result (Unit {0}) Stop) (a : Outset) (left_old left_now : Option (List ℕ)) (now : LineAt) : Type 0 where
   pub input : List ℕ

@@ -6,7 +6,7 @@ use Rattle.dg_nor.specs.Trail.{MayLeave}
 use Rattle.dg_volume.specs.Store.{IsNear}
 use Rattle.dg_volume.specs.Stands.{Stands}
 use Rattle.dg_rules.specs.World.{World as RuleWorld, store_at}
-use Rattle.dg_rules.specs.Events.{Deed, Does, Refuses, Goes}
+use Rattle.dg_rules.specs.Events.{EventEffect, Does, Refuses, Goes}
 use Rattle.dg_rules.specs.Steps.{blows, before_cut}
 use Rattle.dg_base.specs.declared.events.Cut.{Cut as PowerCut}
 use Rattle.dg_world.specs.Cuts.{IsStopped, StepFoundNoImage}
@@ -29,19 +29,19 @@ ended blown (Err NoImage) = Err NoImage
 -- the whole event was done, and no cut fired
 pub record EventIsWhole (w : RuleWorld) (m : ℕ) (does : Does) (cut : Option PowerCut) (u : Option Node)
     (image : List ℕ) (outcome : EventOutcome) : Type 0 where
-  pub deed : Deed
-  pub goes : does ≡ Goes deed
-  pub whole : blows cut deed.trail ≡ false
-  pub tells : ReportsEffect w m deed outcome u image
+  pub effect : EventEffect
+  pub goes : does ≡ Goes effect
+  pub whole : blows cut effect.trail ≡ false
+  pub tells : ReportsEffect w m effect outcome u image
 
 -- the cut fired in the operation with its number
 pub record EventIsCut (w : RuleWorld) (m : ℕ) (does : Does) (cut : Option PowerCut) (image : List ℕ)
     (before : Option ChipReport) : Type 0 where
-  pub deed : Deed
-  pub goes : does ≡ Goes deed
-  pub blown : blows cut deed.trail ≡ true
-  pub leaves : MayLeave Stands IsNear deed.trail (before_cut cut) image
-  pub is_report : BeforeReports before deed.trail (store_at w m)
+  pub effect : EventEffect
+  pub goes : does ≡ Goes effect
+  pub blown : blows cut effect.trail ≡ true
+  pub leaves : MayLeave Stands IsNear effect.trail (before_cut cut) image
+  pub is_report : BeforeReports before effect.trail (store_at w m)
 
 -- What an event whose power may have been cut answers. The host was a and is b.
 abbrev pub PlayEnds : Result EventEnded Halt → RuleWorld → (m : ℕ) → Does → Option PowerCut → (a b : Host) → Type 0

@@ -15,7 +15,7 @@ use Rattle.dg_mote.specs.declared.mote.Heard.{Heard}
 use Rattle.dg_mote.specs.declared.mote.Heard.TheVariants.{Other, Asks, Sealed}
 use Rattle.dg_rules.specs.World.{World as RuleWorld, Running, store_at}
 use Rattle.dg_rules.specs.Changes.{sent_line}
-use Rattle.dg_rules.specs.Events.{Deed, Does, Refuses, Goes, trail_of}
+use Rattle.dg_rules.specs.Events.{EventEffect, Does, Refuses, Goes, trail_of}
 use Rattle.dg_rules.specs.Steps.{done_reports}
 use Rattle.dg_script.specs.declared.report.Report.{Report}
 use Rattle.dg_script.specs.declared.report.Report.TheVariants.{Start, Refused as RefusedLine}
@@ -52,9 +52,9 @@ outcome_lines m (Sends bytes) = frame_lines m (message_of bytes true)
 outcome_lines m (Changes old new) = change_lines m old new
 outcome_lines m (Starts x) = Start m x.image_version.image x.image_version.version x.length x.crc ∷ []
 
--- The outcome matches the deed: the mote, the report and what is sent are those of the rules, the chip stands for the last
+-- The outcome matches the effect: the mote, the report and what is sent are those of the rules, the chip stands for the last
 -- store, and what was started is in program memory.
-pub record ReportsEffect (w : RuleWorld) (m : ℕ) (d : Deed) (outcome : EventOutcome) (u : Option Node)
+pub record ReportsEffect (w : RuleWorld) (m : ℕ) (d : EventEffect) (outcome : EventOutcome) (u : Option Node)
     (image : List ℕ) : Type 0 where
   pub runs : Option Running
   pub runs_then : d.runs ≡ Some runs
@@ -67,10 +67,10 @@ pub record ReportsEffect (w : RuleWorld) (m : ℕ) (d : Deed) (outcome : EventOu
 -- an event that is not refused was done
 pub record EventDone (w : RuleWorld) (m : ℕ) (does : Does) (u : Option Node) (old new : Device)
     (outcome : EventOutcome) : Type 0 where
-  pub deed : Deed
-  pub goes : does ≡ Goes deed
-  pub ran : Ran (operations deed.trail) old new
-  pub tells : ReportsEffect w m deed outcome u new.image
+  pub effect : EventEffect
+  pub goes : does ≡ Goes effect
+  pub ran : Ran (operations effect.trail) old new
+  pub tells : ReportsEffect w m effect outcome u new.image
 
 -- neither the order nor what is kept has changed
 pub record SameReport (s t : Store) : Type 0 where
@@ -95,11 +95,11 @@ pub record EventStopped (does : Does) (s : Store) (old new : Device) (before : O
 
 -- a start found no image
 pub record EventFoundNoImage (does : Does) (old new : Device) : Type 0 where
-  pub deed : Deed
-  pub goes : does ≡ Goes deed
-  pub none : deed.runs ≡ None
-  pub ran : Ran (operations deed.trail) old new
-  pub stands : Stands new.image (last deed.trail)
+  pub effect : EventEffect
+  pub goes : does ≡ Goes effect
+  pub none : effect.runs ≡ None
+  pub ran : Ran (operations effect.trail) old new
+  pub stands : Stands new.image (last effect.trail)
 
 -- What an event that does this at mote m answers, from a board that stood for the mote's store: the host was a and is b.
 abbrev pub OutcomeEnds : Result EventOutcome Halt → RuleWorld → (m : ℕ) → Does → (a b : Host) → Type 0

@@ -1,9 +1,9 @@
 use Rattle.std.proofs.Common.{◌≡◌, [], refl}
-use Rattle.dg_serial.specs.Line.{items, split_of}
+use Rattle.dg_serial.specs.Line.{items, flag_split}
 use Rattle.deluge_c.proofs.lines.deluge_unstuff.Goals as goal
 
 none_items : items [] ≡ []
-unfolding items split_of
+unfolding items flag_split
 none_items = refl
 
 pub loop-byte-init : goal.loop-byte-init

@@ -6,7 +6,7 @@ use Rattle.dg_slot.specs.Kept.{Held}
 use Rattle.dg_slot.specs.declared.states.OpenSlot.{OpenSlot}
 use Rattle.dg_slot.proofs.JobLemmas.{packets_make}
 use Rattle.dg_chain.specs.Answers.{chained_trail, SealsChained}
-use Rattle.dg_chain.specs.Receiving.{receive_page_trail, Receives}
+use Rattle.dg_chain.specs.Receiving.{receive_page_trail, ReceivesDataPage}
 use Rattle.dg_chain.specs.declared.sealing.ChainSealing.{ChainSealing}
 use Rattle.dg_chain.proofs.ReceiveLemmas.{halted_within, erase_halts, filling_stops, sealing_stops, received, if_ok_then, on_err_then}
 use Rattle.dg_chain.proofs.receiving.receive_page.Goals as goal
@@ -44,7 +44,7 @@ returns-clause-received g c =
     let ran = Ran_then c.in_ok-job.ensures.ran c.in_ok-put_all.ensures.ran in
     if_ok_then
     (λ (answer : ChainSealing). (h : Held) (ps : Packets) → IsJob b.image c.put_all.new.self h ps → SealsChained c.args.expected.now j h (page_from ps) b d answer)
-    (λ (answer : ChainSealing). (h : Held) → IsOpen a.image c.args.slot h → Receives c.args.expected.now i h page a d answer)
+    (λ (answer : ChainSealing). (h : Held) → IsOpen a.image c.args.slot h → ReceivesDataPage c.args.expected.now i h page a d answer)
     c.seal_chained.result
     (λ answer sealed h opened.
     received c.args.expected.now i j h page made a b d answer there (packets_make page c.told-page) ran (sealed h (packets_of page) (c.in_ok-put_all.ensures.put h (c.in_ok-job.ensures.begun h opened))))

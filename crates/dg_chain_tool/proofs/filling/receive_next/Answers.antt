@@ -6,7 +6,7 @@ use Rattle.dg_volume.specs.Store.{Store}
 use Rattle.dg_volume.specs.Stands.{is_lent}
 use Rattle.dg_volume.proofs.StoreLemmas.{one_store}
 use Rattle.dg_chain.specs.Answers.{chained_slot}
-use Rattle.dg_chain.specs.Receiving.{Receives}
+use Rattle.dg_chain.specs.Receiving.{ReceivesDataPage}
 use Rattle.dg_chain.specs.declared.sealing.ChainSealing.{ChainSealing}
 use Rattle.dg_chain_tool.specs.inner.Filling.{fits_root, next_trail}
 use Rattle.dg_slot.specs.Fits.{may_seal}
@@ -35,7 +35,7 @@ returns-in-Ok-Sealed-clause-ends g c = λ s mounted.
     let page = c.args.page.now in
     let lends = c.in-Some.ensures.lends in
     let opened = lends.1 _ x.0 h x.1 x.2.next.held_here in
-    let r = subst (λ (y : ChainSealing). Receives c.args.expected.now (outline_of_slot c.in-Some.slot).image h page a b y) here.field-0-is (here.ensures.received h opened) in
+    let r = subst (λ (y : ChainSealing). ReceivesDataPage c.args.expected.now (outline_of_slot c.in-Some.slot).image h page a b y) here.field-0-is (here.ensures.received h opened) in
     let same = ap (λ (y : ChainSealing). (outline_of_slot (chained_slot y)).image) (sym here.field-0-is) ∙ ap (λ (p : Outline). p.image) here.ensures.same ∙ lends.0 in
     let done = sealed_next a b c.args.volume.now c.slot.new.self c.put_back.new.self x.0 i h c.args.expected.now page c.in-Some.slot c.requires.not_golden c.requires.known_image x.2.next.held_here lends.0 c.receive_page.ensures.touches x.1 (c.slot.ensures.mounted a.image x.0 x.1) opened
     here.slot here._next same r (λ t k but there opens. c.put_back.ensures.mounted b.image t k but there opens) in
@@ -61,7 +61,7 @@ returns-in-Ok-Foreign-clause-ends g c = λ s mounted.
     let page = c.args.page.now in
     let lends = c.in-Some.ensures.lends in
     let opened = lends.1 _ x.0 h x.1 x.2.next.held_here in
-    let r = subst (λ (y : ChainSealing). Receives c.args.expected.now (outline_of_slot c.in-Some.slot).image h page a b y) here.field-0-is (here.ensures.received h opened) in
+    let r = subst (λ (y : ChainSealing). ReceivesDataPage c.args.expected.now (outline_of_slot c.in-Some.slot).image h page a b y) here.field-0-is (here.ensures.received h opened) in
     let same = ap (λ (y : ChainSealing). (outline_of_slot (chained_slot y)).image) (sym here.field-0-is) ∙ ap (λ (p : Outline). p.image) here.ensures.same ∙ lends.0 in
     let back = c.put_back-in-Ok-Foreign in
     let done = foreign_next a b c.args.volume.now c.slot.new.self back.new.self x.0 i h c.args.expected.now page c.in-Some.slot c.requires.not_golden c.requires.known_image x.2.next.held_here lends.0 c.receive_page.ensures.touches x.1 (c.slot.ensures.mounted a.image x.0 x.1) opened
@@ -79,7 +79,7 @@ returns-in-Ok-Bad-clause-ends g c = λ s mounted.
     let page = c.args.page.now in
     let lends = c.in-Some.ensures.lends in
     let opened = lends.1 _ x.0 h x.1 x.2.next.held_here in
-    let r = subst (λ (y : ChainSealing). Receives c.args.expected.now (outline_of_slot c.in-Some.slot).image h page a b y) here.field-0-is (here.ensures.received h opened) in
+    let r = subst (λ (y : ChainSealing). ReceivesDataPage c.args.expected.now (outline_of_slot c.in-Some.slot).image h page a b y) here.field-0-is (here.ensures.received h opened) in
     let halted = subst (λ (n : ℕ). may_seal n h page ≡ true) (sym lends.0) x.2.next.fits in
     absurd (bad_next a b c.args.volume.now c.slot.new.self c.slot.new.self x.0 c.args.image h c.args.expected.now page c.in-Some.slot c.requires.not_golden c.requires.known_image x.2.next.held_here lends.0 c.receive_page.ensures.touches x.1 (c.slot.ensures.mounted a.image x.0 x.1) opened here.slot here._kept here._found halted r)
 

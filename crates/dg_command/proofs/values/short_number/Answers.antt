@@ -2,12 +2,12 @@ use Rattle.std.proofs.Common.{◌∙◌}
 use Rattle.std.specs.Str.Parse.{ExplainsUnsignedError, HasUnsignedDigitsIfOk, ParsesUnsigned}
 use Rattle.clap.proofs.WalkLemmas.{one_text-rows}
 use Rattle.clap.specs.Words.{found_of, one_of, rows_of}
-use Rattle.dg_command.specs.Values.{number_at}
+use Rattle.dg_command.specs.Values.{number_under}
 use Rattle.dg_command.proofs.ReadLemmas.{number_from}
 use Rattle.dg_command.proofs.values.short_number.Goals as goal
 
 pub returns : goal.returns
-unfolding number_at
+unfolding number_under
 returns c =
     let f = found_of c.args.matches.now in
     let name = c.args.name.now in

@@ -1,12 +1,12 @@
 use Rattle.std.proofs.Common.{◌≡◌, sym, subst, ◌∙◌, ap}
 use Rattle.dg_drip.specs.Entries.{IsAtMost}
 use Rattle.dg_drip.specs.Network.{Network, start, run, entry_at}
-use Rattle.dg_drip_script.specs.Scripts.{events_of, network_of}
+use Rattle.dg_drip_script.specs.Scripts.{drip_events_of, network_of}
 use Rattle.dg_drip_run.proofs.ScriptLemmas.{run_then}
 use Rattle.dg_drip_run.proofs.laws.values_spread.Goals as goal
 
 pub returns-clause-greatest : goal.returns-clause-greatest
-returns-clause-greatest c = λ s node key. c.the_greatest_is_kept.ensures.greatest s.links (events_of s.items) node key
+returns-clause-greatest c = λ s node key. c.the_greatest_is_kept.ensures.greatest s.links (drip_events_of s.items) node key
 
 pub returns-clause-rises : goal.returns-clause-rises
 returns-clause-rises c = λ s front back node key parts.
@@ -15,7 +15,7 @@ returns-clause-rises c = λ s front back node key parts.
     subst (λ (v : Network). IsAtMost (entry_at w node key) (entry_at v node key)) (sym whole) (c.the_greatest_is_kept.ensures.never_falls w back node key)
 
 pub returns-clause-made : goal.returns-clause-made
-returns-clause-made c = λ s node key. c.the_greatest_is_kept.ensures.made s.links (events_of s.items) node key
+returns-clause-made c = λ s node key. c.the_greatest_is_kept.ensures.made s.links (drip_events_of s.items) node key
 
 pub returns-clause-rounds : goal.returns-clause-rounds
 returns-clause-rounds c = λ s front back a b key below parts. c.a_round_raises.ensures s.links front a b key below

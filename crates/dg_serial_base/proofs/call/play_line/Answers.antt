@@ -1,5 +1,5 @@
 use Rattle.std.proofs.Common.{refl, inl}
-use Rattle.dg_serial_base.specs.Deeds.{Base}
+use Rattle.dg_serial_base.specs.BaseEvents.{Base}
 use Rattle.dg_serial_base.specs.inner.Standing.{Outset}
 use Rattle.dg_serial_base.proofs.FirstLemmas.{first_played, line_goes}
 use Rattle.dg_serial_base.proofs.ResultLemmas.{counts_after}

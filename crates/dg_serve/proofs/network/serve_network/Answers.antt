@@ -1,6 +1,6 @@
 use Rattle.std.proofs.Common.{map, sym, ◌∙◌}
 use Rattle.std.proofs.lemmas.List.{length-map}
-use Rattle.dg_serve.specs.Served.{Outside, outside}
+use Rattle.dg_serve.specs.Served.{ServiceOutside, service_outside}
 use Rattle.dg_serve.proofs.NetworkLemmas.{served_by, none_served, network_rises, network_linked, network_calm}
 use Rattle.dg_serve.proofs.network.serve_network.Goals as goal
 
@@ -20,7 +20,7 @@ returns-in-Ok-clause-sends g c = (network_rises _ _ _ _ _ (returns-in-Ok-clause-
 
 pub returns-in-Err-clause-served : goal.returns-in-Err-clause-served
 returns-in-Err-clause-served g c =
-    let before : Outside = outside (g.K.Sink.written c.args.out.now) (g.K.Sink.faults c.args.out.now) (g.C.Clock.told c.args.clock.now) (g.L.Link.inboxes c.args.link.now) (g.L.Link.faults c.args.link.now) (g.L.Link.first_port c.args.link.now) (map g.N.Nor.device c.args.boards.now.items) in
+    let before : ServiceOutside = service_outside (g.K.Sink.written c.args.out.now) (g.K.Sink.faults c.args.out.now) (g.C.Clock.told c.args.clock.now) (g.L.Link.inboxes c.args.link.now) (g.L.Link.faults c.args.link.now) (g.L.Link.first_port c.args.link.now) (map g.N.Nor.device c.args.boards.now.items) in
     none_served c.in-Err.why c.tell_none.result c.args.seed c.args.turns _ _ _ _ before _ _ c.in-Err.ensures.read c.tell_none.ensures
 
 pub returns-in-Err-clause-link_fault : goal.returns-in-Err-clause-link_fault

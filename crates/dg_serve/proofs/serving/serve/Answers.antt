@@ -1,7 +1,7 @@
 use Rattle.std.proofs.Common.{map, length, sym, ap, subst, ◌∙◌, arith}
 use Rattle.std.specs.Prelude.{Ok, Err}
 use Rattle.std.proofs.lemmas.List.{length-map, with_items_is}
-use Rattle.dg_serve.specs.Served.{Outside, Served, outside}
+use Rattle.dg_serve.specs.Served.{ServiceOutside, Served, service_outside}
 use Rattle.dg_serve.specs.Ran.{RanTo}
 use Rattle.dg_base.specs.declared.answers.Status.TheVariants as status
 use Rattle.dg_serve.proofs.ServeLemmas.{served_done, served_stop, count_of, too_few_told}
@@ -15,7 +15,7 @@ returns-then-len-from-clause-served g c = λ enough. absurd (omega (arith, enoug
 
 pub returns-then-len-from-clause-too_few : goal.returns-then-len-from-clause-too_few
 returns-then-len-from-clause-too_few g c = λ few.
-    let before : Outside = outside (g.K.Sink.written c.args.out.now) (g.K.Sink.faults c.args.out.now) (g.C.Clock.told c.args.clock.now) (g.L.Link.inboxes c.args.link.now) (g.L.Link.faults c.args.link.now) (g.L.Link.first_port c.args.link.now) (map g.N.Nor.device c.args.boards.now.items) in
+    let before : ServiceOutside = service_outside (g.K.Sink.written c.args.out.now) (g.K.Sink.faults c.args.out.now) (g.C.Clock.told c.args.clock.now) (g.L.Link.inboxes c.args.link.now) (g.L.Link.faults c.args.link.now) (g.L.Link.first_port c.args.link.now) (map g.N.Nor.device c.args.boards.now.items) in
     too_few_told c.tell_too_few.result c.args.profile.now before (g.K.Sink.written c.tell_too_few.new.out) (g.K.Sink.faults c.tell_too_few.new.out) c.len-then-len-from.result (let n = length-map c.args.boards.now.items g.N.Nor.device in omega (arith, n, c.args.boards.now.ok.0)) c.tell_too_few.ensures
 
 pub serve_boards-requires-clause-allowed : goal.serve_boards-requires-clause-allowed
@@ -29,8 +29,8 @@ serve_boards-requires-clause-boards g c = let n = ap length c.as_mut_slice.ensur
 
 pub returns-in-Ok-clause-served : goal.returns-in-Ok-clause-served
 returns-in-Ok-clause-served g c = λ enough.
-    let before : Outside = outside (g.K.Sink.written c.args.out.now) (g.K.Sink.faults c.args.out.now) (g.C.Clock.told c.args.clock.now) (g.L.Link.inboxes c.args.link.now) (g.L.Link.faults c.args.link.now) (g.L.Link.first_port c.args.link.now) (map g.N.Nor.device c.args.boards.now.items) in
-    let mid : Outside = outside (g.K.Sink.written c.serve_boards.new.out) (g.K.Sink.faults c.serve_boards.new.out) (g.C.Clock.told c.serve_boards.new.clock) (g.L.Link.inboxes c.serve_boards.new.link) (g.L.Link.faults c.serve_boards.new.link) (g.L.Link.first_port c.serve_boards.new.link) (map g.N.Nor.device c.serve_boards.new.boards) in
+    let before : ServiceOutside = service_outside (g.K.Sink.written c.args.out.now) (g.K.Sink.faults c.args.out.now) (g.C.Clock.told c.args.clock.now) (g.L.Link.inboxes c.args.link.now) (g.L.Link.faults c.args.link.now) (g.L.Link.first_port c.args.link.now) (map g.N.Nor.device c.args.boards.now.items) in
+    let mid : ServiceOutside = service_outside (g.K.Sink.written c.serve_boards.new.out) (g.K.Sink.faults c.serve_boards.new.out) (g.C.Clock.told c.serve_boards.new.clock) (g.L.Link.inboxes c.serve_boards.new.link) (g.L.Link.faults c.serve_boards.new.link) (g.L.Link.first_port c.serve_boards.new.link) (map g.N.Nor.device c.serve_boards.new.boards) in
     let ran = subst (λ bs. RanTo (Ok tt) c.args.profile.now c.args.seed c.args.turns (record before { boards = map g.N.Nor.device bs }) mid) c.as_mut_slice.ensures.value c.in-Ok.ensures.ran in
     let back = with_items_is c.args.boards.now c.serve_boards.new.boards (sym (length-map c.serve_boards.new.boards g.N.Nor.device) ∙ count_of (Ok tt) c.args.profile.now c.args.seed c.args.turns before mid ran ∙ length-map c.args.boards.now.items g.N.Nor.device ∙ sym c.args.boards.now.ok.0) in
     subst (λ bs. Served status.Done c.args.profile.now c.args.seed c.args.turns before (record mid { boards = map g.N.Nor.device bs })) (sym back) (served_done c.args.profile.now c.args.seed c.args.turns before mid ran)
@@ -40,8 +40,8 @@ returns-in-Ok-clause-too_few g c = λ few. absurd (omega (arith, few))
 
 pub returns-in-Err-clause-served : goal.returns-in-Err-clause-served
 returns-in-Err-clause-served g c = λ enough.
-    let before : Outside = outside (g.K.Sink.written c.args.out.now) (g.K.Sink.faults c.args.out.now) (g.C.Clock.told c.args.clock.now) (g.L.Link.inboxes c.args.link.now) (g.L.Link.faults c.args.link.now) (g.L.Link.first_port c.args.link.now) (map g.N.Nor.device c.args.boards.now.items) in
-    let mid : Outside = outside (g.K.Sink.written c.serve_boards.new.out) (g.K.Sink.faults c.serve_boards.new.out) (g.C.Clock.told c.serve_boards.new.clock) (g.L.Link.inboxes c.serve_boards.new.link) (g.L.Link.faults c.serve_boards.new.link) (g.L.Link.first_port c.serve_boards.new.link) (map g.N.Nor.device c.serve_boards.new.boards) in
+    let before : ServiceOutside = service_outside (g.K.Sink.written c.args.out.now) (g.K.Sink.faults c.args.out.now) (g.C.Clock.told c.args.clock.now) (g.L.Link.inboxes c.args.link.now) (g.L.Link.faults c.args.link.now) (g.L.Link.first_port c.args.link.now) (map g.N.Nor.device c.args.boards.now.items) in
+    let mid : ServiceOutside = service_outside (g.K.Sink.written c.serve_boards.new.out) (g.K.Sink.faults c.serve_boards.new.out) (g.C.Clock.told c.serve_boards.new.clock) (g.L.Link.inboxes c.serve_boards.new.link) (g.L.Link.faults c.serve_boards.new.link) (g.L.Link.first_port c.serve_boards.new.link) (map g.N.Nor.device c.serve_boards.new.boards) in
     let ran = subst (λ bs. RanTo (Err c.in-Err.stop) c.args.profile.now c.args.seed c.args.turns (record before { boards = map g.N.Nor.device bs }) mid) c.as_mut_slice.ensures.value c.in-Err.ensures.ran in
     let back = with_items_is c.args.boards.now c.serve_boards.new.boards (sym (length-map c.serve_boards.new.boards g.N.Nor.device) ∙ count_of (Err c.in-Err.stop) c.args.profile.now c.args.seed c.args.turns before mid ran ∙ length-map c.args.boards.now.items g.N.Nor.device ∙ sym c.args.boards.now.ok.0) in
     let v = g.K.Sink.written c.tell_stop.new.out in

@@ -1,4 +1,4 @@
-use Rattle.dg_serve.specs.Served.{Outside, outside}
+use Rattle.dg_serve.specs.Served.{ServiceOutside, service_outside}
 use Rattle.dg_single.proofs.NetworkOver.{served_by, none_served}
 use Rattle.dg_single.proofs.network.serve_mote_of_network.Goals as goal
 
@@ -8,7 +8,7 @@ returns-in-Ok-clause-served g c = λ boards owns.
 
 pub returns-in-Err-clause-served : goal.returns-in-Err-clause-served
 returns-in-Err-clause-served g c = λ boards owns.
-    let before : Outside = outside (g.K.Sink.written c.args.out.now) (g.K.Sink.faults c.args.out.now) (g.C.Clock.told c.args.clock.now) (g.L.Link.inboxes c.args.link.now) (g.L.Link.faults c.args.link.now) (g.L.Link.first_port c.args.link.now) boards in
+    let before : ServiceOutside = service_outside (g.K.Sink.written c.args.out.now) (g.K.Sink.faults c.args.out.now) (g.C.Clock.told c.args.clock.now) (g.L.Link.inboxes c.args.link.now) (g.L.Link.faults c.args.link.now) (g.L.Link.first_port c.args.link.now) boards in
     none_served c.in-Err.why c.args.mote c.tell_none.result c.args.seed c.args.turns _ _ _ _ before (g.N.Nor.device c.args.board.now) _ _ owns.is c.in-Err.ensures.read c.tell_none.ensures
 
 pub returns-in-Ok-clause-buffers : goal.returns-in-Ok-clause-buffers

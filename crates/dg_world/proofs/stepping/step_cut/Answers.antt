@@ -91,7 +91,7 @@ returns-in_ok-orderly-in-Cut g c =
           order_again event o.known _ t.refused _ b _ c.a_volume_bounds_a_remount.ensures.some known (c.requires.may.known known) c.play_cut.ensures.reads c.look_after_cut.ensures.took;
       inject_reads = λ known w on.
           let p = played_as _ (ended_as c.play_cut.result t) x.cut (Some c.args.cut.now) w m (does w event) _ _ a b (sym (ap (λ r. ended_as r t) was)) refl (c.play_cut.ensures.played w on) in
-          record { took = λ inject n why refuses remount. refuses_goes _ (does w event) why p.ends.deed p.ends.goes refuses };
+          record { took = λ inject n why refuses remount. refuses_goes _ (does w event) why p.ends.effect p.ends.goes refuses };
       unseen = λ w on unseen. not_cut c.play_cut.result was (c.play_cut.ensures.unseen w on unseen).1;
     }
 

@@ -1,5 +1,5 @@
 use Rattle.std.proofs.Common.{◌≡◌, ◌<◌, length, arith}
-use Rattle.dg_xmss.specs.Wots.{checksum_of, digits_of_bytes}
+use Rattle.dg_xmss.specs.Wots.{wots_checksum, digits_of_bytes}
 use Rattle.dg_xmss.proofs.DigitLemmas.{lacking_more, lacking_all}
 use Rattle.dg_xmss.proofs.chains.checksum.Goals as goal
 
@@ -7,7 +7,7 @@ pub loop-byte-preserved : goal.loop-byte-preserved
 loop-byte-preserved c =
     let within : c.loop-byte.byte-index < length c.args.digest.now = omega arith in
     record {
-      value = lacking_more c.args.digest.now c.loop-byte.byte-index c.loop-byte.sum c.lacking-sum.result (checksum_of (digits_of_bytes c.args.digest.now)) within c.lacking-sum.ensures.value c.loop-byte.invariant.value;
+      value = lacking_more c.args.digest.now c.loop-byte.byte-index c.loop-byte.sum c.lacking-sum.result (wots_checksum (digits_of_bytes c.args.digest.now)) within c.lacking-sum.ensures.value c.loop-byte.invariant.value;
       most = omega arith;
     }
 

@@ -1,5 +1,5 @@
 use Rattle.std.proofs.Common.{◌≡◌, ◌-◌, ◌+◌, ◌/◌, length, ap, ◌∙◌, subst, arith}
-use Rattle.dg_xmss.specs.Joining.{Waits, leaf_key, nodes_of}
+use Rattle.dg_xmss.specs.Joining.{AreWaiting, leaf_key, nodes_of}
 use Rattle.dg_xmss.proofs.WaitLemmas.{first_nodes, last_more, root_waits}
 use Rattle.dg_xmss.proofs.trees.close.Goals as goal
 
@@ -14,7 +14,7 @@ loop-height-preserved c =
     let h = c.loop-height.height in
     let n : 6 - h ≡ 7 - (h + 1) = omega arith in
     record {
-      waits = subst (λ z. Waits (nodes_of leaf) z (h + 1) (c.loop-height.index / 2) c.close_at-size.new.nodes c.close_at-size.result) n c.close_at-size.ensures;
+      waits = subst (λ z. AreWaiting (nodes_of leaf) z (h + 1) (c.loop-height.index / 2) c.close_at-size.new.nodes c.close_at-size.result) n c.close_at-size.ensures;
       last = last_more leaf.prf.now.seed.now leaf.index (leaf_key leaf) h c.loop-height.index c.loop-height.invariant.last;
     }
 

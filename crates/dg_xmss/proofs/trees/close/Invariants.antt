@@ -1,10 +1,10 @@
 use Rattle.std.proofs.Common.{◌≡◌, ◌+◌, ◌-◌, length}
-use Rattle.dg_xmss.specs.Joining.{Waits, nodes_of}
+use Rattle.dg_xmss.specs.Joining.{AreWaiting, nodes_of}
 use Rattle.dg_xmss.proofs.trees.close.Given as goal
 
 abbrev pub invariant-loop-height : goal.invariant-loop-height
 invariant-loop-height l =
     record {
-      waits : Waits (nodes_of l.leaf) (7 - l.height) l.height l.index l.nodes l.size;
+      waits : AreWaiting (nodes_of l.leaf) (7 - l.height) l.height l.index l.nodes l.size;
       last : length (nodes_of l.leaf l.height) ≡ l.index + 1;
     }

@@ -3,12 +3,12 @@ use Rattle.dg_xmss.specs.Functions.{to_byte, h_msg}
 use Rattle.dg_xmss.specs.Wots.{wots_key}
 use Rattle.dg_xmss.specs.Trees.{ltree, path_root, root_from_sig}
 use Rattle.dg_xmss.specs.Joining.{leaf_key}
-use Rattle.dg_xmss.specs.Signatures.{root_of, message_digest, ots_of, path_of, randomness_of}
+use Rattle.dg_xmss.specs.Signatures.{signature_root, message_digest, ots_of, path_of, randomness_of}
 use Rattle.dg_xmss.proofs.ByteLemmas.{part_at}
 use Rattle.dg_xmss.proofs.verifying.root_of.Goals as goal
 
 pub returns : goal.returns
-unfolding root_of root_from_sig message_digest leaf_key
+unfolding signature_root root_from_sig message_digest leaf_key
 returns c =
     let key = c.args.key.now in
     let m : List ℕ = c.args.message.now in

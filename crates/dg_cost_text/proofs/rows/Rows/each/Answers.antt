@@ -1,13 +1,13 @@
 use Rattle.std.proofs.Common.{◌≡◌, ◌++◌, ◌∷◌, [], ◌<◌, ◌≤◌, ℕ, List, take, map, min, length, get_or, sym, ap, ◌∙◌, append_assoc, arith, Bor}
 use Rattle.std.proofs.lemmas.List.{length-map, get_or-map, get_or_default}
-use Rattle.dg_cost_text.specs.Table.{table_of, named_rows}
+use Rattle.dg_cost_text.specs.Table.{table_of_rows, named_rows}
 use Rattle.dg_cost_text.proofs.TableLemmas.{named_more, named_all}
 use Rattle.dg_cost_text.proofs.rows.Rows.each.Goals as goal
 
 pub loop-index-preserved : goal.loop-index-preserved
 loop-index-preserved c =
     let i : ℕ = c.loop-index.index in
-    let before : List (List ℕ × ℕ) = table_of c.args.self.now in
+    let before : List (List ℕ × ℕ) = table_of_rows c.args.self.now in
     let names : List (List ℕ) = map (λ (n : Bor (List ℕ)). n.now) c.args.names.now in
     let values : List ℕ = c.args.values.now in
     let none : Bor (List ℕ) = record { ref_ptr = (0, 0); now = [] } in
@@ -31,4 +31,4 @@ returns c =
     let long : length names ≡ length c.args.names.now = length-map c.args.names.now (λ (n : Bor (List ℕ)). n.now) in
     let all : min (length names) (length c.args.values.now) ≤ c.loop-index.index = omega (arith, long, c.min-count.ensures, c.loop-index-test.false) in
     c.loop-index.invariant
-    ∙ ap (λ (rows : List (List ℕ × ℕ)). table_of c.args.self.now ++ rows) (named_all c.args.before.now c.args.after.now names c.args.values.now c.loop-index.index all)
+    ∙ ap (λ (rows : List (List ℕ × ℕ)). table_of_rows c.args.self.now ++ rows) (named_all c.args.before.now c.args.after.now names c.args.values.now c.loop-index.index all)

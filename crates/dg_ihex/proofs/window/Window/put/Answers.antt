@@ -2,7 +2,7 @@ use Rattle.std.proofs.Common.{◌≡◌, ℕ, ◌+◌, ◌%◌, ◌<◌, ◌++�
 use Rattle.std.proofs.lemmas.List.{take_at}
 use Rattle.dg_ihex.specs.Sizes.{longest_image}
 use Rattle.dg_ihex.specs.Blocks.{Block, byte_at}
-use Rattle.dg_ihex.specs.Cells.{Keeps, written}
+use Rattle.dg_ihex.specs.Cells.{Keeps, cells_written}
 use Rattle.dg_ihex.proofs.BlockLemmas.{lowest_of-more, past_of-more}
 use Rattle.dg_ihex.proofs.WindowLemmas.{keeps_block}
 use Rattle.dg_ihex.proofs.window.Window.put.Goals as goal
@@ -16,7 +16,7 @@ returns c blocks h apart close =
     let from = c.args.address + shift in
     let old = c.args.self.now.cells.items in
     let new = c.write.new.cells in
-    let is : new ≡ written old from c.args.bytes.now = c.write.ensures ∙ ap (λ cells. written cells from c.args.bytes.now) c.deref_mut.ensures.value in
+    let is : new ≡ cells_written old from c.args.bytes.now = c.write.ensures ∙ ap (λ cells. cells_written cells from c.args.bytes.now) c.deref_mut.ensures.value in
     let long : length new ≡ c.args.self.now.cells.len = c.write.auto.cells ∙ c.deref_mut.ensures.len in
     let within : (k : ℕ) → k < length c.args.bytes.now → (from + k) % longest_image < length old = λ k within. subst (λ n. (from + k) % longest_image < n) c.args.self.now.cells.ok.0 (c.requires.within k within) in
     let same : take c.args.self.now.cells.len (new ++ drop (length new) old) ≡ new = take_at new (drop (length new) old) c.args.self.now.cells.len long in

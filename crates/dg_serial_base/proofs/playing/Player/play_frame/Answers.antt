@@ -1,5 +1,5 @@
 use Rattle.std.proofs.Common.{◌∷◌, [], ◌++◌, append_assoc}
-use Rattle.dg_serial_base.specs.Deeds.{Hears, Ticks}
+use Rattle.dg_serial_base.specs.BaseEvents.{Hears, Ticks}
 use Rattle.dg_serial_base.proofs.LineLemmas.{goes_along, hear_goes, hear_halts}
 use Rattle.dg_serial_base.proofs.PlayLemmas.{write_calm, read_calm}
 use Rattle.dg_serial_base.proofs.ResultLemmas.{counts_after}

@@ -1,6 +1,6 @@
 use Rattle.std.proofs.Common.{[], true, refl, None}
 use Rattle.dg_mote.specs.Effects.{reset_effect}
-use Rattle.dg_serial_base.specs.Deeds.{Base, powered}
+use Rattle.dg_serial_base.specs.BaseEvents.{Base, powered}
 use Rattle.dg_serial_base.specs.inner.Standing.{PowerEnds, NoneEnds, Counts}
 use Rattle.dg_serial_base.specs.inner.Stops.{stop_of_start}
 use Rattle.dg_serial_base.specs.declared.running.Running.{Running}

@@ -2,11 +2,11 @@ use Rattle.std.proofs.Common.{◌∷◌, [], ◌++◌, refl, subst, None, Ok, Er
 use Rattle.dg_mote.specs.Effects.{tick_effect}
 use Rattle.dg_mote.specs.Motes.{sent_in}
 use Rattle.dg_node.specs.Ends.{tick_end}
-use Rattle.dg_serial_base.specs.Deeds.{Ticks}
-use Rattle.dg_serial_base.specs.inner.Standing.{DeedEnds, deed_left}
+use Rattle.dg_serial_base.specs.BaseEvents.{Ticks}
+use Rattle.dg_serial_base.specs.inner.Standing.{BaseEventEnds, base_event_left}
 use Rattle.dg_serial_base.specs.inner.Stops.{stop_of_tick}
 use Rattle.dg_serial_base.specs.declared.running.Running.{Running}
-use Rattle.dg_serial_base.proofs.DeedLemmas.{timely_next, done_at, ends_stood, frame_longs}
+use Rattle.dg_serial_base.proofs.BaseEventLemmas.{timely_next, done_at, ends_stood, frame_longs}
 use Rattle.dg_serial_base.proofs.ResultLemmas.{handed}
 use Rattle.dg_serial_base.proofs.StartLemmas.{tick_ok, tick_err, frame_said}
 use Rattle.dg_serial_base.proofs.running.Running.tick.Goals as goal
@@ -24,8 +24,8 @@ returns-in_err-tick-clause-ends g c = λ b s done before stood.
     let new = g.N.Nor.device c.tick.new.board in
     let frame = sent_in c.tick.new.out in
     let timely = timely_next c.a_mote_stays_timely.ensures.later stood.state _ _ _ _ stood.timely c.next-timing.ensures.now c.next-timing.ensures.moment in
-    handed (λ r. DeedEnds r b s done Ticks before (deed_left u new frame)) c.from_residual.result (stop_of_tick f) c.from_residual.ensures.1
-    (subst (λ r. DeedEnds r b s done Ticks before (deed_left u new frame)) (tick_err f)
+    handed (λ r. BaseEventEnds r b s done Ticks before (base_event_left u new frame)) c.from_residual.result (stop_of_tick f) c.from_residual.ensures.1
+    (subst (λ r. BaseEventEnds r b s done Ticks before (base_event_left u new frame)) (tick_err f)
     (done_at b s done before c.args.self.now _ stood Ticks (λ now word. tick_effect stood.state before.store now word) t.now t.word (c.next-timing.ensures.drawn b before.events stood.time) refl
     (tick_end (Err f)) u (g.N.Nor.device c.args.nor.now) new frame c.next-timing.ensures.now (c.next-timing.ensures.time b before.events stood.time) stood.mote.mounted.stands (c.in_err-tick.ensures stood.state before.store stood.mote)
     (c.a_node_stays_timely.ensures.ticked stood.state before.store t.now t.word timely)))
@@ -38,7 +38,7 @@ returns-clause-ends g c = λ b s done before stood.
     let new = g.N.Nor.device c.tick.new.board in
     let frame = sent_in c.tick.new.out in
     let timely = timely_next c.a_mote_stays_timely.ensures.later stood.state _ _ _ _ stood.timely c.next-timing.ensures.now c.next-timing.ensures.moment in
-    subst (λ r. DeedEnds r b s done Ticks before (deed_left u new frame)) (tick_ok x)
+    subst (λ r. BaseEventEnds r b s done Ticks before (base_event_left u new frame)) (tick_ok x)
     (done_at b s done before c.args.self.now _ stood Ticks (λ now word. tick_effect stood.state before.store now word) t.now t.word (c.next-timing.ensures.drawn b before.events stood.time) refl
     (tick_end (Ok x)) u (g.N.Nor.device c.args.nor.now) new frame c.next-timing.ensures.now (c.next-timing.ensures.time b before.events stood.time) stood.mote.mounted.stands (c.in_ok-tick.ensures stood.state before.store stood.mote)
     (c.a_node_stays_timely.ensures.ticked stood.state before.store t.now t.word timely))
@@ -55,7 +55,7 @@ returns-clause-stood g c =
     let frame = sent_in c.tick.new.out in
     let timely = timely_next c.a_mote_stays_timely.ensures.later stood.state _ _ _ _ stood.timely c.next-timing.ensures.now c.next-timing.ensures.moment in
     ends_stood (Ok tt) r.0 r.1 r.2 Ticks before u new frame
-    (subst (λ q. DeedEnds q r.0 r.1 r.2 Ticks before (deed_left u new frame)) (tick_ok x)
+    (subst (λ q. BaseEventEnds q r.0 r.1 r.2 Ticks before (base_event_left u new frame)) (tick_ok x)
     (done_at r.0 r.1 r.2 before c.args.self.now _ stood Ticks (λ now word. tick_effect stood.state before.store now word) t.now t.word (c.next-timing.ensures.drawn r.0 before.events stood.time) refl
     (tick_end (Ok x)) u (g.N.Nor.device c.args.nor.now) new frame c.next-timing.ensures.now (c.next-timing.ensures.time r.0 before.events stood.time) stood.mote.mounted.stands (c.in_ok-tick.ensures stood.state before.store stood.mote)
     (c.a_node_stays_timely.ensures.ticked stood.state before.store t.now t.word timely)))

@@ -1,4 +1,4 @@
--- A base mote does one more deed, or stops in it.
+-- A base mote does one more base_event, or stops in it.
 use Rattle.std.proofs.Common.{◌≡◌, ℕ, suc, ◌+◌, ◌≤◌, List, [], ◌∷◌, ◌++◌, length, refl, ap, sym, ◌∙◌, subst, append_assoc, append-nil, length-append, arith}
 use Rattle.std.specs.Prelude.{Option, Some, None, option_map, map, Result, Ok, Err, OnOk, IfSome}
 use Rattle.std.proofs.lemmas.Result.{IfOk-at_ok}
@@ -23,10 +23,10 @@ use Rattle.dg_mote.specs.Motes.{Done, IsMote}
 use Rattle.dg_mote.specs.Timely.{Timely}
 use Rattle.dg_mote.specs.declared.mote.Heard.{Heard}
 use Rattle.dg_mote.specs.declared.mote.Mote.{Mote}
-use Rattle.dg_serial.specs.Line.{line_of, IsOnLine}
-use Rattle.dg_serial_base.specs.Based.{IsWholeLines}
-use Rattle.dg_serial_base.specs.Deeds.{Base, At, Deed, Hears, Ticks, powered, moment_at, draw_at, effect_of, after_deed, sent_too, said}
-use Rattle.dg_serial_base.specs.inner.Standing.{Outset, code_at, DeedLeft, deed_left, IsLeft, LeavesNone, StopsOn, FailedBy, EffectEnds, IsTime, Stood, IsStood, one_if, DoneOne, LacksIn, StopsInDeed, DeedFails, DeedEnds, SendFails, StoppedBy, AreOnLine, DeedsHalted, CompletedOn}
+use Rattle.dg_serial.specs.Line.{stuffed_line, IsOnLine}
+use Rattle.dg_serial_base.specs.Based.{IsPrefixOfInput}
+use Rattle.dg_serial_base.specs.BaseEvents.{Base, At, BaseEvent, Hears, Ticks, powered, moment_at, draw_at, effect_of, after_base_event, sent_too, line_sent}
+use Rattle.dg_serial_base.specs.inner.Standing.{Outset, code_at, BaseEventLeft, base_event_left, IsLeft, LeavesNone, StopsOn, FailedBy, EffectEnds, IsTime, Stood, IsStood, one_if, DoneOne, LacksIn, StopsInBaseEvent, BaseEventFails, BaseEventEnds, SendFails, StoppedBy, AreOnLine, BaseEventsHalted, CompletedOn}
 use Rattle.dg_serial_base.specs.declared.running.Running.{Running}
 use Rattle.dg_serial_base.specs.declared.stop.Stop.{Stop}
 use Rattle.dg_serial_base.specs.declared.stop.Stop.TheVariants as stop
@@ -38,17 +38,17 @@ use Rattle.dg_node.specs.Ends.{NodeEnd, NodeDone}
 use Rattle.dg_serial_base.specs.inner.Stops.{result_of}
 use Rattle.dg_serial_base.proofs.WriteLemmas.{puts_then, puts_front_then}
 
--- ---- one deed
+-- ---- one base_event
 
-module _ (b : Base) (s : Store) (done : List Deed) (d : Deed) (before : At) (v : Running) (c : List ℕ) (stood : Stood b s done v c before) where
+module _ (b : Base) (s : Store) (done : List BaseEvent) (d : BaseEvent) (before : At) (v : Running) (c : List ℕ) (stood : Stood b s done v c before) where
   abbrev e : Effect
   e = effect_of b stood.state before d
 
   pub one_done : (u : Running) (new : Device) (frame : Option (List ℕ)) → IsTime u.timeline b (suc before.events) → frame ≡ option_map frame_of e.sent → IsLeft e new.image (node_mote u.node) u.timeline.moment
-      → DoneOne b s done d before (deed_left u new frame)
+      → DoneOne b s done d before (base_event_left u new frame)
   one_done u new frame time sent left =
       record {
-        there = after_deed b stood.state before d;
+        there = after_base_event b stood.state before d;
         stood = record {
           state = left.state;
           run = run_goes b done (powered b s) before d stood.state stood.run stood.on;
@@ -63,14 +63,14 @@ module _ (b : Base) (s : Store) (done : List Deed) (d : Deed) (before : At) (v :
   lacks : (new : Device) → LeavesNone e new.image → LacksIn b s done d before new.image
   lacks new l =
       record {
-        there = after_deed b stood.state before d;
+        there = after_base_event b stood.state before d;
         run = run_goes b done (powered b s) before d stood.state stood.run stood.on;
         none = l.none;
         sent = ap (sent_too before.sent) l.silent;
         stands = l.stands;
       }
 
-  fails : (why : Stop) (new : Device) → FailedBy why before.store e new → DeedFails why b s done d before new
+  fails : (why : Stop) (new : Device) → FailedBy why before.store e new → BaseEventFails why b s done d before new
   fails stop.Flash new x = record { state = stood.state; on = stood.on; stops = x }
   fails stop.NoImage new x = lacks new x
   fails stop.Memory new x = x
@@ -79,36 +79,36 @@ module _ (b : Base) (s : Store) (done : List Deed) (d : Deed) (before : At) (v :
   fails stop.NotAVolume new x = x
   fails stop.TooLong new x = x
 
-  pub deed_ends : (r : Result (Unit {0}) Stop) (u : Running) (new : Device) (frame : Option (List ℕ)) → IsTime u.timeline b (suc before.events)
-      → ((x : Unit {0}) → r ≡ Ok x → frame ≡ option_map frame_of e.sent) → EffectEnds r before.store e u.timeline.moment new (node_mote u.node) → DeedEnds r b s done d before (deed_left u new frame)
-  deed_ends (Ok x) u new frame time sent ends = one_done u new frame time (sent x refl) ends
-  deed_ends (Err why) u new frame time sent ends = fails why new ends
+  pub base_event_ends : (r : Result (Unit {0}) Stop) (u : Running) (new : Device) (frame : Option (List ℕ)) → IsTime u.timeline b (suc before.events)
+      → ((x : Unit {0}) → r ≡ Ok x → frame ≡ option_map frame_of e.sent) → EffectEnds r before.store e u.timeline.moment new (node_mote u.node) → BaseEventEnds r b s done d before (base_event_left u new frame)
+  base_event_ends (Ok x) u new frame time sent ends = one_done u new frame time (sent x refl) ends
+  base_event_ends (Err why) u new frame time sent ends = fails why new ends
 
   -- by what the node did
-  pub deed_done : (r : NodeEnd) (u : Running) (a new : Device) (frame : Option (List ℕ)) → IsTime u.timeline b (suc before.events) → Stands a.image before.store → NodeDone r frame e (host a (Some v.node)) (host new (Some u.node))
-      → IfSome e.mote (λ m. Timely m u.timeline.moment) → DeedEnds (result_of r) b s done d before (deed_left u new frame)
-  deed_done r u a new frame time stands x timely =
-      deed_ends (result_of r) u new frame time (frame_said frame e (Some v.node) a new r (Some u.node) x) (effect_ends frame e (Some v.node) a new r before.store u.node u.timeline.moment x stands timely)
+  pub base_event_done : (r : NodeEnd) (u : Running) (a new : Device) (frame : Option (List ℕ)) → IsTime u.timeline b (suc before.events) → Stands a.image before.store → NodeDone r frame e (host a (Some v.node)) (host new (Some u.node))
+      → IfSome e.mote (λ m. Timely m u.timeline.moment) → BaseEventEnds (result_of r) b s done d before (base_event_left u new frame)
+  base_event_done r u a new frame time stands x timely =
+      base_event_ends (result_of r) u new frame time (frame_said frame e (Some v.node) a new r (Some u.node) x) (effect_ends frame e (Some v.node) a new r before.store u.node u.timeline.moment x stands timely)
 
--- ---- a deed at the next moment
+-- ---- a base_event at the next moment
 
 pub timely_next : ((m : MoteState) (now then : ℕ) → now ≤ then → Timely m now → Timely m then) → (m : MoteState) (moment step new now : ℕ) → Timely m moment → now ≡ new → new ≡ moment + step → Timely m now
 timely_next law m moment step new now t p q = let le : moment ≤ now = omega (arith, p, q) in law m moment now le t
 
 -- the node did this at that moment
-module _ (b : Base) (s : Store) (done : List Deed) (before : At) (v : Running) (c : List ℕ) (stood : Stood b s done v c before) (d : Deed) (at : ℕ → ℕ → Effect) (now word : ℕ)
+module _ (b : Base) (s : Store) (done : List BaseEvent) (before : At) (v : Running) (c : List ℕ) (stood : Stood b s done v c before) (d : BaseEvent) (at : ℕ → ℕ → Effect) (now word : ℕ)
     (drawn : (now ≡ moment_at b before.events) × (word ≡ draw_at b before.events)) (means : at (moment_at b before.events) (draw_at b before.events) ≡ effect_of b stood.state before d) where
   effect_is : at now word ≡ effect_of b stood.state before d
   effect_is = ap (λ (x : ℕ). at x word) drawn.0 ∙ ap (λ (x : ℕ). at (moment_at b before.events) x) drawn.1 ∙ means
 
   pub done_at : (r : NodeEnd) (u : Running) (a new : Device) (frame : Option (List ℕ)) → now ≡ u.timeline.moment → IsTime u.timeline b (suc before.events) → Stands a.image before.store → NodeDone r frame (at now word) (host a (Some v.node)) (host new (Some u.node))
-      → IfSome (at now word).mote (λ m. Timely m now) → DeedEnds (result_of r) b s done d before (deed_left u new frame)
+      → IfSome (at now word).mote (λ m. Timely m now) → BaseEventEnds (result_of r) b s done d before (base_event_left u new frame)
   done_at r u a new frame is time stands x timely =
-      deed_done b s done d before v c stood r u a new frame time stands (subst (λ (e : Effect). NodeDone r frame e (host a (Some v.node)) (host new (Some u.node))) effect_is x)
+      base_event_done b s done d before v c stood r u a new frame time stands (subst (λ (e : Effect). NodeDone r frame e (host a (Some v.node)) (host new (Some u.node))) effect_is x)
       (subst (λ (n : ℕ). IfSome (effect_of b stood.state before d).mote (λ m. Timely m n)) is (subst (λ (e : Effect). IfSome e.mote (λ m. Timely m now)) effect_is timely))
 
-pub ends_stood : (r : Result (Unit {0}) Stop) (b : Base) (s : Store) (done : List Deed) (d : Deed) (before : At) (u : Running) (new : Device) (frame : Option (List ℕ))
-    → DeedEnds r b s done d before (deed_left u new frame) → OnOk r (IsStood u new.image)
+pub ends_stood : (r : Result (Unit {0}) Stop) (b : Base) (s : Store) (done : List BaseEvent) (d : BaseEvent) (before : At) (u : Running) (new : Device) (frame : Option (List ℕ))
+    → BaseEventEnds r b s done d before (base_event_left u new frame) → OnOk r (IsStood u new.image)
 ends_stood (Ok x) b s done d before u new frame one = (b, s, done ++ d ∷ [], one.there, one.stood)
 ends_stood (Err why) b s done d before u new frame one = tt
 
@@ -139,12 +139,12 @@ frame_longs {o} sent is = subst (λ (x : Option (List ℕ)). IfSome x (λ f. 1 �
 
 -- ---- and what is written
 
--- a deed that failed is the last one
-pub deed_halts : (why : Stop) (a : Outset) (done : List Deed) (d : Deed) (before : At) (v : Running) (c : List ℕ) (now : Option (List ℕ)) (new : Device)
-    → Stood a.base a.store done v c before → Puts a.written now (said before) → AreOnLine before → DeedFails why a.base a.store done d before new → DeedsHalted why a (done ++ d ∷ []) now new
-deed_halts stop.Flash a done d before v c now new stood put fits x =
+-- a base_event that failed is the last one
+pub base_event_halts : (why : Stop) (a : Outset) (done : List BaseEvent) (d : BaseEvent) (before : At) (v : Running) (c : List ℕ) (now : Option (List ℕ)) (new : Device)
+    → Stood a.base a.store done v c before → Puts a.written now (line_sent before) → AreOnLine before → BaseEventFails why a.base a.store done d before new → BaseEventsHalted why a (done ++ d ∷ []) now new
+base_event_halts stop.Flash a done d before v c now new stood put fits x =
     record { done = done; rest = d ∷ []; parts = refl; there = before; run = stood.run; fits = fits; by = (x.state, d, [], x.on, refl, put, x.stops) }
-deed_halts stop.NoImage a done d before v c now new stood put fits x =
+base_event_halts stop.NoImage a done d before v c now new stood put fits x =
     record {
       done = done ++ d ∷ [];
       rest = [];
@@ -152,73 +152,73 @@ deed_halts stop.NoImage a done d before v c now new stood put fits x =
       there = x.there;
       run = x.run;
       fits = subst (λ (sent : List Message). AllByRecursion IsOnLine (map frame_of sent)) (sym x.sent) fits;
-      by = (x.none, subst (λ (sent : List Message). Puts a.written now (line_of (map frame_of sent))) (sym x.sent) put, x.stands);
+      by = (x.none, subst (λ (sent : List Message). Puts a.written now (stuffed_line (map frame_of sent))) (sym x.sent) put, x.stands);
     }
-deed_halts stop.Memory a done d before v c now new stood put fits x = absurd x
-deed_halts stop.Read a done d before v c now new stood put fits x = absurd x
-deed_halts stop.Write a done d before v c now new stood put fits x = absurd x
-deed_halts stop.NotAVolume a done d before v c now new stood put fits x = absurd x
-deed_halts stop.TooLong a done d before v c now new stood put fits x = absurd x
+base_event_halts stop.Memory a done d before v c now new stood put fits x = absurd x
+base_event_halts stop.Read a done d before v c now new stood put fits x = absurd x
+base_event_halts stop.Write a done d before v c now new stood put fits x = absurd x
+base_event_halts stop.NotAVolume a done d before v c now new stood put fits x = absurd x
+base_event_halts stop.TooLong a done d before v c now new stood put fits x = absurd x
 
-stopped_more : (why : Stop) (b : Base) (there : At) (rest more : List Deed) (first now : Option (List ℕ)) (new : Device) → StoppedBy why b there rest first now new → StoppedBy why b there (rest ++ more) first now new
+stopped_more : (why : Stop) (b : Base) (there : At) (rest more : List BaseEvent) (first now : Option (List ℕ)) (new : Device) → StoppedBy why b there rest first now new → StoppedBy why b there (rest ++ more) first now new
 stopped_more stop.Memory b there rest more first now new x = x
 stopped_more stop.Write b there rest more first now new x = x
 stopped_more stop.NoImage b there rest more first now new x = x
-stopped_more stop.Flash b there rest more first now new x = (x.0, x.1, x.2 ++ more, x.3, ap (λ (ds : List Deed). ds ++ more) x.4, x.5, x.6)
+stopped_more stop.Flash b there rest more first now new x = (x.0, x.1, x.2 ++ more, x.3, ap (λ (ds : List BaseEvent). ds ++ more) x.4, x.5, x.6)
 stopped_more stop.Read b there rest more first now new x = x
 stopped_more stop.NotAVolume b there rest more first now new x = x
 stopped_more stop.TooLong b there rest more first now new x = x
 
--- it halted, whatever deeds were to follow
-pub halted_more : (why : Stop) (a : Outset) (all more : List Deed) (now : Option (List ℕ)) (new : Device) → DeedsHalted why a all now new → DeedsHalted why a (all ++ more) now new
+-- it halted, whatever base_events were to follow
+pub halted_more : (why : Stop) (a : Outset) (all more : List BaseEvent) (now : Option (List ℕ)) (new : Device) → BaseEventsHalted why a all now new → BaseEventsHalted why a (all ++ more) now new
 halted_more why a all more now new h =
     record {
       done = h.done;
       rest = h.rest ++ more;
-      parts = sym (append_assoc h.done h.rest more) ∙ ap (λ (x : List Deed). x ++ more) h.parts;
+      parts = sym (append_assoc h.done h.rest more) ∙ ap (λ (x : List BaseEvent). x ++ more) h.parts;
       there = h.there;
       run = h.run;
       fits = h.fits;
       by = stopped_more why a.base h.there h.rest more a.written now new h.by;
     }
 
--- ---- a deed, and what it sent is written to the line
+-- ---- a base_event, and what it sent is written to the line
 
 all_and_one : (frames : List (List ℕ)) (frame : Option (List ℕ)) → AllByRecursion IsOnLine frames → IfSome frame IsOnLine → AllByRecursion IsOnLine (frames ++ one_if frame)
 all_and_one [] None all one = tt
 all_and_one [] (Some frame) all one = (one, tt)
 all_and_one (f ∷ frames) frame all one = (all.0, all_and_one frames frame all.1 one)
 
-module _ (a : Outset) (done : List Deed) (d : Deed) (before : At) (old now : Option (List ℕ)) (put : Puts a.written old (said before)) (fits : AreOnLine before) where
-  -- what is on the line after the deed
-  said_then : (there : At) (frame : Option (List ℕ)) → map frame_of there.sent ≡ map frame_of before.sent ++ one_if frame → said there ≡ said before ++ line_of (one_if frame)
-  said_then there frame e = ap line_of e ∙ said_one (map frame_of before.sent) (one_if frame)
+module _ (a : Outset) (done : List BaseEvent) (d : BaseEvent) (before : At) (old now : Option (List ℕ)) (put : Puts a.written old (line_sent before)) (fits : AreOnLine before) where
+  -- what is on the line after the base_event
+  said_then : (there : At) (frame : Option (List ℕ)) → map frame_of there.sent ≡ map frame_of before.sent ++ one_if frame → line_sent there ≡ line_sent before ++ stuffed_line (one_if frame)
+  said_then there frame e = ap stuffed_line e ∙ said_one (map frame_of before.sent) (one_if frame)
 
   -- and what was sent fits
   fits_then : (there : At) (frame : Option (List ℕ)) → map frame_of there.sent ≡ map frame_of before.sent ++ one_if frame → IfSome frame IsOnLine → AreOnLine there
   fits_then there frame e one = subst (AllByRecursion IsOnLine) (sym e) (all_and_one (map frame_of before.sent) frame fits one)
 
-  pub sent_goes : (left : DeedLeft) → IfSome left.frame IsOnLine → DoneOne a.base a.store done d before left → Puts old now (line_of (one_if left.frame)) → CompletedOn a (done ++ d ∷ []) (code_at now left.mote left.chip)
+  pub sent_goes : (left : BaseEventLeft) → IfSome left.frame IsOnLine → DoneOne a.base a.store done d before left → Puts old now (stuffed_line (one_if left.frame)) → CompletedOn a (done ++ d ∷ []) (code_at now left.mote left.chip)
   sent_goes left frame one w =
       record {
         there = one.there;
         stood = one.stood;
-        put = subst (λ (text : List ℕ). Puts a.written now text) (sym (said_then one.there left.frame one.sent)) (puts_then a.written old now (said before) (line_of (one_if left.frame)) put w);
+        put = subst (λ (text : List ℕ). Puts a.written now text) (sym (said_then one.there left.frame one.sent)) (puts_then a.written old now (line_sent before) (stuffed_line (one_if left.frame)) put w);
         fits = fits_then one.there left.frame one.sent frame;
       }
 
-  halts_behind : (why : Stop) (left : DeedLeft) → IfSome left.frame IsOnLine → (one : DoneOne a.base a.store done d before left) → StoppedBy why a.base one.there [] a.written now left.chip → DeedsHalted why a (done ++ d ∷ []) now left.chip
+  halts_behind : (why : Stop) (left : BaseEventLeft) → IfSome left.frame IsOnLine → (one : DoneOne a.base a.store done d before left) → StoppedBy why a.base one.there [] a.written now left.chip → BaseEventsHalted why a (done ++ d ∷ []) now left.chip
   halts_behind why left frame one by =
       record { done = done ++ d ∷ []; rest = []; parts = append-nil (done ++ d ∷ []); there = one.there; run = one.stood.run; fits = fits_then one.there left.frame one.sent frame; by = by }
 
-  pub send_fails : (why : Stop) (left : DeedLeft) → IfSome left.frame IsOnLine → DoneOne a.base a.store done d before left → SendFails why (line_of (one_if left.frame)) old now → DeedsHalted why a (done ++ d ∷ []) now left.chip
+  pub send_fails : (why : Stop) (left : BaseEventLeft) → IfSome left.frame IsOnLine → DoneOne a.base a.store done d before left → SendFails why (stuffed_line (one_if left.frame)) old now → BaseEventsHalted why a (done ++ d ∷ []) now left.chip
   send_fails stop.Write left frame one w =
-      let x = puts_front_then a.written old now (said before) (line_of (one_if left.frame)) put w in
+      let x = puts_front_then a.written old now (line_sent before) (stuffed_line (one_if left.frame)) put w in
       halts_behind stop.Write left frame one
-      (x.text, x.put, subst (IsWholeLines x.text) (sym (said_then one.there left.frame one.sent)) x.front, one.stood.mote.mounted.stands)
+      (x.text, x.put, subst (IsPrefixOfInput x.text) (sym (said_then one.there left.frame one.sent)) x.front, one.stood.mote.mounted.stands)
   send_fails stop.Memory left frame one w =
       halts_behind stop.Memory left frame one
-      (said before, w ∙ put, (line_of (one_if left.frame), sym (said_then one.there left.frame one.sent)), one.stood.mote.mounted.stands)
+      (line_sent before, w ∙ put, (stuffed_line (one_if left.frame), sym (said_then one.there left.frame one.sent)), one.stood.mote.mounted.stands)
   send_fails stop.Flash left frame one w = absurd w
   send_fails stop.NoImage left frame one w = absurd w
   send_fails stop.Read left frame one w = absurd w

@@ -9,24 +9,24 @@ use Rattle.dg_frame.specs.declared.Message.{Message}
 use Rattle.dg_mote.specs.Model.{MoteState}
 use Rattle.dg_mote.specs.Effects.{Effect, reset_effect, frame_effect, tick_effect}
 use Rattle.dg_seed.specs.Draws.{draw_of}
-use Rattle.dg_serial.specs.Line.{Item, Frame, Escape, Long, items, line_of}
+use Rattle.dg_serial.specs.Line.{SerialItem, Frame, Escape, Long, items, stuffed_line}
 
 -- what happens to a mote that is on
-pub data Deed : Type 0 where
-  Hears : (bytes : List ℕ) → Deed
-  Ticks : Deed
+pub data BaseEvent : Type 0 where
+  Hears : (bytes : List ℕ) → BaseEvent
+  Ticks : BaseEvent
 
-abbrev pub deeds_of_item : Item → List Deed
-deeds_of_item (Frame bytes) = Hears bytes ∷ Ticks ∷ []
-deeds_of_item Escape = Ticks ∷ []
-deeds_of_item Long = Ticks ∷ []
+abbrev pub base_events_of_item : SerialItem → List BaseEvent
+base_events_of_item (Frame bytes) = Hears bytes ∷ Ticks ∷ []
+base_events_of_item Escape = Ticks ∷ []
+base_events_of_item Long = Ticks ∷ []
 
-abbrev pub deeds_of_items : List Item → List Deed
-deeds_of_items xs = flat_map deeds_of_item xs
+abbrev pub base_events_of_items : List SerialItem → List BaseEvent
+base_events_of_items xs = flat_map base_events_of_item xs
 
 -- the rest of a stream gives nothing
-abbrev pub deeds_of : List ℕ → List Deed
-deeds_of stream = deeds_of_items (items stream)
+abbrev pub base_events_of : List ℕ → List BaseEvent
+base_events_of stream = base_events_of_items (items stream)
 
 -- the number of the mote, the milliseconds from each event to the next, and the seed of its draws
 pub record Base : Type 0 where
@@ -63,23 +63,23 @@ power_effect b s = reset_effect s b.id true (moment_at b 0) (draw_at b 0)
 abbrev pub powered : Base → Store → At
 powered b s = behind_event (power_effect b s) 0 []
 
--- what a deed does to a mote that stands there
-abbrev pub effect_of : Base → MoteState → At → Deed → Effect
+-- what a base_event does to a mote that stands there
+abbrev pub effect_of : Base → MoteState → At → BaseEvent → Effect
 effect_of b m a (Hears bytes) = frame_effect m a.store (moment_at b a.events) (draw_at b a.events) bytes
 effect_of b m a Ticks = tick_effect m a.store (moment_at b a.events) (draw_at b a.events)
 
-abbrev pub after_deed : Base → MoteState → At → Deed → At
-after_deed b m a d = behind_event (effect_of b m a d) a.events a.sent
+abbrev pub after_base_event : Base → MoteState → At → BaseEvent → At
+after_base_event b m a d = behind_event (effect_of b m a d) a.events a.sent
 
 -- these happen, one after another, and the mote is on before each
-unfoldable pub DeedsRun : Base → At → List Deed → At → Type 0
-DeedsRun b a [] z = z ≡ a
-DeedsRun b a (d ∷ ds) z = (m : MoteState) × (a.mote ≡ Some m) × DeedsRun b (after_deed b m a d) ds z
+unfoldable pub BaseEventsRun : Base → At → List BaseEvent → At → Type 0
+BaseEventsRun b a [] z = z ≡ a
+BaseEventsRun b a (d ∷ ds) z = (m : MoteState) × (a.mote ≡ Some m) × BaseEventsRun b (after_base_event b m a d) ds z
 
 -- what is on the line of a mote that sent this: the frames of its messages, stuffed, in order
-abbrev pub said : At → List ℕ
-said a = line_of (map frame_of a.sent)
+abbrev pub line_sent : At → List ℕ
+line_sent a = stuffed_line (map frame_of a.sent)
 
 -- a reader of that line gets these frames, all of them and in their order
 abbrev pub FramesComeBack : At → Type 0
-FramesComeBack a = items (said a) ≡ map Frame (map frame_of a.sent)
+FramesComeBack a = items (line_sent a) ≡ map Frame (map frame_of a.sent)

@@ -27,7 +27,7 @@ use Rattle.dg_mote.specs.Changes.{MayClear, IfReceives}
 use Rattle.dg_base.specs.declared.events.ImageVersion.{ImageVersion}
 use Rattle.dg_rules.specs.World.{World, Site, Running, Sent, site, store_at, is_wide_mote, wide_at, counted, frame_at, last_frame}
 use Rattle.dg_rules.specs.Small.{Holding, SmallMote, holding, app_image_version, running_image_version, small_mote, Small, small, holds, whole}
-use Rattle.dg_rules.specs.Events.{Deed, Does, Refuses, Goes, IsTaken, does, mote_of, dt_of, image_version_of, reloaded, acts}
+use Rattle.dg_rules.specs.Events.{EventEffect, Does, Refuses, Goes, IsTaken, does, mote_of, dt_of, image_version_of, reloaded, acts}
 use Rattle.dg_rules.specs.Steps.{blows, and_sent, StepDoes, WorldStep}
 use Rattle.dg_script.specs.Ranges.{EventInRange, StepInRange}
 use Rattle.dg_rules.specs.Premises.{RunsWell, WorldAgrees, TrueEvent}
@@ -67,14 +67,14 @@ abbrev pub WorldCame : Past → World → Type 0
 WorldCame past w = CameBy past w.narrow w
 
 -- what an event that brings this frame may do at mote m
-pub record LegalDeed (past : Past) (w : World) (m : ℕ) (frame : Option (List ℕ)) (e : Event) (d : Deed) : Type 0 where
+pub record LegalEffect (past : Past) (w : World) (m : ℕ) (frame : Option (List ℕ)) (e : Event) (d : EventEffect) : Type 0 where
   pub whole : (runs : Option Running) → d.runs ≡ Some runs → LegalAt (step_facts past w.declared false (wide_at w m) frame) w.table e (small_mote (site w m)) (mote (last d.trail) runs) d.table
   pub cut : Through (λ s. LegalAt (step_facts past w.declared true (wide_at w m) frame) w.table e (small_mote (site w m)) (mote s None) d.table) d.trail
   pub settled : (runs : Option Running) → d.runs ≡ Some runs → IfSome runs (λ r. IsSettled (last d.trail))
 
-abbrev pub LegalDeedDoes : Past → World → Event → Does → Type 0
-LegalDeedDoes past w e (Refuses why) = Unit {0}
-LegalDeedDoes past w e (Goes d) = LegalDeed past w (mote_of e) (brought w e) e d
+abbrev pub LegalEffectDoes : Past → World → Event → Does → Type 0
+LegalEffectDoes past w e (Refuses why) = Unit {0}
+LegalEffectDoes past w e (Goes d) = LegalEffect past w (mote_of e) (brought w e) e d
 
 same_runs : (a b : Runs) → Some a ≡ Some b → a ≡ b
 same_runs a b e = cc
@@ -145,7 +145,7 @@ module _ (laws : StepLaws) (past : Past) (w : World) (agrees : WorldAgrees w) (s
   -- ---- ticks
 
   tick_legal : (m dt word : ℕ) (r : Running) → (site w m).runs ≡ Some r → m < length w.sites
-      → LegalDeedDoes past w (Tick m dt word) (let step = tick_of r.mote (store_at w m) (w.moment + dt) word in goes_on w step.trail step.sent r.image_version step.mote)
+      → LegalEffectDoes past w (Tick m dt word) (let step = tick_of r.mote (store_at w m) (w.moment + dt) word in goes_on w step.trail step.sent r.image_version step.mote)
   tick_legal m dt word r on here =
       let x = site w m in
       let s = x.store in
@@ -161,7 +161,7 @@ module _ (laws : StepLaws) (past : Past) (w : World) (agrees : WorldAgrees w) (s
       }
 
   start_tick_legal : (m dt word : ℕ) (r : Running) → (site w m).runs ≡ Some r → order_waits (store_at w m) ≡ true → m < length w.sites
-      → LegalDeedDoes past w (Tick m dt word) (starts w (boot cause.Order (store_at w m)) r.mote.id r.mote.wide (w.moment + dt) word)
+      → LegalEffectDoes past w (Tick m dt word) (starts w (boot cause.Order (store_at w m)) r.mote.id r.mote.wide (w.moment + dt) word)
   start_tick_legal m dt word r on waits here =
       let x = site w m in
       let s = x.store in
@@ -185,7 +185,7 @@ module _ (laws : StepLaws) (past : Past) (w : World) (agrees : WorldAgrees w) (s
         settled = λ runs e. if_any (IsSettled (last b.trail)) runs ((boot_start cause.Order s).settled q chosen);
       }
 
-  reset_legal : (m dt word : ℕ) → m < length w.sites → LegalDeedDoes past w (Reset m dt word) (starts w (boot cause.Power (store_at w m)) m (wide_at w m) (w.moment + dt) word)
+  reset_legal : (m dt word : ℕ) → m < length w.sites → LegalEffectDoes past w (Reset m dt word) (starts w (boot cause.Power (store_at w m)) m (wide_at w m) (w.moment + dt) word)
   reset_legal m dt word here =
       let x = site w m in
       let s = x.store in
@@ -237,20 +237,20 @@ module _ (laws : StepLaws) (past : Past) (w : World) (agrees : WorldAgrees w) (s
         }
 
   hear_legal : (m dt word number : ℕ) (f : Sent) (r : Running) → (site w m).runs ≡ Some r → frame_at w number ≡ Some f → m < length w.sites
-      → LegalDeedDoes past w (Hear m dt word number) (hears w m (w.moment + dt) word f.bytes r)
+      → LegalEffectDoes past w (Hear m dt word number) (hears w m (w.moment + dt) word f.bytes r)
   hear_legal m dt word number f r on at here =
       let h = hears_legal m dt word f.bytes r on here in
-      subst (λ (frame : Option (List ℕ)). LegalDeed past w m frame (Hear m dt word number) (hearing_of w m (w.moment + dt) word f.bytes r)) (sym (ap (option_map (λ (g : Sent). g.bytes)) at))
+      subst (λ (frame : Option (List ℕ)). LegalEffect past w m frame (Hear m dt word number) (hearing_of w m (w.moment + dt) word f.bytes r)) (sym (ap (option_map (λ (g : Sent). g.bytes)) at))
       (record { whole = λ runs same. h.whole runs same; cut = h.cut; settled = λ runs same. h.calm runs })
 
   last_legal : (from m dt word : ℕ) (f : Sent) (r : Running) → (site w m).runs ≡ Some r → last_frame w from ≡ Some f → m < length w.sites
-      → LegalDeedDoes past w (Last from m dt word) (hears w m (w.moment + dt) word f.bytes r)
+      → LegalEffectDoes past w (Last from m dt word) (hears w m (w.moment + dt) word f.bytes r)
   last_legal from m dt word f r on at here =
       let h = hears_legal m dt word f.bytes r on here in
-      subst (λ (frame : Option (List ℕ)). LegalDeed past w m frame (Last from m dt word) (hearing_of w m (w.moment + dt) word f.bytes r)) (sym (ap (option_map (λ (g : Sent). g.bytes)) at))
+      subst (λ (frame : Option (List ℕ)). LegalEffect past w m frame (Last from m dt word) (hearing_of w m (w.moment + dt) word f.bytes r)) (sym (ap (option_map (λ (g : Sent). g.bytes)) at))
       (record { whole = λ runs same. h.whole runs same; cut = h.cut; settled = λ runs same. h.calm runs })
 
-  frame_legal : (m dt word : ℕ) (bytes : List ℕ) (r : Running) → (site w m).runs ≡ Some r → m < length w.sites → LegalDeedDoes past w (Frame m dt word bytes) (hears w m (w.moment + dt) word bytes r)
+  frame_legal : (m dt word : ℕ) (bytes : List ℕ) (r : Running) → (site w m).runs ≡ Some r → m < length w.sites → LegalEffectDoes past w (Frame m dt word bytes) (hears w m (w.moment + dt) word bytes r)
   frame_legal m dt word bytes r on here =
       let h = hears_legal m dt word bytes r on here in
       record { whole = λ runs same. h.whole runs same; cut = h.cut; settled = λ runs same. h.calm runs }
@@ -268,7 +268,7 @@ module _ (laws : StepLaws) (past : Past) (w : World) (agrees : WorldAgrees w) (s
   reload_version m now word runs e = ap running_image_version (sym (same_running (reloaded (site w m).runs now word) runs e)) ∙ reloaded_version (site w m).runs now word
 
   order_legal : (m number image version dt word : ℕ) → order_refusal (store_at w m) (order_of number image version) ≡ None → m < length w.sites
-      → LegalDeedDoes past w (OrderEvent m number image version dt word) (acts w m (order_trail (store_at w m) (order_of number image version)) w.table (w.moment + dt) word)
+      → LegalEffectDoes past w (OrderEvent m number image version dt word) (acts w m (order_trail (store_at w m) (order_of number image version)) w.table (w.moment + dt) word)
   unfolding Rattle.dg_nor.specs.Trail.last_of
   order_legal m number image version dt word none here =
       let s = store_at w m in
@@ -314,7 +314,7 @@ module _ (laws : StepLaws) (past : Past) (w : World) (agrees : WorldAgrees w) (s
       how = ⊎_elim (λ done. inl done) (λ part. inr (part.0, subst (λ (o : Option Holding). CutHolding o row h) (sym held_old) part.1)) how;
     }
 
-    inject_legal : LegalDeedDoes past w (Inject m image version dt word) (acts w m (inject_trail (store_at w m) row) (with_row w.table row) (w.moment + dt) word)
+    inject_legal : LegalEffectDoes past w (Inject m image version dt word) (acts w m (inject_trail (store_at w m) row) (with_row w.table row) (w.moment + dt) word)
     inject_legal =
         let s = Here.store in
         let t = last (inject_trail s row) in
@@ -337,9 +337,9 @@ module _ (laws : StepLaws) (past : Past) (w : World) (agrees : WorldAgrees w) (s
 
   -- ---- every event
 
-  legal_deed : (e : Event) → EventInRange (length w.sites) e → TrueEvent w e → LegalDeedDoes past w e (does w e)
-  legal_deed e fits honest =
-      does_cases laws.restarts w (λ f. Unit {0}) (all_sent w.sent) (λ e D. does w e ≡ D → EventInRange (length w.sites) e → TrueEvent w e → LegalDeedDoes past w e D)
+  legal_effect : (e : Event) → EventInRange (length w.sites) e → TrueEvent w e → LegalEffectDoes past w e (does w e)
+  legal_effect e fits honest =
+      does_cases laws.restarts w (λ f. Unit {0}) (all_sent w.sent) (λ e D. does w e ≡ D → EventInRange (length w.sites) e → TrueEvent w e → LegalEffectDoes past w e D)
       (λ e why same fits honest. tt)
       (λ m dt word r on same fits honest. tick_legal m dt word r on fits)
       (λ m dt word r on waits same fits honest. start_tick_legal m dt word r on waits fits)
@@ -353,7 +353,7 @@ module _ (laws : StepLaws) (past : Past) (w : World) (agrees : WorldAgrees w) (s
 
   -- ---- every step
 
-  legal_world : (x : Step) (d : Deed) (y : Site) (fired : Bool) → mote_of x.event < length w.sites
+  legal_world : (x : Step) (d : EventEffect) (y : Site) (fired : Bool) → mote_of x.event < length w.sites
       → LegalAt (step_facts past w.declared fired (wide_at w (mote_of x.event)) (brought w x.event)) w.table x.event (small_mote (site w (mote_of x.event))) (small_mote y) d.table
       → LegalStep (step_facts past w.declared fired (wide_at w (mote_of x.event)) (brought w x.event)) x.event (mote_of x.event) (small w) (small (ended_world w x d y))
   legal_world x d y fired here there =
@@ -370,7 +370,7 @@ module _ (laws : StepLaws) (past : Past) (w : World) (agrees : WorldAgrees w) (s
   sent_small u m (Some message) = refl
 
   module _ (x : Step) (v : World) (reports : List Report) (fits : StepInRange (length w.sites) x) (honest : TrueEvent w x.event) where
-    step_legal_by : (D : Does) → LegalDeedDoes past w x.event D → StepDoes D w x v reports → LegalDoes D past w x v
+    step_legal_by : (D : Does) → LegalEffectDoes past w x.event D → StepDoes D w x v reports → LegalDoes D past w x v
     step_legal_by (Refuses why) g did = ap small did.0
     step_legal_by (Goes d) g did =
         let m = mote_of x.event in
@@ -383,13 +383,13 @@ module _ (laws : StepLaws) (past : Past) (w : World) (agrees : WorldAgrees w) (s
 
     pub step_legal : WorldStep w x v reports → LegalDoes (does w x.event) past w x v
     unfolding WorldStep
-    step_legal did = step_legal_by (does w x.event) (legal_deed x.event fits.event honest) did
+    step_legal did = step_legal_by (does w x.event) (legal_effect x.event fits.event honest) did
 
-    settled_lands : (D : Does) → LegalDeedDoes past w x.event D → LandsDoes (λ b y. IfSome y.runs (λ r. IsSettled y.store)) D
+    settled_lands : (D : Does) → LegalEffectDoes past w x.event D → LandsDoes (λ b y. IfSome y.runs (λ r. IsSettled y.store)) D
     settled_lands (Refuses why) g = tt
     settled_lands (Goes d) g = record { whole = g.settled; cut = Through-each (λ s. Unit {0}) (λ s. tt) d.trail }
 
     pub step_settled : WorldStep w x v reports → WorldSettled v
     step_settled did =
         step_sites w x v reports fits (λ b y. IfSome y.runs (λ r. IsSettled y.store)) (λ j y. IfSome y.runs (λ r. IsSettled y.store)) (λ s room p. tt) (λ b y p. p) settled
-        (settled_lands (does w x.event) (legal_deed x.event fits.event honest)) did
+        (settled_lands (does w x.event) (legal_effect x.event fits.event honest)) did
