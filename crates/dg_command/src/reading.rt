@@ -75,14 +75,14 @@ fn taken(alloc: Global, verb: Option<Verb>, matches: &ArgMatches<'_>) -> Result<
     match verb {
         Some(verb) => {
             let command = command_at(alloc, verb, matches)?;
-            Ok(named(command))
+            Ok(asks_named(command))
         }
         None => Ok(Asked::Usage),
     }
 }
 
 // A command, unless the name that it gives an image is invalid, or a root is.
-fn named(command: Command) -> Asked
+fn asks_named(command: Command) -> Asked
     ensures named { asking_of result ≡ asks_named (said_of_command command) }
     ensures some { HelpsBySome result }
 {

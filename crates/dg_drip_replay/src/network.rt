@@ -75,7 +75,7 @@ fn joins(link: (u8, u8), a: u16, b: u8) -> bool
 }
 
 // Whether two nodes are neighbours.
-fn is_linked(links: &[(u8, u8)], a: u16, b: u8) -> bool
+fn are_drip_neighbours(links: &[(u8, u8)], a: u16, b: u8) -> bool
     ensures { result ≡ are_drip_neighbours links.now a b }
 {
     links.iter().any(|link| joins(*link, a, b))
@@ -225,7 +225,7 @@ impl DripNetwork {
                 cause: DripCause::Frame,
             });
         };
-        if !is_linked(&self.links, said.source, node) {
+        if !are_drip_neighbours(&self.links, said.source, node) {
             return Some(DripReport::Refused {
                 node,
                 cause: DripCause::Link,
@@ -314,7 +314,7 @@ impl DripNetwork {
         ensures links { (w : Network) → NetworkStands self.old w → OnOk result (NetworkStands self.new (with_neighbours w a b)) }
         ensures passes { OnOk result (TimePasses self.old self.new 0) }
     {
-        if is_linked(&self.links, u16::from(a), b) {
+        if are_drip_neighbours(&self.links, u16::from(a), b) {
             return Ok(());
         }
         self.links.push((a, b))?;

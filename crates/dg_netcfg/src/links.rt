@@ -40,7 +40,7 @@ fn links_in(
 {
     let mut links = Vec::new(alloc);
     for entry in entries {
-        let Some(link) = link_of(motes, entry) else {
+        let Some(link) = profile_link(motes, entry) else {
             return Ok(None);
         };
         links.push(link)?;
@@ -49,24 +49,24 @@ fn links_in(
 }
 
 /// The link that an entry describes.
-fn link_of(motes: u8, entry: &Value) -> Option<(u8, u8)>
+fn profile_link(motes: u8, entry: &Value) -> Option<(u8, u8)>
     requires { 1 ≤ motes }
     ensures { result ≡ profile_link motes (view entry.now) }
 {
     let [a, b] = entry.as_array()?.as_slice() else {
         return None;
     };
-    let a = mote_of(motes, a)?;
-    let b = mote_of(motes, b)?;
+    let a = profile_mote(motes, a)?;
+    let b = profile_mote(motes, b)?;
     if a == b { None } else { Some((a, b)) }
 }
 
 /// The number of a mote.
-fn mote_of(motes: u8, value: &Value) -> Option<u8>
+fn profile_mote(motes: u8, value: &Value) -> Option<u8>
     requires { 1 ≤ motes }
     ensures { result ≡ profile_mote motes (view value.now) }
 {
-    let number = within(value.as_integer()?, 0, u16::from(motes - 1))?;
+    let number = number_in_range(value.as_integer()?, 0, u16::from(motes - 1))?;
     Some(number as u8)
 }
 

@@ -34,17 +34,17 @@ pub fn read_profile(alloc: Global, bytes: &[u8]) -> Result<NetProfile, ProfileFa
 fn profile_of(alloc: Global, document: &Table) -> Result<NetProfile, ProfileFault>
     ensures { ReadsNetProfile result (with_fields (profile_fields (table_view document.now))) }
 {
-    let Some((motes, port, entries)) = fields_of(document) else {
+    let Some((motes, port, entries)) = profile_fields(document) else {
         return Err(ProfileFault::Key);
     };
-    let Some(motes) = within(motes, 1, u16::from(MOST_MOTES)) else {
+    let Some(motes) = number_in_range(motes, 1, u16::from(MOST_MOTES)) else {
         return Err(ProfileFault::Id);
     };
     let motes = motes as u8;
     let Some(links) = read_links(alloc, motes, entries)? else {
         return Err(ProfileFault::Link);
     };
-    let Some(port) = within(port, LEAST_PORT, GREATEST_PORT) else {
+    let Some(port) = number_in_range(port, LEAST_PORT, GREATEST_PORT) else {
         return Err(ProfileFault::Port);
     };
     Ok(NetProfile {
@@ -55,7 +55,7 @@ fn profile_of(alloc: Global, document: &Table) -> Result<NetProfile, ProfileFaul
 }
 
 /// The values of the three keys, if there are no other keys and each value has its type.
-fn fields_of(document: &Table) -> Option<(i64, i64, &Array)>
+fn profile_fields(document: &Table) -> Option<(i64, i64, &Array)>
     ensures { option_map (λ f. (f.0, f.1, array_view f.2.now)) result ≡ profile_fields (table_view document.now) }
 {
     if !has_known_keys(document) {
@@ -103,7 +103,7 @@ fn array_at<'a>(document: &'a Table, key: &str) -> Option<&'a Array>
 }
 
 /// A whole number, if it is in a range.
-pub(crate) fn within(number: i64, least: u16, most: u16) -> Option<u16>
+pub(crate) fn number_in_range(number: i64, least: u16, most: u16) -> Option<u16>
     ensures value { result ≡ number_in_range least most number }
     ensures bound { IfSome result (λ n. n ≤ most) }
 {

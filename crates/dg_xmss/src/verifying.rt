@@ -31,7 +31,7 @@ fn index_of(signature: &[u8]) -> u32
 }
 
 // The root that a signature leads to: it is the first of these nodes.
-fn root_of(key: &PublicKey, message: &[u8], signature: &[u8], index: u16, nodes: &mut Nodes)
+fn signature_root(key: &PublicKey, message: &[u8], signature: &[u8], index: u16, nodes: &mut Nodes)
     requires size { length signature.now ≡ signature_size }
     requires index { index ≡ index_of signature.now }
     ensures { slice_index_or nodes.new 0 [] ≡ signature_root key.now message.now signature.now }
@@ -66,7 +66,7 @@ pub fn verify(key: &PublicKey, message: &[u8], signature: &[u8]) -> Result<(), S
         return Err(SignatureFault::Index { index });
     }
     let mut nodes = [[0; NODE_SIZE]; MOST_NODES];
-    root_of(key, message, signature, index as u16, &mut nodes);
+    signature_root(key, message, signature, index as u16, &mut nodes);
     if nodes[0] != key.root {
         return Err(SignatureFault::Root);
     }

@@ -22,7 +22,7 @@ returns-clause-does c =
     let d = c.args.self.now in
     let x : Said = c.in-Some.said in
     let some = sym c.in-Some.is ∙ c.numbered.ensures ∙ ap (λ (xs : List Said). frame_numbered xs c.args.frame) c.deref.ensures.value in
-    let near = ap (λ (ls : List (ℕ × ℕ)). are_drip_neighbours ls x.source c.args.node) (sym c.deref-2.ensures.value) ∙ sym c.is_linked.ensures ∙ c.if-not-is_linked.false in
+    let near = ap (λ (ls : List (ℕ × ℕ)). are_drip_neighbours ls x.source c.args.node) (sym c.deref-2.ensures.value) ∙ sym c.are_drip_neighbours.ensures ∙ c.if-not-are_drip_neighbours.false in
     λ w reported s.
     hear_takes d _ w reported c.args.node c.args.dt c.args.word c.args.frame x c.take.result s some near
     (c.take.ensures.hears (later w c.args.dt) (later_stands d _ w c.args.dt s (ap (λ (n : ℕ). d.moment + n) c.from.ensures) refl refl refl))

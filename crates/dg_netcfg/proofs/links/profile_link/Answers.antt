@@ -1,7 +1,7 @@
 use Rattle.std.proofs.Common.{◌≤◌, ◌<◌, length, subst}
 use Rattle.toml.specs.View.{view}
 use Rattle.dg_netcfg.proofs.ProfileLemmas.{link_of-short, link_of-long}
-use Rattle.dg_netcfg.proofs.links.link_of.Goals as goal
+use Rattle.dg_netcfg.proofs.links.profile_link.Goals as goal
 
 pub returns-in_default : goal.returns-in_default
 returns-in_default c =

@@ -5,7 +5,7 @@ use Rattle.dg_xmss.specs.Trees.{ltree, path_root, root_from_sig}
 use Rattle.dg_xmss.specs.Joining.{leaf_key}
 use Rattle.dg_xmss.specs.Signatures.{signature_root, message_digest, ots_of, path_of, randomness_of}
 use Rattle.dg_xmss.proofs.ByteLemmas.{part_at}
-use Rattle.dg_xmss.proofs.verifying.root_of.Goals as goal
+use Rattle.dg_xmss.proofs.verifying.signature_root.Goals as goal
 
 pub returns : goal.returns
 unfolding signature_root root_from_sig message_digest leaf_key
