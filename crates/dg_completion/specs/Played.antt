@@ -33,7 +33,7 @@ pub record TicksPlayed (played : List Played) (w : World) (m : ℕ) (v : World) 
   pub on : IsOn w m
   pub room : HasRoomAt v m
 
--- It is on and drained afterwards: it maintains, nothing consistent was heard in its interval, no short starts are counted, no
+-- It is on and drained afterwards: it maintains, nothing equal was heard in its interval, no short starts are counted, no
 -- order waits, and it may ask for any image. What it keeps and all other motes are as before.
 pub record ComesToRest (w : World) (m : ℕ) (v : World) : Type 0 where
   pub running : Running

@@ -66,8 +66,8 @@ pub fn a_round_brings_a_mote_to_rest()
 }
 
 /// In a rest each sweep brings every page one link further. After t sweeps a mote within j links of a whole image has t + 1 - j
-/// pages of it, or all, if every smaller image is whole everywhere. All motes are wide, or all are narrow and no image that such
-/// motes do not speak of has a row.
+/// pages of it, or all, if every smaller image is whole everywhere. The premise is that all motes are wide, or that all are
+/// narrow and no image that such motes do not speak of has a row.
 pub fn sweeps_fill_the_pipeline()
     ensures { PipelineLaw }
 {
@@ -75,8 +75,8 @@ pub fn sweeps_fill_the_pipeline()
     a_round_raises();
 }
 
-/// After a rest of enough sweeps every mote keeps the newest version of every image whole. All motes are wide, or all are narrow
-/// and no image that such motes do not speak of has a row. Nothing is promised of mixed networks.
+/// After a rest of enough sweeps every mote keeps the newest version of every image whole. The premise is that all motes are
+/// wide, or that all are narrow and no image that such motes do not speak of has a row. Nothing is promised of mixed networks.
 pub fn enough_sweeps_complete()
     ensures { CompletionLaw }
 {
@@ -95,8 +95,8 @@ pub fn distances_are_paths()
 
 /// A run of true events begins in a world that agrees with its table. If it ends with a rest of enough sweeps, every mote keeps
 /// the newest version of each image whole. If the sweeps are fewer, each brings every page one link further, provided that every
-/// smaller image is whole everywhere. In both cases all motes are wide, or all are narrow and no image that such motes do not
-/// speak of has a row. Free events that were played without a cut are a run of these events.
+/// smaller image is whole everywhere. Both have the premise that all motes are wide, or that all are narrow and no image that
+/// such motes do not speak of has a row. Free events that were played without a cut are a run of these events.
 pub fn scripts_end_complete()
     ensures completes { EndsLaw }
     ensures pipeline { EndsPipelineLaw }
