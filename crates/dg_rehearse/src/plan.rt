@@ -64,7 +64,7 @@ pub enum Ending {
     OutOfTime,
     /// The script has a million events, the most that a script may have.
     TooMany,
-    /// The script has as many bytes as a script may have.
+    /// The script has too few bytes left for another turn.
     TooLong,
 }
 
