@@ -102,7 +102,7 @@ module _ (golden : Row) (laws : Laws golden) where
   unfolding frame_effect
   frame_holds m s now word bytes p asks = silent_holds (heard_of m s now word bytes) (laws.heard m s now word bytes p asks)
 
-  -- ---- the base_events of a line
+  -- ---- the events of a line
 
   module _ (b : Base) where
     -- the mote is on, asks for a known image, if for any, and its chip is consistent

@@ -35,7 +35,7 @@ pub send_counts : (r : Result (Unit {0}) Stop) (text : List ℕ) (before now : O
 send_counts (Ok x) text before now a b calm w = calm
 send_counts (Err why) text before now a b calm w = send_calm why text before now a b calm w
 
--- a base_event that failed wrote nothing
+-- an event that failed wrote nothing
 pub write_calm : (why : Stop) (b : Base) (s : Store) (done : List BaseEvent) (d : BaseEvent) (before : At) (new : Device) (n : ℕ) → BaseEventFails why b s done d before new → WritesBy why n n
 write_calm stop.Flash b s done d before new n x = refl
 write_calm stop.NoImage b s done d before new n x = refl

@@ -1,4 +1,4 @@
--- Runs with one more base_event, and the base_events of a line with more items.
+-- Runs with one more event, and the events of a line with more items.
 use Rattle.std.proofs.Common.{◌≡◌, ℕ, List, [], ◌∷◌, ◌++◌, refl, ap, sym, ◌∙◌, append-nil}
 use Rattle.std.specs.Prelude.{map, Option, Some, None, option_map}
 use Rattle.std.proofs.lemmas.List.{map-append}

@@ -63,7 +63,7 @@ power_effect b s = reset_effect s b.id true (moment_at b 0) (draw_at b 0)
 abbrev pub powered : Base → Store → At
 powered b s = behind_event (power_effect b s) 0 []
 
--- what a base_event does to a mote that stands there
+-- what an event does to a mote that stands there
 abbrev pub effect_of : Base → MoteState → At → BaseEvent → Effect
 effect_of b m a (Hears bytes) = frame_effect m a.store (moment_at b a.events) (draw_at b a.events) bytes
 effect_of b m a Ticks = tick_effect m a.store (moment_at b a.events) (draw_at b a.events)

@@ -78,7 +78,7 @@ BaseWroteBy status.WriteFault {b} {s} {input} c text left =
     (line : List ℕ) × ClosesBy c line × IsPrefixOfInput text (line_sent c.there ++ line)
 BaseWroteBy answer {b} {s} {input} c text left = ⊥
 
--- The chip stopped as it powered on, or in the next base_event.
+-- The chip stopped as it powered on, or in the next event.
 pub data FlashStopped (b : Base) (s : Store) (input text : List ℕ) (old new : Device) : Type 0 where
   AtPower : (between : Device) → text ≡ [] → Stands between.image s → Stops (power_effect b s).trail between new
       → FlashStopped b s input text old new

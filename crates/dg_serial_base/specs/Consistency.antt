@@ -17,14 +17,14 @@ use Rattle.dg_serial_base.specs.BaseEvents.{after_base_event}
 abbrev pub BaseStartsSound : Row → Effect → Type 0
 BaseStartsSound golden e = IfSome e.started (λ r. IsSoundApp golden (app_of r))
 
--- so does each of these base_events, one after another
+-- what each of these events starts is sound, one after another
 unfoldable pub AllStartSound : Row → Base → At → List BaseEvent → Type 0
 AllStartSound golden b a [] = Unit {0}
 AllStartSound golden b a (d ∷ ds) =
     (m : MoteState) → a.mote ≡ Some m → BaseStartsSound golden (effect_of b m a d)
     × AllStartSound golden b (after_base_event b m a d) ds
 
--- From a chip that stood for s, however the line ended: what power-on and the base_events of the input start is sound, no start
+-- From a chip that stood for s, however the line ended: what power-on and the events of the input start is sound, no start
 -- lacked an image, and the chip stands for a consistent store.
 pub record BaseStaysConsistent (golden : Row) (answer : Status) (b : Base) (s : Store) (input image : List ℕ) : Type 0 where
   pub power : BaseStartsSound golden (power_effect b s)

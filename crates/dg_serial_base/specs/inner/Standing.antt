@@ -79,7 +79,7 @@ pub record LineAt : Type 0 where
 abbrev pub code_on_line : (written : Option (List ℕ)) → (mote : Running) → (reading : FrameReading) → (chip : Device) → LineAt
 code_on_line written mote reading chip = record { code = code_at written mote chip; reading = reading }
 
--- what a base_event leaves: the code's mote over its chip, and the frame that is to be written, if there is one
+-- what an event leaves: the code's mote over its chip, and the frame that is to be written, if there is one
 pub record BaseEventLeft : Type 0 where
   pub mote : Running
   pub chip : Device
@@ -137,7 +137,7 @@ abbrev pub NoneEnds : {T : Type 0} → Result T Stop → (old new : Device) → 
 NoneEnds (Ok x) old new = ⊥
 NoneEnds (Err why) old new = NoneBy why old new
 
--- ---- the mote after its base_events
+-- ---- the mote after its events
 
 -- the time and the draws of this many events
 pub record IsTime (t : Timeline) (b : Base) (events : ℕ) : Type 0 where
@@ -145,7 +145,7 @@ pub record IsTime (t : Timeline) (b : Base) (events : ℕ) : Type 0 where
   pub moment : t.moment ≡ b.step * events
   pub draws : generator_of t.draws ≡ generator_after b.seed events
 
--- These base_events were done, and the code's mote over a chip of these bytes is the mote then.
+-- These events were done, and the code's mote over a chip of these bytes is the mote then.
 pub record Stood (b : Base) (s : Store) (done : List BaseEvent) (v : Running) (c : List ℕ) (there : At) : Type 0 where
   pub state : MoteState
   pub run : BaseEventsRun b (powered b s) done there
@@ -167,14 +167,14 @@ abbrev pub one_if : Option (List ℕ) → List (List ℕ)
 one_if None = []
 one_if (Some frame) = frame ∷ []
 
--- One more base_event was done, in which this frame was sent, if any.
+-- One more event was done, in which this frame was sent, if any.
 pub record DoneOne (b : Base) (s : Store) (done : List BaseEvent) (d : BaseEvent) (before : At) (left : BaseEventLeft)
     : Type 0 where
   pub there : At
   pub stood : Stood b s (done ++ d ∷ []) left.mote left.chip.image there
   pub sent : map frame_of there.sent ≡ map frame_of before.sent ++ one_if left.frame
 
--- A base_event found no image to start.
+-- An event found no image to start.
 pub record LacksIn (b : Base) (s : Store) (done : List BaseEvent) (d : BaseEvent) (before : At) (c : List ℕ) : Type 0 where
   pub there : At
   pub run : BaseEventsRun b (powered b s) (done ++ d ∷ []) there
@@ -182,7 +182,7 @@ pub record LacksIn (b : Base) (s : Store) (done : List BaseEvent) (d : BaseEvent
   pub sent : there.sent ≡ before.sent
   pub stands : Stands c there.store
 
--- The chip stopped in a base_event.
+-- The chip stopped in an event.
 pub record StopsInBaseEvent (b : Base) (d : BaseEvent) (before : At) (new : Device) : Type 0 where
   pub state : MoteState
   pub on : before.mote ≡ Some state
@@ -265,7 +265,7 @@ StoppedBy stop.TooLong b there rest first now new = ⊥
 abbrev pub AreOnLine : At → Type 0
 AreOnLine there = AllByRecursion IsOnLine (map frame_of there.sent)
 
--- Some of these base_events were done, and then the mote stopped.
+-- Some of these events were done, and then the mote stopped.
 pub record BaseEventsHalted (why : Stop) (a : Outset) (all : List BaseEvent) (now : Option (List ℕ)) (new : Device) : Type 0 where
   pub done : List BaseEvent
   pub rest : List BaseEvent
@@ -275,7 +275,7 @@ pub record BaseEventsHalted (why : Stop) (a : Outset) (all : List BaseEvent) (no
   pub fits : AreOnLine there
   pub by : StoppedBy why a.base there rest a.written now new
 
--- These base_events were done, and what was sent is written.
+-- These events were done, and what was sent is written.
 pub record CompletedOn (a : Outset) (all : List BaseEvent) (now : CodeAt) : Type 0 where
   pub there : At
   pub stood : Stood a.base a.store all now.mote now.chip.image there
