@@ -4,7 +4,7 @@ use Rattle.std.specs.Prelude.{ℕ, zero, suc, ◌+◌, ◌-◌, ◌*◌, Bool, i
 use Rattle.dg_base.specs.Sizes.{longest_frame}
 pub use Rattle.dg_object.specs.Sizes.{packets, packet_size, fewest_pages, most_pages}
 
--- the most bytes of a frame, and of any input from outside
+-- the most bytes of a frame, also of one from outside, which may be any bytes
 abbrev pub frame_bytes : ℕ
 frame_bytes = longest_frame
 

@@ -26,7 +26,7 @@ pub use reading::{SHORTEST, has_crc_at, read};
 pub use sent::{is_read_back, refusal};
 pub use writing::write;
 
-/// The most bytes of a frame, and of any input from outside.
+/// The most bytes of a frame, also of one from outside, which may be any bytes.
 pub const FRAME_BYTES: usize = LONGEST_FRAME;
 
 /// A narrow reader knows the images from 1 to this number, and an advert names these.
