@@ -13,7 +13,7 @@ pub(crate) const SHORT: u32 = 1;
 /// No such kind.
 pub(crate) const KIND: u32 = 2;
 
-/// The bytes have a length that they may not have.
+/// The number of bytes is not allowed.
 pub(crate) const LENGTH: u32 = 3;
 
 /// The CRC or the digest differs.

@@ -1,7 +1,7 @@
 //! The verbs of chained images.
 //!
-//! Each writes once, at its end. Causes to end are checked in one order: whether there is a board, if it uses one, what the input
-//! spells, and what the board holds.
+//! Each writes once, at its end. What can end it is checked in one order: whether there is a board, if it uses one, what the
+//! input spells, and what the board holds.
 #![tactic(auto)]
 
 mod checking;

@@ -98,8 +98,8 @@ hear_end (Err stopped) = Stopped
 
 -- ---- what a start finds
 
--- What a start's answer says of the board: it is a volume, or it is not one and keeps its bytes. A stop is a stop of the
--- device.
+-- What a start's answer says of the board: it is a volume, or it is not one and keeps its bytes. If it answers
+-- Stopped, the device is stopped.
 abbrev pub PowerFinds : Result Powered BootFault → Device → Device → Type 0
 PowerFinds (Ok x) old new = IsVolume old.image
 PowerFinds (Err boot_fault.Stopped) old new = ActStopped old new × (IsNoVolume old.image → ReadStopped old new)

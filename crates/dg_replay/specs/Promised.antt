@@ -72,9 +72,9 @@ pub record HonestRun {table : List Row} {script : Script} {c : Progress table sc
   -- in which the first was ahead. Both were on, and had room for three commits at its end, and no power was cut in it. The 50
   -- ticks with which a round begins brought their mote to rest.
   pub rounds : RoundsBring f.played
-  -- It may end with an undisturbed rest of t sweeps. Every mote is on, and has room for three commits at its end. All motes are
-  -- wide, or all are narrow and no image above 3 has a row. If every smaller image was whole everywhere, a mote within j links of
-  -- a whole image then has t + 1 - j pages of it, or all.
+  -- Suppose it ends with an undisturbed rest of t sweeps, every mote is on and has room for three commits at its end, and all
+  -- motes are wide, or all are narrow and no image above 3 has a row. If every smaller image was whole everywhere, a mote within
+  -- j links of a whole image then has t + 1 - j pages of it, or all.
   pub pipeline : RestsFillThePipeline f
   -- If such a rest has enough sweeps, every mote keeps the newest version of every image whole.
   pub completes : RestsComplete f

@@ -16,7 +16,7 @@ pub enum Line {
         used: u32,
         content: Bytes,
     },
-    /// The boards are used unchanged.
+    /// The boards are used as they are.
     Boards,
     /// Two motes are neighbours.
     Link(u8, u8),

@@ -12,7 +12,7 @@ use std::alloc::{AllocError, Global};
 pub struct Place {
     /// How many motes there are, 0 before the first line, which gives the number.
     pub motes: u8,
-    /// Whether the second line was read, which formats the boards or uses them unchanged.
+    /// Whether the second line was read, which formats the boards or uses them as they are.
     pub ready: bool,
     /// Whether an event, a round or a sweep was read.
     pub events: bool,

@@ -1,6 +1,6 @@
 //! The verbs over one board: format, inject, order, boot, ping, dump and migrate.
 //!
-//! Each works on the first of the boards that it is given, and writes once, at its end. Causes to end are checked in one order:
+//! Each works on the first of the boards that it is given, and writes once, at its end. What can end it is checked in one order:
 //! whether there is a board, what the input spells, and what the board holds. The parts of which other verbs are made are public
 //! too: reading an image, mounting, lines, and the end.
 #![tactic(auto)]
