@@ -20,7 +20,7 @@ ghost use Rattle.dg_world.specs.inner.EventOutcomes.{Refused, Starts};
 ghost use Rattle.dg_world.specs.inner.OutcomeEndings.{outcome_lines, frame_lines};
 ghost use Rattle.dg_world.specs.inner.Outcomes.{IsNothing, outcome_of};
 ghost use Rattle.dg_world.specs.inner.Steps.{CutChangesAre, CutReported, CutRead, StepDid};
-ghost use Rattle.dg_world.specs.Stepped.{station};
+ghost use Rattle.dg_world.specs.Stepped.{board_state};
 ghost use Rattle.dg_world.specs.Known.{IsOrder, MakesKnown};
 ghost use Rattle.dg_world.specs.inner.Sees.{SeesCut};
 ghost use Rattle.dg_node.specs.Known.{IsKnownChip, SeesOrder};
@@ -268,7 +268,7 @@ fn step_cut<N: Nor>(
     requires may { MayApply context event.now (N.device board.old) runs.old }
     requires nothing { IsNothing outcome.old }
     ensures { StepDid result context.entry (step_of event.now (Some cut.now)) outcome.new
-        (station (N.device board.old) runs.old out.old.items) (station (N.device board.new) runs.new out.new.items) }
+        (board_state (N.device board.old) runs.old out.old.items) (board_state (N.device board.new) runs.new out.new.items) }
 {
     let mote = context.mote;
     match play_cut(&context, runs, event, cut, board, outcome)? {
@@ -303,7 +303,7 @@ pub(crate) fn step_at<N: Nor>(
     requires may { MayApply context.now event.now (N.device board.old) runs.old }
     requires nothing { IsNothing outcome.old }
     ensures { StepDid result context.now (step_of event.now (option_copied cut.entry)) outcome.new
-        (station (N.device board.old) runs.old out.old.items) (station (N.device board.new) runs.new out.new.items) }
+        (board_state (N.device board.old) runs.old out.old.items) (board_state (N.device board.new) runs.new out.new.items) }
 {
     match cut {
         None => {
