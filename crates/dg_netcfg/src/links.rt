@@ -5,7 +5,7 @@ ghost use Rattle.toml.specs.View.{view, items_view, array_view};
 ghost use Rattle.dg_netcfg.specs.Document.{all_of, list_of};
 ghost use Rattle.dg_netcfg.specs.Profile.{profile_mote, profile_link, is_same_link, has_repeat, links_of};
 
-use crate::reading::within;
+use crate::reading::number_in_range;
 use std::alloc::{AllocError, Global};
 use toml::Value;
 use toml::value::Array;
