@@ -60,6 +60,7 @@ impl Mote {
 
     /// Hears the frame of a message: does what [`Mote::hear`] does with the bytes of that frame, without making them. The fields
     /// of the message are in the ranges of a wide reader. It is for a world that keeps sent frames as messages.
+    #[inline(always)]
     pub fn hear_sent<N: Nor>(
         &mut self,
         nor: &mut N,
@@ -89,6 +90,7 @@ impl Mote {
     }
 
     /// A message was heard. The mote's own are dropped.
+    #[inline(always)]
     fn hear_message<N: Nor>(
         &mut self,
         nor: &mut N,

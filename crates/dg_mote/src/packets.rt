@@ -30,6 +30,7 @@ use std::mem;
 impl Mote {
     /// A packet of a page was heard. If it is missing from the page that the mote asks for, it is programmed, which is 1
     /// operation. The last packet makes the page whole.
+    #[inline(never)]
     pub(crate) fn hear_packet<N: Nor>(
         &mut self,
         nor: &mut N,

@@ -1,5 +1,6 @@
 //! What a mote does as time passes.
-ghost use Rattle.std.specs.Prelude.{◌≡◌, ℕ, ◌<◌, ◌≤◌, ◌^◌, None, Some, IfOk, IfSome, OnOk, OnErr, List, Option, option_map};
+ghost use Rattle.std.specs.Prelude.{◌≡◌, ℕ, ◌<◌, ◌≤◌, ◌^◌, false, None, Some, IfOk, IfSome, OnOk, OnErr, List, Option};
+ghost use Rattle.std.specs.Prelude.{option_map};
 ghost use Rattle.dg_nor.specs.Reads.{ReadEnds};
 ghost use Rattle.dg_frame.specs.Spelling.{frame_of};
 ghost use Rattle.dg_frame.specs.declared.Message.TheVariants as message;
@@ -11,6 +12,7 @@ ghost use Rattle.dg_object.specs.Object.{Row};
 ghost use Rattle.dg_volume.specs.Store.{Store};
 ghost use Rattle.dg_volume.specs.Stands.{Tells, Mounted, IsMounted, is_lent, room_of};
 ghost use Rattle.dg_volume.specs.Acts.{Acted, Stops};
+ghost use Rattle.dg_volume.specs.Start.{order_waits};
 ghost use Rattle.dg_volume.specs.Trails.{clear_trail};
 ghost use Rattle.dg_mote.specs.Model.{MoteState, Maintain};
 ghost use Rattle.dg_mote.specs.Summary.{advert_of};
@@ -89,6 +91,7 @@ impl Mote {
     }
 
     /// Does what its mode asks for.
+    #[inline(always)]
     fn tick_mode<N: Nor>(
         &mut self,
         nor: &mut N,
@@ -110,17 +113,21 @@ impl Mote {
             → Stops (mode_tick m.mode m s now word).trail (N.device nor.old) (N.device nor.new)) }
         ensures nothing_sent { OnErr result (sent_in out.new ≡ None) }
     {
+        if has_order(&self.volume) {
+            return self.tick_busy(nor, now, word, out);
+        }
         match &mut self.mode {
             Mode::Maintain(trickle) => {
                 let wide = self.wide;
-                Ok(maintain(self.id, wide, &self.volume, trickle, now, word, out))
+                Ok(advertise(self.id, wide, &self.volume, trickle, now, word, out))
             }
             Mode::Receive { .. } => self.tick_busy(nor, now, word, out),
             Mode::Transmit { .. } => self.tick_busy(nor, now, word, out),
         }
     }
 
-    /// The same, for a mote that receives or serves. It is not inlined: most ticks are of motes that maintain.
+    /// The same, for a mote that receives, serves or keeps an order. It is not inlined: most ticks are of motes that do none of
+    /// this.
     #[inline(never)]
     fn tick_busy<N: Nor>(
         &mut self,
@@ -222,6 +229,34 @@ fn maintain(
     if order_waits(volume) {
         return Did::Restart;
     }
+    advertise(id, wide, volume, trickle, now, word, out)
+}
+
+/// Whether an order is kept. Without one none is pending.
+fn has_order(volume: &Volume) -> bool
+    ensures { (s : Store) → Tells volume.now s → result ≡ false → order_waits s ≡ false }
+{
+    volume.snapshot().order.number != 0
+}
+
+/// Ticks the timer of a mote that maintains and has no order pending, and advertises if the timer says so.
+#[inline(always)]
+fn advertise(
+    id: u16,
+    wide: bool,
+    volume: &Volume,
+    trickle: &mut Trickle,
+    now: u64,
+    word: u32,
+    out: &mut Outbox,
+) -> Did
+    requires mounted { (c : List ℕ) × IsMounted c volume.now }
+    requires moment { now < 2 ^ 62 }
+    requires empty { sent_in out.old ≡ None }
+    requires none { (s : Store) → Tells volume.now s → order_waits s ≡ false }
+    ensures { (m : MoteState) (s : Store) → m.id ≡ id → m.wide ≡ wide → m.mode ≡ Maintain trickle.old → Tells volume.now s
+        → EndsInMode (maintain_tick m trickle.old s now word) m s (Maintain trickle.new) out.new result }
+{
     match trickle.tick(now, word) {
         Act::Send => {
             put_advert(id, wide, volume, out);
