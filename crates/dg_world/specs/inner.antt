@@ -4,6 +4,7 @@ pub mod ChipReports
 pub mod Contexts
 pub mod Counts
 pub mod CutEnds
+pub mod EventKinds
 pub mod EventOutcomes
 pub mod Faults
 pub mod Finished

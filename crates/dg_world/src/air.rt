@@ -62,19 +62,22 @@ impl Air {
         ensures { (before : List Sent) → Carries self.old before → Carries self.new (before ++ sent_now by (sent_in outbox.now)) }
     {
         if let Some(message) = outbox.message() {
-            self.push(by, *message);
+            self.push(by, message);
         }
     }
 
     /// A mote sends the frame of a message. There is capacity for it.
-    fn push(&mut self, by: u8, message: Message)
+    fn push(&mut self, by: u8, message: &Message)
         requires known { by < most_motes }
-        requires range { in_range true message ≡ true }
+        requires range { in_range true message.now ≡ true }
         requires capacity { vec_len self.old.frames + 1 ≤ vec_capacity self.old.frames }
         ensures { (before : List Sent) → Carries self.old before
-            → Carries self.new (before ++ sent_now by (Some (frame_of message))) }
+            → Carries self.new (before ++ sent_now by (Some (frame_of message.now))) }
     {
-        self.frames.push_reserved(SentFrame { by, message });
+        self.frames.push_reserved(SentFrame {
+            message: *message,
+            by,
+        });
         self.last[usize::from(by)] = self.frames.len();
     }
 

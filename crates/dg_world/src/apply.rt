@@ -9,7 +9,7 @@ ghost use Rattle.dg_world.specs.Deployments.{deployed};
 ghost use Rattle.dg_node.specs.declared.report.ChipReport.{ChipReport};
 
 use crate::context::EventContext;
-use crate::events::{dt_at, mote_at};
+use crate::events::{dt_at, kind_of, mote_at};
 use crate::known_boards::{has, is_watched, known_after, makes_known, note};
 use crate::outcome::Fault;
 use crate::stepping::{MOST_LINES, step_at};
@@ -55,6 +55,7 @@ impl World {
     {
         consistency_is_kept();
         agreement_is_kept();
+        let kind = kind_of(event);
         if self.events >= MOST_EVENTS {
             return Err(WorldFault::TooMany);
         }
@@ -65,15 +66,16 @@ impl World {
             return Err(WorldFault::Memory);
         }
         self.outcome.clear();
-        let mote = mote_at(event);
+        let mote = mote_at(kind, event);
         let index = usize::from(mote);
-        let moment = self.moment + u64::from(dt_at(event));
+        let moment = self.moment + u64::from(dt_at(kind, event));
         let runs = &mut self.motes[index];
         let board = &mut boards[index];
         let known = has(&self.known, mote);
-        let makes = makes_known(&self.shared, mote, event);
+        let makes = makes_known(&self.shared, mote, kind, event);
         let context = EventContext {
             shared: &self.shared,
+            kind,
             mote,
             moment,
             known,

@@ -2,6 +2,7 @@
 ghost use Rattle.std.specs.Prelude.{◌^◌, ◌<◌};
 ghost use Rattle.dg_rules.specs.Sizes.{most_motes};
 
+use crate::events::EventKind;
 use crate::shared::Shared;
 
 /// Where and when an event is applied: its inputs besides its board and what the mote there runs.
@@ -9,6 +10,8 @@ use crate::shared::Shared;
 pub(crate) struct EventContext<'a> {
     /// What the motes of the world share.
     pub(crate) shared: &'a Shared,
+    /// The kind of the event.
+    pub(crate) kind: EventKind,
     /// The number of its mote.
     pub(crate) mote: u8,
     /// The moment, in milliseconds.

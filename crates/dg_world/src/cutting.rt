@@ -13,7 +13,7 @@ ghost use Rattle.dg_world.specs.Unseen.{RefusesUnseen};
 ghost use Rattle.dg_world.specs.inner.Sees.{EventReads, EventSees};
 
 use crate::context::EventContext;
-use crate::dispatch::apply_event;
+use crate::dispatch::apply_apart;
 use crate::outcome::{Fault, Outcome, Power};
 use dg_node::Node;
 use dg_nor::{Fused, Nor};
@@ -75,7 +75,7 @@ pub(crate) fn play_cut<N: Nor>(
         (N.device board.new).image }
 {
     let mut fused = fuse_of(cut, board);
-    let done = apply_event(context, runs, event, &mut fused, outcome);
+    let done = apply_apart(*context, runs, event, &mut fused, outcome);
     let blown = fused.blown();
     let stopped = board.is_stopped();
     end_outcome(blown, stopped, done)

@@ -12,6 +12,7 @@ ghost use Rattle.dg_world.specs.inner.Sees.{EventSees, EventReads};
 ghost use Rattle.dg_world.specs.inner.Contexts.{MayApply, AppliesIn};
 
 use crate::context::EventContext;
+use crate::events::EventKind;
 use crate::hearing::{hear, hear_last, hear_numbered};
 use crate::injecting::inject_known;
 use crate::ordering::order_known;
@@ -46,20 +47,16 @@ pub(crate) fn apply_event<N: Nor>(
         (N.device board.new) }
     ensures same_reference { (N.device board.new).references ≡ (N.device board.old).references }
 {
-    match event {
-        Event::Tick { word, .. } => tick(runs, context.moment, *word, board, outcome),
-        Event::Last { from, word, .. } => hear_last(context, runs, *from, *word, board, outcome),
-        Event::Hear { .. }
-        | Event::Frame { .. }
-        | Event::Reset { .. }
-        | Event::Inject { .. }
-        | Event::Order { .. } => apply_apart(*context, runs, event, board, outcome),
+    match context.kind {
+        EventKind::Tick { word, .. } => tick(runs, context.moment, word, board, outcome),
+        EventKind::Last { from, word, .. } => hear_last(context, runs, from, word, board, outcome),
+        EventKind::Other => apply_apart(*context, runs, event, board, outcome),
     }
 }
 
 /// The same, not inlined. It takes the context by value, so that common events need none in memory.
 #[inline(never)]
-fn apply_apart<N: Nor>(
+pub(crate) fn apply_apart<N: Nor>(
     context: EventContext<'_>,
     runs: &mut Option<Node>,
     event: &Event,

@@ -42,13 +42,14 @@ fn leaves_chip(heard: Heard) -> bool
     }
 }
 
-/// What is reported of a chip before a frame. It is not inlined, so that it is copied once, to where it is kept until the mote
-/// answers.
-#[inline(never)]
-fn report_before(volume: &Volume) -> ChipReport
-    ensures { (s : Store) → Tells volume.now s → IsReportOf result s }
+/// Keeps what is reported of a chip before a frame, until the mote answers. The fields are filled in place, so that each is
+/// copied once.
+#[inline(always)]
+fn keep_report(volume: &Volume, report: &mut ChipReport)
+    ensures { (s : Store) → Tells volume.now s → IsReportOf report.new s }
 {
-    report_chip(volume)
+    report.order = volume.snapshot().order;
+    report.kept = volume.kept_images();
 }
 
 /// A mote that is on hears a frame: its own volume exposes what its chip keeps. A mote that is off refuses it.
@@ -78,20 +79,20 @@ pub(crate) fn hear<N: Nor>(
         outcome.is_told = true;
         return Ok(());
     };
-    let before = report_before(node.volume());
+    keep_report(node.volume(), &mut outcome.kept);
     match node.hear(board, now, word, bytes) {
         Ok(heard) => {
             outcome.heard = heard;
             if leaves_chip(heard) {
                 return Ok(());
             }
-            outcome.before = Some(before);
+            outcome.before = Some(outcome.kept);
             outcome.after = Some(report_chip(node.volume()));
             outcome.is_told = true;
             Ok(())
         }
         Err(Stopped) => {
-            outcome.before = Some(before);
+            outcome.before = Some(outcome.kept);
             outcome.is_told = true;
             Err(Fault::Stopped)
         }
@@ -99,6 +100,7 @@ pub(crate) fn hear<N: Nor>(
 }
 
 /// The frame of a message that was sent is heard in the same way.
+#[inline(always)]
 pub(crate) fn hear_sent<N: Nor>(
     runs: &mut Option<Node>,
     now: u64,
@@ -126,20 +128,20 @@ pub(crate) fn hear_sent<N: Nor>(
         outcome.is_told = true;
         return Ok(());
     };
-    let before = report_before(node.volume());
+    keep_report(node.volume(), &mut outcome.kept);
     match node.hear_sent(board, now, word, message) {
         Ok(heard) => {
             outcome.heard = heard;
             if leaves_chip(heard) {
                 return Ok(());
             }
-            outcome.before = Some(before);
+            outcome.before = Some(outcome.kept);
             outcome.after = Some(report_chip(node.volume()));
             outcome.is_told = true;
             Ok(())
         }
         Err(Stopped) => {
-            outcome.before = Some(before);
+            outcome.before = Some(outcome.kept);
             outcome.is_told = true;
             Err(Fault::Stopped)
         }

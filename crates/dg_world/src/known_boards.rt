@@ -9,8 +9,10 @@ ghost use Rattle.dg_base.specs.declared.events.Event.TheVariants.{Inject};
 ghost use Rattle.dg_world.specs.Shareds.{IsShared};
 ghost use Rattle.dg_world.specs.Worlds.{IsWorld};
 ghost use Rattle.dg_world.specs.Known.{known_of, MakesKnown};
+ghost use Rattle.dg_world.specs.inner.EventKinds.{IsEventKind};
 ghost use Rattle.dg_world.specs.inner.Sees.{KnownAfter};
 
+use crate::events::EventKind;
 use crate::injecting::knows;
 use crate::links::MOST_MOTES;
 use crate::shared::Shared;
@@ -30,7 +32,20 @@ impl World {
 }
 
 /// Whether an event makes the board of its mote, which has this number, known, if that is orderly after it.
-pub(crate) fn makes_known(shared: &Shared, mote: u8, event: &Event) -> bool
+#[inline(always)]
+pub(crate) fn makes_known(shared: &Shared, mote: u8, kind: EventKind, event: &Event) -> bool
+    requires mote { mote < most_motes }
+    requires kind { IsEventKind kind event.now }
+    ensures { (w : RuleWorld) → IsShared shared.now w → mote_of event.now ≡ mote → IsTrue result ↔ MakesKnown w event.now }
+{
+    match kind {
+        EventKind::Tick { .. } => false,
+        EventKind::Last { .. } => false,
+        EventKind::Other => looks_into(shared, mote, event),
+    }
+}
+
+fn looks_into(shared: &Shared, mote: u8, event: &Event) -> bool
     requires { mote < most_motes }
     ensures { (w : RuleWorld) → IsShared shared.now w → mote_of event.now ≡ mote → IsTrue result ↔ MakesKnown w event.now }
 {

@@ -4,11 +4,22 @@ ghost use Rattle.dg_mote.specs.Motes.{sent_in};
 ghost use Rattle.dg_world.specs.inner.Untold.{is_untold};
 
 use dg_boot::BootFault;
+use dg_control::{IMAGES, Order};
 use dg_mote::{Heard, Outbox};
 use dg_node::{ChipReport, StartedImage, TickFault};
 use dg_nor::Stopped;
 use dg_rules::Cause;
 use dg_volume::MountFault;
+
+/// What is reported of a chip that keeps nothing.
+const BLANK: ChipReport = ChipReport {
+    order: Order {
+        number: 0,
+        image: 0,
+        version: 0,
+    },
+    kept: [None; IMAGES],
+};
 
 /// The outcome of an event. It is filled in place as the event goes on, since it is large, and most events set little of it.
 #[derive(Drop)]
@@ -26,6 +37,8 @@ pub struct Outcome {
     pub(crate) is_told: bool,
     /// The frame that is sent.
     pub(crate) outbox: Outbox,
+    /// What was reported of a chip before the frame that was heard last. It is not cleared.
+    pub(crate) kept: ChipReport,
     /// What the mote that heard a frame last did. It is not cleared: it is read only after a frame was heard.
     pub(crate) heard: Heard,
     ghost untold: { is_told ≡ false → is_untold refused before after started orderly ≡ true },
@@ -46,6 +59,7 @@ impl Outcome {
             orderly: None,
             is_told: false,
             outbox: Outbox::new(),
+            kept: BLANK,
             heard: Heard::Dropped,
         }
     }

@@ -27,12 +27,13 @@ begun a d v x same stands = record {
   mote = subst (λ (c : List ℕ). MoteStands c v x.store x.runs) (sym same) stands.mote;
 }
 
-pub apply_event-done-requires-clause-may : goal.apply_event-done-requires-clause-may
-apply_event-done-requires-clause-may g c =
+pub apply_apart-done-requires-clause-may : goal.apply_apart-done-requires-clause-may
+apply_apart-done-requires-clause-may g c =
     let made = ap (λ (d : Device). d.image) c.fuse_of-fused.ensures.device in
     let o = c.args.context.now in
     let may = c.requires.may in
     record {
+      kind = may.kind;
       here = may.here;
       mote = subst (λ (i : List ℕ). MayRun i o.moment c.args.runs.now) (sym made) may.mote;
       known = λ known. subst (λ (i : List ℕ). IsKnownChip i) (sym made) (may.known known);
@@ -45,17 +46,17 @@ returns-clause-played g c = λ w on.
     let cut = c.args.cut.now in
     let made = c.fuse_of-fused.ensures.device in
     let v = c.args.runs.now in
-    let u = c.apply_event-done.new.runs in
-    let t = c.apply_event-done.new.outcome in
-    let name = sym (same_reference device c.fuse_of-fused.result c.apply_event-done.new.board c.apply_event-done.ensures.same_reference ∙ c.fuse_of-fused.ensures.same_reference) in
+    let u = c.apply_apart-done.new.runs in
+    let t = c.apply_apart-done.new.outcome in
+    let name = sym (same_reference device c.fuse_of-fused.result c.apply_apart-done.new.board c.apply_apart-done.ensures.same_reference ∙ c.fuse_of-fused.ensures.same_reference) in
     let last = c.board-1.given.1 name in
     let here = begun (device c.args.board.now) _ v (site w m) (ap (λ (d : Device). d.image) made) on.stands in
-    let f = is_fused device cut (device c.args.board.now) c.fuse_of-fused.result c.apply_event-done.new.board _ c.requires.cut.counted made in
-    let p = fused (as_outcome c.apply_event-done.result t) cut w m (does w c.args.event.now) v u _ _ _ _ f (c.apply_event-done.ensures.ends w (record { shared = on.shared; stands = here; moment = on.moment })) in
+    let f = is_fused device cut (device c.args.board.now) c.fuse_of-fused.result c.apply_apart-done.new.board _ c.requires.cut.counted made in
+    let p = fused (as_outcome c.apply_apart-done.result t) cut w m (does w c.args.event.now) v u _ _ _ _ f (c.apply_apart-done.ensures.ends w (record { shared = on.shared; stands = here; moment = on.moment })) in
     let awake = c.is_stopped-stopped.ensures ∙ ap (λ (x : g.row.N.Denot). (device x).stopped) last in
     let e = c.end_outcome.ensures t
-    ∙ ap (λ b. ended (b && not c.is_stopped-stopped.result) (as_outcome c.apply_event-done.result t)) c.blown-blown.ensures
-    ∙ ap (λ b. ended (c.apply_event-done.new.board.blown && not b) (as_outcome c.apply_event-done.result t)) awake in
+    ∙ ap (λ b. ended (b && not c.is_stopped-stopped.result) (as_outcome c.apply_apart-done.result t)) c.blown-blown.ensures
+    ∙ ap (λ b. ended (c.apply_apart-done.new.board.blown && not b) (as_outcome c.apply_apart-done.result t)) awake in
     let P : g.row.N.Denot → Type 0 = λ x. EventPlayed (ended_as c.end_outcome.result t) w m (does w c.args.event.now) (Some cut) (host (device c.args.board.now) v) (host (device x) u) in
     subst P (sym last) (played_as (ended_as c.end_outcome.result t) _ (Some cut) (Some cut) w m (does w c.args.event.now) v u _ _ e refl p)
 
@@ -63,34 +64,34 @@ pub returns-clause-unseen : goal.returns-clause-unseen
 returns-clause-unseen g c = λ w on unseen.
     let device = g.N.Nor.device in
     let made = c.fuse_of-fused.ensures.device in
-    let name = sym (same_reference device c.fuse_of-fused.result c.apply_event-done.new.board c.apply_event-done.ensures.same_reference ∙ c.fuse_of-fused.ensures.same_reference) in
+    let name = sym (same_reference device c.fuse_of-fused.result c.apply_apart-done.new.board c.apply_apart-done.ensures.same_reference ∙ c.fuse_of-fused.ensures.same_reference) in
     let last = c.board-1.given.1 name in
     let here = begun (device c.args.board.now) _ c.args.runs.now (site w (mote_of c.args.event.now)) (ap (λ (d : Device). d.image) made) on.stands in
-    let stays = c.apply_event-done.ensures.unseen w (record { shared = on.shared; stands = here; moment = on.moment }) unseen in
-    (last ∙ ap inner_of stays.0 ∙ c.fuse_of-fused.ensures.inner, ended_on c.end_outcome.result c.apply_event-done.result _ c.apply_event-done.new.outcome (c.end_outcome.ensures c.apply_event-done.new.outcome) stays.1)
+    let stays = c.apply_apart-done.ensures.unseen w (record { shared = on.shared; stands = here; moment = on.moment }) unseen in
+    (last ∙ ap inner_of stays.0 ∙ c.fuse_of-fused.ensures.inner, ended_on c.end_outcome.result c.apply_apart-done.result _ c.apply_apart-done.new.outcome (c.end_outcome.ensures c.apply_apart-done.new.outcome) stays.1)
 
 pub returns-clause-reads : goal.returns-clause-reads
 returns-clause-reads g c =
     let device = g.N.Nor.device in
     let made = c.fuse_of-fused.ensures.device in
-    let t = c.apply_event-done.new.outcome in
-    let name = sym (same_reference device c.fuse_of-fused.result c.apply_event-done.new.board c.apply_event-done.ensures.same_reference ∙ c.fuse_of-fused.ensures.same_reference) in
+    let t = c.apply_apart-done.new.outcome in
+    let name = sym (same_reference device c.fuse_of-fused.result c.apply_apart-done.new.board c.apply_apart-done.ensures.same_reference ∙ c.fuse_of-fused.ensures.same_reference) in
     let last = c.board-1.given.1 name in
-    let y = c.apply_event-done.new.board in
+    let y = c.apply_apart-done.new.board in
     let P : g.row.N.Denot → Type 0 = λ x. EventReads c.args.event.now c.args.context.now.known (c.end_outcome.result ≡ Ok power.Stays) t.refused (device c.args.board.now) (device x) in
     subst P (sym last)
-    (reads_over c.args.event.now c.args.context.now.known _ (c.end_outcome.result ≡ Ok power.Stays) t.refused _ (fused_device device y) (device c.args.board.now) (device (inner_of y)) (λ is. stays_done c.end_outcome.result c.apply_event-done.result _ t (c.end_outcome.ensures t) is)
-    (ap (λ (d : Device). d.image) made) refl (ap (λ (d : Device). d.taken) made) refl c.apply_event-done.ensures.reads)
+    (reads_over c.args.event.now c.args.context.now.known _ (c.end_outcome.result ≡ Ok power.Stays) t.refused _ (fused_device device y) (device c.args.board.now) (device (inner_of y)) (λ is. stays_done c.end_outcome.result c.apply_apart-done.result _ t (c.end_outcome.ensures t) is)
+    (ap (λ (d : Device). d.image) made) refl (ap (λ (d : Device). d.taken) made) refl c.apply_apart-done.ensures.reads)
 
 pub returns-clause-sees : goal.returns-clause-sees
 returns-clause-sees g c = λ is.
     let device = g.N.Nor.device in
     let made = c.fuse_of-fused.ensures.device in
-    let t = c.apply_event-done.new.outcome in
-    let name = sym (same_reference device c.fuse_of-fused.result c.apply_event-done.new.board c.apply_event-done.ensures.same_reference ∙ c.fuse_of-fused.ensures.same_reference) in
+    let t = c.apply_apart-done.new.outcome in
+    let name = sym (same_reference device c.fuse_of-fused.result c.apply_apart-done.new.board c.apply_apart-done.ensures.same_reference ∙ c.fuse_of-fused.ensures.same_reference) in
     let last = c.board-1.given.1 name in
-    let y = c.apply_event-done.new.board in
-    let u = c.apply_event-done.new.runs in
+    let y = c.apply_apart-done.new.board in
+    let u = c.apply_apart-done.new.runs in
     let P : g.row.N.Denot → Type 0 = λ x. EventSees c.args.event.now t u (device c.args.board.now).image (device x).image in
-    let sees = when_ok c.apply_event-done.result c.apply_event-done.ensures.sees (stays_done c.end_outcome.result c.apply_event-done.result _ t (c.end_outcome.ensures t) is) in
+    let sees = when_ok c.apply_apart-done.result c.apply_apart-done.ensures.sees (stays_done c.end_outcome.result c.apply_apart-done.result _ t (c.end_outcome.ensures t) is) in
     subst P (sym last) (subst (λ (i : List ℕ). EventSees c.args.event.now t u i (device (inner_of y)).image) (ap (λ (d : Device). d.image) made) sees)

@@ -25,13 +25,13 @@ returns-else-leaves_chip-clause-ends g c = λ w m stands.
     let v : Node = c.in-Some.node in
     let u : Node = c.hear_sent.new.self in
     let n = c.requires.nothing in
-    told_as w m _ _ _ _ _ _ _ (is_changed _ _ _ c.report_before-before.result c.report_chip.result n.sent n.refused n.started)
-    (on_as (λ o. hear_by w s o c.args.now c.args.word (frame_of c.args.message.now)) (Ok (Changes c.report_before-before.result c.report_chip.result)) w m c.args.runs.now v (Some u) _ s (site w m).runs _ _ c.in-Some.is stands.mote
+    told_as w m _ _ _ _ _ _ _ (is_changed _ _ _ c.keep_report.new.report c.report_chip.result n.sent n.refused n.started)
+    (on_as (λ o. hear_by w s o c.args.now c.args.word (frame_of c.args.message.now)) (Ok (Changes c.keep_report.new.report c.report_chip.result)) w m c.args.runs.now v (Some u) _ s (site w m).runs _ _ c.in-Some.is stands.mote
     (λ r mote.
     let done = c.in-Ok.ensures.done r.mote s mote.1 in
     let e = frame_effect r.mote s c.args.now c.args.word (frame_of c.args.message.now) in
-    node_changes w m e (Some r.image_version) (Some v) _ _ (λ _. ap Some (sym mote.0)) u c.report_before-before.result c.report_chip.result done
-    (c.report_before-before.ensures s (subst (λ v. Tells v s) (sym c.volume.ensures) mote.1.mounted.tells)) (c.report_chip.ensures (last e.trail) (subst (λ v. Tells v (last e.trail)) (sym c.volume-in-Ok.ensures) (node_tells e None (Some v) u _ _ done.0)))))
+    node_changes w m e (Some r.image_version) (Some v) _ _ (λ _. ap Some (sym mote.0)) u c.keep_report.new.report c.report_chip.result done
+    (c.keep_report.ensures s (subst (λ v. Tells v s) (sym c.volume.ensures) mote.1.mounted.tells)) (c.report_chip.ensures (last e.trail) (subst (λ v. Tells v (last e.trail)) (sym c.volume-in-Ok.ensures) (node_tells e None (Some v) u _ _ done.0)))))
 
 pub returns-then-leaves_chip-clause-ends : goal.returns-then-leaves_chip-clause-ends
 returns-then-leaves_chip-clause-ends g c = λ w m stands.
@@ -49,10 +49,10 @@ returns-in-Err-clause-ends g c = λ w m stands.
     let s = store_at w m in
     let v : Node = c.in-Some.node in
     let u : Node = c.hear_sent.new.self in
-    on_as (λ o. hear_by w s o c.args.now c.args.word (frame_of c.args.message.now)) (Err (Stopped (Some c.report_before-before.result))) w m c.args.runs.now v (Some u) _ s (site w m).runs (g.N.Nor.device c.args.board.now) (g.N.Nor.device c.hear_sent.new.board) c.in-Some.is stands.mote
+    on_as (λ o. hear_by w s o c.args.now c.args.word (frame_of c.args.message.now)) (Err (Stopped (Some c.keep_report.new.report))) w m c.args.runs.now v (Some u) _ s (site w m).runs (g.N.Nor.device c.args.board.now) (g.N.Nor.device c.hear_sent.new.board) c.in-Some.is stands.mote
     (λ r mote.
-    node_stopped_with w m (frame_effect r.mote s c.args.now c.args.word (frame_of c.args.message.now)) (Some r.image_version) (Some v) (g.N.Nor.device c.args.board.now) (g.N.Nor.device c.hear_sent.new.board) (λ _. ap Some (sym mote.0)) (Some u) c.report_before-before.result (c.in-Err.ensures.done r.mote s mote.1).0
-    (c.report_before-before.ensures s (subst (λ v. Tells v s) (sym c.volume.ensures) mote.1.mounted.tells)))
+    node_stopped_with w m (frame_effect r.mote s c.args.now c.args.word (frame_of c.args.message.now)) (Some r.image_version) (Some v) (g.N.Nor.device c.args.board.now) (g.N.Nor.device c.hear_sent.new.board) (λ _. ap Some (sym mote.0)) (Some u) c.keep_report.new.report (c.in-Err.ensures.done r.mote s mote.1).0
+    (c.keep_report.ensures s (subst (λ v. Tells v s) (sym c.volume.ensures) mote.1.mounted.tells)))
 
 pub returns-else-leaves_chip-clause-same_reference : goal.returns-else-leaves_chip-clause-same_reference
 returns-else-leaves_chip-clause-same_reference g c =

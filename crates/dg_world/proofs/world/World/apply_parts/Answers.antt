@@ -57,6 +57,7 @@ step_at-requires-clause-may g c =
     let wide : i < length boards = omega (arith, known, x.1.boards_enough, length-map boards device) in
     let here = got_or device boards i c.index_mut-board.result.now wide ∙ ap (λ (y : g.row.N.Denot). Some (device y)) (sym c.index_mut-board.ensures.value) in
     record {
+      kind = c.kind_of-kind.ensures;
       here = c.mote_at-mote.ensures;
       mote = runs_at c.args.self.now (map device boards) x.0 i _ _ _ x.1 known here c.index_mut-runs.ensures.value (omega arith);
       known = λ is_known. chip_at c.args.self.now (map device boards) x.0 i c.mote_at-mote.result _ x.1 c.from-index.ensures known here (sym c.has-known.ensures.value ∙ is_known);
