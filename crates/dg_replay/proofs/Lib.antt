@@ -2,6 +2,7 @@ pub mod ItemLemmas
 pub mod ShownLemmas
 pub mod ItemStepLemmas
 pub mod StepLemmas
+pub mod PartLemmas
 pub mod BytesLemmas
 pub mod PlayLemmas
 pub mod StandLemmas

@@ -1,14 +1,11 @@
-//! Plays the items of a line: an image that is declared, an event, and the events of rounds and sweeps.
+//! Plays the items of a line: an image that is declared, and an event.
 ghost use Rattle.std.specs.Prelude.{◌≡◌, ◌∷◌, ◌++◌, [], List, Err, map, length, OnOk, OnErr, option_copied};
-ghost use Rattle.std.specs.List.{AllByRecursion};
 ghost use Rattle.dg_nor.specs.Device.{Device};
 ghost use Rattle.dg_object.specs.Object.{row_of};
-ghost use Rattle.dg_rounds.specs.Rounds.{times, round, sweep};
-ghost use Rattle.dg_script.specs.Items.{Declares, Applies, unreported};
+ghost use Rattle.dg_script.specs.Items.{Declares, Applies};
 ghost use Rattle.dg_script.specs.Report.{report_text};
 ghost use Rattle.dg_rules.specs.Sizes.{most_events};
 ghost use Rattle.dg_rules.specs.World.{World as RuleWorld};
-ghost use Rattle.dg_rules.specs.Premises.{LinkFits};
 ghost use Rattle.dg_script.specs.Ranges.{IsDeclared, StepInRange};
 ghost use Rattle.dg_world.specs.Worlds.{IsWorld};
 ghost use Rattle.dg_world.specs.Applying.{step_of};
@@ -21,7 +18,6 @@ use crate::stop::Stop;
 use crate::watching::Watcher;
 use dg_base::{Bytes, Cut, Event};
 use dg_nor::Nor;
-use dg_rounds::{ROUND_EVENTS, RoundTurns};
 use dg_script::{Report, write_report};
 use dg_world::{DeclareFault, World, WorldFault};
 use std::alloc::AllocError;
@@ -135,111 +131,4 @@ pub fn play_event<N: Nor, W: Watcher<N>>(
             Err(Stop::NoImage)
         }
     }
-}
-
-/// Plays the events of a round. Their frames are not reported.
-#[inline(never)]
-pub fn play_round<N: Nor, W: Watcher<N>>(
-    world: &mut World,
-    a: u8,
-    b: u8,
-    boards: &mut Vec<N>,
-    line_report: &mut LineReport,
-    watcher: &mut W,
-) -> Result<(), Stop>
-    requires { (w : RuleWorld) × IsWorld world.old (map N.device boards.old.items) w × LinkFits (length w.sites) (a, b) }
-    ensures goes_on { KeepsMotes result world.old world.new (map N.device boards.old.items) (map N.device boards.new.items) }
-    ensures played { (w : RuleWorld) (initial : List Device) → IsWorld world.old (map N.device boards.old.items) w
-        → WorldStands w initial (map N.device boards.old.items)
-        → ItemsPlayedAs result w (unreported (round a b)) world.new initial
-        (told_so_far line_report.old.text.items (W.saw watcher.old))
-        (boards_told (map N.device boards.new.items)
-        (told_so_far line_report.new.text.items (W.saw watcher.new))) }
-    ensures kept { KeepBytes (unreported (round a b)) (map N.device boards.old.items)
-        (map N.device boards.new.items) }
-{
-    let turns = RoundTurns::new(a, b);
-    for position in 0..ROUND_EVENTS {
-        let event = turns.at(position);
-        play_event(world, event, None, false, boards, line_report, watcher)?;
-    }
-    Ok(())
-}
-
-/// Plays the rounds over a link, one in each direction.
-fn play_both<N: Nor, W: Watcher<N>>(
-    world: &mut World,
-    a: u8,
-    b: u8,
-    boards: &mut Vec<N>,
-    line_report: &mut LineReport,
-    watcher: &mut W,
-) -> Result<(), Stop>
-    requires { (w : RuleWorld) × IsWorld world.old (map N.device boards.old.items) w × LinkFits (length w.sites) (a, b) }
-    ensures goes_on { KeepsMotes result world.old world.new (map N.device boards.old.items) (map N.device boards.new.items) }
-    ensures played { (w : RuleWorld) (initial : List Device) → IsWorld world.old (map N.device boards.old.items) w
-        → WorldStands w initial (map N.device boards.old.items)
-        → ItemsPlayedAs result w (unreported (round a b ++ round b a)) world.new initial
-        (told_so_far line_report.old.text.items (W.saw watcher.old))
-        (boards_told (map N.device boards.new.items)
-        (told_so_far line_report.new.text.items (W.saw watcher.new))) }
-    ensures kept { KeepBytes (unreported (round a b ++ round b a)) (map N.device boards.old.items)
-        (map N.device boards.new.items) }
-{
-    play_round(world, a, b, boards, line_report, watcher)?;
-    play_round(world, b, a, boards, line_report, watcher)?;
-    Ok(())
-}
-
-/// Plays the events of a sweep over links.
-fn play_sweep<N: Nor, W: Watcher<N>>(
-    world: &mut World,
-    links: &[(u8, u8)],
-    boards: &mut Vec<N>,
-    line_report: &mut LineReport,
-    watcher: &mut W,
-) -> Result<(), Stop>
-    requires { (w : RuleWorld) × IsWorld world.old (map N.device boards.old.items) w
-        × AllByRecursion (LinkFits (length w.sites)) links.now }
-    ensures goes_on { KeepsMotes result world.old world.new (map N.device boards.old.items) (map N.device boards.new.items) }
-    ensures played { (w : RuleWorld) (initial : List Device) → IsWorld world.old (map N.device boards.old.items) w
-        → WorldStands w initial (map N.device boards.old.items)
-        → ItemsPlayedAs result w (unreported (sweep links.now)) world.new initial
-        (told_so_far line_report.old.text.items (W.saw watcher.old))
-        (boards_told (map N.device boards.new.items)
-        (told_so_far line_report.new.text.items (W.saw watcher.new))) }
-    ensures kept { KeepBytes (unreported (sweep links.now)) (map N.device boards.old.items)
-        (map N.device boards.new.items) }
-{
-    for link in links {
-        play_both(world, link.0, link.1, boards, line_report, watcher)?;
-    }
-    Ok(())
-}
-
-/// Plays the events of this many sweeps over links.
-#[inline(never)]
-pub fn play_sweeps<N: Nor, W: Watcher<N>>(
-    world: &mut World,
-    links: &[(u8, u8)],
-    count: u32,
-    boards: &mut Vec<N>,
-    line_report: &mut LineReport,
-    watcher: &mut W,
-) -> Result<(), Stop>
-    requires { (w : RuleWorld) × IsWorld world.old (map N.device boards.old.items) w
-        × AllByRecursion (LinkFits (length w.sites)) links.now }
-    ensures played { (w : RuleWorld) (initial : List Device) → IsWorld world.old (map N.device boards.old.items) w
-        → WorldStands w initial (map N.device boards.old.items)
-        → ItemsPlayedAs result w (unreported (times count (sweep links.now))) world.new initial
-        (told_so_far line_report.old.text.items (W.saw watcher.old))
-        (boards_told (map N.device boards.new.items)
-        (told_so_far line_report.new.text.items (W.saw watcher.new))) }
-    ensures kept { KeepBytes (unreported (times count (sweep links.now))) (map N.device boards.old.items)
-        (map N.device boards.new.items) }
-{
-    for _ in 0..count {
-        play_sweep(world, links, boards, line_report, watcher)?;
-    }
-    Ok(())
 }

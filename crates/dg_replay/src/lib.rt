@@ -13,6 +13,7 @@ mod items;
 mod laws;
 mod lines;
 mod player;
+mod rounds;
 mod stop;
 mod watching;
 

@@ -8,7 +8,8 @@ ghost use Rattle.dg_replay.specs.Shown.{StaysSeen};
 ghost use Rattle.dg_replay.specs.Stages.{Baseline, DoneSoFar, told_so_far, boards_told};
 ghost use Rattle.dg_replay.specs.Untouched.{KeepBytes, LineKeepsBytes};
 
-use crate::items::{LineReport, play_event, play_image, play_round, play_sweeps};
+use crate::items::{LineReport, play_event, play_image};
+use crate::rounds::{play_round, play_sweeps};
 use crate::stop::Stop;
 use crate::watching::Watcher;
 use dg_base::Bytes;

@@ -5,7 +5,7 @@ use Rattle.dg_replay.specs.Stages.{told_so_far}
 use Rattle.dg_script.specs.Items.{Item, unreported}
 use Rattle.dg_replay.proofs.BytesLemmas.{keep_same, events_keep}
 use Rattle.dg_replay.proofs.StepLemmas.{PlayedSoFar, so_far_none, so_far_stop, sweep_none, sweep_at, sweep_goes_on, link_at}
-use Rattle.dg_replay.proofs.items.play_sweep.Goals as goal
+use Rattle.dg_replay.proofs.rounds.play_sweep.Goals as goal
 
 pub loop-link-init : goal.loop-link-init
 loop-link-init g c =

@@ -7,7 +7,7 @@ use Rattle.dg_replay.specs.Stages.{told_so_far}
 use Rattle.dg_script.specs.Items.{Item, unreported}
 use Rattle.dg_replay.proofs.BytesLemmas.{keep_same, sweep_keeps}
 use Rattle.dg_replay.proofs.StepLemmas.{PlayedSoFar, so_far_none, times_none, times_so_far, times_stop, at_end}
-use Rattle.dg_replay.proofs.items.play_sweeps.Goals as goal
+use Rattle.dg_replay.proofs.rounds.play_sweeps.Goals as goal
 
 pub loop-init : goal.loop-init
 loop-init g c =

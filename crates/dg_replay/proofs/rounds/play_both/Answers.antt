@@ -6,7 +6,7 @@ use Rattle.dg_replay.specs.Stages.{told_so_far}
 use Rattle.dg_script.specs.Items.{unreported}
 use Rattle.dg_replay.proofs.BytesLemmas.{keep_same, events_keep}
 use Rattle.dg_replay.proofs.StepLemmas.{so_far_none, so_far_one, so_far_then, so_far_stop}
-use Rattle.dg_replay.proofs.items.play_both.Goals as goal
+use Rattle.dg_replay.proofs.rounds.play_both.Goals as goal
 
 pub returns-in_err-play_round-clause-played : goal.returns-in_err-play_round-clause-played
 returns-in_err-play_round-clause-played g c =

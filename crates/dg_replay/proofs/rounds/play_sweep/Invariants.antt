@@ -4,7 +4,7 @@ use Rattle.dg_script.specs.Items.{unreported}
 use Rattle.dg_replay.specs.Stages.{told_so_far}
 use Rattle.dg_replay.specs.Untouched.{KeepBytes}
 use Rattle.dg_replay.proofs.StepLemmas.{PlayedSoFar}
-use Rattle.dg_replay.proofs.items.play_sweep.Given as goal
+use Rattle.dg_replay.proofs.rounds.play_sweep.Given as goal
 
 -- the rounds over this many links are played
 abbrev pub invariant-loop-link : goal.invariant-loop-link
