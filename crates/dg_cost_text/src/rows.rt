@@ -105,6 +105,15 @@ impl Rows {
         self.push(&[Part::Text(key)], value, false)
     }
 
+    /// Appends these rows, in their order.
+    pub fn append(&mut self, mut rows: Rows) -> Result<(), AllocError>
+        ensures { OnOk result (table_of_rows self.new ≡ table_of_rows self.old ++ table_of_rows rows) }
+    {
+        self.rows.append(&mut rows.rows)?;
+        self.moments.append(&mut rows.moments)?;
+        Ok(())
+    }
+
     /// A row for each of these names, between two pieces of the key.
     pub fn each(
         &mut self,

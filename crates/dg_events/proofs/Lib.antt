@@ -1,2 +1,4 @@
 mod CountLemmas
 mod ToldLemmas
+mod PowerLemmas
+mod UptimeLemmas

@@ -1,5 +1,5 @@
 -- The numbers of kinds, in the order of their names in keys (docs/COMMANDS.md, "What a script costs").
-use Rattle.std.specs.Prelude.{ℕ}
+use Rattle.std.specs.Prelude.{ℕ, List, [], ◌∷◌, codes}
 use Rattle.dg_base.specs.declared.events.Event.{Event}
 use Rattle.dg_base.specs.declared.events.Event.TheVariants.{Tick, Hear, Last, Reset, Inject, Order as OrderEvent, Frame}
 use Rattle.dg_script.specs.declared.report.Cause.{Cause}
@@ -28,3 +28,14 @@ cause_number (cause.Stale version) = 7
 cause_number cause.Taken = 8
 cause_number (cause.Worn room) = 9
 cause_number (cause.OldOrder number) = 10
+
+-- ---- their names in keys
+
+abbrev pub event_names : List (List ℕ)
+event_names =
+    codes "tick" ∷ codes "hear" ∷ codes "last" ∷ codes "reset" ∷ codes "inject" ∷ codes "order" ∷ codes "frame" ∷ []
+
+abbrev pub cause_names : List (List ℕ)
+cause_names =
+    codes "off" ∷ codes "frame" ∷ codes "link" ∷ codes "image" ∷ codes "empty" ∷ codes "toolarge" ∷ codes "reserved"
+    ∷ codes "stale" ∷ codes "taken" ∷ codes "worn" ∷ codes "oldorder" ∷ []

@@ -3,3 +3,4 @@ pub mod Told
 pub mod Counts
 pub mod Counters
 pub mod Noted
+pub mod Uptimes

@@ -1,4 +1,4 @@
-//! The outcomes of a run's events, and how many events of each kind there are at each mote.
+//! The outcomes of a run's events, how many events of each kind there are at each mote, and how long motes are on.
 #![tactic(auto)]
 
 mod counting;
@@ -6,9 +6,11 @@ mod event_counter;
 mod event_counts;
 mod kinds;
 mod told;
+mod uptime;
 
 pub use counting::add_one;
 pub use event_counter::EventCounter;
 pub use event_counts::EventCounts;
 pub use kinds::{CAUSES, EVENTS, cause_kind, event_kind};
 pub use told::{NOTHING_TOLD, Told, told_by};
+pub use uptime::{Uptime, Uptimes};
