@@ -6,13 +6,12 @@ ghost use Rattle.dg_cost.specs.Costs.{CostDone, IsText};
 ghost use Rattle.dg_cost_text.specs.Csv.{csv};
 ghost use Rattle.dg_cost_text.specs.declared.rows.Counted.{Counted};
 
-use crate::mote_rows::counted;
+use crate::mote_rows::{counted, ended_event};
 use dg_base::{Sink, Source, Status, WriteFailed};
 use dg_cost_text::{Model, csv_text, json_text, table_text, timed_text};
-use dg_count::{Costs, Counter, Given};
+use dg_count::{Costs, Counter, Given, replay_counted};
 use dg_meter::Metered;
 use dg_nor::Nor;
-use dg_replay::replay_watched;
 use dg_volume::Volume;
 use std::alloc::{AllocError, Global};
 
@@ -107,7 +106,7 @@ fn look_again<N: Nor>(costs: &mut Costs, boards: &mut Vec<Metered<N>>) {
 
 /// The counts as rows of comma-separated values.
 fn csv_of(alloc: Global, counter: &Counter, status: Status) -> Result<Vec<u8>, AllocError>
-    ensures { IfOk result (λ text. (counts : Counted) × (text.items ≡ csv counts)) }
+    ensures { IfOk result (λ text. (counted : Counted) × (text.items ≡ csv counted)) }
 {
     let counted = counted(alloc, counter, status)?;
     let text = csv_text(alloc, &counted)?;
@@ -129,7 +128,7 @@ fn text_of(
             alloc,
             report,
             &counter.costs.stamps,
-            counter.costs.at(counter.all_events()),
+            counter.last(ended_event(counter, status)),
         ),
         Form::Csv => csv_of(alloc, counter, status),
         Form::Table(model) => {
@@ -167,7 +166,7 @@ pub fn cost<S: Source, K: Sink, N: Nor>(
         faults: 0,
     };
     let mut counter = Counter::new(alloc, given, asked.is_timed());
-    let status = replay_watched(alloc, input, &mut report, boards, &mut counter);
+    let status = replay_counted(alloc, input, &mut report, boards, &mut counter);
     if counter.costs.failed || 0 < report.faults {
         return Status::Memory;
     }

@@ -3,12 +3,12 @@
 use crate::flash_rows::{push_chip, with_flash};
 use crate::moment_rows::{push_all_moments, push_wholes};
 use dg_base::Status;
-use dg_cost_text::{Counted, Part, Rows, total_of};
+use dg_cost_text::{Counted, Moment, Part, Rows, total_of};
 use dg_count::{
-    ANSWERS, Counter, FAULTS, FRAMES, HEARD, MOTES, MoteCost, PACKET, PUT, SENT_KINDS, SentBy,
-    TRACED, TRACED_PUT, USED, narrow, share_of,
+    ANSWERS, Counter, EventPlace, FAULTS, FRAMES, HEARD, MOTES, Moments, MoteCost, PACKET, PUT,
+    SENT_KINDS, SentBy, TRACED, TRACED_PUT, USED, narrow, share_of,
 };
-use dg_events::{CAUSES, EVENTS, EventCounts};
+use dg_events::{CAUSES, EVENTS, EventCounts, Uptime, Uptimes};
 use dg_meter::Share;
 use std::alloc::{AllocError, Global};
 
@@ -24,19 +24,26 @@ fn push_neighbours(rows: &mut Rows, cost: &MoteCost) -> Result<(), AllocError> {
     Ok(())
 }
 
-fn push_time(
-    rows: &mut Rows,
-    cost: &MoteCost,
-    events: &EventCounts,
-    ms: u64,
-) -> Result<(), AllocError> {
-    let on = cost.on_until(ms);
+/// 1 for a mote that is off.
+fn off_end(on: bool) -> u64 {
+    if on { 0 } else { 1 }
+}
+
+/// How long a mote was on up to this moment, and how long it was off.
+fn push_power(rows: &mut Rows, uptime: &Uptime, ms: u64) -> Result<(), AllocError> {
+    let on = uptime.until(ms);
     rows.sum("on.ms", on)?;
     rows.sum("off.ms", ms.saturating_sub(on))?;
-    rows.own("off.end", if cost.on { 0 } else { 1 })?;
+    rows.own("off.end", off_end(uptime.on))?;
+    Ok(())
+}
+
+/// The events at a mote, refused ones by cause, and cuts.
+fn push_events(rows: &mut Rows, events: &EventCounts) -> Result<(), AllocError> {
     rows.each("events.", &EVENTS, &events.events, "")?;
     rows.each("refused.event.", &CAUSES, &events.refused, "")?;
-    rows.sum("cuts", events.cuts)
+    rows.sum("cuts", events.cuts)?;
+    Ok(())
 }
 
 /// The frames that a mote sent, and those that no mote heard.
@@ -74,15 +81,50 @@ fn push_packets(rows: &mut Rows, cost: &MoteCost, by: &SentBy) -> Result<(), All
     rows.sum("traced.vain.count", by.without(PACKET, PUT + TRACED_PUT))
 }
 
-fn push_starts(rows: &mut Rows, cost: &MoteCost, events: &EventCounts) -> Result<(), AllocError> {
+/// The starts of a mote, by what caused them.
+fn push_starts(rows: &mut Rows, events: &EventCounts) -> Result<(), AllocError> {
     rows.sum("starts.power", events.by_power)?;
     rows.sum("starts.order", events.by_order)?;
     rows.sum("starts.cut.power", events.cut_by_power)?;
-    rows.sum("starts.cut.order", cost.cut_restarts)?;
-    rows.sum("starts.none", cost.no_image)?;
+    Ok(())
+}
+
+/// The starts of a mote, by the image that then runs.
+fn push_images(rows: &mut Rows, events: &EventCounts) -> Result<(), AllocError> {
     let images = ["0", "1", "2", "3", "4", "5", "6"];
     rows.each("starts.image.", &images, &events.of_image, "")?;
-    rows.sum("starts.copied", cost.starts_copied)
+    Ok(())
+}
+
+/// The rows between those of events and those of starts.
+fn frame_rows(alloc: Global, cost: &MoteCost, by: &SentBy) -> Result<Rows, AllocError> {
+    let mut rows = Rows::new(alloc);
+    push_sent(&mut rows, by)?;
+    push_heard(&mut rows, cost)?;
+    push_packets(&mut rows, cost, by)?;
+    Ok(rows)
+}
+
+/// The rows of starts that did not run an image.
+fn failed_rows(alloc: Global, cost: &MoteCost) -> Result<Rows, AllocError> {
+    let mut rows = Rows::new(alloc);
+    rows.sum("starts.cut.order", cost.cut_restarts)?;
+    rows.sum("starts.none", cost.no_image)?;
+    Ok(rows)
+}
+
+/// The rows after those of starts.
+fn chip_rows(
+    alloc: Global,
+    mote: u8,
+    cost: &MoteCost,
+    moments: &Moments,
+) -> Result<Rows, AllocError> {
+    let mut rows = Rows::new(alloc);
+    rows.sum("starts.copied", cost.starts_copied)?;
+    push_chip(&mut rows, cost)?;
+    push_wholes(&mut rows, mote, moments)?;
+    Ok(rows)
 }
 
 /// All rows of a mote.
@@ -91,17 +133,19 @@ fn mote_rows(
     mote: u8,
     cost: &MoteCost,
     by: &SentBy,
-    counter: &Counter,
+    events: &EventCounts,
+    uptime: &Uptime,
+    ms: u64,
+    moments: &Moments,
 ) -> Result<Rows, AllocError> {
     let mut rows = Rows::new(alloc);
-    let events = counter.events_at(counter.costs.ended, usize::from(mote));
-    push_time(&mut rows, cost, &events, counter.costs.ms)?;
-    push_sent(&mut rows, by)?;
-    push_heard(&mut rows, cost)?;
-    push_packets(&mut rows, cost, by)?;
-    push_starts(&mut rows, cost, &events)?;
-    push_chip(&mut rows, cost)?;
-    push_wholes(&mut rows, mote, &counter.costs.moments)?;
+    push_power(&mut rows, uptime, ms)?;
+    push_events(&mut rows, events)?;
+    rows.append(frame_rows(alloc, cost, by)?)?;
+    push_starts(&mut rows, events)?;
+    rows.append(failed_rows(alloc, cost)?)?;
+    push_images(&mut rows, events)?;
+    rows.append(chip_rows(alloc, mote, cost, moments)?)?;
     Ok(rows)
 }
 
@@ -141,13 +185,12 @@ fn push_totals(all: &mut Rows, counter: &Counter, by: &[SentBy]) -> Result<(), A
     all.own("flash.run.erase.count", flash.2)
 }
 
-/// The rows of all motes.
-fn all_rows(
+/// The rows of all motes before those of the last event.
+fn summed_rows(
     alloc: Global,
     motes: &[Rows],
     counter: &Counter,
     by: &[SentBy],
-    status: Status,
 ) -> Result<Rows, AllocError> {
     let mut all = Rows::new(alloc);
     if let Some(first) = motes.first() {
@@ -156,10 +199,68 @@ fn all_rows(
         push_all_moments(&mut all, &counter.costs.moments)?;
     }
     all.own("run.motes", u64::from(counter.costs.count))?;
-    all.own("run.events", counter.all_events())?;
-    all.own("run.ms", counter.costs.ms)?;
+    Ok(all)
+}
+
+/// How many events there were, and the moment of the last one.
+fn push_moment(all: &mut Rows, last: Moment) -> Result<(), AllocError> {
+    all.own("run.events", last.event)?;
+    all.own("run.ms", last.ms)?;
+    Ok(())
+}
+
+/// The rows of all motes.
+fn all_rows(
+    alloc: Global,
+    motes: &[Rows],
+    counter: &Counter,
+    by: &[SentBy],
+    last: Moment,
+    status: Status,
+) -> Result<Rows, AllocError> {
+    let mut all = summed_rows(alloc, motes, counter, by)?;
+    push_moment(&mut all, last)?;
     all.own("run.status", u64::from(status.code()))?;
     Ok(all)
+}
+
+/// The event that found no image to start, where a run ended so.
+pub fn ended_event(counter: &Counter, status: Status) -> Option<EventPlace> {
+    match status {
+        Status::NoImage => counter.costs.ended,
+        _ => None,
+    }
+}
+
+/// The rows of each mote whose board was used.
+fn rows_of_motes(
+    alloc: Global,
+    counter: &Counter,
+    ended: Option<EventPlace>,
+    times: &Uptimes,
+    by: &[SentBy],
+) -> Result<Vec<Rows>, AllocError> {
+    let mut motes = Vec::new(alloc);
+    for mote in 0..usize::from(counter.placed) {
+        let cost = counter.costs.of(mote);
+        let events = counter.events_at(ended, mote);
+        let sent = match by.get(mote) {
+            Some(sent) => *sent,
+            None => SentBy::none(),
+        };
+        let rows = mote_rows(
+            alloc,
+            narrow(mote),
+            &cost,
+            &sent,
+            &events,
+            &times.at(mote),
+            times.ms,
+            &counter.costs.moments,
+        )?;
+        motes.push(rows)?;
+    }
+    Ok(motes)
 }
 
 /// What was counted of a run that ended with this status.
@@ -167,15 +268,11 @@ pub fn counted(alloc: Global, counter: &Counter, status: Status) -> Result<Count
     let by = counter
         .costs
         .frames
-        .sent_by_each(alloc, counter.costs.motes.len())?;
-    let mut motes = Vec::new(alloc);
-    for mote in 0..counter.costs.motes.len() {
-        if mote < by.len() {
-            let cost = &counter.costs.motes[mote];
-            motes.push(mote_rows(alloc, narrow(mote), cost, &by[mote], counter)?)?;
-        }
-    }
-    let all = all_rows(alloc, &motes, counter, &by, status)?;
+        .sent_by_each(alloc, usize::from(counter.placed))?;
+    let ended = ended_event(counter, status);
+    let times = counter.times_until(ended);
+    let motes = rows_of_motes(alloc, counter, ended, &times, &by)?;
+    let all = all_rows(alloc, &motes, counter, &by, counter.last(ended), status)?;
     Ok(Counted {
         motes,
         all,

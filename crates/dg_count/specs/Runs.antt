@@ -1,20 +1,56 @@
 -- The counts of a whole run.
-use Rattle.std.specs.Prelude.{◌≡◌, ℕ, Bool, List, [], ◌∷◌, ◌++◌}
+use Rattle.std.specs.Prelude.{◌≡◌, ℕ, ◌≤◌, Bool, List, [], ◌∷◌, ◌++◌, length}
+use Rattle.dg_volume.specs.Store.{Store}
+use Rattle.dg_object.specs.Object.{Row}
+use Rattle.dg_rules.specs.Sizes.{most_motes, most_events}
 use Rattle.dg_rules.specs.Runs.{Played}
 use Rattle.dg_base.specs.declared.events.Event.{Event}
+use Rattle.dg_script.specs.Script.{Script}
 use Rattle.dg_script.specs.declared.report.Report.{Report}
+use Rattle.dg_replay.specs.Items.{beginning_of}
+use Rattle.dg_replay.specs.Shown.{stores_in, events_played}
+use Rattle.dg_replay.specs.Replayed.{Progress}
 use Rattle.dg_events.specs.Noted.{IsEventPlayed}
 use Rattle.dg_events.specs.Told.{Happened}
-use Rattle.dg_events.specs.Counts.{count_at}
-use Rattle.dg_events.specs.Counters.{told_count, HasCounted}
+use Rattle.dg_events.specs.Uptimes.{IsBefore, HasTimed}
+use Rattle.dg_events.specs.Counts.{count_at, count_all}
+use Rattle.dg_events.specs.Counters.{as_u64, told_count, HasCounted}
 use Rattle.dg_events.specs.declared.event_counter.EventCounter.{EventCounter}
+use Rattle.dg_events.specs.declared.uptime.Uptimes.{Uptimes}
+use Rattle.dg_count.specs.declared.counter.Counter.{Counter}
 
 -- this event, of which these lines are reported, was counted after those that were played before it
 abbrev pub CountsEvent : (before after : EventCounter) → Event → List Report → Type 0
 CountsEvent before after e lines =
     (past : List Played) (p : Played) → IsEventPlayed e lines p → HasCounted before past → HasCounted after (past ++ p ∷ [])
 
+-- this event, of which these lines are reported, was timed after those before it
+abbrev pub TimesEvent : (before after : Counter) → Event → List Report → Type 0
+TimesEvent before after e lines =
+    (past : List Played) (p : Played) → IsEventPlayed e lines p → IsBefore before.placed past p.before → HasTimed before.times past
+    → HasTimed after.times (past ++ p ∷ [])
+
+-- These events were counted and timed, at this many motes, whose chips began with these stores.
+pub record IsSeenBy (counts : EventCounter) (times : Uptimes) (placed : ℕ) (stores : List Store) (events : List Played) : Type 0 where
+  pub counted : HasCounted counts events
+  pub timed : HasTimed times events
+  pub motes : placed ≡ length stores
+  pub few : length stores ≤ most_motes
+
+-- the counter has counted these events, at motes whose chips began with these stores
+abbrev pub HasSeen : Counter → (stores : List Store) → (events : List Played) → Type 0
+HasSeen c stores events = IsSeenBy c.events c.times c.placed stores events
+
 -- Each event that was played was counted once, and no count wrapped.
 pub record CountedRun (c : EventCounter) (played : List Played) : Type 0 where
   pub counted : HasCounted c played
+  pub few : (m : ℕ) (test : Happened → Bool) → count_at m test played ≤ most_events
   pub exact : (m : ℕ) (test : Happened → Bool) → told_count m test played ≡ count_at m test played
+  pub exact_all : as_u64 (count_all played) ≡ count_all played
+
+-- So was each event that a replay played, at as many motes as there are where its run begins, none before their boards are used.
+pub record CountedReplay {table : List Row} {script : Script} (c : Counter) (came : Progress table script) : Type 0 where
+  pub events : CountedRun c.events came.played
+  pub times : HasTimed c.times (events_played came.played)
+  pub motes : c.placed ≡ length (stores_in (beginning_of came.ground came.done).world)
+  pub few : c.placed ≤ most_motes

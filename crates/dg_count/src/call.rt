@@ -5,8 +5,7 @@ ghost use Rattle.dg_meter.specs.Meters.{metered_device};
 ghost use Rattle.dg_replay.specs.Around.{around};
 ghost use Rattle.dg_replay.specs.Done.{ReplayDone};
 ghost use Rattle.dg_replay.specs.Replayed.{Replayed};
-ghost use Rattle.dg_events.specs.Counters.{HasCounted};
-ghost use Rattle.dg_count.specs.Runs.{CountedRun};
+ghost use Rattle.dg_count.specs.Runs.{HasSeen, CountedReplay};
 
 use crate::counter::Counter;
 use dg_base::{Sink, Source, Status};
@@ -32,12 +31,12 @@ pub fn replay_counted<S: Source, K: Sink, N: Nor>(
     ensures reads { S.faults input.old ≤ S.faults input.new }
     ensures writes { K.faults out.old ≤ K.faults out.new }
     // each event that was played is counted once, whatever the status
-    ensures counted { HasCounted counter.old.events [] → (table : List Row)
+    ensures counted { HasSeen counter.old [] [] → (table : List Row)
         → (x : Replayed table result
         (around (S.left input.old) (S.faults input.old) (K.written out.old) (K.faults out.old)
         (map (metered_device N.device) boards.old.items))
         (around (S.left input.new) (S.faults input.new) (K.written out.new) (K.faults out.new)
-        (map (metered_device N.device) boards.new.items))) × CountedRun counter.new.events x.came.played }
+        (map (metered_device N.device) boards.new.items))) × CountedReplay counter.new x.came }
 {
     replay_watched(alloc, input, out, boards, counter)
 }

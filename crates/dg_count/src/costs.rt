@@ -39,7 +39,6 @@ pub struct Costs {
     pub timed: bool,
     /// How many motes the script has.
     pub count: u8,
-    pub ms: u64,
     /// The boards are used.
     pub placed: bool,
     /// Rounds or sweeps were played.
@@ -62,7 +61,6 @@ impl Costs {
             stamps: Vec::new(alloc),
             timed,
             count: 0,
-            ms: 0,
             placed: false,
             scheduled: false,
             ended: None,
@@ -70,9 +68,12 @@ impl Costs {
         }
     }
 
-    /// The moment of the event with this number.
-    pub fn at(&self, event: u64) -> Moment {
-        Moment { event, ms: self.ms }
+    /// What was counted of a mote, nothing where its board was not used.
+    pub fn of(&self, mote: usize) -> MoteCost {
+        match self.motes.get(mote) {
+            Some(cost) => *cost,
+            None => MoteCost::new(),
+        }
     }
 
     /// Records whether memory ran out.
@@ -83,12 +84,11 @@ impl Costs {
         }
     }
 
-    /// Stamps this many lines, which are reported in the event with this number.
-    pub fn stamp(&mut self, lines: usize, event: u64) {
+    /// Stamps this many lines, which are reported in the event at this moment.
+    pub fn stamp(&mut self, lines: usize, now: Moment) {
         if !self.timed || lines == 0 {
             return;
         }
-        let now = self.at(event);
         if self.stamps.push(Stamp { at: now, lines }).is_err() {
             self.failed = true;
         }
@@ -139,7 +139,7 @@ impl Costs {
         let Some(given) = self.given_at(mote) else {
             return Ok(());
         };
-        let now = self.at(0);
+        let now = Moment { event: 0, ms: 0 };
         for image in 1..SLOTS {
             if let Some(Some(kept)) = given.kept.get(image) {
                 self.moments.keep(

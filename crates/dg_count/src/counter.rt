@@ -1,11 +1,12 @@
 //! What is counted of a replay.
-ghost use Rattle.std.specs.Prelude.{◌≡◌, []};
-ghost use Rattle.dg_events.specs.Counters.{HasCounted};
+ghost use Rattle.std.specs.Prelude.{◌≡◌, [], IfNone};
+ghost use Rattle.dg_count.specs.Runs.{HasSeen};
 ghost use Rattle.dg_count.specs.Ended.{counts_at};
 
 use crate::costs::{Costs, Given};
 use crate::place::EventPlace;
-use dg_events::{EventCounter, EventCounts, add_one};
+use dg_cost_text::Moment;
+use dg_events::{EventCounter, EventCounts, Uptimes, add_one};
 use std::alloc::Global;
 
 /// What a replay costs, counted while it is played.
@@ -13,6 +14,10 @@ use std::alloc::Global;
 pub struct Counter {
     /// What is counted of its events.
     pub events: EventCounter,
+    /// How many motes' boards are used: none before the `golden` or `boards` line is done.
+    pub placed: u8,
+    /// The moment, and how long each mote was on.
+    pub times: Uptimes,
     /// What they cost.
     pub costs: Costs,
 }
@@ -20,10 +25,12 @@ pub struct Counter {
 impl Counter {
     /// Nothing was played.
     pub fn new(alloc: Global, given: Vec<Option<Given>>, timed: bool) -> Counter
-        ensures { HasCounted result.events [] }
+        ensures { HasSeen result [] [] }
     {
         Counter {
             events: EventCounter::new(),
+            placed: 0,
+            times: Uptimes::new(),
             costs: Costs::new(alloc, given, timed),
         }
     }
@@ -43,11 +50,39 @@ impl Counter {
         counts
     }
 
-    /// How many events there were, including one that found no image to start.
-    pub fn all_events(&self) -> u64 {
-        match self.costs.ended {
-            Some(_) => self.events.all.saturating_add(1),
-            None => self.events.all,
+    /// The last event that was played, and its moment.
+    #[inline(always)]
+    pub fn now(&self) -> Moment
+        ensures event { result.event ≡ self.now.events.all }
+        ensures ms { result.ms ≡ self.now.times.ms }
+    {
+        Moment {
+            event: self.events.all,
+            ms: self.times.ms,
+        }
+    }
+
+    /// The times up to the end, with this event if it found no image to start.
+    pub fn times_until(&self, ended: Option<EventPlace>) -> Uptimes
+        ensures { IfNone ended (result ≡ self.now.times) }
+    {
+        match ended {
+            Some(ended) => self.times.ended_at(ended.mote, ended.dt),
+            None => self.times,
+        }
+    }
+
+    /// The last event and its moment, which is this event if it found no image to start.
+    pub fn last(&self, ended: Option<EventPlace>) -> Moment
+        ensures events { IfNone ended (result.event ≡ self.now.events.all) }
+        ensures ms { IfNone ended (result.ms ≡ self.now.times.ms) }
+    {
+        match ended {
+            Some(_) => Moment {
+                event: self.events.all.saturating_add(1),
+                ms: self.times_until(ended).ms,
+            },
+            None => self.now(),
         }
     }
 }

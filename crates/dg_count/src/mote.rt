@@ -13,11 +13,6 @@ pub const FILL: usize = 48;
 /// What is counted of a mote.
 #[derive(Clone, Copy)]
 pub struct MoteCost {
-    pub on: bool,
-    /// The moment at which it last powered on.
-    pub since: u64,
-    /// How long it was on before that, in milliseconds.
-    pub on_ms: u64,
     /// The moment of its last start.
     pub started: u64,
     /// How many short starts are counted.
@@ -63,9 +58,6 @@ pub struct MoteCost {
 impl MoteCost {
     pub fn new() -> MoteCost {
         MoteCost {
-            on: false,
-            since: 0,
-            on_ms: 0,
             started: 0,
             gesture: 0,
             outside: [Share::none(); 5],
@@ -96,29 +88,6 @@ impl MoteCost {
             fill: [0; FILL],
             filled: 0,
         }
-    }
-
-    /// The mote started at this moment. If it was off, it powers on.
-    pub fn go_on(&mut self, ms: u64) {
-        if !self.on {
-            self.on = true;
-            self.since = ms;
-        }
-        self.started = ms;
-    }
-
-    /// The mote went off at this moment.
-    pub fn go_off(&mut self, ms: u64) {
-        self.on_ms = self.on_until(ms);
-        self.on = false;
-    }
-
-    /// How long it was on up to this moment, in milliseconds.
-    pub fn on_until(&self, ms: u64) -> u64 {
-        if !self.on {
-            return self.on_ms;
-        }
-        self.on_ms.saturating_add(ms.saturating_sub(self.since))
     }
 
     /// The frames of a kind that it heard.

@@ -24,8 +24,15 @@ impl MoteCost {
 
 impl Costs {
     /// Counts starts and cuts by the outcome of an event.
-    pub fn note_power(&mut self, world: &World, mote: u8, event: &Event, told: Told, work: Work) {
-        let ms = self.ms;
+    pub fn note_power(
+        &mut self,
+        world: &World,
+        mote: u8,
+        event: &Event,
+        ms: u64,
+        told: Told,
+        work: Work,
+    ) {
         let index = usize::from(mote);
         if self.motes.len() <= index {
             return;
@@ -33,12 +40,11 @@ impl Costs {
         let cost = &mut self.motes[index];
         if told.off {
             cost.cut(event, ms);
-            cost.go_off(ms);
         } else if told.started.is_some() {
             if work.copied {
                 cost.starts_copied = cost.starts_copied.saturating_add(1);
             }
-            cost.go_on(ms);
+            cost.started = ms;
             cost.gesture = match world.volume(mote) {
                 Some(volume) => volume.snapshot().gesture,
                 None => 0,

@@ -1,16 +1,16 @@
 //! The watcher of a replay that counts what it is shown.
 ghost use Rattle.std.specs.Prelude.{◌≡◌};
-ghost use Rattle.dg_rules.specs.Events.{mote_of};
-ghost use Rattle.dg_events.specs.Counters.{HasCounted};
+ghost use Rattle.dg_rules.specs.Events.{mote_of, dt_of};
 ghost use Rattle.dg_events.specs.Kinds.{event_number};
-ghost use Rattle.dg_count.specs.Runs.{CountsEvent};
+ghost use Rattle.dg_count.specs.Runs.{CountsEvent, TimesEvent, HasSeen};
 
 use crate::costs::Costs;
 use crate::counter::Counter;
 use crate::frames::kind_of;
 use crate::place::{EventPlace, place_of};
 use crate::work::NO_WORK;
-use dg_events::{NOTHING_TOLD, event_kind, told_by};
+use dg_cost_text::Moment;
+use dg_events::{NOTHING_TOLD, Uptimes, event_kind, told_by};
 use dg_meter::{Metered, SLOTS, Tally};
 use dg_mote::Heard;
 use dg_nor::Nor;
@@ -34,9 +34,8 @@ impl Costs {
         mote: u8,
         pages: &[u8; SLOTS],
         reports: &[Report],
-        number: u64,
+        now: Moment,
     ) -> Result<(), AllocError> {
-        let now = self.at(number);
         for report in reports {
             match report {
                 Report::Lost { image, .. } => self.moments.lose(mote, *image),
@@ -65,12 +64,11 @@ impl Costs {
         world: &World,
         event: &Event,
         number: u64,
+        times: &Uptimes,
         mote: u8,
-        dt: u32,
         boards: &[Metered<N>],
         reports: &[Report],
     ) -> Result<(), AllocError> {
-        self.pass(dt);
         let index = usize::from(mote);
         if self.operations.len() <= index {
             return Ok(());
@@ -80,7 +78,7 @@ impl Costs {
         }
         let tally = boards[index].tally();
         if !reports.is_empty() || self.operations[index] != tally.operations {
-            self.note_all(world, event, number, tally, reports)?;
+            self.note_all(world, event, number, times, tally, reports)?;
         }
         match world.sent() {
             Some(message) => self.frames.send(mote, kind_of(message)),
@@ -95,13 +93,12 @@ impl Costs {
         world: &World,
         event: &Event,
         number: u64,
+        times: &Uptimes,
         mote: u8,
-        dt: u32,
         frame: usize,
         boards: &[Metered<N>],
         reports: &[Report],
     ) -> Result<(), AllocError> {
-        self.pass(dt);
         let index = usize::from(mote);
         if self.operations.len() <= index {
             return Ok(());
@@ -111,7 +108,7 @@ impl Costs {
         }
         let tally = boards[index].tally();
         if !reports.is_empty() {
-            return self.note_all(world, event, number, tally, reports);
+            return self.note_all(world, event, number, times, tally, reports);
         }
         if self.operations[index] != tally.operations {
             self.note_put(event, mote, frame, tally, world.heard());
@@ -137,12 +134,12 @@ impl Costs {
         world: &World,
         event: &Event,
         number: u64,
-        place: EventPlace,
+        times: &Uptimes,
+        mote: u8,
         boards: &[Metered<N>],
         reports: &[Report],
     ) -> Result<(), AllocError> {
-        self.pass(place.dt);
-        let index = usize::from(place.mote);
+        let index = usize::from(mote);
         if self.operations.len() <= index {
             return Ok(());
         }
@@ -151,9 +148,9 @@ impl Costs {
         }
         let tally = boards[index].tally();
         if !reports.is_empty() || self.operations[index] != tally.operations {
-            return self.note_all(world, event, number, tally, reports);
+            return self.note_all(world, event, number, times, tally, reports);
         }
-        self.note_heard(world, place.mote, event, NOTHING_TOLD, NO_WORK)
+        self.note_heard(world, mote, event, NOTHING_TOLD, NO_WORK)
     }
 
     /// An event was applied that reports something or made operations.
@@ -163,45 +160,41 @@ impl Costs {
         world: &World,
         event: &Event,
         number: u64,
+        times: &Uptimes,
         tally: &Tally,
         reports: &[Report],
     ) -> Result<(), AllocError> {
         let EventPlace { mote, kind, .. } = place_of(event);
-        self.stamp(reports.len(), number);
+        let now = Moment {
+            event: number,
+            ms: times.ms,
+        };
+        self.stamp(reports.len(), now);
         let told = told_by(reports);
         let work = self.note_work(mote, kind, tally, told.off, reports);
         if !reports.is_empty() || kind == TICK {
-            self.note_power(world, mote, event, told, work);
+            self.note_power(world, mote, event, now.ms, told, work);
         }
         if told.refused.is_none() {
             self.note_heard(world, mote, event, told, work)?;
         }
         if !reports.is_empty() {
-            self.note_kept(mote, &tally.pages, reports, number)?;
+            self.note_kept(mote, &tally.pages, reports, now)?;
         }
         Ok(())
     }
 
-    /// Advances the time to an event's moment.
-    #[inline(always)]
-    fn pass(&mut self, dt: u32) {
-        self.ms = self.ms.wrapping_add(u64::from(dt));
-    }
-
     /// A start found no image.
     fn note_end<N: Nor>(&mut self, place: EventPlace, boards: &[Metered<N>]) {
-        self.pass(place.dt);
         self.ended = Some(place);
         let EventPlace { mote, kind, .. } = place;
         if let Some(board) = boards.get(usize::from(mote)) {
             self.note_work(mote, kind, board.tally(), false, &[]);
         }
-        let ms = self.ms;
         let index = usize::from(mote);
         if index < self.motes.len() {
             let cost = &mut self.motes[index];
             cost.no_image = cost.no_image.saturating_add(1);
-            cost.go_off(ms);
         }
     }
 }
@@ -220,13 +213,17 @@ impl Counter {
     )
         requires kind { event_number event.now ≡ 0 }
         requires mote { mote ≡ mote_of event.now }
-        ensures { CountsEvent self.old.events self.new.events event.now reports.now }
+        requires dt { dt ≡ dt_of event.now }
+        ensures counts { CountsEvent self.old.events self.new.events event.now reports.now }
+        ensures placed { self.new.placed ≡ self.old.placed }
+        ensures times { TimesEvent self.old self.new event.now reports.now }
     {
         self.events.note(event, TICK, mote, reports);
+        self.times.note(self.placed, mote, dt, reports);
         let number = self.events.all;
         let done = self
             .costs
-            .note_tick(world, event, number, mote, dt, boards, reports);
+            .note_tick(world, event, number, &self.times, mote, boards, reports);
         self.costs.unless(done);
     }
 
@@ -245,13 +242,24 @@ impl Counter {
     )
         requires kind { kind ≡ event_number event.now }
         requires mote { mote ≡ mote_of event.now }
-        ensures { CountsEvent self.old.events self.new.events event.now reports.now }
+        requires dt { dt ≡ dt_of event.now }
+        ensures counts { CountsEvent self.old.events self.new.events event.now reports.now }
+        ensures placed { self.new.placed ≡ self.old.placed }
+        ensures times { TimesEvent self.old self.new event.now reports.now }
     {
         self.events.note(event, kind, mote, reports);
+        self.times.note(self.placed, mote, dt, reports);
         let number = self.events.all;
-        let done = self
-            .costs
-            .note_hearing(world, event, number, mote, dt, frame, boards, reports);
+        let done = self.costs.note_hearing(
+            world,
+            event,
+            number,
+            &self.times,
+            mote,
+            frame,
+            boards,
+            reports,
+        );
         self.costs.unless(done);
     }
 
@@ -264,33 +272,43 @@ impl Counter {
         boards: &[Metered<N>],
         reports: &[Report],
     )
-        ensures { CountsEvent self.old.events self.new.events event.now reports.now }
+        ensures counts { CountsEvent self.old.events self.new.events event.now reports.now }
+        ensures placed { self.new.placed ≡ self.old.placed }
+        ensures times { TimesEvent self.old self.new event.now reports.now }
     {
         let place = place_of(event);
         self.events.note(event, place.kind, place.mote, reports);
+        self.times.note(self.placed, place.mote, place.dt, reports);
         let number = self.events.all;
-        let done = self
-            .costs
-            .note_other(world, event, number, place, boards, reports);
+        let done = self.costs.note_other(
+            world,
+            event,
+            number,
+            &self.times,
+            place.mote,
+            boards,
+            reports,
+        );
         self.costs.unless(done);
     }
 }
 
 impl<N: Nor> Watcher<Metered<N>> for Counter {
-    // it counted the events that it was shown, whatever the stores
-    ghost saw = { λ counter stores events. HasCounted counter.events events };
+    ghost saw = { λ counter stores events. HasSeen counter stores events };
 
     fn begun(&mut self, motes: u8) {
         self.costs.count = motes;
     }
 
     fn placed(&mut self, motes: u8, used: Option<u32>, boards: &[Metered<N>]) {
+        self.placed = motes;
         let done = self.costs.place(motes, used, boards);
         self.costs.unless(done);
     }
 
     fn taken(&mut self) {
-        self.costs.stamp(1, self.events.all);
+        let now = self.now();
+        self.costs.stamp(1, now);
     }
 
     #[inline(always)]
