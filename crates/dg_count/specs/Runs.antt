@@ -27,11 +27,12 @@ CountsEvent before after e lines =
 -- this event, of which these lines are reported, was timed after those before it
 abbrev pub TimesEvent : (before after : Counter) → Event → List Report → Type 0
 TimesEvent before after e lines =
-    (past : List Played) (p : Played) → IsEventPlayed e lines p → IsBefore before.placed past p.before → HasTimed before.times past
-    → HasTimed after.times (past ++ p ∷ [])
+    (past : List Played) (p : Played) → IsEventPlayed e lines p → IsBefore before.placed past p.before
+    → HasTimed before.times past → HasTimed after.times (past ++ p ∷ [])
 
 -- These events were counted and timed, at this many motes, whose chips began with these stores.
-pub record IsSeenBy (counts : EventCounter) (times : Uptimes) (placed : ℕ) (stores : List Store) (events : List Played) : Type 0 where
+pub record IsSeenBy (counts : EventCounter) (times : Uptimes) (placed : ℕ) (stores : List Store)
+    (events : List Played) : Type 0 where
   pub counted : HasCounted counts events
   pub timed : HasTimed times events
   pub motes : placed ≡ length stores
