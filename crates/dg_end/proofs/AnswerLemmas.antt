@@ -8,7 +8,7 @@ use Rattle.dg_end.specs.Writes.{WritesLast, WritesAnswer}
 use Rattle.dg_end.specs.declared.ends.End.{End}
 use Rattle.dg_end.specs.declared.ends.End.TheVariants as ends
 
-written_status : (status wanted : Status) (line : Option (List ℕ)) (a b : OutputState) → WritesLast status wanted line a b → status ≢ statuses.WriteFault → status ≢ statuses.Memory → status ≡ wanted
+pub written_status : (status wanted : Status) (line : Option (List ℕ)) (a b : OutputState) → WritesLast status wanted line a b → status ≢ statuses.WriteFault → status ≢ statuses.Memory → status ≡ wanted
 written_status status wanted None a b h whole room = h.0
 written_status status wanted (Some text) a b h whole room = ⊎_elim (λ x. x.0) (λ y. ⊎_elim (λ x. absurd (whole x.0)) (λ x. absurd (room x.0)) y) h
 

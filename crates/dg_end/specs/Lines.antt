@@ -60,6 +60,14 @@ last_line (ends.BadProfile fault) = Some (line (codes "profile " ++ profile_faul
 last_line (ends.Refused cause) = Some (line (codes "refused " ++ refusal_text cause))
 last_line end = None
 
+-- the last line has neither a number nor a cause in it, so that it takes no memory
+abbrev pub HasFixedLine : End → Type 0
+HasFixedLine ends.NotAVolume = Unit {0}
+HasFixedLine ends.NoImage = Unit {0}
+HasFixedLine ends.TooLong = Unit {0}
+HasFixedLine ends.TooMany = Unit {0}
+HasFixedLine end = ⊥
+
 -- ---- the outcome of a command
 
 -- its answer, or how it ends without one

@@ -1,10 +1,10 @@
 //! The last line of a command, and its status.
-ghost use Rattle.std.specs.Prelude.{◌≡◌, ◌≤◌, ◌++◌, ◌∷◌, ℕ, List, [], Some, OnOk, IfOk, codes};
+ghost use Rattle.std.specs.Prelude.{◌≡◌, ◌≢◌, ◌≤◌, ◌++◌, ◌∷◌, ℕ, List, [], Some, OnOk, IfOk, IfErr, codes};
 ghost use Rattle.dg_outside.specs.Outside.{output_of};
 ghost use Rattle.dg_ihex.specs.Causes.{cause_text};
 ghost use Rattle.dg_netcfg.specs.Faults.{profile_fault_text};
 ghost use Rattle.dg_end.specs.Texts.{numbers, line};
-ghost use Rattle.dg_end.specs.Lines.{refusal_text, bad_line, status_of, last_line, text_outcome};
+ghost use Rattle.dg_end.specs.Lines.{refusal_text, bad_line, status_of, last_line, HasFixedLine, text_outcome};
 ghost use Rattle.dg_end.specs.Writes.{WritesLast, WritesAnswer, WritesEnd};
 ghost use Rattle.dg_end.specs.declared.refusal.Refusal.TheVariants as refusals;
 
@@ -117,6 +117,7 @@ fn line_of_profile_fault(alloc: Global, fault: ProfileFault) -> Result<Vec<u8>, 
 fn write_last<K: Sink>(out: &mut K, line: &[u8], status: Status) -> Status
     ensures ends { WritesLast result status (Some line.now) (output_of (K.Sink, out.old))
         (output_of (K.Sink, out.new)) }
+    ensures room { status ≢ Status.Memory → result ≢ Status.Memory }
     ensures counts { K.faults out.old ≤ K.faults out.new }
 {
     match out.write(line) {
@@ -142,6 +143,7 @@ fn write_made<K: Sink>(out: &mut K, made: Result<Vec<u8>, AllocError>, status: S
 pub fn fail<K: Sink>(alloc: Global, out: &mut K, end: End) -> Status
     ensures ends { WritesLast result (status_of end) (last_line end)
         (output_of (K.Sink, out.old)) (output_of (K.Sink, out.new)) }
+    ensures room { HasFixedLine end → result ≢ Status.Memory }
     ensures counts { K.faults out.old ≤ K.faults out.new }
 {
     match end {
@@ -177,6 +179,7 @@ pub fn fail<K: Sink>(alloc: Global, out: &mut K, end: End) -> Status
 pub fn finish<K: Sink>(alloc: Global, out: &mut K, outcome: Result<(), End>) -> Status
     ensures ends { WritesEnd result outcome (output_of (K.Sink, out.old))
         (output_of (K.Sink, out.new)) }
+    ensures room { IfErr outcome (λ end. HasFixedLine end → result ≢ Status.Memory) }
     ensures counts { K.faults out.old ≤ K.faults out.new }
 {
     match outcome {

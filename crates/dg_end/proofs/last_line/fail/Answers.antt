@@ -1,7 +1,7 @@
-use Rattle.std.proofs.Common.{ℕ, List, [], ◌∷◌, ◌++◌, ap}
+use Rattle.std.proofs.Common.{ℕ, List, [], ◌∷◌, ◌++◌, ap, subst}
 use Rattle.std.specs.Prelude.{codes}
 use Rattle.dg_end.specs.Texts.{numbers, line}
-use Rattle.dg_end.specs.Lines.{bad_line}
+use Rattle.dg_end.specs.Lines.{bad_line, HasFixedLine}
 use Rattle.dg_end.specs.declared.ends.End.TheVariants as ends
 use Rattle.dg_end.proofs.FinishLemmas.{at_end, of_line}
 use Rattle.dg_end.proofs.last_line.fail.Goals as goal
@@ -40,3 +40,32 @@ returns-in-BadProfile-clause-ends g c =
 pub returns-in-Refused-clause-ends : goal.returns-in-Refused-clause-ends
 returns-in-Refused-clause-ends g c =
     at_end _ c.args.end (ends.Refused c.in-Refused.cause) _ _ c.in-Refused.is (c.write_made-in-Refused.ensures.ends _ c.line_of_refusal.ensures)
+
+-- ---- memory
+
+pub returns-in-NotAVolume-clause-room : goal.returns-in-NotAVolume-clause-room
+returns-in-NotAVolume-clause-room g c = λ fixed. c.write_last.ensures.room (λ e. cc)
+
+pub returns-in-NoImage-clause-room : goal.returns-in-NoImage-clause-room
+returns-in-NoImage-clause-room g c = λ fixed. c.write_last-in-NoImage.ensures.room (λ e. cc)
+
+pub returns-in-TooLong-clause-room : goal.returns-in-TooLong-clause-room
+returns-in-TooLong-clause-room g c = λ fixed. c.write_last-in-TooLong.ensures.room (λ e. cc)
+
+pub returns-in-TooMany-clause-room : goal.returns-in-TooMany-clause-room
+returns-in-TooMany-clause-room g c = λ fixed. c.write_last-in-TooMany.ensures.room (λ e. cc)
+
+pub returns-in-NoBoard-clause-room : goal.returns-in-NoBoard-clause-room
+returns-in-NoBoard-clause-room g c = λ fixed. absurd (subst HasFixedLine c.in-NoBoard.is fixed)
+
+pub returns-in-BadHex-clause-room : goal.returns-in-BadHex-clause-room
+returns-in-BadHex-clause-room g c = λ fixed. absurd (subst HasFixedLine c.in-BadHex.is fixed)
+
+pub returns-in-BadLine-clause-room : goal.returns-in-BadLine-clause-room
+returns-in-BadLine-clause-room g c = λ fixed. absurd (subst HasFixedLine c.in-BadLine.is fixed)
+
+pub returns-in-BadProfile-clause-room : goal.returns-in-BadProfile-clause-room
+returns-in-BadProfile-clause-room g c = λ fixed. absurd (subst HasFixedLine c.in-BadProfile.is fixed)
+
+pub returns-in-Refused-clause-room : goal.returns-in-Refused-clause-room
+returns-in-Refused-clause-room g c = λ fixed. absurd (subst HasFixedLine c.in-Refused.is fixed)
