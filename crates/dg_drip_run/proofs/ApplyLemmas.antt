@@ -9,7 +9,7 @@ use Rattle.dg_drip_script.specs.Reports.{reported_text}
 use Rattle.dg_drip_script.specs.Scripts.{DripItem, DripScript, with_items, network_of, drip_events_of, report_of}
 use Rattle.dg_drip_script.specs.Sizes.{most_events}
 use Rattle.std.specs.Prelude.{Result, Ok, Err, OnOk, OnErr}
-use Rattle.dg_drip_run.specs.Playing.{PlayerStands, Filled, IsPlaying, StaysPlaying, DripItemsPlayed}
+use Rattle.dg_drip_run.specs.inner.Playing.{PlayerStands, Filled, IsPlaying, StaysPlaying, DripItemsPlayed}
 use Rattle.dg_drip_run.specs.declared.player.PlayStop.{PlayStop}
 use Rattle.dg_drip_run.specs.declared.player.PlayStop.TheVariants.{TooMany, Memory}
 use Rattle.dg_drip_run.specs.declared.player.Player.{Player}

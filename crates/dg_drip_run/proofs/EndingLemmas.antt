@@ -10,17 +10,28 @@ use Rattle.std.proofs.Math.Seq.{take-append-add}
 use Rattle.dg_base.proofs.LineLemmas.{lines-ended, lines-last}
 use Rattle.dg_script.specs.LineReading.{IsLine, IsLastLine, HasNoEnd}
 use Rattle.dg_drip.specs.Network.{are_drip_neighbours}
-use Rattle.dg_drip_script.specs.Lines.{drip_line_of}
-use Rattle.dg_drip_script.specs.Scripts.{DripItem, DripScript, spelled_behind, then_line, standing_of, with_drip_line}
+use Rattle.dg_drip_script.specs.Lines.{drip_line_of, line_fault}
+use Rattle.dg_drip_script.specs.Scripts.{DripItem, DripScript, first_script, spelled_behind, then_line, standing_of, with_drip_line}
 use Rattle.dg_drip_script.specs.Sizes.{most_events}
 use Rattle.dg_drip_script.specs.declared.line.DripLine.{DripLine}
 use Rattle.dg_drip_script.specs.declared.line.DripLine.TheVariants.{Nothing, Nodes, Link, Event as EventLine, Round, Sweeps}
 use Rattle.dg_drip_script.specs.declared.line.DripFault.{DripFault}
-use Rattle.dg_drip_script.specs.declared.line.DripFault.TheVariants as fault
-use Rattle.dg_drip_run.specs.Dripped.{Ends, BadLine, TooManyEvents, Over, AreLines}
+use Rattle.dg_script.specs.declared.fault.LineFault.{LineFault}
+use Rattle.dg_script.specs.declared.fault.LineFault.TheVariants as fault
+use Rattle.dg_end.specs.declared.ends.End.{End}
+use Rattle.dg_end.specs.declared.ends.End.TheVariants as ends
+use Rattle.dg_drip_run.specs.Dripped.{AreLines}
 use Rattle.dg_drip_run.specs.Causes.{ended_parts, ended_lines, lines_within, ending_by_line, ending_by_lines}
 
 -- ---- tests
+
+-- the ending of an input of which this many bytes are used
+abbrev pub ending_within : (most : ℕ) → (over : Bool) → List ℕ → Result (Unit {0}) End
+ending_within most over input = ending_by_lines over first_script 1 (lines_within most over input)
+
+-- a line with this number and this fault ends a script
+abbrev pub bad_end : (number : ℕ) → LineFault → Result (Unit {0}) End
+bad_end number f = Err (ends.BadLine number f)
 
 pub above : (n m : ℕ) → m < n → nat_lt m n ≡ true
 above n m h = grind (arith, nat_tests)
@@ -149,7 +160,7 @@ passes_line : (over : Bool) (s : DripScript) (number : ℕ) (text : List ℕ) (t
 unfolding ending_by_lines
 passes_line over s number text texts line is few =
     ap (λ (r : Result DripLine DripFault). ending_by_line r s number (λ t. ending_by_lines over t (number + 1) texts)) is
-    ∙ ap (λ (b : Bool). if b then TooManyEvents else ending_by_lines over (with_drip_line s line) (number + 1) texts) (not_above (length (with_drip_line s line).items) most_events few)
+    ∙ ap (λ (b : Bool). if b then Err ends.TooMany else ending_by_lines over (with_drip_line s line) (number + 1) texts) (not_above (length (with_drip_line s line).items) most_events few)
 
 -- lines that are played
 pub ends_behind : (over : Bool) (texts more : List (List ℕ)) (s t : DripScript) (number : ℕ) → spelled_behind s texts ≡ Some t → length t.items ≤ most_events
@@ -172,27 +183,27 @@ spelled_then (text ∷ front) back s t h =
 
 -- the line that brings too many events
 pub too_many_by : (over : Bool) (text : List ℕ) (more : List (List ℕ)) (s t : DripScript) (number : ℕ) → spelled_behind s (text ∷ []) ≡ Some t → most_events < length t.items
-    → ending_by_lines over s number (text ∷ more) ≡ TooManyEvents
+    → ending_by_lines over s number (text ∷ more) ≡ Err ends.TooMany
 unfolding ending_by_lines
 too_many_by over text more s t number h many =
     let l = line_there (drip_line_of (standing_of s) text) (λ line. Some (with_drip_line s line)) t h in
     let same : with_drip_line s l.0 ≡ t = let e = l.2 in cc in
     ap (λ (r : Result DripLine DripFault). ending_by_line r s number (λ t. ending_by_lines over t (number + 1) more)) l.1
-    ∙ ap (λ (b : Bool). if b then TooManyEvents else ending_by_lines over (with_drip_line s l.0) (number + 1) more) (above (length (with_drip_line s l.0).items) most_events (subst (λ (x : DripScript). most_events < length x.items) (sym same) many))
+    ∙ ap (λ (b : Bool). if b then Err ends.TooMany else ending_by_lines over (with_drip_line s l.0) (number + 1) more) (above (length (with_drip_line s l.0).items) most_events (subst (λ (x : DripScript). most_events < length x.items) (sym same) many))
 
 -- a line with a fault
-pub bad_by : (over : Bool) (text : List ℕ) (more : List (List ℕ)) (s : DripScript) (number : ℕ) (f : DripFault) → drip_line_of (standing_of s) text ≡ Err f → ending_by_lines over s number (text ∷ more) ≡ BadLine number f
+pub bad_by : (over : Bool) (text : List ℕ) (more : List (List ℕ)) (s : DripScript) (number : ℕ) (f : DripFault) → drip_line_of (standing_of s) text ≡ Err f → ending_by_lines over s number (text ∷ more) ≡ bad_end number (line_fault f)
 unfolding ending_by_lines
 bad_by over text more s number f is = ap (λ (r : Result DripLine DripFault). ending_by_line r s number (λ t. ending_by_lines over t (number + 1) more)) is
 
-pub over_behind : (s : DripScript) (number : ℕ) → ending_by_lines true s number [] ≡ Over
+pub over_behind : (s : DripScript) (number : ℕ) → ending_by_lines true s number [] ≡ Err ends.TooLong
 unfolding ending_by_lines
 over_behind s number = refl
 
-pub no_nodes_behind : (s : DripScript) (number : ℕ) → s.nodes ≡ 0 → ending_by_lines false s number [] ≡ BadLine number fault.Place
+pub no_nodes_behind : (s : DripScript) (number : ℕ) → s.nodes ≡ 0 → ending_by_lines false s number [] ≡ bad_end number fault.Place
 unfolding ending_by_lines
-no_nodes_behind s number none = ap (λ (n : ℕ). if n == 0 then BadLine number fault.Place else Ends) none
+no_nodes_behind s number none = let by : ℕ → Result (Unit {0}) End = λ n. if n == 0 then bad_end number fault.Place else Ok tt in ap by none
 
-pub ends_at_end : (s : DripScript) (number : ℕ) → 0 < s.nodes → ending_by_lines false s number [] ≡ Ends
+pub ends_at_end : (s : DripScript) (number : ℕ) → 0 < s.nodes → ending_by_lines false s number [] ≡ Ok tt
 unfolding ending_by_lines
-ends_at_end s number some = ap (λ (b : Bool). if b then BadLine number fault.Place else Ends) (ne_eqb s.nodes 0 (λ zero_nodes. omega (arith, some, zero_nodes)))
+ends_at_end s number some = let by : Bool → Result (Unit {0}) End = λ b. if b then bad_end number fault.Place else Ok tt in ap by (ne_eqb s.nodes 0 (λ zero_nodes. omega (arith, some, zero_nodes)))

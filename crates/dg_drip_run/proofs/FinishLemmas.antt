@@ -1,5 +1,5 @@
 -- The last lines of a report.
-use Rattle.std.proofs.Common.{◌≡◌, ◌∙◌, ℕ, ◌+◌, List, ◌++◌, ap, append_assoc, Result, Ok, Err}
+use Rattle.std.proofs.Common.{◌≡◌, ◌∙◌, ℕ, ◌+◌, List, [], ◌++◌, ap, append_assoc, Result, Ok, Err}
 use Rattle.std.specs.Prelude.{OnOk}
 use Rattle.std.specs.List.{flat_map, range_with_len}
 use Rattle.std.specs.declared.alloc.AllocError.{AllocError}
@@ -13,3 +13,7 @@ pub told_both : (r : Result (Unit {0}) AllocError) (old mid new a b x y : List �
 told_both (Ok u) old mid new a b x y first second p q =
     second ∙ (ap (λ (t : List ℕ). t ++ b) first ∙ (append_assoc old a b ∙ (ap (λ (t : List ℕ). old ++ (t ++ b)) p ∙ ap (λ (t : List ℕ). old ++ (x ++ t)) q)))
 told_both (Err e) old mid new a b x y first second p q = tt
+
+-- a text after nothing
+pub text_made : (old new more : List ℕ) → old ≡ [] → new ≡ old ++ more → new ≡ more
+text_made old new more none e = e ∙ ap (λ (t : List ℕ). t ++ more) none

@@ -10,7 +10,7 @@ use Rattle.dg_drip_script.specs.Sizes.{most_events}
 use Rattle.dg_drip_script.specs.declared.line.DripLine.{DripLine}
 use Rattle.dg_drip_script.specs.declared.line.DripLine.TheVariants.{Link}
 use Rattle.dg_drip_script.specs.declared.line.Standing.{Standing}
-use Rattle.dg_drip_run.specs.Playing.{PlayerStands, IsPlaying, DripItemsPlayed, LinePlayed, AreBelow}
+use Rattle.dg_drip_run.specs.inner.Playing.{PlayerStands, IsPlaying, DripItemsPlayed, LinePlayed, AreBelow}
 use Rattle.dg_drip_run.specs.declared.player.Player.{Player}
 use Rattle.dg_drip_run.specs.declared.player.PlayStop.{PlayStop}
 use Rattle.dg_drip_run.specs.declared.player.PlayStop.TheVariants.{TooMany, Memory}

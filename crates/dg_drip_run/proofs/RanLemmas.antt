@@ -1,7 +1,7 @@
 -- Events that are played one after the other.
 use Rattle.std.proofs.Common.{◌≡◌, ◌∙◌, List, [], ◌∷◌, ◌++◌, length, ap, sym, subst, append_assoc, append-nil, Result, Ok, Err}
 use Rattle.dg_drip_script.specs.Scripts.{DripItem, DripScript, with_items}
-use Rattle.dg_drip_run.specs.Playing.{PlayerStands, DripItemsPlayed}
+use Rattle.dg_drip_run.specs.inner.Playing.{PlayerStands, DripItemsPlayed}
 use Rattle.dg_drip_run.specs.declared.player.Player.{Player}
 use Rattle.dg_drip_run.specs.declared.player.PlayStop.{PlayStop}
 use Rattle.dg_drip_run.specs.declared.player.PlayStop.TheVariants.{TooMany, Memory}

@@ -1,18 +1,20 @@
 -- What is reported of a line, and written.
 use Rattle.std.proofs.Common.{◌≡◌, ◌∙◌, ◌⊎◌, inl, inr, ⊎_elim, ℕ, suc, ◌<◌, ◌≤◌, ◌+◌, ◌*◌, ◌^◌, List, [], ◌∷◌, ◌++◌, length, take, refl, ap, sym, subst, append-nil, length-append, arith, Err}
-use Rattle.std.specs.Prelude.{Option, codes}
+use Rattle.std.specs.Prelude.{Option}
 use Rattle.std.proofs.lemmas.List.{take_all, take-append-le}
+use Rattle.dg_words.specs.Counts.{Rose}
 use Rattle.dg_base.specs.Outside.{Puts, PutsPrefix}
 use Rattle.dg_base.proofs.OutsideLemmas.{Puts-join}
-use Rattle.dg_base.specs.declared.answers.Status.{Status}
-use Rattle.dg_base.specs.declared.answers.Status.TheVariants as statuses
+use Rattle.dg_outside.specs.Outside.{OutputState}
+use Rattle.dg_end.specs.declared.ends.End.TheVariants as ends
 use Rattle.dg_drip_replay.specs.Standing.{NetworkStands, AreKeyed}
 use Rattle.dg_drip_replay.specs.declared.network.DripNetwork.{DripNetwork}
 use Rattle.dg_drip_script.specs.Scripts.{DripItem, DripScript, with_drip_line, network_of, report_of}
 use Rattle.dg_drip_script.specs.Sizes.{most_events}
 use Rattle.dg_drip_script.specs.declared.line.DripLine.{DripLine}
-use Rattle.dg_drip_run.specs.Playing.{PlayerStands, IsPlaying, LinePlayed}
-use Rattle.dg_drip_run.specs.Dripped.{played, Closed, TellsMore, DripLineStops}
+use Rattle.dg_drip_run.specs.inner.Playing.{PlayerStands, IsPlaying, LinePlayed}
+use Rattle.dg_drip_run.specs.Dripped.{played}
+use Rattle.dg_drip_run.specs.inner.Lines.{TellsMore, DripLineStops}
 use Rattle.dg_drip_run.specs.declared.player.Player.{Player}
 use Rattle.dg_drip_run.specs.declared.player.PlayStop.{PlayStop}
 use Rattle.dg_drip_run.specs.declared.player.PlayStop.TheVariants.{TooMany}
@@ -38,16 +40,6 @@ front_more a b x y p = (
   (let within = p.1 in omega (arith, within, length-append x y)),
   subst (λ (t : List ℕ). Puts a b t) (sym (take-append-le p.0 x y p.1)) p.2,
 )
-
--- ---- the end after too many events
-
-pub closed_behind : (r wanted : Status) (old mid new : Option (List ℕ)) (text piece : List ℕ) (rose failed : Type 0) → (rose → failed) → Puts old mid text
-    → ((r ≡ wanted) × Puts mid new piece) ⊎ ((r ≡ statuses.WriteFault) × rose × PutsPrefix mid new piece) → Closed r wanted text piece old new failed
-closed_behind r wanted old mid new text piece rose failed spread first next =
-    ⊎_elim
-    (λ h. inl (h.0, Puts-join old mid new text piece first h.1))
-    (λ h. inr (inl (h.0, spread h.1, front_behind old mid new text piece first h.2)))
-    next
 
 -- ---- a line
 
@@ -81,15 +73,21 @@ pub line_ok : (q : Player) (s t : DripScript) (text : List ℕ) (old new : Optio
     → ((b : List ℕ) × PlayerStands q t b) × ((more : List ℕ) × TellsMore s t more × Puts old new more)
 line_ok q s t text old new h is put = ((report_of s, h), (text, tells q s t text h is, put))
 
-pub line_cut : (q : Player) (s t : DripScript) (text : List ℕ) (old new : Option (List ℕ)) (failed : Type 0) → PlayerStands q t (report_of s) → text ≡ q.text.items → failed → PutsPrefix old new text → DripLineStops statuses.WriteFault s t old new failed
-line_cut q s t text old new failed h is rose put = inr (text, tells q s t text h is, inl (refl, rose, put))
+pub line_cut : (q : Player) (s t : DripScript) (text : List ℕ) (a b : OutputState) → PlayerStands q t (report_of s) → text ≡ q.text.items → Rose a.writes b.writes → PutsPrefix a.written b.written text → DripLineStops ends.WriteFault s t a b
+line_cut q s t text a b h is rose put = (text, tells q s t text h is, put, rose)
+
+-- ---- a line of too many events
 
 full_of : (e : PlayStop) (p q : Player) (line : DripLine) (s : DripScript) (before : List ℕ) → e ≡ TooMany → LinePlayed (Err e) p q line → PlayerStands p s before
     → (most_events < length (with_drip_line s line).items) × PlayerStands q (played (with_drip_line s line)) before
 full_of e p q line s before is ran h = let full : LinePlayed (Err TooMany) p q line = subst (λ (x : PlayStop). LinePlayed (Err x) p q line) is ran in full s before h
 
-pub line_full : (r : Status) (e : PlayStop) (p q : Player) (line : DripLine) (s : DripScript) (text : List ℕ) (old new : Option (List ℕ)) (failed : Type 0) → e ≡ TooMany → LinePlayed (Err e) p q line → PlayerStands p s (report_of s)
-    → text ≡ q.text.items → Closed r statuses.TooMany text (codes "toomany" ++ 10 ∷ []) old new failed → DripLineStops r s (with_drip_line s line) old new failed
-line_full r e p q line s text old new failed is ran h text_is closed =
-    let k = full_of e p q line s (report_of s) is ran h in
-    inr (text, ap (λ (u : List ℕ). report_of s ++ u) text_is ∙ k.1.reported, inr (k.0, closed))
+module _ (e : PlayStop) (p q : Player) (line : DripLine) (s : DripScript) (text : List ℕ) (a b : OutputState) (is : e ≡ TooMany) (ran : LinePlayed (Err e) p q line) (h : PlayerStands p s (report_of s)) (text_is : text ≡ q.text.items) where
+  full_tells : TellsMore s (with_drip_line s line) text
+  full_tells = ap (λ (u : List ℕ). report_of s ++ u) text_is ∙ (full_of e p q line s (report_of s) is ran h).1.reported
+
+  pub line_full : Puts a.written b.written text → b.writes ≡ a.writes → DripLineStops ends.TooMany s (with_drip_line s line) a b
+  line_full put same = (text, full_tells, put, same, (full_of e p q line s (report_of s) is ran h).0)
+
+  pub full_cut : Rose a.writes b.writes → PutsPrefix a.written b.written text → DripLineStops ends.WriteFault s (with_drip_line s line) a b
+  full_cut rose put = (text, full_tells, put, rose)

@@ -7,21 +7,26 @@ use Rattle.dg_script.specs.LineReading.{HasNoEnd, IsLine, IsLastLine, FirstLine}
 use Rattle.dg_script.specs.Sizes.{most_used_bytes}
 use Rattle.dg_script.specs.LineReading.{most_kept}
 use Rattle.dg_drip_script.specs.Scripts.{report_of}
-use Rattle.dg_drip_run.specs.AroundDrip.{AroundDrip}
-use Rattle.dg_drip_run.specs.Dripped.{AreTold, IsOneLine, FewAhead, DripStage, LinesPlayed}
+use Rattle.dg_outside.specs.Outside.{OutputState}
+use Rattle.dg_drip_run.specs.Dripped.{AreTold, FewAhead}
+use Rattle.dg_drip_run.specs.inner.Lines.{DripStage, LinesPlayed}
 
-pub told_all : (ended : Type 0) (first last : AroundDrip) (now : DripStage) (number : ℕ) → (i : LinesPlayed ended first number now) → (more : List ℕ) × Puts now.around.written last.written more → AreTold i.texts first.written last.written
-told_all ended first last now number i m = record {
+-- one line at most, with its LF or without it
+abbrev IsOneLine : List ℕ → Type 0
+IsOneLine bytes = (before : List ℕ) × HasNoEnd before × ((bytes ≡ before) ⊎ (bytes ≡ before ++ 10 ∷ []))
+
+pub told_all : (ended : Type 0) (first now : DripStage) (after : OutputState) (number : ℕ) → (i : LinesPlayed ended first number now) → (more : List ℕ) × Puts now.output.written after.written more → AreTold i.texts first.output.written after.written
+told_all ended first now after number i m = record {
   first = i.texts;
   last = inl refl;
   script = i.script;
   says = i.says;
   few = i.plays.few;
   more = m.0;
-  put = Puts-join first.written now.around.written last.written (report_of i.script) m.0 i.put m.1;
+  put = Puts-join first.output.written now.output.written after.written (report_of i.script) m.0 i.put m.1;
 }
 
-pub told_but_last : (first : AroundDrip) (p q : DripStage) (number : ℕ) (text : List ℕ) → (i : LinesPlayed ⊥ first number p) → (more : List ℕ) × Puts p.around.written q.around.written more → AreTold (i.texts ++ text ∷ []) first.written q.around.written
+pub told_but_last : (first p q : DripStage) (number : ℕ) (text : List ℕ) → (i : LinesPlayed ⊥ first number p) → (more : List ℕ) × Puts p.output.written q.output.written more → AreTold (i.texts ++ text ∷ []) first.output.written q.output.written
 told_but_last first p q number text i m = record {
   first = i.texts;
   last = inr (text, refl);
@@ -29,7 +34,7 @@ told_but_last first p q number text i m = record {
   says = i.says;
   few = i.plays.few;
   more = m.0;
-  put = Puts-join first.written p.around.written q.around.written (report_of i.script) m.0 i.put m.1;
+  put = Puts-join first.output.written p.output.written q.output.written (report_of i.script) m.0 i.put m.1;
 }
 
 one_line : (text line rest : List ℕ) (E : Type 0) → IsLine text line ⊎ (IsLastLine text line × (rest ≡ []) × E) → IsOneLine line

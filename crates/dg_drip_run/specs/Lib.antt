@@ -1,5 +1,4 @@
-pub mod AroundDrip
-pub mod Playing
 pub mod Dripped
 pub mod Causes
 pub mod Promised
+pub mod inner

@@ -8,8 +8,8 @@ use Rattle.dg_drip.specs.Entries.{none, IsAtMost, IsAmong, IsGreatestOf}
 use Rattle.dg_drip.specs.Network.{start, run, entry_at}
 use Rattle.dg_drip.specs.Spread.{all_brought, made_in, drip_round, sweeps, HasDripRounds, IsAtNodesBelow, IsGreatestAt, AreWithin}
 use Rattle.dg_base.specs.declared.answers.Status.{Status}
+use Rattle.dg_outside.specs.Outside.{Outside}
 use Rattle.dg_drip_script.specs.Scripts.{DripScript, drip_events_of, network_of}
-use Rattle.dg_drip_run.specs.AroundDrip.{AroundDrip}
 use Rattle.dg_drip_run.specs.Dripped.{Dripped, played}
 
 -- each node keeps of a key the greatest of what was set there and what it heard, or no entry
@@ -43,14 +43,14 @@ SweepsBringTheGreatest s = (front rest back : List DripEvent) (h key : ℕ) (e :
     → entry_at (run (start s.links) (front ++ rest)) node key ≡ e
 
 -- all of this, of whatever run a replay may have played
-pub record ValuesSpread (status : Status) (a b : AroundDrip) : Type 0 where
+pub record ValuesSpread (status : Status) (a b : Outside) : Type 0 where
   -- each node keeps of a key the greatest of what was set there and what it heard, or no entry
-  pub greatest : (x : Dripped status a b) → GreatestIsKept (played x.script)
+  pub greatest : (x : Dripped status a b) → GreatestIsKept (played x.came.script)
   -- what it keeps never falls
-  pub rises : (x : Dripped status a b) → NothingFalls (played x.script)
+  pub rises : (x : Dripped status a b) → NothingFalls (played x.came.script)
   -- it was set at some node of this run
-  pub made : (x : Dripped status a b) → SetsMakeAll (played x.script)
+  pub made : (x : Dripped status a b) → SetsMakeAll (played x.came.script)
   -- after a round the second node keeps no less than the first one kept
-  pub rounds : (x : Dripped status a b) → RoundsRaise (played x.script)
+  pub rounds : (x : Dripped status a b) → RoundsRaise (played x.came.script)
   -- where each two nodes are within h links, h sweeps with no set between them bring all to the greatest entry, wherever they end
-  pub sweeps : (x : Dripped status a b) → SweepsBringTheGreatest (played x.script)
+  pub sweeps : (x : Dripped status a b) → SweepsBringTheGreatest (played x.came.script)

@@ -1,37 +1,47 @@
 //! The call that replays a script of nodes.
 ghost use Rattle.std.specs.Prelude.{◌≡◌, ◌≤◌, ℕ, ◌++◌, [], List, OnOk};
 ghost use Rattle.dg_base.specs.Outside.{Takes};
+ghost use Rattle.dg_outside.specs.Outside.{Outside, input_of, output_of, with_input, with_output};
+ghost use Rattle.dg_end.specs.Lines.{text_outcome};
 ghost use Rattle.dg_drip_script.specs.Scripts.{DripScript, first_script};
-ghost use Rattle.dg_drip_run.specs.AroundDrip.{around_drip};
-ghost use Rattle.dg_drip_run.specs.Dripped.{Dripped, NextPlays, LinesAnswer, drip_stage};
+ghost use Rattle.dg_drip_run.specs.Dripped.{DripCame, Dripped};
 ghost use Rattle.dg_drip_run.specs.Causes.{DripEnds};
 ghost use Rattle.dg_drip_run.specs.Promised.{ValuesSpread};
-ghost use Rattle.dg_drip_run.specs.Playing.{PlayerStands, IsPlaying};
+ghost use Rattle.dg_drip_run.specs.inner.Playing.{PlayerStands, IsPlaying};
+ghost use Rattle.dg_drip_run.specs.inner.Lines.{NextPlays, LinesAnswer, drip_stage};
 
-use crate::finish::{end_at_line, end_script, end_with};
+use crate::finish::end_script;
 use crate::laws::values_spread;
 use crate::lines::play_text;
 use crate::player::Player;
 use dg_base::{Sink, Source, Status};
-use dg_drip_script::DripFault;
-use dg_script::{LineReader, ReadStop};
+use dg_end::{End, answer};
+use dg_script::{LineFault, LineReader, ReadStop};
 use std::alloc::Global;
 
-/// Reads the next line and plays it, and answers whether there was one. A status where the replay ends there.
+/// How a line that is too long ends the replay.
+fn long_line(line: u32) -> End
+    ensures { result ≡ End.BadLine line LineFault.Long }
+{
+    End::BadLine {
+        line,
+        fault: LineFault::Long,
+    }
+}
+
+/// Reads the next line and plays it, and answers whether there was one.
 fn play_next<S: Source, K: Sink>(
     alloc: Global,
     reader: &mut LineReader,
     input: &mut S,
     player: &mut Player,
     out: &mut K,
-) -> Result<bool, Status>
+) -> Result<bool, End>
     requires { IsPlaying player.old }
     ensures answer { (more : List ℕ) × Takes (S.left input.old) (S.left input.new) more
         × ((s : DripScript) (before : List ℕ) → PlayerStands player.old s before → NextPlays result (reader.old.ahead ++ more) s
-        (drip_stage reader.old player.old
-        (around_drip (S.left input.old) (S.faults input.old) (K.written out.old) (K.faults out.old)))
-        (drip_stage reader.new player.new
-        (around_drip (S.left input.new) (S.faults input.new) (K.written out.new) (K.faults out.new)))) }
+        (drip_stage reader.old player.old (input_of (S.Source, input.old)) (output_of (K.Sink, out.old)))
+        (drip_stage reader.new player.new (input_of (S.Source, input.new)) (output_of (K.Sink, out.new)))) }
     ensures unread { OnOk result (S.faults input.new ≡ S.faults input.old) }
     ensures still { OnOk result (K.faults out.new ≡ K.faults out.old) }
     ensures reads { S.faults input.old ≤ S.faults input.new }
@@ -40,12 +50,12 @@ fn play_next<S: Source, K: Sink>(
     match reader.next(input) {
         Ok(Some(number)) => match play_text(alloc, player, reader.text(), number, out) {
             Ok(()) => Ok(true),
-            Err(status) => Err(status),
+            Err(end) => Err(end),
         },
         Ok(None) => Ok(false),
-        Err(ReadStop::ReadFault) => Err(Status::ReadFault),
-        Err(ReadStop::Long { line }) => Err(end_at_line(alloc, out, line, DripFault::Long)),
-        Err(ReadStop::TooLong) => Err(end_with(out, b"toolong\n", Status::TooLong)),
+        Err(ReadStop::ReadFault) => Err(End::ReadFault),
+        Err(ReadStop::Long { line }) => Err(long_line(line)),
+        Err(ReadStop::TooLong) => Err(End::TooLong),
     }
 }
 
@@ -57,15 +67,14 @@ fn play_lines<S: Source, K: Sink>(
     input: &mut S,
     player: &mut Player,
     out: &mut K,
-) -> Result<u32, Status>
+) -> Result<u32, End>
     requires none { reader.old.ahead ≡ [] }
     requires unread { reader.old.passed ≡ 0 }
     requires first { reader.old.number ≡ 0 }
     requires playing { PlayerStands player.old first_script [] }
     ensures answer { LinesAnswer result
-        (around_drip (S.left input.old) (S.faults input.old) (K.written out.old) (K.faults out.old))
-        (drip_stage reader.new player.new
-        (around_drip (S.left input.new) (S.faults input.new) (K.written out.new) (K.faults out.new))) }
+        (drip_stage reader.old player.old (input_of (S.Source, input.old)) (output_of (K.Sink, out.old)))
+        (drip_stage reader.new player.new (input_of (S.Source, input.new)) (output_of (K.Sink, out.new))) }
     ensures still { OnOk result (K.faults out.new ≡ K.faults out.old) }
     ensures reads { S.faults input.old ≤ S.faults input.new }
     ensures counts { K.faults out.old ≤ K.faults out.new }
@@ -80,23 +89,21 @@ fn play_lines<S: Source, K: Sink>(
     Ok(number)
 }
 
-/// Reads the script that `input` spells line by line, and replays it.
-fn read_and_play<S: Source, K: Sink>(alloc: Global, input: &mut S, out: &mut K) -> Status
-    ensures replayed { Dripped result (around_drip (S.left input.old) (S.faults input.old) (K.written out.old) (K.faults out.old))
-        (around_drip (S.left input.new) (S.faults input.new) (K.written out.new) (K.faults out.new)) }
+/// Reads the script that `input` spells line by line, and replays it. Answers the last lines of its report.
+fn read_and_play<S: Source, K: Sink>(
+    alloc: Global,
+    input: &mut S,
+    out: &mut K,
+) -> Result<Vec<u8>, End>
+    ensures came { DripCame (text_outcome (λ text. text.items) result) (input_of (S.Source, input.old))
+        (input_of (S.Source, input.new)) (output_of (K.Sink, out.old)) (output_of (K.Sink, out.new)) }
     ensures reads { S.faults input.old ≤ S.faults input.new }
     ensures counts { K.faults out.old ≤ K.faults out.new }
 {
-    let Ok(mut reader) = LineReader::new(alloc) else {
-        return Status::Memory;
-    };
-    let Ok(mut player) = Player::new(alloc) else {
-        return Status::Memory;
-    };
-    match play_lines(alloc, &mut reader, input, &mut player, out) {
-        Ok(number) => end_script(alloc, out, &player, number),
-        Err(status) => status,
-    }
+    let mut reader = LineReader::new(alloc)?;
+    let mut player = Player::new(alloc)?;
+    let number = play_lines(alloc, &mut reader, input, &mut player, out)?;
+    end_script(alloc, &player, number)
 }
 
 /// Replays the script that `input` spells over nodes that keep nothing at first, and writes the report to `out`. A status
@@ -108,20 +115,21 @@ fn read_and_play<S: Source, K: Sink>(alloc: Global, input: &mut S, out: &mut K) 
 /// is taken.
 pub fn drip<S: Source, K: Sink>(alloc: Global, input: &mut S, out: &mut K) -> Status
     // The bytes written are the report of the run of the script's events from nodes that keep nothing.
-    ensures replayed { Dripped result
-        (around_drip (S.left input.old) (S.faults input.old) (K.written out.old) (K.faults out.old))
-        (around_drip (S.left input.new) (S.faults input.new) (K.written out.new) (K.faults out.new)) }
+    ensures replayed { (rest : Outside) → Dripped result
+        (with_output (K.Sink, out.old) (with_input (S.Source, input.old) rest))
+        (with_output (K.Sink, out.new) (with_input (S.Source, input.new) rest)) }
     // The status is the one that the rules give to the bytes of the input, unless memory runs out or the outside has a fault.
-    ensures ends { DripEnds result
-        (around_drip (S.left input.old) (S.faults input.old) (K.written out.old) (K.faults out.old))
-        (around_drip (S.left input.new) (S.faults input.new) (K.written out.new) (K.faults out.new)) }
+    ensures ends { (rest : Outside) → DripEnds result
+        (with_output (K.Sink, out.old) (with_input (S.Source, input.old) rest))
+        (with_output (K.Sink, out.new) (with_input (S.Source, input.new) rest)) }
     // All laws of how values spread hold of the run that it played.
-    ensures spread { ValuesSpread result
-        (around_drip (S.left input.old) (S.faults input.old) (K.written out.old) (K.faults out.old))
-        (around_drip (S.left input.new) (S.faults input.new) (K.written out.new) (K.faults out.new)) }
+    ensures spread { (rest : Outside) → ValuesSpread result
+        (with_output (K.Sink, out.old) (with_input (S.Source, input.old) rest))
+        (with_output (K.Sink, out.new) (with_input (S.Source, input.new) rest)) }
     ensures reads { S.faults input.old ≤ S.faults input.new }
     ensures writes { K.faults out.old ≤ K.faults out.new }
 {
     values_spread();
-    read_and_play(alloc, input, out)
+    let outcome = read_and_play(alloc, input, out);
+    answer(alloc, out, outcome)
 }

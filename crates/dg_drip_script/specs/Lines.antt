@@ -4,7 +4,6 @@ use Rattle.std.specs.Prelude.{Option, Some, None, Result, Ok, Err}
 use Rattle.dg_script.specs.Lines.{is_comment}
 use Rattle.dg_script.specs.Results.{◌>>?◌, kept_if}
 use Rattle.dg_script.specs.Words.{words_of, same}
-use Rattle.dg_drip.specs.declared.events.DripEvent.{DripEvent}
 use Rattle.dg_drip.specs.declared.events.DripEvent.TheVariants as event
 use Rattle.dg_drip_replay.specs.Standing.{FitsDripEvent}
 use Rattle.dg_drip_script.specs.Fields.{Field, numbers_of_words, one_number, two_numbers, four_numbers, five_numbers, field_below}
@@ -15,6 +14,8 @@ use Rattle.dg_drip_script.specs.declared.line.DripLine.TheVariants.{Nothing, Nod
 use Rattle.dg_drip_script.specs.declared.line.DripFault.{DripFault}
 use Rattle.dg_drip_script.specs.declared.line.DripFault.TheVariants.{Long, Verb, Place, Number}
 use Rattle.dg_drip_script.specs.declared.line.Standing.{Standing}
+use Rattle.dg_script.specs.declared.fault.LineFault.{LineFault}
+use Rattle.dg_script.specs.declared.fault.LineFault.TheVariants as lines
 
 -- ---- the faults of a line in their order: its number of fields, its place, its numbers
 
@@ -37,59 +38,45 @@ may_link at = has_nodes at && not at.begun
 abbrev pub pair_of : (nodes : ℕ) → Field × Field → Option (ℕ × ℕ)
 pair_of nodes fields = field_below nodes fields.0 >>? λ a. field_below nodes fields.1 >>? λ b. kept_if (not (b == a)) (a, b)
 
-abbrev pub drip_tick_of : (nodes : ℕ) → Field × Field × Field × Field → Option DripEvent
+abbrev pub drip_tick_of : (nodes : ℕ) → Field × Field × Field × Field → Option DripLine
 drip_tick_of nodes fields =
     field_below nodes fields.0 >>? λ node. field_below key_count fields.1 >>? λ key. fields.2 >>? λ dt. fields.3 >>? λ word.
-    Some (event.Tick node key dt word)
+    Some (EventLine (event.Tick node key dt word))
 
-abbrev pub drip_hear_of : (nodes : ℕ) → Field × Field × Field × Field → Option DripEvent
+abbrev pub drip_hear_of : (nodes : ℕ) → Field × Field × Field × Field → Option DripLine
 drip_hear_of nodes fields =
     field_below nodes fields.0 >>? λ node. fields.1 >>? λ dt. fields.2 >>? λ word. from_one_to most_number fields.3 >>?
-    λ frame. Some (event.Hear node dt word frame)
+    λ frame. Some (EventLine (event.Hear node dt word frame))
 
-abbrev pub set_of : (nodes : ℕ) → Field × Field × Field × Field × Field → Option DripEvent
+abbrev pub set_of : (nodes : ℕ) → Field × Field × Field × Field × Field → Option DripLine
 set_of nodes fields =
     field_below nodes fields.0 >>? λ node. field_below key_count fields.1 >>? λ key. fields.2 >>? λ value. fields.3 >>? λ dt.
-    fields.4 >>? λ word. Some (event.Set node key value dt word)
+    fields.4 >>? λ word. Some (EventLine (event.Set node key value dt word))
 
 -- ---- each verb's line
 
-abbrev pub nodes_line : Standing → List Field → Result DripLine DripFault
-nodes_line at fields = shaped (one_number fields) (at.nodes == 0) (λ n. from_one_to most_nodes n >>? λ count. Some (Nodes count))
+-- of a number
+abbrev pub count_line : (stands : Bool) → (most : ℕ) → (ℕ → DripLine) → List Field → Result DripLine DripFault
+count_line stands most line fields = shaped (one_number fields) stands (λ n. from_one_to most n >>? λ count. Some (line count))
 
-abbrev pub sweeps_line : Standing → List Field → Result DripLine DripFault
-sweeps_line at fields =
-    shaped (one_number fields) (has_nodes at) (λ n. from_one_to most_sweeps n >>? λ count. Some (Sweeps count))
-
-abbrev pub link_line : Standing → List Field → Result DripLine DripFault
-link_line at fields = shaped (two_numbers fields) (may_link at) (λ ends. pair_of at.nodes ends >>? λ p. Some (Link p.0 p.1))
-
-abbrev pub round_line : Standing → List Field → Result DripLine DripFault
-round_line at fields = shaped (two_numbers fields) (has_nodes at) (λ ends. pair_of at.nodes ends >>? λ p. Some (Round p.0 p.1))
-
-abbrev pub tick_line : Standing → List Field → Result DripLine DripFault
-tick_line at fields = shaped (four_numbers fields) (has_nodes at) (λ f. drip_tick_of at.nodes f >>? λ e. Some (EventLine e))
-
-abbrev pub hear_line : Standing → List Field → Result DripLine DripFault
-hear_line at fields = shaped (four_numbers fields) (has_nodes at) (λ f. drip_hear_of at.nodes f >>? λ e. Some (EventLine e))
-
-abbrev pub set_line : Standing → List Field → Result DripLine DripFault
-set_line at fields = shaped (five_numbers fields) (has_nodes at) (λ f. set_of at.nodes f >>? λ e. Some (EventLine e))
+-- of two nodes
+abbrev pub pair_line : (stands : Bool) → (nodes : ℕ) → (ℕ → ℕ → DripLine) → List Field → Result DripLine DripFault
+pair_line stands nodes line fields = shaped (two_numbers fields) stands (λ ends. pair_of nodes ends >>? λ p. Some (line p.0 p.1))
 
 -- the line of a verb
 abbrev pub event_line : Standing → (verb : List ℕ) → List Field → Result DripLine DripFault
 event_line at verb fields =
-    if same verb (codes "set") then set_line at fields
-    else if same verb (codes "tick") then tick_line at fields
-    else if same verb (codes "hear") then hear_line at fields
+    if same verb (codes "set") then shaped (five_numbers fields) (has_nodes at) (set_of at.nodes)
+    else if same verb (codes "tick") then shaped (four_numbers fields) (has_nodes at) (drip_tick_of at.nodes)
+    else if same verb (codes "hear") then shaped (four_numbers fields) (has_nodes at) (drip_hear_of at.nodes)
     else Err Verb
 
 abbrev pub verb_line : Standing → (verb : List ℕ) → List Field → Result DripLine DripFault
 verb_line at verb fields =
-    if same verb (codes "nodes") then nodes_line at fields
-    else if same verb (codes "link") then link_line at fields
-    else if same verb (codes "round") then round_line at fields
-    else if same verb (codes "sweeps") then sweeps_line at fields
+    if same verb (codes "nodes") then count_line (at.nodes == 0) most_nodes Nodes fields
+    else if same verb (codes "link") then pair_line (may_link at) at.nodes Link fields
+    else if same verb (codes "round") then pair_line (has_nodes at) at.nodes Round fields
+    else if same verb (codes "sweeps") then count_line (has_nodes at) most_sweeps Sweeps fields
     else event_line at verb fields
 
 -- the line of words. A line without words, and one whose first word begins with `#`, say nothing
@@ -118,3 +105,10 @@ DripStandsAt at (Link a b) = at.begun ≡ false
 DripStandsAt at (EventLine event) = Unit {0}
 DripStandsAt at (Round a b) = Unit {0}
 DripStandsAt at (Sweeps count) = Unit {0}
+
+-- the fault of a line, as the last line of a replay reports it
+abbrev pub line_fault : DripFault → LineFault
+line_fault Long = lines.Long
+line_fault Verb = lines.Verb
+line_fault Place = lines.Place
+line_fault Number = lines.Number

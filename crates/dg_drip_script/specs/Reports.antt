@@ -1,20 +1,14 @@
 -- The lines of a report (docs/SCRIPTS.md, "Scripts of nodes").
 use Rattle.std.specs.Prelude.{ℕ, ◌==◌, if◌then◌else◌, List, [], ◌∷◌, ◌++◌, codes, Option, Some, None}
 use Rattle.std.specs.List.{flat_map, range_with_len}
-use Rattle.std.specs.Fmt.{decimal}
 use Rattle.dg_drip.specs.declared.entry.Entry.{Entry}
 use Rattle.dg_drip.specs.Network.{Network, entry_at}
 use Rattle.dg_drip_replay.specs.declared.report.DripCause.{DripCause}
 use Rattle.dg_drip_replay.specs.declared.report.DripCause.TheVariants as cause
 use Rattle.dg_drip_replay.specs.declared.report.DripReport.{DripReport}
 use Rattle.dg_drip_replay.specs.declared.report.DripReport.TheVariants.{Refused, Sent, Got, End, Value}
+use Rattle.dg_end.specs.Texts.{numbers, line}
 use Rattle.dg_drip_script.specs.Sizes.{key_count}
-use Rattle.dg_drip_script.specs.declared.line.DripFault.{DripFault}
-use Rattle.dg_drip_script.specs.declared.line.DripFault.TheVariants as fault
-
--- numbers, each after a space
-abbrev pub numbers_text : List ℕ → List ℕ
-numbers_text numbers = flat_map (λ n. 32 ∷ decimal n) numbers
 
 abbrev pub cause_word : DripCause → List ℕ
 cause_word cause.Last = codes "last"
@@ -22,14 +16,14 @@ cause_word cause.Frame = codes "frame"
 cause_word cause.Link = codes "link"
 
 abbrev pub entry_line : (word : List ℕ) → (node key : ℕ) → Entry → List ℕ
-entry_line word node key e = word ++ numbers_text (node ∷ key ∷ e.number ∷ e.value ∷ []) ++ 10 ∷ []
+entry_line word node key e = line (word ++ numbers (node ∷ key ∷ e.number ∷ e.value ∷ []))
 
 -- the text of a line of a report, with its end
 abbrev pub drip_report_line : DripReport → List ℕ
-drip_report_line (Refused node cause) = codes "no" ++ numbers_text (node ∷ []) ++ 32 ∷ cause_word cause ++ 10 ∷ []
+drip_report_line (Refused node cause) = line (codes "no" ++ numbers (node ∷ []) ++ 32 ∷ cause_word cause)
 drip_report_line (Sent node key e) = entry_line (codes "sent") node key e
 drip_report_line (Got node key e) = entry_line (codes "got") node key e
-drip_report_line (End events) = codes "end" ++ numbers_text (events ∷ []) ++ 10 ∷ []
+drip_report_line (End events) = line (codes "end" ++ numbers (events ∷ []))
 drip_report_line (Value node key e) = entry_line (codes "value") node key e
 
 abbrev pub reported_text : Option DripReport → List ℕ
@@ -48,13 +42,3 @@ node_text w node = flat_map (λ key. value_text node key (entry_at w node key)) 
 -- how many events there were, and each entry that is kept, by node and key
 abbrev pub final_text : Network → (nodes events : ℕ) → List ℕ
 final_text w nodes events = drip_report_line (End events) ++ flat_map (node_text w) (range_with_len 0 nodes)
-
-abbrev pub fault_word : DripFault → List ℕ
-fault_word fault.Long = codes "long"
-fault_word fault.Verb = codes "verb"
-fault_word fault.Place = codes "place"
-fault_word fault.Number = codes "number"
-
--- the last line where a line of the script has a fault
-abbrev pub bad_drip_line : (line : ℕ) → DripFault → List ℕ
-bad_drip_line line f = codes "line" ++ numbers_text (line ∷ []) ++ 32 ∷ fault_word f ++ 10 ∷ []

@@ -44,9 +44,6 @@ rounds_items pairs = flat_map (λ p. unreported_items (drip_round p.0 p.1)) pair
 abbrev pub with_items : DripScript → List DripItem → DripScript
 with_items s items = record s { items = s.items ++ items }
 
-abbrev pub script_with_link : DripScript → (a b : ℕ) → DripScript
-script_with_link s a b = if are_drip_neighbours s.links a b then s else record s { links = s.links ++ (a, b) ∷ [] }
-
 abbrev pub begun_script : DripScript → DripScript
 begun_script s = record s { begun = true }
 
@@ -54,7 +51,7 @@ begun_script s = record s { begun = true }
 abbrev pub with_drip_line : DripScript → DripLine → DripScript
 with_drip_line s Nothing = s
 with_drip_line s (Nodes count) = record s { nodes = count }
-with_drip_line s (Link a b) = script_with_link s a b
+with_drip_line s (Link a b) = if are_drip_neighbours s.links a b then s else record s { links = s.links ++ (a, b) ∷ [] }
 with_drip_line s (EventLine event) = with_items (begun_script s) (record { event = event; reported = true } ∷ [])
 with_drip_line s (Round a b) = with_items (begun_script s) (unreported_items (drip_round a b))
 with_drip_line s (Sweeps count) = with_items (begun_script s) (rounds_items (sweeps count s.links))

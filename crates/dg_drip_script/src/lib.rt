@@ -9,5 +9,5 @@ mod sizes;
 
 pub use line::{DripFault, DripLine, Standing};
 pub use reading::read_line;
-pub use reports::{push_bad_line, push_end, push_entry, push_report};
+pub use reports::{push_end, push_entry, push_report};
 pub use sizes::{MOST_NODES, scripts_of_nodes_have_this_bound};

@@ -1,6 +1,9 @@
 //! A line of a script of nodes.
+ghost use Rattle.std.specs.Prelude.{◌≡◌};
+ghost use Rattle.dg_drip_script.specs.Lines.{line_fault};
 
 use dg_drip::DripEvent;
+use dg_script::LineFault;
 
 /// What a line says.
 #[derive(Clone, Copy, Debug, PartialEq, Eq)]
@@ -30,6 +33,20 @@ pub enum DripFault {
     Place,
     /// A field is not a number, or not in its range.
     Number,
+}
+
+impl DripFault {
+    /// The fault of a line, as the last line of a replay reports it.
+    pub fn line_fault(self) -> LineFault
+        ensures { result ≡ line_fault self }
+    {
+        match self {
+            DripFault::Long => LineFault::Long,
+            DripFault::Verb => LineFault::Verb,
+            DripFault::Place => LineFault::Place,
+            DripFault::Number => LineFault::Number,
+        }
+    }
 }
 
 /// Where a line stands: how many nodes there are, 0 before that is said, and whether the first event, round or sweep came.

@@ -1,11 +1,11 @@
 //! Reads a line of a script of nodes.
-ghost use Rattle.std.specs.Prelude.{◌≡◌, ◌<◌, IfSome, IfOk};
+ghost use Rattle.std.specs.Prelude.{◌≡◌, ◌<◌, ◌==◌, IfSome, IfOk};
 ghost use Rattle.dg_script.specs.Words.{same, words_of};
-ghost use Rattle.dg_drip_script.specs.Fields.{numbers_of_words};
-ghost use Rattle.dg_drip_script.specs.Lines.{has_nodes, may_link, pair_of, drip_tick_of, drip_hear_of, set_of, nodes_line};
-ghost use Rattle.dg_drip_script.specs.Lines.{sweeps_line, link_line, round_line, tick_line, hear_line, set_line, event_line};
-ghost use Rattle.dg_drip_script.specs.Lines.{verb_line, drip_line_of, FitsDripLine, DripStandsAt};
-ghost use Rattle.dg_drip_replay.specs.Standing.{FitsDripEvent};
+ghost use Rattle.dg_drip_script.specs.Fields.{numbers_of_words, four_numbers, five_numbers};
+ghost use Rattle.dg_drip_script.specs.Lines.{shaped, has_nodes, may_link, pair_of, drip_tick_of, drip_hear_of, set_of};
+ghost use Rattle.dg_drip_script.specs.Lines.{count_line, pair_line, event_line, verb_line, drip_line_of};
+ghost use Rattle.dg_drip_script.specs.Lines.{FitsDripLine, DripStandsAt};
+ghost use Rattle.dg_drip_script.specs.Sizes.{most_nodes, most_sweeps};
 
 use crate::MOST_NODES;
 use crate::fields::{
@@ -40,58 +40,61 @@ fn pair(nodes: u8, fields: (Field, Field)) -> Option<(u8, u8)>
     Some((a, b))
 }
 
-fn tick(nodes: u8, fields: (Field, Field, Field, Field)) -> Option<DripEvent>
-    ensures is { result ≡ drip_tick_of nodes fields }
-    ensures fits { IfSome result (λ e. FitsDripEvent nodes e) }
+fn tick(at: Standing, fields: (Field, Field, Field, Field)) -> Option<DripLine>
+    ensures is { result ≡ drip_tick_of at.nodes fields }
+    ensures fits { IfSome result (λ l. FitsDripLine at.nodes l × DripStandsAt at l) }
 {
-    let node = below(fields.0, nodes)?;
+    let node = below(fields.0, at.nodes)?;
     let key = below(fields.1, KEYS as u8)?;
     let dt = fields.2?;
     let word = fields.3?;
-    Some(DripEvent::Tick {
+    let event = DripEvent::Tick {
         node,
         key,
         dt,
         word,
-    })
+    };
+    Some(DripLine::Event { event })
 }
 
-fn hear(nodes: u8, fields: (Field, Field, Field, Field)) -> Option<DripEvent>
-    ensures is { result ≡ drip_hear_of nodes fields }
-    ensures fits { IfSome result (λ e. FitsDripEvent nodes e) }
+fn hear(at: Standing, fields: (Field, Field, Field, Field)) -> Option<DripLine>
+    ensures is { result ≡ drip_hear_of at.nodes fields }
+    ensures fits { IfSome result (λ l. FitsDripLine at.nodes l × DripStandsAt at l) }
 {
-    let node = below(fields.0, nodes)?;
+    let node = below(fields.0, at.nodes)?;
     let dt = fields.1?;
     let word = fields.2?;
     let frame = from_one_to(fields.3, u32::MAX)?;
-    Some(DripEvent::Hear {
+    let event = DripEvent::Hear {
         node,
         dt,
         word,
         frame,
-    })
+    };
+    Some(DripLine::Event { event })
 }
 
-fn set(nodes: u8, fields: (Field, Field, Field, Field, Field)) -> Option<DripEvent>
-    ensures is { result ≡ set_of nodes fields }
-    ensures fits { IfSome result (λ e. FitsDripEvent nodes e) }
+fn set(at: Standing, fields: (Field, Field, Field, Field, Field)) -> Option<DripLine>
+    ensures is { result ≡ set_of at.nodes fields }
+    ensures fits { IfSome result (λ l. FitsDripLine at.nodes l × DripStandsAt at l) }
 {
-    let node = below(fields.0, nodes)?;
+    let node = below(fields.0, at.nodes)?;
     let key = below(fields.1, KEYS as u8)?;
     let value = fields.2?;
     let dt = fields.3?;
     let word = fields.4?;
-    Some(DripEvent::Set {
+    let event = DripEvent::Set {
         node,
         key,
         value,
         dt,
         word,
-    })
+    };
+    Some(DripLine::Event { event })
 }
 
 fn read_nodes(at: Standing, text: &[u8]) -> Result<DripLine, DripFault>
-    ensures is { result ≡ nodes_line at (numbers_of_words (words_of text.now)) }
+    ensures is { result ≡ count_line (at.nodes == 0) most_nodes DripLine.Nodes (numbers_of_words (words_of text.now)) }
     ensures fits { IfOk result (λ l. FitsDripLine at.nodes l × DripStandsAt at l) }
 {
     let Some(count) = one_field(text) else {
@@ -107,7 +110,7 @@ fn read_nodes(at: Standing, text: &[u8]) -> Result<DripLine, DripFault>
 }
 
 fn read_sweeps(at: Standing, text: &[u8]) -> Result<DripLine, DripFault>
-    ensures is { result ≡ sweeps_line at (numbers_of_words (words_of text.now)) }
+    ensures is { result ≡ count_line (has_nodes at) most_sweeps DripLine.Sweeps (numbers_of_words (words_of text.now)) }
     ensures fits { IfOk result (λ l. FitsDripLine at.nodes l × DripStandsAt at l) }
 {
     let Some(count) = one_field(text) else {
@@ -123,7 +126,7 @@ fn read_sweeps(at: Standing, text: &[u8]) -> Result<DripLine, DripFault>
 }
 
 fn read_link(at: Standing, text: &[u8]) -> Result<DripLine, DripFault>
-    ensures is { result ≡ link_line at (numbers_of_words (words_of text.now)) }
+    ensures is { result ≡ pair_line (may_link at) at.nodes DripLine.Link (numbers_of_words (words_of text.now)) }
     ensures fits { IfOk result (λ l. FitsDripLine at.nodes l × DripStandsAt at l) }
 {
     let Some(ends) = two_fields(text) else {
@@ -139,7 +142,7 @@ fn read_link(at: Standing, text: &[u8]) -> Result<DripLine, DripFault>
 }
 
 fn read_round(at: Standing, text: &[u8]) -> Result<DripLine, DripFault>
-    ensures is { result ≡ round_line at (numbers_of_words (words_of text.now)) }
+    ensures is { result ≡ pair_line (has_nodes at) at.nodes DripLine.Round (numbers_of_words (words_of text.now)) }
     ensures fits { IfOk result (λ l. FitsDripLine at.nodes l × DripStandsAt at l) }
 {
     let Some(ends) = two_fields(text) else {
@@ -155,7 +158,7 @@ fn read_round(at: Standing, text: &[u8]) -> Result<DripLine, DripFault>
 }
 
 fn read_tick(at: Standing, text: &[u8]) -> Result<DripLine, DripFault>
-    ensures is { result ≡ tick_line at (numbers_of_words (words_of text.now)) }
+    ensures is { result ≡ shaped (four_numbers (numbers_of_words (words_of text.now))) (has_nodes at) (drip_tick_of at.nodes) }
     ensures fits { IfOk result (λ l. FitsDripLine at.nodes l × DripStandsAt at l) }
 {
     let Some(fields) = four_fields(text) else {
@@ -164,14 +167,14 @@ fn read_tick(at: Standing, text: &[u8]) -> Result<DripLine, DripFault>
     if !has_nodes(at) {
         return Err(DripFault::Place);
     }
-    match tick(at.nodes, fields) {
-        Some(event) => Ok(DripLine::Event { event }),
+    match tick(at, fields) {
+        Some(line) => Ok(line),
         None => Err(DripFault::Number),
     }
 }
 
 fn read_hear(at: Standing, text: &[u8]) -> Result<DripLine, DripFault>
-    ensures is { result ≡ hear_line at (numbers_of_words (words_of text.now)) }
+    ensures is { result ≡ shaped (four_numbers (numbers_of_words (words_of text.now))) (has_nodes at) (drip_hear_of at.nodes) }
     ensures fits { IfOk result (λ l. FitsDripLine at.nodes l × DripStandsAt at l) }
 {
     let Some(fields) = four_fields(text) else {
@@ -180,14 +183,14 @@ fn read_hear(at: Standing, text: &[u8]) -> Result<DripLine, DripFault>
     if !has_nodes(at) {
         return Err(DripFault::Place);
     }
-    match hear(at.nodes, fields) {
-        Some(event) => Ok(DripLine::Event { event }),
+    match hear(at, fields) {
+        Some(line) => Ok(line),
         None => Err(DripFault::Number),
     }
 }
 
 fn read_set(at: Standing, text: &[u8]) -> Result<DripLine, DripFault>
-    ensures is { result ≡ set_line at (numbers_of_words (words_of text.now)) }
+    ensures is { result ≡ shaped (five_numbers (numbers_of_words (words_of text.now))) (has_nodes at) (set_of at.nodes) }
     ensures fits { IfOk result (λ l. FitsDripLine at.nodes l × DripStandsAt at l) }
 {
     let Some(fields) = five_fields(text) else {
@@ -196,8 +199,8 @@ fn read_set(at: Standing, text: &[u8]) -> Result<DripLine, DripFault>
     if !has_nodes(at) {
         return Err(DripFault::Place);
     }
-    match set(at.nodes, fields) {
-        Some(event) => Ok(DripLine::Event { event }),
+    match set(at, fields) {
+        Some(line) => Ok(line),
         None => Err(DripFault::Number),
     }
 }

@@ -1,12 +1,12 @@
 use Rattle.std.proofs.Common.{◌≡◌, ◌++◌, true, false, refl, sym, ◌∙◌, arith}
-use Rattle.dg_drip_run.specs.AroundDrip.{around_drip}
-use Rattle.dg_drip_run.specs.Dripped.{drip_stage}
+use Rattle.dg_outside.specs.Outside.{input_of, output_of}
+use Rattle.dg_drip_run.specs.inner.Lines.{drip_stage}
 use Rattle.dg_drip_run.proofs.ReadLemmas.{lines_first, lines_halt, lines_last, lines_next, lines_end, passes, true_of, false_of}
 use Rattle.dg_drip_run.proofs.call.play_lines.Goals as goal
 
 pub loop-number-init : goal.loop-number-init
 loop-number-init g c =
-    let now = drip_stage c.args.reader.now c.args.player.now (around_drip (g.S.Source.left c.args.input.now) (g.S.Source.faults c.args.input.now) (g.K.Sink.written c.args.out.now) (g.K.Sink.faults c.args.out.now)) in
+    let now = drip_stage c.args.reader.now c.args.player.now (input_of (g.S.Source, c.args.input.now)) (output_of (g.K.Sink, c.args.out.now)) in
     (lines_first now c.requires.none c.requires.unread c.requires.first c.requires.playing, refl, refl)
 
 pub play_next-requires : goal.play_next-requires
@@ -14,19 +14,19 @@ play_next-requires g c = let i = c.loop-number.invariant.0 in (i.script, i.repor
 
 pub returns-in_err-play_next-clause-answer : goal.returns-in_err-play_next-clause-answer
 returns-in_err-play_next-clause-answer g c =
-    let first = around_drip (g.S.Source.left c.args.input.now) (g.S.Source.faults c.args.input.now) (g.K.Sink.written c.args.out.now) (g.K.Sink.faults c.args.out.now) in
-    let p = drip_stage c.loop-number.reader c.loop-number.player (around_drip (g.S.Source.left c.loop-number.input) (g.S.Source.faults c.loop-number.input) (g.K.Sink.written c.loop-number.out) (g.K.Sink.faults c.loop-number.out)) in
-    let q = drip_stage c.play_next.new.reader c.play_next.new.player (around_drip (g.S.Source.left c.play_next.new.input) (g.S.Source.faults c.play_next.new.input) (g.K.Sink.written c.play_next.new.out) (g.K.Sink.faults c.play_next.new.out)) in
+    let first = drip_stage c.args.reader.now c.args.player.now (input_of (g.S.Source, c.args.input.now)) (output_of (g.K.Sink, c.args.out.now)) in
+    let p = drip_stage c.loop-number.reader c.loop-number.player (input_of (g.S.Source, c.loop-number.input)) (output_of (g.K.Sink, c.loop-number.out)) in
+    let q = drip_stage c.play_next.new.reader c.play_next.new.player (input_of (g.S.Source, c.play_next.new.input)) (output_of (g.K.Sink, c.play_next.new.out)) in
     let i = c.loop-number.invariant in
     let a = c.in_err-play_next.ensures.answer in
     lines_halt c.from_residual.result c.in_err-play_next.field-0.0 first p q a.0 c.loop-number.number c.from_residual.ensures.1
-    (λ rose. omega (arith, rose, i.1)) (λ rose. omega (arith, rose, i.2)) i.0 a.1 a.2
+    (λ rose. omega (arith, rose, i.1)) i.2 i.0 a.1 a.2
 
 pub returns-then-is_last-clause-answer : goal.returns-then-is_last-clause-answer
 returns-then-is_last-clause-answer g c =
-    let first = around_drip (g.S.Source.left c.args.input.now) (g.S.Source.faults c.args.input.now) (g.K.Sink.written c.args.out.now) (g.K.Sink.faults c.args.out.now) in
-    let p = drip_stage c.loop-number.reader c.loop-number.player (around_drip (g.S.Source.left c.loop-number.input) (g.S.Source.faults c.loop-number.input) (g.K.Sink.written c.loop-number.out) (g.K.Sink.faults c.loop-number.out)) in
-    let q = drip_stage c.play_next.new.reader c.play_next.new.player (around_drip (g.S.Source.left c.play_next.new.input) (g.S.Source.faults c.play_next.new.input) (g.K.Sink.written c.play_next.new.out) (g.K.Sink.faults c.play_next.new.out)) in
+    let first = drip_stage c.args.reader.now c.args.player.now (input_of (g.S.Source, c.args.input.now)) (output_of (g.K.Sink, c.args.out.now)) in
+    let p = drip_stage c.loop-number.reader c.loop-number.player (input_of (g.S.Source, c.loop-number.input)) (output_of (g.K.Sink, c.loop-number.out)) in
+    let q = drip_stage c.play_next.new.reader c.play_next.new.player (input_of (g.S.Source, c.play_next.new.input)) (output_of (g.K.Sink, c.play_next.new.out)) in
     let i = c.loop-number.invariant.0 in
     let a = c.in_ok-play_next.ensures.answer in
     let given = true_of c.in_ok-play_next.field-0 i.script (p.reader.ahead ++ a.0) p q c.if-branch.true (a.2 i.script i.reported i.plays) in
@@ -35,8 +35,8 @@ returns-then-is_last-clause-answer g c =
 
 pub loop-number-smaller : goal.loop-number-smaller
 loop-number-smaller g c =
-    let p = drip_stage c.loop-number.reader c.loop-number.player (around_drip (g.S.Source.left c.loop-number.input) (g.S.Source.faults c.loop-number.input) (g.K.Sink.written c.loop-number.out) (g.K.Sink.faults c.loop-number.out)) in
-    let q = drip_stage c.play_next.new.reader c.play_next.new.player (around_drip (g.S.Source.left c.play_next.new.input) (g.S.Source.faults c.play_next.new.input) (g.K.Sink.written c.play_next.new.out) (g.K.Sink.faults c.play_next.new.out)) in
+    let p = drip_stage c.loop-number.reader c.loop-number.player (input_of (g.S.Source, c.loop-number.input)) (output_of (g.K.Sink, c.loop-number.out)) in
+    let q = drip_stage c.play_next.new.reader c.play_next.new.player (input_of (g.S.Source, c.play_next.new.input)) (output_of (g.K.Sink, c.play_next.new.out)) in
     let i = c.loop-number.invariant.0 in
     let a = c.in_ok-play_next.ensures.answer in
     let given = true_of c.in_ok-play_next.field-0 i.script (p.reader.ahead ++ a.0) p q c.if-branch.true (a.2 i.script i.reported i.plays) in
@@ -44,9 +44,9 @@ loop-number-smaller g c =
 
 pub loop-number-preserved : goal.loop-number-preserved
 loop-number-preserved g c =
-    let first = around_drip (g.S.Source.left c.args.input.now) (g.S.Source.faults c.args.input.now) (g.K.Sink.written c.args.out.now) (g.K.Sink.faults c.args.out.now) in
-    let p = drip_stage c.loop-number.reader c.loop-number.player (around_drip (g.S.Source.left c.loop-number.input) (g.S.Source.faults c.loop-number.input) (g.K.Sink.written c.loop-number.out) (g.K.Sink.faults c.loop-number.out)) in
-    let q = drip_stage c.play_next.new.reader c.play_next.new.player (around_drip (g.S.Source.left c.play_next.new.input) (g.S.Source.faults c.play_next.new.input) (g.K.Sink.written c.play_next.new.out) (g.K.Sink.faults c.play_next.new.out)) in
+    let first = drip_stage c.args.reader.now c.args.player.now (input_of (g.S.Source, c.args.input.now)) (output_of (g.K.Sink, c.args.out.now)) in
+    let p = drip_stage c.loop-number.reader c.loop-number.player (input_of (g.S.Source, c.loop-number.input)) (output_of (g.K.Sink, c.loop-number.out)) in
+    let q = drip_stage c.play_next.new.reader c.play_next.new.player (input_of (g.S.Source, c.play_next.new.input)) (output_of (g.K.Sink, c.play_next.new.out)) in
     let j = c.loop-number.invariant in
     let i = c.loop-number.invariant.0 in
     let a = c.in_ok-play_next.ensures.answer in
@@ -59,9 +59,9 @@ loop-number-preserved g c =
 
 pub returns-clause-answer : goal.returns-clause-answer
 returns-clause-answer g c =
-    let first = around_drip (g.S.Source.left c.args.input.now) (g.S.Source.faults c.args.input.now) (g.K.Sink.written c.args.out.now) (g.K.Sink.faults c.args.out.now) in
-    let p = drip_stage c.loop-number.reader c.loop-number.player (around_drip (g.S.Source.left c.loop-number.input) (g.S.Source.faults c.loop-number.input) (g.K.Sink.written c.loop-number.out) (g.K.Sink.faults c.loop-number.out)) in
-    let q = drip_stage c.play_next.new.reader c.play_next.new.player (around_drip (g.S.Source.left c.play_next.new.input) (g.S.Source.faults c.play_next.new.input) (g.K.Sink.written c.play_next.new.out) (g.K.Sink.faults c.play_next.new.out)) in
+    let first = drip_stage c.args.reader.now c.args.player.now (input_of (g.S.Source, c.args.input.now)) (output_of (g.K.Sink, c.args.out.now)) in
+    let p = drip_stage c.loop-number.reader c.loop-number.player (input_of (g.S.Source, c.loop-number.input)) (output_of (g.K.Sink, c.loop-number.out)) in
+    let q = drip_stage c.play_next.new.reader c.play_next.new.player (input_of (g.S.Source, c.play_next.new.input)) (output_of (g.K.Sink, c.play_next.new.out)) in
     let i = c.loop-number.invariant.0 in
     let a = c.in_ok-play_next.ensures.answer in
     let none = false_of c.in_ok-play_next.field-0 i.script (p.reader.ahead ++ a.0) p q c.if-branch.false (a.2 i.script i.reported i.plays) in

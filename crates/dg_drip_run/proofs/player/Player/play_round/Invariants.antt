@@ -1,5 +1,5 @@
 use Rattle.std.proofs.Common.{Ok}
-use Rattle.dg_drip_run.specs.Playing.{DripItemsPlayed, StaysPlaying}
+use Rattle.dg_drip_run.specs.inner.Playing.{DripItemsPlayed, StaysPlaying}
 use Rattle.dg_drip_run.proofs.RoundLemmas.{keys_items}
 use Rattle.dg_drip_run.proofs.player.Player.play_round.Given as goal
 

@@ -1,7 +1,7 @@
 use Rattle.std.proofs.Common.{Ok}
 use Rattle.dg_drip.specs.Spread.{sweeps}
 use Rattle.dg_drip_script.specs.Scripts.{rounds_items}
-use Rattle.dg_drip_run.specs.Playing.{DripItemsPlayed, StaysPlaying}
+use Rattle.dg_drip_run.specs.inner.Playing.{DripItemsPlayed, StaysPlaying}
 use Rattle.dg_drip_run.proofs.player.Player.play_sweeps.Given as goal
 
 -- this many sweeps were played

@@ -1,4 +1,4 @@
--- What a player of a script keeps, and what it does with events (docs/SCRIPTS.md, "Scripts of nodes").
+-- What a player of a script keeps, and what it does with events: definitions for the inner functions.
 use Rattle.std.specs.Prelude.{◌≡◌, ℕ, ◌*◌, ◌^◌, ◌<◌, ◌≤◌, false, List, [], ◌∷◌, ◌++◌, length, take, Result, Ok, Err}
 use Rattle.dg_drip_replay.specs.Standing.{NetworkStands, AreKeyed}
 use Rattle.dg_drip_script.specs.Scripts.{DripItem, DripScript, standing_of, with_items, with_drip_line, network_of, report_of}

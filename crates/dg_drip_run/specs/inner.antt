@@ -1,0 +1,3 @@
+-- Definitions for the inner functions. No public promise needs them.
+pub mod Playing
+pub mod Lines
